@@ -1,0 +1,134 @@
+//! The outside of the pool: racks of disks, and bays that attach disks by name.
+//!
+//! A [`Rack`] is a numbered set of disks of 512-byte sectors. Everything that the engine stores goes
+//! through it: image files, disks in memory, slices of disks and whole arrays are racks, and each
+//! layer works over any rack by this contract alone.
+//!
+//! **The model.** What a rack shows to contracts is one record, `Seen` (specs/Seen.antt): for each
+//! sector the values since its disk's last sync, the last one current; a clock; what a stop at each
+//! moment may leave; a count of faults for each disk; and the sectors that are spent. A sector write
+//! is atomic, and after a stop each sector holds one of its values, each sector by itself.
+//!
+//! **The contract.** `read` gives the current value, `write` appends one, `sync` keeps the last one
+//! alone, and a refusal comes only where that disk's faults rose. Each call has one clause, a
+//! relation between what the rack shows before and after it (specs/Calls.antt); the clauses of calls
+//! in a row join by the lemmas of specs/Joins.antt.
+#![tactic(auto)]
+
+mod name;
+mod references;
+
+ghost use Rattle.std.specs.Prelude.{◌≡◌, ℕ, ◌<◌, ◌^◌, length, false};
+ghost use Rattle.rack.specs.Seen.{Seen};
+ghost use Rattle.rack.specs.Moments.{IsSound};
+ghost use Rattle.rack.specs.Calls.{Reads, Writes, Syncs};
+ghost use Rattle.rack.specs.Shelf.{Shelf, Attaches};
+
+use arrayvec::ArrayVec;
+pub use name::Name;
+
+/// Bytes in a sector.
+pub const SECTOR_BYTES: usize = 512;
+
+/// Places of drives in a pool: at most 16.
+pub type Places = ArrayVec<u32, 16>;
+
+/// No memory could be had; the call changed nothing else.
+#[derive(Clone, Copy, Debug, PartialEq, Eq)]
+pub struct NoMemory;
+
+/// A disk refused a call; its count of faults rose.
+#[derive(Clone, Copy, Debug, PartialEq, Eq)]
+pub struct Gone {
+    /// The number of the disk that was called.
+    pub disk: u32,
+}
+
+/// A rack that was handed in by value, with the reason why it comes back.
+#[derive(Debug, Drop)]
+pub struct Back<R, E> {
+    /// The rack, as the refused call left it.
+    pub rack: R,
+    /// Why the call refused.
+    pub why: E,
+}
+
+/// Why a name couldn't be attached. Nothing has changed but the bay's count of faults.
+#[derive(Clone, Copy, Debug, PartialEq, Eq)]
+pub enum AttachFault {
+    /// There is no such disk, or it can't be opened; the bay's own count of faults rose.
+    Failed,
+    /// The name is attached already.
+    Twice {
+        /// The number of its disk.
+        disk: u32,
+    },
+    /// No memory could be had.
+    Memory,
+}
+
+/// A numbered set of disks.
+pub trait Rack: Drop {
+    /// All that contracts see of a rack.
+    ghost seen: { Self → Seen };
+
+    /// The number of disks. No call of `Rack` changes it.
+    fn disks(&self) -> u32
+        requires { (seen self.now).fit }
+        ensures { result ≡ (seen self.now).disks };
+
+    /// The sectors of a disk, fewer than 2^52. No call of `Rack` changes them.
+    fn sectors(&self, disk: u32) -> u64
+        requires fit { (seen self.now).fit }
+        requires disk { disk < (seen self.now).disks }
+        ensures number { result ≡ (seen self.now).sectors disk }
+        ensures bounded { result < 2 ^ 52 };
+
+    /// Reads the current value of a sector.
+    fn read(&mut self, disk: u32, sector: u64, into: &mut [u8; 512]) -> Result<(), Gone>
+        requires fit { (seen self.old).fit }
+        requires disk { disk < (seen self.old).disks }
+        requires sector { sector < (seen self.old).sectors disk }
+        ensures { Reads (seen self.old) (seen self.new) disk sector into.new result };
+
+    /// Appends a value to those of a sector. It is durable once the disk has been synced.
+    fn write(&mut self, disk: u32, sector: u64, from: &[u8; 512]) -> Result<(), Gone>
+        requires fit { (seen self.old).fit }
+        requires disk { disk < (seen self.old).disks }
+        requires sector { sector < (seen self.old).sectors disk }
+        ensures { Writes (seen self.old) (seen self.new) disk sector from.now result };
+
+    /// Makes the current values of a disk durable.
+    fn sync(&mut self, disk: u32) -> Result<(), Gone>
+        requires fit { (seen self.old).fit }
+        requires disk { disk < (seen self.old).disks }
+        ensures { Syncs (seen self.old) (seen self.new) disk result };
+
+    /// At any moment a stop leaves held values, and may leave the contents as they read.
+    ghost sound: { (x : Self) → (seen x).fit → (seen x).traced → IsSound (seen x) };
+}
+
+/// A rack whose disks are attached by name.
+pub trait Bay: Rack {
+    /// The names, attached and not.
+    ghost shelf: { Self → Shelf };
+
+    /// Adds the disk of this name, with the next number, and gives that number.
+    fn attach(&mut self, name: &str) -> Result<u32, AttachFault>
+        ensures { Attaches (Self.seen self.old) (Self.seen self.new) (shelf self.old) (shelf self.new) name.now result };
+
+    /// A bay needs no tables of its own.
+    ghost always_fit: { (x : Self) → (Self.seen x).fit };
+
+    /// No sector of a drive is spent.
+    ghost unspent: { (x : Self) (d s : ℕ) → (Self.seen x).spent d s ≡ false };
+
+    /// None ever will be.
+    ghost lasting: { (x : Self) → (Self.seen x).lasting };
+
+    /// A disk of a bay has fewer than 2^48 sectors.
+    ghost bounded: { (x : Self) (d : ℕ) → d < (Self.seen x).disks → (Self.seen x).sectors d < 2 ^ 48 };
+
+    /// Each disk has its name.
+    ghost numbered: { (x : Self) → length (shelf x).names ≡ (Self.seen x).disks };
+}
