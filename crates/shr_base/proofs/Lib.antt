@@ -1,0 +1,4 @@
+pub mod Blocks
+pub mod Registers
+pub mod Tables
+pub mod Words

@@ -1,0 +1,5 @@
+pub mod Blocks
+pub mod Crc
+pub mod Ids
+pub mod Sum
+pub mod Units
