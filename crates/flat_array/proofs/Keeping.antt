@@ -1,0 +1,65 @@
+-- The values that a disk keeps, sector by sector.
+use Rattle.std.proofs.Common.{◌≡◌, ◌≢◌, List, [], ◌∷◌, ◌++◌, ℕ, zero, suc, ◌<◌, length, set, get_or, Vec, Global, refl, sym, ◌∙◌, ap, arith}
+use Rattle.std.specs.Prelude.{slice_get}
+use Rattle.std.specs.Option.{option_map_or}
+use Rattle.std.specs.Vec.{with_items}
+use Rattle.std.proofs.lemmas.List.{with_items_is}
+use Rattle.std.proofs.lemmas.Grind.{common_steps}
+use Rattle.flat_array.specs.declared.disk.FlatDisk.{FlatDisk}
+use Rattle.flat_array.specs.Array.{FlatArray, flushed}
+use Rattle.flat_array.specs.Disk.{size_of, kept_at, last_alone, Holds}
+
+-- the values of one sector
+abbrev pub items_at : List (Vec (List ℕ) Global) → ℕ → List (List ℕ)
+items_at sectors s = option_map_or (λ kept. kept.items) (slice_get sectors s) []
+
+pub items_at-set_same :
+    (sectors : List (Vec (List ℕ) Global)) (s : ℕ) (kept : Vec (List ℕ) Global)
+    → s < length sectors
+    → items_at (set sectors s kept) s ≡ kept.items
+items_at-set_same [] s kept within = absurd (omega arith)
+items_at-set_same (x ∷ sectors) zero kept within = refl
+items_at-set_same (x ∷ sectors) (suc s) kept within = items_at-set_same sectors s kept (omega arith)
+
+pub items_at-set_other :
+    (sectors : List (Vec (List ℕ) Global)) (s t : ℕ) (kept : Vec (List ℕ) Global)
+    → t ≢ s
+    → items_at (set sectors s kept) t ≡ items_at sectors t
+items_at-set_other [] s t kept other = refl
+items_at-set_other (x ∷ sectors) zero zero kept other = absurd (other refl)
+items_at-set_other (x ∷ sectors) zero (suc t) kept other = refl
+items_at-set_other (x ∷ sectors) (suc s) zero kept other = refl
+items_at-set_other (x ∷ sectors) (suc s) (suc t) kept other =
+    items_at-set_other sectors s t kept (λ same. other (ap suc same))
+
+pub items_at-get_or :
+    (sectors : List (Vec (List ℕ) Global)) (s : ℕ) (kept : Vec (List ℕ) Global)
+    → s < length sectors
+    → (get_or sectors s kept).items ≡ items_at sectors s
+items_at-get_or [] s kept within = absurd (omega arith)
+items_at-get_or (x ∷ sectors) zero kept within = refl
+items_at-get_or (x ∷ sectors) (suc s) kept within = items_at-get_or sectors s kept (omega arith)
+
+-- the last one of values
+pub last_alone-append : (older : List (List ℕ)) (current : List ℕ) → last_alone (older ++ current ∷ []) ≡ current ∷ []
+last_alone-append older current = grind (arith, common_steps)
+
+-- the disk whose sectors have their last values alone
+pub Holds-flushed :
+    (old : FlatDisk) (sectors : List (Vec (List ℕ) Global)) (a : FlatArray)
+    → length sectors ≡ size_of old
+    → ((s : ℕ) → s < size_of old → items_at sectors s ≡ last_alone (kept_at old s))
+    → Holds old a
+    → Holds record { sectors = with_items old.sectors sectors } (flushed a)
+Holds-flushed old sectors a size last holds =
+    let same = with_items_is old.sectors sectors (size ∙ sym old.sectors.ok.0) in
+    record {
+      size = ap length same ∙ (size ∙ holds.size);
+      values =
+          λ s within.
+          let inside : s < size_of old = omega (arith, holds.size) in
+          ap (λ kept. items_at kept s) same
+          ∙ (last s inside
+          ∙ (ap last_alone (holds.values s within)
+          ∙ last_alone-append (a.values s).older (a.values s).current));
+    }

@@ -1,0 +1,5 @@
+-- A flush leaves the flushed array.
+use Rattle.flat_array.proofs.disk.FlatDisk.answer.Goals as goal
+
+pub returns-in-Flush-clause-becomes : goal.returns-in-Flush-clause-becomes
+returns-in-Flush-clause-becomes c = λ a holds. rw c.in-Flush.is (c.flush.ensures a holds)

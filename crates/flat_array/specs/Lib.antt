@@ -1,0 +1,5 @@
+pub mod Array
+pub mod Line
+pub mod Script
+pub mod Reply
+pub mod Disk

@@ -1,0 +1,62 @@
+-- The flat run: what each command replies and leaves.
+use Rattle.std.specs.Prelude.{ℕ, ◌==◌, nat_lt, if◌then◌else◌, List, [], ◌∷◌, ◌++◌, codes}
+use Rattle.hex.specs.Hex.{encode_lower}
+use Rattle.flat_array.specs.declared.Command.{Command}
+use Rattle.flat_array.specs.declared.Command.TheVariants.{Read, Write, Flush, Quit, Unbuilt, Syntax}
+use Rattle.flat_array.specs.Array.{FlatArray, written, flushed}
+
+-- bytes without the zeros at their end
+abbrev pub before_zeros : ℕ → List ℕ → List ℕ
+before_zeros b [] = if b == 0 then [] else b ∷ []
+before_zeros b (c ∷ bytes) = b ∷ c ∷ bytes
+
+abbrev pub without_zeros : List ℕ → List ℕ
+without_zeros [] = []
+without_zeros (b ∷ bytes) = before_zeros b (without_zeros bytes)
+
+-- lower-case digits, or a dash for no byte
+abbrev pub digits_or_dash : List ℕ → List ℕ
+digits_or_dash [] = codes "-"
+digits_or_dash (b ∷ bytes) = encode_lower (b ∷ bytes)
+
+-- a text as a line
+abbrev pub as_line : List ℕ → List ℕ
+as_line text = text ++ 10 ∷ []
+
+-- `data H`
+abbrev pub data_line : List ℕ → List ℕ
+data_line bytes = codes "data " ++ digits_or_dash (without_zeros bytes) ++ 10 ∷ []
+
+-- `refused WHY`
+abbrev pub refused_line : List ℕ → List ℕ
+refused_line why = codes "refused " ++ why ++ 10 ∷ []
+
+-- the reply to a command
+abbrev pub reply : FlatArray → Command → List ℕ
+reply a (Read sector) =
+    if nat_lt sector a.size then data_line (a.values sector).current else refused_line (codes "range")
+reply a (Write sector bytes) =
+    if nat_lt sector a.size then as_line (codes "ok") else refused_line (codes "range")
+reply a Flush = as_line (codes "ok")
+reply a Quit = []
+reply a Unbuilt = refused_line (codes "unbuilt")
+reply a Syntax = refused_line (codes "syntax")
+
+-- the array after a command
+abbrev pub after : FlatArray → Command → FlatArray
+after a (Read sector) = a
+after a (Write sector bytes) = if nat_lt sector a.size then written a sector bytes else a
+after a Flush = flushed a
+after a Quit = a
+after a Unbuilt = a
+after a Syntax = a
+
+-- the replies to commands in a row
+abbrev pub replies : FlatArray → List Command → List ℕ
+replies a [] = []
+replies a (command ∷ commands) = reply a command ++ replies (after a command) commands
+
+-- the array after commands in a row
+abbrev pub array_after : FlatArray → List Command → FlatArray
+array_after a [] = a
+array_after a (command ∷ commands) = array_after (after a command) commands
