@@ -1,0 +1,8 @@
+use Rattle.rack_mem.proofs.Answered.{refused_read, read_done}
+use Rattle.rack_mem.proofs.memory.MemBayRack.read.Goals as goal
+
+pub returns-then-is_refused-clause-call : goal.returns-then-is_refused-clause-call
+returns-then-is_refused-clause-call c = refused_read c.args.sector _ c.refuse.result c.refuse.ensures.refused c.refuse.ensures.gone
+
+pub returns-clause-call : goal.returns-clause-call
+returns-clause-call c = read_done c.args.sector _ c.keep.ensures c.sector_now.ensures
