@@ -1,0 +1,3 @@
+pub mod Slicing
+pub mod Layering
+pub mod Search
