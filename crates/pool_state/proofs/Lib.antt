@@ -1,0 +1,3 @@
+pub mod DriveTable
+pub mod Places
+pub mod RoundTrip

@@ -1,0 +1,3 @@
+pub mod Sector
+pub mod Valid
+pub mod Written
