@@ -1,0 +1,3 @@
+pub mod Fields
+pub mod Label
+pub mod Header
