@@ -1,0 +1,18 @@
+use Rattle.gpt_table.specs.Plans.{entries_plan}
+use Rattle.gpt_table.proofs.Planned.{refused_plan, then_synced, then_refused}
+use Rattle.gpt_table.proofs.changing.write_entries_durably.Goals as goal
+
+pub returns-in-Err : goal.returns-in-Err
+returns-in-Err g c =
+    refused_plan (g.R.Rack.seen c.args.rack.now) (g.R.Rack.seen c.write_entries.new.rack) c.args.disk (entries_plan c.args.first c.args.bytes.now)
+    c.in-Err.gone c.in-Err.ensures
+
+pub returns-in-Ok : goal.returns-in-Ok
+returns-in-Ok g c =
+    then_synced (g.R.Rack.seen c.args.rack.now) (g.R.Rack.seen c.write_entries.new.rack) (g.R.Rack.seen c.sync.new.self) c.args.disk
+    (entries_plan c.args.first c.args.bytes.now) c.in_default.ensures c.in-Ok.ensures
+
+pub returns-in-Err-sync : goal.returns-in-Err-sync
+returns-in-Err-sync g c =
+    then_refused (g.R.Rack.seen c.args.rack.now) (g.R.Rack.seen c.write_entries.new.rack) (g.R.Rack.seen c.sync.new.self) c.args.disk
+    (entries_plan c.args.first c.args.bytes.now) c.in-Err-sync.gone c.in_default.ensures c.in-Err-sync.ensures

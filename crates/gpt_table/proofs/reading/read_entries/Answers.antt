@@ -1,0 +1,38 @@
+use Rattle.std.proofs.Common.{◌≡◌, ◌*◌, ◌+◌, ◌++◌, ℕ, take, arith, refl, ap, ◌∙◌, sym, subst, false, below_more, ◌-◌}
+use Rattle.std.proofs.lemmas.List.{length-replicate}
+use Rattle.gpt_table.specs.Disk.{joined, now_on}
+use Rattle.gpt_table.proofs.Looking.{only_reads_start, only_reads_then, value_then, unspent_before}
+use Rattle.gpt_table.proofs.Joined.{joined_more, take_put, entries_read}
+use Rattle.gpt_table.proofs.reading.read_entries.Goals as goal
+
+pub loop-place-init : goal.loop-place-init
+loop-place-init g c = record { only = only_reads_start (g.R.Rack.seen c.args.rack.now) c.requires.fit; long = length-replicate {A = ℕ} 16384 0; unspent = λ k below. absurd (omega arith); read = λ told. refl }
+
+pub loop-place-preserved : goal.loop-place-preserved
+loop-place-preserved g c = record {
+  only = only_reads_then c.loop-place.invariant.only c.in_default.ensures;
+  long = omega (arith, c.put_bytes.auto.block);
+  unspent = below_more (λ k. (g.R.Rack.seen c.args.rack.now).spent c.args.disk (c.args.first + k) ≡ false) c.loop-place.place
+      c.loop-place.invariant.unspent (unspent_before c.in_default.field-0 c.loop-place.invariant.only c.in_default.ensures);
+  read = λ told.
+      let disk = now_on (g.R.Rack.seen c.args.rack.now) c.args.disk in
+      let put : take (512 * (c.loop-place.place + 1)) c.put_bytes.new.block ≡ take (512 * c.loop-place.place) c.loop-place.bytes ++ c.read.new.into =
+      ap (take (512 * (c.loop-place.place + 1))) c.put_bytes.ensures
+      ∙ take_put (512 * c.loop-place.place) (512 * (c.loop-place.place + 1)) c.read.new.into c.loop-place.bytes (omega arith) (omega arith) in
+      let value : c.read.new.into ≡ disk (c.args.first + c.loop-place.place) =
+      value_then c.in_default.field-0 c.loop-place.invariant.only c.in_default.ensures c.requires.disk (omega arith) told in
+      put ∙ ap (λ done. done ++ c.read.new.into) (c.loop-place.invariant.read told)
+      ∙ ap (λ s. joined disk c.args.first c.loop-place.place ++ s) value ∙ sym (joined_more disk c.args.first c.loop-place.place);
+}
+
+pub returns : goal.returns
+returns g c = record {
+  only = c.loop-place.invariant.only;
+  served = λ sector among.
+      let is : c.args.first + (sector - c.args.first) ≡ sector = omega (arith, among.0) in
+      subst (λ s. (g.R.Rack.seen c.args.rack.now).spent c.args.disk s ≡ false) is
+      (c.loop-place.invariant.unspent (sector - c.args.first) (omega (arith, among.0, among.1)));
+  value = λ told. entries_read (now_on (g.R.Rack.seen c.args.rack.now) c.args.disk) c.args.first c.loop-place.bytes c.loop-place.place
+      (omega arith) c.loop-place.invariant.long (c.loop-place.invariant.read told);
+  gone = tt;
+}

@@ -1,0 +1,34 @@
+use Rattle.std.proofs.Common.{◌∙◌, sym, ap, arith, ℕ, List, ◌+◌, Some}
+use Rattle.gpt_table.specs.Plans.{entries_plan}
+use Rattle.gpt_table.proofs.Stretches.{follows_start}
+use Rattle.gpt_table.proofs.Planned.{entries_planned, follows_served, plan_refused, one_more, entries_written}
+use Rattle.gpt_table.proofs.writing.write_entries.Goals as goal
+
+pub loop-place-init : goal.loop-place-init
+loop-place-init g c = record {
+  follows = follows_start (g.R.Rack.seen c.args.rack.now) c.args.disk (entries_plan c.args.first c.args.bytes.now) c.requires.fit;
+  written = λ k below. absurd (omega arith);
+}
+
+pub returns-in-Err : goal.returns-in-Err
+returns-in-Err g c =
+    let planned = entries_planned c.args.first c.args.bytes.now c.loop-place.place c.loop-place-test.true in
+    plan_refused (g.R.Rack.seen c.args.rack.now) (g.R.Rack.seen c.loop-place.rack) (g.R.Rack.seen c.write.new.self) c.args.disk (c.args.first + c.loop-place.place)
+    c.piece_of-sector.result (entries_plan c.args.first c.args.bytes.now) c.in-Err.gone c.loop-place.invariant.follows
+    c.in-Err.ensures (planned ∙ ap (λ (v : List ℕ). Some v) (sym c.piece_of-sector.ensures))
+
+pub loop-place-preserved : goal.loop-place-preserved
+loop-place-preserved g c =
+    let planned = entries_planned c.args.first c.args.bytes.now c.loop-place.place c.loop-place-test.true in
+    record {
+      follows = follows_served (g.R.Rack.seen c.args.rack.now) (g.R.Rack.seen c.loop-place.rack) (g.R.Rack.seen c.write.new.self) c.args.disk (c.args.first + c.loop-place.place)
+          c.piece_of-sector.result (entries_plan c.args.first c.args.bytes.now) c.loop-place.invariant.follows
+          c.in_default.ensures (planned ∙ ap (λ (v : List ℕ). Some v) (sym c.piece_of-sector.ensures));
+      written = one_more (g.R.Rack.seen c.args.rack.now) (g.R.Rack.seen c.loop-place.rack) (g.R.Rack.seen c.write.new.self) c.args.disk c.args.first c.loop-place.place
+          c.args.bytes.now c.piece_of-sector.result c.loop-place.invariant.follows.stays c.in_default.ensures c.piece_of-sector.ensures c.loop-place.invariant.written;
+    }
+
+pub returns : goal.returns
+returns g c =
+    entries_written (g.R.Rack.seen c.args.rack.now) (g.R.Rack.seen c.loop-place.rack) c.args.disk c.args.first c.args.bytes.now
+    c.loop-place.invariant.follows (λ k below. c.loop-place.invariant.written k (omega arith))

@@ -1,0 +1,5 @@
+pub mod Format
+pub mod Disk
+pub mod Calls
+pub mod Plans
+pub mod Changes
