@@ -1,0 +1,5 @@
+pub mod Slices
+pub mod SliceRack
+pub mod Sliced
+pub mod Laws
+pub mod Changes

@@ -1,0 +1,32 @@
+-- A rack of slices as a rack: each sector is one of the rack below.
+use Rattle.std.specs.Prelude.{◌≡◌, ℕ, ◌+◌, ◌<◌, ◌≤◌, ◌^◌, Some}
+use Rattle.rack.specs.Seen.{Image, Seen}
+use Rattle.slice_rack.specs.Slices.{Slices, seat_of, disk_of, first_of, sectors_of}
+
+-- the slices lie inside the disks below, which all have fewer than 2^48 sectors
+pub record IsInside (t : Slices) (a : Seen) : Type 0 where
+  pub small : (disk : ℕ) → disk < a.disks → a.sectors disk < 2 ^ 48
+  pub seats : (place disk : ℕ) → seat_of t place ≡ Some disk → disk < a.disks
+  pub slices : (d : ℕ) → 0 < sectors_of t d → first_of t d + sectors_of t d ≤ a.sectors (disk_of t d)
+
+-- the contents of the slices are those of their sectors below
+abbrev pub Shows : Slices → Image → Image → Type 0
+Shows t below c = (d s : ℕ) → s < sectors_of t d → c d s ≡ below (disk_of t d) (first_of t d + s)
+
+-- the slices of a rack
+abbrev pub slices_of : Slices → Seen → Seen
+slices_of t a = record {
+  disks = 272;
+  sectors = sectors_of t;
+  held = λ d s. a.held (disk_of t d) (first_of t d + s);
+  clock = a.clock;
+  stops = λ k c. (below : Image) × a.stops k below × Shows t below c;
+  faults = λ d. a.faults (disk_of t d);
+  spent = λ d s. a.spent (disk_of t d) (first_of t d + s);
+  lasting = a.lasting;
+  steady = a.steady;
+  fit = a.fit × IsInside t a;
+  told = λ d. a.told (disk_of t d);
+  traced = a.traced;
+  lenders = a.lenders;
+}
