@@ -1,0 +1,218 @@
+-- What a script's answering has done so far, and what one line more does.
+use Rattle.std.proofs.Common.{◌≡◌, ◌⊎◌, ℕ, ◌+◌, ◌<◌, ◌≤◌, List, [], ◌∷◌, ◌++◌, length, take, Option, Some, None, Result, Ok, Err, append_assoc, refl, sym, ◌∙◌, ap, subst, inl, inr, lit<, arith}
+use Rattle.std.proofs.lemmas.List.{append-nil}
+use Rattle.rack.specs.Seen.{Image, Seen, Stays}
+use Rattle.rack.specs.Moments.{Leaves}
+use Rattle.rack.specs.Joins.{rose_since, leaves_same, leaves_weaker, leaves_then}
+use Rattle.io_ends.specs.Sink.{AddsPrefix}
+use Rattle.flat_array.specs.declared.Command.{Command}
+use Rattle.flat_array.specs.declared.Command.TheVariants.{Quit}
+use Rattle.flat_array.specs.Array.{FlatArray}
+use Rattle.flat_array.specs.Script.{script_of, cut_script_of}
+use Rattle.flat_array.specs.Reply.{reply, replies, after, array_after}
+use Rattle.pool.specs.Mirror.{Holds, PicksFirst, WentIn}
+use Rattle.shr_tool.specs.Timeline.{Happens, Timeline, Performs, Breaks}
+use Rattle.shr_tool.specs.Serving.{Anything, Runs, RunsInto, Served, Answered, Replies}
+
+-- the array after one command more
+pub array_after-snoc :
+    (a : FlatArray) (commands : List Command) (c : Command)
+    → array_after a (commands ++ c ∷ []) ≡ after (array_after a commands) c
+array_after-snoc a [] c = refl
+array_after-snoc a (d ∷ commands) c = array_after-snoc (after a d) commands c
+
+-- the replies with one command more
+pub replies-snoc :
+    (a : FlatArray) (commands : List Command) (c : Command)
+    → replies a (commands ++ c ∷ []) ≡ replies a commands ++ reply (array_after a commands) c
+replies-snoc a [] c = append-nil (reply a c)
+replies-snoc a (d ∷ commands) c =
+    ap (λ bytes. reply a d ++ bytes) (replies-snoc (after a d) commands c)
+    ∙ sym (append_assoc (reply a d) (replies (after a d) commands) (reply (array_after (after a d) commands) c))
+
+-- moments never fall
+timeline_order :
+    (stops : ℕ → Image → Type 0) (a : FlatArray) (from : ℕ) (commands : List Command) (to : ℕ)
+    → Timeline stops a from commands to
+    → from ≤ to
+timeline_order stops a from [] to same = omega arith
+timeline_order stops a from (c ∷ commands) to line =
+    let rest = timeline_order stops (after a c) line.0 commands to line.2 in
+    let later = line.1.later in
+    omega arith
+
+-- later calls leave the past as it was
+timeline_kept :
+    (old new : ℕ → Image → Type 0) (limit : ℕ)
+    → ((k : ℕ) (i : Image) → k ≤ limit → new k i → old k i)
+    → (a : FlatArray) (from : ℕ) (commands : List Command) (to : ℕ)
+    → to ≤ limit
+    → Timeline old a from commands to
+    → Timeline new a from commands to
+timeline_kept old new limit past a from [] to within line = line
+timeline_kept old new limit past a from (c ∷ commands) to within line =
+    let order = timeline_order old (after a c) line.0 commands to line.2 in (
+      line.0,
+      record {
+        later = line.1.later;
+        during = λ k i since until stops. line.1.during k i since until (past k i (omega arith) stops);
+        ended = λ i stops. line.1.ended i (past line.0 i (omega arith) stops);
+      },
+      timeline_kept old new limit past (after a c) line.0 commands to within line.2,
+    )
+
+-- one event more
+timeline_more :
+    (stops : ℕ → Image → Type 0) (a : FlatArray) (from : ℕ) (commands : List Command) (mid : ℕ) (c : Command) (to : ℕ)
+    → Timeline stops a from commands mid
+    → Happens stops (array_after a commands) (after (array_after a commands) c) mid to
+    → Timeline stops a from (commands ++ c ∷ []) to
+timeline_more stops a from [] mid c to same happens =
+    (to, subst (λ m. Happens stops a (after a c) m to) (sym same) happens, refl)
+timeline_more stops a from (d ∷ commands) mid c to line happens =
+    (line.0, line.1, timeline_more stops (after a d) line.0 commands mid c to line.2 happens)
+
+-- a command that was done is an event
+performed :
+    (x y : Seen) (c : Command) (text : List ℕ) (a : FlatArray)
+    → Performs x y c text
+    → x.traced
+    → Holds x 0 a
+    → Happens y.stops a (after a c) x.clock y.clock
+performed x y c text a performs traced holds =
+    let leaves = performs.leaves traced a holds in
+    record {
+      later = leaves.later;
+      during = leaves.new;
+      ended = performs.ends traced a holds;
+    }
+
+-- what was done before, seen after one command more
+pub runs_later :
+    (x y z : Seen) (a : FlatArray) (commands : List Command) (P : Image → Type 0)
+    → Runs x y a commands
+    → Leaves y z P
+    → Timeline z.stops a x.clock commands y.clock
+runs_later x y z a commands P runs leaves =
+    timeline_kept y.stops z.stops y.clock leaves.past a x.clock commands y.clock (omega arith) runs.timeline
+
+pub passes_later :
+    (x y z : Seen) (P : Image → Type 0) → Leaves x y Anything → Leaves y z P → Leaves x z Anything
+passes_later x y z P first second =
+    leaves_then Anything first (leaves_weaker P Anything (λ i holds. tt) second)
+
+-- one command more is done
+pub served_more :
+    (x y z : Seen) (commands : List Command) (c : Command) (text : List ℕ)
+    → Stays x y
+    → Served x y commands
+    → Performs y z c text
+    → Served x z (commands ++ c ∷ [])
+served_more x y z commands c text stays served performs =
+    record {
+      becomes =
+          λ d a two holds.
+          subst (λ b. Holds z d b)
+          (sym (array_after-snoc a commands c))
+          (performs.becomes d (array_after a commands) two (served.becomes d a two holds));
+      runs =
+          λ traced a holds.
+          let old = served.runs traced a holds in
+          let holds_y = served.becomes 0 a (lit< tt) holds in
+          let leaves = performs.leaves (stays.traced traced) (array_after a commands) holds_y in
+          record {
+            passes = passes_later x y z _ old.passes leaves;
+            timeline =
+                timeline_more z.stops a x.clock commands y.clock c z.clock
+                (runs_later x y z a commands _ old leaves)
+                (performed y z c text (array_after a commands) performs (stays.traced traced) holds_y);
+          };
+    }
+
+-- one command more is answered
+pub answered_more :
+    (x y z : Seen) (commands : List Command) (c : Command) (out out' out'' : List ℕ)
+    → Stays x y
+    → Answered x y commands out out'
+    → Replies y z c out' out''
+    → Answered x z (commands ++ c ∷ []) out out''
+answered_more x y z commands c out out' out'' stays answered more =
+    record {
+      served = served_more x y z commands c more.text stays answered.served more.performs;
+      put =
+          λ a holds.
+          let told = more.performs.reply (array_after a commands) (answered.served.becomes 0 a (lit< tt) holds) in
+          more.put
+          ∙ (ap (λ bytes. bytes ++ more.text) (answered.put a holds)
+          ∙ (ap (λ bytes. (out ++ replies a commands) ++ bytes) told
+          ∙ (append_assoc out (replies a commands) (reply (array_after a commands) c)
+          ∙ ap (λ bytes. out ++ bytes) (sym (replies-snoc a commands c)))));
+    }
+
+-- nothing is answered yet
+pub answered_none : (x : Seen) (out : List ℕ) → Answered x x [] out out
+answered_none x out =
+    record {
+      served =
+          record {
+            becomes = λ d a two holds. holds;
+            runs = λ traced a holds. record { passes = leaves_same x Anything; timeline = refl };
+          };
+      put = λ a holds. sym (append-nil out);
+    }
+
+-- a command broke off
+pub runs_into :
+    (x y z : Seen) (commands : List Command) (c : Command) (d : ℕ)
+    → Stays x y
+    → Served x y commands
+    → Breaks y z c d
+    → x.traced
+    → (a : FlatArray)
+    → Holds x 0 a
+    → RunsInto x z a commands c
+runs_into x y z commands c d stays served breaks traced a holds =
+    let old = served.runs traced a holds in
+    let holds_y = served.becomes 0 a (lit< tt) holds in
+    let leaves = breaks.leaves (stays.traced traced) (array_after a commands) holds_y in
+    let named = array_after-snoc a commands c in
+    record {
+      passes = passes_later x y z _ old.passes leaves;
+      broken_from = y.clock;
+      timeline = runs_later x y z a commands _ old leaves;
+      until = leaves.later;
+      during =
+          λ k i since until stops.
+          subst (λ b. PicksFirst (array_after a commands) i ⊎ PicksFirst b i) (sym named) (leaves.new k i since until stops);
+    }
+
+-- a drive that went in a later call went since an earlier one
+pub went_since : (x y z : Seen) (d : ℕ) → Stays x y → WentIn y z d → WentIn x z d
+went_since x y z d stays went = record { disk = went.disk; rose = rose_since (stays.faults d) went.rose }
+
+-- of a text these commands have been answered, and this is left
+pub record History (x y : Seen) (text rest : List ℕ) (count : ℕ) (out out' : List ℕ) : Type 0 where
+  pub done : List ℕ
+  pub text_is : text ≡ done ++ rest
+  pub counted : count ≡ length done
+  pub commands : List Command
+  pub script : (more : List ℕ) → script_of (done ++ more) ≡ commands ++ script_of more
+  pub cut : (more : List ℕ) → cut_script_of (done ++ more) ≡ commands ++ cut_script_of more
+  pub answered : Answered x y commands out out'
+
+-- nothing has been read
+pub history_none :
+    (x : Seen) (text rest : List ℕ) (count : ℕ) (out : List ℕ)
+    → rest ≡ text
+    → count ≡ 0
+    → History x x text rest count out out
+history_none x text rest count out same zero =
+    record {
+      done = [];
+      text_is = sym same;
+      counted = zero;
+      commands = [];
+      script = λ more. refl;
+      cut = λ more. refl;
+      answered = answered_none x out;
+    }

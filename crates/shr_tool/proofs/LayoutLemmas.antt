@@ -1,0 +1,82 @@
+-- The words after `layout` that are read through a function, and units.
+use Rattle.std.proofs.Common.{◌≡◌, ℕ, suc, ◌+◌, ◌-◌, ◌<◌, ◌≤◌, ◌^◌, ◌/◌, ◌*◌, ◌==◌, Bool, true, false, nat_lt, if◌then◌else◌, List, [], ◌∷◌, ◌++◌, length, take, map, get_or, filter_map, sum_by, All, rules, Some, None, is_some, ap, sym, ◌∙◌, refl, arith}
+use Rattle.std.specs.List.{list_all, range_with_len, cons_option}
+use Rattle.std.proofs.lemmas.Bool.Decides.{nat_tests}
+use Rattle.std.proofs.lemmas.List.{length-map, map-append, take_more}
+use Rattle.std.proofs.lemmas.List.Folds.{list_all-map}
+use Rattle.std.proofs.lemmas.List.Elements.{filter_map-append, All-append}
+use Rattle.std.proofs.Math.Nat.{div-mul-le_self, mul-le-mul_left}
+use Rattle.layer_plan.specs.declared.Layer.{Layer}
+use Rattle.layer_plan.specs.Slicing.{height_on}
+use Rattle.layer_plan.specs.Layering.{array_of}
+use Rattle.layer_plan.proofs.Sums.{sum_by-map}
+use Rattle.shr_base.specs.Units.{units_of, reserved_sectors}
+use Rattle.shr_tool.specs.LayoutWords.{size_of, asked}
+use Rattle.shr_tool.specs.LayoutText.{unused_on, unused_line, unused_lines}
+
+pub asked-empty : {Y : Type 0} (read : Y → List ℕ) (e : ℕ) (ys : List Y) → length ys ≡ 0 → asked (Some e) (map read ys) ≡ None
+asked-empty read e ys none = rw (length-map, none) refl
+
+pub asked-other : {Y : Type 0} (read : Y → List ℕ) (e : ℕ) (ys : List Y) → 0 < length ys →
+    list_all (λ y. is_some (size_of (read y))) ys ≡ false → asked (Some e) (map read ys) ≡ None
+asked-other read e ys some other =
+    let test : nat_lt 0 (length ys) ≡ true = grind (arith, nat_tests) in
+    rw (length-map, test, list_all-map, other) refl
+
+pub asked-sizes : {Y : Type 0} (read : Y → List ℕ) (e : ℕ) (ys : List Y) (items : List ℕ) → 0 < length ys →
+    list_all (λ y. is_some (size_of (read y))) ys ≡ true → items ≡ filter_map size_of (take 17 (map read ys)) →
+    asked (Some e) (map read ys) ≡ Some (record { extent = e; sizes = record { items = items } })
+asked-sizes read e ys items some all is =
+    let test : nat_lt 0 (length ys) ≡ true = grind (arith, nat_tests) in
+    rw (is, length-map, test, list_all-map, all) refl
+
+-- the next word may add a size
+pub sizes_more : {Y : Type 0} (read : Y → List ℕ) (ys : List Y) (i : ℕ) (y : Y) → i < length ys → y ≡ get_or ys i y →
+    filter_map size_of (map read (take (i + 1) ys)) ≡ filter_map size_of (map read (take i ys)) ++ cons_option (size_of (read y)) []
+sizes_more read ys i y inside is =
+    ap (λ t. filter_map size_of (map read t)) (take_more ys i y inside)
+    ∙ ap (filter_map size_of) (map-append read (take i ys) (get_or ys i y ∷ []))
+    ∙ filter_map-append size_of (map read (take i ys)) (read (get_or ys i y) ∷ [])
+    ∙ ap (λ v. filter_map size_of (map read (take i ys)) ++ cons_option (size_of (read v)) []) (sym is)
+
+-- the places from one on
+pub range_from : (a n : ℕ) → a < n → range_with_len a (n - a) ≡ a ∷ range_with_len (a + 1) (n - (a + 1))
+range_from a n inside =
+    let more : n - a ≡ suc (n - (a + 1)) = omega arith in
+    rw more refl
+
+-- what a drive keeps outside the layers
+pub unused_same : (units : List ℕ) (layers : List Layer) (place used : ℕ) →
+    used ≡ sum_by (λ layer. height_on (array_of layer) place) layers →
+    get_or units place 0 - used ≡ unused_on units layers place
+unused_same units layers place used is =
+    ap (λ u. get_or units place 0 - u) (is ∙ sym (sum_by-map (λ array. height_on array place) array_of layers))
+
+-- the lines from a place on are its own and those of the places above
+pub unused_from : (units : List ℕ) (layers : List Layer) (place used : ℕ) → place < length units →
+    used ≡ sum_by (λ layer. height_on (array_of layer) place) layers →
+    unused_lines units layers (range_with_len place (length units - place))
+    ≡ unused_line place (get_or units place 0 - used) ++ unused_lines units layers (range_with_len (place + 1) (length units - (place + 1)))
+unused_from units layers place used inside is =
+    ap (unused_lines units layers) (range_from place (length units) inside)
+    ∙ ap (λ u. unused_line place u ++ unused_lines units layers (range_with_len (place + 1) (length units - (place + 1)))) (sym (unused_same units layers place used is))
+
+-- an extent has at least 2^7 sectors
+small_choice : (test : Bool) (sectors extent : ℕ) → sectors < 2 ^ 48 → 128 ≤ extent → (if test then 0 else sectors / extent) < 2 ^ 41
+small_choice true sectors extent small least = omega arith
+small_choice false sectors extent small least =
+    let above : sectors / extent * extent ≤ sectors = div-mul-le_self sectors extent in
+    let much : sectors / extent * 128 ≤ sectors / extent * extent = mul-le-mul_left (sectors / extent) least in
+    omega arith
+
+pub units_small : (sectors extent : ℕ) → sectors < 2 ^ 48 → 128 ≤ extent → units_of sectors extent < 2 ^ 41
+units_small sectors extent small least =
+    small_choice (nat_lt sectors reserved_sectors) (sectors - reserved_sectors) extent (omega arith) least
+
+-- one size more
+pub small_more : (sizes : List ℕ) (size : ℕ) → All (λ s. s < 2 ^ 48) sizes → size < 2 ^ 48 → All (λ s. s < 2 ^ 48) (sizes ++ size ∷ [])
+small_more sizes size all small = All-append (λ s. s < 2 ^ 48) sizes (size ∷ []) all (search (rules, small))
+
+-- a list that isn't empty
+pub not_empty : (n : ℕ) (empty : Bool) → empty ≡ (n == 0) → empty ≡ false → 0 < n
+not_empty n empty is some = grind (arith, nat_tests, is, some)

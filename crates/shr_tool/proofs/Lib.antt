@@ -1,0 +1,16 @@
+pub mod Parsing
+pub mod ReadingLemmas
+pub mod LongLines
+pub mod Trimming
+pub mod Performing
+pub mod Scripts
+pub mod History
+pub mod Stopping
+pub mod FilesLemmas
+pub mod Finishing
+pub mod FormLemmas
+pub mod Through
+pub mod Opening
+pub mod Attached
+pub mod Putting
+pub mod LayoutLemmas

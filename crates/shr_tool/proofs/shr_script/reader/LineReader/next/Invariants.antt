@@ -1,0 +1,20 @@
+-- Bytes without a line feed have been read; at most the rest of a script's limit is left.
+use Rattle.std.proofs.Common.{◌≡◌, ℕ, ◌-◌, ◌^◌, ◌≤◌, ◌++◌}
+use Rattle.shr_tool.specs.Reading.{ReadsPart}
+use Rattle.shr_tool.specs.Pieces.{pending, line_of}
+use Rattle.shr_tool.proofs.shr_script.reader.LineReader.next.Given as goal
+
+abbrev pub invariant-bytes : goal.invariant-bytes
+invariant-bytes g l =
+    let left = g.I.Source.left in
+    record {
+      told : g.I.Source.told l.fn.input → g.I.Source.told l.input;
+      part :
+          g.I.Source.told l.fn.input
+          → ReadsPart (pending l.fn.self ++ left l.fn.input) (pending l.self ++ left l.input) (line_of l.self) l.fn.self.consumed l.self.consumed;
+      faults : g.I.Source.faults l.fn.input ≤ g.I.Source.faults l.input;
+      grows : l.fn.self.consumed ≤ l.self.consumed;
+    }
+
+abbrev pub decreases-bytes : goal.decreases-bytes
+decreases-bytes g l = 2 ^ 32 - l.self.consumed

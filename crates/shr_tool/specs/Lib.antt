@@ -1,0 +1,13 @@
+pub mod Words
+pub mod Reading
+pub mod Pieces
+pub mod Timeline
+pub mod Serving
+pub mod Forms
+pub mod StatusCode
+pub mod Outcome
+pub mod Files
+pub mod FilesLaws
+pub mod Run
+pub mod LayoutWords
+pub mod LayoutText

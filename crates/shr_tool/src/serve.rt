@@ -1,0 +1,153 @@
+//! Answers a script on a pool, line by line.
+
+mod finish;
+
+ghost use Rattle.std.specs.Prelude.{◌≡◌, ◌<◌, ◌≤◌, IfErr};
+ghost use Rattle.rack.specs.Seen.{Stays};
+ghost use Rattle.flat_array.specs.Line.{command_of};
+ghost use Rattle.flat_array.specs.Script.{without_return as line_without_return};
+ghost use Rattle.pool.specs.Mirror.{IsMirror};
+ghost use Rattle.shr_tool.specs.Serving.{IsReplied, LineAnswers, Serves, HasCause, answer_of};
+
+use crate::perform::perform;
+use crate::reply::ReplyText;
+use crate::shr_script::{Ended, LineReader, parse_line};
+pub use finish::serve_pool;
+use flat_array::Command;
+use io_ends::{Sink, Source};
+use pool::Pool;
+use rack::{Bay, Gone, Rack};
+
+/// Why the answering of a script stopped.
+#[derive(Clone, Copy, Debug, PartialEq, Eq)]
+pub enum Stop {
+    /// A line `quit` was read.
+    Quit,
+    /// All lines of the input were answered.
+    Input,
+    /// The source failed.
+    SourceFault,
+    /// The limit of a script was reached, with more to come.
+    Limit,
+    /// The sink refused a reply.
+    SinkFault,
+    /// A drive refused a call.
+    DriveGone {
+        /// The number of its disk.
+        disk: u32,
+    },
+}
+
+// A line without the carriage return at its end.
+fn without_return(line: &[u8]) -> &[u8]
+    ensures { result.now ≡ line_without_return line.now }
+{
+    let count = line.len();
+    if count == 0 {
+        return line;
+    }
+    if line[count - 1] != b'\r' {
+        return line;
+    }
+    &line[..count - 1]
+}
+
+/// Answers the lines of the input until one of the causes in [`Stop`].
+pub fn answer_script<R: Bay, I: Source, O: Sink>(
+    pool: &mut Pool<R>,
+    input: &mut I,
+    out: &mut O,
+) -> Stop
+    requires { IsMirror (R.seen pool.old.bay) }
+    ensures mirror { IsMirror (R.seen pool.new.bay) }
+    ensures stays { Stays (R.seen pool.old.bay) (R.seen pool.new.bay) }
+    ensures source { I.faults input.old ≤ I.faults input.new }
+    ensures sink { O.faults out.old ≤ O.faults out.new }
+    ensures cause { HasCause result (R.seen pool.old.bay) (R.seen pool.new.bay) (I.faults input.old) (I.faults input.new) (O.faults out.old) (O.faults out.new) }
+    ensures told { O.told out.old → O.told out.new }
+    ensures serves { I.told input.old → O.told out.old → Serves result (R.seen pool.old.bay) (R.seen pool.new.bay) (I.left input.old) (I.left input.new) (O.taken out.old) (O.taken out.new) }
+{
+    let mut reader = LineReader::new();
+    let mut text = ReplyText::new();
+    'lines: loop {
+        match reader.next(input) {
+            Ended::Fault => return Stop::SourceFault,
+            Ended::Limit => return Stop::Limit,
+            Ended::Input => return answer_last(pool, reader.line(), &mut text, out),
+            Ended::LineFeed => {}
+        }
+        match answer_line(pool, reader.line(), &mut text, out) {
+            Ok(()) => {}
+            Err(stop) => return stop,
+        }
+    }
+}
+
+// Answers the last line of the input.
+fn answer_last<R: Bay, O: Sink>(
+    pool: &mut Pool<R>,
+    line: &[u8],
+    text: &mut ReplyText,
+    out: &mut O,
+) -> Stop
+    requires { IsMirror (R.seen pool.old.bay) }
+    ensures mirror { IsMirror (R.seen pool.new.bay) }
+    ensures stays { Stays (R.seen pool.old.bay) (R.seen pool.new.bay) }
+    ensures sink { O.faults out.old ≤ O.faults out.new }
+    ensures cause { HasCause result (R.seen pool.old.bay) (R.seen pool.new.bay) 0 0 (O.faults out.old) (O.faults out.new) }
+    ensures told { O.told out.old → O.told out.new }
+    ensures answers { O.told out.old → LineAnswers R.seen (answer_of result) (command_of (line_without_return line.now)) pool.old.bay pool.new.bay (O.taken out.old) (O.taken out.new) }
+{
+    match answer_line(pool, line, text, out) {
+        Ok(()) => Stop::Input,
+        Err(stop) => stop,
+    }
+}
+
+// Answers one line.
+fn answer_line<R: Bay, O: Sink>(
+    pool: &mut Pool<R>,
+    line: &[u8],
+    text: &mut ReplyText,
+    out: &mut O,
+) -> Result<(), Stop>
+    requires { IsMirror (R.seen pool.old.bay) }
+    ensures mirror { IsMirror (R.seen pool.new.bay) }
+    ensures stays { Stays (R.seen pool.old.bay) (R.seen pool.new.bay) }
+    ensures sink { O.faults out.old ≤ O.faults out.new }
+    ensures cause { IfErr result (λ stop. HasCause stop (R.seen pool.old.bay) (R.seen pool.new.bay) 0 0 (O.faults out.old) (O.faults out.new)) }
+    ensures told { O.told out.old → O.told out.new }
+    ensures answers { O.told out.old → LineAnswers R.seen result (command_of (line_without_return line.now)) pool.old.bay pool.new.bay (O.taken out.old) (O.taken out.new) }
+{
+    match parse_line(without_return(line)) {
+        None => Ok(()),
+        Some(Command::Quit) => Err(Stop::Quit),
+        Some(command) => answer(pool, &command, text, out),
+    }
+}
+
+// Does a command and puts its reply.
+fn answer<R: Bay, O: Sink>(
+    pool: &mut Pool<R>,
+    command: &Command,
+    text: &mut ReplyText,
+    out: &mut O,
+) -> Result<(), Stop>
+    requires mirror { IsMirror (R.seen pool.old.bay) }
+    requires replied { IsReplied command.now }
+    ensures mirror { IsMirror (R.seen pool.new.bay) }
+    ensures stays { Stays (R.seen pool.old.bay) (R.seen pool.new.bay) }
+    ensures sink { O.faults out.old ≤ O.faults out.new }
+    ensures cause { IfErr result (λ stop. HasCause stop (R.seen pool.old.bay) (R.seen pool.new.bay) 0 0 (O.faults out.old) (O.faults out.new)) }
+    ensures told { O.told out.old → O.told out.new }
+    ensures answers { O.told out.old → LineAnswers R.seen result (Some command.now) pool.old.bay pool.new.bay (O.taken out.old) (O.taken out.new) }
+{
+    match perform(pool, command, text) {
+        Ok(()) => {}
+        Err(gone) => return Err(Stop::DriveGone { disk: gone.disk }),
+    }
+    match out.put(text.as_slice()) {
+        Ok(()) => Ok(()),
+        Err(_) => Err(Stop::SinkFault),
+    }
+}

@@ -1,0 +1,122 @@
+//! Tests of whole runs over disks in memory, beside a flat array.
+
+mod faults;
+mod forms;
+mod order;
+mod scripts;
+mod stops;
+
+ghost use Rattle.std.specs.Prelude.{◌≡◌};
+
+use crate::run::run;
+use crate::shr_script::parse_line;
+use flat_array::{Command, FlatDisk};
+use io_ends::{MemSink, MemSource, Source};
+use pool::Birth;
+use rack::{Bay, Name, Rack};
+use rack_mem::{DiskSpec, MemBay};
+use std::alloc::Global;
+use std::process::Abort;
+use std::test::Fail;
+
+// The sectors of both disks, where a test doesn't say otherwise.
+const SECTORS: u64 = 8;
+
+// The calls that a bay of a test keeps.
+const ROOM: u64 = 1000;
+
+const BIRTH: Birth = Birth {
+    seconds: 0,
+    pool: [0; 16],
+};
+
+// What a run put, and the status that it answered.
+#[derive(Drop)]
+struct Ran {
+    status: u8,
+    put: Vec<u8>,
+}
+
+// A bay of these disks, all zeros, on which the calls with these numbers fail.
+fn bay_of(
+    rt: &impl Abort,
+    alloc: Global,
+    disks: &[(&str, u64)],
+    failing: &[u64],
+) -> Result<MemBay, Fail> {
+    let mut shelf = Vec::new(alloc);
+    for (name, sectors) in disks {
+        let name = Name::of(alloc, name.as_bytes())?;
+        let disk = DiskSpec {
+            name,
+            sectors: *sectors,
+        };
+        shelf.push(disk)?;
+    }
+    assert!(rt; shelf.len() < 1 << 32 && shelf.iter().all(|disk| disk.sectors < 1 << 48));
+    Ok(MemBay::new(alloc, shelf, failing.to_vec(alloc)?, ROOM)?)
+}
+
+// Two disks `M` and `N` of zeros.
+fn two_disks(rt: &impl Abort, alloc: Global, failing: &[u64]) -> Result<MemBay, Fail> {
+    bay_of(rt, alloc, &[("M", SECTORS), ("N", SECTORS)], failing)
+}
+
+// A run with these words over any bay and source.
+fn run_over<B: Bay, I: Source>(
+    alloc: Global,
+    words: &[&str],
+    bay: &mut B,
+    mut input: I,
+    sink_fails_at: Option<u64>,
+) -> Result<Ran, Fail>
+    requires { (B.seen bay.old).disks ≡ 0 }
+{
+    let mut texts = Vec::new(alloc);
+    for word in words {
+        texts.push(String::from_str(alloc, word)?)?;
+    }
+    let mut out = MemSink::new(alloc, 1 << 20, sink_fails_at)?;
+    let status = run(alloc, &texts, bay, &mut input, &mut out, &BIRTH);
+    let put = out.bytes().to_vec(alloc)?;
+    Ok(Ran { status, put })
+}
+
+// Serves a script from the disks `M` and `N` of a bay, on which nothing is attached.
+fn serve(rt: &impl Abort, alloc: Global, bay: &mut MemBay, script: &[u8]) -> Result<Ran, Fail> {
+    assert!(rt; bay.disks() == 0);
+    let input = MemSource::new(script.to_vec(alloc)?, None);
+    run_over(alloc, &["serve", "M", "N"], bay, input, None)
+}
+
+// A line without the carriage return at its end.
+fn without_return(line: &[u8]) -> &[u8] {
+    match line {
+        [front @ .., b'\r'] => front,
+        _ => line,
+    }
+}
+
+// The commands of a script before its first `quit`.
+fn commands_of(alloc: Global, script: &[u8]) -> Result<Vec<Command>, Fail> {
+    let mut commands = Vec::new(alloc);
+    for line in script.split(|byte| *byte == b'\n') {
+        match parse_line(without_return(line)) {
+            None => {}
+            Some(Command::Quit) => return Ok(commands),
+            Some(command) => commands.push(command)?,
+        }
+    }
+    Ok(commands)
+}
+
+// What a flat array of zeros replies to a script.
+fn flat_replies(alloc: Global, script: &[u8]) -> Result<Vec<u8>, Fail> {
+    let mut disk = FlatDisk::zeros(alloc, SECTORS)?;
+    let mut replies = Vec::new(alloc);
+    let commands = commands_of(alloc, script)?;
+    for command in commands.iter() {
+        disk.answer(alloc, command, &mut replies)?;
+    }
+    Ok(replies)
+}

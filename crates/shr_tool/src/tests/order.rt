@@ -1,0 +1,119 @@
+//! No reply is put before the calls of its line have returned.
+
+use super::faults::TEN_LINES;
+use super::two_disks;
+use crate::run::run;
+use io_ends::{Failed, MemSink, MemSource, Sink};
+use rack::{AttachFault, Bay, Gone, Rack};
+use std::cell::Cell;
+use std::test::Fail;
+
+// A bay that counts the calls that have returned.
+#[derive(Drop)]
+struct CountingBay<'a, R> {
+    bay: R,
+    returned: &'a Cell<u64>,
+}
+
+// One call more has returned.
+fn count(returned: &Cell<u64>) {
+    returned.set(returned.get().wrapping_add(1));
+}
+
+impl<'a, R: Rack> Rack for CountingBay<'a, R> {
+    ghost seen = { λ counting. R.seen counting.bay };
+
+    fn disks(&self) -> u32 {
+        self.bay.disks()
+    }
+
+    fn sectors(&self, disk: u32) -> u64 {
+        self.bay.sectors(disk)
+    }
+
+    fn read(&mut self, disk: u32, sector: u64, into: &mut [u8; 512]) -> Result<(), Gone> {
+        let result = self.bay.read(disk, sector, into);
+        count(self.returned);
+        result
+    }
+
+    fn write(&mut self, disk: u32, sector: u64, from: &[u8; 512]) -> Result<(), Gone> {
+        let result = self.bay.write(disk, sector, from);
+        count(self.returned);
+        result
+    }
+
+    fn sync(&mut self, disk: u32) -> Result<(), Gone> {
+        let result = self.bay.sync(disk);
+        count(self.returned);
+        result
+    }
+
+    ghost sound = { λ counting fit traced. R.sound counting.bay fit traced };
+}
+
+impl<'a, R: Bay> Bay for CountingBay<'a, R> {
+    ghost shelf = { λ counting. R.shelf counting.bay };
+
+    fn attach(&mut self, name: &str) -> Result<u32, AttachFault> {
+        self.bay.attach(name)
+    }
+
+    ghost always_fit = { λ counting. R.always_fit counting.bay };
+
+    ghost unspent = { λ counting. R.unspent counting.bay };
+
+    ghost lasting = { λ counting. R.lasting counting.bay };
+
+    ghost bounded = { λ counting. R.bounded counting.bay };
+
+    ghost numbered = { λ counting. R.numbered counting.bay };
+}
+
+// A sink that keeps, for each reply, how many calls had returned before it.
+#[derive(Drop)]
+struct WatchingSink<'a, O> {
+    sink: O,
+    returned: &'a Cell<u64>,
+    before: Vec<u64>,
+}
+
+impl<'a, O: Sink> Sink for WatchingSink<'a, O> {
+    ghost taken = { λ watching. O.taken watching.sink };
+
+    ghost told = { λ watching. O.told watching.sink };
+
+    ghost faults = { λ watching. O.faults watching.sink };
+
+    fn put(&mut self, from: &[u8]) -> Result<(), Failed> {
+        let _ = self.before.push(self.returned.get());
+        self.sink.put(from)
+    }
+}
+
+#[test]
+fn a_reply_comes_after_the_calls_of_its_line(rt: HostRuntime) -> Result<(), Fail> {
+    let alloc = rt.alloc();
+    let returned = Cell::new(0);
+    let mut bay = CountingBay {
+        bay: two_disks(&rt, alloc, &[])?,
+        returned: &returned,
+    };
+    let mut out = WatchingSink {
+        sink: MemSink::new(alloc, 1000, None)?,
+        returned: &returned,
+        before: Vec::new(alloc),
+    };
+    let mut words = Vec::new(alloc);
+    for word in ["serve", "M", "N"] {
+        words.push(String::from_str(alloc, word)?)?;
+    }
+    let mut input = MemSource::new(TEN_LINES.as_bytes().to_vec(alloc)?, None);
+    assert!(rt; bay.bay.disks() == 0);
+    let status = run(alloc, &words, &mut bay, &mut input, &mut out, &super::BIRTH);
+    assert_eq!(rt; status, 0);
+    let want = [2, 3, 5, 7, 8, 8, 8, 10, 11, 13];
+    assert_eq!(rt; out.before.as_slice(), want.as_slice());
+    assert_eq!(rt; returned.get(), 15);
+    Ok(())
+}

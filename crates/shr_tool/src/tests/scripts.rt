@@ -1,0 +1,148 @@
+//! Scripts, well formed and not.
+
+use super::{flat_replies, serve, two_disks};
+use std::alloc::Global;
+use std::process::Abort;
+use std::test::Fail;
+
+// Runs a script over two disks, and compares what it puts with the flat array's replies.
+fn check(rt: &impl Abort, alloc: Global, script: &[u8]) -> Result<Vec<u8>, Fail> {
+    let mut bay = two_disks(rt, alloc, &[])?;
+    let ran = serve(rt, alloc, &mut bay, script)?;
+    let want = flat_replies(alloc, script)?;
+    assert_eq!(rt; ran.status, 0, "{script:?}");
+    assert_eq!(rt; ran.put.as_slice(), want.as_slice(), "{script:?}");
+    Ok(ran.put)
+}
+
+#[test]
+fn a_mirror_serves_a_script(rt: HostRuntime) -> Result<(), Fail> {
+    let script = b"read 0\nwrite 7 61\nread 7\nread 8\nflush\nsize\nquit\n";
+    let want = b"data -\nok\ndata 61\nrefused range\nok\nrefused unbuilt\n";
+    let put = check(&rt, rt.alloc(), script)?;
+    assert_eq!(rt; put.as_slice(), want.as_slice());
+    Ok(())
+}
+
+#[test]
+fn each_line_has_its_reply(rt: HostRuntime) -> Result<(), Fail> {
+    let syntax = "refused syntax\n";
+    let range = "refused range\n";
+    let unbuilt = "refused unbuilt\n";
+    let scripts = [
+        ("", ""),
+        ("\n", ""),
+        ("\n\n\r\n\n", ""),
+        ("\r", ""),
+        ("\r\r\n", syntax),
+        ("read 7", "data -\n"),
+        ("write 0 AbCd\r\nread 0\r\n", "ok\ndata abcd\n"),
+        ("write 0 00\nread 0", "ok\ndata -\n"),
+        ("write 0 0100\nread 0", "ok\ndata 01\n"),
+        ("write 0 0001\nwrite 0 02\nread 0", "ok\nok\ndata 02\n"),
+        ("flush\nquit\nquit\nread 0\n", "ok\n"),
+        ("quit", ""),
+        (
+            "quit now\nquit \nread 0",
+            "refused syntax\nrefused syntax\ndata -\n",
+        ),
+        (
+            "read 8\nwrite 8 aa\nread 00008",
+            "refused range\nrefused range\nrefused range\n",
+        ),
+        ("read 00000000000000000007", "data -\n"),
+        ("read 000000000000000000007", syntax),
+        ("read 18446744073709551615", range),
+        ("read 18446744073709551616", syntax),
+        ("read 99999999999999999999", syntax),
+        ("read", syntax),
+        ("read ", syntax),
+        ("read  0", syntax),
+        ("read 0 ", syntax),
+        (" read 0", syntax),
+        ("read 0 0", syntax),
+        (
+            "read -1\nread +1\nread 0x1",
+            "refused syntax\nrefused syntax\nrefused syntax\n",
+        ),
+        ("read\t0\nREAD 0", "refused syntax\nrefused syntax\n"),
+        ("write 0", syntax),
+        ("write 0 ", syntax),
+        (
+            "write 0 a\nwrite 0 abc\nwrite 0 ag",
+            "refused syntax\nrefused syntax\nrefused syntax\n",
+        ),
+        ("write 0 aa bb\nread 0", "refused syntax\ndata -\n"),
+        ("write aa 0", syntax),
+        (
+            "flush 0\nflush \nflush",
+            "refused syntax\nrefused syntax\nok\n",
+        ),
+        ("fill", unbuilt),
+        (
+            "size 1 2 3\nstep\nadd A\nreplace ",
+            "refused unbuilt\nrefused unbuilt\nrefused unbuilt\nrefused unbuilt\n",
+        ),
+        (
+            "lose 0\nstatus\nstatuses",
+            "refused unbuilt\nrefused unbuilt\nrefused syntax\n",
+        ),
+        ("\0\nread 0\0", "refused syntax\nrefused syntax\n"),
+    ];
+    for (script, want) in scripts {
+        let put = check(&rt, rt.alloc(), script.as_bytes())?;
+        assert_eq!(rt; put.as_slice(), want.as_bytes(), "{script:?}");
+    }
+    Ok(())
+}
+
+// A word, and then one byte so often that the line has so many.
+fn long_line(alloc: Global, start: &str, fill: u8, bytes: usize) -> Result<Vec<u8>, Fail> {
+    let mut line = start.as_bytes().to_vec(alloc)?;
+    for _ in start.len()..bytes {
+        line.push(fill)?;
+    }
+    Ok(line)
+}
+
+#[test]
+fn long_lines_have_their_replies(rt: HostRuntime) -> Result<(), Fail> {
+    let lines = [
+        ("write 3 ", b'5', 8 + 1024, "ok\n"),
+        ("write 3 ", b'5', 8 + 1023, "refused syntax\n"),
+        ("write 3 ", b'5', 8 + 1026, "refused syntax\n"),
+        ("write 00000000000000000003 ", b'f', 27 + 1024, "ok\n"),
+        ("flush ", b' ', 1100, "refused syntax\n"),
+        ("flush ", b' ', 1101, "refused syntax\n"),
+        ("status ", b'x', 1100, "refused unbuilt\n"),
+        ("status ", b'x', 1101, "refused unbuilt\n"),
+        ("status ", b'x', 9000, "refused unbuilt\n"),
+        ("status", b'x', 1102, "refused syntax\n"),
+        ("", b'q', 5000, "refused syntax\n"),
+    ];
+    for (start, fill, bytes, want) in lines {
+        let mut script = long_line(rt.alloc(), start, fill, bytes)?;
+        let put = check(&rt, rt.alloc(), &script)?;
+        assert_eq!(rt; put.as_slice(), want.as_bytes(), "{start} to {bytes} bytes");
+        script.extend_from_slice(b"\r\nread 4\n")?;
+        check(&rt, rt.alloc(), &script)?;
+    }
+    Ok(())
+}
+
+#[test]
+fn a_line_over_two_pieces_of_the_source_is_one_line(rt: HostRuntime) -> Result<(), Fail> {
+    let alloc = rt.alloc();
+    for first in 4070..4100 {
+        let mut script = long_line(alloc, "status ", b'x', first)?;
+        script.extend_from_slice(b"\nwrite 2 1234\r\nread 2\r\n")?;
+        let put = check(&rt, alloc, &script)?;
+        let want = b"refused unbuilt\nok\ndata 1234\n";
+        assert_eq!(rt;
+            put.as_slice(),
+            want.as_slice(),
+            "first line of {first} bytes"
+        );
+    }
+    Ok(())
+}
