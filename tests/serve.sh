@@ -1,0 +1,158 @@
+#!/usr/bin/env bash
+# The built program over real files: lines, replies, refusals and statuses of `serve`.
+set -uo pipefail
+
+top=$(cd "$(dirname "$(readlink -f "${BASH_SOURCE[0]}")")/.." && pwd)
+folder=$(mktemp -d)
+trap 'rm -rf "$folder"' EXIT
+cd "$folder" || exit 1
+passed=0
+failed=0
+
+# Has the launcher build the program, and then calls that program alone: no build speaks below.
+"$top/roskubel" </dev/null >/dev/null
+[ $? -eq 2 ] || { echo "the program isn't built"; exit 1; }
+tool=$top/out/shr_tool
+
+# So many times one byte.
+times() { printf "%${1}s" '' | tr ' ' "$2"; }
+
+images() { truncate -s 0 first second; truncate -s "$1" first second; }
+
+# check NAME STATUS WANTED [WORD..]: runs the program with the words over the file `script`.
+check() {
+  local name=$1 status=$2 wanted=$3 got
+  shift 3
+  "$tool" "$@" <script >out 2>err
+  got=$?
+  printf '%b' "$wanted" >wanted
+  if [ "$got" -eq "$status" ] && cmp -s wanted out && [ ! -s err ]; then
+    passed=$((passed + 1))
+  else
+    failed=$((failed + 1))
+    echo "FAILED: $name: status $got, wanted $status"
+    diff wanted out | head -n 5
+    head -n 5 err
+  fi
+}
+
+# serve NAME STATUS SCRIPT REPLIES: a script over two fresh images of 16 sectors.
+serve() {
+  images 8192
+  printf '%b' "$3" >script
+  check "$1" "$2" "$4" serve first second
+}
+
+# expect NAME COMMAND..: one more check, by the status of a command.
+expect() {
+  local name=$1
+  shift
+  if "$@" >/dev/null 2>&1; then
+    passed=$((passed + 1))
+  else
+    failed=$((failed + 1))
+    echo "FAILED: $name"
+  fi
+}
+
+long_digits=$(times 1016 a)
+
+# Lines and replies.
+serve 'the lines of one script' 0 'read 0\nwrite 7 61\nread 7\nread 8\nflush\nsize\nquit\n' \
+  'data -\nok\ndata 61\ndata -\nok\nrefused unbuilt\n'
+expect 'both images are equal' cmp first second
+expect 'sector 7 has the byte' test "$(dd if=second bs=512 skip=7 count=1 status=none | tr -d '\0')" = a
+serve 'lines with carriage returns' 0 'write 1 62\r\nread 1\r\n\r\nquit\r\nread 1\r\n' 'ok\ndata 62\n'
+serve 'a last line that is not ended' 0 'write 2 63\nread 2' 'ok\ndata 63\n'
+serve 'a carriage return at the end of input' 0 'read 2\r' 'data -\n'
+serve 'an empty script' 0 '' ''
+serve 'empty lines' 0 '\n\n\r\n\n' ''
+serve 'nothing after quit' 0 'quit\nread 0\n' ''
+serve 'digits of either case, zeros at the end dropped' 0 'write 3 aBcD00\nread 3\nwrite 3 00\nread 3\n' 'ok\ndata abcd\nok\ndata -\n'
+serve 'an old value is replaced whole' 0 'write 3 616263\nwrite 3 64\nread 3\n' 'ok\nok\ndata 64\n'
+serve 'the last sector and the one past it' 0 'read 15\nread 16\nwrite 16 61\nread 18446744073709551615\n' \
+  'data -\nrefused range\nrefused range\nrefused range\n'
+serve 'wrong lines' 0 'read\nread 0 \nread  0\nread -1\nread x\nread 18446744073709551616\nREAD 0\nquit now\nflush 1\nnone\n read 0\nwrite 0\nwrite 0 6\nwrite 0 6g\n' \
+  "$(times 14 x | sed 's/x/refused syntax\\n/g')"
+serve 'lines that are not built yet' 0 'size\nfill 0 1 00\nstep 1\nadd x\nreplace 0 x\nlose 0\nstatus\nsize of it\n' \
+  "$(times 8 x | sed 's/x/refused unbuilt\\n/g')"
+serve 'a whole sector' 0 "write 5 $(times 1024 f)\nread 5\n" "ok\ndata $(times 1024 f)\n"
+serve 'a sector and a byte' 0 "write 5 $(times 1026 f)\nread 5\n" 'refused syntax\ndata -\n'
+serve 'a line of 1100 bytes, which is only a wrong one' 0 "$(times 1100 x)\nread 0\n" 'refused syntax\ndata -\n'
+serve 'a line of 1101 bytes' 0 "$(times 1101 x)\nread 0\n" 'refused syntax\ndata -\n'
+serve 'a number is at most twenty digits' 0 "read $(times 20 0)\nread $(times 21 0)\n" 'data -\nrefused syntax\n'
+serve 'a line of 1101 bytes whose word is not built' 0 "size $(times 1096 x)\n" 'refused unbuilt\n'
+serve 'a line far longer than a piece is read to its end' 0 "read $(times 20000 1)\nread 0\n" 'refused syntax\ndata -\n'
+
+# A line of 1025 bytes that lies over the end of the first piece of 4096 bytes, behind empty lines.
+boundary() {
+  local shift_by=$1
+  images 8192
+  {
+    times "$shift_by" '\n'
+    printf 'write 11 %s\nread 11\n' "$long_digits"
+  } >script
+  check "a piece's end inside a line, at $((4096 - shift_by))" 0 "ok\ndata $long_digits\n" serve first second
+}
+for shift_by in 3071 3500 4087 4088 4090 4094 4095 4096; do boundary "$shift_by"; done
+
+# What was written is there in the next run.
+images 8192
+printf 'write 9 7a\n' >script
+check 'a first run' 0 'ok\n' serve first second
+printf 'read 9\n' >script
+check 'a second run' 0 'data 7a\n' serve first second
+expect 'both images are equal after two runs' cmp first second
+
+# Refusals before a script, and their statuses.
+: >script
+images 8192
+check 'a missing first file' 6 'refused attach 0\n' serve none second
+check 'a missing second file' 6 'refused attach 1\n' serve first none
+expect 'no file is made' test ! -e none
+head -c 513 /dev/zero >odd
+check 'a file of 513 bytes' 6 'refused attach 0\n' serve odd second
+check 'a folder' 6 'refused attach 0\n' serve . second
+check 'one path twice' 6 'refused twice\n' serve first first
+truncate -s 4096 third
+check 'images of two sizes' 6 'refused unequal\n' serve first third
+truncate -s 0 empty also_empty
+check 'images without a sector' 6 'refused unequal\n' serve empty also_empty
+
+check 'no words' 2 'refused words\n'
+check 'an unknown word' 2 'refused words\n' mount first second
+check 'help is no form' 2 'refused words\n' help
+check 'serve of nothing' 2 'refused words\n' serve
+check 'a name with a dash' 2 'refused words\n' serve -first second
+check 'an empty name' 2 'refused words\n' serve '' second
+check 'serve of one name' 6 'refused unbuilt\n' serve first
+check 'serve of three names' 6 'refused unbuilt\n' serve first second third
+for form in create import export status examine trial; do
+  check "a form that is not built: $form" 6 'refused unbuilt\n' "$form" first second
+done
+
+# A sink that fails.
+if [ -e /dev/full ]; then
+  printf 'write 4 65\nread 4\n' >script
+  "$tool" serve first second <script >/dev/full 2>err
+  expect 'a full output has status 5' test $? -eq 5
+  expect 'and says nothing on standard error' test ! -s err
+fi
+
+# The launcher passes words, ends and the status on, and adds nothing.
+images 8192
+printf 'write 6 66\nread 6\n' >script
+"$top/roskubel" serve first second <script >out 2>err
+expect 'the launcher passes the status on' test $? -eq 0
+expect 'the launcher passes the replies on' test "$(cat out)" = "$(printf 'ok\ndata 66')"
+expect 'the launcher is quiet' test ! -s err
+"$top/roskubel" serve first none </dev/null >out 2>err
+expect 'the launcher passes a refusal on' test $? -eq 6
+
+# A source that fails: a folder in the place of the script.
+"$tool" serve first second <. >out 2>err
+expect 'an input that cannot be read has status 4' test $? -eq 4
+expect 'and no reply' test ! -s out -a ! -s err
+
+echo "$passed passed, $failed failed"
+[ "$failed" -eq 0 ]
