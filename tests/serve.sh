@@ -1,40 +1,11 @@
 #!/usr/bin/env bash
 # The built program over real files: lines, replies, refusals and statuses of `serve`.
-set -uo pipefail
-
-top=$(cd "$(dirname "$(readlink -f "${BASH_SOURCE[0]}")")/.." && pwd)
-folder=$(mktemp -d)
-trap 'rm -rf "$folder"' EXIT
-cd "$folder" || exit 1
-passed=0
-failed=0
-
-# Has the launcher build the program, and then calls that program alone: no build speaks below.
-"$top/roskubel" </dev/null >/dev/null
-[ $? -eq 2 ] || { echo "the program isn't built"; exit 1; }
-tool=$top/out/shr_tool
+. "$(dirname "$(readlink -f "${BASH_SOURCE[0]}")")/lib/program.sh"
 
 # So many times one byte.
 times() { printf "%${1}s" '' | tr ' ' "$2"; }
 
 images() { truncate -s 0 first second; truncate -s "$1" first second; }
-
-# check NAME STATUS WANTED [WORD..]: runs the program with the words over the file `script`.
-check() {
-  local name=$1 status=$2 wanted=$3 got
-  shift 3
-  "$tool" "$@" <script >out 2>err
-  got=$?
-  printf '%b' "$wanted" >wanted
-  if [ "$got" -eq "$status" ] && cmp -s wanted out && [ ! -s err ]; then
-    passed=$((passed + 1))
-  else
-    failed=$((failed + 1))
-    echo "FAILED: $name: status $got, wanted $status"
-    diff wanted out | head -n 5
-    head -n 5 err
-  fi
-}
 
 # serve NAME STATUS SCRIPT REPLIES: a script over two fresh images of 16 sectors.
 serve() {
@@ -154,5 +125,4 @@ expect 'the launcher passes a refusal on' test $? -eq 6
 expect 'an input that cannot be read has status 4' test $? -eq 4
 expect 'and no reply' test ! -s out -a ! -s err
 
-echo "$passed passed, $failed failed"
-[ "$failed" -eq 0 ]
+close
