@@ -152,6 +152,7 @@ adds_through name a b s t path d adds =
       disks = adds.disks;
       clock = adds.clock;
       others = λ e inside. same_disk_through name a b e (adds.others e inside);
+      unfaulted = adds.unfaulted;
       traced = adds.traced;
       lenders = ap (λ names. name ∷ names) adds.lenders;
       past = adds.past;

@@ -40,12 +40,13 @@ pub record IsFrom (a b : Seen) (d : ℕ) (w : Waiting) : Type 0 where
   pub shown : a.traced → (k : ℕ) (c : Image) → k ≤ a.clock → b.stops k c → Shows d w c
   pub stops : a.traced → (k : ℕ) (c : Image) → k ≤ a.clock → a.stops k c → Shows d w c → b.stops k c
 
--- a disk is added after the old ones, which stay as they were
+-- a disk is added after the old ones, which stay as they were; it has refused no call yet
 pub record Adds (a b : Seen) (s t : Shelf) (name : List ℕ) (d : ℕ) : Type 0 where
   pub number : d ≡ a.disks
   pub disks : b.disks ≡ a.disks + 1
   pub clock : b.clock ≡ a.clock
   pub others : (e : ℕ) → e < a.disks → SameDisk a b e
+  pub unfaulted : b.faults d ≡ 0
   pub traced : a.traced → s.told → b.traced
   pub lenders : b.lenders ≡ a.lenders
   pub past : a.traced → (k : ℕ) (c : Image) → k ≤ a.clock → b.stops k c → a.stops k c

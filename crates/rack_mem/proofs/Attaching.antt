@@ -169,9 +169,9 @@ number_last xs x = ap (λ o. option_map_or (λ (disk : Attached). disk.number) o
 
 -- a disk is added under its name
 pub adds : (a : Memory) (x : Attached) (name : List ℕ) → AreOn a.calls (length a.attached)
-    → first_named a.shelf name ≡ Some x.number → is_attached a.shelf a.attached name ≡ false
+    → first_named a.shelf name ≡ Some x.number → is_attached a.shelf a.attached name ≡ false → x.faults ≡ 0
     → Adds (seen_of a) (seen_of (more a x)) (shelf_of a) (shelf_of (more a x)) name (length a.attached)
-adds a x name on found none =
+adds a x name on found none unfaulted =
     let last : ℕ = length a.attached in
     let named : name_of a.shelf x.number ≡ name = first_name a.shelf name x.number found in
     let one_more : length (a.attached ++ x ∷ []) ≡ last + 1 = length_push a.attached x in
@@ -189,6 +189,7 @@ adds a x name on found none =
         faults = ap (λ o. option_map_or (λ (disk : Attached). disk.faults) o 0) (slice_get-append a.attached (x ∷ []) e within);
         told = λ told. told;
       };
+      unfaulted = ap (λ o. option_map_or (λ (disk : Attached). disk.faults) o 0) (slice_get-push a.attached x) ∙ unfaulted;
       traced = λ traced told. traced;
       lenders = refl;
       past = λ traced k c until left e s within sector.
@@ -229,11 +230,11 @@ adds a x name on found none =
 
 -- the answer then
 pub is_added : (a : Memory) (x : Attached) (name : List ℕ) → AreOn a.calls (length a.attached)
-    → first_named a.shelf name ≡ Some x.number → is_attached a.shelf a.attached name ≡ false
+    → first_named a.shelf name ≡ Some x.number → is_attached a.shelf a.attached name ≡ false → x.faults ≡ 0
     → Attaches (seen_of a) (seen_of (more a x)) (shelf_of a) (shelf_of (more a x)) name (Ok (length a.attached))
-is_added a x name on found none = record {
+is_added a x name on found none unfaulted = record {
   faults = omega arith;
-  ok = adds a x name on found none;
+  ok = adds a x name on found none unfaulted;
   failed = λ same. cc;
   twice = not_twice a name (Ok (length a.attached)) none (λ d same. cc);
   refused = tt;

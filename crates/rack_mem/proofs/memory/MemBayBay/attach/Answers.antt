@@ -1,4 +1,4 @@
-use Rattle.std.proofs.Common.{◌≡◌, ◌++◌, ◌∷◌, [], Some, false, length, sym, subst, arith, ap, ◌∙◌, Ok, Err, rules}
+use Rattle.std.proofs.Common.{◌≡◌, ◌++◌, ◌∷◌, [], Some, false, length, refl, sym, subst, arith, ap, ◌∙◌, Ok, Err, rules}
 use Rattle.std.proofs.lemmas.List.{length_push}
 use Rattle.rack.specs.declared.AttachFault.TheVariants.{Memory as NoRoom}
 use Rattle.rack.specs.Shelf.{Attaches}
@@ -68,4 +68,4 @@ returns c =
     subst (λ attached. Attaches (seen_of before) (seen_of (record before { attached = attached })) (shelf_of before) (shelf_of (record before { attached = attached })) c.args.name.now (Ok c.len-disk.result))
     (sym (c.push_within.ensures.items ∙ ap (λ attached. attached ++ x ∷ []) c.reserve.ensures.items))
     (rw number (is_added before x c.args.name.now c.args.self.now.attached_first found
-    (rw (← c.as_bytes-name.ensures.value) (not_attached before c.as_bytes-name.result.now c.in_default.ensures))))
+    (rw (← c.as_bytes-name.ensures.value) (not_attached before c.as_bytes-name.result.now c.in_default.ensures)) refl))
