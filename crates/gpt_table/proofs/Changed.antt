@@ -1,5 +1,5 @@
 -- Calls that write to some sectors of a disk alone.
-use Rattle.std.proofs.Common.{◌≡◌, ◌≢◌, ℕ, ◌<◌, ◌⊎◌, List, Some, sym, subst, inl, inr, ⊎_elim}
+use Rattle.std.proofs.Common.{◌≡◌, ◌≢◌, ℕ, ◌<◌, List, Some, subst, inl, inr, ⊎_elim}
 use Rattle.rack.specs.Values.{MayLeave}
 use Rattle.rack.specs.Seen.{Seen, IsLive, IsPick, Stays}
 use Rattle.rack.specs.Joins.{keeps_then, leaves_weaker, leaves_then, stays_then, live_first, live_second}

@@ -3,6 +3,7 @@ pub mod Decoded
 pub mod Looking
 pub mod Joined
 pub mod Copies
+pub mod Spent
 pub mod Slots
 pub mod Headers
 pub mod Placed

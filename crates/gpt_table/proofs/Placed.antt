@@ -1,5 +1,5 @@
 -- Entries written one after the other, each in the place of its number.
-use Rattle.std.proofs.Common.{◌≡◌, ℕ, zero, suc, ◌+◌, ◌-◌, ◌*◌, ◌<◌, ◌≤◌, ◌==◌, Bool, true, false, cond, List, [], ◌∷◌, ◌++◌, length, take, get_or, replicate, filter_map, find, Option, Some, None, All, refl, sym, ap, ◌∙◌, arith, ⊎_elim, subst, if◌then◌else◌}
+use Rattle.std.proofs.Common.{◌≡◌, ℕ, zero, suc, ◌+◌, ◌-◌, ◌*◌, ◌<◌, ◌≤◌, Bool, true, false, cond, List, [], ◌∷◌, ◌++◌, length, take, get_or, replicate, filter_map, find, Option, Some, None, All, refl, sym, ap, ◌∙◌, arith, ⊎_elim, subst, if◌then◌else◌}
 use Rattle.std.specs.List.{range_with_len}
 use Rattle.std.proofs.lemmas.Bool.{le-leb, or_left, or_right, and_from, cases_eq, eq-eqb, ne_eqb, cases_lt, cases_Bool, cond-true, cond-false}
 use Rattle.std.proofs.lemmas.Option.{none-some}
@@ -9,11 +9,7 @@ use Rattle.shr_base.specs.Blocks.{bytes_at, put_at, Write}
 use Rattle.shr_base.proofs.Blocks.{bytes_at-field, bytes_at-put_all, bytes_at-zeros, is_apart, are_laid_out}
 use Rattle.gpt_table.specs.declared.Entry.{Entry}
 use Rattle.gpt_table.specs.declared.Slice.{Slice}
-use Rattle.gpt_table.specs.Format.{slot_of, slice_of, is_unused, entry_of, entries_of, Ascends}
-
--- the entry of a number
-abbrev pub numbered : ℕ → Entry → Bool
-numbered number entry = entry.number == number
+use Rattle.gpt_table.specs.Format.{slot_of, slot_bytes, slice_of, numbered, written_slot, is_unused, entry_of, entries_of, Ascends}
 
 -- the slot that was written
 pub slot_here : (k : ℕ) (slot block : List ℕ) → length block ≡ 16384 → k < 128 → length slot ≡ 128 →
@@ -39,10 +35,14 @@ slot_elsewhere j k slot block long inside wide other =
     refl in
     bytes_at-put_all 16384 (128 * j) 128 fields block long apart laid_out (wide, tt)
 
+-- each slot of zeros is zeros
+pub blank_slot : (k : ℕ) → k < 128 → slot_of k (replicate 16384 0) ≡ replicate 128 0
+blank_slot k inside = bytes_at-zeros 16384 (128 * k) 128 [] (omega arith) refl refl tt
+
 -- an entry of zeros isn't in use
 pub blank_entry : (k : ℕ) → k < 128 → entry_of (replicate 16384 0) k ≡ None
 blank_entry k inside =
-    let slot : slot_of k (replicate 16384 0) ≡ replicate 128 0 = bytes_at-zeros 16384 (128 * k) 128 [] (omega arith) refl refl tt in
+    let slot : slot_of k (replicate 16384 0) ≡ replicate 128 0 = blank_slot k inside in
     let kind : bytes_at 0 16 (replicate 128 0) ≡ replicate 16 0 = bytes_at-zeros 128 0 16 [] (omega arith) refl refl tt in
     rw (slot, kind)
 
@@ -130,6 +130,31 @@ entry_written entries i k d slot old new ascends inside low wide long is used sa
     let other : numbered (k + 1) e ≡ false = ne_eqb e.number (k + 1) (λ eq. there (omega arith)) in
     ap (λ (s : List ℕ). entry_in s k) same ∙ before
     ∙ sym (ap (find (numbered (k + 1))) more ∙ find_push_other (numbered (k + 1)) (take i entries) e other))
+    (cases_eq k (e.number - 1))
+
+-- and of the slots that it writes
+pub slot_written : (entries : List Entry) (i k : ℕ) (d : Entry) (slot old new : List ℕ) → Ascends 0 entries → i < length entries →
+    (get_or entries i d).number ≤ 128 → length slot ≡ 128 → length old ≡ 16384 →
+    new ≡ put_at (128 * ((get_or entries i d).number - 1)) 128 slot old → slot ≡ slot_bytes (get_or entries i d).slice →
+    k < 128 → slot_of k old ≡ written_slot (find (numbered (k + 1)) (take i entries)) →
+    slot_of k new ≡ written_slot (find (numbered (k + 1)) (take (i + 1) entries))
+slot_written entries i k d slot old new ascends inside low wide long is said below before =
+    let e : Entry = get_or entries i d in
+    let high : 0 < e.number = above_all 0 i entries d ascends inside in
+    let more : take (i + 1) entries ≡ take i entries ++ e ∷ [] = take_more entries i d inside in
+    ⊎_elim
+    (λ (here : k ≡ e.number - 1).
+    let number : e.number ≡ k + 1 = omega arith in
+    let none : find (numbered (k + 1)) (take i entries) ≡ None =
+    ap (λ (n : ℕ). find (numbered n) (take i entries)) (sym number) ∙ none_before 0 i entries d ascends inside in
+    ap (slot_of k) is ∙ ap (λ (n : ℕ). slot_of n (put_at (128 * (e.number - 1)) 128 slot old)) here
+    ∙ slot_here (e.number - 1) slot old long (omega arith) wide ∙ said
+    ∙ sym (ap written_slot (ap (find (numbered (k + 1))) more
+    ∙ find_push (numbered (k + 1)) (take i entries) e none (eq-eqb e.number (k + 1) number))))
+    (λ (there : k ≡ e.number - 1 → ⊥).
+    let other : numbered (k + 1) e ≡ false = ne_eqb e.number (k + 1) (λ eq. there (omega arith)) in
+    ap (slot_of k) is ∙ slot_elsewhere k (e.number - 1) slot old long (omega arith) wide there ∙ before
+    ∙ sym (ap written_slot (ap (find (numbered (k + 1))) more ∙ find_push_other (numbered (k + 1)) (take i entries) e other)))
     (cases_eq k (e.number - 1))
 
 -- the entries by their numbers are the entries

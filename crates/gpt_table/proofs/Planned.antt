@@ -1,10 +1,10 @@
 -- The sectors of one copy, written one after the other.
-use Rattle.std.proofs.Common.{◌≡◌, ℕ, ◌+◌, ◌-◌, ◌*◌, ◌<◌, ◌≤◌, ◌⊎◌, ◌==◌, ◌&&◌, nat_le, nat_lt, true, false, List, Option, Some, None, Ok, Err, refl, sym, ap, subst, ◌∙◌, inl, inr, ⊎_elim, arith, eqb-true, zero, suc, ◌++◌, length, take, add-one, take-add, take_all}
+use Rattle.std.proofs.Common.{◌≡◌, ℕ, ◌+◌, ◌-◌, ◌*◌, ◌<◌, ◌≤◌, ◌⊎◌, ◌==◌, ◌&&◌, nat_le, nat_lt, true, false, List, Option, Some, None, Ok, Err, refl, sym, ap, subst, subst₂, ◌∙◌, inl, inr, ⊎_elim, arith, eqb-true, zero, suc, ◌++◌, length, take, add-one, take-add, take_all}
 use Rattle.gpt_table.specs.declared.Table.{Table}
 use Rattle.gpt_table.specs.declared.TableCopy.{TableCopy}
 use Rattle.gpt_table.specs.declared.TableCopy.TheVariants.{Primary, Backup}
-use Rattle.gpt_table.specs.Format.{header_sector, entries_sector, table_of}
-use Rattle.gpt_table.specs.Disk.{Contents, IsOfCopy, joined, entries_bytes, table_at}
+use Rattle.gpt_table.specs.Format.{header_sector, entries_sector, IsWritten}
+use Rattle.gpt_table.specs.Disk.{Contents, IsOfCopy, HoldsCopy, joined, entries_bytes}
 use Rattle.gpt_table.proofs.Joined.{joined_more}
 use Rattle.std.proofs.lemmas.Bool.{cases_Bool, cases_lt, cases_eq, and_parts, and_from, and_right, cond-true, cond-false, eq-eqb, ne_eqb, le-leb, lt-ltb, leb-true, ltb-true}
 use Rattle.std.proofs.lemmas.Option.{cond_some, same_Some, none-some}
@@ -284,13 +284,14 @@ pub parts_apart : (copy : TableCopy) (sectors : ℕ) → 67 ≤ sectors →
 parts_apart Primary sectors room = inl (omega arith)
 parts_apart Backup sectors room = inr (omega arith)
 
--- where a copy's planned values stand, the copy says its table
-pub plan_says : (copy : TableCopy) (sectors : ℕ) (header bytes : List ℕ) (table : Option Table) (contents : Contents) → 67 ≤ sectors → length bytes ≡ 16384 →
-    table_of copy sectors header bytes ≡ table →
-    ((s : ℕ) (v : List ℕ) → copy_plan (header_sector copy sectors) header (entries_sector copy sectors) bytes s ≡ Some v → contents s ≡ v) →
-    table_at copy sectors contents ≡ table
+-- where a copy's planned values stand, the copy is the one that is written
+pub plan_holds : (copy : TableCopy) (table : Table) (header bytes : List ℕ) (contents : Contents) → 67 ≤ table.sectors → length bytes ≡ 16384 →
+    IsWritten copy table header bytes →
+    ((s : ℕ) (v : List ℕ) → copy_plan (header_sector copy table.sectors) header (entries_sector copy table.sectors) bytes s ≡ Some v → contents s ≡ v) →
+    HoldsCopy copy table contents
 unfolding entries_bytes
-plan_says copy sectors header bytes table contents room long is holds =
+plan_holds copy table header bytes contents room long written holds =
+    let sectors = table.sectors in
     let own = header_sector copy sectors in
     let first = entries_sector copy sectors in
     let start : contents own ≡ header = holds own header (plan_own own header first bytes) in
@@ -298,8 +299,7 @@ plan_says copy sectors header bytes table contents room long is holds =
     pieces_join contents first bytes 32
     (λ k below. holds (first + k) (bytes_at (512 * k) 512 bytes) (plan_entry own header first bytes k (parts_apart copy sectors room) below))
     ∙ take_all 16384 bytes (omega arith) in
-    ap (λ (h : List ℕ). table_of copy sectors h (joined contents first 32)) start
-    ∙ ap (λ (b : List ℕ). table_of copy sectors header b) rest ∙ is
+    subst₂ (IsWritten copy table) (sym start) (sym rest) written
 
 -- only the sectors of the copy are planned
 pub plan_within : (copy : TableCopy) (sectors : ℕ) (header bytes : List ℕ) (s : ℕ) (v : List ℕ) →

@@ -1,22 +1,22 @@
 -- A copy that is replaced in three steps: its header cleared, its entries written, its header written.
-use Rattle.std.proofs.Common.{◌≡◌, ℕ, ◌+◌, ◌-◌, ◌*◌, ◌<◌, ◌≤◌, ◌⊎◌, List, [], Option, Some, None, Result, Ok, Err, true, false, refl, sym, ap, subst, ◌∙◌, inl, inr, ⊎_elim, arith, length, replicate, codes, bytes_eq}
-use Rattle.std.proofs.lemmas.Bool.{and_left, cases_eq}
+use Rattle.std.proofs.Common.{◌≡◌, ℕ, ◌+◌, ◌-◌, ◌*◌, ◌<◌, ◌≤◌, List, [], Some, None, Result, Ok, Err, false, refl, sym, ap, subst, ◌∙◌, inl, inr, ⊎_elim, arith, length, replicate, codes, bytes_eq}
+use Rattle.std.proofs.lemmas.Bool.{and_left}
 use Rattle.rack.specs.declared.Gone.{Gone}
 use Rattle.rack.specs.Values.{MayLeave}
-use Rattle.rack.specs.Seen.{Seen, Rose, IsLive, Stays}
+use Rattle.rack.specs.Seen.{Seen, IsLive, Stays}
 use Rattle.rack.specs.Joins.{stays_then, live_first, live_second}
 use Rattle.shr_base.specs.Blocks.{bytes_at}
 use Rattle.shr_base.proofs.Blocks.{bytes_at-zeros}
 use Rattle.gpt_table.specs.declared.Table.{Table}
 use Rattle.gpt_table.specs.declared.TableCopy.{TableCopy}
-use Rattle.gpt_table.specs.Format.{header_sector, entries_sector, table_of, is_header}
-use Rattle.gpt_table.specs.Disk.{Contents, IsOfCopy, entries_bytes, table_at}
-use Rattle.gpt_table.specs.Calls.{Plan, MayBecome, Follows}
-use Rattle.gpt_table.specs.Plans.{sector_plan, entries_plan, copy_plan, WritesSectors}
+use Rattle.gpt_table.specs.Format.{header_sector, entries_sector, table_of, is_header, IsWritten}
+use Rattle.gpt_table.specs.Disk.{Contents, IsOfCopy, HoldsCopy, entries_bytes, table_at}
+use Rattle.gpt_table.specs.Calls.{Plan, MayBecome}
+use Rattle.gpt_table.specs.Plans.{sector_plan, entries_plan, WritesSectors}
 use Rattle.gpt_table.specs.Changes.{Changes, Passes, ReplacesCopy, IsPickOf, AreLive}
 use Rattle.gpt_table.proofs.Decoded.{invalid_header}
-use Rattle.gpt_table.proofs.Looking.{rose_early, rose_later}
-use Rattle.gpt_table.proofs.Planned.{unplanned, plan_cases, plan_says, parts_apart, entries_cases, entries_planned, sector_cases, sector_planned}
+use Rattle.gpt_table.proofs.Looking.{rose_later}
+use Rattle.gpt_table.proofs.Planned.{unplanned, plan_cases, plan_holds, parts_apart, entries_cases, entries_planned, sector_cases, sector_planned}
 use Rattle.gpt_table.proofs.Changed.{live_back, changes_from, changes_join, changes_wider}
 
 -- a sector of zeros is no header
@@ -33,21 +33,21 @@ cleared copy sectors contents zeros =
     ap (λ (h : List ℕ). table_of copy sectors h (entries_bytes contents start)) zeros
     ∙ invalid_header copy sectors (replicate 512 0) (entries_bytes contents start) (cleared_header copy sectors)
 
--- a header and entries that say a table
+-- a header and entries as they are written of a table
 pub record Written (copy : TableCopy) (header bytes : List ℕ) (table : Table) : Type 0 where
   pub room : 67 ≤ table.sectors
   pub long : length bytes ≡ 16384
-  pub says : table_of copy table.sectors header bytes ≡ Some table
+  pub says : IsWritten copy table header bytes
 
--- a copy that holds them says it
+-- a copy that holds them is written
 holds_table : (copy : TableCopy) (header bytes : List ℕ) (table : Table) (contents : Contents) → Written copy header bytes table →
     contents (header_sector copy table.sectors) ≡ header →
     ((s : ℕ) (v : List ℕ) → entries_plan (entries_sector copy table.sectors) bytes s ≡ Some v → contents s ≡ v) →
-    table_at copy table.sectors contents ≡ Some table
+    HoldsCopy copy table contents
 holds_table copy header bytes table contents written start rest =
     let own = header_sector copy table.sectors in
     let first = entries_sector copy table.sectors in
-    plan_says copy table.sectors header bytes (Some table) contents written.room written.long written.says
+    plan_holds copy table header bytes contents written.room written.long written.says
     (λ s v planned.
     ⊎_elim
     (λ (here : (s ≡ own) × (header ≡ v)). ap contents here.0 ∙ start ∙ here.1)
@@ -168,7 +168,8 @@ third_step a m n b disk copy table header bytes result written first second thir
     (cleared_still a m n disk copy table bytes (contents own) written.room first second
     (live_back early third.follows.stays told (live own (inl refl))) was))))
     (λ (new : (disk ≡ disk) × (plan own ≡ Some (contents own))).
-    inr (inr (holds_table copy header bytes table contents written (sym (sector_cases own header own (contents own) new.1).1)
+    let holds : HoldsCopy copy table contents =
+    holds_table copy header bytes table contents written (sym (sector_cases own header own (contents own) new.1).1)
     (λ s v planned.
     ⊎_elim
     (λ (old : MayLeave (n.held disk s) (contents s)).
@@ -176,7 +177,8 @@ third_step a m n b disk copy table header bytes result written first second thir
     (live_back second.follows.stays third.follows.stays (first.follows.stays.told disk told) (live s (entries_within copy table.sectors bytes s v planned))) old)
     (λ (here : (disk ≡ disk) × (plan s ≡ Some (contents s))).
     absurd (not_own copy table.sectors bytes s v written.room planned (sector_cases own header s (contents s) here.1).0))
-    (may s (entries_within copy table.sectors bytes s v planned))))))
+    (may s (entries_within copy table.sectors bytes s v planned))) in
+    inr (inr holds.says))
     (may own (inl refl)))
 
 -- all three
@@ -184,7 +186,7 @@ finished : (a m n b : Seen) (disk : ℕ) (copy : TableCopy) (table : Table) (hea
     Stays a m → WritesSectors m n disk (entries_plan (entries_sector copy table.sectors) bytes) {X = Unit {0}} (Ok tt) →
     WritesSectors n b disk (sector_plan (header_sector copy table.sectors) header) {X = Unit {0}} (Ok tt) →
     AreLive a b disk copy table.sectors → (contents : Contents) → IsPickOf b disk copy table.sectors contents →
-    table_at copy table.sectors contents ≡ Some table
+    HoldsCopy copy table contents
 finished a m n b disk copy table header bytes written start second third live contents pick =
     let own = header_sector copy table.sectors in
     let plan : Plan = sector_plan own header in

@@ -1,8 +1,8 @@
 -- The copy that isn't the first valid one is replaced by it.
-use Rattle.std.proofs.Common.{◌≡◌, ◌≢◌, ℕ, ◌<◌, ◌≤◌, ◌⊎◌, Option, Some, None, option_map, Result, Ok, Err, IfSome, OnErr, Bool, true, false, refl, sym, ap, subst, ◌∙◌, inl, inr, ⊎_elim}
+use Rattle.std.proofs.Common.{◌≡◌, ◌≢◌, ℕ, ◌≤◌, ◌⊎◌, Option, Some, None, option_map, Result, Ok, Err, IfSome, OnErr, Bool, true, false, refl, sym, ap, subst, ◌∙◌, inl, inr, ⊎_elim}
 use Rattle.rack.specs.Values.{MayLeave, Keeps}
-use Rattle.rack.specs.Seen.{Seen, Rose, IsLive, Stays}
-use Rattle.rack.specs.Joins.{keeps_then, stays_then, live_first, live_second}
+use Rattle.rack.specs.Seen.{Seen, Rose, Stays}
+use Rattle.rack.specs.Joins.{keeps_then, live_first, live_second}
 use Rattle.gpt_table.specs.declared.Table.{Table}
 use Rattle.gpt_table.specs.declared.TableCopy.{TableCopy}
 use Rattle.gpt_table.specs.declared.TableCopy.TheVariants.{Primary, Backup}
@@ -11,12 +11,12 @@ use Rattle.gpt_table.specs.declared.TableFault.TheVariants.{NoTable, Gone}
 use Rattle.gpt_table.specs.Format.{IsWritableOn}
 use Rattle.gpt_table.specs.Disk.{Contents, IsOfCopy, now_on, table_at, first_of, first_table}
 use Rattle.gpt_table.specs.Calls.{OnlyReads}
-use Rattle.gpt_table.specs.Changes.{the_table, AreLive, BothLive, IsPickOf, AreSingle, IsOfCopies, Passes, Changes, ReplacesCopy, Settles, BothSay, SettlesTable}
+use Rattle.gpt_table.specs.Changes.{the_table, AreLive, BothLive, IsPickOf, AreSingle, IsOfCopies, Passes, Changes, ReplacesCopy, Settles, BothSay, IsKeptOrWritten, SettlesTable}
 use Rattle.std.proofs.lemmas.Bool.{both_ways}
 use Rattle.gpt_table.proofs.Looking.{rose_later, only_reads_join}
 use Rattle.gpt_table.proofs.Joined.{table_at_agrees}
 use Rattle.gpt_table.proofs.Whole.{copies_apart}
-use Rattle.gpt_table.proofs.Changed.{live_back, live_both, changes_read, changes_join, changes_wider}
+use Rattle.gpt_table.proofs.Changed.{live_back, changes_read, changes_join, changes_wider}
 use Rattle.gpt_table.proofs.Tables.{first_says, else_says}
 
 -- contents that agree in both copies have the same table
@@ -127,7 +127,7 @@ backup_both a m b disk table backup contents read replaced live same pick =
 
       says : (copy : TableCopy) → table_at copy table.sectors contents ≡ Some table
       says Primary = table_at_agrees Primary table.sectors contents (now_on a disk) same ∙ sym (read.first told)
-      says Backup = replaced.says (λ s among. live_second read.only.stays (live Backup s among)) contents pick
+      says Backup = (replaced.says (λ s among. live_second read.only.stays (live Backup s among)) contents pick).says
 
 -- or the primary
 primary_both : (a m b : Seen) (disk : ℕ) (table : Table) (contents : Contents) →
@@ -140,7 +140,7 @@ primary_both a m b disk table contents read replaced live same pick =
       told = (live Primary 1 (inl refl)).is_told
 
       says : (copy : TableCopy) → table_at copy table.sectors contents ≡ Some table
-      says Primary = replaced.says (λ s among. live_second read.only.stays (live Primary s among)) contents pick
+      says Primary = (replaced.says (λ s among. live_second read.only.stays (live Primary s among)) contents pick).says
       says Backup = table_at_agrees Backup table.sectors contents (now_on a disk) same ∙ sym (read.second told)
 
 settled_backup : (a m b : Seen) (disk : ℕ) (table : Table) (backup : Option Table) (result : Result (Unit {0}) TableFault) → 67 ≤ table.sectors →
@@ -150,6 +150,7 @@ settled_backup a m b disk table backup (Err e) room read replaced = record {
       (changes_join a m b disk (IsOfCopies table.sectors) (Settling a disk table.sectors) (reads_settle a m disk table.sectors read.only)
       (backup_settles a m b disk table backup (Err e) room read replaced));
   both = tt;
+  written = tt;
   durable = tt;
 }
 settled_backup a m b disk table backup (Ok tt) room read replaced = record {
@@ -161,11 +162,18 @@ settled_backup a m b disk table backup (Ok tt) room read replaced = record {
   durable = λ live single contents pick.
       backup_both a m b disk table backup contents read replaced live
       (λ s among. single Primary s among (contents s) ((kept live s among).within (contents s) (pick Primary s among))) (pick Backup);
+  written = made;
 } where
   kept : BothLive a b disk table.sectors → (s : ℕ) → IsOfCopy Primary table.sectors s → Keeps (a.held disk s) (b.held disk s)
   kept live =
       unwritten a m b disk table.sectors Primary Backup (Passes m disk Backup table) read.only replaced.changes
       (λ s one other. copies_apart table.sectors s room one other) (live Primary)
+
+  made : BothLive a b disk table.sectors → (copy : TableCopy) (contents : Contents) → IsPickOf b disk copy table.sectors contents →
+      IsKeptOrWritten a disk table.sectors copy contents
+  made live Primary contents pick = inl (λ s among. (kept live s among).within (contents s) (pick s among))
+  made live Backup contents pick =
+      inr (table, refl, replaced.says (λ s among. live_second read.only.stays (live Backup s among)) contents pick)
 
 settled_primary : (a m b : Seen) (disk : ℕ) (table : Table) (result : Result (Unit {0}) TableFault) → 67 ≤ table.sectors →
     Read a m disk table.sectors None (Some table) → ReplacesCopy m b disk Primary table result → SettlesTable a b disk table.sectors result
@@ -174,6 +182,7 @@ settled_primary a m b disk table (Err e) room read replaced = record {
       (changes_join a m b disk (IsOfCopies table.sectors) (Settling a disk table.sectors) (reads_settle a m disk table.sectors read.only)
       (primary_settles a m b disk table (Err e) room read replaced));
   both = tt;
+  written = tt;
   durable = tt;
 }
 settled_primary a m b disk table (Ok tt) room read replaced = record {
@@ -185,11 +194,18 @@ settled_primary a m b disk table (Ok tt) room read replaced = record {
   durable = λ live single contents pick.
       primary_both a m b disk table contents read replaced live
       (λ s among. single Backup s among (contents s) ((kept live s among).within (contents s) (pick Backup s among))) (pick Primary);
+  written = made;
 } where
   kept : BothLive a b disk table.sectors → (s : ℕ) → IsOfCopy Backup table.sectors s → Keeps (a.held disk s) (b.held disk s)
   kept live =
       unwritten a m b disk table.sectors Backup Primary (Passes m disk Primary table) read.only replaced.changes
       (λ s one other. copies_apart table.sectors s room other one) (live Backup)
+
+  made : BothLive a b disk table.sectors → (copy : TableCopy) (contents : Contents) → IsPickOf b disk copy table.sectors contents →
+      IsKeptOrWritten a disk table.sectors copy contents
+  made live Backup contents pick = inl (λ s among. (kept live s among).within (contents s) (pick s among))
+  made live Primary contents pick =
+      inr (table, refl, replaced.says (λ s among. live_second read.only.stays (live Primary s among)) contents pick)
 
 -- nothing had to be written
 settled_same : (a m b : Seen) (disk sectors : ℕ) (table : Table) → Read a m disk sectors (Some table) (Some table) → OnlyReads m b →
@@ -200,6 +216,8 @@ settled_same a m b disk sectors table read later = record {
   durable = λ live single contents pick.
       says live contents
       (λ copy s among. single copy s among (contents s) ((only.keeps.held disk s (live copy s among)).within (contents s) (pick copy s among)));
+  written = λ live copy contents pick.
+      inl (λ s among. (only.keeps.held disk s (live copy s among)).within (contents s) (pick s among));
 } where
   only : OnlyReads a b
   only = only_reads_join read.only later
@@ -220,6 +238,7 @@ pub settled_none : (a b : Seen) (disk sectors : ℕ) (fault : TableFault) → On
 settled_none a b disk sectors fault only = record {
   changes = settling_told a b disk sectors (reads_settle a b disk sectors only);
   both = tt;
+  written = tt;
   durable = tt;
 }
 

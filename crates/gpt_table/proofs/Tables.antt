@@ -1,15 +1,14 @@
 -- Both copies replaced, the backup before the primary.
 use Rattle.std.proofs.Common.{◌≡◌, ℕ, ◌≤◌, ◌⊎◌, Option, Some, None, option_map, Result, Ok, Err, IfErr, refl, ap, ◌∙◌, inl, inr, ⊎_elim}
 use Rattle.rack.specs.declared.Gone.{Gone}
-use Rattle.rack.specs.Values.{MayLeave}
-use Rattle.rack.specs.Seen.{Seen, Rose, IsLive}
+use Rattle.rack.specs.Seen.{Seen, IsLive}
 use Rattle.rack.specs.Joins.{live_first, live_second}
 use Rattle.gpt_table.specs.declared.Table.{Table}
 use Rattle.gpt_table.specs.declared.TableCopy.{TableCopy}
 use Rattle.gpt_table.specs.declared.TableCopy.TheVariants.{Primary, Backup}
-use Rattle.gpt_table.specs.Disk.{Contents, IsOfCopy, table_at, first_of}
+use Rattle.gpt_table.specs.Disk.{Contents, IsOfCopy, HoldsCopy, table_at, first_of}
 use Rattle.gpt_table.specs.Changes.{the_table, IsPickOf, IsOfCopies, PrimarySays, IsOneOf, Passes, Changes, ReplacesCopy, ChangesTable}
-use Rattle.gpt_table.proofs.Looking.{rose_early, rose_later}
+use Rattle.gpt_table.proofs.Looking.{rose_later}
 use Rattle.gpt_table.proofs.Whole.{copies_apart}
 use Rattle.gpt_table.proofs.Changed.{live_back, changes_join, changes_wider}
 
@@ -59,7 +58,7 @@ primary_changes a m b disk old new result room first second =
     (λ (none : table_at Primary new.sectors contents ≡ None).
     inr (else_says new.sectors contents (Some new) none
     (first.says (λ s among. live_back first.changes.stays second.changes.stays told (live s (inr among))) contents
-    (λ s among. elsewhere s (inr among) (λ both. copies_apart new.sectors s room both among)))))
+    (λ s among. elsewhere s (inr among) (λ both. copies_apart new.sectors s room both among))).says))
     (λ (is : table_at Primary new.sectors contents ≡ Some new). inr (first_says new.sectors contents new is))
     other)
     passing)
@@ -99,7 +98,7 @@ change_made a m b disk old new (Ok tt) room named first second = record {
   gone = tt;
 } where
   says : ((copy : TableCopy) (s : ℕ) → IsOfCopy copy new.sectors s → IsLive a b disk s) → (contents : Contents) →
-      ((copy : TableCopy) → IsPickOf b disk copy new.sectors contents) → (copy : TableCopy) → table_at copy new.sectors contents ≡ Some new
+      ((copy : TableCopy) → IsPickOf b disk copy new.sectors contents) → (copy : TableCopy) → HoldsCopy copy new contents
   says live contents pick Primary = second.says (λ s among. live_second first.changes.stays (live Primary s among)) contents (pick Primary)
   says live contents pick Backup =
       first.says (λ s among. live_first second.changes.stays (live Backup s among)) contents

@@ -10,7 +10,7 @@ use Rattle.gpt_table.specs.declared.Table.{Table}
 use Rattle.gpt_table.specs.declared.TableCopy.{TableCopy}
 use Rattle.gpt_table.specs.declared.TableCopy.TheVariants.{Primary, Backup}
 use Rattle.gpt_table.specs.Format.{mbr_of}
-use Rattle.gpt_table.specs.Disk.{IsOfCopy, IsAmong, now_on, table_at}
+use Rattle.gpt_table.specs.Disk.{IsOfCopy, IsAmong, HoldsCopy, now_on}
 use Rattle.gpt_table.specs.Calls.{Plan, Follows}
 use Rattle.gpt_table.specs.Plans.{IsOfTable, WritesCopy, WritesTable}
 use Rattle.gpt_table.proofs.Copies.{copy_is_on_disk}
@@ -208,7 +208,7 @@ whole_written a m n b disk table mbr room has size is first second third =
         unspent = unspent s (inr (inr of));
       }
 
-      says : a.told disk → ((s : ℕ) → IsOfTable table.sectors s → b.spent disk s ≡ false) → (copy : TableCopy) → table_at copy table.sectors (now_on b disk) ≡ Some table
+      says : a.told disk → ((s : ℕ) → IsOfTable table.sectors s → b.spent disk s ≡ false) → (copy : TableCopy) → HoldsCopy copy table (now_on b disk)
       says told unspent Primary =
           third.says (now_on b disk)
           (λ s v planned.

@@ -1,5 +1,5 @@
 -- What was read of a valid copy can be written.
-use Rattle.std.proofs.Common.{◌≡◌, ℕ, zero, suc, ◌+◌, ◌*◌, ◌<◌, ◌≤◌, ◌==◌, ◌&&◌, Bool, true, false, cond, List, [], ◌∷◌, ◌++◌, length, take, drop, reverse, nat_le, replicate, filter_map, Option, Some, None, All, refl, sym, ap, subst, ◌∙◌, arith, inl, inr, ⊎_elim, get_or, IfSome}
+use Rattle.std.proofs.Common.{◌≡◌, ℕ, zero, suc, ◌+◌, ◌<◌, ◌≤◌, ◌==◌, ◌&&◌, Bool, true, false, List, [], ◌∷◌, ◌++◌, take, drop, reverse, nat_le, filter_map, Option, Some, None, All, refl, sym, ap, subst, ◌∙◌, arith, ⊎_elim, IfSome}
 use Rattle.std.specs.List.{range_with_len, list_all}
 use Rattle.std.proofs.lemmas.Bool.{and_parts, and_from, cases_Bool, cond-true, cond-false, leb-true, both_ways, false_from_ne_true}
 use Rattle.std.proofs.lemmas.Option.{none-some, same_Some, cond_some}
@@ -9,7 +9,6 @@ use Rattle.std.proofs.lemmas.List.Elements.{All-nil, All-cons}
 use Rattle.shr_base.specs.Blocks.{bytes_at}
 use Rattle.shr_base.specs.Ids.{guid_order}
 use Rattle.gpt_table.specs.declared.Entry.{Entry}
-use Rattle.gpt_table.specs.declared.Slice.{Slice}
 use Rattle.gpt_table.specs.declared.Table.{Table}
 use Rattle.gpt_table.specs.declared.TableCopy.{TableCopy}
 use Rattle.gpt_table.specs.Format.{slot_of, is_unused, slice_of, entry_of, entries_of, is_inside, is_valid, table_of, Ascends, IsWritable, IsWritableOn}

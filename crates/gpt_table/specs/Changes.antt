@@ -1,5 +1,5 @@
 -- Copies that are replaced one after the other: what a stop leaves at any moment, and what stands at the end.
-use Rattle.std.specs.Prelude.{◌≡◌, ◌≢◌, ◌⊎◌, ℕ, ◌<◌, nat_lt, Bool, List, ◌∷◌, ◌++◌, filter, Option, Some, None, option_map, Result, Ok, Err, OnOk, OnErr, IfErr}
+use Rattle.std.specs.Prelude.{◌≡◌, ◌≢◌, ◌⊎◌, ℕ, nat_lt, Bool, List, ◌∷◌, ◌++◌, filter, Option, Some, None, option_map, Result, Ok, Err, OnOk, OnErr, IfErr}
 use Rattle.rack.specs.declared.Gone.{Gone}
 use Rattle.rack.specs.Values.{MayLeave, Keeps, IsSingle}
 use Rattle.rack.specs.Seen.{Image, Seen, Rose, IsLive, Stays}
@@ -11,7 +11,7 @@ use Rattle.gpt_table.specs.declared.TableCopy.TheVariants.{Primary, Backup}
 use Rattle.gpt_table.specs.declared.TableFault.{TableFault}
 use Rattle.gpt_table.specs.declared.TableFault.TheVariants.{NoTable}
 use Rattle.gpt_table.specs.Calls.{OnlyReads}
-use Rattle.gpt_table.specs.Disk.{Contents, IsOfCopy, now_on, table_at, first_table}
+use Rattle.gpt_table.specs.Disk.{Contents, IsOfCopy, HoldsCopy, now_on, table_at, first_table}
 
 -- whether an entry has a lower number, or a higher one
 abbrev pub is_below : ℕ → Entry → Bool
@@ -86,7 +86,7 @@ pub record ReplacesCopy (a b : Seen) (disk : ℕ) (copy : TableCopy) (table : Ta
       OnOk
       result
       (AreLive a b disk copy table.sectors → (contents : Contents) → IsPickOf b disk copy table.sectors contents
-      → table_at copy table.sectors contents ≡ Some table)
+      → HoldsCopy copy table contents)
   pub gone : OnErr result (Rose (a.faults disk) (b.faults disk))
 
 -- a sector of one of the copies
@@ -112,7 +112,7 @@ pub record ChangesTable (a b : Seen) (disk : ℕ) (old new : Table) {X : Type 0}
       OnOk
       result
       (BothLive a b disk new.sectors → (contents : Contents) → ((copy : TableCopy) → IsPickOf b disk copy new.sectors contents)
-      → (copy : TableCopy) → table_at copy new.sectors contents ≡ Some new)
+      → (copy : TableCopy) → HoldsCopy copy new contents)
   pub gone : IfErr result (λ e. (e.disk ≡ disk) × Rose (a.faults disk) (b.faults disk))
 
 -- nothing was written, or one copy was replaced, so that both say the table of the first valid one
@@ -129,6 +129,11 @@ BothSay a disk sectors contents =
     (table : Table) × (the_table sectors (now_on a disk) ≡ Some table)
     × ((copy : TableCopy) → table_at copy sectors contents ≡ Some table)
 
+-- a copy as it was, or as it is written of a table
+abbrev pub IsKeptOrWritten : Seen → ℕ → ℕ → TableCopy → Contents → Type 0
+IsKeptOrWritten a disk sectors copy contents =
+    IsPickOf a disk copy sectors contents ⊎ ((table : Table) × (table.sectors ≡ sectors) × HoldsCopy copy table contents)
+
 -- the table stays the same at each moment and at the end, where each sector of the copies had one held value; at Ok both
 -- copies say it
 pub record SettlesTable (a b : Seen) (disk sectors : ℕ) {X E : Type 0} (result : Result X E) : Type 0 where
@@ -136,6 +141,11 @@ pub record SettlesTable (a b : Seen) (disk sectors : ℕ) {X E : Type 0} (result
       Changes a b disk (IsOfCopies sectors)
       (λ contents. AreSingle a disk sectors → the_table sectors contents ≡ the_table sectors (now_on a disk))
   pub both : OnOk result (BothLive a b disk sectors → BothSay a disk sectors (now_on b disk))
+  pub written :
+      OnOk
+      result
+      (BothLive a b disk sectors → (copy : TableCopy) (contents : Contents) → IsPickOf b disk copy sectors contents
+      → IsKeptOrWritten a disk sectors copy contents)
   pub durable :
       OnOk
       result

@@ -1,12 +1,12 @@
 -- The table of a disk: that of its first valid copy.
-use Rattle.std.specs.Prelude.{◌≡◌, ℕ, ◌+◌, ◌<◌, ◌≤◌, ◌⊎◌, List, flat_map, Option, Some, None, option_map}
+use Rattle.std.specs.Prelude.{◌≡◌, ℕ, ◌+◌, ◌<◌, ◌≤◌, ◌⊎◌, List, flat_map, Option, Some, None, option_map, false}
 use Rattle.std.specs.List.{range_with_len}
 use Rattle.rack.specs.Seen.{Seen}
 use Rattle.gpt_table.specs.declared.Table.{Table}
 use Rattle.gpt_table.specs.declared.Seen.{Seen as SeenTable}
 use Rattle.gpt_table.specs.declared.TableCopy.{TableCopy}
 use Rattle.gpt_table.specs.declared.TableCopy.TheVariants.{Primary, Backup}
-use Rattle.gpt_table.specs.Format.{header_sector, entries_sector, table_of}
+use Rattle.gpt_table.specs.Format.{header_sector, entries_sector, table_of, IsWritten}
 
 -- what each sector of a disk holds
 abbrev pub Contents : Type 0
@@ -38,6 +38,11 @@ abbrev pub table_at : TableCopy → ℕ → Contents → Option Table
 table_at copy sectors disk =
     table_of copy sectors (disk (header_sector copy sectors)) (entries_bytes disk (entries_sector copy sectors))
 
+-- a copy as it is written of a table
+abbrev pub HoldsCopy : TableCopy → Table → Contents → Type 0
+HoldsCopy copy table disk =
+    IsWritten copy table (disk (header_sector copy table.sectors)) (entries_bytes disk (entries_sector copy table.sectors))
+
 -- the primary, or else the backup
 abbrev pub first_of : Option Table → Option Table → Option SeenTable
 first_of (Some table) backup = Some (record { table = table; copy = Primary })
@@ -46,3 +51,8 @@ first_of None backup = option_map (λ table. record { table = table; copy = Back
 -- the table of the first valid copy
 abbrev pub first_table : ℕ → Contents → Option SeenTable
 first_table sectors disk = first_of (table_at Primary sectors disk) (table_at Backup sectors disk)
+
+-- contents that agree with a disk's in each sector that isn't spent, as those before reads do
+abbrev pub AgreesUnspent : Seen → ℕ → Contents → Type 0
+AgreesUnspent rack disk contents =
+    (sector : ℕ) → sector < rack.sectors disk → rack.spent disk sector ≡ false → contents sector ≡ now_on rack disk sector

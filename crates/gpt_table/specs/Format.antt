@@ -1,5 +1,5 @@
 -- One copy of a GUID partition table (UEFI, chapter 5): what its header and entries say, and when they are valid.
-use Rattle.std.specs.Prelude.{◌≡◌, ℕ, ◌+◌, ◌-◌, ◌*◌, ◌<◌, ◌≤◌, ◌==◌, ◌&&◌, nat_le, nat_lt, if◌then◌else◌, Bool, List, [], ◌∷◌, take, replicate, filter_map, Option, Some, None, codes, bytes_eq, false, true, All, ⊤, min}
+use Rattle.std.specs.Prelude.{◌≡◌, ℕ, ◌+◌, ◌-◌, ◌*◌, ◌<◌, ◌≤◌, ◌==◌, ◌&&◌, nat_le, nat_lt, if◌then◌else◌, Bool, List, [], ◌∷◌, take, replicate, filter_map, find, Option, Some, None, codes, bytes_eq, false, true, All, ⊤, min}
 use Rattle.std.specs.List.{range_with_len, list_all}
 use Rattle.shr_base.specs.Blocks.{bytes_at, number_at, put_at, put_all, Write}
 use Rattle.byteorder.specs.Endian.{little_bytes}
@@ -132,6 +132,36 @@ slot_fields kind id first last =
     ∷ record { offset = 32; width = 8; bytes = little_bytes 8 first }
     ∷ record { offset = 40; width = 8; bytes = little_bytes 8 last }
     ∷ []
+
+-- the bytes of an entry that is written
+abbrev pub slot_bytes : Slice → List ℕ
+slot_bytes slice =
+    put_all (slot_fields (guid_order slice.kind.0) (guid_order slice.id.0) slice.first slice.last) (replicate 128 0)
+
+-- the entry of a number
+abbrev pub numbered : ℕ → Entry → Bool
+numbered number entry = entry.number == number
+
+-- what is written in the place of a number, by the entry that has it
+abbrev pub written_slot : Option Entry → List ℕ
+written_slot None = replicate 128 0
+written_slot (Some entry) = slot_bytes entry.slice
+
+-- the header that is written with these entries
+unfoldable pub written_header : TableCopy → Table → List ℕ → List ℕ
+written_header copy table entries =
+    let fields = put_all (header_fields copy table.sectors (guid_order table.disk_id.0) (crc32_of entries)) (replicate 512 0) in
+    put_at 16 4 (little_bytes 4 (crc32_of (take 92 fields))) fields
+
+-- the entries that are written
+abbrev pub AreWritten : List Entry → List ℕ → Type 0
+AreWritten items entries = (k : ℕ) → k < 128 → slot_of k entries ≡ written_slot (find (numbered (k + 1)) items)
+
+-- a copy as it is written: it says the table, and what no reader looks at is what the standard has there
+pub record IsWritten (copy : TableCopy) (table : Table) (header entries : List ℕ) : Type 0 where
+  pub says : table_of copy table.sectors header entries ≡ Some table
+  pub header_is : header ≡ written_header copy table entries
+  pub slots : AreWritten table.entries.items entries
 
 -- a slice by its GUIDs as they are stored
 abbrev pub stored_slice : List ℕ → List ℕ → ℕ → ℕ → Slice

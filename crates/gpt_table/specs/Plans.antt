@@ -6,7 +6,7 @@ use Rattle.rack.specs.Seen.{Seen, Rose, IsLive}
 use Rattle.shr_base.specs.Blocks.{bytes_at}
 use Rattle.gpt_table.specs.Calls.{Plan, Follows}
 use Rattle.gpt_table.specs.Format.{mbr_of}
-use Rattle.gpt_table.specs.Disk.{Contents, IsOfCopy, now_on, table_at}
+use Rattle.gpt_table.specs.Disk.{Contents, IsOfCopy, HoldsCopy, now_on}
 use Rattle.gpt_table.specs.declared.Table.{Table}
 use Rattle.gpt_table.specs.declared.TableCopy.{TableCopy}
 use Rattle.gpt_table.specs.declared.TableCopy.TheVariants.{Primary, Backup}
@@ -37,13 +37,13 @@ pub record WritesSectors (a b : Seen) (disk : ℕ) (plan : Plan) {X : Type 0} (r
   pub durable : OnOk result ((s : ℕ) → IsLive a b disk s → IsSingle (b.held disk s))
   pub gone : IfErr result (λ e. (e.disk ≡ disk) × Rose (a.faults disk) (b.faults disk))
 
--- the values are those of a copy of this table: wherever they stand, the copy is valid and says it
+-- the values are those of a copy of this table: wherever they stand, the copy is the one that is written of it
 pub record WritesCopy (a b : Seen) (disk : ℕ) (copy : TableCopy) (table : Table) {X : Type 0} (result : Result X Gone) : Type 0 where
   pub plan : Plan
   pub within : (s : ℕ) (v : List ℕ) → plan s ≡ Some v → IsOfCopy copy table.sectors s
   pub says :
       (contents : Contents) → ((s : ℕ) (v : List ℕ) → plan s ≡ Some v → contents s ≡ v)
-      → table_at copy table.sectors contents ≡ Some table
+      → HoldsCopy copy table contents
   pub writes : WritesSectors a b disk plan result
 
 -- the sectors of a table: the protective MBR and both copies
@@ -57,7 +57,7 @@ pub record WritesTable (a b : Seen) (disk : ℕ) (table : Table) {X : Type 0} (r
   pub follows : Follows a b disk plan
   pub both :
       OnOk result (a.told disk → ((s : ℕ) → IsOfTable table.sectors s → b.spent disk s ≡ false) → (copy : TableCopy)
-      → table_at copy table.sectors (now_on b disk) ≡ Some table)
+      → HoldsCopy copy table (now_on b disk))
   pub mbr : OnOk result (IsLive a b disk 0 → now_on b disk 0 ≡ mbr_of table.sectors)
   pub durable : OnOk result ((s : ℕ) → IsLive a b disk s → IsSingle (b.held disk s))
   pub gone : IfErr result (λ e. (e.disk ≡ disk) × Rose (a.faults disk) (b.faults disk))

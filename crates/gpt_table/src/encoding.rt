@@ -5,11 +5,11 @@ ghost use Rattle.std.specs.Prelude.{◌≡◌, ◌≤◌, ◌<◌, ◌+◌, ◌*
 ghost use Rattle.std.specs.List.{list_all};
 ghost use Rattle.shr_base.specs.Blocks.{put_all};
 ghost use Rattle.shr_base.specs.Ids.{guid_order};
-ghost use Rattle.gpt_table.specs.Format.{IsWritable, header_fields, slot_fields, table_of, is_unused, slice_of, entries_of};
+ghost use Rattle.gpt_table.specs.Format.{IsWritable, IsWritten, AreWritten, header_fields, slot_fields, slot_bytes, is_unused, slice_of, entries_of};
 
 use crate::codec::{entries_sector, header_sector};
-use crate::fields::{put_bytes, put_u32, put_u64};
 use crate::{ENTRIES_BYTES, Slice, Table, TableCopy};
+use shr_base::fields::{put_bytes, put_u32, put_u64};
 use shr_base::{crc32, guid_bytes};
 
 /// The 128 bytes of an entry with these GUIDs, as they are stored.
@@ -31,6 +31,7 @@ fn slot_with(kind: &[u8; 16], id: &[u8; 16], first: u64, last: u64) -> [u8; 128]
 /// The 128 bytes of an entry.
 fn slot_of(slice: &Slice) -> [u8; 128]
     ensures long { length result ≡ 128 }
+    ensures written { result ≡ slot_bytes slice.now }
     ensures reads { slice_of result ≡ slice.now }
     ensures used { list_all (λ byte. byte == 0) slice.now.kind.0 ≡ false → is_unused result ≡ false }
 {
@@ -43,6 +44,7 @@ fn slot_of(slice: &Slice) -> [u8; 128]
 pub(crate) fn encode_entries(table: &Table) -> [u8; ENTRIES_BYTES]
     requires { IsWritable table.now }
     ensures long { length result ≡ 16384 }
+    ensures written { AreWritten table.now.entries.items result }
     ensures reads { entries_of result ≡ table.now.entries.items }
 {
     let mut bytes = [0; ENTRIES_BYTES];
@@ -88,8 +90,9 @@ pub(crate) fn encode_header(
     bytes: &[u8; ENTRIES_BYTES],
 ) -> [u8; 512]
     requires writable { IsWritable table.now }
+    requires written { AreWritten table.now.entries.items bytes.now }
     requires entries { entries_of bytes.now ≡ table.now.entries.items }
-    ensures { table_of copy table.now.sectors result bytes.now ≡ Some table.now }
+    ensures { IsWritten copy table.now result bytes.now }
 {
     let guid = guid_bytes(&table.disk_id);
     let mut header = header_without_sum(copy, table.sectors, &guid, crc32(bytes));

@@ -10,7 +10,8 @@
 //! table, and at no moment writes another sector; [`change_entry`] puts one entry into both copies,
 //! and at every moment the table is the old one or the new one; [`settle_table`] makes both copies say
 //! what the first valid one says, and at every moment the table is the same (specs/Changes.antt).
-//! None takes memory. A refusal of the disk comes only where its faults rose.
+//! What is written is a copy to its last byte (`IsWritten` in specs/Format.antt), also where no reader
+//! looks. None takes memory. A refusal of the disk comes only where its faults rose.
 //!
 //! A copy that is changed has its header cleared first, durably, and written last: while its entries
 //! are partly old and partly new it isn't valid, whatever their sums.
@@ -19,7 +20,6 @@
 mod changing;
 mod codec;
 mod encoding;
-mod fields;
 mod reading;
 mod settling;
 mod writing;

@@ -1,16 +1,16 @@
 //! Reading a table from a disk. No field is trusted before it was checked.
 #![tactic(auto)]
 
-ghost use Rattle.std.specs.Prelude.{◌≡◌, ◌≤◌, ◌<◌, ◌+◌, ◌*◌, ◌^◌, ℕ, List, length, IfOk, IfSome, None};
+ghost use Rattle.std.specs.Prelude.{◌≡◌, ◌≢◌, ◌≤◌, ◌<◌, ◌+◌, ◌*◌, ◌^◌, ℕ, List, length, OnOk, IfOk, IfSome, None};
 ghost use Rattle.rack.specs.Seen.{Rose};
 ghost use Rattle.gpt_table.specs.Calls.{Looks, OnlyReads};
 ghost use Rattle.gpt_table.specs.Format.{IsWritableOn};
-ghost use Rattle.gpt_table.specs.Disk.{IsAmong, IsOfCopy, table_at, first_table, entries_bytes, now_on};
+ghost use Rattle.gpt_table.specs.Disk.{IsAmong, IsOfCopy, table_at, first_table, entries_bytes, now_on, Contents, AgreesUnspent};
 
 use crate::codec::{decode, entries_sector, header_sector};
-use crate::fields::put_bytes;
 use crate::{ENTRIES_BYTES, FEWEST_SECTORS, Seen, Table, TableCopy, TableFault};
 use rack::{Gone, Rack};
+use shr_base::fields::put_bytes;
 
 /// The sectors of the entries of one copy.
 const ENTRIES_SECTORS: usize = 32;
@@ -69,6 +69,9 @@ pub fn read_table<R: Rack>(rack: &mut R, disk: u32) -> Result<Seen, TableFault>
     ensures only { OnlyReads (R.seen rack.old) (R.seen rack.new) }
     ensures table { IfOk result (λ found. (R.seen rack.old).told disk → Some found ≡ first_table ((R.seen rack.old).sectors disk) (now_on (R.seen rack.old) disk)) }
     ensures writable { IfOk result (λ found. IsWritableOn ((R.seen rack.old).sectors disk) found.table) }
+    // Spent sectors have no part in it.
+    ensures unspent { result ≢ Err TableFault.Gone → (R.seen rack.old).told disk → (contents : Contents) → AgreesUnspent (R.seen rack.old) disk contents
+        → first_table ((R.seen rack.old).sectors disk) contents ≡ first_table ((R.seen rack.old).sectors disk) (now_on (R.seen rack.old) disk) }
     ensures none { result ≡ Err TableFault.NoTable → (R.seen rack.old).told disk → first_table ((R.seen rack.old).sectors disk) (now_on (R.seen rack.old) disk) ≡ None }
     ensures gone { result ≡ Err TableFault.Gone → Rose ((R.seen rack.old).faults disk) ((R.seen rack.new).faults disk) }
 {
@@ -91,6 +94,7 @@ fn first_copy<R: Rack>(rack: &mut R, disk: u32, sectors: u64) -> Result<Option<S
     requires room { FEWEST_SECTORS ≤ sectors }
     requires bounded { sectors < 2 ^ 52 }
     ensures looks { Looks (R.seen rack.old) (R.seen rack.new) disk (λ sector. ⊥) (λ found. found ≡ first_table sectors (now_on (R.seen rack.old) disk)) result }
+    ensures unspent { OnOk result ((R.seen rack.old).told disk → (contents : Contents) → AgreesUnspent (R.seen rack.old) disk contents → first_table sectors contents ≡ first_table sectors (now_on (R.seen rack.old) disk)) }
     ensures writable { IfOk result (λ found. IfSome found (λ seen. IsWritableOn sectors seen.table)) }
 {
     match read_copy(rack, disk, TableCopy::Primary, sectors) {

@@ -1,9 +1,11 @@
-//! Tests of what no clause says: that calls succeed, and images of whole runs.
+//! Tests of what no clause says: that calls succeed, images of whole runs, and what sgdisk wrote.
 
 ghost use Rattle.std.specs.Prelude.{◌≡◌, ◌<◌};
 ghost use Rattle.gpt_table.specs.declared.Table.{Table};
 ghost use Rattle.gpt_table.specs.Format.{IsWritable};
 ghost use Rattle.gpt_table.specs.Changes.{changed};
+
+mod sgdisk;
 
 use crate::{Entry, Slice, Table, TableFault, change_entry, read_table, settle_table, write_whole};
 use arrayvec::ArrayVec;

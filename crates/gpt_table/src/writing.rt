@@ -10,9 +10,9 @@ ghost use Rattle.gpt_table.specs.Plans.{entries_plan, copy_plan, WritesPlan, Wri
 
 use crate::codec::{entries_sector, header_sector};
 use crate::encoding::{encode_entries, encode_header};
-use crate::fields::{put_bytes, put_u32};
 use crate::{ENTRIES_BYTES, Table, TableCopy};
 use rack::{Gone, Rack};
+use shr_base::fields::{put_bytes, put_u32};
 
 /// One sector of a copy's entries.
 #[tactic(auto, unfolding(shr_base::specs::Blocks::bytes_at))]

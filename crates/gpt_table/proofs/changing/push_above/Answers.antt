@@ -1,4 +1,4 @@
-use Rattle.std.proofs.Common.{◌≡◌, ◌<◌, ◌++◌, length, take, filter, ap, ◌∙◌, arith, length-append}
+use Rattle.std.proofs.Common.{length, take, filter, ap, ◌∙◌, arith, length-append}
 use Rattle.std.proofs.lemmas.Bool.{lt-ltb}
 use Rattle.gpt_table.specs.Changes.{is_above}
 use Rattle.gpt_table.proofs.Chosen.{fewer_chosen}

@@ -1,7 +1,7 @@
-use Rattle.std.proofs.Common.{◌≡◌, ◌<◌, ◌≤◌, ◌+◌, ◌∙◌, sym, ap, subst, ℕ, inl, inr, arith, refl}
+use Rattle.std.proofs.Common.{◌≡◌, ◌∙◌, sym, ap, inl, arith, refl}
 use Rattle.gpt_table.specs.Format.{header_sector, entries_sector}
 use Rattle.gpt_table.proofs.Copies.{copy_is_on_disk, entries_on_disk}
-use Rattle.gpt_table.proofs.Replaced.{Written, replaced_gone_first, replaced_gone_second, replaced_by}
+use Rattle.gpt_table.proofs.Replaced.{replaced_gone_first, replaced_gone_second, replaced_by}
 use Rattle.gpt_table.proofs.changing.replace_copy.Goals as goal
 
 pub write_durably-requires-clause-sector : goal.write_durably-requires-clause-sector

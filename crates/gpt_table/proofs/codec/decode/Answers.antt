@@ -3,7 +3,6 @@ use Rattle.std.specs.List.{list_all}
 use Rattle.gpt_table.specs.declared.Entry.{Entry}
 use Rattle.gpt_table.specs.Format.{is_inside, entries_of}
 use Rattle.gpt_table.proofs.Decoded.{decodes_to, invalid_entries}
-use Rattle.shr_base.specs.Ids.{guid_order}
 use Rattle.gpt_table.proofs.Writable.{if_writable}
 use Rattle.gpt_table.proofs.codec.decode.Goals as goal
 
@@ -21,10 +20,10 @@ returns-clause-table c =
     let inside : list_all (λ (e : Entry). is_inside c.args.sectors e.slice) (entries_of c.args.bytes.now) ≡ true =
     ap (λ (es : List Entry). list_all (λ (e : Entry). is_inside c.args.sectors e.slice) es) (sym read)
     ∙ sym c.all_inside.ensures ∙ c.if-not-all_inside.false in
-    decodes_to c.args.copy c.args.sectors c.args.header.now c.args.bytes.now c.guid_id-disk_id.result c.entries_in-entries.result c.requires
+    decodes_to c.args.copy c.args.sectors c.args.header.now c.args.bytes.now c.guid_at-disk_id.result c.entries_in-entries.result c.requires
     (sym c.is_header.ensures ∙ c.if-not-is_header.false)
     (sym c.u32_at.ensures ∙ c.if-u32_at-crc32.false ∙ c.crc32.ensures) inside
-    (c.guid_id-disk_id.ensures.read ∙ ap guid_order c.guid_at.ensures) c.entries_in-entries.ensures
+    c.guid_at-disk_id.ensures c.entries_in-entries.ensures
 
 pub returns-clause-writable : goal.returns-clause-writable
 returns-clause-writable c =

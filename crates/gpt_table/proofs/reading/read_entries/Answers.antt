@@ -1,5 +1,6 @@
 use Rattle.std.proofs.Common.{◌≡◌, ◌*◌, ◌+◌, ◌++◌, ℕ, take, arith, refl, ap, ◌∙◌, sym, subst, false, below_more, ◌-◌}
 use Rattle.std.proofs.lemmas.List.{length-replicate}
+use Rattle.shr_base.specs.Blocks.{put_at}
 use Rattle.gpt_table.specs.Disk.{joined, now_on}
 use Rattle.gpt_table.proofs.Looking.{only_reads_start, only_reads_then, value_then, unspent_before}
 use Rattle.gpt_table.proofs.Joined.{joined_more, take_put, entries_read}
@@ -17,7 +18,9 @@ loop-place-preserved g c = record {
   read = λ told.
       let disk = now_on (g.R.Rack.seen c.args.rack.now) c.args.disk in
       let put : take (512 * (c.loop-place.place + 1)) c.put_bytes.new.block ≡ take (512 * c.loop-place.place) c.loop-place.bytes ++ c.read.new.into =
-      ap (take (512 * (c.loop-place.place + 1))) c.put_bytes.ensures
+      ap (take (512 * (c.loop-place.place + 1)))
+      (c.put_bytes.ensures.written
+      ∙ ap (λ (n : ℕ). put_at (512 * c.loop-place.place) n c.read.new.into c.loop-place.bytes) (sym c.put_bytes.ensures.fits))
       ∙ take_put (512 * c.loop-place.place) (512 * (c.loop-place.place + 1)) c.read.new.into c.loop-place.bytes (omega arith) (omega arith) in
       let value : c.read.new.into ≡ disk (c.args.first + c.loop-place.place) =
       value_then c.in_default.field-0 c.loop-place.invariant.only c.in_default.ensures c.requires.disk (omega arith) told in

@@ -1,9 +1,7 @@
-use Rattle.std.proofs.Common.{◌≡◌, ◌<◌, ◌≤◌, ℕ, Option, Err, IfSome, sym, subst, ap, ◌∙◌, arith}
-use Rattle.gpt_table.specs.declared.Table.{Table}
+use Rattle.std.proofs.Common.{ℕ, subst, arith}
 use Rattle.gpt_table.specs.declared.TableFault.TheVariants.{Gone}
-use Rattle.gpt_table.specs.Format.{IsWritableOn}
 use Rattle.gpt_table.specs.Changes.{SettlesTable}
-use Rattle.gpt_table.proofs.Settled.{Read, settled_by, rose_settling, settled_none}
+use Rattle.gpt_table.proofs.Settled.{settled_by, rose_settling, settled_none}
 use Rattle.gpt_table.proofs.settling.settle_table.Goals as goal
 
 pub returns-in-Err-clause-settles : goal.returns-in-Err-clause-settles

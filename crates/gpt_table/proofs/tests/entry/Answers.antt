@@ -1,4 +1,4 @@
-use Rattle.std.proofs.Common.{◌≡◌, ℕ, ◌&&◌, nat_le, nat_lt, refl, ap, arith}
+use Rattle.std.proofs.Common.{ℕ, ◌&&◌, nat_le, nat_lt, refl, ap, arith}
 use Rattle.gpt_table.proofs.Chosen.{changed_writable}
 use Rattle.gpt_table.proofs.tests.entry.Goals as goal
 
