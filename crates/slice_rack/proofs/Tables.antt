@@ -2,8 +2,8 @@
 use Rattle.std.proofs.Common.{◌≡◌, ◌≢◌, ℕ, ◌+◌, ◌<◌, ◌^◌, ◌==◌, if◌then◌else◌, inl, inr, false, Option, Some, None, refl, sym, ap, subst, ◌∙◌, arith, List, length, set, get_or}
 use Rattle.std.specs.Prelude.{unwrap_or, slice_get}
 use Rattle.std.specs.Option.{option_map_or}
-use Rattle.std.proofs.lemmas.Option.{slice_get-get_or}
-use Rattle.rack_mem.proofs.Lists.{slice_get-set_same, slice_get-set_other}
+use Rattle.std.proofs.lemmas.Option.{unwrap_or-slice_get}
+use Rattle.std.proofs.lemmas.List.{get_or-set_same, get_or-set_other}
 use Rattle.std.proofs.lemmas.Bool.{cases_eq, eq-eqb}
 use Rattle.std.proofs.lemmas.Bool.Decides.{nat_tests}
 use Rattle.rack.specs.Seen.{Seen}
@@ -15,13 +15,22 @@ use Rattle.slice_rack.specs.Changes.{IsEmpty, Seats, Adds, IsFree, IsWithin}
 differs : (a b : ℕ) → (a ≡ b → ⊥) → (a == b) ≡ false
 differs a b apart = grind (arith, nat_tests)
 
+-- a seat or none, by its place in the list
+no_more_than : (seat : Option (Option ℕ)) → option_map_or (λ s. s) seat None ≡ unwrap_or seat None
+no_more_than None = refl
+no_more_than (Some seat) = refl
+
+seat_read : (seats : List (Option ℕ)) (place : ℕ) → option_map_or (λ s. s) (slice_get seats place) None ≡ get_or seats place None
+seat_read seats place = no_more_than (slice_get seats place) ∙ unwrap_or-slice_get seats place None
+
 -- the seats after one was put in
 pub put_in : (seats : List (Option ℕ)) (place : ℕ) (seat : Option ℕ) → place < length seats
     → (p : ℕ) → option_map_or (λ s. s) (slice_get (set seats place seat) p) None ≡ (if p == place then seat else option_map_or (λ s. s) (slice_get seats p) None)
 put_in seats place seat within p =
-    elim (cases_eq p place) [
-      | inl here ↦ rw (here, slice_get-set_same seats place (get_or seats place None) seat (slice_get-get_or seats place None within), eq-eqb place place refl) refl
-      | inr other ↦ rw (slice_get-set_other seats place p seat other, differs p place other) refl
+    seat_read (set seats place seat) p
+    ∙ elim (cases_eq p place) [
+      | inl here ↦ rw (here, get_or-set_same seats place seat None within, eq-eqb place place refl) refl
+      | inr other ↦ rw (get_or-set_other seats place p seat None other, differs p place other) (sym (seat_read seats p))
     ]
 
 -- empty tables are orderly
