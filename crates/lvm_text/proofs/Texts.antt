@@ -23,7 +23,7 @@ front-nothing : (read : Result (List Word) ℕ) → with_front [] read ≡ read
 front-nothing (Ok words) = refl
 front-nothing (Err left) = refl
 
-words_at-suc : (n : ℕ) (place : Place) (bytes : List ℕ) → words_at (suc n) place bytes ≡ words_by (words_at n) place (past_blanks false bytes)
+pub words_at-suc : (n : ℕ) (place : Place) (bytes : List ℕ) → words_at (suc n) place bytes ≡ words_by (words_at n) place (past_blanks false bytes)
 unfolding words_at
 words_at-suc n place bytes = refl
 
@@ -35,7 +35,7 @@ begins rest text is short = record {
       ∙ sym (words_at-suc (length text) start text) ∙ ap (λ (n : ℕ). words_at n start text) (sym (add-one (length text)));
 }
 
-word_read : (n : ℕ) (place : Place) (byte : ℕ) (after : List ℕ) (found : Found) → eqb byte 0 ≡ false → by_turn place.turn place byte after ≡ Ok found
+pub word_read : (n : ℕ) (place : Place) (byte : ℕ) (after : List ℕ) (found : Found) → eqb byte 0 ≡ false → by_turn place.turn place byte after ≡ Ok found
     → words_by (words_at n) place (byte ∷ after) ≡ with_word found.0 (words_at n found.1 found.2)
 word_read n place byte after found more read = rw (more, read) refl
 

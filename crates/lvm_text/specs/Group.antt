@@ -157,9 +157,13 @@ segment_at words = do
   count ← number_at key.ExtentCount words
   Ok (record { start = start; count = count; kind = kind_at words })
 
+-- what the section of a segment is called
+abbrev pub segment_name : ℕ → List ℕ
+segment_name number = codes "segment" ++ decimal number
+
 -- the section of a segment's number
 unfoldable pub numbered : ℕ → List Word → Result (List Word) TextFault
-numbered number words = required key.SegmentCount (section_in (found (codes "segment" ++ decimal number) words))
+numbered number words = required key.SegmentCount (section_in (found (segment_name number) words))
 
 unfoldable pub segment_numbered : ℕ → List Word → Result Segment TextFault
 segment_numbered number words = numbered number words >>= segment_at

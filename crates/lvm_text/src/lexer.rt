@@ -192,7 +192,7 @@ fn whole_of(negative: bool, value: Option<u64>) -> Option<u64>
 }
 
 /// The number that digits say, where it is below 2^64.
-fn value_of(digits: &[u8]) -> Option<u64>
+pub(crate) fn value_of(digits: &[u8]) -> Option<u64>
     ensures { result ≡ below_64 (digits_value digits.now) }
 {
     let mut value = Some(0);

@@ -1,6 +1,19 @@
-//! Texts that lvm2 2.03.16 wrote, and texts at the grammar's edges.
+//! Texts that lvm2 2.03.16 wrote, texts at the grammar's edges, and a printed text.
+
+ghost use Rattle.lvm_text.specs.Printed.{
+  IsId,
+  IsName,
+  IsPrintable,
+  IsPrintableLv,
+  IsPrintablePv,
+  IsPrintableSegment,
+  segment_total,
+};
+ghost use Rattle.std.specs.List.{AllByRecursion};
+ghost use Rattle.std.specs.Prelude.{◌≡◌, length};
 
 use super::*;
+use rack::Name;
 use std::alloc::Global;
 use std::process::Abort;
 use std::test::Fail;
@@ -119,4 +132,113 @@ fn refuses_long_texts(rt: HostRuntime) -> Result<(), Fail> {
         assert!(rt; syntax, "at {at}");
     }
     Ok(())
+}
+
+/// The text of a group of one linear volume over one array, with its zero byte.
+static PRINTED: &[u8] =
+    b"vg1000 {\nid = \"Sq6Foa-yR7d-4qOM-hHwy-oClu-xkRT-MWMz7N\"\nseqno = 1\nformat = \"lvm2\"\nstatus = [\"RESIZEABLE\", \"READ\", \"WRITE\"]\nflags = []\nextent_size = 128\nmax_lv = 0\nmax_pv = 0\nmetadata_copies = 0\nphysical_volumes {\npv0 {\nid = \"FSpUtp-0q5g-LG1r-OFt0-9xdF-QuvT-6BkFwj\"\ndevice = \"unknown\"\nstatus = [\"ALLOCATABLE\"]\nflags = []\ndev_size = 6656\npe_start = 2048\npe_count = 20\n}\n}\nlogical_volumes {\nlv {\nid = \"LRpJEH-55ZO-xET2-yHSf-emNE-TJeA-o2rdi3\"\nstatus = [\"READ\", \"WRITE\", \"VISIBLE\"]\nflags = []\nsegment_count = 1\nsegment1 {\nstart_extent = 0\nextent_count = 20\ntype = \"striped\"\nstripe_count = 1\nstripes = [\"pv0\", 0]\n}\n}\n}\n}\ncontents = \"Text Format Volume Group\"\nversion = 1\n\0";
+
+/// A name.
+fn name(rt: &impl Abort, alloc: Global, bytes: &[u8]) -> Name
+    requires { IsName bytes.now }
+    ensures { IsName result }
+{
+    match Name::of(alloc, bytes) {
+        Ok(name) => name,
+        Err(_) => panic!(rt; "no memory"),
+    }
+}
+
+/// An id.
+fn id(rt: &impl Abort, alloc: Global, bytes: &[u8]) -> Name
+    requires { IsId bytes.now }
+    ensures { IsId result }
+{
+    match Name::of(alloc, bytes) {
+        Ok(id) => id,
+        Err(_) => panic!(rt; "no memory"),
+    }
+}
+
+/// The physical volume of the text.
+fn pvs(rt: &impl Abort, alloc: Global) -> Pvs
+    ensures count { length result ≡ 1 }
+    ensures printable { AllByRecursion IsPrintablePv result }
+{
+    let mut pvs = Pvs::new(alloc);
+    let pv = Pv {
+        name: name(rt, alloc, b"pv0"),
+        id: id(rt, alloc, b"FSpUtp-0q5g-LG1r-OFt0-9xdF-QuvT-6BkFwj"),
+        dev_size: 6656,
+        pe_start: 2048,
+        pe_count: 20,
+    };
+    match pvs.push(pv) {
+        Ok(()) => pvs,
+        Err(_) => panic!(rt; "no memory"),
+    }
+}
+
+/// Its segment.
+fn segments(rt: &impl Abort, alloc: Global) -> Segments
+    ensures count { length result ≡ 1 }
+    ensures printable { AllByRecursion IsPrintableSegment result }
+{
+    let mut segments = Segments::new(alloc);
+    let segment = Segment {
+        start: 0,
+        count: 20,
+        kind: SegmentKind::Linear {
+            pv: name(rt, alloc, b"pv0"),
+            first: 0,
+        },
+    };
+    match segments.push(segment) {
+        Ok(()) => segments,
+        Err(_) => panic!(rt; "no memory"),
+    }
+}
+
+/// Its logical volume.
+#[tactic(auto, unfolding(crate::specs::Printed::segment_total))]
+fn lvs(rt: &impl Abort, alloc: Global) -> Lvs
+    ensures count { length result ≡ 1 }
+    ensures segments { segment_total result ≡ 1 }
+    ensures printable { AllByRecursion IsPrintableLv result }
+{
+    let mut lvs = Lvs::new(alloc);
+    let lv = Lv {
+        name: name(rt, alloc, b"lv"),
+        id: id(rt, alloc, b"LRpJEH-55ZO-xET2-yHSf-emNE-TJeA-o2rdi3"),
+        segments: segments(rt, alloc),
+    };
+    match lvs.push(lv) {
+        Ok(()) => lvs,
+        Err(_) => panic!(rt; "no memory"),
+    }
+}
+
+/// The group that the text tells.
+fn one_volume(rt: &impl Abort, alloc: Global) -> Group
+    ensures { IsPrintable result }
+{
+    Group {
+        name: name(rt, alloc, b"vg1000"),
+        id: id(rt, alloc, b"Sq6Foa-yR7d-4qOM-hHwy-oClu-xkRT-MWMz7N"),
+        seqno: 1,
+        extent_size: 128,
+        pvs: pvs(rt, alloc),
+        lvs: lvs(rt, alloc),
+    }
+}
+
+#[test]
+fn prints_a_group(rt: HostRuntime) {
+    let mut text = Text::with_room(rt.alloc(), 262144)
+        .ok()
+        .expect(&rt, "memory");
+    print(&one_volume(&rt, rt.alloc()), &mut text);
+    assert!(rt; text.as_slice() == PRINTED);
+    text.clear();
+    assert!(rt; text.as_slice().is_empty());
 }

@@ -21,16 +21,19 @@ ghost use Rattle.lvm_text.specs.Group.{
   section_at,
   section_in,
   segment_at,
+  segment_name,
   segment_numbered,
   segments_at,
   stripe_in,
   text_at,
 };
-ghost use Rattle.std.specs.Prelude.{◌≡◌, ◌++◌, IfErr, IfOk, codes, decimal, option_map, string_bytes};
+ghost use Rattle.lvm_text.specs.Table.{IsTable};
+ghost use Rattle.std.specs.Prelude.{◌≡◌, ◌+◌, ◌<◌, ◌^◌, ◌++◌, IfErr, IfOk, codes, decimal, option_map, string_bytes};
 
 use crate::group::{Group, Key, Lv, Lvs, Pv, Pvs, Segment, SegmentKind, Segments, TextFault};
 use crate::reader;
 use crate::stop::Stop;
+use crate::table::table_of;
 use crate::words::Word;
 use rack::Name;
 use std::alloc::Global;
@@ -243,8 +246,8 @@ fn segment(alloc: Global, words: &[Word]) -> Result<Segment, TextFault>
 }
 
 /// The name of a segment's section.
-fn segment_name(alloc: Global, number: u64) -> Result<String, TextFault>
-    ensures name { IfOk result (λ name. string_bytes name ≡ codes "segment" ++ decimal number) }
+fn name_of_segment(alloc: Global, number: u64) -> Result<String, TextFault>
+    ensures name { IfOk result (λ name. string_bytes name ≡ segment_name number) }
     ensures err { IfErr result (λ e. e ≡ TextFault.Memory) }
 {
     match format!(in alloc; "segment{number}") {
@@ -253,27 +256,64 @@ fn segment_name(alloc: Global, number: u64) -> Result<String, TextFault>
     }
 }
 
-/// The words of a segment's section.
-#[tactic(auto, unfolding(crate::specs::Group::numbered))]
+/// The words behind the name of the segment behind so many others. It is searched for only past the
+/// table's end, which no text reaches that has all segments before it.
+fn segment_item<'a>(
+    alloc: Global,
+    words: &'a [Word],
+    table: &[Option<usize>],
+    before: usize,
+) -> Result<Option<&'a [Word]>, TextFault>
+    requires table { IsTable table.now words.now }
+    requires number { before + 1 < 2 ^ 64 }
+    ensures item { IfOk result (λ item. option_map (λ words. words.now) item ≡ found (segment_name (before + 1)) words.now) }
+    ensures err { IfErr result (λ e. e ≡ TextFault.Memory) }
+{
+    match table.get(before) {
+        Some(Some(place)) => Ok(Some(&words[*place..])),
+        Some(None) => Ok(None),
+        None => {
+            let name = name_of_segment(alloc, before as u64 + 1)?;
+            Ok(find(words, name.as_bytes()))
+        }
+    }
+}
+
+/// The words of the section of the segment behind so many others.
+#[tactic(auto, unfolding(crate::specs::Group::numbered, crate::specs::Group::section_in))]
 fn numbered_section<'a>(
     alloc: Global,
     words: &'a [Word],
-    number: u64,
+    table: &[Option<usize>],
+    before: usize,
 ) -> Result<&'a [Word], TextFault>
-    ensures { Tells (λ words. words.now) result (numbered number words.now) }
+    requires table { IsTable table.now words.now }
+    requires number { before + 1 < 2 ^ 64 }
+    ensures { Tells (λ words. words.now) result (numbered (before + 1) words.now) }
 {
-    let name = segment_name(alloc, number)?;
-    section(words, name.as_bytes()).ok_or(TextFault::Missing {
-        key: Key::SegmentCount,
-    })
+    match segment_item(alloc, words, table, before)? {
+        Some(after) => opened(after).ok_or(TextFault::Missing {
+            key: Key::SegmentCount,
+        }),
+        None => Err(TextFault::Missing {
+            key: Key::SegmentCount,
+        }),
+    }
 }
 
-/// The segment of a number.
+/// The segment behind so many others.
 #[tactic(auto, unfolding(crate::specs::Group::segment_numbered))]
-fn numbered_segment(alloc: Global, words: &[Word], number: u64) -> Result<Segment, TextFault>
-    ensures { Tells (λ s. s) result (segment_numbered number words.now) }
+fn numbered_segment(
+    alloc: Global,
+    words: &[Word],
+    table: &[Option<usize>],
+    before: usize,
+) -> Result<Segment, TextFault>
+    requires table { IsTable table.now words.now }
+    requires number { before + 1 < 2 ^ 64 }
+    ensures { Tells (λ s. s) result (segment_numbered (before + 1) words.now) }
 {
-    let body = numbered_section(alloc, words, number)?;
+    let body = numbered_section(alloc, words, table, before)?;
     segment(alloc, body)
 }
 
@@ -281,9 +321,11 @@ fn numbered_segment(alloc: Global, words: &[Word], number: u64) -> Result<Segmen
 fn segments(alloc: Global, words: &[Word], count: u64) -> Result<Segments, TextFault>
     ensures { Tells (λ segments. segments) result (segments_at count 1 words.now) }
 {
+    let count = count as usize;
+    let table = table_of(alloc, words, count.min(words.len()))?;
     let mut segments = Segments::new(alloc);
     for before in 0..count {
-        segments.push(numbered_segment(alloc, words, before + 1)?)?;
+        segments.push(numbered_segment(alloc, words, table.as_slice(), before)?)?;
     }
     Ok(segments)
 }

@@ -5,7 +5,7 @@ use Rattle.lvm_text.proofs.walk.segments.Goals as goal
 
 pub returns-in_err-numbered_segment : goal.returns-in_err-numbered_segment
 returns-in_err-numbered_segment c =
-    let p = err_from_is_err_and c.from_residual.result c.from_residual.ensures.1 in
+    let p = err_from_is_err_and c.from_residual-in_err-numbered_segment.result c.from_residual-in_err-numbered_segment.ensures.1 in
     rw (p.1, p.2) (segments_fail c.in_err-numbered_segment.field-0.0 c.loop-before.segments c.args.count c.loop-before.before c.args.words.now (segments_at c.args.count 1 c.args.words.now)
     c.loop-before-test.true c.in_err-numbered_segment.ensures c.loop-before.invariant)
 
