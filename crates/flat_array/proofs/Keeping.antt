@@ -1,12 +1,14 @@
 -- The values that a disk keeps, sector by sector.
-use Rattle.std.proofs.Common.{◌≡◌, ◌≢◌, List, [], ◌∷◌, ◌++◌, ℕ, zero, suc, ◌<◌, length, set, get_or, Vec, Global, refl, sym, ◌∙◌, ap, arith}
+use Rattle.std.proofs.Common.{◌≡◌, ◌≢◌, List, [], ◌∷◌, ◌++◌, ℕ, zero, suc, ◌-◌, ◌<◌, if◌then◌else◌, length, take, set, get_or, Vec, Global, refl, sym, ◌∙◌, ap, subst, inl, inr, arith}
 use Rattle.std.specs.Prelude.{slice_get}
 use Rattle.std.specs.Option.{option_map_or}
 use Rattle.std.specs.Vec.{with_items}
 use Rattle.std.proofs.lemmas.List.{with_items_is}
 use Rattle.std.proofs.lemmas.Grind.{common_steps}
 use Rattle.flat_array.specs.declared.disk.FlatDisk.{FlatDisk}
-use Rattle.flat_array.specs.Array.{FlatArray, flushed}
+use Rattle.std.proofs.lemmas.Bool.{cases_eq, eq-eqb, ne_eqb}
+use Rattle.rack.specs.Values.{Values, all_of, append}
+use Rattle.flat_array.specs.Array.{FlatArray, written, flushed}
 use Rattle.flat_array.specs.Disk.{size_of, kept_at, last_alone, Holds}
 
 -- the values of one sector
@@ -62,4 +64,40 @@ Holds-flushed old sectors a size last holds =
           ∙ (last s inside
           ∙ (ap last_alone (holds.values s within)
           ∙ last_alone-append (a.values s).older (a.values s).current));
+    }
+
+-- all values but the last one, which was appended
+before_last : (h : Values) (v : List ℕ) → take (length (all_of (append h v)) - 1) (all_of (append h v)) ≡ all_of h
+before_last h v = grind (arith, common_steps)
+
+-- the disk without the last value of a sector
+pub Holds-unwritten :
+    (old new : FlatDisk) (sector : ℕ) (kept : Vec (List ℕ) Global) (a : FlatArray) (v : List ℕ)
+    → new.sectors.items ≡ set old.sectors.items sector kept
+    → kept.items ≡ take (length (kept_at old sector) - 1) (kept_at old sector)
+    → sector < size_of old
+    → Holds old (written a sector v)
+    → Holds new a
+Holds-unwritten old new sector kept a v is all_but_last inside holds =
+    record {
+      size = ap length is ∙ (grind (arith, common_steps) ∙ holds.size);
+      values =
+          λ s within.
+          ap (λ sectors. items_at sectors s) is
+          ∙ elim (cases_eq s sector) [
+            | inl here ↦
+                let test = eq-eqb s sector here in
+                let held : kept_at old s ≡ all_of (append (a.values s) v) =
+                holds.values s within ∙ ap (λ b. all_of (if b then append (a.values s) v else a.values s)) test in
+                let known : kept.items ≡ take (length (kept_at old s) - 1) (kept_at old s) =
+                subst (λ t. kept.items ≡ take (length (kept_at old t) - 1) (kept_at old t)) (sym here) all_but_last in
+                subst (λ t. items_at (set old.sectors.items t kept) s ≡ all_of (a.values s)) here
+                (items_at-set_same old.sectors.items s kept (subst (λ t. t < size_of old) (sym here) inside)
+                ∙ (known
+                ∙ (ap (λ values. take (length values - 1) values) held ∙ before_last (a.values s) v)))
+            | inr other ↦
+                items_at-set_other old.sectors.items sector s kept other
+                ∙ (holds.values s within
+                ∙ ap (λ b. all_of (if b then append (a.values s) v else a.values s)) (ne_eqb s sector other))
+          ];
     }

@@ -1,2 +1,2 @@
-pub mod Trimming
 pub mod Keeping
+pub mod Filling

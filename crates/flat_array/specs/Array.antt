@@ -1,5 +1,5 @@
 -- The flat array: one disk of sectors, each with the values that it has had since the last flush.
-use Rattle.std.specs.Prelude.{◌≡◌, ℕ, ◌<◌, List, ◌==◌, if◌then◌else◌}
+use Rattle.std.specs.Prelude.{◌≡◌, ℕ, ◌+◌, ◌<◌, List, nat_le, nat_lt, ◌&&◌, ◌==◌, if◌then◌else◌}
 use Rattle.rack.specs.Values.{Values, MayLeave, Keeps, append, only}
 
 -- the sectors, and the values of each since the last flush
@@ -15,6 +15,11 @@ fresh size contents = record { size = size; values = λ s. only (contents s) }
 abbrev pub written : FlatArray → ℕ → List ℕ → FlatArray
 written a sector bytes =
     record a { values = λ s. if s == sector then append (a.values s) bytes else a.values s }
+
+-- after a write of the same bytes to each of so many sectors from one on
+abbrev pub filled : FlatArray → ℕ → ℕ → List ℕ → FlatArray
+filled a sector count bytes =
+    record a { values = λ s. if nat_le sector s && nat_lt s (sector + count) then append (a.values s) bytes else a.values s }
 
 -- after a flush: the current value of each sector alone
 abbrev pub flushed : FlatArray → FlatArray

@@ -6,7 +6,7 @@ use Rattle.std.specs.Str.{bytes_eq}
 use Rattle.std.specs.Str.Parse.{digits_value}
 use Rattle.hex.specs.Hex.{decode_of}
 use Rattle.flat_array.specs.declared.Command.{Command}
-use Rattle.flat_array.specs.declared.Command.TheVariants.{Read, Write, Flush, Quit, Unbuilt, Syntax}
+use Rattle.flat_array.specs.declared.Command.TheVariants.{Read, Write, Fill, Flush, Size, Quit, Unbuilt, Syntax}
 
 -- one to twenty decimal digits with a value below 2^64
 abbrev pub number_of : List ℕ → Option ℕ
@@ -54,6 +54,30 @@ write_words (sector ∷ []) = Syntax
 write_words (sector ∷ digits ∷ []) = write_of (number_of sector) (sector_of digits)
 write_words (sector ∷ digits ∷ more ∷ words) = Syntax
 
+-- the byte that decoded digits write
+abbrev pub byte_if : {E : Type 0} → Result (List ℕ) E → Option ℕ
+byte_if (Ok []) = None
+byte_if (Ok (byte ∷ bytes)) = Some byte
+byte_if (Err e) = None
+
+-- two hexadecimal digits of either case
+abbrev pub byte_of : List ℕ → Option ℕ
+byte_of digits = if length digits == 2 then byte_if (decode_of digits) else None
+
+-- `fill S N XX`
+abbrev pub fill_of : Option ℕ → Option ℕ → Option ℕ → Command
+fill_of (Some sector) (Some count) (Some byte) = Fill sector count byte
+fill_of (Some sector) (Some count) None = Syntax
+fill_of (Some sector) None byte = Syntax
+fill_of None count byte = Syntax
+
+abbrev pub fill_words : List (List ℕ) → Command
+fill_words [] = Syntax
+fill_words (sector ∷ []) = Syntax
+fill_words (sector ∷ count ∷ []) = Syntax
+fill_words (sector ∷ count ∷ digits ∷ []) = fill_of (number_of sector) (number_of count) (byte_of digits)
+fill_words (sector ∷ count ∷ digits ∷ more ∷ words) = Syntax
+
 -- a word that stands alone
 abbrev pub alone : Command → List (List ℕ) → Command
 alone command [] = command
@@ -62,9 +86,7 @@ alone command (more ∷ words) = Syntax
 -- the first words of lines that aren't built yet
 abbrev pub is_unbuilt : List ℕ → Bool
 is_unbuilt word =
-    bytes_eq word (codes "fill")
-    || bytes_eq word (codes "size")
-    || bytes_eq word (codes "step")
+    bytes_eq word (codes "step")
     || bytes_eq word (codes "add")
     || bytes_eq word (codes "replace")
     || bytes_eq word (codes "lose")
@@ -77,8 +99,12 @@ built_of first words =
     then read_words words
     else if bytes_eq first (codes "write")
     then write_words words
+    else if bytes_eq first (codes "fill")
+    then fill_words words
     else if bytes_eq first (codes "flush")
     then alone Flush words
+    else if bytes_eq first (codes "size")
+    then alone Size words
     else if bytes_eq first (codes "quit")
     then alone Quit words
     else Syntax

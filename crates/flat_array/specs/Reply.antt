@@ -1,9 +1,9 @@
 -- The flat run: what each command replies and leaves.
-use Rattle.std.specs.Prelude.{ℕ, ◌==◌, nat_lt, if◌then◌else◌, List, [], ◌∷◌, ◌++◌, codes}
+use Rattle.std.specs.Prelude.{ℕ, ◌+◌, ◌==◌, nat_le, nat_lt, if◌then◌else◌, List, [], ◌∷◌, ◌++◌, replicate, codes, decimal}
 use Rattle.hex.specs.Hex.{encode_lower}
 use Rattle.flat_array.specs.declared.Command.{Command}
-use Rattle.flat_array.specs.declared.Command.TheVariants.{Read, Write, Flush, Quit, Unbuilt, Syntax}
-use Rattle.flat_array.specs.Array.{FlatArray, written, flushed}
+use Rattle.flat_array.specs.declared.Command.TheVariants.{Read, Write, Fill, Flush, Size, Quit, Unbuilt, Syntax}
+use Rattle.flat_array.specs.Array.{FlatArray, written, filled, flushed}
 
 -- bytes without the zeros at their end
 abbrev pub before_zeros : ℕ → List ℕ → List ℕ
@@ -31,13 +31,20 @@ data_line bytes = codes "data " ++ digits_or_dash (without_zeros bytes) ++ 10 �
 abbrev pub refused_line : List ℕ → List ℕ
 refused_line why = codes "refused " ++ why ++ 10 ∷ []
 
+-- a sector whose bytes are all the same
+abbrev pub uniform_sector : ℕ → List ℕ
+uniform_sector byte = replicate 512 byte
+
 -- the reply to a command
 abbrev pub reply : FlatArray → Command → List ℕ
 reply a (Read sector) =
     if nat_lt sector a.size then data_line (a.values sector).current else refused_line (codes "range")
 reply a (Write sector bytes) =
     if nat_lt sector a.size then as_line (codes "ok") else refused_line (codes "range")
+reply a (Fill sector count byte) =
+    if nat_le (sector + count) a.size then as_line (codes "ok") else refused_line (codes "range")
 reply a Flush = as_line (codes "ok")
+reply a Size = as_line (codes "size " ++ decimal a.size)
 reply a Quit = []
 reply a Unbuilt = refused_line (codes "unbuilt")
 reply a Syntax = refused_line (codes "syntax")
@@ -46,7 +53,10 @@ reply a Syntax = refused_line (codes "syntax")
 abbrev pub after : FlatArray → Command → FlatArray
 after a (Read sector) = a
 after a (Write sector bytes) = if nat_lt sector a.size then written a sector bytes else a
+after a (Fill sector count byte) =
+    if nat_le (sector + count) a.size then filled a sector count (uniform_sector byte) else a
 after a Flush = flushed a
+after a Size = a
 after a Quit = a
 after a Unbuilt = a
 after a Syntax = a

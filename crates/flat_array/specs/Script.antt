@@ -2,7 +2,7 @@
 use Rattle.std.specs.Prelude.{ℕ, ◌-◌, ◌==◌, Bool, if◌then◌else◌, List, [], ◌∷◌, length, map, take}
 use Rattle.std.specs.List.{slice_split, filter_map}
 use Rattle.flat_array.specs.declared.Command.{Command}
-use Rattle.flat_array.specs.declared.Command.TheVariants.{Read, Write, Flush, Quit, Unbuilt, Syntax}
+use Rattle.flat_array.specs.declared.Command.TheVariants.{Read, Write, Fill, Flush, Size, Quit, Unbuilt, Syntax}
 use Rattle.flat_array.specs.Line.{command_of}
 
 -- a line feed ends a line
@@ -28,7 +28,9 @@ abbrev pub until_quit : List Command → List Command
 until_quit [] = []
 until_quit (Read sector ∷ commands) = Read sector ∷ until_quit commands
 until_quit (Write sector bytes ∷ commands) = Write sector bytes ∷ until_quit commands
+until_quit (Fill sector count byte ∷ commands) = Fill sector count byte ∷ until_quit commands
 until_quit (Flush ∷ commands) = Flush ∷ until_quit commands
+until_quit (Size ∷ commands) = Size ∷ until_quit commands
 until_quit (Quit ∷ commands) = []
 until_quit (Unbuilt ∷ commands) = Unbuilt ∷ until_quit commands
 until_quit (Syntax ∷ commands) = Syntax ∷ until_quit commands

@@ -1,8 +1,8 @@
 //! The flat array in memory.
 
-ghost use Rattle.std.specs.Prelude.{◌≡◌, ℕ, ◌<◌, ◌==◌, nat_lt, if◌then◌else◌, [], ◌∷◌, ◌++◌, length, take, Some, None, IfOk, OnOk, OnErr};
+ghost use Rattle.std.specs.Prelude.{◌≡◌, ℕ, ◌+◌, ◌-◌, ◌<◌, ◌≤◌, ◌==◌, nat_le, nat_lt, if◌then◌else◌, List, [], ◌∷◌, ◌++◌, length, take, replicate, codes, decimal, Some, None, IfOk, OnOk, OnErr};
 ghost use Rattle.rack.specs.Values.{all_of};
-ghost use Rattle.flat_array.specs.Array.{FlatArray, fresh, written, flushed};
+ghost use Rattle.flat_array.specs.Array.{FlatArray, fresh, written, filled, flushed};
 ghost use Rattle.flat_array.specs.Reply.{reply, after, without_zeros as trimmed, digits_or_dash, data_line, as_line, refused_line};
 ghost use Rattle.flat_array.specs.Disk.{zero_sector as zeros, size_of, kept_at, last_alone, Holds};
 
@@ -61,6 +61,11 @@ impl FlatDisk {
         self.put_reply(alloc, command, out)?;
         match command {
             Command::Write { sector, bytes } => self.write(*sector, bytes),
+            Command::Fill {
+                sector,
+                count,
+                byte,
+            } => self.fill(*sector, *count, &[*byte; 512]),
             Command::Flush => {
                 self.flush();
                 Ok(())
@@ -90,7 +95,15 @@ impl FlatDisk {
                     put_refused(b"range", out)
                 }
             }
+            Command::Fill { sector, count, .. } => {
+                if self.has(*sector, *count) {
+                    put_line(b"ok", out)
+                } else {
+                    put_refused(b"range", out)
+                }
+            }
             Command::Flush => put_line(b"ok", out),
+            Command::Size => put_size(alloc, self.size(), out),
             Command::Quit => Ok(()),
             Command::Unbuilt => put_refused(b"unbuilt", out),
             Command::Syntax => put_refused(b"syntax", out),
@@ -102,6 +115,65 @@ impl FlatDisk {
         ensures { (a : FlatArray) → Holds self.now a → result ≡ (if nat_lt sector a.size then Some (a.values sector).current else None) }
     {
         self.values(sector).last().copied()
+    }
+
+    // So many sectors from one on are on the disk.
+    fn has(&self, sector: u64, count: u64) -> bool
+        ensures { result ≡ nat_le (sector + count) (size_of self.now) }
+    {
+        let size = self.size();
+        count <= size && sector <= size - count
+    }
+
+    // Appends a value to those of each of so many sectors; past the end it does nothing.
+    fn fill(&mut self, sector: u64, count: u64, value: &[u8; 512]) -> Result<(), AllocError>
+        ensures done { OnOk result ((a : FlatArray) → Holds self.old a → Holds self.new (if nat_le (sector + count) a.size then filled a sector count value.now else a)) }
+        ensures stays { OnErr result ((a : FlatArray) → Holds self.old a → Holds self.new a) }
+    {
+        if self.has(sector, count) {
+            self.fill_inside(sector, count, value)?;
+        }
+        Ok(())
+    }
+
+    // Appends a value to those of each of so many sectors that are on the disk.
+    fn fill_inside(&mut self, sector: u64, count: u64, value: &[u8; 512]) -> Result<(), AllocError>
+        requires { sector + count ≤ size_of self.old }
+        ensures done { OnOk result ((a : FlatArray) → Holds self.old a → Holds self.new (filled a sector count value.now)) }
+        ensures stays { OnErr result ((a : FlatArray) → Holds self.old a → Holds self.new a) }
+    {
+        for at in sector..sector + count {
+            match self.write(at, value) {
+                Ok(()) => {}
+                Err(error) => {
+                    self.unfill(sector, at);
+                    return Err(error);
+                }
+            }
+        }
+        Ok(())
+    }
+
+    // Takes the last value of each sector from one on and before another away again.
+    fn unfill(&mut self, sector: u64, end: u64)
+        requires { sector ≤ end }
+        ensures { (a : FlatArray) (v : List ℕ) → Holds self.old (filled a sector (end - sector) v) → Holds self.new a }
+    {
+        let mut at = end;
+        while at > sector {
+            at -= 1;
+            self.unwrite(at);
+        }
+    }
+
+    // Takes the last value of a sector away again.
+    fn unwrite(&mut self, sector: u64)
+        ensures { (a : FlatArray) (v : List ℕ) → Holds self.old (written a sector v) → Holds self.new a }
+    {
+        if sector < self.size() {
+            let kept = &mut self.sectors[sector as usize];
+            let _ = kept.pop();
+        }
     }
 
     // Appends a value to those of a sector; past the end it does nothing.
@@ -173,6 +245,14 @@ fn without_zeros(bytes: &[u8]) -> &[u8]
         count -= 1;
     }
     &bytes[..count]
+}
+
+// Appends `size N`.
+fn put_size(alloc: Global, sectors: u64, out: &mut Vec<u8>) -> Result<(), AllocError>
+    ensures { OnOk result (out.new.items ≡ out.old.items ++ as_line (codes "size " ++ decimal sectors)) }
+{
+    let text = format!(in alloc; "size {sectors}")?;
+    put_line(text.as_bytes(), out)
 }
 
 // Appends a text as a line.

@@ -32,8 +32,19 @@ pub enum Command {
         /// The value, filled up with zeros.
         bytes: [u8; 512],
     },
+    /// `fill S N XX`: gives each of so many sectors the value whose bytes are all the same.
+    Fill {
+        /// The number of the first sector.
+        sector: u64,
+        /// How many sectors.
+        count: u64,
+        /// Each byte of the value.
+        byte: u8,
+    },
     /// `flush`: from here on each sector keeps its current value alone.
     Flush,
+    /// `size`: replies the number of sectors.
+    Size,
     /// `quit`: ends the script, with no reply.
     Quit,
     /// A line whose first word is one of the commands that aren't built yet.
