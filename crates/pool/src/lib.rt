@@ -1,13 +1,38 @@
-//! The pool in its first form: a plain mirror of two disks.
+//! A pool of two drives, as a flat array of sectors.
 #![tactic(auto)]
 
-ghost use Rattle.std.specs.Prelude.{◌≡◌, ◌≢◌, ◌⊎◌, ℕ, ◌<◌, ◌^◌, IfOk, IfErr, OnErr};
+ghost use Rattle.std.specs.Prelude.{◌≡◌, ◌<◌, ◌^◌, Err, OnOk, IfOk, IfErr};
+ghost use Rattle.pool.specs.DriveMap.{volume_sectors};
+ghost use Rattle.pool.specs.View.{view, IsPool};
 ghost use Rattle.rack.specs.Seen.{Stays};
-ghost use Rattle.pool.specs.declared.BareFault.TheVariants.{Range};
-ghost use Rattle.pool.specs.Mirror.{IsMirror, ReadsSector, WritesSector, Flushes};
-ghost use Rattle.pool.specs.Disks.{ReadsDisks, WritesDisks, FlushesDisks};
+ghost use Rattle.pool.specs.Reading.{AllTold};
+ghost use Rattle.pool.specs.Opening.{Opens, Refuses};
+ghost use Rattle.pool.specs.Calls.{ReadsSector, WritesSector, Flushes, Ends};
+ghost use Rattle.pool.specs.Marks.{MarksMembers, StartsWriting, WritesMarked, StopsWriting};
+ghost use Rattle.pool.specs.Data.{WritesData};
 
+mod assembling;
+mod checking;
+mod creating;
+mod drive_map;
+mod durable;
+mod laying;
+mod matching;
+mod members;
+mod new_parts;
+mod reading;
+mod settling;
+mod standing;
+
+pub use assembling::{Assembled, Part, Refusal, assemble};
+pub use creating::CreateFault;
+use drive_map::VOLUME_FIRST;
+use matching::volume_size;
+pub use members::Members;
+use members::{ALL_ROWS, raise, write_superblock};
 use rack::{Back, Bay, Gone, Rack};
+use settling::settle;
+use std::alloc::Global;
 
 /// When a pool is made, and its id.
 #[derive(Clone, Copy, Debug, PartialEq, Eq)]
@@ -30,80 +55,144 @@ pub enum BareFault {
     },
 }
 
-/// The two disks differ in their sectors, or have none.
-#[derive(Clone, Copy, Debug, PartialEq, Eq)]
-pub struct Unequal;
-
-/// A volume on a plain mirror: sector `i` of the volume is sector `i` of both disks.
+/// An opened pool of two drives.
 #[derive(Drop)]
 pub struct Pool<R: Bay> {
-    /// The bay with the two disks.
+    /// The bay with the pool's drives.
     pub bay: R,
+    /// The pool's state and the disks of its places.
+    pub on: Assembled,
+    /// The members' superblocks, as they are on the drives.
+    pub members: Members,
+    /// The opening found rows left to resync.
+    pub unclean: bool,
 }
 
 impl<R: Bay> Pool<R> {
-    /// Takes the bay's two disks as a mirror, and calls nothing on them.
-    pub fn open(bay: R) -> Result<Pool<R>, Back<R, Unequal>>
-        requires { (R.seen bay).disks ≡ 2 }
-        ensures opened { IfOk result (λ pool. (pool.bay ≡ bay) × IsMirror (R.seen pool.bay)) }
-        ensures given_back { IfErr result (λ back. back.rack ≡ bay) }
-        ensures unequal { OnErr result (((R.seen bay).sectors 1 ≢ (R.seen bay).sectors 0) ⊎ ((R.seen bay).sectors 0 ≡ 0)) }
+    /// Opens the pool on a bay's disks, in whatever order they are. Copies of tables and superblocks that differ are made
+    /// to agree; at each moment the drives mean what they meant.
+    ///
+    /// A drive of the pool that refuses a call counts as absent.
+    pub fn open(alloc: Global, bay: R, _seconds: u64) -> Result<Pool<R>, Back<R, Refusal>>
+        ensures opened { IfOk result (λ pool. Opens (R.seen bay) (view (R.seen pool.bay) pool.on pool.members pool.unclean)) }
+        ensures stays { IfErr result (λ back. Stays (R.seen bay) (R.seen back.rack)) }
+        ensures refused { IfErr result (λ back. AllTold (R.seen bay) → Refuses (R.seen bay) (R.seen back.rack) back.why) }
     {
-        let sectors = bay.sectors(0);
-        if sectors == 0 || bay.sectors(1) != sectors {
-            return Err(Back {
-                rack: bay,
-                why: Unequal,
-            });
+        let mut bay = bay;
+        let on = match assemble(&mut bay, alloc) {
+            Ok(on) => on,
+            Err(why) => return Err(Back { rack: bay, why }),
+        };
+        match settle(&mut bay, &on) {
+            Ok(members) => Ok(Pool {
+                unclean: members.first.resync_offset < members.first.size,
+                bay,
+                on,
+                members,
+            }),
+            Err(why) => Err(Back { rack: bay, why }),
         }
-        Ok(Pool { bay })
+    }
+
+    // Makes both superblocks say, durably, that the rows from this sector on are left to resync.
+    fn mark_members(&mut self, from: u64) -> Result<(), Gone>
+        requires { IsPool (view (R.seen self.old.bay) self.old.on self.old.members self.old.unclean) }
+        ensures marks { MarksMembers (view (R.seen self.old.bay) self.old.on self.old.members self.old.unclean)
+            (view (R.seen self.new.bay) self.new.on self.new.members self.new.unclean) from result }
+        ensures pool { IsPool (view (R.seen self.new.bay) self.new.on self.new.members self.new.unclean) }
+    {
+        raise(&mut self.members.first, from);
+        raise(&mut self.members.second, from);
+        match write_superblock(&mut self.bay, self.on.first, &self.members.first) {
+            Ok(()) => write_superblock(&mut self.bay, self.on.second, &self.members.second),
+            Err(gone) => Err(gone),
+        }
+    }
+
+    // Writes a sector of the volume to the second member and then to the first.
+    fn write_members(&mut self, sector: u64, from: &[u8; 512]) -> Result<(), Gone>
+        requires pool { IsPool (view (R.seen self.old.bay) self.old.on self.old.members self.old.unclean) }
+        requires marked { self.old.members.first.resync_offset ≡ 0 }
+        requires inside { sector < volume_sectors self.old.on.state }
+        ensures { WritesData (view (R.seen self.old.bay) self.old.on self.old.members self.old.unclean)
+            (view (R.seen self.new.bay) self.new.on self.new.members self.new.unclean) sector from.now result }
+    {
+        let at = VOLUME_FIRST + sector;
+        match self.bay.write(self.on.second, at, from) {
+            Ok(()) => self.bay.write(self.on.first, at, from),
+            Err(gone) => Err(gone),
+        }
     }
 
     /// The sectors of the volume.
     pub fn size(&self) -> u64
-        requires { IsMirror (R.seen self.now.bay) }
-        ensures size { result ≡ (R.seen self.now.bay).sectors 0 }
-        ensures bounded { result < 2 ^ 52 }
+        requires { IsPool (view (R.seen self.now.bay) self.now.on self.now.members self.now.unclean) }
+        ensures size { result ≡ volume_sectors self.now.on.state }
+        ensures bounded { result < 2 ^ 58 }
     {
-        self.bay.sectors(0)
+        volume_size(&self.on.state)
     }
 
-    /// Reads a sector from the first disk.
+    /// Reads a sector of the volume, from the first member.
     pub fn read(&mut self, sector: u64, into: &mut [u8; 512]) -> Result<(), BareFault>
-        requires { IsMirror (R.seen self.old.bay) }
-        ensures read { ReadsSector (R.seen self.old.bay) (R.seen self.new.bay) sector into.new result }
-        ensures mirror { IsMirror (R.seen self.new.bay) }
-        ensures outside { result ≡ Err Range → self.new ≡ self.old }
+        requires { IsPool (view (R.seen self.old.bay) self.old.on self.old.members self.old.unclean) }
+        ensures read { ReadsSector (view (R.seen self.old.bay) self.old.on self.old.members self.old.unclean)
+            (view (R.seen self.new.bay) self.new.on self.new.members self.new.unclean) sector into.new result }
+        ensures pool { IsPool (view (R.seen self.new.bay) self.new.on self.new.members self.new.unclean) }
+        ensures outside { result ≡ Err BareFault.Range → self.new ≡ self.old }
     {
-        self.read_disks(sector, into)
+        if sector >= self.size() {
+            return Err(BareFault::Range);
+        }
+        match self.bay.read(self.on.first, VOLUME_FIRST + sector, into) {
+            Ok(()) => Ok(()),
+            Err(gone) => Err(BareFault::Gone { disk: gone.disk }),
+        }
     }
 
-    /// Writes a sector to the second disk and then to the first.
-    pub fn write(&mut self, sector: u64, from: &[u8; 512]) -> Result<(), BareFault>
-        requires { IsMirror (R.seen self.old.bay) }
-        ensures written { WritesSector (R.seen self.old.bay) (R.seen self.new.bay) sector from.now result }
-        ensures mirror { IsMirror (R.seen self.new.bay) }
-        ensures outside { result ≡ Err Range → self.new ≡ self.old }
-    {
-        self.write_disks(sector, from)
-    }
-
-    /// Syncs both disks.
+    /// Syncs both members.
     pub fn flush(&mut self) -> Result<(), Gone>
-        requires { IsMirror (R.seen self.old.bay) }
-        ensures flushed { Flushes (R.seen self.old.bay) (R.seen self.new.bay) result }
-        ensures mirror { IsMirror (R.seen self.new.bay) }
+        requires { IsPool (view (R.seen self.old.bay) self.old.on self.old.members self.old.unclean) }
+        ensures flushed { Flushes (view (R.seen self.old.bay) self.old.on self.old.members self.old.unclean)
+            (view (R.seen self.new.bay) self.new.on self.new.members self.new.unclean) result }
+        ensures pool { IsPool (view (R.seen self.new.bay) self.new.on self.new.members self.new.unclean) }
     {
-        self.sync_disks()
+        match self.bay.sync(self.on.second) {
+            Ok(()) => self.bay.sync(self.on.first),
+            Err(gone) => Err(gone),
+        }
     }
 
-    /// Ends the run: all that was written is durable on both disks.
-    pub fn end(&mut self) -> Result<(), Gone>
-        requires { IsMirror (R.seen self.old.bay) }
-        ensures flushed { Flushes (R.seen self.old.bay) (R.seen self.new.bay) result }
-        ensures mirror { IsMirror (R.seen self.new.bay) }
+    /// Writes a sector of the volume to both members. Before the first one both superblocks say, durably, that all rows
+    /// are left to resync.
+    pub fn write(&mut self, sector: u64, from: &[u8; 512]) -> Result<(), BareFault>
+        requires { IsPool (view (R.seen self.old.bay) self.old.on self.old.members self.old.unclean) }
+        ensures written { WritesSector (view (R.seen self.old.bay) self.old.on self.old.members self.old.unclean)
+            (view (R.seen self.new.bay) self.new.on self.new.members self.new.unclean) sector from.now result }
+        ensures pool { IsPool (view (R.seen self.new.bay) self.new.on self.new.members self.new.unclean) }
+        ensures outside { result ≡ Err BareFault.Range → self.new ≡ self.old }
     {
-        self.flush()
+        if sector >= self.size() {
+            return Err(BareFault::Range);
+        }
+        match self.write_inside(sector, from) {
+            Ok(()) => Ok(()),
+            Err(gone) => Err(BareFault::Gone { disk: gone.disk }),
+        }
+    }
+
+    /// Ends a run: all that was written is durable on both members, and their superblocks say that no row is left to
+    /// resync, unless the opening found some.
+    pub fn end(&mut self) -> Result<(), Gone>
+        requires { IsPool (view (R.seen self.old.bay) self.old.on self.old.members self.old.unclean) }
+        ensures ended { Ends (view (R.seen self.old.bay) self.old.on self.old.members self.old.unclean)
+            (view (R.seen self.new.bay) self.new.on self.new.members self.new.unclean) result }
+        ensures pool { IsPool (view (R.seen self.new.bay) self.new.on self.new.members self.new.unclean) }
+    {
+        match self.flush() {
+            Ok(()) => self.stop_writing(),
+            Err(gone) => Err(gone),
+        }
     }
 
     /// The bay as it is.
@@ -113,49 +202,49 @@ impl<R: Bay> Pool<R> {
         self.bay
     }
 
-    // A read, by the values of the disks.
-    fn read_disks(&mut self, sector: u64, into: &mut [u8; 512]) -> Result<(), BareFault>
-        requires { IsMirror (R.seen self.old.bay) }
-        ensures read { ReadsDisks (R.seen self.old.bay) (R.seen self.new.bay) sector into.new result }
-        ensures mirror { IsMirror (R.seen self.new.bay) }
-        ensures outside { result ≡ Err Range → self.new ≡ self.old }
+    // Marks the members, and writes a sector of the volume.
+    fn write_inside(&mut self, sector: u64, from: &[u8; 512]) -> Result<(), Gone>
+        requires pool { IsPool (view (R.seen self.old.bay) self.old.on self.old.members self.old.unclean) }
+        requires inside { sector < volume_sectors self.old.on.state }
+        ensures written { WritesMarked (view (R.seen self.old.bay) self.old.on self.old.members self.old.unclean)
+            (view (R.seen self.new.bay) self.new.on self.new.members self.new.unclean) sector from.now result }
+        ensures pool { IsPool (view (R.seen self.new.bay) self.new.on self.new.members self.new.unclean) }
     {
-        if sector >= self.size() {
-            return Err(BareFault::Range);
-        }
-        match self.bay.read(0, sector, into) {
-            Ok(()) => Ok(()),
-            Err(gone) => Err(BareFault::Gone { disk: gone.disk }),
+        match self.start_writing() {
+            Ok(()) => self.write_members(sector, from),
+            Err(gone) => Err(gone),
         }
     }
 
-    // A write, by the values of the disks.
-    fn write_disks(&mut self, sector: u64, from: &[u8; 512]) -> Result<(), BareFault>
-        requires { IsMirror (R.seen self.old.bay) }
-        ensures written { WritesDisks (R.seen self.old.bay) (R.seen self.new.bay) sector from.now result }
-        ensures mirror { IsMirror (R.seen self.new.bay) }
-        ensures outside { result ≡ Err Range → self.new ≡ self.old }
+    // Marks the members, if they aren't.
+    fn start_writing(&mut self) -> Result<(), Gone>
+        requires { IsPool (view (R.seen self.old.bay) self.old.on self.old.members self.old.unclean) }
+        ensures starts { StartsWriting (view (R.seen self.old.bay) self.old.on self.old.members self.old.unclean)
+            (view (R.seen self.new.bay) self.new.on self.new.members self.new.unclean) result }
+        ensures pool { IsPool (view (R.seen self.new.bay) self.new.on self.new.members self.new.unclean) }
     {
-        if sector >= self.size() {
-            return Err(BareFault::Range);
+        if self.members.first.resync_offset == 0 {
+            return Ok(());
         }
-        match self.bay.write(1, sector, from) {
-            Ok(()) => {}
-            Err(gone) => return Err(BareFault::Gone { disk: gone.disk }),
-        }
-        match self.bay.write(0, sector, from) {
-            Ok(()) => Ok(()),
-            Err(gone) => Err(BareFault::Gone { disk: gone.disk }),
-        }
+        self.mark_members(0)
     }
 
-    // A flush, by the values of the disks.
-    fn sync_disks(&mut self) -> Result<(), Gone>
-        requires { IsMirror (R.seen self.old.bay) }
-        ensures flushed { FlushesDisks (R.seen self.old.bay) (R.seen self.new.bay) result }
-        ensures mirror { IsMirror (R.seen self.new.bay) }
+    // Takes the mark away, if it is this run's.
+    fn stop_writing(&mut self) -> Result<(), Gone>
+        requires { IsPool (view (R.seen self.old.bay) self.old.on self.old.members self.old.unclean) }
+        ensures stops { StopsWriting (view (R.seen self.old.bay) self.old.on self.old.members self.old.unclean)
+            (view (R.seen self.new.bay) self.new.on self.new.members self.new.unclean) result }
+        ensures pool { IsPool (view (R.seen self.new.bay) self.new.on self.new.members self.new.unclean) }
     {
-        self.bay.sync(1)?;
-        self.bay.sync(0)
+        if self.unclean {
+            return Ok(());
+        }
+        if self.members.first.resync_offset == ALL_ROWS {
+            return Ok(());
+        }
+        self.mark_members(ALL_ROWS)
     }
 }
+
+#[cfg(test)]
+mod tests;
