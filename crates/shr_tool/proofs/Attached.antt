@@ -1,257 +1,225 @@
--- Both names were attached: what came out, from the contents that waited.
-use Rattle.std.proofs.Common.{◌≡◌, ◌≢◌, ◌⊎◌, ℕ, ◌+◌, ◌<◌, ◌≤◌, List, [], ◌∷◌, ◌++◌, length, slice_get, Option, Some, Result, Ok, Err, refl, sym, ◌∙◌, ap, subst, inl, inr, lit<, arith}
+-- Names that are attached one after the other.
+use Rattle.std.proofs.Common.{◌≡◌, ◌≢◌, ◌⊎◌, ℕ, zero, suc, ◌+◌, ◌<◌, List, [], ◌∷◌, ◌++◌, length, length-append, map, get_or, take, drop, slice_get, Option, Some, Result, Ok, Err, refl, sym, ◌∙◌, ap, subst, inl, inr, arith}
+use Rattle.std.specs.Option.{option_and_then}
+use Rattle.std.proofs.lemmas.Bool.{cases_lt}
+use Rattle.std.proofs.lemmas.Option.{slice_get_within}
+use Rattle.std.proofs.lemmas.List.{map-append, take_more, take-append-drop}
 use Rattle.rack.specs.declared.AttachFault.{AttachFault}
-use Rattle.rack.specs.declared.AttachFault.TheVariants.{Twice}
-use Rattle.rack.specs.Values.{Values, Keeps, only}
-use Rattle.rack.specs.Seen.{Image, Seen, Stays}
-use Rattle.rack.specs.Shelf.{Shelf, Waiting, Shows, SameDisk, IsFrom, Adds, Attaches}
-use Rattle.flat_array.specs.declared.Command.{Command}
-use Rattle.flat_array.specs.Array.{FlatArray, fresh}
-use Rattle.pool.specs.Mirror.{Holds, PicksFirst}
-use Rattle.shr_tool.specs.declared.status.Status.{Status}
-use Rattle.shr_tool.specs.declared.status.Status.TheVariants.{Done, Words, Limit, Source, Sink, Refused, Memory}
-use Rattle.shr_tool.specs.Outcome.{Outcome, DriveOutcome}
-use Rattle.shr_tool.specs.Run.{array_of, UnequalRefused, Mirrored, MirrorOutcome, Served, ServeOutcome, unequal_refused, served}
-use Rattle.shr_tool.proofs.Opening.{holds_fresh, names_then, no_names}
+use Rattle.rack.specs.declared.AttachFault.TheVariants.{Failed, Twice, Memory}
+use Rattle.rack.specs.Seen.{Seen}
+use Rattle.rack.specs.Shelf.{Shelf, Waiting, SameDisk, IsFrom, Adds, Attaches}
+use Rattle.rack.specs.Joins.{rose_since}
+use Rattle.shr_tool.specs.Entry.{waiting_at, sectors_in, contents_in, IsWaiting}
+use Rattle.shr_tool.specs.Attaching.{AreAttached, IsUnattached, HasAttachCause}
+use Rattle.shr_tool.proofs.FilesLemmas.{get-push, get-last, differ_push}
 
--- a drive's outcome under a stronger premise on stops
-drive_weaker :
-    (y : Seen) (T U : Type 0) (from : ℕ) (a : FlatArray) (text : List ℕ) (d : ℕ) (commands : List Command)
-    → (U → T)
-    → DriveOutcome y T from a text d commands
-    → DriveOutcome y U from a text d commands
-drive_weaker y T U from a text d commands traced o =
-    record {
-      disk = o.disk;
-      rose = o.rose;
-      broken = o.broken;
-      more = o.more;
-      script = o.script;
-      lasts = λ told. o.lasts (traced told);
-    }
+-- a list without an element
+no_names : (names : List (List ℕ)) → length names ≡ 0 → names ≡ []
+no_names [] none = refl
+no_names (n ∷ names) none = absurd (omega arith)
 
--- an outcome under stronger premises
-outcome_weaker :
-    (status : Status) (y : Seen) (T U : Type 0) (from : ℕ) (a : FlatArray) (P Q : FlatArray → Type 0)
-    (text rest out out' : List ℕ)
-    → (U → T)
-    → ((b : FlatArray) → Q b → P b)
-    → Outcome status y T from a P text rest out out'
-    → Outcome status y U from a Q text rest out out'
-outcome_weaker Done y T U from a P Q text rest out out' traced second o =
-    record {
-      commands = o.commands;
-      script = o.script;
-      put = o.put;
-      first = o.first;
-      second = λ b held. o.second b (second b held);
-      lasts = λ told. o.lasts (traced told);
-      ends = λ told. o.ends (traced told);
-    }
-outcome_weaker Words y T U from a P Q text rest out out' traced second o = absurd o
-outcome_weaker Limit y T U from a P Q text rest out out' traced second o =
-    record {
-      longer = o.longer;
-      commands = o.commands;
-      script = o.script;
-      put = o.put;
-      lasts = λ told. o.lasts (traced told);
-    }
-outcome_weaker Source y T U from a P Q text rest out out' traced second o =
-    record {
-      taken = o.taken;
-      text_is = o.text_is;
-      commands = o.commands;
-      script = o.script;
-      put = o.put;
-      lasts = λ told. o.lasts (traced told);
-    }
-outcome_weaker Sink y T U from a P Q text rest out out' traced second (inl o) =
-    inl
-    (record {
-      before = o.before;
-      last = o.last;
-      more = o.more;
-      script = o.script;
-      put = o.put;
-      lasts = λ told. o.lasts (traced told);
-    })
-outcome_weaker Sink y T U from a P Q text rest out out' traced second (inr o) =
-    inr
-    (record {
-      drive = o.drive;
-      commands = o.commands;
-      outcome = drive_weaker y T U from a text o.drive o.commands traced o.outcome;
-      put = o.put;
-    })
-outcome_weaker Refused y T U from a P Q text rest out out' traced second o =
-    record {
-      drive = o.drive;
-      commands = o.commands;
-      outcome = drive_weaker y T U from a text o.drive o.commands traced o.outcome;
-      put = o.put;
-    }
-outcome_weaker Memory y T U from a P Q text rest out out' traced second o = absurd o
+nothing_at : (d : ℕ) (name : List ℕ) → slice_get [] d ≡ Some name → ⊥
+nothing_at d name at = cc
 
--- a disk that another attaching left as it was
-holds_same : {a b : Seen} {d : ℕ} {c : FlatArray} → SameDisk a b d → Holds a d c → Holds b d c
-holds_same {a} {b} {d} {c} same holds =
+pub nothing_attached :
+    (x : Seen) (s : Shelf) → x.disks ≡ 0 → length s.names ≡ x.disks → AreAttached x x s s []
+nothing_attached x s empty numbered =
     record {
-      told = same.told holds.told;
-      tracks =
-          record {
-            size = same.sectors ∙ holds.tracks.size;
-            values = λ s inside. subst (λ h. Keeps (c.values s) h) (sym (same.held s)) (holds.tracks.values s inside);
-          };
+      disks = empty;
+      clock = refl;
+      lenders = refl;
+      attached = no_names s.names (numbered ∙ empty);
+      differ = λ i j name at_i at_j. absurd (nothing_at i name at_i);
+      faults = omega arith;
+      unfaulted = λ d below. absurd (omega arith);
+      traced = λ traced told. traced;
+      told = λ told. told;
+      others = λ n none. refl;
+      waited = λ told d below. absurd (omega arith);
+      past = λ told traced k i until stops d s below inside. absurd (omega arith);
     }
 
--- two names that were attached differ
-differ :
-    (x m n : Seen) (s u t : Shelf) (first second : List ℕ) (q r : Result ℕ AttachFault) (d e : ℕ)
-    → s.names ≡ []
-    → q ≡ Ok d
-    → Attaches x m s u first q
-    → r ≡ Ok e
-    → Attaches m n u t second r
-    → second ≢ first
-differ x m n s u t first second q r d e none q_is first_at r_is second_at same =
-    let names = names_then x m s u first q d none q_is first_at in
-    let named : slice_get u.names 0 ≡ Some second =
-    ap (λ ns. slice_get ns 0) names ∙ ap Some (sym same) in
-    let twice : r ≡ Err (Twice 0) = (second_at.twice 0).1 named in
+-- what an old disk was it still is
+waiting_kept : (y z : Seen) (d : ℕ) (o : Option Waiting) → SameDisk y z d → IsWaiting y d o → IsWaiting z d o
+waiting_kept y z d o same was =
+    record {
+      ready = was.ready;
+      sectors = same.sectors ∙ was.sectors;
+      held = λ s inside. same.held s ∙ was.held s inside;
+      told = same.told was.told;
+    }
+
+waiting_new : (y z : Seen) (d : ℕ) (w : Waiting) → IsFrom y z d w → IsWaiting z d (Some w)
+waiting_new y z d w from = record { ready = refl; sectors = from.sectors; held = from.held; told = from.told }
+
+-- the number of a name among some and one more
+old_or_last : (n m e : ℕ) → m ≡ n + 1 → e < m → (e < n) ⊎ (e ≡ n)
+old_or_last n m e count below = elim (cases_lt e n) [ inl old ↦ inl old | inr last ↦ inr (omega arith) ]
+
+not_twice :
+    (y z : Seen) (t u : Shelf) (names : List (List ℕ)) (name : List ℕ) (d : ℕ)
+    → t.names ≡ names
+    → Attaches y z t u name (Ok d)
+    → (e : ℕ)
+    → slice_get names e ≡ Some name
+    → ⊥
+not_twice y z t u names name d are attaches e at =
+    let twice : Ok d ≡ Err (Twice e) = (attaches.twice e).1 (subst (λ ns. slice_get ns e ≡ Some name) (sym are) at) in
     cc
 
--- what both attachings say
-pub record Both (x m n : Seen) (s u t : Shelf) (first second : List ℕ) : Type 0 where
-  pub one : Adds x m s u first 0
-  pub two : Adds m n u t second 1
-  pub other : second ≢ first
+-- a name among others isn't one more
+pub other_name :
+    (names : List (List ℕ)) (name n : List ℕ)
+    → ((e : ℕ) → slice_get (names ++ name ∷ []) e ≢ Some n)
+    → ((e : ℕ) → slice_get names e ≢ Some n) × (n ≢ name)
+other_name names name n none = (
+  λ e at. none e (get-push names name e (slice_get_within names e n at) ∙ at),
+  λ same. none (length names) (get-last names name ∙ ap Some (sym same)),
+)
 
-both :
-    (x m n : Seen) (s u t : Shelf) (first second : List ℕ) (q r : Result ℕ AttachFault) (d e : ℕ)
-    → x.disks ≡ 0
-    → length s.names ≡ x.disks
-    → q ≡ Ok d
-    → Attaches x m s u first q
-    → r ≡ Ok e
-    → Attaches m n u t second r
-    → Both x m n s u t first second
-both x m n s u t first second q r d e empty numbered q_is first_at r_is second_at =
-    let one : Attaches x m s u first (Ok d) = subst (λ p. Attaches x m s u first p) q_is first_at in
-    let two : Attaches m n u t second (Ok e) = subst (λ p. Attaches m n u t second p) r_is second_at in
-    let adds_one = one.ok in
-    let adds_two = two.ok in
-    let zero_is : d ≡ 0 = adds_one.number ∙ empty in
-    let one_is : e ≡ 1 = let at = adds_two.number in let count = adds_one.disks in omega arith in
+attached_then :
+    (x y z : Seen) (s t u : Shelf) (names : List (List ℕ)) (name : List ℕ) (d : ℕ)
+    → AreAttached x y s t names
+    → Attaches y z t u name (Ok d)
+    → AreAttached x z s u (names ++ name ∷ [])
+attached_then x y z s t u names name d old attaches =
+    let adds : Adds y z t u name d = attaches.ok in
+    let new = not_twice y z t u names name d old.attached attaches in
+    let all = names ++ name ∷ [] in
+    let count : length all ≡ length names + 1 = length-append names (name ∷ []) in
+    let disks = old.disks in
+    let number = adds.number in
+    let same : (e : ℕ) → e < length names → waiting_at s.ready all e ≡ waiting_at s.ready names e =
+    λ e below. ap (option_and_then s.ready) (get-push names name e below) in
+    let last : waiting_at s.ready all (length names) ≡ s.ready name =
+    ap (option_and_then s.ready) (get-last names name) in
+    let here : (e : ℕ) → e ≡ length names → d ≡ e = λ e is. omega arith in
     record {
-      one = subst (λ k. Adds x m s u first k) zero_is adds_one;
-      two = subst (λ k. Adds m n u t second k) one_is adds_two;
-      other =
-          differ x m n s u t first second q r d e (no_names s.names (numbered ∙ empty)) q_is first_at r_is second_at;
+      disks = let more = adds.disks in omega arith;
+      clock = adds.clock ∙ old.clock;
+      lenders = adds.lenders ∙ old.lenders;
+      attached = adds.names ∙ ap (λ ns. ns ++ name ∷ []) old.attached;
+      differ = differ_push names name old.differ new;
+      faults = let grows = attaches.faults in let before = old.faults in omega arith;
+      unfaulted =
+          λ e below.
+          elim (old_or_last (length names) (length all) e count below) [
+            | inl under ↦ (adds.others e (omega arith)).faults ∙ old.unfaulted e under
+            | inr is ↦ subst (λ k. z.faults k ≡ 0) (here e is) adds.unfaulted
+          ];
+      traced = λ traced told. adds.traced (old.traced traced told) (old.told told);
+      told = λ told. adds.told (old.told told);
+      others =
+          λ n none.
+          let apart = other_name names name n none in
+          adds.ready n apart.1 ∙ old.others n apart.0;
+      waited =
+          λ told e below.
+          elim (old_or_last (length names) (length all) e count below) [
+            | inl under ↦
+                subst (λ o. IsWaiting z e o) (sym (same e under))
+                (waiting_kept y z e (waiting_at s.ready names e) (adds.others e (omega arith)) (old.waited told e under))
+            | inr is ↦
+                let waits = adds.waited (old.told told) in
+                let ready : s.ready name ≡ Some waits.0 = sym (old.others name new) ∙ waits.1 in
+                subst (λ k. IsWaiting z k (waiting_at s.ready all k)) (sym is)
+                (subst (λ o. IsWaiting z (length names) o) (sym (last ∙ ready))
+                (subst (λ k. IsWaiting z k (Some waits.0)) (here (length names) refl) (waiting_new y z d waits.0 waits.2)))
+          ];
+      past =
+          λ told traced k i until stops e sector below inside.
+          let y_traced = old.traced traced told in
+          let clock = old.clock in
+          elim (old_or_last (length names) (length all) e count below) [
+            | inl under ↦
+                let before = adds.past y_traced k i (omega arith) stops in
+                old.past told traced k i until before e sector under
+                (subst (λ o. sector < sectors_in o) (same e under) inside)
+                ∙ ap (λ o. contents_in o sector) (sym (same e under))
+            | inr is ↦
+                let waits = adds.waited (old.told told) in
+                let ready : s.ready name ≡ Some waits.0 = sym (old.others name new) ∙ waits.1 in
+                let own : waiting_at s.ready all e ≡ Some waits.0 = ap (waiting_at s.ready all) is ∙ last ∙ ready in
+                let shows = waits.2.shown y_traced k i (omega arith) stops in
+                ap (λ n. i n sector) (sym (here e is))
+                ∙ shows sector (subst (λ o. sector < sectors_in o) own inside)
+                ∙ ap (λ o. contents_in o sector) (sym own)
+          ];
     }
 
--- what waited under a name is what is known to wait
-same_waiting : (v w : Waiting) (o : Option Waiting) → o ≡ Some v → o ≡ Some w → v ≡ w
-same_waiting v w o one two = cc
+pub attached_more :
+    (x y z : Seen) (s t u : Shelf) (names : List (List ℕ)) (name : List ℕ) (r : Result ℕ AttachFault) (d : ℕ)
+    → r ≡ Ok d
+    → AreAttached x y s t names
+    → Attaches y z t u name r
+    → AreAttached x z s u (names ++ name ∷ [])
+attached_more x y z s t u names name r d is old attaches =
+    attached_then x y z s t u names name d old (subst (λ p. Attaches y z t u name p) is attaches)
 
--- after both attachings the first disk holds what waited under the first name
-first_holds :
-    {x m n : Seen} {s u t : Shelf} {first second : List ℕ} {w : Waiting}
-    → x.disks ≡ 0
-    → Both x m n s u t first second
-    → s.told
-    → s.ready first ≡ Some w
-    → Holds n 0 (array_of w)
-first_holds {x} {m} {n} {s} {u} {t} {first} {second} {w} empty b told ready =
-    let waits = b.one.waited told in
-    let held : Holds m 0 (array_of waits.0) = holds_fresh waits.2 in
-    let same = same_waiting waits.0 w (s.ready first) waits.1 ready in
-    let inside : 0 < m.disks = let count = b.one.disks in omega arith in
-    holds_same (b.two.others 0 inside) (subst (λ v. Holds m 0 (array_of v)) same held)
+-- a longer list has what a shorter one has at its place
+longer_has :
+    (xs ys : List (List ℕ)) (d : ℕ) (name : List ℕ) → slice_get xs d ≡ Some name → slice_get (xs ++ ys) d ≡ Some name
+longer_has [] ys d name at = absurd (nothing_at d name at)
+longer_has (x ∷ xs) ys zero name at = at
+longer_has (x ∷ xs) ys (suc d) name at = longer_has xs ys d name at
 
--- and the second one what waited under the second
-second_holds :
-    {x m n : Seen} {s u t : Shelf} {first second : List ℕ} {v : Waiting}
-    → Both x m n s u t first second
-    → s.told
-    → s.ready second ≡ Some v
-    → Holds n 1 (array_of v)
-second_holds {x} {m} {n} {s} {u} {t} {first} {second} {v} b told ready =
-    let waits = b.two.waited (b.one.told told) in
-    let same = same_waiting waits.0 v (u.ready second) waits.1 (b.one.ready second b.other ∙ ready) in
-    subst (λ w. Holds n 1 (array_of w)) same (holds_fresh waits.2)
+fault_cause :
+    (x y z : Seen) (s t u : Shelf) (names rest : List (List ℕ)) (name : List ℕ) (r : Result ℕ AttachFault) (fault : AttachFault)
+    → r ≡ Err fault
+    → AreAttached x y s t names
+    → Attaches y z t u name r
+    → HasAttachCause fault s u ((names ++ name ∷ []) ++ rest) (length names)
+fault_cause x y z s t u names rest name r Failed is old attaches = rose_since old.faults (attaches.failed is)
+fault_cause x y z s t u names rest name r (Twice d) is old attaches =
+    let at : slice_get names d ≡ Some name = subst (λ ns. slice_get ns d ≡ Some name) old.attached ((attaches.twice d).0 is) in
+    record {
+      name = name;
+      before = slice_get_within names d name at;
+      on_first = longer_has (names ++ name ∷ []) rest d name (longer_has names (name ∷ []) d name at);
+      on_second = longer_has (names ++ name ∷ []) rest (length names) name (get-last names name);
+    }
+fault_cause x y z s t u names rest name r Memory is old attaches = tt
 
--- the opening leaves what waited
-opening :
-    {x m n y : Seen} {s u t : Shelf} {first second text rest out out' : List ℕ} {status : Status} {w : Waiting}
-    → x.disks ≡ 0
-    → Both x m n s u t first second
-    → Mirrored n y text rest out out' status
-    → s.told
-    → x.traced
-    → s.ready first ≡ Some w
-    → (k : ℕ) (i : Image)
-    → k ≤ x.clock
-    → y.stops k i
-    → PicksFirst (array_of w) i
-opening {x} {m} {n} {y} {s} {u} {t} {first} {second} {text} {rest} {out} {out'} {status} {w} empty b mirrored told traced ready k i until stops sector inside =
-    let m_traced = b.one.traced traced told in
-    let n_traced = b.two.traced m_traced (b.one.told told) in
-    let m_clock = b.one.clock in
-    let n_clock = b.two.clock in
-    let passes = mirrored.passes n_traced (array_of w) (first_holds empty b told ready) in
-    let at_n : n.stops k i = passes.past k i (omega arith) stops in
-    let at_m : m.stops k i = b.two.past m_traced k i (omega arith) at_n in
-    let waits = b.one.waited told in
-    let shows : Shows 0 waits.0 i = waits.2.shown traced k i until at_m in
-    let same = same_waiting waits.0 w (s.ready first) waits.1 ready in
-    inl ((subst (λ v. Shows 0 v i) same shows) sector inside)
+-- attaching stops at a name
+pub unattached :
+    (x y z : Seen) (s t u : Shelf) (names rest : List (List ℕ)) (name : List ℕ) (r : Result ℕ AttachFault) (fault : AttachFault) (number : ℕ)
+    → r ≡ Err fault
+    → number ≡ y.disks
+    → AreAttached x y s t names
+    → Attaches y z t u name r
+    → IsUnattached s u ((names ++ name ∷ []) ++ rest) number fault
+unattached x y z s t u names rest name r fault number is count old attaches =
+    let here : number ≡ length names = count ∙ old.disks in
+    let more : length (names ++ name ∷ []) ≡ length names + 1 = length-append names (name ∷ []) in
+    let all : length ((names ++ name ∷ []) ++ rest) ≡ length (names ++ name ∷ []) + length rest =
+    length-append (names ++ name ∷ []) rest in
+    record {
+      inside = omega arith;
+      cause =
+          subst (λ n. HasAttachCause fault s u ((names ++ name ∷ []) ++ rest) n) (sym here)
+          (fault_cause x y z s t u names rest name r fault is old attaches);
+    }
 
--- disks that differed differ still
-unequal_now :
-    (n y : Seen)
-    → y.sectors 0 ≡ n.sectors 0
-    → y.sectors 1 ≡ n.sectors 1
-    → (n.sectors 1 ≢ n.sectors 0) ⊎ (n.sectors 0 ≡ 0)
-    → (y.sectors 1 ≢ y.sectors 0) ⊎ (y.sectors 0 ≡ 0)
-unequal_now n y zero one (inl other) = inl (λ same. other (sym one ∙ (same ∙ zero)))
-unequal_now n y zero one (inr none) = inr (zero ∙ none)
+-- the words up to a place, the one there, and the rest
+pub words_more :
+    {Y : Type 0} (read : Y → List ℕ) (ys : List Y) (i : ℕ) (y : Y)
+    → i < length ys
+    → y ≡ get_or ys i y
+    → map read (take (i + 1) ys) ≡ map read (take i ys) ++ read y ∷ []
+words_more read ys i y inside is =
+    ap (λ t. map read t) (take_more ys i y inside)
+    ∙ map-append read (take i ys) (get_or ys i y ∷ [])
+    ∙ ap (λ v. map read (take i ys) ++ read v ∷ []) (sym is)
 
--- both names were attached
-pub both_served :
-    (x m n y : Seen) (s u t t' : Shelf) (first second text rest out out' : List ℕ) (q r : Result ℕ AttachFault) (d e : ℕ) (status : Status)
-    → x.disks ≡ 0
-    → length s.names ≡ x.disks
-    → q ≡ Ok d
-    → Attaches x m s u first q
-    → r ≡ Ok e
-    → Attaches m n u t second r
-    → MirrorOutcome n y text rest out out' status
-    → ServeOutcome x s y t' first second text rest out out' status
-both_served x m n y s u t t' first second text rest out out' q r d e status empty numbered q_is first_at r_is second_at (inl unequal) =
-    unequal_refused
-    (record {
-      unequal = unequal_now n y (unequal.sectors 0) (unequal.sectors 1) unequal.unequal;
-      says = unequal.says;
-    })
-both_served x m n y s u t t' first second text rest out out' q r d e status empty numbered q_is first_at r_is second_at (inr mirrored) =
-    let b = both x m n s u t first second q r d e empty numbered q_is first_at r_is second_at in
-    let m_clock = b.one.clock in
-    let n_clock = b.two.clock in
-    let clock : n.clock ≡ x.clock = n_clock ∙ m_clock in
-    served
-    (record {
-      differ = b.other;
-      equal = mirrored.stays.sectors 1 ∙ (mirrored.equal ∙ sym (mirrored.stays.sectors 0));
-      some = subst (λ k. 0 < k) (sym (mirrored.stays.sectors 0)) mirrored.some;
-      opened = λ told traced w ready k i until stops. opening empty b mirrored told traced ready k i until stops;
-      outcome =
-          λ told w v ready_w ready_v.
-          subst
-          (λ k. Outcome status y x.traced k (array_of w) (λ c. c ≡ array_of v) text rest out out')
-          clock
-          (outcome_weaker status y n.traced x.traced n.clock (array_of w) (Holds n 1) (λ c. c ≡ array_of v) text rest out out'
-          (λ traced. b.two.traced (b.one.traced traced told) (b.one.told told))
-          (λ c same. subst (λ f. Holds n 1 f) (sym same) (second_holds b told ready_v))
-          (mirrored.outcome (array_of w) (first_holds empty b told ready_w)));
-    })
+pub words_split :
+    {Y : Type 0} (read : Y → List ℕ) (ys : List Y) (i : ℕ) (y : Y)
+    → i < length ys
+    → y ≡ get_or ys i y
+    → (rest : List (List ℕ)) × (map read ys ≡ (map read (take i ys) ++ read y ∷ []) ++ rest)
+words_split {Y} read ys i y inside is =
+    let tail : List Y = drop (i + 1) ys in (
+      map read tail,
+      ap (map read) (sym (take-append-drop (i + 1) ys))
+          ∙ map-append read (take (i + 1) ys) tail
+          ∙ ap (λ l. l ++ map read tail) (words_more read ys i y inside is),
+    )

@@ -1,5 +1,5 @@
 -- Lemmas on a list of image files.
-use Rattle.std.proofs.Common.{◌≡◌, ◌⊎◌, ℕ, zero, suc, ◌+◌, ◌<◌, ◌≤◌, ◌^◌, List, [], ◌∷◌, ◌++◌, length, map, Bool, true, false, if◌then◌else◌, min, slice_get, slice_set, option_map, Result, Ok, Err, IfOk, IfErr, length-append, Option, Some, None, length-set, refl, sym, ◌∙◌, ap, subst, inl, inr, arith}
+use Rattle.std.proofs.Common.{◌≡◌, ◌⊎◌, ℕ, zero, suc, ◌+◌, ◌<◌, ◌≤◌, List, [], ◌∷◌, ◌++◌, length, Bool, true, false, if◌then◌else◌, min, slice_get, slice_set, option_map, Result, Ok, Err, IfOk, IfErr, length-append, Option, Some, None, length-set, refl, sym, ◌∙◌, ap, subst, inl, inr, arith}
 use Rattle.rack.specs.Seen.{Rose}
 use Rattle.shr_tool.specs.declared.rack_file.disk.FileDisk.{FileDisk}
 use Rattle.rack.specs.Shelf.{Attaches}
@@ -88,7 +88,7 @@ noted disks k new old at name sectors grows rose =
     }
 
 -- what stands in a list with one more
-get-push_cases :
+pub get-push_cases :
     {A : Type 0} (xs : List A) (y v : A) (i : ℕ)
     → slice_get (xs ++ y ∷ []) i ≡ Some v
     → (slice_get xs i ≡ Some v) ⊎ ((i ≡ length xs) × (v ≡ y))
@@ -107,6 +107,11 @@ get-push [] y i inside = absurd (omega arith)
 get-push (x ∷ xs) y zero inside = refl
 get-push (x ∷ xs) y (suc i) inside = get-push xs y i (omega arith)
 
+-- the one more stands last
+pub get-last : {A : Type 0} (xs : List A) (y : A) → slice_get (xs ++ y ∷ []) (length xs) ≡ Some y
+get-last [] y = refl
+get-last (x ∷ xs) y = get-last xs y
+
 -- the names with one more
 pub names-push :
     {F : Type 0} (disks : List (FileDisk F)) (new : FileDisk F)
@@ -115,7 +120,7 @@ names-push [] new = refl
 names-push (x ∷ disks) new = ap (λ names. x.name ∷ names) (names-push disks new)
 
 -- names that differ from one more differ with it
-differ_push :
+pub differ_push :
     (names : List (List ℕ)) (new : List ℕ)
     → Differ names
     → ((d : ℕ) → slice_get names d ≡ Some new → ⊥)
@@ -153,6 +158,7 @@ name_at disks d disk at = slice_get-map (λ disk. disk.name) disks d ∙ ap (opt
 pub attached :
     {F : Type 0} (disks : List (FileDisk F)) (new : FileDisk F) (faults : ℕ) (name : List ℕ)
     → new.name ≡ name
+    → new.faults ≡ 0
     → ((d : ℕ) → slice_get (names_of disks) d ≡ Some name → ⊥)
     → Attaches
     (files_seen disks)
@@ -161,7 +167,7 @@ pub attached :
     (files_shelf (disks ++ new ∷ []) faults)
     name
     (Ok (length disks))
-attached disks new faults name named none =
+attached disks new faults name named unfaulted none =
     record {
       faults = omega arith;
       ok =
@@ -178,6 +184,7 @@ attached disks new faults name named none =
                   faults = ap faults_of same;
                   told = λ told. told;
                 };
+            unfaulted = ap faults_of (get-last disks new) ∙ unfaulted;
             traced = λ traced told. traced;
             lenders = refl;
             past = λ traced k c until stops. stops;
@@ -271,12 +278,13 @@ pub attached_or_not :
     {F : Type 0} (disks disks' : List (FileDisk F)) (new : FileDisk F) (faults faults' : ℕ) (name : List ℕ)
     (result : Result ℕ AttachFault)
     → new.name ≡ name
+    → new.faults ≡ 0
     → ((d : ℕ) → slice_get (names_of disks) d ≡ Some name → ⊥)
     → faults' ≡ faults
     → IfOk result (λ number. (number ≡ length disks) × (disks' ≡ disks ++ new ∷ []))
     → IfErr result (λ e. (e ≡ Memory) × (disks' ≡ disks))
     → Attaches (files_seen disks) (files_seen disks') (files_shelf disks faults) (files_shelf disks' faults') name result
-attached_or_not disks disks' new faults faults' name (Ok number) named none same added refused =
-    rw (same, added.0, added.1) (attached disks new faults name named none)
-attached_or_not disks disks' new faults faults' name (Err e) named none same added refused =
+attached_or_not disks disks' new faults faults' name (Ok number) named unfaulted none same added refused =
+    rw (same, added.0, added.1) (attached disks new faults name named unfaulted none)
+attached_or_not disks disks' new faults faults' name (Err e) named unfaulted none same added refused =
     rw (same, refused.0, refused.1) (not_attached disks faults name none)

@@ -1,7 +1,9 @@
 pub mod Parsing
 pub mod ReadingLemmas
 pub mod LongLines
-pub mod Trimming
+pub mod Limits
+pub mod Meanings
+pub mod Filled
 pub mod Performing
 pub mod Scripts
 pub mod History
@@ -9,8 +11,11 @@ pub mod Stopping
 pub mod FilesLemmas
 pub mod Finishing
 pub mod FormLemmas
-pub mod Through
-pub mod Opening
-pub mod Attached
 pub mod Putting
 pub mod LayoutLemmas
+pub mod Attached
+pub mod OnePool
+pub mod Entering
+pub mod Carried
+pub mod Served
+pub mod Made

@@ -1,5 +1,5 @@
 -- The first 1102 bytes of a line tell its command.
-use Rattle.std.proofs.Common.{◌≡◌, ℕ, zero, suc, ◌+◌, ◌<◌, ◌≤◌, nat_le, lit<, lit≤, Bool, true, false, cond, ◌==◌, ◌&&◌, ◌||◌, List, [], ◌∷◌, ◌++◌, length, take, codes, Option, Some, refl, sym, ◌∙◌, ap, subst, inl, inr, arith, length-append, length-take, take-take}
+use Rattle.std.proofs.Common.{◌≡◌, ℕ, zero, suc, ◌<◌, ◌≤◌, nat_le, lit<, lit≤, Bool, true, false, cond, ◌==◌, ◌&&◌, List, [], ◌∷◌, ◌++◌, length, take, codes, Some, refl, sym, ◌∙◌, ap, subst, inl, inr, arith, length-append, length-take, take-take}
 use Rattle.std.proofs.lemmas.Bool.{cases_lt}
 use Rattle.std.proofs.lemmas.Bool.Decides.{nat_tests}
 use Rattle.std.proofs.lemmas.List.{take_all}
@@ -72,8 +72,6 @@ bytes_eq-take (suc n) (b ∷ word) (c ∷ text) short =
 -- eight bytes tell a word that isn't built yet
 is_unbuilt-take : (word : List ℕ) → is_unbuilt word ≡ is_unbuilt (take 8 word)
 is_unbuilt-take word =
-    let fill = bytes_eq-take 8 word (codes "fill") (lit< tt) in
-    let size = bytes_eq-take 8 word (codes "size") (lit< tt) in
     let step = bytes_eq-take 8 word (codes "step") (lit< tt) in
     let add = bytes_eq-take 8 word (codes "add") (lit< tt) in
     let replace = bytes_eq-take 8 word (codes "replace") (lit< tt) in

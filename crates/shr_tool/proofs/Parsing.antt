@@ -1,19 +1,19 @@
 -- Lemmas on words, numbers and sectors in a line.
-use Rattle.std.proofs.Common.{◌≡◌, ◌⊎◌, ℕ, ◌+◌, ◌-◌, ◌*◌, ◌<◌, ◌≤◌, ◌^◌, ◌%◌, Bool, true, false, cond, ◌==◌, nat_lt, List, [], ◌∷◌, ◌++◌, length, take, drop, replicate, position, Option, Some, None, Result, Ok, Err, refl, sym, ◌∙◌, ap, subst, inl, inr, arith}
+use Rattle.std.proofs.Common.{◌≡◌, ℕ, ◌+◌, ◌-◌, ◌*◌, ◌<◌, ◌≤◌, ◌^◌, Bool, true, false, cond, List, [], ◌∷◌, ◌++◌, length, take, drop, replicate, position, Some, None, Ok, refl, sym, ap, subst, arith}
 use Rattle.std.proofs.Math.Nat.{pow-succ'}
 use Rattle.std.proofs.lemmas.Bool.Decides.{nat_tests}
 use Rattle.std.proofs.lemmas.Int.Digits.{digits_value_more}
 use Rattle.std.proofs.lemmas.List.{take_all, drop-replicate}
 use Rattle.std.proofs.lemmas.List.Splits.{slice_split_first, slice_split_none}
 use Rattle.std.proofs.lemmas.List.Sums.{fails_before_first, AllPass-from_list_all}
-use Rattle.std.proofs.Common.{length-drop, get_or, add-one, nat_le, ◌&&◌}
+use Rattle.std.proofs.Common.{length-drop, get_or, add-one, nat_le, ◌&&◌, ◌==◌, if◌then◌else◌, ◌∙◌}
 use Rattle.std.specs.Char.{digit_value, is_ascii_digit}
 use Rattle.std.specs.Str.Parse.{digits_value}
 use Rattle.hex.specs.Hex.{decode_of}
-use Rattle.std.specs.List.{list_all, slice_split, onto_first, position_or_len, All}
+use Rattle.std.specs.List.{list_all, slice_split, onto_first, position_or_len}
 use Rattle.flat_array.specs.declared.Command.{Command}
 use Rattle.flat_array.specs.declared.Command.TheVariants.{Syntax}
-use Rattle.flat_array.specs.Line.{is_space, alone, read_words, write_words, sector_of}
+use Rattle.flat_array.specs.Line.{is_space, alone, read_words, write_words, fill_words, sector_of, byte_if, byte_of}
 
 -- where a place is found, it is the first one that passes
 pub position-found :
@@ -93,6 +93,12 @@ write_words-more v w xs =
     let begins = split-begins is_space xs in
     subst (λ ws. write_words (v ∷ w ∷ ws) ≡ Syntax) (sym begins.2) refl
 
+-- and so are two numbers and digits
+pub fill_words-more : (u v w xs : List ℕ) → fill_words (u ∷ v ∷ w ∷ slice_split is_space xs) ≡ Syntax
+fill_words-more u v w xs =
+    let begins = split-begins is_space xs in
+    subst (λ ws. fill_words (u ∷ v ∷ w ∷ ws) ≡ Syntax) (sym begins.2) refl
+
 -- the code of a digit is 48 above its value
 pub digit_value-digit : (c : ℕ) → is_ascii_digit c ≡ true → digit_value c ≡ c - 48
 digit_value-digit c digit = grind (arith, nat_tests)
@@ -148,3 +154,14 @@ sector_of-decoded digits sector bytes least most decoded is =
 -- a word with another one after it doesn't stand alone
 pub alone-more : (c : Command) (xs : List ℕ) → alone c (slice_split is_space xs) ≡ Syntax
 alone-more c xs = let begins = split-begins is_space xs in subst (λ ws. alone c ws ≡ Syntax) (sym begins.2) refl
+
+-- two digits that are decoded to one byte
+pub byte_of-decoded :
+    (digits bytes : List ℕ)
+    → length digits ≡ 2
+    → decode_of digits ≡ Ok bytes
+    → length bytes ≡ 1
+    → Some (get_or bytes 0 0) ≡ byte_of digits
+byte_of-decoded digits [] two decoded one = absurd (omega arith)
+byte_of-decoded digits (byte ∷ bytes) two decoded one =
+    sym (ap (λ n. if n == 2 then byte_if (decode_of digits) else None) two ∙ ap byte_if decoded)

@@ -1,12 +1,12 @@
 -- Lemmas on a line that is read byte by byte.
-use Rattle.std.proofs.Common.{◌≡◌, ℕ, zero, suc, ◌+◌, ◌<◌, ◌≤◌, List, [], ◌∷◌, ◌++◌, length, take, false, slice_set, append_assoc, add-one, length-append, length-take, length-drop, drop, ◌≢◌, inl, inr, refl, sym, ◌∙◌, ap, subst, arith}
+use Rattle.std.proofs.Common.{◌≡◌, ℕ, zero, suc, ◌+◌, ◌<◌, ◌≤◌, List, [], ◌∷◌, ◌++◌, length, take, false, slice_set, append_assoc, add-one, length-append, length-take, length-drop, drop, ◌≢◌, inl, inr, sym, ◌∙◌, ap, arith}
 use Rattle.std.proofs.Math.Seq.{take-suc-set}
 use Rattle.std.proofs.lemmas.List.{take_all, take-append-le}
 use Rattle.std.proofs.lemmas.Bool.{cases_lt}
 use Rattle.std.proofs.lemmas.List.Elements.{All-append}
 use Rattle.std.specs.List.{All}
 use Rattle.flat_array.specs.Script.{is_line_feed}
-use Rattle.shr_tool.specs.Reading.{kept_of, ReadsPart, ReadsLine, ReadsRest, ReadsMost}
+use Rattle.shr_tool.specs.Reading.{kept_of, ReadsPart}
 
 -- a byte is kept where there is room
 pub kept-push :

@@ -1,12 +1,12 @@
 -- The commands of a text, line by line.
-use Rattle.std.proofs.Common.{◌≡◌, ℕ, suc, ◌+◌, ◌-◌, ◌<◌, ◌≤◌, Bool, true, false, cond, if◌then◌else◌, ◌≢◌, get_or, ◌==◌, List, [], ◌∷◌, ◌++◌, length, map, take, Option, Some, None, refl, sym, ◌∙◌, ap, subst, arith}
+use Rattle.std.proofs.Common.{◌≡◌, ℕ, suc, ◌-◌, ◌<◌, Bool, true, false, if◌then◌else◌, ◌≢◌, get_or, ◌==◌, List, [], ◌∷◌, ◌++◌, length, map, take, Option, Some, None, refl, sym, ◌∙◌, ap, subst, arith}
 use Rattle.std.proofs.lemmas.List.Splits.{slice_split_at, slice_split_none, length-slice_split}
 use Rattle.std.proofs.lemmas.Bool.Decides.{nat_tests}
 use Rattle.std.proofs.lemmas.List.{take_all}
-use Rattle.shr_tool.proofs.Trimming.{take-last}
-use Rattle.std.specs.List.{All, slice_split, onto_first, filter_map, cons_option}
+use Rattle.flat_array.specs.Trimming.{take-last}
+use Rattle.std.specs.List.{All, slice_split, filter_map, cons_option}
 use Rattle.flat_array.specs.declared.Command.{Command}
-use Rattle.flat_array.specs.declared.Command.TheVariants.{Read, Write, Flush, Quit, Unbuilt, Syntax}
+use Rattle.flat_array.specs.declared.Command.TheVariants.{Read, Write, Fill, Flush, Size, Quit, Unbuilt, Syntax}
 use Rattle.flat_array.specs.Line.{command_of}
 use Rattle.flat_array.specs.Script.{is_line_feed, without_return, lines_of, ended_lines_of, until_quit, script_of, cut_script_of}
 
@@ -15,7 +15,9 @@ abbrev pub prepend : Option Command → List Command → List Command
 prepend None commands = commands
 prepend (Some (Read sector)) commands = Read sector ∷ commands
 prepend (Some (Write sector bytes)) commands = Write sector bytes ∷ commands
+prepend (Some (Fill sector count byte)) commands = Fill sector count byte ∷ commands
 prepend (Some Flush) commands = Flush ∷ commands
+prepend (Some Size) commands = Size ∷ commands
 prepend (Some Quit) commands = []
 prepend (Some Unbuilt) commands = Unbuilt ∷ commands
 prepend (Some Syntax) commands = Syntax ∷ commands
@@ -26,7 +28,9 @@ until_quit-cons :
 until_quit-cons None commands = refl
 until_quit-cons (Some (Read sector)) commands = refl
 until_quit-cons (Some (Write sector bytes)) commands = refl
+until_quit-cons (Some (Fill sector count byte)) commands = refl
 until_quit-cons (Some Flush) commands = refl
+until_quit-cons (Some Size) commands = refl
 until_quit-cons (Some Quit) commands = refl
 until_quit-cons (Some Unbuilt) commands = refl
 until_quit-cons (Some Syntax) commands = refl
@@ -91,6 +95,21 @@ cut_script_of-line bytes rest no_feed =
     ap (λ parts. commands_of (ended parts)) (slice_split_at is_line_feed bytes 10 rest no_feed refl)
     ∙ (ap commands_of (ended-cons bytes (slice_split is_line_feed rest) (split-some rest))
     ∙ commands_of-cons (without_return bytes) (ended (slice_split is_line_feed rest)))
+
+-- the lines that ended, when one more ended before them
+pub ended_lines_of-line :
+    (bytes rest : List ℕ)
+    → NoFeed bytes
+    → ended_lines_of (bytes ++ 10 ∷ rest) ≡ without_return bytes ∷ ended_lines_of rest
+unfolding ended
+ended_lines_of-line bytes rest no_feed =
+    ap ended (slice_split_at is_line_feed bytes 10 rest no_feed refl)
+    ∙ ended-cons bytes (slice_split is_line_feed rest) (split-some rest)
+
+-- no line ended
+pub ended_lines_of-last : (bytes : List ℕ) → NoFeed bytes → ended_lines_of bytes ≡ []
+unfolding ended
+ended_lines_of-last bytes no_feed = ap ended (slice_split_none is_line_feed bytes no_feed)
 
 -- and one that did not is dropped
 pub cut_script_of-last : (bytes : List ℕ) → NoFeed bytes → cut_script_of bytes ≡ []

@@ -1,26 +1,29 @@
 -- A line that is answered, and why a script stops.
-use Rattle.std.proofs.Common.{◌≡◌, ℕ, ◌+◌, ◌<◌, ◌≤◌, ◌^◌, List, [], ◌∷◌, ◌++◌, length, take, Option, Some, None, Result, Ok, Err, append_assoc, length-append, refl, sym, ◌∙◌, ap, subst, lit<, arith}
+use Rattle.std.proofs.Common.{◌≡◌, ℕ, ◌<◌, ◌≤◌, ◌^◌, List, [], ◌∷◌, ◌++◌, length, take, Option, Some, None, Ok, Err, append_assoc, length-append, refl, sym, ◌∙◌, ap, subst, arith}
 use Rattle.std.proofs.lemmas.List.{append-nil}
 use Rattle.std.proofs.Math.Seq.{take-append_seam}
-use Rattle.rack.specs.Seen.{Seen, Stays}
+use Rattle.pool.specs.View.{View}
+use Rattle.pool.specs.Calls.{IsSamePool}
 use Rattle.flat_array.specs.declared.Command.{Command}
-use Rattle.flat_array.specs.declared.Command.TheVariants.{Read, Write, Flush, Quit, Unbuilt, Syntax}
+use Rattle.flat_array.specs.declared.Command.TheVariants.{Read, Write, Fill, Flush, Size, Quit, Unbuilt, Syntax}
 use Rattle.flat_array.specs.Line.{command_of}
 use Rattle.flat_array.specs.Script.{without_return, script_of, cut_script_of}
 use Rattle.flat_array.specs.Reply.{replies, array_after}
-use Rattle.pool.specs.Mirror.{Holds}
 use Rattle.shr_tool.specs.declared.serve.Stop.{Stop}
 use Rattle.shr_tool.specs.declared.serve.Stop.TheVariants.{Quit as AtQuit, Input, SourceFault, Limit, SinkFault, DriveGone}
 use Rattle.shr_tool.specs.Reading.{ReadsPart, ReadsLine, ReadsRest, ReadsMost}
-use Rattle.shr_tool.specs.Serving.{IsReplied, Replies, Refuses, LineAnswers, Answered, StopsAtEnd, StopsAtSource, StopsAtLimit, Serves, answer_of}
+use Rattle.shr_tool.specs.Serving.{IsReplied, LineAnswers, Answered, StopsAtEnd, StopsAtSource, StopsAtLimit, Serves, answer_of}
 use Rattle.shr_tool.proofs.Scripts.{prepend, script_of-line, script_of-last, cut_script_of-line, cut_script_of-last}
-use Rattle.shr_tool.proofs.History.{History, array_after-snoc, served_more, answered_more, runs_into, went_since}
+use Rattle.shr_tool.proofs.History.{History, served_more, answered_more, runs_into}
+use Rattle.shr_tool.proofs.Filled.{went_since}
 
 -- a command with a reply stands before those after it
 prepend-replied : (c : Command) (tail : List Command) → IsReplied c → prepend (Some c) tail ≡ c ∷ tail
 prepend-replied (Read sector) tail replied = refl
 prepend-replied (Write sector bytes) tail replied = refl
+prepend-replied (Fill sector count byte) tail replied = refl
 prepend-replied Flush tail replied = refl
+prepend-replied Size tail replied = refl
 prepend-replied Quit tail replied = absurd replied
 prepend-replied Unbuilt tail replied = refl
 prepend-replied Syntax tail replied = refl
@@ -31,7 +34,7 @@ snoc-append commands tail c = sym (append_assoc commands (c ∷ []) tail)
 
 -- a line that ended has been read over
 history_next :
-    (x y z : Seen) (text rest rest' line : List ℕ) (count to : ℕ) (out out' out'' : List ℕ)
+    (x y z : View) (text rest rest' line : List ℕ) (count to : ℕ) (out out' out'' : List ℕ)
     (h : History x y text rest count out out')
     (r : ReadsLine rest rest' line count to)
     (commands : List Command)
@@ -70,27 +73,27 @@ history_next x y z text rest rest' line count to out out' out'' h r commands mov
 
 -- a line that was answered, of a script that goes on
 pub line_answered :
-    {P : Type 0} (seen : P → Seen) (p q : P) (x : Seen) (text rest rest' line : List ℕ) (count to : ℕ)
+    {P : Type 0} (shown : P → View) (p q : P) (x : View) (text rest rest' line : List ℕ) (count to : ℕ)
     (out out' out'' : List ℕ) (command : Option Command)
-    → Stays x (seen p)
-    → (h : History x (seen p) text rest count out out')
+    → IsSamePool x (shown p)
+    → (h : History x (shown p) text rest count out out')
     → (r : ReadsLine rest rest' line count to)
     → command ≡ command_of (without_return r.part.bytes)
-    → LineAnswers seen (Ok tt) command p q out' out''
-    → History x (seen q) text rest' to out out''
-line_answered seen p q x text rest rest' line count to out out' out'' None stays h r is answers =
-    history_next x (seen p) (seen q) text rest rest' line count to out out' out'' h r h.commands
+    → LineAnswers shown (Ok tt) command p q out' out''
+    → History x (shown q) text rest' to out out''
+line_answered shown p q x text rest rest' line count to out out' out'' None same h r is answers =
+    history_next x (shown p) (shown q) text rest rest' line count to out out' out'' h r h.commands
     (λ tail. ap (λ c. h.commands ++ prepend c tail) (sym is))
     (subst
-    (λ bytes. Answered x (seen q) h.commands out bytes)
+    (λ bytes. Answered x (shown q) h.commands out bytes)
     (sym answers.1)
-    (subst (λ b. Answered x (seen b) h.commands out out') (sym answers.0) h.answered))
-line_answered seen p q x text rest rest' line count to out out' out'' (Some c) stays h r is answers =
-    history_next x (seen p) (seen q) text rest rest' line count to out out' out'' h r (h.commands ++ c ∷ [])
+    (subst (λ b. Answered x (shown b) h.commands out out') (sym answers.0) h.answered))
+line_answered shown p q x text rest rest' line count to out out' out'' (Some c) same h r is answers =
+    history_next x (shown p) (shown q) text rest rest' line count to out out' out'' h r (h.commands ++ c ∷ [])
     (λ tail.
     ap (λ d. h.commands ++ prepend d tail) (sym is)
     ∙ (ap (λ cs. h.commands ++ cs) (prepend-replied c tail answers.replied) ∙ snoc-append h.commands tail c))
-    (answered_more x (seen p) (seen q) h.commands c out out' out'' stays h.answered answers)
+    (answered_more x (shown p) (shown q) h.commands c out out' out'' same h.answered answers)
 
 -- the commands before a `quit`
 quit_script :
@@ -114,34 +117,34 @@ replied_script commands whole tail command c script is replied =
 
 -- nothing was called and nothing put
 answered_still :
-    {P : Type 0} (seen : P → Seen) (p q : P) (x : Seen) (commands : List Command) (out out' out'' : List ℕ)
-    → Answered x (seen p) commands out out'
+    {P : Type 0} (shown : P → View) (p q : P) (x : View) (commands : List Command) (out out' out'' : List ℕ)
+    → Answered x (shown p) commands out out'
     → q ≡ p
     → out'' ≡ out'
-    → Answered x (seen q) commands out out''
-answered_still seen p q x commands out out' out'' answered same put =
-    subst (λ bytes. Answered x (seen q) commands out bytes) (sym put)
-    (subst (λ b. Answered x (seen b) commands out out') (sym same) answered)
+    → Answered x (shown q) commands out out''
+answered_still shown p q x commands out out' out'' answered same put =
+    subst (λ bytes. Answered x (shown q) commands out bytes) (sym put)
+    (subst (λ b. Answered x (shown b) commands out out') (sym same) answered)
 
 -- a line that was answered, at which a script stops
 pub line_stopped :
-    {P : Type 0} (seen : P → Seen) (p q : P) (x : Seen) (text rest : List ℕ) (out out' out'' : List ℕ)
+    {P : Type 0} (shown : P → View) (p q : P) (x : View) (text rest : List ℕ) (out out' out'' : List ℕ)
     (commands tail : List Command) (command : Option Command) (stop : Stop)
-    → Stays x (seen p)
-    → Answered x (seen p) commands out out'
+    → IsSamePool x (shown p)
+    → Answered x (shown p) commands out out'
     → script_of text ≡ commands ++ prepend command tail
-    → LineAnswers seen (Err stop) command p q out' out''
-    → Serves stop x (seen q) text rest out out''
-line_stopped seen p q x text rest out out' out'' commands tail command AtQuit stays answered script answers =
+    → LineAnswers shown (Err stop) command p q out' out''
+    → Serves stop x (shown q) text rest out out''
+line_stopped shown p q x text rest out out' out'' commands tail command AtQuit same answered script answers =
     record {
       commands = commands;
       script = quit_script commands (script_of text) tail command script answers.0;
-      answered = answered_still seen p q x commands out out' out'' answered answers.1 answers.2;
+      answered = answered_still shown p q x commands out out' out'' answered answers.1 answers.2;
     }
-line_stopped seen p q x text rest out out' out'' commands tail command Input stays answered script answers = absurd answers
-line_stopped seen p q x text rest out out' out'' commands tail command SourceFault stays answered script answers = absurd answers
-line_stopped seen p q x text rest out out' out'' commands tail command Limit stays answered script answers = absurd answers
-line_stopped seen p q x text rest out out' out'' commands tail command SinkFault stays answered script answers =
+line_stopped shown p q x text rest out out' out'' commands tail command Input same answered script answers = absurd answers
+line_stopped shown p q x text rest out out' out'' commands tail command SourceFault same answered script answers = absurd answers
+line_stopped shown p q x text rest out out' out'' commands tail command Limit same answered script answers = absurd answers
+line_stopped shown p q x text rest out out' out'' commands tail command SinkFault same answered script answers =
     let c = answers.0 in
     let refuses = answers.2 in
     record {
@@ -149,10 +152,10 @@ line_stopped seen p q x text rest out out' out'' commands tail command SinkFault
       last = c;
       more = tail;
       script = replied_script commands (script_of text) tail command c script answers.1 refuses.replied;
-      served = served_more x (seen p) (seen q) commands c refuses.text stays answered.served refuses.performs;
+      served = served_more x (shown p) (shown q) commands c refuses.text same answered.served refuses.performs;
       put =
           λ a holds.
-          let told = refuses.performs.reply (array_after a commands) (answered.served.becomes 0 a (lit< tt) holds) in
+          let told = refuses.performs.reply (array_after a commands) (answered.served.becomes a holds) in
           record {
             count = refuses.prefix.count;
             within = subst (λ bytes. refuses.prefix.count ≤ length bytes) told refuses.prefix.within;
@@ -162,7 +165,7 @@ line_stopped seen p q x text rest out out' out'' commands tail command SinkFault
                 ∙ ap (λ bytes. (out ++ replies a commands) ++ take refuses.prefix.count bytes) told);
           };
     }
-line_stopped seen p q x text rest out out' out'' commands tail command (DriveGone d) stays answered script answers =
+line_stopped shown p q x text rest out out' out'' commands tail command (DriveGone d) same answered script answers =
     let c = answers.0 in
     let breaks = answers.3 in
     record {
@@ -170,58 +173,58 @@ line_stopped seen p q x text rest out out' out'' commands tail command (DriveGon
       last = c;
       more = tail;
       script = replied_script commands (script_of text) tail command c script answers.1 answers.2;
-      went = went_since x (seen p) (seen q) d stays breaks.went;
+      went = went_since x (shown p) (shown q) d same breaks.went;
       put = λ a holds. answers.4 ∙ answered.put a holds;
-      runs = runs_into x (seen p) (seen q) commands c d stays answered.served breaks;
+      runs = runs_into x (shown p) (shown q) commands c d same answered.served breaks;
     }
 
 -- the last line was answered
 last_replied :
-    {P : Type 0} (seen : P → Seen) (p q : P) (x : Seen) (text : List ℕ) (out out' out'' : List ℕ)
+    {P : Type 0} (shown : P → View) (p q : P) (x : View) (text : List ℕ) (out out' out'' : List ℕ)
     (commands : List Command) (command : Option Command)
-    → Stays x (seen p)
-    → Answered x (seen p) commands out out'
+    → IsSamePool x (shown p)
+    → Answered x (shown p) commands out out'
     → script_of text ≡ commands ++ prepend command []
-    → LineAnswers seen (Ok tt) command p q out' out''
-    → StopsAtEnd x (seen q) text out out''
-last_replied seen p q x text out out' out'' commands None stays answered script answers =
+    → LineAnswers shown (Ok tt) command p q out' out''
+    → StopsAtEnd x (shown q) text out out''
+last_replied shown p q x text out out' out'' commands None same answered script answers =
     record {
       commands = commands;
       script = script ∙ append-nil commands;
-      answered = answered_still seen p q x commands out out' out'' answered answers.0 answers.1;
+      answered = answered_still shown p q x commands out out' out'' answered answers.0 answers.1;
     }
-last_replied seen p q x text out out' out'' commands (Some c) stays answered script answers =
+last_replied shown p q x text out out' out'' commands (Some c) same answered script answers =
     record {
       commands = commands ++ c ∷ [];
       script = replied_script commands (script_of text) [] (Some c) c script refl answers.replied;
-      answered = answered_more x (seen p) (seen q) commands c out out' out'' stays answered answers;
+      answered = answered_more x (shown p) (shown q) commands c out out' out'' same answered answers;
     }
 
 pub last_answered :
-    {P : Type 0} (seen : P → Seen) (p q : P) (x : Seen) (text rest : List ℕ) (out out' out'' : List ℕ)
+    {P : Type 0} (shown : P → View) (p q : P) (x : View) (text rest : List ℕ) (out out' out'' : List ℕ)
     (commands : List Command) (command : Option Command) (stop : Stop)
-    → Stays x (seen p)
-    → Answered x (seen p) commands out out'
+    → IsSamePool x (shown p)
+    → Answered x (shown p) commands out out'
     → script_of text ≡ commands ++ prepend command []
     → length text ≤ 2 ^ 32
-    → LineAnswers seen (answer_of stop) command p q out' out''
-    → Serves stop x (seen q) text rest out out''
-last_answered seen p q x text rest out out' out'' commands command AtQuit stays answered script short answers =
-    line_stopped seen p q x text rest out out' out'' commands [] command AtQuit stays answered script answers
-last_answered seen p q x text rest out out' out'' commands command Input stays answered script short answers =
-    (last_replied seen p q x text out out' out'' commands command stays answered script answers, short)
-last_answered seen p q x text rest out out' out'' commands command SourceFault stays answered script short answers =
+    → LineAnswers shown (answer_of stop) command p q out' out''
+    → Serves stop x (shown q) text rest out out''
+last_answered shown p q x text rest out out' out'' commands command AtQuit same answered script short answers =
+    line_stopped shown p q x text rest out out' out'' commands [] command AtQuit same answered script answers
+last_answered shown p q x text rest out out' out'' commands command Input same answered script short answers =
+    (last_replied shown p q x text out out' out'' commands command same answered script answers, short)
+last_answered shown p q x text rest out out' out'' commands command SourceFault same answered script short answers =
     absurd answers
-last_answered seen p q x text rest out out' out'' commands command Limit stays answered script short answers =
+last_answered shown p q x text rest out out' out'' commands command Limit same answered script short answers =
     absurd answers
-last_answered seen p q x text rest out out' out'' commands command SinkFault stays answered script short answers =
-    line_stopped seen p q x text rest out out' out'' commands [] command SinkFault stays answered script answers
-last_answered seen p q x text rest out out' out'' commands command (DriveGone d) stays answered script short answers =
-    line_stopped seen p q x text rest out out' out'' commands [] command (DriveGone d) stays answered script answers
+last_answered shown p q x text rest out out' out'' commands command SinkFault same answered script short answers =
+    line_stopped shown p q x text rest out out' out'' commands [] command SinkFault same answered script answers
+last_answered shown p q x text rest out out' out'' commands command (DriveGone d) same answered script short answers =
+    line_stopped shown p q x text rest out out' out'' commands [] command (DriveGone d) same answered script answers
 
 -- what a line that ended says of the script
 pub line_script :
-    (x y : Seen) (text rest rest' line : List ℕ) (count to : ℕ) (out out' : List ℕ)
+    (x y : View) (text rest rest' line : List ℕ) (count to : ℕ) (out out' : List ℕ)
     (h : History x y text rest count out out')
     (r : ReadsLine rest rest' line count to)
     (command : Option Command)
@@ -235,7 +238,7 @@ line_script x y text rest rest' line count to out out' h r command is =
 
 -- what the last line says of it
 pub last_script :
-    (x y : Seen) (text rest rest' line : List ℕ) (count to : ℕ) (out out' : List ℕ)
+    (x y : View) (text rest rest' line : List ℕ) (count to : ℕ) (out out' : List ℕ)
     (h : History x y text rest count out out')
     (r : ReadsRest rest rest' line count to)
     (command : Option Command)
@@ -251,7 +254,7 @@ last_script x y text rest rest' line count to out out' h r command is =
 
 -- and of the length of the text
 pub last_length :
-    (x y : Seen) (text rest rest' line : List ℕ) (count to : ℕ) (out out' : List ℕ)
+    (x y : View) (text rest rest' line : List ℕ) (count to : ℕ) (out out' : List ℕ)
     (h : History x y text rest count out out')
     (r : ReadsRest rest rest' line count to)
     → to ≤ 2 ^ 32
@@ -263,7 +266,7 @@ last_length x y text rest rest' line count to out out' h r most =
 
 -- the source failed
 pub source_stopped :
-    (x y : Seen) (text rest rest' left line : List ℕ) (count to : ℕ) (out out' : List ℕ)
+    (x y : View) (text rest rest' left line : List ℕ) (count to : ℕ) (out out' : List ℕ)
     → History x y text rest count out out'
     → ReadsPart rest rest' line count to
     → rest' ≡ left
@@ -289,9 +292,9 @@ some_left (x ∷ xs) some = omega arith
 
 -- the limit was reached
 pub limit_stopped :
-    (x y : Seen) (text rest rest' line : List ℕ) (count to : ℕ) (out out' : List ℕ)
+    (x y : View) (text rest rest' line : List ℕ) (count to : ℕ) (out out' : List ℕ)
     → History x y text rest count out out'
-    → ReadsMost rest rest' line count to
+    → ReadsMost (2 ^ 32) rest rest' line count to
     → StopsAtLimit x y text out out'
 limit_stopped x y text rest rest' line count to out out' h r =
     let bytes = r.part.bytes in
@@ -313,3 +316,19 @@ limit_stopped x y text rest rest' line count to out out' h r =
           ∙ (ap (λ cs. h.commands ++ cs) (cut_script_of-last bytes r.part.no_feed) ∙ append-nil h.commands));
       answered = h.answered;
     }
+
+-- the other causes are no limit
+pub quit_apart : (stop : Stop) → stop ≡ AtQuit → stop ≡ Limit → ⊥
+quit_apart stop is same = cc
+
+pub input_apart : (stop : Stop) → stop ≡ Input → stop ≡ Limit → ⊥
+input_apart stop is same = cc
+
+pub source_apart : (stop : Stop) → stop ≡ SourceFault → stop ≡ Limit → ⊥
+source_apart stop is same = cc
+
+pub sink_apart : (stop : Stop) → stop ≡ SinkFault → stop ≡ Limit → ⊥
+sink_apart stop is same = cc
+
+pub drive_apart : (stop : Stop) (d : ℕ) → stop ≡ DriveGone d → stop ≡ Limit → ⊥
+drive_apart stop d is same = cc

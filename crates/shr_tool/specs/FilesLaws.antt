@@ -1,5 +1,5 @@
 -- What holds of every bay of image files.
-use Rattle.std.specs.Prelude.{◌≡◌, ℕ, ◌<◌, ◌^◌, List, length, map, slice_get, Option, Some, None}
+use Rattle.std.specs.Prelude.{◌≡◌, ℕ, ◌<◌, ◌^◌, List, length, slice_get, Option, Some, None}
 use Rattle.std.proofs.Common.{lit<}
 use Rattle.std.proofs.lemmas.List.{length-map}
 use Rattle.shr_tool.specs.declared.rack_file.disk.FileDisk.{FileDisk}

@@ -1,5 +1,5 @@
 -- The pieces that a reader holds.
-use Rattle.std.specs.Prelude.{ℕ, List, take, drop}
+use Rattle.std.specs.Prelude.{ℕ, ◌+◌, ◌-◌, List, take, drop}
 use Rattle.shr_tool.specs.declared.shr_script.reader.LineReader.{LineReader}
 
 -- the bytes that were taken from the source and not read yet
@@ -9,3 +9,7 @@ pending r = drop r.start (take r.end r.piece)
 -- the bytes of the line, as far as they are kept
 abbrev pub line_of : LineReader → List ℕ
 line_of r = take r.kept r.line
+
+-- how many bytes were taken from the source
+abbrev pub taken_by : LineReader → ℕ
+taken_by r = r.consumed + (r.end - r.start)

@@ -1,5 +1,5 @@
 -- Reading a script line by line from a source, in pieces.
-use Rattle.std.specs.Prelude.{◌≡◌, ◌≢◌, ℕ, ◌+◌, ◌^◌, List, [], ◌∷◌, ◌++◌, length, take, false, slice_range}
+use Rattle.std.specs.Prelude.{◌≡◌, ◌≢◌, ℕ, ◌+◌, List, [], ◌∷◌, ◌++◌, length, take, false}
 use Rattle.std.specs.List.{All}
 use Rattle.flat_array.specs.Script.{is_line_feed}
 use Rattle.shr_tool.specs.declared.shr_script.reader.Ended.{Ended}
@@ -29,14 +29,14 @@ pub record ReadsRest (before after line : List ℕ) (from to : ℕ) : Type 0 whe
   pub none : after ≡ []
 
 -- bytes were read up to the limit of a script, and there are more
-pub record ReadsMost (before after line : List ℕ) (from to : ℕ) : Type 0 where
+pub record ReadsMost (limit : ℕ) (before after line : List ℕ) (from to : ℕ) : Type 0 where
   pub part : ReadsPart before after line from to
-  pub full : to ≡ 2 ^ 32
+  pub full : to ≡ limit
   pub more : after ≢ []
 
 -- what was read, by how it ended
-abbrev pub ReadsTo : Ended → List ℕ → List ℕ → List ℕ → ℕ → ℕ → Type 0
-ReadsTo LineFeed before after line from to = ReadsLine before after line from to
-ReadsTo Input before after line from to = ReadsRest before after line from to
-ReadsTo Fault before after line from to = ReadsPart before after line from to
-ReadsTo Limit before after line from to = ReadsMost before after line from to
+abbrev pub ReadsTo : ℕ → Ended → List ℕ → List ℕ → List ℕ → ℕ → ℕ → Type 0
+ReadsTo limit LineFeed before after line from to = ReadsLine before after line from to
+ReadsTo limit Input before after line from to = ReadsRest before after line from to
+ReadsTo limit Fault before after line from to = ReadsPart before after line from to
+ReadsTo limit Limit before after line from to = ReadsMost limit before after line from to

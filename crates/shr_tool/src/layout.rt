@@ -8,7 +8,7 @@ mod print;
 mod request;
 
 pub use print::print_layout;
-pub use request::{LayoutRequest, layout_request};
+pub use request::{LayoutRequest, extent_of, layout_request};
 
 #[cfg(test)]
 mod tests;

@@ -1,14 +1,19 @@
-//! The program `shr_tool`: serves a plain mirror of two image files.
+//! The program `shr_tool`: makes and serves a pool of two image files.
 //!
 //! `main` makes the real bay, input, output and birth, and calls [`run::run`], which does all that
 //! the program does over any bay, source and sink.
 #![tactic(auto)]
 
+mod attaching;
 mod layout;
+mod making;
+mod opening;
 mod perform;
 mod rack_file;
+mod refusals;
 mod reply;
 mod run;
+mod saying;
 mod serve;
 mod shr_script;
 mod status;

@@ -1,11 +1,14 @@
 //! A command of a script, done on a pool.
 
-ghost use Rattle.std.specs.Prelude.{OnOk, IfErr};
-ghost use Rattle.flat_array.specs.declared.Command.TheVariants.{Read, Write, Flush};
-ghost use Rattle.pool.specs.Mirror.{IsMirror};
+ghost use Rattle.std.specs.Prelude.{◌+◌, ◌≤◌, replicate, OnOk, IfErr};
+ghost use Rattle.flat_array.specs.declared.Command.TheVariants.{Read, Write, Fill, Flush, Size};
+ghost use Rattle.pool.specs.DriveMap.{volume_sectors};
+ghost use Rattle.pool.specs.View.{IsPool};
+ghost use Rattle.shr_tool.specs.Meaning.{view_of};
 ghost use Rattle.shr_tool.specs.Timeline.{Performs, Breaks};
+ghost use Rattle.shr_tool.specs.Filling.{Fills};
 
-use crate::reply::{ReplyText, data_reply, line_reply, refused_reply};
+use crate::reply::{ReplyText, data_reply, line_reply, refused_reply, size_reply};
 use flat_array::Command;
 use pool::{BareFault, Pool};
 use rack::{Bay, Gone, Rack};
@@ -16,15 +19,24 @@ pub fn perform<R: Bay>(
     command: &Command,
     text: &mut ReplyText,
 ) -> Result<(), Gone>
-    requires { IsMirror (R.seen pool.old.bay) }
-    ensures mirror { IsMirror (R.seen pool.new.bay) }
-    ensures done { OnOk result (Performs (R.seen pool.old.bay) (R.seen pool.new.bay) command.now text.new.items) }
-    ensures gone { IfErr result (λ e. Breaks (R.seen pool.old.bay) (R.seen pool.new.bay) command.now e.disk) }
+    requires { IsPool (view_of R.seen pool.old) }
+    ensures pool { IsPool (view_of R.seen pool.new) }
+    ensures done { OnOk result (Performs (view_of R.seen pool.old) (view_of R.seen pool.new) command.now text.new.items) }
+    ensures gone { IfErr result (λ e. Breaks (view_of R.seen pool.old) (view_of R.seen pool.new) command.now e.disk) }
 {
     match command {
         Command::Read { sector } => perform_read(pool, *sector, text),
         Command::Write { sector, bytes } => perform_write(pool, *sector, bytes, text),
+        Command::Fill {
+            sector,
+            count,
+            byte,
+        } => perform_fill(pool, *sector, *count, *byte, text),
         Command::Flush => perform_flush(pool, text),
+        Command::Size => {
+            size_reply(text, pool.size());
+            Ok(())
+        }
         Command::Quit => {
             text.clear();
             Ok(())
@@ -42,10 +54,10 @@ pub fn perform<R: Bay>(
 
 // `read S`
 fn perform_read<R: Bay>(pool: &mut Pool<R>, sector: u64, text: &mut ReplyText) -> Result<(), Gone>
-    requires { IsMirror (R.seen pool.old.bay) }
-    ensures mirror { IsMirror (R.seen pool.new.bay) }
-    ensures done { OnOk result (Performs (R.seen pool.old.bay) (R.seen pool.new.bay) (Read sector) text.new.items) }
-    ensures gone { IfErr result (λ e. Breaks (R.seen pool.old.bay) (R.seen pool.new.bay) (Read sector) e.disk) }
+    requires { IsPool (view_of R.seen pool.old) }
+    ensures pool { IsPool (view_of R.seen pool.new) }
+    ensures done { OnOk result (Performs (view_of R.seen pool.old) (view_of R.seen pool.new) (Read sector) text.new.items) }
+    ensures gone { IfErr result (λ e. Breaks (view_of R.seen pool.old) (view_of R.seen pool.new) (Read sector) e.disk) }
 {
     let mut bytes = [0; 512];
     match pool.read(sector, &mut bytes) {
@@ -63,10 +75,10 @@ fn perform_write<R: Bay>(
     bytes: &[u8; 512],
     text: &mut ReplyText,
 ) -> Result<(), Gone>
-    requires { IsMirror (R.seen pool.old.bay) }
-    ensures mirror { IsMirror (R.seen pool.new.bay) }
-    ensures done { OnOk result (Performs (R.seen pool.old.bay) (R.seen pool.new.bay) (Write sector bytes.now) text.new.items) }
-    ensures gone { IfErr result (λ e. Breaks (R.seen pool.old.bay) (R.seen pool.new.bay) (Write sector bytes.now) e.disk) }
+    requires { IsPool (view_of R.seen pool.old) }
+    ensures pool { IsPool (view_of R.seen pool.new) }
+    ensures done { OnOk result (Performs (view_of R.seen pool.old) (view_of R.seen pool.new) (Write sector bytes.now) text.new.items) }
+    ensures gone { IfErr result (λ e. Breaks (view_of R.seen pool.old) (view_of R.seen pool.new) (Write sector bytes.now) e.disk) }
 {
     match pool.write(sector, bytes) {
         Ok(()) => line_reply(text, b"ok"),
@@ -76,12 +88,59 @@ fn perform_write<R: Bay>(
     Ok(())
 }
 
+// `fill S N XX`
+fn perform_fill<R: Bay>(
+    pool: &mut Pool<R>,
+    sector: u64,
+    count: u64,
+    byte: u8,
+    text: &mut ReplyText,
+) -> Result<(), Gone>
+    requires { IsPool (view_of R.seen pool.old) }
+    ensures pool { IsPool (view_of R.seen pool.new) }
+    ensures done { OnOk result (Performs (view_of R.seen pool.old) (view_of R.seen pool.new) (Fill sector count byte) text.new.items) }
+    ensures gone { IfErr result (λ e. Breaks (view_of R.seen pool.old) (view_of R.seen pool.new) (Fill sector count byte) e.disk) }
+{
+    let size = pool.size();
+    if count > size || sector > size - count {
+        refused_reply(text, b"range");
+        return Ok(());
+    }
+    match fill_sectors(pool, sector, count, &[byte; 512]) {
+        Ok(()) => line_reply(text, b"ok"),
+        Err(gone) => return Err(gone),
+    }
+    Ok(())
+}
+
+// Writes the same bytes to sectors of the volume, one after the other.
+fn fill_sectors<R: Bay>(
+    pool: &mut Pool<R>,
+    sector: u64,
+    count: u64,
+    bytes: &[u8; 512],
+) -> Result<(), Gone>
+    requires pool { IsPool (view_of R.seen pool.old) }
+    requires inside { sector + count ≤ volume_sectors pool.old.on.state }
+    ensures pool { IsPool (view_of R.seen pool.new) }
+    ensures fills { Fills (view_of R.seen pool.old) (view_of R.seen pool.new) sector count bytes.now result }
+{
+    for at in sector..sector + count {
+        match pool.write(at, bytes) {
+            Ok(()) => {}
+            Err(BareFault::Range) => unreachable!(),
+            Err(BareFault::Gone { disk }) => return Err(Gone { disk }),
+        }
+    }
+    Ok(())
+}
+
 // `flush`
 fn perform_flush<R: Bay>(pool: &mut Pool<R>, text: &mut ReplyText) -> Result<(), Gone>
-    requires { IsMirror (R.seen pool.old.bay) }
-    ensures mirror { IsMirror (R.seen pool.new.bay) }
-    ensures done { OnOk result (Performs (R.seen pool.old.bay) (R.seen pool.new.bay) Flush text.new.items) }
-    ensures gone { IfErr result (λ e. Breaks (R.seen pool.old.bay) (R.seen pool.new.bay) Flush e.disk) }
+    requires { IsPool (view_of R.seen pool.old) }
+    ensures pool { IsPool (view_of R.seen pool.new) }
+    ensures done { OnOk result (Performs (view_of R.seen pool.old) (view_of R.seen pool.new) Flush text.new.items) }
+    ensures gone { IfErr result (λ e. Breaks (view_of R.seen pool.old) (view_of R.seen pool.new) Flush e.disk) }
 {
     match pool.flush() {
         Ok(()) => line_reply(text, b"ok"),

@@ -60,6 +60,17 @@ pub fn line_reply(text: &mut ReplyText, words: &[u8])
     add(text, b"\n");
 }
 
+/// `size N`
+pub fn size_reply(text: &mut ReplyText, sectors: u64)
+    ensures { text.new.items ≡ as_line (codes "size " ++ decimal sectors) }
+{
+    let mut digits = Buffer::new();
+    text.clear();
+    add(text, b"size ");
+    add(text, digits.format(sectors).as_bytes());
+    add(text, b"\n");
+}
+
 /// Adds bytes that have room.
 pub fn add(text: &mut ReplyText, bytes: &[u8])
     requires { array_vec_len text.old + length bytes.now ≤ 1040 }

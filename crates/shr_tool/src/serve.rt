@@ -2,16 +2,19 @@
 
 mod finish;
 
-ghost use Rattle.std.specs.Prelude.{◌≡◌, ◌<◌, ◌≤◌, IfErr};
-ghost use Rattle.rack.specs.Seen.{Stays};
+ghost use Rattle.std.specs.Prelude.{◌≡◌, ◌≢◌, ◌<◌, ◌≤◌, ◌^◌, Some, IsOk, IfErr};
+ghost use Rattle.flat_array.specs.declared.Command.TheVariants.{Quit};
 ghost use Rattle.flat_array.specs.Line.{command_of};
 ghost use Rattle.flat_array.specs.Script.{without_return as line_without_return};
-ghost use Rattle.pool.specs.Mirror.{IsMirror};
+ghost use Rattle.pool.specs.View.{IsPool};
+ghost use Rattle.pool.specs.Calls.{IsSamePool};
+ghost use Rattle.shr_tool.specs.Meaning.{view_of};
+ghost use Rattle.shr_tool.specs.Limits.{KeepsLimit};
 ghost use Rattle.shr_tool.specs.Serving.{IsReplied, LineAnswers, Serves, HasCause, answer_of};
 
 use crate::perform::perform;
 use crate::reply::ReplyText;
-use crate::shr_script::{Ended, LineReader, parse_line};
+use crate::shr_script::{Ended, LineReader, SCRIPT_LIMIT, parse_line};
 pub use finish::serve_pool;
 use flat_array::Command;
 use io_ends::{Sink, Source};
@@ -58,19 +61,20 @@ pub fn answer_script<R: Bay, I: Source, O: Sink>(
     input: &mut I,
     out: &mut O,
 ) -> Stop
-    requires { IsMirror (R.seen pool.old.bay) }
-    ensures mirror { IsMirror (R.seen pool.new.bay) }
-    ensures stays { Stays (R.seen pool.old.bay) (R.seen pool.new.bay) }
+    requires { IsPool (view_of R.seen pool.old) }
+    ensures pool { IsPool (view_of R.seen pool.new) }
+    ensures same { IsSamePool (view_of R.seen pool.old) (view_of R.seen pool.new) }
     ensures source { I.faults input.old ≤ I.faults input.new }
     ensures sink { O.faults out.old ≤ O.faults out.new }
-    ensures cause { HasCause result (R.seen pool.old.bay) (R.seen pool.new.bay) (I.faults input.old) (I.faults input.new) (O.faults out.old) (O.faults out.new) }
+    ensures cause { HasCause result (view_of R.seen pool.old) (view_of R.seen pool.new) (I.faults input.old) (I.faults input.new) (O.faults out.old) (O.faults out.new) }
     ensures told { O.told out.old → O.told out.new }
-    ensures serves { I.told input.old → O.told out.old → Serves result (R.seen pool.old.bay) (R.seen pool.new.bay) (I.left input.old) (I.left input.new) (O.taken out.old) (O.taken out.new) }
+    ensures limit { I.told input.old → KeepsLimit (result ≡ Stop.Limit) (2 ^ 32) (I.left input.old) (I.left input.new) }
+    ensures serves { I.told input.old → O.told out.old → Serves result (view_of R.seen pool.old) (view_of R.seen pool.new) (I.left input.old) (I.left input.new) (O.taken out.old) (O.taken out.new) }
 {
     let mut reader = LineReader::new();
     let mut text = ReplyText::new();
     'lines: loop {
-        match reader.next(input) {
+        match reader.next(input, SCRIPT_LIMIT) {
             Ended::Fault => return Stop::SourceFault,
             Ended::Limit => return Stop::Limit,
             Ended::Input => return answer_last(pool, reader.line(), &mut text, out),
@@ -90,13 +94,14 @@ fn answer_last<R: Bay, O: Sink>(
     text: &mut ReplyText,
     out: &mut O,
 ) -> Stop
-    requires { IsMirror (R.seen pool.old.bay) }
-    ensures mirror { IsMirror (R.seen pool.new.bay) }
-    ensures stays { Stays (R.seen pool.old.bay) (R.seen pool.new.bay) }
+    requires { IsPool (view_of R.seen pool.old) }
+    ensures pool { IsPool (view_of R.seen pool.new) }
+    ensures same { IsSamePool (view_of R.seen pool.old) (view_of R.seen pool.new) }
     ensures sink { O.faults out.old ≤ O.faults out.new }
-    ensures cause { HasCause result (R.seen pool.old.bay) (R.seen pool.new.bay) 0 0 (O.faults out.old) (O.faults out.new) }
+    ensures cause { HasCause result (view_of R.seen pool.old) (view_of R.seen pool.new) 0 0 (O.faults out.old) (O.faults out.new) }
     ensures told { O.told out.old → O.told out.new }
-    ensures answers { O.told out.old → LineAnswers R.seen (answer_of result) (command_of (line_without_return line.now)) pool.old.bay pool.new.bay (O.taken out.old) (O.taken out.new) }
+    ensures other { result ≢ Stop.Limit }
+    ensures answers { O.told out.old → LineAnswers (view_of R.seen) (answer_of result) (command_of (line_without_return line.now)) pool.old pool.new (O.taken out.old) (O.taken out.new) }
 {
     match answer_line(pool, line, text, out) {
         Ok(()) => Stop::Input,
@@ -111,13 +116,15 @@ fn answer_line<R: Bay, O: Sink>(
     text: &mut ReplyText,
     out: &mut O,
 ) -> Result<(), Stop>
-    requires { IsMirror (R.seen pool.old.bay) }
-    ensures mirror { IsMirror (R.seen pool.new.bay) }
-    ensures stays { Stays (R.seen pool.old.bay) (R.seen pool.new.bay) }
+    requires { IsPool (view_of R.seen pool.old) }
+    ensures pool { IsPool (view_of R.seen pool.new) }
+    ensures same { IsSamePool (view_of R.seen pool.old) (view_of R.seen pool.new) }
     ensures sink { O.faults out.old ≤ O.faults out.new }
-    ensures cause { IfErr result (λ stop. HasCause stop (R.seen pool.old.bay) (R.seen pool.new.bay) 0 0 (O.faults out.old) (O.faults out.new)) }
+    ensures cause { IfErr result (λ stop. HasCause stop (view_of R.seen pool.old) (view_of R.seen pool.new) 0 0 (O.faults out.old) (O.faults out.new)) }
     ensures told { O.told out.old → O.told out.new }
-    ensures answers { O.told out.old → LineAnswers R.seen result (command_of (line_without_return line.now)) pool.old.bay pool.new.bay (O.taken out.old) (O.taken out.new) }
+    ensures goes_on { IsOk result → command_of (line_without_return line.now) ≢ Some Quit }
+    ensures other { IfErr result (λ stop. stop ≢ Stop.Limit) }
+    ensures answers { O.told out.old → LineAnswers (view_of R.seen) result (command_of (line_without_return line.now)) pool.old pool.new (O.taken out.old) (O.taken out.new) }
 {
     match parse_line(without_return(line)) {
         None => Ok(()),
@@ -133,14 +140,15 @@ fn answer<R: Bay, O: Sink>(
     text: &mut ReplyText,
     out: &mut O,
 ) -> Result<(), Stop>
-    requires mirror { IsMirror (R.seen pool.old.bay) }
+    requires pool { IsPool (view_of R.seen pool.old) }
     requires replied { IsReplied command.now }
-    ensures mirror { IsMirror (R.seen pool.new.bay) }
-    ensures stays { Stays (R.seen pool.old.bay) (R.seen pool.new.bay) }
+    ensures pool { IsPool (view_of R.seen pool.new) }
+    ensures same { IsSamePool (view_of R.seen pool.old) (view_of R.seen pool.new) }
     ensures sink { O.faults out.old ≤ O.faults out.new }
-    ensures cause { IfErr result (λ stop. HasCause stop (R.seen pool.old.bay) (R.seen pool.new.bay) 0 0 (O.faults out.old) (O.faults out.new)) }
+    ensures cause { IfErr result (λ stop. HasCause stop (view_of R.seen pool.old) (view_of R.seen pool.new) 0 0 (O.faults out.old) (O.faults out.new)) }
     ensures told { O.told out.old → O.told out.new }
-    ensures answers { O.told out.old → LineAnswers R.seen result (Some command.now) pool.old.bay pool.new.bay (O.taken out.old) (O.taken out.new) }
+    ensures other { IfErr result (λ stop. stop ≢ Stop.Limit) }
+    ensures answers { O.told out.old → LineAnswers (view_of R.seen) result (Some command.now) pool.old pool.new (O.taken out.old) (O.taken out.new) }
 {
     match perform(pool, command, text) {
         Ok(()) => {}

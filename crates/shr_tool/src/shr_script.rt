@@ -4,4 +4,4 @@ mod line;
 mod reader;
 
 pub use line::{number_of, parse_line};
-pub use reader::{Ended, LineReader};
+pub use reader::{Ended, LineReader, SCRIPT_LIMIT};

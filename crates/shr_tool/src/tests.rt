@@ -2,9 +2,10 @@
 
 mod faults;
 mod forms;
+mod limits;
 mod order;
+mod pools;
 mod scripts;
-mod stops;
 
 ghost use Rattle.std.specs.Prelude.{◌≡◌};
 
@@ -14,16 +15,19 @@ use flat_array::{Command, FlatDisk};
 use io_ends::{MemSink, MemSource, Source};
 use pool::Birth;
 use rack::{Bay, Name, Rack};
-use rack_mem::{DiskSpec, MemBay};
+use rack_mem::{DiskSpec, MemBay, Pick};
 use std::alloc::Global;
 use std::process::Abort;
 use std::test::Fail;
 
-// The sectors of both disks, where a test doesn't say otherwise.
-const SECTORS: u64 = 8;
+// The sectors of a pool's volume, where a test doesn't say otherwise: those of one extent.
+const SECTORS: u64 = 128;
+
+// The sectors of a disk with one extent of 128 sectors.
+const DISK_SECTORS: u64 = 77952;
 
 // The calls that a bay of a test keeps.
-const ROOM: u64 = 1000;
+const ROOM: u64 = 10000;
 
 const BIRTH: Birth = Birth {
     seconds: 0,
@@ -37,13 +41,8 @@ struct Ran {
     put: Vec<u8>,
 }
 
-// A bay of these disks, all zeros, on which the calls with these numbers fail.
-fn bay_of(
-    rt: &impl Abort,
-    alloc: Global,
-    disks: &[(&str, u64)],
-    failing: &[u64],
-) -> Result<MemBay, Fail> {
+// A bay of these disks, all zeros.
+fn bay_of(rt: &impl Abort, alloc: Global, disks: &[(&str, u64)]) -> Result<MemBay, Fail> {
     let mut shelf = Vec::new(alloc);
     for (name, sectors) in disks {
         let name = Name::of(alloc, name.as_bytes())?;
@@ -54,12 +53,7 @@ fn bay_of(
         shelf.push(disk)?;
     }
     assert!(rt; shelf.len() < 1 << 32 && shelf.iter().all(|disk| disk.sectors < 1 << 48));
-    Ok(MemBay::new(alloc, shelf, failing.to_vec(alloc)?, ROOM)?)
-}
-
-// Two disks `M` and `N` of zeros.
-fn two_disks(rt: &impl Abort, alloc: Global, failing: &[u64]) -> Result<MemBay, Fail> {
-    bay_of(rt, alloc, &[("M", SECTORS), ("N", SECTORS)], failing)
+    Ok(MemBay::new(alloc, shelf, Vec::new(alloc), ROOM)?)
 }
 
 // A run with these words over any bay and source.
@@ -80,6 +74,23 @@ fn run_over<B: Bay, I: Source>(
     let status = run(alloc, &texts, bay, &mut input, &mut out, &BIRTH);
     let put = out.bytes().to_vec(alloc)?;
     Ok(Ran { status, put })
+}
+
+// Makes a pool of the disks `M` and `N`, of so many sectors each, and gives them back as they are then.
+fn made(rt: &impl Abort, alloc: Global, sectors: u64) -> Result<MemBay, Fail> {
+    let mut bay = bay_of(rt, alloc, &[("M", sectors), ("N", sectors)])?;
+    assert!(rt; bay.disks() == 0);
+    let input = MemSource::new(Vec::new(alloc), None);
+    let ran = run_over(alloc, &["create", "128", "M", "N"], &mut bay, input, None)?;
+    assert_eq!(rt; ran.status, 0);
+    now_of(rt, alloc, &bay)
+}
+
+// A bay with nothing attached, over what the disks of this one have now.
+fn now_of(rt: &impl Abort, alloc: Global, bay: &MemBay) -> Result<MemBay, Fail> {
+    let moment = bay.calls();
+    assert!(rt; moment <= bay.calls());
+    Ok(bay.image_at(alloc, moment, Pick::Newest)?)
 }
 
 // Serves a script from the disks `M` and `N` of a bay, on which nothing is attached.

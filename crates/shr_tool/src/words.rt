@@ -2,9 +2,9 @@
 
 ghost use Rattle.std.specs.Prelude.{◌≡◌, map, string_bytes};
 ghost use Rattle.std.specs.List.{list_all};
-ghost use Rattle.shr_tool.specs.Forms.{form_of as form_in, serve_form as serve_form_in, layout_form as layout_form_in, is_form_name as names_a_form, is_name as names_a_disk};
+ghost use Rattle.shr_tool.specs.Forms.{form_of as form_in, serve_form as serve_form_in, create_form as create_form_in, layout_form as layout_form_in, is_form_name as names_a_form, is_name as names_a_disk, are_names as name_disks};
 
-use crate::layout::layout_request;
+use crate::layout::{extent_of, layout_request};
 
 /// What the words ask for.
 #[derive(Clone, Copy, Debug, PartialEq, Eq)]
@@ -13,8 +13,13 @@ pub enum Form {
     Wrong,
     /// A form that isn't built yet.
     Unbuilt,
-    /// `serve NAME NAME`
+    /// `serve NAME..`
     Serve,
+    /// `create E NAME..`, of at most two names.
+    Create {
+        /// The sectors of an extent.
+        extent: u32,
+    },
     /// `layout E S..`
     Layout,
 }
@@ -23,13 +28,15 @@ pub enum Form {
 pub fn form_of(words: &[String]) -> Form
     ensures { result ≡ form_in (map string_bytes words.now) }
 {
-    let Some((first, names)) = words.split_first() else {
+    let Some((first, arguments)) = words.split_first() else {
         return Form::Wrong;
     };
     if first.as_str() == "serve" {
-        serve_form(names)
+        serve_form(arguments)
+    } else if first.as_str() == "create" {
+        create_form(arguments)
     } else if first.as_str() == "layout" {
-        layout_form(names)
+        layout_form(arguments)
     } else if is_form_name(first.as_str()) {
         Form::Unbuilt
     } else {
@@ -47,27 +54,51 @@ fn layout_form(arguments: &[String]) -> Form
     }
 }
 
-// `serve NAME..`: of two names it is built.
+// `serve NAME..`
 fn serve_form(names: &[String]) -> Form
     ensures { result ≡ serve_form_in (map string_bytes names.now) }
 {
-    if names.len() < 1 {
-        return Form::Wrong;
+    if are_names(names) {
+        Form::Serve
+    } else {
+        Form::Wrong
     }
+}
+
+// `create E NAME..`: of one or two names it is built.
+fn create_form(arguments: &[String]) -> Form
+    ensures { result ≡ create_form_in (map string_bytes arguments.now) }
+{
+    let Some((first, names)) = arguments.split_first() else {
+        return Form::Wrong;
+    };
+    let Some(extent) = extent_of(first.as_str().as_bytes()) else {
+        return Form::Wrong;
+    };
     if !are_names(names) {
         return Form::Wrong;
     }
-    if names.len() == 2 {
-        return Form::Serve;
+    if names.len() <= 2 {
+        return Form::Create { extent };
     }
     Form::Unbuilt
 }
 
-// Each word is a name.
-fn are_names(names: &[String]) -> bool
-    ensures { result ≡ list_all (λ name. names_a_disk (string_bytes name)) names.now }
+// One name or more.
+fn are_names(words: &[String]) -> bool
+    ensures { result ≡ name_disks (map string_bytes words.now) }
 {
-    names.iter().all(|name| is_name(name.as_str()))
+    if words.len() < 1 {
+        return false;
+    }
+    each_is_name(words)
+}
+
+// Each word is a name.
+fn each_is_name(words: &[String]) -> bool
+    ensures { result ≡ list_all (λ word. names_a_disk (string_bytes word)) words.now }
+{
+    words.iter().all(|word| is_name(word.as_str()))
 }
 
 // A name isn't empty and doesn't begin with a dash.
@@ -84,10 +115,5 @@ fn is_name(word: &str) -> bool
 fn is_form_name(word: &str) -> bool
     ensures { result ≡ names_a_form word.now }
 {
-    word == "create"
-        || word == "import"
-        || word == "export"
-        || word == "status"
-        || word == "examine"
-        || word == "trial"
+    word == "import" || word == "export" || word == "status" || word == "examine" || word == "trial"
 }

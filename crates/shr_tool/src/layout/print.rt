@@ -1,6 +1,6 @@
 //! Plans the layers and puts their lines.
 
-ghost use Rattle.std.specs.Prelude.{◌≡◌, ◌+◌, ◌-◌, ◌≤◌, ◌<◌, ◌^◌, ◌++◌, map, length, All, OnErr};
+ghost use Rattle.std.specs.Prelude.{◌≡◌, ◌≢◌, ◌+◌, ◌-◌, ◌≤◌, ◌<◌, ◌^◌, ◌++◌, map, length, All, OnErr};
 ghost use Rattle.std.specs.List.{range_with_len};
 ghost use Rattle.rack.specs.Seen.{Rose};
 ghost use Rattle.layer_plan.specs.Slicing.{IsSlicing};
@@ -28,6 +28,7 @@ pub fn print_layout<O: Sink>(request: &LayoutRequest, out: &mut O) -> Status
     ensures sink { O.faults out.old ≤ O.faults out.new }
     ensures cause { HasStatusCause result 0 0 (O.faults out.old) (O.faults out.new) }
     ensures told { O.told out.old → O.told out.new }
+    ensures other { result ≢ Status.Limit }
     ensures prints { Prints (O.told out.old) result (units_asked request.now) (O.taken out.old) (O.taken out.new) }
 {
     let units = drive_units(request);

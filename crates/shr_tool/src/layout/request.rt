@@ -51,8 +51,8 @@ fn asked(extent: Option<u32>, words: &[String]) -> Option<LayoutRequest>
     Some(LayoutRequest { extent, sizes })
 }
 
-// A power of two from 128 to 65536.
-fn extent_of(word: &[u8]) -> Option<u32>
+/// The sectors of an extent: a power of two from 128 to 65536.
+pub fn extent_of(word: &[u8]) -> Option<u32>
     ensures value { result ≡ extent_in word.now }
     ensures least { IfSome result (λ sectors. 128 ≤ sectors) }
 {

@@ -34,6 +34,7 @@ pub fn open_disk<R: Files>(
     name: &str,
 ) -> Result<FileDisk<R::File>, AttachFault>
     ensures opened { IfOk result (λ disk. disk.name ≡ name.now) }
+    ensures unfaulted { IfOk result (λ disk. disk.faults ≡ 0) }
     ensures refused { IfErr result (λ e. (e ≡ Failed) ⊎ (e ≡ Memory)) }
 {
     let Ok(file) = OpenOptions::new().read(true).write(true).open(rt, name) else {

@@ -1,11 +1,14 @@
 //! Serves a pool: answers the script and ends the pool.
 
-ghost use Rattle.std.specs.Prelude.{◌≡◌, ◌<◌, ◌≤◌};
-ghost use Rattle.rack.specs.Seen.{Stays};
+ghost use Rattle.std.specs.Prelude.{◌≡◌, ◌≢◌, ◌<◌, ◌≤◌, ◌^◌};
 ghost use Rattle.rack.specs.Moments.{Leaves};
 ghost use Rattle.shr_tool.specs.Serving.{Anything};
 ghost use Rattle.flat_array.specs.Array.{FlatArray};
-ghost use Rattle.pool.specs.Mirror.{IsMirror, Holds};
+ghost use Rattle.pool.specs.View.{IsPool};
+ghost use Rattle.pool.specs.Volume.{Holds};
+ghost use Rattle.pool.specs.Calls.{IsSamePool};
+ghost use Rattle.shr_tool.specs.Meaning.{view_of, meaning_in};
+ghost use Rattle.shr_tool.specs.Limits.{KeepsLimit};
 ghost use Rattle.shr_tool.specs.Outcome.{Outcome, SaysGone, HasStatusCause, EndsOutcome};
 
 use crate::reply::{ReplyText, refused_number_reply};
@@ -21,13 +24,18 @@ pub fn serve_pool<R: Bay, I: Source, O: Sink>(
     input: &mut I,
     out: &mut O,
 ) -> Status
-    requires { IsMirror (R.seen pool.old.bay) }
-    ensures stays { Stays (R.seen pool.old.bay) (R.seen pool.new.bay) }
+    requires { IsPool (view_of R.seen pool.old) }
+    ensures pool { IsPool (view_of R.seen pool.new) }
+    ensures same { IsSamePool (view_of R.seen pool.old) (view_of R.seen pool.new) }
     ensures source { I.faults input.old ≤ I.faults input.new }
     ensures sink { O.faults out.old ≤ O.faults out.new }
     ensures cause { HasStatusCause result (I.faults input.old) (I.faults input.new) (O.faults out.old) (O.faults out.new) }
-    ensures passes { I.told input.old → O.told out.old → (R.seen pool.old.bay).traced → (a : FlatArray) → Holds (R.seen pool.old.bay) 0 a → Leaves (R.seen pool.old.bay) (R.seen pool.new.bay) Anything }
-    ensures outcome { I.told input.old → O.told out.old → (a : FlatArray) → Holds (R.seen pool.old.bay) 0 a → Outcome result (R.seen pool.new.bay) (R.seen pool.old.bay).traced (R.seen pool.old.bay).clock a (Holds (R.seen pool.old.bay) 1) (I.left input.old) (I.left input.new) (O.taken out.old) (O.taken out.new) }
+    ensures limit { I.told input.old → KeepsLimit (result ≡ Status.Limit) (2 ^ 32) (I.left input.old) (I.left input.new) }
+    ensures passes { I.told input.old → O.told out.old → (R.seen pool.old.bay).traced → (a : FlatArray) → Holds (view_of R.seen pool.old) a → Leaves (R.seen pool.old.bay) (R.seen pool.new.bay) Anything }
+    ensures outcome { I.told input.old → O.told out.old → (a : FlatArray) → Holds (view_of R.seen pool.old) a
+        → Outcome result (view_of R.seen pool.new) (R.seen pool.old.bay).traced (meaning_in (view_of R.seen pool.old))
+        (R.seen pool.old.bay).faults (R.seen pool.old.bay).clock a
+        (I.left input.old) (I.left input.new) (O.taken out.old) (O.taken out.new) }
 {
     match answer_script(pool, input, out) {
         Stop::Quit => end_script(pool, out),
@@ -50,11 +58,13 @@ pub fn serve_pool<R: Bay, I: Source, O: Sink>(
 
 // Ends the pool after its script.
 fn end_script<R: Bay, O: Sink>(pool: &mut Pool<R>, out: &mut O) -> Status
-    requires { IsMirror (R.seen pool.old.bay) }
-    ensures stays { Stays (R.seen pool.old.bay) (R.seen pool.new.bay) }
+    requires { IsPool (view_of R.seen pool.old) }
+    ensures pool { IsPool (view_of R.seen pool.new) }
+    ensures same { IsSamePool (view_of R.seen pool.old) (view_of R.seen pool.new) }
     ensures sink { O.faults out.old ≤ O.faults out.new }
     ensures cause { HasStatusCause result 0 0 (O.faults out.old) (O.faults out.new) }
-    ensures outcome { O.told out.old → EndsOutcome result (R.seen pool.old.bay) (R.seen pool.new.bay) (O.taken out.old) (O.taken out.new) }
+    ensures other { result ≢ Status.Limit }
+    ensures outcome { O.told out.old → EndsOutcome result (view_of R.seen pool.old) (view_of R.seen pool.new) (O.taken out.old) (O.taken out.new) }
 {
     match pool.end() {
         Ok(()) => Status::Done,
@@ -66,6 +76,7 @@ fn end_script<R: Bay, O: Sink>(pool: &mut Pool<R>, out: &mut O) -> Status
 fn say_gone<O: Sink>(out: &mut O, disk: u32) -> Status
     ensures sink { O.faults out.old ≤ O.faults out.new }
     ensures cause { HasStatusCause result 0 0 (O.faults out.old) (O.faults out.new) }
+    ensures other { result ≢ Status.Limit }
     ensures says { O.told out.old → SaysGone result disk (O.taken out.old) (O.taken out.new) }
 {
     let mut text = ReplyText::new();

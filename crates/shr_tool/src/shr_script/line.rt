@@ -7,7 +7,7 @@ ghost use Rattle.std.specs.List.{slice_split, list_all};
 ghost use Rattle.std.specs.Str.Parse.{digits_value};
 ghost use Rattle.hex.specs.Hex.{decode_of};
 ghost use Rattle.std.specs.Option.{option_copied};
-ghost use Rattle.flat_array.specs.Line.{is_space, is_unbuilt as is_unbuilt_word, built_of, read_words, write_words, alone as stands_alone, words_command, command_of, number_of as number_in, sector_of as sector_in};
+ghost use Rattle.flat_array.specs.Line.{is_space, is_unbuilt as is_unbuilt_word, built_of, read_words, write_words, fill_words, fill_of, alone as stands_alone, words_command, command_of, number_of as number_in, sector_of as sector_in, byte_of as byte_in};
 ghost use Rattle.shr_tool.specs.Words.{words_after};
 
 use flat_array::Command;
@@ -60,9 +60,7 @@ fn first_space(bytes: &[u8]) -> Option<usize>
 fn is_unbuilt(word: &[u8]) -> bool
     ensures { result ≡ is_unbuilt_word word.now }
 {
-    word == b"fill".as_slice()
-        || word == b"size".as_slice()
-        || word == b"step".as_slice()
+    word == b"step".as_slice()
         || word == b"add".as_slice()
         || word == b"replace".as_slice()
         || word == b"lose".as_slice()
@@ -77,8 +75,12 @@ fn built_command(first: &[u8], rest: Option<&[u8]>) -> Command
         read_command(rest)
     } else if first == b"write".as_slice() {
         write_command(rest)
+    } else if first == b"fill".as_slice() {
+        fill_command(rest)
     } else if first == b"flush".as_slice() {
         alone(Command::Flush, rest)
+    } else if first == b"size".as_slice() {
+        alone(Command::Size, rest)
     } else if first == b"quit".as_slice() {
         alone(Command::Quit, rest)
     } else {
@@ -131,6 +133,42 @@ fn write_command(rest: Option<&[u8]>) -> Command
     }
 }
 
+// `fill S N XX`
+fn fill_command(rest: Option<&[u8]>) -> Command
+    ensures { result ≡ fill_words (words_after (option_copied rest.entry)) }
+{
+    let Some(words) = rest else {
+        return Command::Syntax;
+    };
+    let (sector, rest) = cut_word(words);
+    let Some(words) = rest else {
+        return Command::Syntax;
+    };
+    let (count, rest) = cut_word(words);
+    let Some(words) = rest else {
+        return Command::Syntax;
+    };
+    let (digits, more) = cut_word(words);
+    match more {
+        Some(_) => Command::Syntax,
+        None => filling(number_of(sector), number_of(count), byte_of(digits)),
+    }
+}
+
+// The command of the parts of `fill S N XX`, where each of them is one.
+fn filling(sector: Option<u64>, count: Option<u64>, byte: Option<u8>) -> Command
+    ensures { result ≡ fill_of sector count byte }
+{
+    match (sector, count, byte) {
+        (Some(sector), Some(count), Some(byte)) => Command::Fill {
+            sector,
+            count,
+            byte,
+        },
+        _ => Command::Syntax,
+    }
+}
+
 /// One to twenty decimal digits with a value below 2^64.
 pub fn number_of(word: &[u8]) -> Option<u64>
     ensures { result ≡ number_in word.now }
@@ -178,6 +216,20 @@ fn sector_of(digits: &[u8]) -> Option<[u8; 512]>
         return None;
     }
     Some(sector)
+}
+
+// Two hexadecimal digits, as a byte.
+fn byte_of(digits: &[u8]) -> Option<u8>
+    ensures { result ≡ byte_in digits.now }
+{
+    if digits.len() != 2 {
+        return None;
+    }
+    let mut byte = [0; 1];
+    match hex::decode_to_slice(digits, &mut byte) {
+        Ok(()) => Some(byte[0]),
+        Err(_) => None,
+    }
 }
 
 // Decodes digits into the front of a sector; false where one is no hexadecimal digit.

@@ -1,6 +1,6 @@
-//! Ends and drives that fail at each of their calls in turn.
+//! Ends that fail at each of their calls in turn.
 
-use super::{flat_replies, run_over, serve, two_disks};
+use super::{DISK_SECTORS, flat_replies, made, now_of, run_over};
 use io_ends::{Failed, MemSource, Source};
 use rack::Rack;
 use std::alloc::Global;
@@ -8,7 +8,7 @@ use std::test::Fail;
 
 /// A script of ten lines.
 pub const TEN_LINES: &str =
-    "write 0 aa\nread 0\nwrite 1 bb\nflush\nread 1\nwrite 9 cc\nbogus\nwrite 0 dd\nread 0\nflush\n";
+    "write 0 aa\nread 0\nwrite 1 bb\nflush\nread 1\nwrite 128 cc\nbogus\nwrite 0 dd\nread 0\nflush\n";
 
 /// The reply to each of its lines.
 pub const REPLIES: [&str; 10] = [
@@ -22,26 +22,6 @@ pub const REPLIES: [&str; 10] = [
     "ok\n",
     "data dd\n",
     "ok\n",
-];
-
-// The calls that it makes: before each of them so many lines are answered, and it is on this disk.
-// The last two are those of the end.
-const CALLS: [(usize, u32); 15] = [
-    (0, 1),
-    (0, 0),
-    (1, 0),
-    (2, 1),
-    (2, 0),
-    (3, 1),
-    (3, 0),
-    (4, 0),
-    (7, 1),
-    (7, 0),
-    (8, 0),
-    (9, 1),
-    (9, 0),
-    (10, 1),
-    (10, 0),
 ];
 
 // The replies to its first lines.
@@ -72,31 +52,11 @@ impl<S: Source> Source for Narrow<S> {
 }
 
 #[test]
-fn a_drive_that_fails_ends_the_script(rt: HostRuntime) -> Result<(), Fail> {
-    let alloc = rt.alloc();
-    let mut number = 0;
-    for (lines, disk) in CALLS {
-        let mut bay = two_disks(&rt, alloc, &[number])?;
-        let ran = serve(&rt, alloc, &mut bay, TEN_LINES.as_bytes())?;
-        let mut want = first_replies(alloc, lines)?;
-        writeln!(want, "refused drive-gone {disk}")?;
-        assert_eq!(rt; ran.put.as_slice(), want.as_bytes(), "call {number}");
-        assert_eq!(rt; ran.status, 6, "call {number}");
-        assert_eq!(rt; bay.calls(), number.wrapping_add(1));
-        number = number.wrapping_add(1);
-    }
-    let mut bay = two_disks(&rt, alloc, &[number])?;
-    let ran = serve(&rt, alloc, &mut bay, TEN_LINES.as_bytes())?;
-    assert_eq!(rt; ran.status, 0);
-    assert_eq!(rt; bay.calls(), number);
-    Ok(())
-}
-
-#[test]
 fn a_sink_that_fails_ends_the_script(rt: HostRuntime) -> Result<(), Fail> {
     let alloc = rt.alloc();
+    let pool = made(&rt, alloc, DISK_SECTORS)?;
     for lines in 0..11 {
-        let mut bay = two_disks(&rt, alloc, &[])?;
+        let mut bay = now_of(&rt, alloc, &pool)?;
         assert!(rt; bay.disks() == 0);
         let input = MemSource::new(TEN_LINES.as_bytes().to_vec(alloc)?, None);
         let fails_at = Some(lines as u64);
@@ -112,12 +72,13 @@ fn a_sink_that_fails_ends_the_script(rt: HostRuntime) -> Result<(), Fail> {
 fn a_source_that_fails_ends_the_script(rt: HostRuntime) -> Result<(), Fail> {
     let alloc = rt.alloc();
     let script = TEN_LINES.as_bytes();
-    for bytes in 0..script.len() {
+    let pool = made(&rt, alloc, DISK_SECTORS)?;
+    for bytes in 0..=script.len() {
         let (taken, _) = script.split_at(bytes);
         let last_end = taken.iter().rposition(|byte| *byte == b'\n');
         let ended = &taken[..last_end.unwrap_or(0).min(taken.len())];
         let want = flat_replies(alloc, ended)?;
-        let mut bay = two_disks(&rt, alloc, &[])?;
+        let mut bay = now_of(&rt, alloc, &pool)?;
         assert!(rt; bay.disks() == 0);
         let inner = MemSource::new(script.to_vec(alloc)?, Some(bytes as u64));
         let input = Narrow { inner };
@@ -135,14 +96,15 @@ fn a_source_that_fails_after_the_last_byte_is_not_at_its_end(rt: HostRuntime) ->
         ("read 0\nwrite 0 aa", "data -\n", 4),
         ("read 0\nquit\nread 0", "data -\n", 0),
     ];
+    let pool = made(&rt, alloc, DISK_SECTORS)?;
     for (script, want, status) in cases {
-        let mut bay = two_disks(&rt, alloc, &[])?;
+        let mut bay = now_of(&rt, alloc, &pool)?;
         assert!(rt; bay.disks() == 0);
         let input = MemSource::new(script.as_bytes().to_vec(alloc)?, Some(1));
         let ran = run_over(alloc, &["serve", "M", "N"], &mut bay, input, None)?;
         assert_eq!(rt; ran.put.as_slice(), want.as_bytes(), "{script:?}");
         assert_eq!(rt; ran.status, status, "{script:?}");
-        assert_eq!(rt; bay.sector_now(0, 0), [0; 512]);
+        assert_eq!(rt; bay.sector_now(0, 14336), [0; 512]);
     }
     Ok(())
 }

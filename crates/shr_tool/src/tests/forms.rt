@@ -8,14 +8,9 @@ use std::alloc::Global;
 use std::process::Abort;
 use std::test::Fail;
 
-// Two disks of eight sectors, one of nine, and two with none.
+// Three disks of eight sectors of zeros.
 fn shelf(rt: &impl Abort, alloc: Global) -> Result<MemBay, Fail> {
-    bay_of(
-        rt,
-        alloc,
-        &[("M", 8), ("N", 8), ("L", 9), ("Z", 0), ("Y", 0)],
-        &[],
-    )
+    bay_of(rt, alloc, &[("M", 8), ("N", 8), ("L", 8)])
 }
 
 // A run with these words and the script `read 0`.
@@ -49,7 +44,7 @@ fn check(
 
 #[test]
 fn words_that_are_no_form_are_refused(rt: HostRuntime) -> Result<(), Fail> {
-    let rows: [&[&str]; 9] = [
+    let rows: [&[&str]; 15] = [
         &[],
         &["bogus"],
         &["Serve", "M", "N"],
@@ -59,72 +54,73 @@ fn words_that_are_no_form_are_refused(rt: HostRuntime) -> Result<(), Fail> {
         &["serve", "M", ""],
         &["serve", "-M", "N"],
         &["serve", "M", "N", "--"],
+        &["create"],
+        &["create", "128"],
+        &["create", "64", "M", "N"],
+        &["create", "129", "M", "N"],
+        &["create", "131072", "M", "N"],
+        &["create", "128", "M", "-N"],
     ];
     check(&rt, rt.alloc(), &rows, "refused words\n", 2)
 }
 
 #[test]
 fn forms_that_are_not_built_are_refused(rt: HostRuntime) -> Result<(), Fail> {
-    let rows: [&[&str]; 9] = [
-        &["create"],
-        &["create", "128", "M", "N"],
+    let rows: [&[&str]; 6] = [
+        &["create", "128", "M", "N", "L"],
         &["import", "M"],
         &["export", "M"],
         &["status", "M"],
         &["examine"],
         &["trial", "-x", ""],
-        &["serve", "M"],
-        &["serve", "M", "N", "L"],
     ];
     check(&rt, rt.alloc(), &rows, "refused unbuilt\n", 6)
 }
 
 #[test]
-fn disks_that_are_no_mirror_are_refused(rt: HostRuntime) -> Result<(), Fail> {
+fn disks_that_are_no_pool_are_refused(rt: HostRuntime) -> Result<(), Fail> {
     let alloc = rt.alloc();
+    let first: [&[&str]; 3] = [
+        &["serve", "X", "M"],
+        &["serve", "X", "X"],
+        &["create", "128", "X", "M"],
+    ];
+    check(&rt, alloc, &first, "refused attach 0\n", 6)?;
+    let second: [&[&str]; 2] = [&["serve", "M", "X"], &["create", "128", "M", "m"]];
+    check(&rt, alloc, &second, "refused attach 1\n", 6)?;
+    let twice: [&[&str]; 2] = [&["serve", "M", "N", "M"], &["create", "128", "M", "M"]];
+    check(&rt, alloc, &twice, "refused twice\n", 6)?;
+    let none: [&[&str]; 3] = [
+        &["serve", "M"],
+        &["serve", "M", "N"],
+        &["serve", "N", "M", "L"],
+    ];
+    check(&rt, alloc, &none, "refused no-pool\n", 6)?;
     check(
         &rt,
         alloc,
-        &[&["serve", "X", "M"], &["serve", "X", "X"]],
-        "refused attach 0\n",
+        &[&["create", "128", "M"]],
+        "refused too-few\n",
         6,
     )?;
     check(
         &rt,
         alloc,
-        &[&["serve", "M", "X"], &["serve", "M", "m"]],
-        "refused attach 1\n",
+        &[&["create", "128", "M", "N"]],
+        "refused no-room 0\n",
         6,
-    )?;
-    check(&rt, alloc, &[&["serve", "M", "M"]], "refused twice\n", 6)?;
-    check(
-        &rt,
-        alloc,
-        &[
-            &["serve", "M", "L"],
-            &["serve", "Z", "Y"],
-            &["serve", "Z", "M"],
-        ],
-        "refused unequal\n",
-        6,
-    )?;
-    check(
-        &rt,
-        alloc,
-        &[&["serve", "M", "N"], &["serve", "N", "M"]],
-        "data -\n",
-        0,
     )
 }
 
 #[test]
 fn a_refusal_that_cannot_be_put_has_the_status_of_the_sink(rt: HostRuntime) -> Result<(), Fail> {
-    let rows: [&[&str]; 5] = [
+    let rows: [&[&str]; 6] = [
         &["bogus"],
-        &["create"],
+        &["import"],
         &["serve", "X", "M"],
         &["serve", "M", "M"],
-        &["serve", "M", "L"],
+        &["serve", "M", "N"],
+        &["create", "128", "M", "N"],
     ];
     for words in rows {
         let ran = ran(&rt, rt.alloc(), words, Some(0))?;

@@ -1,13 +1,14 @@
 //! Scripts, well formed and not.
 
-use super::{flat_replies, serve, two_disks};
+use super::{DISK_SECTORS, flat_replies, made, now_of, serve};
+use rack_mem::MemBay;
 use std::alloc::Global;
 use std::process::Abort;
 use std::test::Fail;
 
-// Runs a script over two disks, and compares what it puts with the flat array's replies.
-fn check(rt: &impl Abort, alloc: Global, script: &[u8]) -> Result<Vec<u8>, Fail> {
-    let mut bay = two_disks(rt, alloc, &[])?;
+// Runs a script over a new pool, and compares what it puts with the flat array's replies.
+fn check(rt: &impl Abort, alloc: Global, pool: &MemBay, script: &[u8]) -> Result<Vec<u8>, Fail> {
+    let mut bay = now_of(rt, alloc, pool)?;
     let ran = serve(rt, alloc, &mut bay, script)?;
     let want = flat_replies(alloc, script)?;
     assert_eq!(rt; ran.status, 0, "{script:?}");
@@ -16,10 +17,11 @@ fn check(rt: &impl Abort, alloc: Global, script: &[u8]) -> Result<Vec<u8>, Fail>
 }
 
 #[test]
-fn a_mirror_serves_a_script(rt: HostRuntime) -> Result<(), Fail> {
-    let script = b"read 0\nwrite 7 61\nread 7\nread 8\nflush\nsize\nquit\n";
-    let want = b"data -\nok\ndata 61\nrefused range\nok\nrefused unbuilt\n";
-    let put = check(&rt, rt.alloc(), script)?;
+fn a_pool_serves_a_script(rt: HostRuntime) -> Result<(), Fail> {
+    let script = b"read 0\nwrite 7 61\nread 7\nread 128\nflush\nsize\nfill 6 2 62\nquit\n";
+    let want = b"data -\nok\ndata 61\nrefused range\nok\nsize 128\nok\n";
+    let pool = made(&rt, rt.alloc(), DISK_SECTORS)?;
+    let put = check(&rt, rt.alloc(), &pool, script)?;
     assert_eq!(rt; put.as_slice(), want.as_slice());
     Ok(())
 }
@@ -47,7 +49,7 @@ fn each_line_has_its_reply(rt: HostRuntime) -> Result<(), Fail> {
             "refused syntax\nrefused syntax\ndata -\n",
         ),
         (
-            "read 8\nwrite 8 aa\nread 00008",
+            "read 128\nwrite 128 aa\nread 000128",
             "refused range\nrefused range\nrefused range\n",
         ),
         ("read 00000000000000000007", "data -\n"),
@@ -78,19 +80,19 @@ fn each_line_has_its_reply(rt: HostRuntime) -> Result<(), Fail> {
             "flush 0\nflush \nflush",
             "refused syntax\nrefused syntax\nok\n",
         ),
-        ("fill", unbuilt),
-        (
-            "size 1 2 3\nstep\nadd A\nreplace ",
-            "refused unbuilt\nrefused unbuilt\nrefused unbuilt\nrefused unbuilt\n",
-        ),
+        ("fill", syntax),
+        ("fill 0 128 00\nfill 1 128 00", "ok\nrefused range\n"),
+        ("step", unbuilt),
+        ("add A\nreplace ", "refused unbuilt\nrefused unbuilt\n"),
         (
             "lose 0\nstatus\nstatuses",
             "refused unbuilt\nrefused unbuilt\nrefused syntax\n",
         ),
         ("\0\nread 0\0", "refused syntax\nrefused syntax\n"),
     ];
+    let pool = made(&rt, rt.alloc(), DISK_SECTORS)?;
     for (script, want) in scripts {
-        let put = check(&rt, rt.alloc(), script.as_bytes())?;
+        let put = check(&rt, rt.alloc(), &pool, script.as_bytes())?;
         assert_eq!(rt; put.as_slice(), want.as_bytes(), "{script:?}");
     }
     Ok(())
@@ -120,12 +122,13 @@ fn long_lines_have_their_replies(rt: HostRuntime) -> Result<(), Fail> {
         ("status", b'x', 1102, "refused syntax\n"),
         ("", b'q', 5000, "refused syntax\n"),
     ];
+    let pool = made(&rt, rt.alloc(), DISK_SECTORS)?;
     for (start, fill, bytes, want) in lines {
         let mut script = long_line(rt.alloc(), start, fill, bytes)?;
-        let put = check(&rt, rt.alloc(), &script)?;
+        let put = check(&rt, rt.alloc(), &pool, &script)?;
         assert_eq!(rt; put.as_slice(), want.as_bytes(), "{start} to {bytes} bytes");
         script.extend_from_slice(b"\r\nread 4\n")?;
-        check(&rt, rt.alloc(), &script)?;
+        check(&rt, rt.alloc(), &pool, &script)?;
     }
     Ok(())
 }
@@ -133,10 +136,11 @@ fn long_lines_have_their_replies(rt: HostRuntime) -> Result<(), Fail> {
 #[test]
 fn a_line_over_two_pieces_of_the_source_is_one_line(rt: HostRuntime) -> Result<(), Fail> {
     let alloc = rt.alloc();
+    let pool = made(&rt, alloc, DISK_SECTORS)?;
     for first in 4070..4100 {
         let mut script = long_line(alloc, "status ", b'x', first)?;
         script.extend_from_slice(b"\nwrite 2 1234\r\nread 2\r\n")?;
-        let put = check(&rt, alloc, &script)?;
+        let put = check(&rt, alloc, &pool, &script)?;
         let want = b"refused unbuilt\nok\ndata 1234\n";
         assert_eq!(rt;
             put.as_slice(),

@@ -2,7 +2,7 @@
 use Rattle.std.proofs.Common.{arith, ap}
 use Rattle.std.proofs.lemmas.List.{take_all}
 use Rattle.flat_array.specs.Reply.{without_zeros}
-use Rattle.shr_tool.proofs.Trimming.{trimmed-zero, trimmed-other}
+use Rattle.flat_array.specs.Trimming.{trimmed-zero, trimmed-other}
 use Rattle.shr_tool.proofs.reply.significant.Goals as goal
 
 pub loop-count-init : goal.loop-count-init

@@ -1,39 +1,52 @@
--- The words that are served are three, and their names are those that are attached.
-use Rattle.std.proofs.Common.{◌≡◌, ◌<◌, ◌∙◌, sym, subst, length, map, lit<}
-use Rattle.std.specs.Prelude.{string_bytes}
+-- The words that make a pool are a form's name, an extent and one or two names.
+use Rattle.std.proofs.Common.{◌≤◌, ◌∙◌, sym, ap, subst, length, map, string_bytes}
 use Rattle.std.proofs.lemmas.List.{length-map}
-use Rattle.shr_tool.specs.Run.{ServeOutcome}
-use Rattle.shr_tool.proofs.FormLemmas.{second_word, third_word, served_words}
+use Rattle.shr_tool.specs.Run.{CreateOutcome}
+use Rattle.shr_tool.proofs.FormLemmas.{created_words, created_length, extent_valid, extent_same, two_dropped, layout_asked}
 use Rattle.shr_tool.proofs.run.run.Goals as goal
 
-pub bounds-words-1 : goal.bounds-words-1
-bounds-words-1 g c =
-    let three = served_words (map string_bytes c.args.words.now) (sym c.form_of.ensures ∙ c.in-Serve.is) in
-    let same = length-map c.args.words.now string_bytes in
-    subst (λ n. 1 < n) (sym three ∙ same) (lit< tt)
+pub unreachable-requires : goal.unreachable-requires
+unreachable-requires g c =
+    layout_asked string_bytes c.args.words.now (sym c.form_of.ensures ∙ c.in-Layout.is)
+    (sym c.layout_request.ensures.value ∙ c.in-None.is)
 
-pub bounds-words-2 : goal.bounds-words-2
-bounds-words-2 g c =
-    let three = served_words (map string_bytes c.args.words.now) (sym c.form_of.ensures ∙ c.in-Serve.is) in
-    let same = length-map c.args.words.now string_bytes in
-    subst (λ n. 2 < n) (sym three ∙ same) (lit< tt)
+pub names_after-requires : goal.names_after-requires
+names_after-requires g c =
+    let form = sym c.form_of.ensures ∙ c.in-Create.is in
+    subst (λ n. 2 ≤ n) (length-map c.args.words.now string_bytes)
+    (created_length (map string_bytes c.args.words.now) c.in-Create.extent form)
 
-pub returns-in-Serve-clause-serve : goal.returns-in-Serve-clause-serve
-returns-in-Serve-clause-serve g c =
-    λ first second words named_first named_second source sink.
-    let one = c.as_str-first.ensures.value ∙ second_word string_bytes c.args.words.now _ _ _ _ c.index-words-1.is words in
-    let two = c.as_str-second.ensures.value ∙ third_word string_bytes c.args.words.now _ _ _ _ c.index-words-2.is words in
+pub create-requires-clause-few : goal.create-requires-clause-few
+create-requires-clause-few g c =
+    let words = c.args.words.now in
+    let is = created_words (map string_bytes words) c.in-Create.extent (sym c.form_of.ensures ∙ c.in-Create.is) in
+    let list = ap (map string_bytes) c.names_after.ensures ∙ two_dropped string_bytes words is.first is.word is.names is.are in
+    let count = sym (length-map c.names_after.result.now string_bytes) ∙ ap length list in
+    subst (λ n. n ≤ 2) (sym count) is.few
+
+pub create-requires-clause-extent : goal.create-requires-clause-extent
+create-requires-clause-extent g c =
+    let is = created_words (map string_bytes c.args.words.now) c.in-Create.extent (sym c.form_of.ensures ∙ c.in-Create.is) in
+    extent_valid is.word c.in-Create.extent is.extent_is
+
+pub returns-in-Create-clause-create : goal.returns-in-Create-clause-create
+returns-in-Create-clause-create g c =
+    λ word names extent are is named few sink.
+    let words = c.args.words.now in
+    let same =
+    extent_same (map string_bytes words) word names extent c.in-Create.extent are is named few
+    (sym c.form_of.ensures ∙ c.in-Create.is) in
+    let list = ap (map string_bytes) c.names_after.ensures ∙ two_dropped string_bytes words _ word names are in
     let seen = g.B.Rack.seen in
     let shelf = g.B.Bay.shelf in
-    let left = g.I.Source.left in
     let taken = g.O.Sink.taken in (
-      c.serve.result,
-      c.code-in-Serve.ensures,
+      c.create.result,
+      c.code-in-Create.ensures,
       subst
-          (λ a. ServeOutcome (seen c.args.bay.now) (shelf c.args.bay.now) (seen c.serve.new.bay) (shelf c.serve.new.bay) a second (left c.args.input.now) (left c.serve.new.input) (taken c.args.out.now) (taken c.serve.new.out) c.serve.result)
-          one
+          (λ e. CreateOutcome (seen c.args.bay.now) (shelf c.args.bay.now) (seen c.create.new.bay) (shelf c.create.new.bay) names e c.args.birth.now (taken c.args.out.now) (taken c.create.new.out) c.create.result)
+          same
           (subst
-          (λ b. ServeOutcome (seen c.args.bay.now) (shelf c.args.bay.now) (seen c.serve.new.bay) (shelf c.serve.new.bay) c.as_str-first.result.now b (left c.args.input.now) (left c.serve.new.input) (taken c.args.out.now) (taken c.serve.new.out) c.serve.result)
-          two
-          (c.serve.ensures.outcome source sink)),
+          (λ ns. CreateOutcome (seen c.args.bay.now) (shelf c.args.bay.now) (seen c.create.new.bay) (shelf c.create.new.bay) ns c.in-Create.extent c.args.birth.now (taken c.args.out.now) (taken c.create.new.out) c.create.result)
+          list
+          (c.create.ensures.outcome sink)),
     )

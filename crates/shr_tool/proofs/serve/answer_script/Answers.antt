@@ -1,11 +1,12 @@
 -- Each line adds its command to those answered.
-use Rattle.std.proofs.Common.{◌≡◌, ◌++◌, sym, ◌∙◌, ap, arith}
-use Rattle.rack.specs.Joins.{stays_same, stays_then}
+use Rattle.std.proofs.Common.{◌≡◌, ◌++◌, ◌^◌, refl, ◌∙◌, ap, arith}
 use Rattle.flat_array.specs.Line.{command_of}
-use Rattle.flat_array.specs.Script.{without_return, script_of}
-use Rattle.shr_tool.specs.Pieces.{pending}
+use Rattle.flat_array.specs.Script.{without_return}
+use Rattle.shr_tool.specs.Meaning.{view_of}
+use Rattle.shr_tool.proofs.Meanings.{same_pool, pools_then}
 use Rattle.shr_tool.proofs.LongLines.{command_of-kept}
 use Rattle.shr_tool.proofs.History.{history_none}
+use Rattle.shr_tool.proofs.Limits.{passed_none, passed_line, part_within, line_within, most_over}
 use Rattle.shr_tool.proofs.Stopping.{line_answered, line_stopped, last_answered, line_script, last_script, last_length, source_stopped, limit_stopped}
 use Rattle.shr_tool.proofs.serve.answer_script.Goals as goal
 
@@ -13,12 +14,16 @@ pub lines-init : goal.lines-init
 lines-init g c =
     let left = g.I.Source.left c.args.input.now in
     record {
-      mirror = c.requires;
-      stays = stays_same _ c.requires.fit;
+      pool = c.requires;
+      same = same_pool _ c.requires;
       source = omega arith;
       sink = omega arith;
       source_told = λ told. told;
       sink_told = λ told. told;
+      within = let none = c.new-reader.ensures.taken in omega arith;
+      passed =
+          λ source.
+          passed_none _ _ _ (ap (λ xs. xs ++ left) c.new-reader.ensures.pending) c.new-reader.ensures.consumed;
       history =
           λ source sink.
           history_none _ _ _ _ _ (ap (λ xs. xs ++ left) c.new-reader.ensures.pending) c.new-reader.ensures.consumed;
@@ -46,21 +51,29 @@ returns-in-Input-clause-serves g c =
     let r = c.in-Input.ensures.read (c.lines.invariant.source_told source) in
     let is : command_of (without_return c.line.result.now) ≡ command_of (without_return r.part.bytes) =
     ap (λ xs. command_of (without_return xs)) (c.line.ensures ∙ r.part.kept) ∙ command_of-kept r.part.bytes in
-    last_answered g.R.Rack.seen _ _ _ _ _ _ _ _ h.commands _ _ c.lines.invariant.stays h.answered
+    last_answered (view_of g.R.Rack.seen) _ _ _ _ _ _ _ _ h.commands _ _ c.lines.invariant.same h.answered
     (last_script _ _ _ _ _ _ _ _ _ _ h r _ is)
-    (last_length _ _ _ _ _ _ _ _ _ _ h r c.next.new.self.in_limit)
+    (last_length _ _ _ _ _ _ _ _ _ _ h r (let within = c.next.ensures.within (λ same. cc) in omega arith))
     (c.answer_last.ensures.answers (c.lines.invariant.sink_told sink))
 
 pub lines-preserved : goal.lines-preserved
 lines-preserved g c =
     let before = c.lines.invariant in
     record {
-      mirror = c.answer_line.ensures.mirror;
-      stays = stays_then before.stays c.answer_line.ensures.stays;
+      pool = c.answer_line.ensures.pool;
+      same = pools_then _ _ _ before.same c.answer_line.ensures.same;
       source = let old = before.source in let now = c.next.ensures.faults in omega arith;
       sink = let old = before.sink in let now = c.answer_line.ensures.sink in omega arith;
       source_told = λ told. c.next.ensures.told (before.source_told told);
       sink_told = λ told. c.answer_line.ensures.told (before.sink_told told);
+      within = c.next.ensures.within (λ same. cc);
+      passed =
+          λ source.
+          let r = c.in-LineFeed.ensures.read (before.source_told source) in
+          let is : command_of (without_return c.line-in-lines.result.now) ≡ command_of (without_return r.part.bytes) =
+          ap (λ xs. command_of (without_return xs)) (c.line-in-lines.ensures ∙ r.part.kept)
+          ∙ command_of-kept r.part.bytes in
+          passed_line _ _ _ _ _ _ (before.passed source) r (λ same. c.in-Ok.ensures.goes_on refl (is ∙ same));
       history =
           λ source sink.
           let h = before.history source sink in
@@ -68,7 +81,7 @@ lines-preserved g c =
           let is : command_of (without_return c.line-in-lines.result.now) ≡ command_of (without_return r.part.bytes) =
           ap (λ xs. command_of (without_return xs)) (c.line-in-lines.ensures ∙ r.part.kept)
           ∙ command_of-kept r.part.bytes in
-          line_answered g.R.Rack.seen _ _ _ _ _ _ _ _ _ _ _ _ _ before.stays h r is
+          line_answered (view_of g.R.Rack.seen) _ _ _ _ _ _ _ _ _ _ _ _ _ before.same h r is
           (c.in-Ok.ensures.answers (before.sink_told sink));
     }
 
@@ -80,6 +93,50 @@ returns-in-Err-clause-serves g c =
     let is : command_of (without_return c.line-in-lines.result.now) ≡ command_of (without_return r.part.bytes) =
     ap (λ xs. command_of (without_return xs)) (c.line-in-lines.ensures ∙ r.part.kept)
     ∙ command_of-kept r.part.bytes in
-    line_stopped g.R.Rack.seen _ _ _ _ _ _ _ _ h.commands _ _ c.in-Err.stop c.lines.invariant.stays h.answered
+    line_stopped (view_of g.R.Rack.seen) _ _ _ _ _ _ _ _ h.commands _ _ c.in-Err.stop c.lines.invariant.same h.answered
     (line_script _ _ _ _ _ _ _ _ _ _ h r _ is)
     (c.in-Err.ensures.answers (c.lines.invariant.sink_told sink))
+
+pub returns-in-Fault-clause-limit : goal.returns-in-Fault-clause-limit
+returns-in-Fault-clause-limit g c =
+    λ source.
+    let reader = c.next.new.self in
+    part_within _ (2 ^ 32) _ _ (g.I.Source.left c.next.new.input) _ reader.piece reader.start reader.end _ _
+    (c.lines.invariant.passed source)
+    (c.in-Fault.ensures.read (c.lines.invariant.source_told source))
+    reader.size reader.in_piece
+    (c.next.ensures.within (λ same. cc))
+    (λ same. cc)
+
+pub returns-in-Limit-clause-limit : goal.returns-in-Limit-clause-limit
+returns-in-Limit-clause-limit g c =
+    λ source.
+    let reader = c.next.new.self in
+    most_over _ (2 ^ 32) _ _ (g.I.Source.left c.next.new.input) _ reader.piece reader.start reader.end _ _
+    (c.lines.invariant.passed source)
+    (c.in-Limit.ensures.read (c.lines.invariant.source_told source))
+    reader.size reader.in_piece
+    (c.next.ensures.past c.in-Limit.is)
+    refl
+
+pub returns-in-Input-clause-limit : goal.returns-in-Input-clause-limit
+returns-in-Input-clause-limit g c =
+    λ source.
+    let reader = c.next.new.self in
+    part_within _ (2 ^ 32) _ _ (g.I.Source.left c.next.new.input) _ reader.piece reader.start reader.end _ _
+    (c.lines.invariant.passed source)
+    (c.in-Input.ensures.read (c.lines.invariant.source_told source)).part
+    reader.size reader.in_piece
+    (c.next.ensures.within (λ same. cc))
+    c.answer_last.ensures.other
+
+pub returns-in-Err-clause-limit : goal.returns-in-Err-clause-limit
+returns-in-Err-clause-limit g c =
+    λ source.
+    let reader = c.next.new.self in
+    line_within _ (2 ^ 32) _ _ (g.I.Source.left c.next.new.input) _ reader.piece reader.start reader.end _ _
+    (c.lines.invariant.passed source)
+    (c.in-LineFeed.ensures.read (c.lines.invariant.source_told source))
+    reader.size reader.in_piece
+    (c.next.ensures.within (λ same. cc))
+    c.in-Err.ensures.other

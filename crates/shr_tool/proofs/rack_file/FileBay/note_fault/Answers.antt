@@ -1,5 +1,5 @@
 -- One disk's count rises; its name and its sectors stay.
-use Rattle.std.proofs.Common.{refl, subst, sym, length-set, arith}
+use Rattle.std.proofs.Common.{refl, subst, sym, length-set}
 use Rattle.std.proofs.lemmas.Option.{slice_get_read}
 use Rattle.shr_tool.specs.Files.{Differ}
 use Rattle.shr_tool.proofs.FilesLemmas.{noted, names_kept, rose_more, grows_more}

@@ -1,4 +1,3 @@
-use Rattle.std.proofs.Common.{arith}
 use Rattle.shr_tool.proofs.ReadingLemmas.{kept-push, kept-full}
 use Rattle.shr_tool.proofs.shr_script.reader.LineReader.keep.Goals as goal
 

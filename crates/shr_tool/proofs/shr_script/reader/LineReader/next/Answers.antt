@@ -1,12 +1,12 @@
 -- A byte that is no line feed is added to what has been read.
-use Rattle.std.proofs.Common.{◌≡◌, refl, false, sym, ◌∙◌, ap, ◌++◌, ◌+◌, arith}
+use Rattle.std.proofs.Common.{◌≡◌, refl, false, sym, ◌∙◌, ap, ◌++◌, ◌<◌, arith}
 use Rattle.std.proofs.lemmas.Bool.Decides.{nat_tests}
 use Rattle.flat_array.specs.Script.{is_line_feed}
 use Rattle.shr_tool.proofs.ReadingLemmas.{part_same, part_push, pending-some}
 use Rattle.shr_tool.proofs.shr_script.reader.LineReader.next.Goals as goal
 
-pub returns-then-self-eq-SCRIPT_LIMIT-clause-read : goal.returns-then-self-eq-SCRIPT_LIMIT-clause-read
-returns-then-self-eq-SCRIPT_LIMIT-clause-read g c =
+pub returns-then-self-limit-clause-read : goal.returns-then-self-limit-clause-read
+returns-then-self-limit-clause-read g c =
     λ told.
     record {
       part =
@@ -14,7 +14,7 @@ returns-then-self-eq-SCRIPT_LIMIT-clause-read g c =
           (c.fill.ensures.rest (c.bytes.invariant.told told))
           c.fill.ensures.line
           c.fill.ensures.consumed;
-      full = c.if-self-eq-SCRIPT_LIMIT.true;
+      full = c.if-self-limit.true;
       more =
           let r = c.fill.new.self in
           pending-some r.piece r.start r.end r.size (c.fill.ensures.ready c.in-Ready.is) r.in_piece
@@ -43,5 +43,9 @@ bytes-preserved g c =
           refl
           refl;
       faults = let before = c.bytes.invariant.faults in let now = c.fill.ensures.faults in omega arith;
+      within =
+          let below : c.fill.new.self.consumed < c.args.limit = let before = c.bytes.invariant.within in let other = c.if-self-limit.false in omega arith in
+          let filled = c.fill.ensures.within (omega arith) in
+          omega arith;
       grows = let before = c.bytes.invariant.grows in omega arith;
     }

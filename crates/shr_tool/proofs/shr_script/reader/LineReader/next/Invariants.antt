@@ -1,7 +1,7 @@
--- Bytes without a line feed have been read; at most the rest of a script's limit is left.
-use Rattle.std.proofs.Common.{◌≡◌, ℕ, ◌-◌, ◌^◌, ◌≤◌, ◌++◌}
+-- Bytes without a line feed have been read; at most the rest of the limit is left.
+use Rattle.std.proofs.Common.{◌-◌, ◌≤◌, ◌++◌}
 use Rattle.shr_tool.specs.Reading.{ReadsPart}
-use Rattle.shr_tool.specs.Pieces.{pending, line_of}
+use Rattle.shr_tool.specs.Pieces.{pending, line_of, taken_by}
 use Rattle.shr_tool.proofs.shr_script.reader.LineReader.next.Given as goal
 
 abbrev pub invariant-bytes : goal.invariant-bytes
@@ -13,8 +13,9 @@ invariant-bytes g l =
           g.I.Source.told l.fn.input
           → ReadsPart (pending l.fn.self ++ left l.fn.input) (pending l.self ++ left l.input) (line_of l.self) l.fn.self.consumed l.self.consumed;
       faults : g.I.Source.faults l.fn.input ≤ g.I.Source.faults l.input;
+      within : taken_by l.self ≤ l.limit;
       grows : l.fn.self.consumed ≤ l.self.consumed;
     }
 
 abbrev pub decreases-bytes : goal.decreases-bytes
-decreases-bytes g l = 2 ^ 32 - l.self.consumed
+decreases-bytes g l = l.limit - l.self.consumed

@@ -1,0 +1,82 @@
+//! `create E NAME..`: makes a pool of zeros of the named disks.
+
+ghost use Rattle.std.specs.Prelude.{◌≡◌, ◌≢◌, ◌≤◌, length, map, string_bytes, true};
+ghost use Rattle.pool_state.specs.Valid.{is_extent};
+ghost use Rattle.shr_tool.specs.Outcome.{HasStatusCause};
+ghost use Rattle.shr_tool.specs.Making.{MakeOutcome};
+ghost use Rattle.shr_tool.specs.Run.{CreateOutcome, Says, created_line};
+
+use crate::attaching::{attach_all, refuse_name};
+use crate::refusals::refuse_create;
+use crate::reply::{ReplyText, add};
+use crate::saying::say;
+use crate::status::Status;
+use io_ends::Sink;
+use itoa::Buffer;
+use pool::{Birth, Pool};
+use rack::{Bay, Rack};
+
+/// Attaches the disks, and makes their pool.
+pub fn create<B: Bay, O: Sink>(
+    bay: &mut B,
+    names: &[String],
+    extent: u32,
+    birth: &Birth,
+    out: &mut O,
+) -> Status
+    requires none { (B.seen bay.old).disks ≡ 0 }
+    requires few { length names.now ≤ 2 }
+    requires extent { is_extent extent ≡ true }
+    ensures sink { O.faults out.old ≤ O.faults out.new }
+    ensures cause { HasStatusCause result 0 0 (O.faults out.old) (O.faults out.new) }
+    ensures other { result ≢ Status.Limit }
+    ensures outcome { O.told out.old → CreateOutcome (B.seen bay.old) (B.shelf bay.old) (B.seen bay.new) (B.shelf bay.new)
+        (map string_bytes names.now) extent birth.now (O.taken out.old) (O.taken out.new) result }
+{
+    match attach_all(bay, names) {
+        Ok(()) => create_attached(bay, extent, birth, out),
+        Err(at) => refuse_name(out, at),
+    }
+}
+
+// Makes a pool of the attached disks, and ends it. All of it is durable before the end, which only syncs.
+fn create_attached<B: Bay, O: Sink>(bay: &mut B, extent: u32, birth: &Birth, out: &mut O) -> Status
+    requires few { (B.seen bay.old).disks ≤ 2 }
+    requires extent { is_extent extent ≡ true }
+    ensures sink { O.faults out.old ≤ O.faults out.new }
+    ensures cause { HasStatusCause result 0 0 (O.faults out.old) (O.faults out.new) }
+    ensures other { result ≢ Status.Limit }
+    ensures outcome { O.told out.old → MakeOutcome (B.seen bay.old) (B.seen bay.new) extent birth.now (O.taken out.old) (O.taken out.new) result }
+{
+    match Pool::create(bay, extent, birth) {
+        Ok(mut pool) => {
+            let sectors = pool.size();
+            let _ = pool.end();
+            say_created(out, sectors)
+        }
+        Err(back) => refuse_create(out, back.why),
+    }
+}
+
+// Puts `created N`.
+fn say_created<O: Sink>(out: &mut O, sectors: u64) -> Status
+    ensures sink { O.faults out.old ≤ O.faults out.new }
+    ensures cause { HasStatusCause result 0 0 (O.faults out.old) (O.faults out.new) }
+    ensures other { result ≢ Status.Limit }
+    ensures says { O.told out.old → Says Status.Done (created_line sectors) (O.taken out.old) (O.taken out.new) result }
+{
+    let mut text = ReplyText::new();
+    created_text(&mut text, sectors);
+    say(out, &text, Status::Done)
+}
+
+// `created N`
+fn created_text(text: &mut ReplyText, sectors: u64)
+    ensures { text.new.items ≡ created_line sectors }
+{
+    let mut digits = Buffer::new();
+    text.clear();
+    add(text, b"created ");
+    add(text, digits.format(sectors).as_bytes());
+    add(text, b"\n");
+}

@@ -1,0 +1,38 @@
+//! Lines that end a run.
+
+ghost use Rattle.std.specs.Prelude.{◌≡◌, ◌≢◌, ◌≤◌, length};
+ghost use Rattle.flat_array.specs.Reply.{refused_line};
+ghost use Rattle.shr_tool.specs.Outcome.{HasStatusCause};
+ghost use Rattle.shr_tool.specs.Run.{IsSaid, Says};
+
+use crate::reply::{ReplyText, refused_reply};
+use crate::status::Status;
+use io_ends::Sink;
+
+/// Puts `refused WHY`.
+pub fn refuse<O: Sink>(out: &mut O, why: &[u8], status: Status) -> Status
+    requires short { length why.now ≤ 100 }
+    requires said { IsSaid status }
+    ensures sink { O.faults out.old ≤ O.faults out.new }
+    ensures cause { HasStatusCause result 0 0 (O.faults out.old) (O.faults out.new) }
+    ensures other { result ≢ Status.Limit }
+    ensures says { O.told out.old → Says status (refused_line why.now) (O.taken out.old) (O.taken out.new) result }
+{
+    let mut text = ReplyText::new();
+    refused_reply(&mut text, why);
+    say(out, &text, status)
+}
+
+/// Puts a line; the status is that of the sink where it fails.
+pub fn say<O: Sink>(out: &mut O, text: &ReplyText, status: Status) -> Status
+    requires { IsSaid status }
+    ensures sink { O.faults out.old ≤ O.faults out.new }
+    ensures cause { HasStatusCause result 0 0 (O.faults out.old) (O.faults out.new) }
+    ensures other { result ≢ Status.Limit }
+    ensures says { O.told out.old → Says status text.now.items (O.taken out.old) (O.taken out.new) result }
+{
+    match out.put(text.as_slice()) {
+        Ok(()) => status,
+        Err(_) => Status::Sink,
+    }
+}
