@@ -1,16 +1,10 @@
 #!/usr/bin/env bash
 # Prints how many MB/s our CRC-32 takes in beside zlib's, over the same mebibyte a thousand times.
 # Needs a C compiler and zlib's header. It is no part of the gate.
-set -euo pipefail
-root=$(cd "$(dirname "$0")/.." && pwd)
-room=$(mktemp -d)
-trap 'rm -rf "$room"' EXIT
+. "$(dirname "$(readlink -f "${BASH_SOURCE[0]}")")/lib.sh"
 rounds=1000
 
-mkdir -p "$room/crates/crc_bench/src"
-cp -r "$root/crates/shr_base" "$room/crates/shr_base"
-{ grep '^shr_base:' "$root/crates.txt"; echo 'crc_bench: shr_base'; } > "$room/crates.txt"
-cat > "$room/crates/crc_bench/src/main.rt" <<RATTLE
+build_ours shr_base <<RATTLE
 #![tactic(auto)]
 
 use shr_base::crc32;
@@ -28,7 +22,7 @@ fn main(rt: HostRuntime) -> io::Result<()> {
     println!(rt; "{sum}")
 }
 RATTLE
-cat > "$room/zlib.c" <<C
+cat >"$room/zlib.c" <<C
 #include <stdio.h>
 #include <string.h>
 #include <zlib.h>
@@ -45,22 +39,5 @@ int main(void) {
     printf("%lu\n", sum);
 }
 C
-cc -O2 -o "$room/zlib" "$room/zlib.c" -lz
-(cd "$room/crates/crc_bench" && rt run > "$room/log" 2>&1) || { cat "$room/log"; exit 1; }
-
-# prints the seconds that the words take, and keeps what they print
-timed() {
-    local start=$EPOCHREALTIME
-    "$@" > "$room/printed"
-    awk -v from="$start" -v to="$EPOCHREALTIME" 'BEGIN { print to - from }'
-}
-
-ours=$(timed "$room/crates/crc_bench/out/crc_bench")
-our_sum=$(cat "$room/printed")
-theirs=$(timed "$room/zlib")
-their_sum=$(cat "$room/printed")
-[ "$our_sum" = "$their_sum" ] || { echo "the sums differ: $our_sum, zlib $their_sum"; exit 1; }
-awk -v ours="$ours" -v theirs="$theirs" -v rounds="$rounds" 'BEGIN {
-    size = rounds * 1048576 / 1e6
-    printf "crc32 %.0f MB/s, zlib %.0f MB/s, ratio %.2f\n", size / ours, size / theirs, theirs / ours
-}'
+cc -O2 -o "$room/theirs" "$room/zlib.c" -lz
+compare crc32 $((rounds * 1048576)) zlib

@@ -1,6 +1,6 @@
 #!/usr/bin/env bash
-# Lines per second of `serve`: random reads over a warm pair of 64 MiB images, replies to /dev/null,
-# beside a C program that makes the same preads and prints the same replies.
+# Lines per second of `serve`: random reads over a warm pool of 64 MiB on two images, replies to /dev/null,
+# beside a C program that makes the same preads of one image and prints the same replies.
 # usage: bench/serve.sh [LINES]
 set -euo pipefail
 
@@ -9,20 +9,22 @@ lines=${1:-1000000}
 folder=$(mktemp -d)
 trap 'rm -rf "$folder"' EXIT
 cd "$folder"
-truncate -s 8K probe
-"$top/roskubel" serve probe probe </dev/null >/dev/null || true
+truncate -s 102M first second
+"$top/roskubel" create 128 first second </dev/null
 
-# Images whose sectors begin with a few bytes that aren't zero, and a script of random reads.
+# The volume, from sector 14336 of an image on, whose sectors begin with a few bytes that aren't zero; and a script of
+# random reads.
 cat >make.c <<'C'
 #include <stdint.h>
 #include <stdio.h>
 #include <stdlib.h>
 #include <string.h>
-enum { SECTORS = 131072 };
+enum { FIRST = 14336, SECTORS = 131072 };
 int main(int argc, char **argv) {
-  FILE *image = fopen(argv[1], "wb"), *script = fopen(argv[2], "wb");
+  FILE *image = fopen(argv[1], "r+b"), *script = fopen(argv[2], "wb");
   long lines = atol(argv[3]);
   uint64_t x = 1;
+  fseek(image, 512L * FIRST, SEEK_SET);
   for (long s = 0; s < SECTORS; s++) {
     unsigned char sector[512] = {0};
     for (int b = 0; b < 8; b++) sector[b] = 1 + (s * 7 + b) % 255;
@@ -50,7 +52,7 @@ int main(int argc, char **argv) {
     char reply[1040] = "data ";
     int count = 512, at = 5;
     if (strncmp(line, "read ", 5)) return 1;
-    if (pread(image, sector, 512, 512 * strtoll(line + 5, 0, 10)) != 512) return 1;
+    if (pread(image, sector, 512, 512 * (14336 + strtoll(line + 5, 0, 10))) != 512) return 1;
     while (count > 0 && sector[count - 1] == 0) count--;
     if (count == 0) reply[at++] = '-';
     for (int i = 0; i < count; i++) {
@@ -66,7 +68,7 @@ C
 gcc -O2 -o make make.c
 gcc -O2 -o plain plain.c
 ./make first script "$lines"
-cp first second
+./make second script "$lines"
 
 "$top/roskubel" serve first second <script >ours
 ./plain first <script >theirs

@@ -1,16 +1,10 @@
 #!/usr/bin/env bash
 # Prints how many MB/s our XOR takes in beside the same loop in C, compiled by clang -O2, over 64 KiB again and again.
 # Needs clang. It is no part of the gate.
-set -euo pipefail
-root=$(cd "$(dirname "$0")/.." && pwd)
-room=$(mktemp -d)
-trap 'rm -rf "$room"' EXIT
+. "$(dirname "$(readlink -f "${BASH_SOURCE[0]}")")/lib.sh"
 rounds=200000
 
-mkdir -p "$room/crates/xor_bench/src"
-cp -r "$root/crates/parity" "$room/crates/parity"
-{ grep '^parity:' "$root/crates.txt"; echo 'xor_bench: parity'; } > "$room/crates.txt"
-cat > "$room/crates/xor_bench/src/main.rt" <<RATTLE
+build_ours parity <<RATTLE
 #![tactic(auto)]
 
 use parity::xor_into;
@@ -28,7 +22,7 @@ fn main(rt: HostRuntime) -> io::Result<()> {
     println!(rt; "{first}")
 }
 RATTLE
-cat > "$room/xor.c" <<C
+cat >"$room/xor.c" <<C
 #include <stdio.h>
 #include <string.h>
 
@@ -47,22 +41,5 @@ int main(void) {
     printf("%d\n", sum[0]);
 }
 C
-clang -O2 -o "$room/xor" "$room/xor.c"
-(cd "$room/crates/xor_bench" && rt run > "$room/log" 2>&1) || { cat "$room/log"; exit 1; }
-
-# prints the seconds that the words take, and keeps what they print
-timed() {
-    local start=$EPOCHREALTIME
-    "$@" > "$room/printed"
-    awk -v from="$start" -v to="$EPOCHREALTIME" 'BEGIN { print to - from }'
-}
-
-ours=$(timed "$room/crates/xor_bench/out/xor_bench")
-our_byte=$(cat "$room/printed")
-theirs=$(timed "$room/xor")
-their_byte=$(cat "$room/printed")
-[ "$our_byte" = "$their_byte" ] || { echo "the bytes differ: $our_byte, C $their_byte"; exit 1; }
-awk -v ours="$ours" -v theirs="$theirs" -v rounds="$rounds" 'BEGIN {
-    size = rounds * 65536 / 1e6
-    printf "xor_into %.0f MB/s, C %.0f MB/s, ratio %.2f\n", size / ours, size / theirs, theirs / ours
-}'
+clang -O2 -o "$room/theirs" "$room/xor.c"
+compare xor_into $((rounds * 65536)) C

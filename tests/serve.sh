@@ -1,38 +1,35 @@
 #!/usr/bin/env bash
-# The built program over real files: lines, replies, refusals and statuses of `serve`.
+# The built program over real files: lines, replies, refusals and statuses of `create` and `serve`.
 . "$(dirname "$(readlink -f "${BASH_SOURCE[0]}")")/lib/program.sh"
 
 # So many times one byte.
 times() { printf "%${1}s" '' | tr ' ' "$2"; }
 
-images() { truncate -s 0 first second; truncate -s "$1" first second; }
-
-# serve NAME STATUS SCRIPT REPLIES: a script over two fresh images of 16 sectors.
-serve() {
-  images 8192
-  printf '%b' "$3" >script
-  check "$1" "$2" "$4" serve first second
+# Two fresh images of 77952 sectors, which is one extent of 128, and their pool: its volume has 128 sectors.
+images() {
+  truncate -s 0 first second
+  truncate -s 39911424 first second
+  "$tool" create 128 first second </dev/null >made 2>&1
 }
 
-# expect NAME COMMAND..: one more check, by the status of a command.
-expect() {
-  local name=$1
-  shift
-  if "$@" >/dev/null 2>&1; then
-    passed=$((passed + 1))
-  else
-    failed=$((failed + 1))
-    echo "FAILED: $name"
-  fi
+# The sectors of the volume, as an image has them.
+volume() { dd if="$1" bs=512 skip=14336 count=128 status=none; }
+
+# serve NAME STATUS SCRIPT REPLIES: a script over a fresh pool.
+serve() {
+  images
+  printf '%b' "$3" >script
+  check "$1" "$2" "$4" serve first second
 }
 
 long_digits=$(times 1016 a)
 
 # Lines and replies.
 serve 'the lines of one script' 0 'read 0\nwrite 7 61\nread 7\nread 8\nflush\nsize\nquit\n' \
-  'data -\nok\ndata 61\ndata -\nok\nrefused unbuilt\n'
-expect 'both images are equal' cmp first second
-expect 'sector 7 has the byte' test "$(dd if=second bs=512 skip=7 count=1 status=none | tr -d '\0')" = a
+  'data -\nok\ndata 61\ndata -\nok\nsize 128\n'
+expect 'the pool was made' test "$(cat made)" = 'created 128'
+expect 'the volume is the same in both images' cmp <(volume first) <(volume second)
+expect 'sector 7 has the byte' test "$(dd if=second bs=512 skip=14343 count=1 status=none | tr -d '\0')" = a
 serve 'lines with carriage returns' 0 'write 1 62\r\nread 1\r\n\r\nquit\r\nread 1\r\n' 'ok\ndata 62\n'
 serve 'a last line that is not ended' 0 'write 2 63\nread 2' 'ok\ndata 63\n'
 serve 'a carriage return at the end of input' 0 'read 2\r' 'data -\n'
@@ -41,24 +38,26 @@ serve 'empty lines' 0 '\n\n\r\n\n' ''
 serve 'nothing after quit' 0 'quit\nread 0\n' ''
 serve 'digits of either case, zeros at the end dropped' 0 'write 3 aBcD00\nread 3\nwrite 3 00\nread 3\n' 'ok\ndata abcd\nok\ndata -\n'
 serve 'an old value is replaced whole' 0 'write 3 616263\nwrite 3 64\nread 3\n' 'ok\nok\ndata 64\n'
-serve 'the last sector and the one past it' 0 'read 15\nread 16\nwrite 16 61\nread 18446744073709551615\n' \
+serve 'the last sector and the one past it' 0 'read 127\nread 128\nwrite 128 61\nread 18446744073709551615\n' \
   'data -\nrefused range\nrefused range\nrefused range\n'
 serve 'wrong lines' 0 'read\nread 0 \nread  0\nread -1\nread x\nread 18446744073709551616\nREAD 0\nquit now\nflush 1\nnone\n read 0\nwrite 0\nwrite 0 6\nwrite 0 6g\n' \
   "$(times 14 x | sed 's/x/refused syntax\\n/g')"
-serve 'lines that are not built yet' 0 'size\nfill 0 1 00\nstep 1\nadd x\nreplace 0 x\nlose 0\nstatus\nsize of it\n' \
-  "$(times 8 x | sed 's/x/refused unbuilt\\n/g')"
+serve 'lines that are not built yet' 0 'step 1\nadd x\nreplace 0 x\nlose 0\nstatus\n' \
+  "$(times 5 x | sed 's/x/refused unbuilt\\n/g')"
+serve 'sectors that are filled' 0 'fill 3 2 62\nread 4\nread 5\nfill 127 2 00\n' \
+  "ok\ndata $(times 512 x | sed 's/x/62/g')\ndata -\nrefused range\n"
 serve 'a whole sector' 0 "write 5 $(times 1024 f)\nread 5\n" "ok\ndata $(times 1024 f)\n"
 serve 'a sector and a byte' 0 "write 5 $(times 1026 f)\nread 5\n" 'refused syntax\ndata -\n'
 serve 'a line of 1100 bytes, which is only a wrong one' 0 "$(times 1100 x)\nread 0\n" 'refused syntax\ndata -\n'
 serve 'a line of 1101 bytes' 0 "$(times 1101 x)\nread 0\n" 'refused syntax\ndata -\n'
 serve 'a number is at most twenty digits' 0 "read $(times 20 0)\nread $(times 21 0)\n" 'data -\nrefused syntax\n'
-serve 'a line of 1101 bytes whose word is not built' 0 "size $(times 1096 x)\n" 'refused unbuilt\n'
+serve 'a line of 1101 bytes whose word is not built' 0 "step $(times 1096 x)\n" 'refused unbuilt\n'
 serve 'a line far longer than a piece is read to its end' 0 "read $(times 20000 1)\nread 0\n" 'refused syntax\ndata -\n'
 
 # A line of 1025 bytes that lies over the end of the first piece of 4096 bytes, behind empty lines.
 boundary() {
   local shift_by=$1
-  images 8192
+  images
   {
     times "$shift_by" '\n'
     printf 'write 11 %s\nread 11\n' "$long_digits"
@@ -68,16 +67,16 @@ boundary() {
 for shift_by in 3071 3500 4087 4088 4090 4094 4095 4096; do boundary "$shift_by"; done
 
 # What was written is there in the next run.
-images 8192
+images
 printf 'write 9 7a\n' >script
 check 'a first run' 0 'ok\n' serve first second
 printf 'read 9\n' >script
 check 'a second run' 0 'data 7a\n' serve first second
-expect 'both images are equal after two runs' cmp first second
+expect 'the volume is the same in both after two runs' cmp <(volume first) <(volume second)
 
 # Refusals before a script, and their statuses.
 : >script
-images 8192
+images
 check 'a missing first file' 6 'refused attach 0\n' serve none second
 check 'a missing second file' 6 'refused attach 1\n' serve first none
 expect 'no file is made' test ! -e none
@@ -85,10 +84,29 @@ head -c 513 /dev/zero >odd
 check 'a file of 513 bytes' 6 'refused attach 0\n' serve odd second
 check 'a folder' 6 'refused attach 0\n' serve . second
 check 'one path twice' 6 'refused twice\n' serve first first
+printf 'read 0\n' >script
+check 'the other order' 0 'data -\n' serve second first
+: >script
+check 'a drive that is not named' 6 'refused absent 1\n' serve second
 truncate -s 4096 third
-check 'images of two sizes' 6 'refused unequal\n' serve first third
-truncate -s 0 empty also_empty
-check 'images without a sector' 6 'refused unequal\n' serve empty also_empty
+check 'a file that is none of the pool' 0 '' serve first third second
+check 'files without a pool' 6 'refused no-pool\n' serve third
+cp first old_first
+cp second old_second
+images
+check 'drives of two pools' 6 'refused two-pools\n' serve first old_second
+check 'the same drive in two copies, of which the first counts' 6 'refused absent 1\n' serve old_first
+dd if=/dev/zero of=first bs=512 seek=10248 count=1 conv=notrunc status=none
+check 'a drive without its superblock' 6 'refused damaged 0 superblock\n' serve first second
+dd if=/dev/zero of=second bs=512 seek=2048 count=1 conv=notrunc status=none
+check 'a drive without its copy of the state' 6 'refused damaged 0 superblock\n' serve first second
+dd if=/dev/zero of=first bs=512 seek=1 count=1 conv=notrunc status=none
+
+# Making a pool.
+check 'a pool of one drive' 6 'refused too-few\n' create 128 first
+check 'a drive without room' 6 'refused no-room 1\n' create 128 first third
+check 'an extent that is too large for the drives' 6 'refused no-room 0\n' create 256 first second
+check 'a pool is made over an old one' 0 'created 128\n' create 128 second first
 
 check 'no words' 2 'refused words\n'
 check 'an unknown word' 2 'refused words\n' mount first second
@@ -96,9 +114,11 @@ check 'help is no form' 2 'refused words\n' help
 check 'serve of nothing' 2 'refused words\n' serve
 check 'a name with a dash' 2 'refused words\n' serve -first second
 check 'an empty name' 2 'refused words\n' serve '' second
-check 'serve of one name' 6 'refused unbuilt\n' serve first
-check 'serve of three names' 6 'refused unbuilt\n' serve first second third
-for form in create import export status examine trial; do
+check 'create of nothing' 2 'refused words\n' create
+check 'create of no names' 2 'refused words\n' create 128
+check 'create with an extent of 64 sectors' 2 'refused words\n' create 64 first second
+check 'create of three names' 6 'refused unbuilt\n' create 128 first second third
+for form in import export status examine trial; do
   check "a form that is not built: $form" 6 'refused unbuilt\n' "$form" first second
 done
 
@@ -111,7 +131,7 @@ if [ -e /dev/full ]; then
 fi
 
 # The launcher passes words, ends and the status on, and adds nothing.
-images 8192
+images
 printf 'write 6 66\nread 6\n' >script
 "$top/roskubel" serve first second <script >out 2>err
 expect 'the launcher passes the status on' test $? -eq 0

@@ -1,12 +1,5 @@
-# For the checks of the built program, which source this file: a folder of their own, the program, and `check`.
-set -uo pipefail
-
-top=$(cd "$(dirname "$(readlink -f "${BASH_SOURCE[0]}")")/../.." && pwd)
-folder=$(mktemp -d)
-trap 'rm -rf "$folder"' EXIT
-cd "$folder" || exit 1
-passed=0
-failed=0
+# For the checks of the built program, which source this file: the frame of all checks, the program, and `check`.
+. "$(dirname "$(readlink -f "${BASH_SOURCE[0]}")")/checks.sh"
 
 # Has the launcher build the program, and then calls that program alone: no build speaks below.
 "$top/roskubel" </dev/null >/dev/null
@@ -28,10 +21,4 @@ check() {
     diff wanted out | head -n 5
     head -n 5 err
   fi
-}
-
-# Says how many checks passed; its status is 0 where none failed.
-close() {
-  echo "$passed passed, $failed failed"
-  [ "$failed" -eq 0 ]
 }
