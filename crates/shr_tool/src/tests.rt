@@ -6,6 +6,7 @@ mod limits;
 mod order;
 mod pools;
 mod scripts;
+mod stops;
 
 ghost use Rattle.std.specs.Prelude.{◌≡◌};
 
