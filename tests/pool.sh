@@ -70,6 +70,15 @@ expect 'to the byte' cmp whole second
 flip second 2
 flip second $((sectors - 33))
 serve 'both tables' 6 'size\n' 'refused damaged 1 table\n' first second
+make 'a drive cut short'
+cp first whole
+truncate -s $((512 * 1000)) first
+serve 'is absent' 6 'size\n' 'refused absent 1\n' first second
+dd if=second of=whole bs=512 skip=2048 seek=2048 count=1 conv=notrunc status=none
+serve 'a drive with the state sector of another one too' 6 'size\n' 'refused absent 1\n' whole second
+make 'beside the pool'
+truncate -s 0 none
+serve 'an image of no sectors' 0 'size\n' 'size 1280\n' none first second
 truncate -s $((512 * sectors)) other
 serve 'an image of zeros' 6 'size\n' 'refused no-pool\n' other
 make 'two pools'
