@@ -152,8 +152,8 @@ fn check_images(
     Ok(())
 }
 
-// The calls of an opening: those of an empty run, but for the two syncs of its end.
-fn calls_of_opening(rt: &impl Abort, alloc: Global) -> Result<u64, Fail> {
+/// The calls of an opening: those of an empty run, but for the two syncs of its end.
+pub fn calls_of_opening(rt: &impl Abort, alloc: Global) -> Result<u64, Fail> {
     let mut bay = made(rt, alloc, DISK_SECTORS)?;
     let ran = serve(rt, alloc, &mut bay, b"")?;
     assert_eq!(rt; ran.status, 0);
