@@ -14,6 +14,7 @@ use crate::standing::{newest, take_copy};
 use pool_state::State;
 use rack::{NoMemory, Rack};
 use std::alloc::Global;
+use thiserror::Error;
 
 /// A part of a drive that a pool needs whole.
 #[derive(Clone, Copy, Debug, PartialEq, Eq)]
@@ -29,18 +30,22 @@ pub enum Part {
 }
 
 /// Why a pool can't be opened: the first cause in this order.
-#[derive(Clone, Copy, Debug, PartialEq, Eq)]
+#[derive(Clone, Copy, Debug, PartialEq, Eq, Error)]
 pub enum Refusal {
     /// No disk has a valid state.
+    #[error("no disk has a valid copy of a pool's state")]
     NoPool,
     /// Two disks have the states of different pools.
+    #[error("two disks have the states of different pools")]
     TwoPools,
     /// Drives of the pool have no disk, or one that refused a call.
+    #[error("{count} of the pool's drives are absent")]
     Absent {
         /// How many.
         count: u32,
     },
     /// A part of a drive isn't valid.
+    #[error("on the drive of place {place} this part isn't valid: {part:?}")]
     Damaged {
         /// The lowest place of such a drive.
         place: u32,
@@ -48,21 +53,25 @@ pub enum Refusal {
         part: Part,
     },
     /// An array has too few members.
+    #[error("array {array} has too few members")]
     TooFew {
         /// Its number.
         array: u32,
     },
     /// An array lacks a member, and has rows left to resync.
+    #[error("array {array} lacks a member and has rows left to resync")]
     DirtyDegraded {
         /// Its number.
         array: u32,
     },
     /// The volume's text can't be read.
+    #[error("the volume's text on array {array} can't be read")]
     BadVolume {
         /// The array that shows it.
         array: u32,
     },
     /// No memory could be had.
+    #[error("no memory could be had")]
     Memory,
 }
 

@@ -21,18 +21,22 @@ use layer_plan::{PlanError, layout};
 use pool_state::{State, encode_state};
 use rack::{Back, Bay, Gone, Rack};
 use shr_base::units;
+use thiserror::Error;
 
 /// Why a pool can't be made.
-#[derive(Clone, Copy, Debug, PartialEq, Eq)]
+#[derive(Clone, Copy, Debug, PartialEq, Eq, Error)]
 pub enum CreateFault {
     /// The drives have no plan. Nothing was written.
+    #[error("the drives have no plan: {0:?}")]
     Layout(PlanError),
     /// A drive refused a call; its count of faults rose.
+    #[error("disk {disk} refused a call")]
     Gone {
         /// The number of its disk.
         disk: u32,
     },
     /// No memory could be had.
+    #[error("no memory could be had")]
     Memory,
 }
 
