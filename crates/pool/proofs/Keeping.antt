@@ -228,7 +228,7 @@ flush_becomes x m y (Ok done) both =
 
 flush_durable : (x : View) (m y : Seen) (q : Result (Unit {0}) Gone) → Synced x m y q → OnOk q (AreDurable x (view y x.on x.members x.unclean))
 flush_durable x m y (Err e) both = tt
-flush_durable x m y (Ok done) both = λ a p s holds few inside. both_single x m y a p s both holds.told few (subst (λ n. s < n) holds.size inside)
+flush_durable x m y (Ok done) both = λ a holds p s few inside. both_single x m y a p s both holds.told few (subst (λ n. s < n) holds.size inside)
 
 flush_ends : (x : View) (m y : Seen) (q : Result (Unit {0}) Gone) → Synced x m y q → OnOk q (EndsWithMeanings x (view y x.on x.members x.unclean) flushed)
 flush_ends x m y (Err e) both = tt

@@ -15,10 +15,10 @@ use Rattle.pool.specs.Assembling.{disk_of, IsSeated}
 use Rattle.pool.specs.Reading.{AllTold}
 use Rattle.pool.specs.Durable.{WritesDurably}
 use Rattle.pool.specs.View.{View, IsPool, member_of, raised, both_raised, view}
-use Rattle.pool.specs.Volume.{Holds, TakesHeld, Means, volume_of}
+use Rattle.pool.specs.Volume.{Holds, TakesHeld, Means, IsEvenBelow, volume_of}
 use Rattle.pool.specs.Calls.{WentIn}
 use Rattle.pool.specs.Carrying.{Carries, Step}
-use Rattle.pool.specs.Marks.{WritesSuperblock, AreEvenBelow, MarksMembers}
+use Rattle.pool.specs.Marks.{WritesSuperblock, MarksMembers}
 use Rattle.pool.proofs.Frames.{disks_differ, one_of_two}
 use Rattle.pool.proofs.Steps.{IsDrives, live_all, takes_pick, means_earlier, meanings_then, carries_on}
 use Rattle.pool.proofs.Written.{means_after_superblock, superblock_read, some_one}
@@ -145,7 +145,7 @@ volume_even :
     (x : View) (a : FlatArray) (from : ℕ)
     → IsPool x
     → Holds x a
-    → AreEvenBelow x a from
+    → IsEvenBelow x.seen x.on a.size from
     → (i : Image) (sector : ℕ)
     → ((p : ℕ) → p < 2 → MayLeave (x.seen.held (disk_of x.on p) (volume_first + sector)) (i (disk_of x.on p) (volume_first + sector)))
     → sector < volume_sectors x.on.state
@@ -221,7 +221,7 @@ pub first_superblock_refused :
 first_superblock_refused x y from r e is pool drives at_result =
     let writes : WritesSuperblock x.seen y x.on.first (raised from x.members.first) {X = Unit {0}} (Err e) =
     subst (λ (q : Result (Unit {0}) Gone). WritesSuperblock x.seen y x.on.first (raised from x.members.first) q) is at_result in
-    let step : (a : FlatArray) → Holds x a → AreEvenBelow x a from → Step x.seen y x.on a =
+    let step : (a : FlatArray) → Holds x a → IsEvenBelow x.seen x.on a.size from → Step x.seen y x.on a =
     λ a holds even.
     superblock_step x.seen y x.on a 0 (raised from x.members.first) (Err e) pool.seated drives (lit< tt)
     (member_raised x.on.state 0 from x.members.first (pool.member 0 (lit< tt)))
@@ -255,7 +255,7 @@ first_step :
     (x : View) (m y : Seen) (from : ℕ) (q : Result (Unit {0}) Gone) (a : FlatArray)
     → BothWritten x m y from q
     → Holds x a
-    → AreEvenBelow x a from
+    → IsEvenBelow x.seen x.on a.size from
     → Step x.seen m x.on a
 first_step x m y from q a both holds even =
     superblock_step x.seen m x.on a 0 (raised from x.members.first) (Ok tt) both.pool.seated both.between (lit< tt)
@@ -271,7 +271,7 @@ second_step :
     (x : View) (m y : Seen) (from : ℕ) (q : Result (Unit {0}) Gone) (a : FlatArray)
     → BothWritten x m y from q
     → Holds x a
-    → AreEvenBelow x a from
+    → IsEvenBelow x.seen x.on a.size from
     → Step m y x.on a
 second_step x m y from q a both holds even =
     let stays = both.first.writes.stays in
@@ -300,7 +300,7 @@ both_step :
     (x : View) (m y : Seen) (from : ℕ) (q : Result (Unit {0}) Gone) (a : FlatArray)
     → BothWritten x m y from q
     → Holds x a
-    → AreEvenBelow x a from
+    → IsEvenBelow x.seen x.on a.size from
     → Step x.seen y x.on a
 both_step x m y from q a both holds even =
     steps_then x.on a (first_step x m y from q a both holds even) (second_step x m y from q a both holds even)
@@ -362,7 +362,7 @@ both_hold :
     (x : View) (m y : Seen) (from : ℕ) (a : FlatArray)
     → BothWritten x m y from (Ok tt)
     → Holds x a
-    → AreEvenBelow x a from
+    → IsEvenBelow x.seen x.on a.size from
     → Holds (view y x.on (both_raised from x.members) x.unclean) a
 both_hold x m y from a both holds even =
     let step = both_step x m y from (Ok tt) a both holds even in
@@ -385,7 +385,7 @@ both_hold x m y from a both holds even =
 both_become :
     (x : View) (m y : Seen) (from : ℕ) (q : Result (Unit {0}) Gone)
     → BothWritten x m y from q
-    → OnOk q ((a : FlatArray) → Holds x a → AreEvenBelow x a from → Holds (view y x.on (both_raised from x.members) x.unclean) a)
+    → OnOk q ((a : FlatArray) → Holds x a → IsEvenBelow x.seen x.on a.size from → Holds (view y x.on (both_raised from x.members) x.unclean) a)
 both_become x m y from (Ok done) both = λ a holds even. both_hold x m y from a both holds even
 both_become x m y from (Err e) both = tt
 

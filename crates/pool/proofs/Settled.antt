@@ -20,10 +20,10 @@ use Rattle.pool.specs.Sizes.{HasSizes}
 use Rattle.pool.specs.Assembling.{disk_of, IsSeated}
 use Rattle.pool.specs.Reading.{AllTold}
 use Rattle.pool.specs.View.{IsPool, member_of, view}
-use Rattle.pool.specs.Volume.{Holds, volume_of}
+use Rattle.pool.specs.Volume.{Holds, IsEvenBelow, volume_of}
 use Rattle.pool.specs.Carrying.{Step}
 use Rattle.pool.specs.Opening.{IsFound, TablesAgree, array_in, truth_of, settled, is_unclean}
-use Rattle.pool.specs.Settling.{IsGoneDrive, LacksMember, FailsBy, KeepsInner, IsEvenBelow, SettlesTables, FindsMembers, SettlesMembers, Settles}
+use Rattle.pool.specs.Settling.{IsGoneDrive, LacksMember, FailsBy, KeepsInner, SettlesTables, FindsMembers, SettlesMembers, Settles}
 use Rattle.pool.specs.Settling.FailsBy.{gone, not_whole, no_memory}
 use Rattle.pool.proofs.Frames.{copies_bounds, copies_inside, parts_right, disks_differ, superblock_agrees}
 use Rattle.pool.proofs.Steps.{IsDrives, live_all}
@@ -105,7 +105,7 @@ even_found :
     (x m n y : Seen) (on : Assembled) (members : Members) (q : Result Members Refusal)
     → Steps x m n y on members q
     → IsFound x on
-    → IsEvenBelow x on (truth_of members).resync_offset
+    → IsEvenBelow x on (volume_sectors on.state) (truth_of members).resync_offset
 even_found x m n y on members q steps found s v w inside below left right =
     let known : (p : ℕ) → p < 2 → volume_first + s < x.sectors (disk_of on p) = λ p few. volume_known x on p s steps.seated few inside in
     let first = found.single on.first (volume_first + s) (steps.seated.disk 0 (lit< tt)) (known 0 (lit< tt)) v left in
@@ -132,7 +132,7 @@ settle_step x m n y on members q steps found =
     let at_m = seated_later on steps.tables.stays steps.seated in
     let two = kept_step m n on a at_m steps.at_n steps.finds.only.stays steps.finds.only.keeps one.carries in
     let kept : KeepsInner x n on = inner_kept x m n y on members q steps found.told in
-    let even : IsEvenBelow n on (truth_of members).resync_offset =
+    let even : IsEvenBelow n on (volume_sectors on.state) (truth_of members).resync_offset =
     λ s v w inside below left right.
     even_found x m n y on members q steps found s v w inside below
     ((kept 0 (volume_first + s) (lit< tt) (omega arith, omega arith)).within v left)

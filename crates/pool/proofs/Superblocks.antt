@@ -20,11 +20,11 @@ use Rattle.pool.specs.DriveMap.{superblock_sector, volume_first, volume_sectors,
 use Rattle.pool.specs.Assembling.{disk_of, IsSeated}
 use Rattle.pool.specs.Reading.{AllTold}
 use Rattle.pool.specs.View.{member_of}
-use Rattle.pool.specs.Volume.{TakesHeld, Means, volume_of}
+use Rattle.pool.specs.Volume.{TakesHeld, Means, IsEvenBelow, volume_of}
 use Rattle.pool.specs.Carrying.{Carries, Step}
 use Rattle.pool.specs.Marks.{WritesSuperblock}
 use Rattle.pool.specs.Opening.{with_array_of, truth_of, settled}
-use Rattle.pool.specs.Settling.{KeepsRest, KeepsVolume, IsEvenBelow, SaysAt, SettlesMember, SettlesMembers}
+use Rattle.pool.specs.Settling.{KeepsRest, KeepsVolume, SaysAt, SettlesMember, SettlesMembers}
 use Rattle.pool.proofs.Frames.{one_of_two}
 use Rattle.pool.proofs.Steps.{IsDrives, live_all}
 use Rattle.pool.proofs.Marking.{superblock_step, volume_known, superblock_known}
@@ -143,7 +143,7 @@ member_same x on p own wanted seated same =
 even_images :
     (x : Seen) (on : Assembled) (from : ℕ)
     → IsSeated x on
-    → IsEvenBelow x on from
+    → IsEvenBelow x on (volume_sectors on.state) from
     → (i : Image) (sector : ℕ)
     → TakesHeld x i
     → sector < volume_sectors on.state
@@ -157,7 +157,7 @@ even_images x on from seated even i sector takes inside below =
 -- what a write of a superblock does, whatever the answer
 record MemberWritten (x y : Seen) (on : Assembled) (p : ℕ) (wanted : Super) : Type 0 where
   stays : Stays x y
-  step : (a : FlatArray) → Carries x on a → IsEvenBelow x on wanted.resync_offset → Step x y on a
+  step : (a : FlatArray) → Carries x on a → IsEvenBelow x on (volume_sectors on.state) wanted.resync_offset → Step x y on a
   rest : AllTold x → KeepsRest x y on
   kept : AllTold x → KeepsVolume x y on
   others :
@@ -279,7 +279,7 @@ members_refused x y on members s r why same is at_result =
       stays = first.stays;
       step =
           λ a carries even.
-          first.step a carries (subst (λ (n : Members). IsEvenBelow x on n.first.resync_offset) (sym same) even);
+          first.step a carries (subst (λ (n : Members). IsEvenBelow x on (volume_sectors on.state) n.first.resync_offset) (sym same) even);
       rest = first.rest;
       kept = first.kept;
       found = tt;
@@ -288,7 +288,7 @@ members_refused x y on members s r why same is at_result =
     }
 
 even_later :
-    (x m : Seen) (on : Assembled) (from : ℕ) → AllTold x → (AllTold x → KeepsVolume x m on) → IsEvenBelow x on from → IsEvenBelow m on from
+    (x m : Seen) (on : Assembled) (from : ℕ) → AllTold x → (AllTold x → KeepsVolume x m on) → IsEvenBelow x on (volume_sectors on.state) from → IsEvenBelow m on (volume_sectors on.state) from
 even_later x m on from told kept even s v w inside below left right =
     even s v w inside below
     ((kept told 0 (volume_first + s) (lit< tt) (omega arith, omega arith)).within v left)
@@ -304,13 +304,13 @@ both_step :
     (x m y : Seen) (on : Assembled) (members s : Members) (q : Result (Unit {0}) Refusal) (a : FlatArray)
     → BothMembers x m y on members s q
     → Carries x on a
-    → IsEvenBelow x on (truth_of members).resync_offset
+    → IsEvenBelow x on (volume_sectors on.state) (truth_of members).resync_offset
     → Step x y on a
 both_step x m y on members s q a both carries even =
-    let one = both.first.step a carries (subst (λ (n : Members). IsEvenBelow x on n.first.resync_offset) (sym both.same) even) in
+    let one = both.first.step a carries (subst (λ (n : Members). IsEvenBelow x on (volume_sectors on.state) n.first.resync_offset) (sym both.same) even) in
     steps_join on a one
     (both.second.step a one.carries
-    (subst (λ (n : Members). IsEvenBelow m on n.second.resync_offset) (sym both.same)
+    (subst (λ (n : Members). IsEvenBelow m on (volume_sectors on.state) n.second.resync_offset) (sym both.same)
     (even_later x m on (truth_of members).resync_offset carries.told both.first.kept even)))
 
 both_kept :

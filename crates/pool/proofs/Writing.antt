@@ -14,9 +14,9 @@ use Rattle.pool.specs.declared.members.Members.{Members}
 use Rattle.pool.specs.DriveMap.{volume_first, volume_sectors}
 use Rattle.pool.specs.Assembling.{disk_of}
 use Rattle.pool.specs.View.{View, IsPool, marked, cleaned, both_raised, all_rows}
-use Rattle.pool.specs.Volume.{Holds, Means}
+use Rattle.pool.specs.Volume.{Holds, Means, IsEvenBelow, AreSingle}
 use Rattle.pool.specs.Calls.{IsSamePool, WentIn, EndsWithMeanings, unchanged, WritesSector, Flushes, Ends, AreDurable}
-use Rattle.pool.specs.Marks.{MarksMembers, StartsWriting, WritesMarked, StopsWriting, AreSingle, AreEvenBelow}
+use Rattle.pool.specs.Marks.{MarksMembers, StartsWriting, WritesMarked, StopsWriting}
 use Rattle.pool.specs.Data.{WritesData}
 use Rattle.pool.proofs.Steps.{IsDrives, means_earlier}
 use Rattle.pool.proofs.Marking.{carries_of}
@@ -58,7 +58,7 @@ on_any : {A : Type 0} (r : Result (Unit {0}) Gone) → A → OnOk r A
 on_any (Ok done) a = a
 on_any (Err e) a = tt
 
-even_below_zero : (x : View) (a : FlatArray) → AreEvenBelow x a 0
+even_below_zero : (x : View) (a : FlatArray) → IsEvenBelow x.seen x.on a.size 0
 even_below_zero x a s v w inside below left right = absurd (omega arith)
 
 -- both were marked, or a drive refused it
@@ -256,7 +256,7 @@ cleaned_raised false members clean some =
     ap (λ (b : Bool). if b then members else both_raised all_rows members) (ne_eqb members.first.resync_offset all_rows some)
 
 -- members that agree and have one value each are even
-even_single : (x : View) (a : FlatArray) → x.unclean ≡ false → Holds x a → AreSingle x a → AreEvenBelow x a all_rows
+even_single : (x : View) (a : FlatArray) → x.unclean ≡ false → Holds x a → AreSingle x a → IsEvenBelow x.seen x.on a.size all_rows
 even_single x a clean holds single s v w inside below left right =
     single 1 s (lit< tt) inside w right ∙ holds.agree clean s inside ∙ sym (single 0 s (lit< tt) inside v left)
 
@@ -303,7 +303,7 @@ end_unflushed x y r e is at_result =
     record { pool = flushes.pool; members = tt; gone = flushes.gone; becomes = tt; durable = tt; leaves = flushes.leaves; ends = tt }
 
 single_in : (x m : View) (a : FlatArray) → IsSamePool x m → AreDurable x m → Holds x a → AreSingle m (flushed a)
-single_in x m a same durable holds p s few inside = durable a p s holds few inside
+single_in x m a same durable holds p s few inside = durable a holds p s few inside
 
 -- flushed, and then cleaned or refused
 pub end_flushed :
@@ -325,7 +325,7 @@ end_flushed x m y r q u is at_result stops =
           stops.members;
       gone = gone_later x m y q flushes.pool stops.gone;
       becomes = on_ok q (λ becomes a holds. becomes (flushed a) (held a holds) (single a holds)) stops.becomes;
-      durable = on_any q (λ a p s holds few inside. stops.durable (flushed a) (held a holds) (single a holds) p s few inside);
+      durable = on_any q (λ a holds p s few inside. stops.durable (flushed a) (held a holds) (single a holds) p s few inside);
       leaves =
           λ traced a holds.
           leaves_both x m y a flushes.pool (flushes.leaves traced a holds)

@@ -1,16 +1,14 @@
 -- What each call does to the volume of a pool.
 use Rattle.std.specs.Prelude.{◌≡◌, ◌↔◌, ℕ, ◌+◌, ◌<◌, ◌≤◌, List, Result, Err, OnOk, IfErr}
 use Rattle.rack.specs.declared.Gone.{Gone}
-use Rattle.rack.specs.Values.{IsSingle}
 use Rattle.rack.specs.Seen.{Image, Rose, Stays}
 use Rattle.rack.specs.Moments.{Leaves}
 use Rattle.flat_array.specs.Array.{FlatArray, written, flushed}
 use Rattle.pool.specs.declared.BareFault.{BareFault}
 use Rattle.pool.specs.declared.BareFault.TheVariants.{Range, Gone as DriveGone}
-use Rattle.pool.specs.DriveMap.{volume_first, volume_sectors}
-use Rattle.pool.specs.Assembling.{disk_of}
+use Rattle.pool.specs.DriveMap.{volume_sectors}
 use Rattle.pool.specs.View.{View, marked, cleaned}
-use Rattle.pool.specs.Volume.{Holds, Means}
+use Rattle.pool.specs.Volume.{Holds, Means, AreSingle}
 
 -- a disk went: its count of faults rose in the call
 pub record WentIn (x y : View) (d : ℕ) : Type 0 where
@@ -75,12 +73,7 @@ pub record WritesSector (x y : View) (sector : ℕ) (from : List ℕ) {X : Type 
 
 -- the current value of each sector alone is left, on both members
 abbrev pub AreDurable : View → View → Type 0
-AreDurable x y =
-    (a : FlatArray) (place s : ℕ)
-    → Holds x a
-    → place < 2
-    → s < a.size
-    → IsSingle (y.seen.held (disk_of y.on place) (volume_first + s))
+AreDurable x y = (a : FlatArray) → Holds x a → AreSingle y a
 
 -- a flush leaves the current value of each sector alone, on both members
 pub record Flushes (x y : View) {X : Type 0} (result : Result X Gone) : Type 0 where

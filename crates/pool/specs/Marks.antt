@@ -1,7 +1,7 @@
 -- The superblocks of both members, written anew.
 use Rattle.std.specs.Prelude.{◌≡◌, ◌+◌, ◌<◌, ◌++◌, ℕ, List, replicate, Ok, Result, OnOk, IfErr}
 use Rattle.rack.specs.declared.Gone.{Gone}
-use Rattle.rack.specs.Values.{MayLeave, Keeps, IsSingle}
+use Rattle.rack.specs.Values.{Keeps}
 use Rattle.rack.specs.Seen.{Image, Seen}
 use Rattle.rack.specs.Moments.{Leaves}
 use Rattle.flat_array.specs.Array.{FlatArray, written}
@@ -11,7 +11,7 @@ use Rattle.pool.specs.DriveMap.{superblock_sector, volume_first}
 use Rattle.pool.specs.Assembling.{disk_of}
 use Rattle.pool.specs.Durable.{WritesDurably}
 use Rattle.pool.specs.View.{View, both_raised, marked, cleaned}
-use Rattle.pool.specs.Volume.{Holds, Means}
+use Rattle.pool.specs.Volume.{Holds, Means, IsEvenBelow, AreSingle}
 use Rattle.pool.specs.Calls.{IsSamePool, WentIn, Becomes, LeavesMeanings, EndsWithMeanings, unchanged}
 
 -- a superblock was written to its sector of a disk, durably, or the disk's faults rose
@@ -20,22 +20,12 @@ pub record WritesSuperblock (a b : Seen) (disk : ℕ) (s : Super) {X : Type 0} (
   pub read : decoded (bytes ++ replicate 512 0) ≡ Ok s
   pub writes : WritesDurably a b disk superblock_sector bytes result
 
--- the members agree in the rows before this sector
-abbrev pub AreEvenBelow : View → FlatArray → ℕ → Type 0
-AreEvenBelow x a from =
-    (s : ℕ) (v w : List ℕ)
-    → s < a.size
-    → 2048 + s < from
-    → MayLeave (x.seen.held x.on.first (volume_first + s)) v
-    → MayLeave (x.seen.held x.on.second (volume_first + s)) w
-    → w ≡ v
-
 -- both superblocks say that the rows from this sector on are left to resync, and no sector of the volume changed
 pub record MarksMembers (x y : View) (from : ℕ) {X : Type 0} (result : Result X Gone) : Type 0 where
   pub pool : IsSamePool x y
   pub members : y.members ≡ both_raised from x.members
   pub gone : IfErr result (λ e. WentIn x y e.disk)
-  pub becomes : OnOk result ((a : FlatArray) → Holds x a → AreEvenBelow x a from → Holds y a)
+  pub becomes : OnOk result ((a : FlatArray) → Holds x a → IsEvenBelow x.seen x.on a.size from → Holds y a)
   pub keeps :
       (a : FlatArray) (place s : ℕ)
       → Holds x a
@@ -43,12 +33,12 @@ pub record MarksMembers (x y : View) (from : ℕ) {X : Type 0} (result : Result 
       → s < a.size
       → Keeps (x.seen.held (disk_of x.on place) (volume_first + s)) (y.seen.held (disk_of x.on place) (volume_first + s))
   pub leaves :
-      x.seen.traced → (a : FlatArray) → Holds x a → AreEvenBelow x a from → Leaves x.seen y.seen (Means x.seen x.on a)
+      x.seen.traced → (a : FlatArray) → Holds x a → IsEvenBelow x.seen x.on a.size from → Leaves x.seen y.seen (Means x.seen x.on a)
   pub ends :
       x.seen.traced
       → (a : FlatArray)
       → Holds x a
-      → AreEvenBelow x a from
+      → IsEvenBelow x.seen x.on a.size from
       → (i : Image)
       → y.seen.stops y.seen.clock i
       → Means x.seen x.on a i
@@ -71,11 +61,6 @@ pub record WritesMarked (x y : View) (sector : ℕ) (from : List ℕ) {X : Type 
   pub becomes : OnOk result (Becomes x y (λ a. written a sector from))
   pub leaves : LeavesMeanings x y (λ a. written a sector from)
   pub ends : EndsWithMeanings x y (λ a. written a sector from)
-
--- each sector of the volume has one value on each member
-abbrev pub AreSingle : View → FlatArray → Type 0
-AreSingle x a =
-    (place s : ℕ) → place < 2 → s < a.size → IsSingle (x.seen.held (disk_of x.on place) (volume_first + s))
 
 -- both superblocks say that no row is left to resync, unless the opening found some
 pub record StopsWriting (x y : View) {X : Type 0} (result : Result X Gone) : Type 0 where

@@ -20,7 +20,7 @@ use Rattle.pool.specs.DriveMap.{superblock_sector, volume_first, volume_sectors,
 use Rattle.pool.specs.Looks.{superblock_on, now_in, look_now}
 use Rattle.pool.specs.Reading.{AllTold}
 use Rattle.pool.specs.View.{member_of, view, IsPool}
-use Rattle.pool.specs.Volume.{Holds, Means}
+use Rattle.pool.specs.Volume.{Holds, Means, IsEvenBelow}
 use Rattle.pool.specs.Opening.{IsFound, TablesAgree, array_in, truth_of, settled, is_unclean}
 use Rattle.pool.specs.Assembling.{disk_of, damage_of}
 use Rattle.pool.specs.Carrying.{Carries, Step}
@@ -142,16 +142,6 @@ abbrev pub KeepsVolume : Seen → Seen → Assembled → Type 0
 KeepsVolume x y on =
     (place s : ℕ) → place < 2 → IsOfVolume on s → Keeps (x.held (disk_of on place) s) (y.held (disk_of on place) s)
 
--- the members agree in the rows before this sector
-abbrev pub IsEvenBelow : Seen → Assembled → ℕ → Type 0
-IsEvenBelow x on from =
-    (s : ℕ) (v w : List ℕ)
-    → s < volume_sectors on.state
-    → 2048 + s < from
-    → MayLeave (x.held on.first (volume_first + s)) v
-    → MayLeave (x.held on.second (volume_first + s)) w
-    → w ≡ v
-
 -- the superblock of a member is this one
 abbrev pub SaysAt : Seen → Assembled → ℕ → Super → Type 0
 SaysAt x on place s =
@@ -170,7 +160,7 @@ KeepsRest x y on =
 pub record SettlesMember (x y : Seen) (on : Assembled) (place : ℕ) (own wanted : Super) (result : Result (Unit {0}) Refusal)
     : Type 0 where
   pub stays : Stays x y
-  pub step : (a : FlatArray) → Carries x on a → IsEvenBelow x on wanted.resync_offset → Step x y on a
+  pub step : (a : FlatArray) → Carries x on a → IsEvenBelow x on (volume_sectors on.state) wanted.resync_offset → Step x y on a
   pub rest : AllTold x → KeepsRest x y on
   pub kept : AllTold x → KeepsVolume x y on
   pub others :
@@ -185,7 +175,7 @@ pub record SettlesMember (x y : Seen) (on : Assembled) (place : ℕ) (own wanted
 -- both superblocks were settled
 pub record SettlesMembers (x y : Seen) (on : Assembled) (members : Members) (result : Result Members Refusal) : Type 0 where
   pub stays : Stays x y
-  pub step : (a : FlatArray) → Carries x on a → IsEvenBelow x on (truth_of members).resync_offset → Step x y on a
+  pub step : (a : FlatArray) → Carries x on a → IsEvenBelow x on (volume_sectors on.state) (truth_of members).resync_offset → Step x y on a
   pub rest : AllTold x → KeepsRest x y on
   pub kept : AllTold x → KeepsVolume x y on
   pub found : IfOk result (λ m. m ≡ settled members)

@@ -1,6 +1,6 @@
 -- The volume of a pool as a flat array: what the pool's drives hold of it, and what contents mean.
 use Rattle.std.specs.Prelude.{◌≡◌, ℕ, ◌+◌, ◌<◌, ◌++◌, false, List, replicate, Some, Ok}
-use Rattle.rack.specs.Values.{MayLeave, Keeps}
+use Rattle.rack.specs.Values.{MayLeave, Keeps, IsSingle}
 use Rattle.rack.specs.Seen.{Image, Seen}
 use Rattle.flat_array.specs.Array.{FlatArray, Picks}
 use Rattle.gpt_table.specs.Disk.{Contents}
@@ -41,6 +41,21 @@ pub record Means (x : Seen) (on : Assembled) (a : FlatArray) (image : Image) : T
   pub picks : Picks a (volume_of on 0 image)
   pub guarded : IsGuarded x on image
 
+-- the members agree in the rows before this sector, in a volume of so many sectors, whatever a stop leaves
+abbrev pub IsEvenBelow : Seen → Assembled → ℕ → ℕ → Type 0
+IsEvenBelow x on size from =
+    (s : ℕ) (v w : List ℕ)
+    → s < size
+    → 2048 + s < from
+    → MayLeave (x.held on.first (volume_first + s)) v
+    → MayLeave (x.held on.second (volume_first + s)) w
+    → w ≡ v
+
+-- each sector of the volume has one value on each member
+abbrev pub AreSingle : View → FlatArray → Type 0
+AreSingle x a =
+    (place s : ℕ) → place < 2 → s < a.size → IsSingle (x.seen.held (disk_of x.on place) (volume_first + s))
+
 -- the pool's drives hold an array
 pub record Holds (x : View) (a : FlatArray) : Type 0 where
   pub told : AllTold x.seen
@@ -56,13 +71,7 @@ pub record Holds (x : View) (a : FlatArray) : Type 0 where
   pub size : a.size ≡ volume_sectors x.on.state
   pub values : (s : ℕ) → s < a.size → Keeps (a.values s) (x.seen.held x.on.first (volume_first + s))
   -- the second one has the same value in the rows that aren't left to resync
-  pub even :
-      (s : ℕ) (v w : List ℕ)
-      → s < a.size
-      → 2048 + s < x.members.first.resync_offset
-      → MayLeave (x.seen.held x.on.first (volume_first + s)) v
-      → MayLeave (x.seen.held x.on.second (volume_first + s)) w
-      → w ≡ v
+  pub even : IsEvenBelow x.seen x.on a.size x.members.first.resync_offset
   -- and the same current value everywhere, unless the opening found rows left to resync
   pub agree :
       x.unclean ≡ false

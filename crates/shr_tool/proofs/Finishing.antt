@@ -117,7 +117,7 @@ durable_after x m y commands out out' same served ends a holds =
     let held = served.becomes a holds in
     record {
       holds = ends.becomes (array_after a commands) held;
-      single = λ place s few inside. ends.durable (array_after a commands) place s held few inside;
+      single = ends.durable (array_after a commands) held;
       clean = ends.clean;
       ends =
           λ traced i now.

@@ -1,16 +1,13 @@
 -- How a script on a pool came out, by the status that is answered.
 use Rattle.std.specs.Prelude.{◌≡◌, ◌⊎◌, ℕ, ◌+◌, ◌<◌, ◌≤◌, ◌^◌, List, [], ◌∷◌, ◌++◌, length, take, false, codes, decimal}
-use Rattle.rack.specs.Values.{IsSingle}
 use Rattle.rack.specs.Seen.{Image, Seen, Rose}
 use Rattle.io_ends.specs.Sink.{AddsPrefix}
 use Rattle.flat_array.specs.declared.Command.{Command}
 use Rattle.flat_array.specs.Array.{FlatArray, flushed}
 use Rattle.flat_array.specs.Script.{script_of, cut_script_of}
 use Rattle.flat_array.specs.Reply.{reply, replies, array_after, refused_line}
-use Rattle.pool.specs.DriveMap.{volume_first}
-use Rattle.pool.specs.Assembling.{disk_of}
 use Rattle.pool.specs.View.{View, all_rows}
-use Rattle.pool.specs.Volume.{Holds}
+use Rattle.pool.specs.Volume.{Holds, AreSingle}
 use Rattle.pool.specs.Calls.{WentIn, Becomes, LeavesMeanings, EndsWithMeanings, AreDurable, unchanged}
 use Rattle.shr_tool.specs.Meaning.{Meaning}
 use Rattle.shr_tool.specs.declared.status.Status.{Status}
@@ -38,11 +35,7 @@ pub record DriveWent (y : Seen) (counts : ℕ → ℕ) (d : ℕ) : Type 0 where
 pub record Durable (y : View) (Traced : Type 0) (means : Meaning) (a : FlatArray) (commands : List Command) : Type 0 where
   pub holds : Holds y (flushed (array_after a commands))
   -- on both members
-  pub single :
-      (place s : ℕ)
-      → place < 2
-      → s < (array_after a commands).size
-      → IsSingle (y.seen.held (disk_of y.on place) (volume_first + s))
+  pub single : AreSingle y (array_after a commands)
   -- no row is left to resync, unless the opening found some
   pub clean : y.unclean ≡ false → y.members.first.resync_offset ≡ all_rows
   pub ends : Traced → (i : Image) → y.seen.stops y.seen.clock i → means (flushed (array_after a commands)) i
