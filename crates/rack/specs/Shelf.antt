@@ -1,5 +1,6 @@
 -- What a bay can attach, and what attaching does.
-use Rattle.std.specs.Prelude.{◌≡◌, ◌≢◌, ◌↔◌, ℕ, ◌+◌, ◌<◌, ◌≤◌, List, [], ◌∷◌, ◌++◌, slice_get, Option, Some, None, Result, Err, IfOk, OnErr}
+use Rattle.std.specs.Prelude.{◌≡◌, ◌≢◌, ◌↔◌, ℕ, ◌+◌, ◌<◌, ◌≤◌, List, [], ◌∷◌, ◌++◌, slice_get, Option, Some, None, Result, Err, IfOk, OnErr, refl}
+use Rattle.std.proofs.Common.{◌∙◌}
 use Rattle.rack.specs.declared.AttachFault.{AttachFault}
 use Rattle.rack.specs.declared.AttachFault.TheVariants.{Failed, Twice}
 use Rattle.rack.specs.Values.{only}
@@ -20,6 +21,27 @@ pub record Shelf : Type 1 where
   pub told : Type 0
   -- the bay's own count of faults, which never falls
   pub faults : ℕ
+
+-- the names, and what waits, are as before
+pub record KeepsShelf (s t : Shelf) : Type 0 where
+  pub names : t.names ≡ s.names
+  pub ready : (n : List ℕ) → t.ready n ≡ s.ready n
+  pub told : s.told → t.told
+  pub faults : t.faults ≡ s.faults
+
+-- nothing was called
+pub keeps_shelf_same : (s : Shelf) → KeepsShelf s s
+keeps_shelf_same s = record { names = refl; ready = λ n. refl; told = λ told. told; faults = refl }
+
+-- what no call changes, calls in a row don't
+pub keeps_shelf_then : (s t u : Shelf) → KeepsShelf s t → KeepsShelf t u → KeepsShelf s u
+keeps_shelf_then s t u first second =
+    record {
+      names = second.names ∙ first.names;
+      ready = λ n. second.ready n ∙ first.ready n;
+      told = λ told. second.told (first.told told);
+      faults = second.faults ∙ first.faults;
+    }
 
 -- what is known of an old disk stays
 pub record SameDisk (a b : Seen) (d : ℕ) : Type 0 where

@@ -22,7 +22,7 @@ ghost use Rattle.std.specs.Prelude.{◌≡◌, ℕ, ◌<◌, ◌^◌, length, fa
 ghost use Rattle.rack.specs.Seen.{Seen};
 ghost use Rattle.rack.specs.Moments.{IsSound};
 ghost use Rattle.rack.specs.Calls.{Reads, Writes, Syncs};
-ghost use Rattle.rack.specs.Shelf.{Shelf, Attaches};
+ghost use Rattle.rack.specs.Shelf.{Shelf, KeepsShelf, Attaches};
 
 use arrayvec::ArrayVec;
 pub use name::Name;
@@ -72,6 +72,10 @@ pub trait Rack: Drop {
     /// All that contracts see of a rack.
     ghost seen: { Self → Seen };
 
+    /// What calls in a row do to the layers below, beyond the disks that this rack shows: a rack of arrays
+    /// says here what images of its drives say of its books. A rack over another one passes it on.
+    ghost runs: { Self → Self → Type 0 };
+
     /// The number of disks. No call of `Rack` changes it.
     fn disks(&self) -> u32
         requires { (seen self.now).fit }
@@ -89,23 +93,30 @@ pub trait Rack: Drop {
         requires fit { (seen self.old).fit }
         requires disk { disk < (seen self.old).disks }
         requires sector { sector < (seen self.old).sectors disk }
-        ensures { Reads (seen self.old) (seen self.new) disk sector into.new result };
+        ensures reads { Reads (seen self.old) (seen self.new) disk sector into.new result }
+        ensures runs { runs self.old self.new };
 
     /// Appends a value to those of a sector. It is durable once the disk has been synced.
     fn write(&mut self, disk: u32, sector: u64, from: &[u8; 512]) -> Result<(), Gone>
         requires fit { (seen self.old).fit }
         requires disk { disk < (seen self.old).disks }
         requires sector { sector < (seen self.old).sectors disk }
-        ensures { Writes (seen self.old) (seen self.new) disk sector from.now result };
+        ensures writes { Writes (seen self.old) (seen self.new) disk sector from.now result }
+        ensures runs { runs self.old self.new };
 
     /// Makes the current values of a disk durable.
     fn sync(&mut self, disk: u32) -> Result<(), Gone>
         requires fit { (seen self.old).fit }
         requires disk { disk < (seen self.old).disks }
-        ensures { Syncs (seen self.old) (seen self.new) disk result };
+        ensures syncs { Syncs (seen self.old) (seen self.new) disk result }
+        ensures runs { runs self.old self.new };
 
     /// At any moment a stop leaves held values, and may leave the contents as they read.
     ghost sound: { (x : Self) → (seen x).fit → (seen x).traced → IsSound (seen x) };
+
+    /// No call is a run, and runs in a row are one.
+    ghost runs_same: { (x : Self) → runs x x };
+    ghost runs_then: { (x y z : Self) → runs x y → runs y z → runs x z };
 }
 
 /// A rack whose disks are attached by name.
@@ -128,6 +139,9 @@ pub trait Bay: Rack {
 
     /// A disk of a bay has fewer than 2^48 sectors.
     ghost bounded: { (x : Self) (d : ℕ) → d < (Self.seen x).disks → (Self.seen x).sectors d < 2 ^ 48 };
+
+    /// Calls of a rack leave the names, what waits and the bay's own count of faults alone.
+    ghost runs_shelf: { (x y : Self) → Self.runs x y → KeepsShelf (shelf x) (shelf y) };
 
     /// Each disk has its name.
     ghost numbered: { (x : Self) → length (shelf x).names ≡ (Self.seen x).disks };

@@ -7,6 +7,8 @@ impl<R: Rack> Rack for &mut R {
 
     ghost seen = { λ r. through r.ghost_name (R.seen r.now) };
 
+    ghost runs = { λ r s. R.runs r.now s.now };
+
     fn disks(&self) -> u32 {
         (**self).disks()
     }
@@ -28,6 +30,10 @@ impl<R: Rack> Rack for &mut R {
     }
 
     ghost sound = { λ r fit traced. sound_through r.ghost_name (R.seen r.now) (R.sound r.now fit traced) };
+
+    ghost runs_same = { λ r. R.runs_same r.now };
+
+    ghost runs_then = { λ r s t one two. R.runs_then r.now s.now t.now one two };
 }
 
 impl<R: Bay> Bay for &mut R {
@@ -44,6 +50,8 @@ impl<R: Bay> Bay for &mut R {
     ghost lasting = { λ r. R.lasting r.now };
 
     ghost bounded = { λ r. R.bounded r.now };
+
+    ghost runs_shelf = { λ r s runs. R.runs_shelf r.now s.now runs };
 
     ghost numbered = { λ r. R.numbered r.now };
 }

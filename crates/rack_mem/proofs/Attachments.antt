@@ -24,6 +24,15 @@ same_of f z xs i x y at same d =
       | inr apart ↦ other_of f z xs i y d apart
     ]
 
+-- the names stay where a disk keeps its number on the shelf
+names_of-set : (shelf : List DiskSpec) (xs : List Attached) (i : ℕ) (x y : Attached) → slice_get xs i ≡ Some x → y.number ≡ x.number
+    → names_of shelf (set xs i y) ≡ names_of shelf xs
+names_of-set shelf [] i x y at same = refl
+names_of-set shelf (z ∷ xs) zero x y at same =
+    let here : z ≡ x = cc in
+    ap (λ n. name_of shelf n ∷ names_of shelf xs) (same ∙ sym (ap (λ (a : Attached). a.number) here))
+names_of-set shelf (z ∷ xs) (suc i) x y at same = ap (λ names. name_of shelf z.number ∷ names) (names_of-set shelf xs i x y at same)
+
 -- a list of attached disks after the faults of one were counted
 pub counts_fault : (a b : Memory) (i : ℕ) (x y : Attached) → slice_get a.attached i ≡ Some x → b.attached ≡ set a.attached i y
     → y.number ≡ x.number → y.failed ≡ x.failed → x.faults ≤ y.faults → Rose x.faults y.faults
@@ -40,6 +49,7 @@ counts_fault a b i x y at set_at number failed later rose shelf contents failing
         contents = contents;
         disks = ap length set_at ∙ length-set a.attached i y;
         numbers = λ d. ap (λ xs. number_of xs d) set_at ∙ same_of (λ disk. disk.number) 0 a.attached i x y at number d;
+        names = rw (shelf, set_at) (names_of-set a.shelf a.attached i x y at number);
         faults = λ d. elim (cases_eq d i) [
           | inl here ↦ subst (λ e. faults_of a.attached e ≤ faults_of b.attached e) (sym here) (omega arith)
           | inr apart ↦ omega (arith, others d apart)
@@ -52,15 +62,6 @@ counts_fault a b i x y at set_at number failed later rose shelf contents failing
       rose = rw (before, after) rose;
       others = others;
     }
-
--- the names stay where a disk keeps its number on the shelf
-names_of-set : (shelf : List DiskSpec) (xs : List Attached) (i : ℕ) (x y : Attached) → slice_get xs i ≡ Some x → y.number ≡ x.number
-    → names_of shelf (set xs i y) ≡ names_of shelf xs
-names_of-set shelf [] i x y at same = refl
-names_of-set shelf (z ∷ xs) zero x y at same =
-    let here : z ≡ x = cc in
-    ap (λ n. name_of shelf n ∷ names_of shelf xs) (same ∙ sym (ap (λ (a : Attached). a.number) here))
-names_of-set shelf (z ∷ xs) (suc i) x y at same = ap (λ names. name_of shelf z.number ∷ names) (names_of-set shelf xs i x y at same)
 
 pub names_differ_still : (shelf : List DiskSpec) (xs : List Attached) (i : ℕ) (x y : Attached) → slice_get xs i ≡ Some x → y.number ≡ x.number
     → AllDiffer (names_of shelf xs) → AllDiffer (names_of shelf (set xs i y))

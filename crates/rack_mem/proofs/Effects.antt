@@ -1,4 +1,8 @@
 -- What a kept call does to a bay as a rack.
+use Rattle.std.specs.Prelude.{Option, None, ◌||◌}
+use Rattle.std.specs.Option.{option_map}
+use Rattle.std.specs.List.{list_any}
+use Rattle.std.specs.Str.{bytes_eq}
 use Rattle.std.proofs.Common.{◌≡◌, ℕ, ◌+◌, ◌<◌, ◌≤◌, ◌==◌, ◌&&◌, if◌then◌else◌, true, false, inl, inr, List, [], ◌∷◌, ◌++◌, length, refl, sym, ap, subst, ◌∙◌, arith, add-one}
 use Rattle.std.proofs.lemmas.List.{length_push}
 use Rattle.std.proofs.lemmas.Bool.{eq-eqb}
@@ -6,11 +10,14 @@ use Rattle.rack.specs.Values.{Values, MayLeave, Keeps, append, only}
 use Rattle.rack.specs.Seen.{Image, IsPick, Stays}
 use Rattle.rack.specs.Moments.{Leaves}
 use Rattle.rack.specs.Calls.{KeepsAll}
+use Rattle.rack.specs.Shelf.{KeepsShelf, Waiting}
 use Rattle.rack.specs.Joins.{keeps_same, may_leave-append}
 use Rattle.rack_mem.specs.declared.calls.Call.{Call}
 use Rattle.rack_mem.specs.declared.calls.Call.TheVariants.{Quiet, Write, Sync}
+use Rattle.rack_mem.specs.declared.DiskSpec.{DiskSpec}
+use Rattle.rack_mem.specs.declared.memory.Attached.{Attached}
 use Rattle.rack_mem.specs.History.{after_call}
-use Rattle.rack_mem.specs.Memory.{Memory, Follows, Records, IsLeft, number_of, sectors_of, values_of, seen_of}
+use Rattle.rack_mem.specs.Memory.{Memory, Follows, Records, IsLeft, number_of, sectors_of, name_of, names_of, is_attached, first_named, waiting, values_of, seen_of, shelf_of}
 use Rattle.rack_mem.proofs.Histories.{values_at-push, values_at-pushed}
 
 -- a call was kept, whatever else happened
@@ -49,6 +56,36 @@ stays {a} {b} f = record {
   traced = λ _. tt;
   lenders = refl;
 }
+
+-- whether a name is attached goes by the names
+attached_by_names : (shelf : List DiskSpec) (xs : List Attached) (name : List ℕ)
+    → is_attached shelf xs name ≡ list_any (λ n. bytes_eq n name) (names_of shelf xs)
+attached_by_names shelf [] name = refl
+attached_by_names shelf (x ∷ xs) name = ap (λ b. bytes_eq (name_of shelf x.number) name || b) (attached_by_names shelf xs name)
+
+-- a disk of the shelf waits with what it held
+waiting_same : {a b : Memory} → Follows a b → (n : ℕ) → waiting b n ≡ waiting a n
+waiting_same {a} {b} f n = λ i. record { sectors = ap (λ shelf. sectors_of shelf n) f.shelf i; contents = λ s. f.contents n s i }
+
+-- no call of a rack changes the names or what waits
+pub shelf_stays : {a b : Memory} → Follows a b → KeepsShelf (shelf_of a) (shelf_of b)
+shelf_stays {a} {b} f =
+    record {
+      names = f.names;
+      ready =
+          λ name.
+          let attached : is_attached b.shelf b.attached name ≡ is_attached a.shelf a.attached name =
+              attached_by_names b.shelf b.attached name
+              ∙ ap (list_any (λ n. bytes_eq n name)) f.names
+              ∙ sym (attached_by_names a.shelf a.attached name) in
+          let waits : option_map (waiting b) (first_named b.shelf name) ≡ option_map (waiting a) (first_named a.shelf name) =
+              ap (λ g. option_map g (first_named b.shelf name)) (λ i n. waiting_same f n i)
+              ∙ ap (λ shelf. option_map (waiting a) (first_named shelf name)) f.shelf in
+          ap (λ t. if t then None else option_map (waiting b) (first_named b.shelf name)) attached
+          ∙ ap (λ o. if is_attached a.shelf a.attached name then None else o) waits;
+      told = λ told. told;
+      faults = f.bay;
+    }
 
 -- the values at earlier moments stay
 values_before : {a b : Memory} {call : Call} → Appends a b call → (d s k : ℕ) → k ≤ length a.calls → values_of b d s k ≡ values_of a d s k

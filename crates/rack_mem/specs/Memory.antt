@@ -115,6 +115,7 @@ pub record Follows (a b : Memory) : Type 0 where
   pub contents : (n s : ℕ) → b.contents n s ≡ a.contents n s
   pub disks : length b.attached ≡ length a.attached
   pub numbers : (d : ℕ) → number_of b.attached d ≡ number_of a.attached d
+  pub names : names_of b.shelf b.attached ≡ names_of a.shelf a.attached
   pub faults : (d : ℕ) → faults_of a.attached d ≤ faults_of b.attached d
   pub failed : (d : ℕ) → has_failed b.attached d ≡ has_failed a.attached d
   pub failing : b.failing ≡ a.failing

@@ -259,8 +259,11 @@ impl MemBay {
 impl Rack for MemBay {
     ghost use Rattle.rack_mem.specs.MemBay.{memory};
     ghost use Rattle.rack_mem.specs.Laws.{is_sound};
+    ghost use Rattle.rack.specs.Shelf.{KeepsShelf, keeps_shelf_same, keeps_shelf_then};
 
     ghost seen = { λ bay. seen_of (memory bay) };
+
+    ghost runs = { λ old new. KeepsShelf (shelf_of (memory old)) (shelf_of (memory new)) };
 
     fn disks(&self) -> u32 {
         self.attached.len() as u32
@@ -273,6 +276,7 @@ impl Rack for MemBay {
     fn read(&mut self, disk: u32, sector: u64, into: &mut [u8; 512]) -> Result<(), Gone>
         requires { disk < length (memory self.old).attached }
         ensures call { Reads (seen_of (memory self.old)) (seen_of (memory self.new)) disk sector into.new result }
+        ensures names { KeepsShelf (shelf_of (memory self.old)) (shelf_of (memory self.new)) }
 
         // Refused exactly where the room is full, the call is to fail or the disk has failed.
         ensures refused { IsErr result ↔ IsRefused (memory self.old) disk }
@@ -290,6 +294,7 @@ impl Rack for MemBay {
     fn write(&mut self, disk: u32, sector: u64, from: &[u8; 512]) -> Result<(), Gone>
         requires { disk < length (memory self.old).attached }
         ensures call { Writes (seen_of (memory self.old)) (seen_of (memory self.new)) disk sector from.now result }
+        ensures names { KeepsShelf (shelf_of (memory self.old)) (shelf_of (memory self.new)) }
 
         // Refused exactly where the room is full, the call is to fail or the disk has failed.
         ensures refused { IsErr result ↔ IsRefused (memory self.old) disk }
@@ -306,6 +311,7 @@ impl Rack for MemBay {
     fn sync(&mut self, disk: u32) -> Result<(), Gone>
         requires { disk < length (memory self.old).attached }
         ensures call { Syncs (seen_of (memory self.old)) (seen_of (memory self.new)) disk result }
+        ensures names { KeepsShelf (shelf_of (memory self.old)) (shelf_of (memory self.new)) }
 
         // Refused exactly where the room is full, the call is to fail or the disk has failed.
         ensures refused { IsErr result ↔ IsRefused (memory self.old) disk }
@@ -320,6 +326,10 @@ impl Rack for MemBay {
     }
 
     ghost sound = { λ bay fit traced. is_sound (memory bay) };
+
+    ghost runs_same = { λ bay. keeps_shelf_same (shelf_of (memory bay)) };
+
+    ghost runs_then = { λ x y z. keeps_shelf_then (shelf_of (memory x)) (shelf_of (memory y)) (shelf_of (memory z)) };
 }
 
 impl Bay for MemBay {
@@ -359,6 +369,8 @@ impl Bay for MemBay {
     ghost lasting = { λ bay. tt };
 
     ghost bounded = { λ bay d below. bay.small (number_of bay.attached.items d) };
+
+    ghost runs_shelf = { λ x y runs. runs };
 
     ghost numbered = { λ bay. length-map bay.attached.items (λ disk. name_of bay.shelf.items disk.number) };
 }

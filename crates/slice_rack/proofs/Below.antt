@@ -6,10 +6,10 @@ use Rattle.rack.specs.declared.Gone.{Gone}
 use Rattle.rack.specs.Values.{Values, MayLeave, Keeps, append}
 use Rattle.rack.specs.Seen.{Image, Held, Seen, IsPick, Stays, appended}
 use Rattle.rack.specs.Moments.{Leaves}
-use Rattle.rack.specs.Calls.{KeepsAll, Writes}
+use Rattle.rack.specs.Calls.{KeepsAll, Reads, Writes}
 use Rattle.slice_rack.specs.Slices.{Slices, IsOrderly, seat_of, place_of, disk_of, first_of, sectors_of}
 use Rattle.slice_rack.specs.Sliced.{IsInside, Shows, slices_of}
-use Rattle.slice_rack.specs.Laws.{live_below}
+use Rattle.slice_rack.specs.Laws.{live_below, shows_inside}
 
 -- the slices still lie inside
 inside_still : {t : Slices} {a b : Seen} → Stays a b → IsInside t a → IsInside t b
@@ -51,7 +51,7 @@ pick_sliced : {t : Slices} {a b : Seen} (held sliced : Held) → IsOrderly t →
     → (below c : Image) → Shows t below c → IsPick a b held below → IsPick (slices_of t a) (slices_of t b) sliced c
 pick_sliced {t} held sliced orderly inside same below c shows pick d s live =
     subst (λ h. MayLeave h (c d s)) (same d s live.sector)
-    (subst (MayLeave (held (disk_of t d) (first_of t d + s))) (sym (shows d s live.sector))
+    (subst (MayLeave (held (disk_of t d) (first_of t d + s))) (sym (shows_inside t below c d s shows live.sector))
     (pick (disk_of t d) (first_of t d + s) (live_below orderly inside live)))
 
 -- no value comes, and no current value changes
@@ -156,4 +156,15 @@ refused_sliced {t} {a} {b} d s value gone orderly inside within w = record {
         | inl before ↦ inl before
         | inr after ↦ inr (subst (λ h. Keeps h (b.held (disk_of t e) (first_of t e + u))) (appended_sliced t a d s value orderly within e u live.sector) after)
       ];
+}
+
+-- a read that was refused
+pub unread_sliced : {t : Slices} {a b : Seen} (d s : ℕ) (into : List ℕ) (gone : Gone) → IsOrderly t → IsInside t a
+    → Reads a b (disk_of t d) (first_of t d + s) into {X = Unit {0}} (Err gone)
+    → Reads (slices_of t a) (slices_of t b) d s into {X = Unit {0}} (Err (record { disk = d }))
+unread_sliced {t} {a} {b} d s into gone orderly inside r = record {
+  stays = stays_sliced inside r.stays;
+  cause = record { served = tt; gone = (refl, r.cause.gone.1); spent = r.cause.spent };
+  keeps = keeps_sliced orderly (inside_still r.stays inside) r.keeps;
+  value = tt;
 }

@@ -1,11 +1,11 @@
 -- What holds of a rack of slices at any moment.
-use Rattle.std.specs.Prelude.{◌≡◌, ℕ, ◌+◌, ◌<◌, Some, None, Option, refl, unwrap_or}
-use Rattle.std.proofs.Common.{sym, subst, arith}
+use Rattle.std.specs.Prelude.{◌≡◌, ℕ, ◌+◌, ◌<◌, if◌then◌else◌, [], Some, None, Option, refl, unwrap_or}
+use Rattle.std.proofs.Common.{sym, subst, ap, ◌∙◌, lt-ltb, arith}
 use Rattle.rack.specs.Values.{MayLeave}
-use Rattle.rack.specs.Seen.{Seen, IsLive}
+use Rattle.rack.specs.Seen.{Image, Seen, IsLive}
 use Rattle.rack.specs.Moments.{IsSound}
 use Rattle.slice_rack.specs.Slices.{Slices, IsOrderly, seat_of, place_of, disk_of, first_of, sectors_of}
-use Rattle.slice_rack.specs.Sliced.{IsInside, slices_of}
+use Rattle.slice_rack.specs.Sliced.{IsInside, Shows, sliced, slices_of}
 
 -- a slice with a sector has a disk below
 pub disk_below : (t : Slices) (a : Seen) (d s : ℕ) → IsOrderly t → IsInside t a → s < sectors_of t d → disk_of t d < a.disks
@@ -32,15 +32,22 @@ live_below {t} {a} {b} {d} {s} orderly inside live = record {
   unspent = live.unspent;
 }
 
+-- a sector inside a slice shows its sector below
+pub shows_inside : (t : Slices) (below c : Image) (d s : ℕ) → Shows t below c → s < sectors_of t d → c d s ≡ below (disk_of t d) (first_of t d + s)
+shows_inside t below c d s shows inside =
+    shows d s ∙ ap (λ b. if b then below (disk_of t d) (first_of t d + s) else []) (lt-ltb s (sectors_of t d) inside)
+
 -- a stop now leaves held values, and may leave the contents as they read
 pub is_sound : (t : Slices) (a : Seen) → IsOrderly t → IsInside t a → IsSound a → IsSound (slices_of t a)
 is_sound t a orderly inside sound = record {
   only_held = λ c left d s live.
-      subst (MayLeave (a.held (disk_of t d) (first_of t d + s))) (sym (left.2 d s live.sector))
+      subst (MayLeave (a.held (disk_of t d) (first_of t d + s))) (sym (shows_inside t left.0 c d s left.2 live.sector))
       (sound.only_held left.0 left.1 (disk_of t d) (first_of t d + s) (live_below orderly inside live));
   now = (
-    λ d s. sound.now.0 (disk_of t d) (first_of t d + s),
-    (sound.now.0, sound.now.1, λ d s within. refl),
-    λ d s live. sound.now.2 (disk_of t d) (first_of t d + s) (live_below orderly inside live),
+    sliced t sound.now.0,
+    (sound.now.0, sound.now.1, λ d s. refl),
+    λ d s live.
+        shows_inside t sound.now.0 (sliced t sound.now.0) d s (λ e u. refl) live.sector
+        ∙ sound.now.2 (disk_of t d) (first_of t d + s) (live_below orderly inside live),
   );
 }

@@ -1,5 +1,5 @@
 -- A rack of slices as a rack: each sector is one of the rack below.
-use Rattle.std.specs.Prelude.{◌≡◌, ℕ, ◌+◌, ◌<◌, ◌≤◌, ◌^◌, Some}
+use Rattle.std.specs.Prelude.{◌≡◌, ℕ, ◌+◌, ◌<◌, ◌≤◌, ◌^◌, nat_lt, if◌then◌else◌, [], Some}
 use Rattle.rack.specs.Seen.{Image, Seen}
 use Rattle.slice_rack.specs.Slices.{Slices, seat_of, disk_of, first_of, sectors_of}
 
@@ -9,9 +9,12 @@ pub record IsInside (t : Slices) (a : Seen) : Type 0 where
   pub seats : (place disk : ℕ) → seat_of t place ≡ Some disk → disk < a.disks
   pub slices : (d : ℕ) → 0 < sectors_of t d → first_of t d + sectors_of t d ≤ a.sectors (disk_of t d)
 
--- the contents of the slices are those of their sectors below
+-- the contents of the slices are those of their sectors below; where no slice is they are no sector
+abbrev pub sliced : Slices → Image → Image
+sliced t below d s = if nat_lt s (sectors_of t d) then below (disk_of t d) (first_of t d + s) else []
+
 abbrev pub Shows : Slices → Image → Image → Type 0
-Shows t below c = (d s : ℕ) → s < sectors_of t d → c d s ≡ below (disk_of t d) (first_of t d + s)
+Shows t below c = (d s : ℕ) → c d s ≡ sliced t below d s
 
 -- the slices of a rack
 abbrev pub slices_of : Slices → Seen → Seen

@@ -123,6 +123,8 @@ impl<R: Rack> Rack for SliceRack<R> {
 
     ghost seen = { λ rack. slices_of (tables rack) (R.seen rack.rack) };
 
+    ghost runs = { λ old new. R.runs old.rack new.rack };
+
     fn disks(&self) -> u32 {
         272
     }
@@ -161,6 +163,10 @@ impl<R: Rack> Rack for SliceRack<R> {
     }
 
     ghost sound = { λ rack fit traced. is_sound (tables rack) (R.seen rack.rack) rack.orderly fit.1 (R.sound rack.rack fit.0 traced) };
+
+    ghost runs_same = { λ rack. R.runs_same rack.rack };
+
+    ghost runs_then = { λ x y z one two. R.runs_then x.rack y.rack z.rack one two };
 }
 
 impl<R: Rack> SliceRack<R> {
