@@ -11,6 +11,7 @@
 ghost use Rattle.std.specs.Prelude.{◌≡◌, ◌≢◌, ◌<◌, ◌≤◌, ◌^◌, ◌++◌, [], ◌∷◌, ℕ, length, slice_get, Some, None, OnErr, IfOk, IfErr, IfSome, IfNone, refl};
 ghost use Rattle.rack.specs.declared.AttachFault.TheVariants.{Failed, Memory};
 ghost use Rattle.rack.specs.Seen.{Rose};
+ghost use Rattle.rack.specs.Shelf.{KeepsShelf};
 ghost use Rattle.rack_file.specs.Files.{names_of, Differ, files_seen, files_shelf, NotesFault};
 
 mod disk;
@@ -85,7 +86,7 @@ where
     fn note_fault(&mut self, disk: u32)
         requires { disk < length self.old.disks.items }
         ensures noted { NotesFault self.old.disks.items self.new.disks.items disk }
-        ensures faults { self.new.faults ≡ self.old.faults }
+        ensures shelf { KeepsShelf (files_shelf self.old.disks.items self.old.faults) (files_shelf self.new.disks.items self.new.faults) }
     {
         let file = &mut self.disks[disk as usize];
         file.faults = file.faults.saturating_add(1);
@@ -107,7 +108,11 @@ impl<'a, R: Files> Rack for FileBay<'a, R>
 where
     R::File: FileExt,
 {
+    ghost use Rattle.rack.specs.Shelf.{keeps_shelf_same, keeps_shelf_then};
+
     ghost seen = { λ b. files_seen b.disks.items };
+
+    ghost runs = { λ old new. KeepsShelf (files_shelf old.disks.items old.faults) (files_shelf new.disks.items new.faults) };
 
     fn disks(&self) -> u32 {
         self.disks.len() as u32
@@ -150,6 +155,10 @@ where
     }
 
     ghost sound = { λ b fit traced. absurd traced };
+
+    ghost runs_same = { λ b. keeps_shelf_same (files_shelf b.disks.items b.faults) };
+
+    ghost runs_then = { λ x y z. keeps_shelf_then (files_shelf x.disks.items x.faults) (files_shelf y.disks.items y.faults) (files_shelf z.disks.items z.faults) };
 }
 
 impl<'a, R: Files> Bay for FileBay<'a, R>
@@ -182,6 +191,8 @@ where
     ghost lasting = { λ b. tt };
 
     ghost bounded = { λ b d inside. bounded_files b.disks.items d };
+
+    ghost runs_shelf = { λ x y runs. runs };
 
     ghost numbered = { λ b. names-length b.disks.items };
 }

@@ -22,3 +22,9 @@ returns-clause-noted g c =
     noted disks c.args.disk _ _ at refl refl
     (grows_more _ _ c.index_mut-file.result.now.counted c.saturating_add-file.ensures)
     (rose_more _ _ c.saturating_add-file.ensures)
+
+pub returns-clause-shelf : goal.returns-clause-shelf
+returns-clause-shelf g c =
+    let disks = c.args.self.now.disks.items in
+    let at = slice_get_read disks _ c.args.disk _ refl c.requires c.index_mut-file.ensures.value in
+    record { names = names_kept disks c.args.disk _ _ at refl; ready = λ n. refl; told = λ told. told; faults = refl }
