@@ -23,7 +23,8 @@ fn write_durably<R: Rack>(
     requires fit { (R.seen rack.old).fit }
     requires disk { disk < (R.seen rack.old).disks }
     requires sector { sector < (R.seen rack.old).sectors disk }
-    ensures { WritesSectors (R.seen rack.old) (R.seen rack.new) disk (sector_plan sector value.now) result }
+    ensures writes { WritesSectors (R.seen rack.old) (R.seen rack.new) disk (sector_plan sector value.now) result }
+    ensures runs { R.runs rack.old rack.new }
 {
     if let Err(gone) = rack.write(disk, sector, value) {
         return Err(gone);
@@ -45,7 +46,8 @@ fn write_entries_durably<R: Rack>(
     requires disk { disk < (R.seen rack.old).disks }
     requires within { first + 32 ≤ (R.seen rack.old).sectors disk }
     requires bounded { first < 2 ^ 52 }
-    ensures { WritesSectors (R.seen rack.old) (R.seen rack.new) disk (entries_plan first bytes.now) result }
+    ensures writes { WritesSectors (R.seen rack.old) (R.seen rack.new) disk (entries_plan first bytes.now) result }
+    ensures runs { R.runs rack.old rack.new }
 {
     if let Err(gone) = write_entries(rack, disk, first, bytes) {
         return Err(gone);
@@ -70,6 +72,7 @@ pub(crate) fn replace_copy<R: Rack>(
     requires writable { IsWritable table.now }
     ensures replaced { ReplacesCopy (R.seen rack.old) (R.seen rack.new) disk copy table.now result }
     ensures named { IfErr result (λ gone. gone.disk ≡ disk) }
+    ensures runs { R.runs rack.old rack.new }
 {
     let bytes = encode_entries(table);
     let header = encode_header(copy, table, &bytes);
@@ -138,6 +141,7 @@ pub fn change_entry<R: Rack>(
     requires writable { IsWritable (changed entry.now table.old) }
     ensures table { table.new ≡ changed entry.now table.old }
     ensures changes { ChangesTable (R.seen rack.old) (R.seen rack.new) disk table.old (changed entry.now table.old) result }
+    ensures runs { R.runs rack.old rack.new }
 {
     table.entries = with_entry(table.entries.as_slice(), entry);
     if let Err(gone) = replace_copy(rack, disk, TableCopy::Backup, table) {

@@ -21,7 +21,8 @@ fn read_entries<R: Rack>(rack: &mut R, disk: u32, first: u64) -> Result<[u8; ENT
     requires disk { disk < (R.seen rack.old).disks }
     requires within { first + ENTRIES_SECTORS ≤ (R.seen rack.old).sectors disk }
     requires bounded { first < 2 ^ 52 }
-    ensures { Looks (R.seen rack.old) (R.seen rack.new) disk (IsAmong first 32) (λ (bytes : List ℕ). bytes ≡ entries_bytes (now_on (R.seen rack.old) disk) first) result }
+    ensures looks { Looks (R.seen rack.old) (R.seen rack.new) disk (IsAmong first 32) (λ (bytes : List ℕ). bytes ≡ entries_bytes (now_on (R.seen rack.old) disk) first) result }
+    ensures runs { R.runs rack.old rack.new }
 {
     let mut bytes = [0; ENTRIES_BYTES];
     for place in 0..ENTRIES_SECTORS {
@@ -48,6 +49,7 @@ pub(crate) fn read_copy<R: Rack>(
     requires bounded { sectors < 2 ^ 52 }
     ensures looks { Looks (R.seen rack.old) (R.seen rack.new) disk (IsOfCopy copy sectors) (λ table. table ≡ table_at copy sectors (now_on (R.seen rack.old) disk)) result }
     ensures writable { IfOk result (λ found. IfSome found (λ table. IsWritableOn sectors table)) }
+    ensures runs { R.runs rack.old rack.new }
 {
     let mut header = [0; 512];
     if let Err(gone) = rack.read(disk, header_sector(copy, sectors), &mut header) {
@@ -74,6 +76,7 @@ pub fn read_table<R: Rack>(rack: &mut R, disk: u32) -> Result<Seen, TableFault>
         → first_table ((R.seen rack.old).sectors disk) contents ≡ first_table ((R.seen rack.old).sectors disk) (now_on (R.seen rack.old) disk) }
     ensures none { result ≡ Err TableFault.NoTable → (R.seen rack.old).told disk → first_table ((R.seen rack.old).sectors disk) (now_on (R.seen rack.old) disk) ≡ None }
     ensures gone { result ≡ Err TableFault.Gone → Rose ((R.seen rack.old).faults disk) ((R.seen rack.new).faults disk) }
+    ensures runs { R.runs rack.old rack.new }
 {
     let sectors = rack.sectors(disk);
     if sectors < FEWEST_SECTORS {
@@ -96,6 +99,7 @@ fn first_copy<R: Rack>(rack: &mut R, disk: u32, sectors: u64) -> Result<Option<S
     ensures looks { Looks (R.seen rack.old) (R.seen rack.new) disk (λ sector. ⊥) (λ found. found ≡ first_table sectors (now_on (R.seen rack.old) disk)) result }
     ensures unspent { OnOk result ((R.seen rack.old).told disk → (contents : Contents) → AgreesUnspent (R.seen rack.old) disk contents → first_table sectors contents ≡ first_table sectors (now_on (R.seen rack.old) disk)) }
     ensures writable { IfOk result (λ found. IfSome found (λ seen. IsWritableOn sectors seen.table)) }
+    ensures runs { R.runs rack.old rack.new }
 {
     match read_copy(rack, disk, TableCopy::Primary, sectors) {
         Ok(None) => {}

@@ -31,6 +31,7 @@ fn read_copies<R: Rack>(rack: &mut R, disk: u32, sectors: u64) -> Result<Copies,
     ensures looks { Looks (R.seen rack.old) (R.seen rack.new) disk (λ sector. ⊥) (λ found. (found.primary ≡ table_at Primary sectors (now_on (R.seen rack.old) disk)) × (found.backup ≡ table_at Backup sectors (now_on (R.seen rack.old) disk))) result }
     ensures primary { IfOk result (λ found. IfSome found.primary (λ table. IsWritableOn sectors table)) }
     ensures backup { IfOk result (λ found. IfSome found.backup (λ table. IsWritableOn sectors table)) }
+    ensures runs { R.runs rack.old rack.new }
 {
     let primary = match read_copy(rack, disk, TableCopy::Primary, sectors) {
         Ok(primary) => primary,
@@ -61,6 +62,7 @@ fn replace_stale<R: Rack>(
     requires writable { IsWritableOn ((R.seen rack.old).sectors disk) table.now }
     ensures replaced { ReplacesCopy (R.seen rack.old) (R.seen rack.new) disk copy table.now result }
     ensures cause { result ≢ Err TableFault.NoTable }
+    ensures runs { R.runs rack.old rack.new }
 {
     match replace_copy(rack, disk, copy, table) {
         Ok(()) => Ok(()),
@@ -74,7 +76,8 @@ fn settle_copies<R: Rack>(rack: &mut R, disk: u32, copies: &Copies) -> Result<()
     requires disk { disk < (R.seen rack.old).disks }
     requires primary { IfSome copies.now.primary (λ table. IsWritableOn ((R.seen rack.old).sectors disk) table) }
     requires backup { IfSome copies.now.backup (λ table. IsWritableOn ((R.seen rack.old).sectors disk) table) }
-    ensures { Settles (R.seen rack.old) (R.seen rack.new) disk copies.now.primary copies.now.backup result }
+    ensures settles { Settles (R.seen rack.old) (R.seen rack.new) disk copies.now.primary copies.now.backup result }
+    ensures runs { R.runs rack.old rack.new }
 {
     let Some(primary) = &copies.primary else {
         return match &copies.backup {
@@ -101,6 +104,7 @@ pub fn settle_table<R: Rack>(rack: &mut R, disk: u32) -> Result<(), TableFault>
     ensures settles { SettlesTable (R.seen rack.old) (R.seen rack.new) disk ((R.seen rack.old).sectors disk) result }
     ensures none { result ≡ Err TableFault.NoTable → (R.seen rack.old).told disk → first_table ((R.seen rack.old).sectors disk) (now_on (R.seen rack.old) disk) ≡ None }
     ensures gone { result ≡ Err TableFault.Gone → Rose ((R.seen rack.old).faults disk) ((R.seen rack.new).faults disk) }
+    ensures runs { R.runs rack.old rack.new }
 {
     let sectors = rack.sectors(disk);
     if sectors < FEWEST_SECTORS {

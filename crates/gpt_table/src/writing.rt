@@ -37,7 +37,8 @@ pub(crate) fn write_entries<R: Rack>(
     requires disk { disk < (R.seen rack.old).disks }
     requires within { first + 32 ≤ (R.seen rack.old).sectors disk }
     requires bounded { first < 2 ^ 52 }
-    ensures { WritesPlan (R.seen rack.old) (R.seen rack.new) disk (entries_plan first bytes.now) result }
+    ensures writes { WritesPlan (R.seen rack.old) (R.seen rack.new) disk (entries_plan first bytes.now) result }
+    ensures runs { R.runs rack.old rack.new }
 {
     for place in 0..32 {
         let sector = piece_of(bytes, place);
@@ -63,7 +64,8 @@ fn write_sectors<R: Rack>(
     requires within { first + 32 ≤ (R.seen rack.old).sectors disk }
     requires apart { (own < first) ⊎ (first + 32 ≤ own) }
     requires bounded { first < 2 ^ 52 }
-    ensures { WritesSectors (R.seen rack.old) (R.seen rack.new) disk (copy_plan own header.now first bytes.now) result }
+    ensures writes { WritesSectors (R.seen rack.old) (R.seen rack.new) disk (copy_plan own header.now first bytes.now) result }
+    ensures runs { R.runs rack.old rack.new }
 {
     if let Err(gone) = write_entries(rack, disk, first, bytes) {
         return Err(gone);
@@ -83,7 +85,8 @@ fn write_copy<R: Rack>(rack: &mut R, disk: u32, copy: TableCopy, table: &Table) 
     requires disk { disk < (R.seen rack.old).disks }
     requires size { table.now.sectors ≡ (R.seen rack.old).sectors disk }
     requires writable { IsWritable table.now }
-    ensures { WritesCopy (R.seen rack.old) (R.seen rack.new) disk copy table.now result }
+    ensures writes { WritesCopy (R.seen rack.old) (R.seen rack.new) disk copy table.now result }
+    ensures runs { R.runs rack.old rack.new }
 {
     let bytes = encode_entries(table);
     let header = encode_header(copy, table, &bytes);
@@ -115,7 +118,8 @@ pub fn write_whole<R: Rack>(rack: &mut R, disk: u32, table: &Table) -> Result<()
     requires disk { disk < (R.seen rack.old).disks }
     requires size { table.now.sectors ≡ (R.seen rack.old).sectors disk }
     requires writable { IsWritable table.now }
-    ensures { WritesTable (R.seen rack.old) (R.seen rack.new) disk table.now result }
+    ensures writes { WritesTable (R.seen rack.old) (R.seen rack.new) disk table.now result }
+    ensures runs { R.runs rack.old rack.new }
 {
     if let Err(gone) = write_copy(rack, disk, TableCopy::Backup, table) {
         return Err(gone);

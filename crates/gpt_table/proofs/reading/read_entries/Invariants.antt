@@ -10,4 +10,5 @@ invariant-loop-place g l = record {
   unspent : (k : ℕ) → k < l.place → (g.R.Rack.seen l.initial.rack).spent l.fn.disk (l.fn.first + k) ≡ false;
   read : (g.R.Rack.seen l.initial.rack).told l.fn.disk
       → take (512 * l.place) l.bytes ≡ joined (now_on (g.R.Rack.seen l.initial.rack) l.fn.disk) l.fn.first l.place;
+  runs : g.R.Rack.runs l.initial.rack l.rack;
 }

@@ -21,7 +21,7 @@ returns-clause-settles g c =
       first = λ told. (c.in-Ok.ensures.looks.value told).0;
       second = λ told. (c.in-Ok.ensures.looks.value told).1;
     })
-    c.in-Ok.ensures.primary c.in-Ok.ensures.backup c.settle_copies.ensures)
+    c.in-Ok.ensures.primary c.in-Ok.ensures.backup c.settle_copies.ensures.settles)
 
 pub returns-clause-gone : goal.returns-clause-gone
 returns-clause-gone g c = λ gone.
@@ -32,4 +32,4 @@ returns-clause-gone g c = λ gone.
       first = λ told. (c.in-Ok.ensures.looks.value told).0;
       second = λ told. (c.in-Ok.ensures.looks.value told).1;
     })
-    c.settle_copies.ensures gone
+    c.settle_copies.ensures.settles gone

@@ -4,8 +4,8 @@ use Rattle.gpt_table.specs.Plans.{copy_plan, WritesSectors}
 use Rattle.gpt_table.proofs.Planned.{plan_holds, plan_within}
 use Rattle.gpt_table.proofs.writing.write_copy.Goals as goal
 
-pub returns : goal.returns
-returns g c =
+pub returns-clause-writes : goal.returns-clause-writes
+returns-clause-writes g c =
     let sectors = c.args.table.now.sectors in
     let header = c.encode_header-header.result in
     let bytes = c.encode_entries-bytes.result in
@@ -19,5 +19,5 @@ returns g c =
           plan_holds c.args.copy c.args.table.now header bytes contents c.requires.writable.room c.encode_entries-bytes.ensures.long
           c.encode_header-header.ensures holds;
       writes = subst₂ (λ (o f : ℕ). WritesSectors (g.R.Rack.seen c.args.rack.now) (g.R.Rack.seen c.write_sectors.new.rack) c.args.disk (copy_plan o header f bytes) c.write_sectors.result)
-          own first c.write_sectors.ensures;
+          own first c.write_sectors.ensures.writes;
     }

@@ -8,14 +8,15 @@ pub loop-place-init : goal.loop-place-init
 loop-place-init g c = record {
   follows = follows_start (g.R.Rack.seen c.args.rack.now) c.args.disk (entries_plan c.args.first c.args.bytes.now) c.requires.fit;
   written = λ k below. absurd (omega arith);
+  runs = g.met.R.Rack.runs_same c.args.rack.now;
 }
 
-pub returns-in-Err : goal.returns-in-Err
-returns-in-Err g c =
+pub returns-in-Err-clause-writes : goal.returns-in-Err-clause-writes
+returns-in-Err-clause-writes g c =
     let planned = entries_planned c.args.first c.args.bytes.now c.loop-place.place c.loop-place-test.true in
     plan_refused (g.R.Rack.seen c.args.rack.now) (g.R.Rack.seen c.loop-place.rack) (g.R.Rack.seen c.write.new.self) c.args.disk (c.args.first + c.loop-place.place)
     c.piece_of-sector.result (entries_plan c.args.first c.args.bytes.now) c.in-Err.gone c.loop-place.invariant.follows
-    c.in-Err.ensures (planned ∙ ap (λ (v : List ℕ). Some v) (sym c.piece_of-sector.ensures))
+    c.in-Err.ensures.writes (planned ∙ ap (λ (v : List ℕ). Some v) (sym c.piece_of-sector.ensures))
 
 pub loop-place-preserved : goal.loop-place-preserved
 loop-place-preserved g c =
@@ -23,12 +24,13 @@ loop-place-preserved g c =
     record {
       follows = follows_served (g.R.Rack.seen c.args.rack.now) (g.R.Rack.seen c.loop-place.rack) (g.R.Rack.seen c.write.new.self) c.args.disk (c.args.first + c.loop-place.place)
           c.piece_of-sector.result (entries_plan c.args.first c.args.bytes.now) c.loop-place.invariant.follows
-          c.in_default.ensures (planned ∙ ap (λ (v : List ℕ). Some v) (sym c.piece_of-sector.ensures));
+          c.in_default.ensures.writes (planned ∙ ap (λ (v : List ℕ). Some v) (sym c.piece_of-sector.ensures));
       written = one_more (g.R.Rack.seen c.args.rack.now) (g.R.Rack.seen c.loop-place.rack) (g.R.Rack.seen c.write.new.self) c.args.disk c.args.first c.loop-place.place
-          c.args.bytes.now c.piece_of-sector.result c.loop-place.invariant.follows.stays c.in_default.ensures c.piece_of-sector.ensures c.loop-place.invariant.written;
+          c.args.bytes.now c.piece_of-sector.result c.loop-place.invariant.follows.stays c.in_default.ensures.writes c.piece_of-sector.ensures c.loop-place.invariant.written;
+      runs = g.met.R.Rack.runs_then _ _ _ c.loop-place.invariant.runs c.in_default.ensures.runs;
     }
 
-pub returns : goal.returns
-returns g c =
+pub returns-clause-writes : goal.returns-clause-writes
+returns-clause-writes g c =
     entries_written (g.R.Rack.seen c.args.rack.now) (g.R.Rack.seen c.loop-place.rack) c.args.disk c.args.first c.args.bytes.now
     c.loop-place.invariant.follows (λ k below. c.loop-place.invariant.written k (omega arith))
