@@ -4,7 +4,7 @@ use Rattle.rack.specs.Seen.{Image}
 use Rattle.raid_map.specs.LeftSymmetric.{member_of, parity_of, row_of, column_of, sector_of}
 use Rattle.parity.specs.Xor.{xor, xor_all}
 use Rattle.array_image.specs.Foremost.{foremost}
-use Rattle.array_image.specs.Targets.{look}
+use Rattle.rack.specs.Targets.{look}
 use Rattle.array_image.specs.Stripes.{Layout, mirror, parity, there, at_position, given}
 use Rattle.array_image.specs.Arrays.{Member, Shape, value_by, sectors_by}
 

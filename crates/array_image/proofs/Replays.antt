@@ -6,7 +6,7 @@ use Rattle.rack.specs.Seen.{Image}
 use Rattle.pool_state.specs.declared.contents.State.{State}
 use Rattle.array_image.specs.Foremost.{foremost}
 use Rattle.array_image.specs.Places.{log_slice}
-use Rattle.array_image.specs.Targets.{Target, look}
+use Rattle.rack.specs.Targets.{Target, look}
 use Rattle.array_image.specs.Record.{Gate, GateAt, gate_of, gate_in, is_there, is_bad_gate, record_of, record_in, gates_in, is_open_if_of, pending_at, pending_record, pending}
 use Rattle.array_image.specs.States.{state_in, current_places}
 use Rattle.array_image.specs.Arrays.{replayed}

@@ -2,13 +2,13 @@
 use Rattle.std.specs.Prelude.{ℕ, ◌+◌, ◌-◌, Bool, false, ◌==◌, ◌&&◌, not, nat_lt, if◌then◌else◌, List, [], map, take, position, Option, Some, None, option_map, unwrap_or}
 use Rattle.std.specs.Option.{option_map_or}
 use Rattle.std.specs.List.{range_with_len}
-use Rattle.rack.specs.Seen.{Image}
+use Rattle.rack.specs.Seen.{Image, read_in}
 use Rattle.md_super.specs.declared.superblock.Super.{Super}
 use Rattle.md_super.specs.Profile.{is_mirror}
 use Rattle.pool_state.specs.declared.contents.State.{State}
 use Rattle.array_image.specs.Places.{member_slice, data_sector}
 use Rattle.array_image.specs.Stripes.{Layout, mirror, parity, width, capacity, position_in, sector_in, Stripe, given}
-use Rattle.array_image.specs.Targets.{put}
+use Rattle.rack.specs.Targets.{put}
 use Rattle.array_image.specs.Record.{pending}
 use Rattle.array_image.specs.States.{state_in, is_current, current_places}
 use Rattle.array_image.specs.Supers.{is_rebuilding, is_reshaping, super_in, truth_in}
@@ -75,14 +75,10 @@ shape_in s c array = option_map (shape_by s c array) (truth_in s c array)
 
 -- ---- values (docs/FORMATS.md, 'Addresses in an array')
 
--- what a sector reads: each one can be read
-abbrev pub readable : List ℕ → Option (List ℕ)
-readable v = Some v
-
 -- a member's sector, where it counts
 abbrev pub column : Image → ℕ → ℕ → Member → Option (List ℕ)
 column c array sector m =
-    if nat_lt sector m.reach then readable (c (member_slice m.place array) (data_sector + sector)) else None
+    if nat_lt sector m.reach then read_in c (member_slice m.place array) (data_sector + sector) else None
 
 -- the layout that holds a sector of the array
 abbrev pub layout_at : Shape → ℕ → Layout

@@ -1,6 +1,5 @@
 pub mod Foremost
 pub mod Places
-pub mod Targets
 pub mod Record
 pub mod States
 pub mod Supers

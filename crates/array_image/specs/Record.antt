@@ -7,7 +7,7 @@ use Rattle.shr_base.specs.Blocks.{bytes_at, number_at, put_at}
 use Rattle.shr_base.specs.Crc.{crc32_of}
 use Rattle.array_image.specs.Foremost.{foremost}
 use Rattle.array_image.specs.Places.{log_slice, slice_of}
-use Rattle.array_image.specs.Targets.{Target, is_at}
+use Rattle.rack.specs.Targets.{Target, is_at}
 
 -- ---- gates (docs/FORMATS.md, 'Commit log')
 

@@ -1,7 +1,7 @@
 use Rattle.std.proofs.Common.{◌<◌, ◌++◌, ℕ, List, replicate, ap, sym, ◌∙◌, arith}
 use Rattle.std.specs.Result.{result_ok}
 use Rattle.md_super.specs.Layout.{decoded}
-use Rattle.gpt_table.proofs.Looking.{only_reads_start, only_reads_then}
+use Rattle.rack.proofs.Reading.{only_reads_start, only_reads_then}
 use Rattle.pool.proofs.Decoding.{superblock_there}
 use Rattle.pool.proofs.Sights.{read_says}
 use Rattle.pool.proofs.reading.read_superblock.Goals as goal

@@ -13,6 +13,10 @@ pub record Target : Type 0 where
 abbrev pub is_at : ℕ → ℕ → Target → Bool
 is_at disk sector t = (t.disk == disk) && (t.sector == sector)
 
+-- one target
+abbrev pub target : ℕ → ℕ → List ℕ → Target
+target disk sector v = record { disk = disk; sector = sector; bytes = v }
+
 -- what a list of targets has for a sector: the last of them counts
 unfoldable pub look : List Target → ℕ → ℕ → Option (List ℕ)
 look [] d s = None

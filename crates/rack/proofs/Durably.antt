@@ -2,11 +2,11 @@
 use Rattle.std.proofs.Common.{◌≡◌, ◌≢◌, ◌⊎◌, ℕ, ◌==◌, ◌&&◌, List, Bool, true, false, if◌then◌else◌, Result, Ok, Err, OnOk, IfErr, refl, ap, ◌∙◌, subst, inl, inr}
 use Rattle.std.proofs.lemmas.Bool.{and_left, and_right, and_from, ne_eqb, eq-eqb}
 use Rattle.rack.specs.declared.Gone.{Gone}
-use Rattle.rack.specs.Values.{Values, MayLeave, Keeps, append}
+use Rattle.rack.specs.Values.{Values, MayLeave, Keeps, IsSingle, append}
 use Rattle.rack.specs.Seen.{Held, Seen, IsLive, IsPick, Rose, Stays, appended}
 use Rattle.rack.specs.Calls.{Writes, Syncs}
 use Rattle.rack.specs.Joins.{keeps_then, may_leave-append, stays_then, live_first, live_second, leaves_weaker, leaves_then, pick_kept, pick_longer, rose_since}
-use Rattle.pool.specs.Durable.{WritesDurably}
+use Rattle.rack.specs.Sequences.{WritesDurably}
 
 -- elsewhere no value is appended
 pub appended_elsewhere :
@@ -66,6 +66,7 @@ write_refused a b disk sector v r e is at_result =
       stops = writes.stops;
       within = λ d s w live leaves. refused_within a.held (b.held d s) disk sector v d s w (writes.failed d s live) leaves;
       others = λ d s live other. refused_others a.held (b.held d s) disk sector v d s other (writes.failed d s live);
+      synced = tt;
       durable = tt;
     }
 
@@ -91,6 +92,14 @@ durable_now a m b disk sector v (Ok done) writes syncs =
     ∙ (syncs.keeps.held disk sector second).current
     ∙ (writes.done disk sector first).current
     ∙ here_is a.held disk sector v
+
+synced_now :
+    (a m b : Seen) (disk : ℕ) (r : Result (Unit {0}) Gone)
+    → Stays a m
+    → Syncs m b disk r
+    → OnOk r ((s : ℕ) → IsLive a b disk s → IsSingle (b.held disk s))
+synced_now a m b disk (Err e) stays syncs = tt
+synced_now a m b disk (Ok done) stays syncs = λ s live w leaves. syncs.done s w (live_second stays live) leaves
 
 -- it was done, and the disk was synced or refused it
 pub write_then_sync :
@@ -124,5 +133,6 @@ write_then_sync a m b disk sector v r q u is at_result syncs =
           keeps_then _ _ _
           (subst (λ g. Keeps g (m.held d s)) (appended_elsewhere a.held disk sector v d s other) (kept d s (live_first syncs.stays live)))
           (syncs.keeps.held d s (live_second writes.stays live));
+      synced = synced_now a m b disk q writes.stays syncs;
       durable = durable_now a m b disk sector v q writes syncs;
     }
