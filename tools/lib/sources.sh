@@ -20,3 +20,13 @@ keep_program() {
     sources_hash "$1" >"$1/out/shr_tool.sources.new" &&
     mv "$1/out/shr_tool.sources.new" "$1/out/shr_tool.sources"
 }
+
+# is_released TOP HASH: whether release/ has the program of the sources of this hash, whole, and this machine runs it.
+# With no words the program says `refused words` and ends with status 2.
+is_released() {
+  [ -x "$1/release/shr_tool" ] && [ "$(cat "$1/release/SOURCES" 2>/dev/null)" = "$2" ] || return 1
+  (cd "$1/release" && sha256sum --check --status SHA256SUMS) || return 1
+  local said
+  said=$("$1/release/shr_tool" </dev/null 2>/dev/null)
+  [ $? -eq 2 ] && [ "$said" = "refused words" ]
+}
