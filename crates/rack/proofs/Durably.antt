@@ -7,16 +7,7 @@ use Rattle.rack.specs.Seen.{Held, Seen, IsLive, IsPick, Rose, Stays, appended}
 use Rattle.rack.specs.Calls.{Writes, Syncs}
 use Rattle.rack.specs.Joins.{keeps_then, may_leave-append, stays_then, live_first, live_second, leaves_weaker, leaves_then, pick_kept, pick_longer, rose_since}
 use Rattle.rack.specs.Sequences.{WritesDurably}
-
--- elsewhere no value is appended
-pub appended_elsewhere :
-    (held : Held) (disk sector : ℕ) (v : List ℕ) (d s : ℕ)
-    → (d ≢ disk) ⊎ (s ≢ sector)
-    → appended held disk sector v d s ≡ held d s
-appended_elsewhere held disk sector v d s (inl other) =
-    ap (λ (b : Bool). if b then append (held d s) v else held d s) (and_left (d == disk) (s == sector) (ne_eqb d disk other))
-appended_elsewhere held disk sector v d s (inr other) =
-    ap (λ (b : Bool). if b then append (held d s) v else held d s) (and_right (d == disk) (s == sector) (ne_eqb s sector other))
+use Rattle.rack.proofs.Writing.{appended_elsewhere, appended_here}
 
 choice_leaves : (b : Bool) (h : Values) (v w : List ℕ) → MayLeave h w → MayLeave (if b then append h v else h) w
 choice_leaves true h v w leaves = may_leave-append h v w leaves
@@ -28,12 +19,6 @@ pub appended_more :
     → MayLeave (held d s) w
     → MayLeave (appended held disk sector v d s) w
 appended_more held disk sector v d s w leaves = choice_leaves ((d == disk) && (s == sector)) (held d s) v w leaves
-
--- the value appended is the current one
-pub here_is : (held : Held) (disk sector : ℕ) (v : List ℕ) → (appended held disk sector v disk sector).current ≡ v
-here_is held disk sector v =
-    ap (λ (b : Bool). (if b then append (held disk sector) v else held disk sector).current)
-    (and_from (disk == disk) (sector == sector) (eq-eqb disk disk refl) (eq-eqb sector sector refl))
 
 pub refused_within :
     (held : Held) (h : Values) (disk sector : ℕ) (v : List ℕ) (d s : ℕ) (w : List ℕ)
@@ -91,7 +76,7 @@ durable_now a m b disk sector v (Ok done) writes syncs =
     syncs.done sector w second leaves
     ∙ (syncs.keeps.held disk sector second).current
     ∙ (writes.done disk sector first).current
-    ∙ here_is a.held disk sector v
+    ∙ appended_here a.held disk sector v
 
 synced_now :
     (a m b : Seen) (disk : ℕ) (r : Result (Unit {0}) Gone)

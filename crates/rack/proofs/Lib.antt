@@ -1,3 +1,4 @@
-pub mod Phases
 pub mod Reading
+pub mod Writing
+pub mod Phases
 pub mod Durably

@@ -12,26 +12,33 @@ pub record OnlyReads (a b : Seen) : Type 0 where
   pub stays : Stays a b
   pub keeps : KeepsAll a b
 
+-- a value from before, or one that the calls may write
+abbrev pub MayBecome : Seen → (ℕ → ℕ → List ℕ → Type 0) → ℕ → ℕ → List ℕ → Type 0
+MayBecome a may d s v = MayLeave (a.held d s) v ⊎ may d s v
+
+-- each live sector of some contents does so
+abbrev pub IsMix : Seen → Seen → (ℕ → ℕ → List ℕ → Type 0) → Image → Type 0
+IsMix a b may c = (d s : ℕ) → IsLive a b d s → MayBecome a may d s (c d s)
+
+-- Nothing came but values that calls in a row may write to their sectors, neither now nor at any moment.
+pub record WritesOnly (a b : Seen) (may : ℕ → ℕ → List ℕ → Type 0) : Type 0 where
+  pub stays : Stays a b
+  pub others : (d s : ℕ) → IsLive a b d s → ((v : List ℕ) → may d s v → ⊥) → Keeps (a.held d s) (b.held d s)
+  pub within : (d s : ℕ) (v : List ℕ) → IsLive a b d s → MayLeave (b.held d s) v → MayBecome a may d s v
+  pub stops : a.traced → Leaves a b (IsMix a b may)
+
 -- one of the targets has these bytes for a sector
 abbrev pub IsPayload : List Target → ℕ → ℕ → List ℕ → Type 0
 IsPayload [] d s v = ⊥
 IsPayload (x ∷ others) d s v = ((is_at d s x ≡ true) × (v ≡ x.bytes)) ⊎ IsPayload others d s v
 
--- in each live sector a value from before, or a payload
-abbrev pub IsMix : Seen → Seen → List Target → Image → Type 0
-IsMix a b xs c = (d s : ℕ) → IsLive a b d s → MayLeave (a.held d s) (c d s) ⊎ IsPayload xs d s (c d s)
-
 -- A phase: calls that wrote these targets, in any order and with any reads and syncs between, to all disks but those that went.
 -- `went` are the disks that had gone before it, `now` those that have after it, each with its cause. A disk that went may hold
 -- each target or not.
 pub record Phase (a b : Seen) (xs : List Target) (went now : ℕ → Bool) : Type 0 where
-  pub stays : Stays a b
+  pub only : WritesOnly a b (IsPayload xs)
   pub still : (d : ℕ) → now d ≡ false → went d ≡ false
   pub cause : (d : ℕ) → went d ≡ false → now d ≡ true → Rose (a.faults d) (b.faults d)
-  pub stops : a.traced → Leaves a b (IsMix a b xs)
-  pub within :
-      (d s : ℕ) → IsLive a b d s → (v : List ℕ) → MayLeave (b.held d s) v → MayLeave (a.held d s) v ⊎ IsPayload xs d s v
-  pub others : (d s : ℕ) → IsLive a b d s → look xs d s ≡ None → Keeps (a.held d s) (b.held d s)
   pub last :
       (d s : ℕ) (w : List ℕ) → IsLive a b d s → now d ≡ false → look xs d s ≡ Some w → (b.held d s).current ≡ w
 
