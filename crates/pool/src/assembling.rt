@@ -104,6 +104,7 @@ pub fn assemble<R: Rack>(rack: &mut R, alloc: Global) -> Result<Assembled, Refus
         (look : Look) × (went : ℕ → Bool) × IsReading (R.seen rack.old) (R.seen rack.new) look
         × HaveGone (R.seen rack.old) (R.seen rack.new) went × IsRefused (R.seen rack.old).disks look went why
         × WereRead (R.seen rack.old) look went) }
+    ensures runs { R.runs rack.old rack.new }
 {
     let shown = match read_disks(rack, alloc) {
         Ok(shown) => shown,

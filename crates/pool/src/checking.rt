@@ -48,6 +48,7 @@ fn has_table<R: Rack>(rack: &mut R, disk: u32, state: &State, place: u32) -> Res
     requires sizes { HasSizes state.now }
     ensures found { Finds (R.seen rack.old) (R.seen rack.new) disk (λ contents good. good ≡ option_map_or (is_table_of state.now place) (the_table ((R.seen rack.old).sectors disk) contents) false) result }
     ensures room { IfOk result (λ good. good ≡ true → HasRoom (R.seen rack.old) state.now disk) }
+    ensures runs { R.runs rack.old rack.new }
 {
     match find_table(rack, disk) {
         Ok(Some(table)) => Ok(matching::is_table_of(state, place, &table)),
@@ -61,7 +62,8 @@ fn has_superblock<R: Rack>(rack: &mut R, disk: u32, state: &State, place: u32) -
     requires fit { (R.seen rack.old).fit }
     requires disk { disk < (R.seen rack.old).disks }
     requires sizes { HasSizes state.now }
-    ensures { Finds (R.seen rack.old) (R.seen rack.new) disk (λ contents good. good ≡ option_map_or (is_member_of state.now place) (superblock_on ((R.seen rack.old).sectors disk) contents) false) result }
+    ensures found { Finds (R.seen rack.old) (R.seen rack.new) disk (λ contents good. good ≡ option_map_or (is_member_of state.now place) (superblock_on ((R.seen rack.old).sectors disk) contents) false) result }
+    ensures runs { R.runs rack.old rack.new }
 {
     match read_superblock(rack, disk) {
         Ok(Some(superblock)) => Ok(matching::is_member_of(state, place, &superblock)),
@@ -84,6 +86,7 @@ fn check_disk<R: Rack>(
     ensures found { Finds (R.seen rack.old) (R.seen rack.new) disk
         (λ contents part. part ≡ first_damage state.now place (the_table ((R.seen rack.old).sectors disk) contents) (copied_at shown.now disk) (superblock_on ((R.seen rack.old).sectors disk) contents)) result }
     ensures room { IfOk result (λ part. part ≡ None → HasRoom (R.seen rack.old) state.now disk) }
+    ensures runs { R.runs rack.old rack.new }
 {
     match has_table(rack, disk, state, place) {
         Ok(true) => {}
@@ -118,6 +121,7 @@ fn check_place<R: Rack>(rack: &mut R, shown: &[Shown], state: &State, place: u32
     requires sizes { HasSizes state.now }
     ensures only { OnlyReads (R.seen rack.old) (R.seen rack.new) }
     ensures stands { Stands (R.seen rack.old) (R.seen rack.new) shown.now state.now place result }
+    ensures runs { R.runs rack.old rack.new }
 {
     let Some(disk) = chosen(state, shown, place) else {
         return Standing::Missing;
@@ -158,6 +162,7 @@ fn check_places<R: Rack>(rack: &mut R, shown: &[Shown], state: &State) -> Result
     requires sizes { HasSizes state.now }
     ensures only { OnlyReads (R.seen rack.old) (R.seen rack.new) }
     ensures seated { AreSeated (R.seen rack.old) (R.seen rack.new) shown.now state.now result }
+    ensures runs { R.runs rack.old rack.new }
 {
     let first = check_place(rack, shown, state, 0);
     let second = check_place(rack, shown, state, 1);
@@ -176,6 +181,7 @@ pub(crate) fn open_copy<R: Rack>(
     requires valid { is_valid copy.now.state copy.now.own ≡ true }
     ensures only { OnlyReads (R.seen rack.old) (R.seen rack.new) }
     ensures opened { IsOpened (R.seen rack.old) (R.seen rack.new) shown.now copy.now result }
+    ensures runs { R.runs rack.old rack.new }
 {
     if shows_other(shown, &copy.state.pool) {
         return Err(Refusal::TwoPools);
@@ -202,6 +208,7 @@ pub(crate) fn open_newest<R: Rack>(
     requires valid { IsValidCopy (copied_at shown.now disk) }
     ensures only { OnlyReads (R.seen rack.old) (R.seen rack.new) }
     ensures opened { (copy : Copied) → copied_at shown.now disk ≡ Some copy → IsOpened (R.seen rack.old) (R.seen rack.new) shown.now copy result }
+    ensures runs { R.runs rack.old rack.new }
 {
     match copy_at(shown, disk as usize) {
         Some(copy) => open_copy(rack, shown, copy),

@@ -76,7 +76,8 @@ fn write_state<R: Rack>(rack: &mut R, disk: u32, state: &State) -> Result<(), Go
     requires disk { disk < (R.seen rack.old).disks }
     requires room { state_sector < (R.seen rack.old).sectors disk }
     requires valid { is_valid state.now disk ≡ true }
-    ensures { WritesState (R.seen rack.old) (R.seen rack.new) disk state.now result }
+    ensures writes { WritesState (R.seen rack.old) (R.seen rack.new) disk state.now result }
+    ensures runs { R.runs rack.old rack.new }
 {
     let sector = encode_state(state, disk);
     write_durably(rack, disk, STATE_SECTOR, &sector)
@@ -91,7 +92,8 @@ fn write_pool<R: Bay>(
 ) -> Result<(), Gone>
     requires pool { IsNewPool (R.seen rack.old) birth.now state.now }
     requires members { members.now ≡ new_members birth.now state.now }
-    ensures { WritesPool (R.seen rack.old) (R.seen rack.new) birth.now state.now result }
+    ensures writes { WritesPool (R.seen rack.old) (R.seen rack.new) birth.now state.now result }
+    ensures runs { R.runs rack.old rack.new }
 {
     if let Err(gone) = write_durably(rack, 0, STATE_SECTOR, &ZEROS) {
         return Err(gone);
@@ -130,6 +132,8 @@ impl<R: Bay> Pool<R> {
         ensures unchanged { IfErr result (λ back. (fault : PlanError) → back.why ≡ CreateFault.Layout fault → back.rack ≡ bay) }
         ensures given_back { IfErr result (λ back. IsGivenBack (R.seen bay) (R.seen back.rack) birth.now (state_on (R.seen bay) extent birth.now) back.why) }
         ensures made { IfOk result (λ pool. IsMade (R.seen bay) (view (R.seen pool.bay) pool.on pool.members pool.unclean) birth.now (state_on (R.seen bay) extent birth.now)) }
+        ensures kept { IfOk result (λ pool. R.runs bay pool.bay) }
+        ensures returned { IfErr result (λ back. R.runs bay back.rack) }
     {
         let state = match first_state(&bay, extent, birth) {
             Ok(state) => state,

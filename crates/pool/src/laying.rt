@@ -27,7 +27,8 @@ pub(crate) fn write_zeros<R: Rack>(
     requires disk { disk < (R.seen rack.old).disks }
     requires within { first + count ≤ (R.seen rack.old).sectors disk }
     requires bounded { first + count < 2 ^ 52 }
-    ensures { WritesPlan (R.seen rack.old) (R.seen rack.new) disk (zeros_plan first count) result }
+    ensures writes { WritesPlan (R.seen rack.old) (R.seen rack.new) disk (zeros_plan first count) result }
+    ensures runs { R.runs rack.old rack.new }
 {
     for place in 0..count {
         if let Err(gone) = rack.write(disk, first + place, &ZEROS) {
@@ -49,7 +50,8 @@ pub(crate) fn lay_parts<R: Rack>(
     requires some { 0 < volume }
     requires room { volume_first + volume + 33 ≤ (R.seen rack.old).sectors disk }
     requires bounded { volume < 2 ^ 50 }
-    ensures { LaysParts (R.seen rack.old) (R.seen rack.new) disk (spec.new_table drive.now.0 volume ((R.seen rack.old).sectors disk)) (volume + 2048) result }
+    ensures lays { LaysParts (R.seen rack.old) (R.seen rack.new) disk (spec.new_table drive.now.0 volume ((R.seen rack.old).sectors disk)) (volume + 2048) result }
+    ensures runs { R.runs rack.old rack.new }
 {
     let sectors = rack.sectors(disk);
     let table = new_table(drive, volume, sectors);

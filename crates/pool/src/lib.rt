@@ -76,6 +76,8 @@ impl<R: Bay> Pool<R> {
         ensures opened { IfOk result (λ pool. Opens (R.seen bay) (view (R.seen pool.bay) pool.on pool.members pool.unclean)) }
         ensures stays { IfErr result (λ back. Stays (R.seen bay) (R.seen back.rack)) }
         ensures refused { IfErr result (λ back. AllTold (R.seen bay) → Refuses (R.seen bay) (R.seen back.rack) back.why) }
+        ensures kept { IfOk result (λ pool. R.runs bay pool.bay) }
+        ensures returned { IfErr result (λ back. R.runs bay back.rack) }
     {
         let mut bay = bay;
         let on = match assemble(&mut bay, alloc) {
@@ -99,6 +101,7 @@ impl<R: Bay> Pool<R> {
         ensures marks { MarksMembers (view (R.seen self.old.bay) self.old.on self.old.members self.old.unclean)
             (view (R.seen self.new.bay) self.new.on self.new.members self.new.unclean) from result }
         ensures pool { IsPool (view (R.seen self.new.bay) self.new.on self.new.members self.new.unclean) }
+        ensures runs { R.runs self.old.bay self.new.bay }
     {
         raise(&mut self.members.first, from);
         raise(&mut self.members.second, from);
@@ -113,8 +116,9 @@ impl<R: Bay> Pool<R> {
         requires pool { IsPool (view (R.seen self.old.bay) self.old.on self.old.members self.old.unclean) }
         requires marked { self.old.members.first.resync_offset ≡ 0 }
         requires inside { sector < volume_sectors self.old.on.state }
-        ensures { WritesData (view (R.seen self.old.bay) self.old.on self.old.members self.old.unclean)
+        ensures writes { WritesData (view (R.seen self.old.bay) self.old.on self.old.members self.old.unclean)
             (view (R.seen self.new.bay) self.new.on self.new.members self.new.unclean) sector from.now result }
+        ensures runs { R.runs self.old.bay self.new.bay }
     {
         let at = VOLUME_FIRST + sector;
         match self.bay.write(self.on.second, at, from) {
@@ -139,6 +143,7 @@ impl<R: Bay> Pool<R> {
             (view (R.seen self.new.bay) self.new.on self.new.members self.new.unclean) sector into.new result }
         ensures pool { IsPool (view (R.seen self.new.bay) self.new.on self.new.members self.new.unclean) }
         ensures outside { result ≡ Err BareFault.Range → self.new ≡ self.old }
+        ensures runs { R.runs self.old.bay self.new.bay }
     {
         if sector >= self.size() {
             return Err(BareFault::Range);
@@ -155,6 +160,7 @@ impl<R: Bay> Pool<R> {
         ensures flushed { Flushes (view (R.seen self.old.bay) self.old.on self.old.members self.old.unclean)
             (view (R.seen self.new.bay) self.new.on self.new.members self.new.unclean) result }
         ensures pool { IsPool (view (R.seen self.new.bay) self.new.on self.new.members self.new.unclean) }
+        ensures runs { R.runs self.old.bay self.new.bay }
     {
         match self.bay.sync(self.on.second) {
             Ok(()) => self.bay.sync(self.on.first),
@@ -170,6 +176,7 @@ impl<R: Bay> Pool<R> {
             (view (R.seen self.new.bay) self.new.on self.new.members self.new.unclean) sector from.now result }
         ensures pool { IsPool (view (R.seen self.new.bay) self.new.on self.new.members self.new.unclean) }
         ensures outside { result ≡ Err BareFault.Range → self.new ≡ self.old }
+        ensures runs { R.runs self.old.bay self.new.bay }
     {
         if sector >= self.size() {
             return Err(BareFault::Range);
@@ -187,6 +194,7 @@ impl<R: Bay> Pool<R> {
         ensures ended { Ends (view (R.seen self.old.bay) self.old.on self.old.members self.old.unclean)
             (view (R.seen self.new.bay) self.new.on self.new.members self.new.unclean) result }
         ensures pool { IsPool (view (R.seen self.new.bay) self.new.on self.new.members self.new.unclean) }
+        ensures runs { R.runs self.old.bay self.new.bay }
     {
         match self.flush() {
             Ok(()) => self.stop_writing(),
@@ -208,6 +216,7 @@ impl<R: Bay> Pool<R> {
         ensures written { WritesMarked (view (R.seen self.old.bay) self.old.on self.old.members self.old.unclean)
             (view (R.seen self.new.bay) self.new.on self.new.members self.new.unclean) sector from.now result }
         ensures pool { IsPool (view (R.seen self.new.bay) self.new.on self.new.members self.new.unclean) }
+        ensures runs { R.runs self.old.bay self.new.bay }
     {
         match self.start_writing() {
             Ok(()) => self.write_members(sector, from),
@@ -221,6 +230,7 @@ impl<R: Bay> Pool<R> {
         ensures starts { StartsWriting (view (R.seen self.old.bay) self.old.on self.old.members self.old.unclean)
             (view (R.seen self.new.bay) self.new.on self.new.members self.new.unclean) result }
         ensures pool { IsPool (view (R.seen self.new.bay) self.new.on self.new.members self.new.unclean) }
+        ensures runs { R.runs self.old.bay self.new.bay }
     {
         if self.members.first.resync_offset == 0 {
             return Ok(());
@@ -234,6 +244,7 @@ impl<R: Bay> Pool<R> {
         ensures stops { StopsWriting (view (R.seen self.old.bay) self.old.on self.old.members self.old.unclean)
             (view (R.seen self.new.bay) self.new.on self.new.members self.new.unclean) result }
         ensures pool { IsPool (view (R.seen self.new.bay) self.new.on self.new.members self.new.unclean) }
+        ensures runs { R.runs self.old.bay self.new.bay }
     {
         if self.unclean {
             return Ok(());

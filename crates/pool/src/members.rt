@@ -38,7 +38,8 @@ pub fn write_superblock<R: Rack>(rack: &mut R, disk: u32, superblock: &Super) ->
     requires disk { disk < (R.seen rack.old).disks }
     requires room { superblock_sector < (R.seen rack.old).sectors disk }
     requires roles { length superblock.now.roles.items ≡ 128 }
-    ensures { WritesSuperblock (R.seen rack.old) (R.seen rack.new) disk superblock.now result }
+    ensures writes { WritesSuperblock (R.seen rack.old) (R.seen rack.new) disk superblock.now result }
+    ensures runs { R.runs rack.old rack.new }
 {
     let sector = encode(superblock);
     write_durably(rack, disk, SUPERBLOCK_SECTOR, &sector)

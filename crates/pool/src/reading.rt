@@ -39,6 +39,7 @@ fn read_copy<R: Rack>(rack: &mut R, disk: u32) -> Result<Option<Copied>, Gone>
     requires disk { disk < (R.seen rack.old).disks }
     ensures found { Finds (R.seen rack.old) (R.seen rack.new) disk (λ contents copied. copied ≡ copied_on ((R.seen rack.old).sectors disk) contents) result }
     ensures valid { IfOk result IsValidCopy }
+    ensures runs { R.runs rack.old rack.new }
 {
     if rack.sectors(disk) <= STATE_SECTOR {
         return Ok(None);
@@ -62,7 +63,8 @@ fn copy_in(sector: &[u8; 512]) -> Option<Copied>
 pub(crate) fn read_superblock<R: Rack>(rack: &mut R, disk: u32) -> Result<Option<Super>, Gone>
     requires fit { (R.seen rack.old).fit }
     requires disk { disk < (R.seen rack.old).disks }
-    ensures { Finds (R.seen rack.old) (R.seen rack.new) disk (λ contents found. found ≡ superblock_on ((R.seen rack.old).sectors disk) contents) result }
+    ensures found { Finds (R.seen rack.old) (R.seen rack.new) disk (λ contents found. found ≡ superblock_on ((R.seen rack.old).sectors disk) contents) result }
+    ensures runs { R.runs rack.old rack.new }
 {
     if rack.sectors(disk) <= SUPERBLOCK_SECTOR {
         return Ok(None);
@@ -89,6 +91,7 @@ pub(crate) fn find_table<R: Rack>(rack: &mut R, disk: u32) -> Result<Option<Tabl
     requires disk { disk < (R.seen rack.old).disks }
     ensures found { Finds (R.seen rack.old) (R.seen rack.new) disk (λ contents table. table ≡ the_table ((R.seen rack.old).sectors disk) contents) result }
     ensures size { IfOk result (λ found. IfSome found (λ table. table.sectors ≡ (R.seen rack.old).sectors disk)) }
+    ensures runs { R.runs rack.old rack.new }
 {
     match read_table(rack, disk) {
         Ok(found) => Ok(Some(found.table)),
@@ -106,6 +109,7 @@ fn read_name<R: Rack>(rack: &mut R, disk: u32, gone: bool) -> Shown
     ensures kept { gone ≡ true → result.gone ≡ true }
     ensures named { (R.seen rack.old).told disk → (contents : Contents) → AgreesUnspent (R.seen rack.old) disk contents → IsNamed (R.seen rack.old) (R.seen rack.new) disk contents result }
     ensures gone { result.gone ≡ true → (gone ≡ true) ⊎ Rose ((R.seen rack.old).faults disk) ((R.seen rack.new).faults disk) }
+    ensures runs { R.runs rack.old rack.new }
 {
     match find_table(rack, disk) {
         Ok(Some(table)) => Shown {
@@ -134,6 +138,7 @@ fn read_disk<R: Rack>(rack: &mut R, disk: u32) -> Shown
     ensures sees { (R.seen rack.old).told disk → (contents : Contents) → AgreesUnspent (R.seen rack.old) disk contents → Sees (R.seen rack.old) (R.seen rack.new) disk contents result }
     ensures gone { result.gone ≡ true → Rose ((R.seen rack.old).faults disk) ((R.seen rack.new).faults disk) }
     ensures valid { IsValidCopy result.copied }
+    ensures runs { R.runs rack.old rack.new }
 {
     match read_copy(rack, disk) {
         Ok(Some(copied)) => {
@@ -155,6 +160,7 @@ pub(crate) fn read_disks<R: Rack>(rack: &mut R, alloc: Global) -> Result<Vec<Sho
     ensures only { OnlyReads (R.seen rack.old) (R.seen rack.new) }
     ensures few { IfOk result (λ shown. length shown.items < 2 ^ 32) }
     ensures shown { IfOk result (λ shown. AreShown (R.seen rack.old) (R.seen rack.new) shown.items) }
+    ensures runs { R.runs rack.old rack.new }
 {
     let mut shown = Vec::new(alloc);
     for disk in 0..rack.disks() {

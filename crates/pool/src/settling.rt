@@ -37,7 +37,8 @@ impl Assembled {
 fn settle_drive<R: Bay>(bay: &mut R, on: &Assembled, place: u32) -> Result<(), Refusal>
     requires place { place < 2 }
     requires seated { IsSeated (R.seen bay.old) on.now }
-    ensures { SettlesDrive (R.seen bay.old) (R.seen bay.new) on.now place result }
+    ensures settles { SettlesDrive (R.seen bay.old) (R.seen bay.new) on.now place result }
+    ensures runs { R.runs bay.old bay.new }
 {
     match settle_table(bay, on.disk(place)) {
         Ok(()) => Ok(()),
@@ -52,7 +53,8 @@ fn settle_drive<R: Bay>(bay: &mut R, on: &Assembled, place: u32) -> Result<(), R
 /// Makes both copies of the table of each member agree.
 fn settle_tables<R: Bay>(bay: &mut R, on: &Assembled) -> Result<(), Refusal>
     requires { IsSeated (R.seen bay.old) on.now }
-    ensures { SettlesTables (R.seen bay.old) (R.seen bay.new) on.now result }
+    ensures settles { SettlesTables (R.seen bay.old) (R.seen bay.new) on.now result }
+    ensures runs { R.runs bay.old bay.new }
 {
     match settle_drive(bay, on, 0) {
         Ok(()) => settle_drive(bay, on, 1),
@@ -65,7 +67,8 @@ fn find_member<R: Bay>(bay: &mut R, on: &Assembled, place: u32) -> Result<Super,
     requires place { place < 2 }
     requires seated { IsSeated (R.seen bay.old) on.now }
     requires sizes { HasSizes on.now.state }
-    ensures { FindsMember (R.seen bay.old) (R.seen bay.new) on.now place result }
+    ensures found { FindsMember (R.seen bay.old) (R.seen bay.new) on.now place result }
+    ensures runs { R.runs bay.old bay.new }
 {
     match read_superblock(bay, on.disk(place)) {
         Ok(found) => whole_member(&on.state, place, found),
@@ -93,7 +96,8 @@ fn whole_member(state: &State, place: u32, found: Option<Super>) -> Result<Super
 fn find_members<R: Bay>(bay: &mut R, on: &Assembled) -> Result<Members, Refusal>
     requires seated { IsSeated (R.seen bay.old) on.now }
     requires sizes { HasSizes on.now.state }
-    ensures { FindsMembers (R.seen bay.old) (R.seen bay.new) on.now result }
+    ensures found { FindsMembers (R.seen bay.old) (R.seen bay.new) on.now result }
+    ensures runs { R.runs bay.old bay.new }
 {
     let first = match find_member(bay, on, 0) {
         Ok(first) => first,
@@ -160,7 +164,8 @@ fn settle_member<R: Bay>(
     requires seated { IsSeated (R.seen bay.old) on.now }
     requires own { spec_is_member_of on.now.state place own.now ≡ true }
     requires member { spec_is_member_of on.now.state place wanted.now ≡ true }
-    ensures { SettlesMember (R.seen bay.old) (R.seen bay.new) on.now place own.now wanted.now result }
+    ensures settles { SettlesMember (R.seen bay.old) (R.seen bay.new) on.now place own.now wanted.now result }
+    ensures runs { R.runs bay.old bay.new }
 {
     if are_same(own, wanted) {
         return Ok(());
@@ -179,7 +184,8 @@ fn settle_members<R: Bay>(
 ) -> Result<Members, Refusal>
     requires seated { IsSeated (R.seen bay.old) on.now }
     requires member { (place : ℕ) → place < 2 → spec_is_member_of on.now.state place (member_of members.now place) ≡ true }
-    ensures { SettlesMembers (R.seen bay.old) (R.seen bay.new) on.now members.now result }
+    ensures settles { SettlesMembers (R.seen bay.old) (R.seen bay.new) on.now members.now result }
+    ensures runs { R.runs bay.old bay.new }
 {
     let settled = match agreed(members) {
         Ok(settled) => settled,
@@ -199,7 +205,8 @@ fn settle_members<R: Bay>(
 pub(crate) fn settle<R: Bay>(bay: &mut R, on: &Assembled) -> Result<Members, Refusal>
     requires seated { IsSeated (R.seen bay.old) on.now }
     requires sizes { HasSizes on.now.state }
-    ensures { Settles (R.seen bay.old) (R.seen bay.new) on.now result }
+    ensures settles { Settles (R.seen bay.old) (R.seen bay.new) on.now result }
+    ensures runs { R.runs bay.old bay.new }
 {
     match settle_tables(bay, on) {
         Ok(()) => {}

@@ -86,7 +86,6 @@ stays_same x fit =
       steady = λ steady. steady;
       told = λ d told. told;
       traced = λ traced. traced;
-      lenders = refl;
     }
 
 -- what no call changes, two calls don't
@@ -105,7 +104,6 @@ stays_then first second =
       steady = λ steady. second.steady (first.steady steady);
       told = λ d told. second.told d (first.told d told);
       traced = λ traced. second.traced (first.traced traced);
-      lenders = second.lenders ∙ first.lenders;
     }
 
 -- a disk whose faults rose later did so over the whole time

@@ -4,6 +4,6 @@ pub mod Moments
 pub mod Calls
 pub mod Shelf
 pub mod Joins
-pub mod References
+pub mod Lenders
 pub mod Targets
 pub mod Sequences

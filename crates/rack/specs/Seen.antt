@@ -40,8 +40,6 @@ pub record Seen : Type 1 where
   pub told : ℕ → Type 0
   -- what stops may leave is told
   pub traced : Type 0
-  -- the references through which the rack is reached: a caller that lent it gets it back
-  pub lenders : List ℕ
 
 -- a count that stands still at its last value has risen, or stands there
 abbrev pub Rose : ℕ → ℕ → Type 0
@@ -75,4 +73,3 @@ pub record Stays (a b : Seen) : Type 0 where
   pub steady : a.steady → b.steady
   pub told : (d : ℕ) → a.told d → b.told d
   pub traced : a.traced → b.traced
-  pub lenders : b.lenders ≡ a.lenders

@@ -70,7 +70,6 @@ pub record Adds (a b : Seen) (s t : Shelf) (name : List ℕ) (d : ℕ) : Type 0 
   pub others : (e : ℕ) → e < a.disks → SameDisk a b e
   pub unfaulted : b.faults d ≡ 0
   pub traced : a.traced → s.told → b.traced
-  pub lenders : b.lenders ≡ a.lenders
   pub past : a.traced → (k : ℕ) (c : Image) → k ≤ a.clock → b.stops k c → a.stops k c
   pub waited : s.told → (w : Waiting) × (s.ready name ≡ Some w) × IsFrom a b d w
   pub names : t.names ≡ s.names ++ name ∷ []
@@ -84,7 +83,6 @@ pub record IsSame (a b : Seen) (s t : Shelf) : Type 0 where
   pub clock : b.clock ≡ a.clock
   pub others : (e : ℕ) → SameDisk a b e
   pub traced : a.traced → b.traced
-  pub lenders : b.lenders ≡ a.lenders
   pub past : (k : ℕ) (c : Image) → b.stops k c → a.stops k c
   pub kept : (k : ℕ) (c : Image) → a.stops k c → b.stops k c
   pub names : t.names ≡ s.names

@@ -24,7 +24,7 @@ mod durable;
 mod name;
 mod references;
 
-ghost use Rattle.std.specs.Prelude.{◌≡◌, ℕ, ◌<◌, ◌^◌, length, false};
+ghost use Rattle.std.specs.Prelude.{◌≡◌, ℕ, ◌<◌, ◌^◌, List, length, false};
 ghost use Rattle.rack.specs.Seen.{Seen};
 ghost use Rattle.rack.specs.Moments.{IsSound};
 ghost use Rattle.rack.specs.Calls.{Reads, Writes, Syncs};
@@ -83,6 +83,9 @@ pub trait Rack: Drop {
     /// says here what images of its drives say of its books. A rack over another one passes it on.
     ghost runs: { Self → Self → Type 0 };
 
+    /// The references through which the rack is reached: a caller that lent it gets it back.
+    ghost lenders: { Self → List ℕ };
+
     /// The number of disks. No call of `Rack` changes it.
     fn disks(&self) -> u32
         requires { (seen self.now).fit }
@@ -124,6 +127,9 @@ pub trait Rack: Drop {
     /// No call is a run, and runs in a row are one.
     ghost runs_same: { (x : Self) → runs x x };
     ghost runs_then: { (x y z : Self) → runs x y → runs y z → runs x z };
+
+    /// They leave the lenders as they are.
+    ghost runs_lenders: { (x y : Self) → runs x y → lenders y ≡ lenders x };
 }
 
 /// A rack whose disks are attached by name.
@@ -133,7 +139,8 @@ pub trait Bay: Rack {
 
     /// Adds the disk of this name, with the next number, and gives that number.
     fn attach(&mut self, name: &str) -> Result<u32, AttachFault>
-        ensures { Attaches (Self.seen self.old) (Self.seen self.new) (shelf self.old) (shelf self.new) name.now result };
+        ensures attaches { Attaches (Self.seen self.old) (Self.seen self.new) (shelf self.old) (shelf self.new) name.now result }
+        ensures lenders { Self.lenders self.new ≡ Self.lenders self.old };
 
     /// A bay needs no tables of its own.
     ghost always_fit: { (x : Self) → (Self.seen x).fit };

@@ -3,11 +3,15 @@
 use crate::{AttachFault, Bay, Gone, Rack};
 
 impl<R: Rack> Rack for &mut R {
-    ghost use Rattle.rack.specs.References.{through, sound_through};
+    ghost use Rattle.std.specs.Prelude.{◌≡◌, ◌∷◌, refl};
+    ghost use Rattle.std.proofs.Common.{◌∙◌};
+    ghost use Rattle.rack.specs.Lenders.{same_lenders};
 
-    ghost seen = { λ r. through r.ghost_name (R.seen r.now) };
+    ghost seen = { λ r. R.seen r.now };
 
-    ghost runs = { λ r s. R.runs r.now s.now };
+    ghost runs = { λ r s. (s.ghost_name ≡ r.ghost_name) × R.runs r.now s.now };
+
+    ghost lenders = { λ r. r.ghost_name ∷ R.lenders r.now };
 
     fn disks(&self) -> u32 {
         (**self).disks()
@@ -29,11 +33,13 @@ impl<R: Rack> Rack for &mut R {
         (**self).sync(disk)
     }
 
-    ghost sound = { λ r fit traced. sound_through r.ghost_name (R.seen r.now) (R.sound r.now fit traced) };
+    ghost sound = { λ r. R.sound r.now };
 
-    ghost runs_same = { λ r. R.runs_same r.now };
+    ghost runs_same = { λ r. (refl, R.runs_same r.now) };
 
-    ghost runs_then = { λ r s t one two. R.runs_then r.now s.now t.now one two };
+    ghost runs_then = { λ r s t one two. (two.0 ∙ one.0, R.runs_then r.now s.now t.now one.1 two.1) };
+
+    ghost runs_lenders = { λ r s runs. same_lenders runs.0 (R.runs_lenders r.now s.now runs.1) };
 }
 
 impl<R: Bay> Bay for &mut R {
@@ -51,7 +57,7 @@ impl<R: Bay> Bay for &mut R {
 
     ghost bounded = { λ r. R.bounded r.now };
 
-    ghost runs_shelf = { λ r s runs. R.runs_shelf r.now s.now runs };
+    ghost runs_shelf = { λ r s runs. R.runs_shelf r.now s.now runs.1 };
 
     ghost numbered = { λ r. R.numbered r.now };
 }

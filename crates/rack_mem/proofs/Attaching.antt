@@ -106,7 +106,6 @@ same_but_faults a faults = record {
   clock = refl;
   others = λ e. record { sectors = refl; held = λ s. refl; faults = refl; told = λ told. told };
   traced = λ traced. traced;
-  lenders = refl;
   past = λ k c stops. stops;
   kept = λ k c stops. stops;
   names = refl;
@@ -191,7 +190,6 @@ adds a x name on found none unfaulted =
       };
       unfaulted = ap (λ o. option_map_or (λ (disk : Attached). disk.faults) o 0) (slice_get-push a.attached x) ∙ unfaulted;
       traced = λ traced told. traced;
-      lenders = refl;
       past = λ traced k c until left e s within sector.
           subst (λ n. MayLeave (values_at a.calls e s (a.contents n s) k) (c e s)) (number_before a.attached x e within)
           (left e s (omega (arith, one_more)) (subst (λ n. s < sectors_of a.shelf n) (sym (number_before a.attached x e within)) sector));

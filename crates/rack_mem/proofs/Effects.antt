@@ -54,7 +54,6 @@ stays {a} {b} f = record {
   steady = λ steady. steady;
   told = λ d _. tt;
   traced = λ _. tt;
-  lenders = refl;
 }
 
 -- whether a name is attached goes by the names

@@ -74,7 +74,6 @@ seen_of m = record {
   fit = Unit {0};
   told = λ d. Unit {0};
   traced = Unit {0};
-  lenders = [];
 }
 
 -- the names of the attached disks

@@ -265,6 +265,8 @@ impl Rack for MemBay {
 
     ghost runs = { λ old new. KeepsShelf (shelf_of (memory old)) (shelf_of (memory new)) };
 
+    ghost lenders = { λ bay. [] };
+
     fn disks(&self) -> u32 {
         self.attached.len() as u32
     }
@@ -330,6 +332,8 @@ impl Rack for MemBay {
     ghost runs_same = { λ bay. keeps_shelf_same (shelf_of (memory bay)) };
 
     ghost runs_then = { λ x y z. keeps_shelf_then (shelf_of (memory x)) (shelf_of (memory y)) (shelf_of (memory z)) };
+
+    ghost runs_lenders = { λ x y runs. refl };
 }
 
 impl Bay for MemBay {

@@ -32,7 +32,6 @@ stays_sliced {t} {a} {b} inside stays = record {
   steady = stays.steady;
   told = λ d. stays.told (disk_of t d);
   traced = stays.traced;
-  lenders = stays.lenders;
 }
 
 -- stops leave in the slices what they leave below

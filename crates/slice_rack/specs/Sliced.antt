@@ -31,5 +31,4 @@ slices_of t a = record {
   fit = a.fit × IsInside t a;
   told = λ d. a.told (disk_of t d);
   traced = a.traced;
-  lenders = a.lenders;
 }

@@ -125,6 +125,8 @@ impl<R: Rack> Rack for SliceRack<R> {
 
     ghost runs = { λ old new. R.runs old.rack new.rack };
 
+    ghost lenders = { λ rack. R.lenders rack.rack };
+
     fn disks(&self) -> u32 {
         272
     }
@@ -167,6 +169,8 @@ impl<R: Rack> Rack for SliceRack<R> {
     ghost runs_same = { λ rack. R.runs_same rack.rack };
 
     ghost runs_then = { λ x y z one two. R.runs_then x.rack y.rack z.rack one two };
+
+    ghost runs_lenders = { λ x y runs. R.runs_lenders x.rack y.rack runs };
 }
 
 impl<R: Rack> SliceRack<R> {

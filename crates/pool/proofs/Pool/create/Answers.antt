@@ -27,5 +27,5 @@ returns-in-Ok-write_pool-clause-made g c =
     c.in-Ok.ensures.new
     (c.new_member.ensures ∙ ap (λ (n : ℕ). new_member birth 0 (n + 2048)) c.volume_size-size.ensures)
     (c.new_member-2.ensures ∙ ap (λ (n : ℕ). new_member birth 1 (n + 2048)) c.volume_size-size.ensures)
-    c.in-Ok-write_pool.ensures
+    c.in-Ok-write_pool.ensures.writes
     c.in-Ok.ensures.state

@@ -26,15 +26,15 @@ returns-in-Ok-clause-marks g c =
     (both_superblocks x (g.R.Rack.seen middle) (g.R.Rack.seen bay) c.args.from c.write_superblock.result c.write_superblock-in-Ok.result _ c.in-Ok.is c.requires
     (record { unspent = g.met.R.Bay.unspent middle; sound = λ traced. g.met.R.Rack.sound middle (g.met.R.Bay.always_fit middle) traced })
     (record { unspent = g.met.R.Bay.unspent bay; sound = λ traced. g.met.R.Rack.sound bay (g.met.R.Bay.always_fit bay) traced })
-    (writes_as _ _ _ _ _ _ c.raise.ensures c.write_superblock.ensures)
-    (writes_as _ _ _ _ _ _ c.raise-2.ensures c.write_superblock-in-Ok.ensures))
+    (writes_as _ _ _ _ _ _ c.raise.ensures c.write_superblock.ensures.writes)
+    (writes_as _ _ _ _ _ _ c.raise-2.ensures c.write_superblock-in-Ok.ensures.writes))
 
 pub returns-in-Ok-clause-pool : goal.returns-in-Ok-clause-pool
 returns-in-Ok-clause-pool g c =
     let pool = c.args.self.now in
     let x = view (g.R.Rack.seen pool.bay) pool.on pool.members pool.unclean in
     pool_as x (g.R.Rack.seen c.write_superblock-in-Ok.new.rack) c.args.from c.raise.new.seen c.raise-2.new.seen c.raise.ensures c.raise-2.ensures c.requires
-    (stays_then c.write_superblock.ensures.writes.stays c.write_superblock-in-Ok.ensures.writes.stays)
+    (stays_then c.write_superblock.ensures.writes.writes.stays c.write_superblock-in-Ok.ensures.writes.writes.stays)
 
 pub returns-in-Err-clause-marks : goal.returns-in-Err-clause-marks
 returns-in-Err-clause-marks g c =
@@ -44,11 +44,11 @@ returns-in-Err-clause-marks g c =
     marks_as x (g.R.Rack.seen bay) c.args.from _ c.raise.new.seen c.raise-2.new.seen c.raise.ensures c.raise-2.ensures
     (first_superblock_refused x (g.R.Rack.seen bay) c.args.from c.write_superblock.result _ c.in-Err.is c.requires
     (record { unspent = g.met.R.Bay.unspent bay; sound = λ traced. g.met.R.Rack.sound bay (g.met.R.Bay.always_fit bay) traced })
-    (writes_as _ _ _ _ _ _ c.raise.ensures c.write_superblock.ensures))
+    (writes_as _ _ _ _ _ _ c.raise.ensures c.write_superblock.ensures.writes))
 
 pub returns-in-Err-clause-pool : goal.returns-in-Err-clause-pool
 returns-in-Err-clause-pool g c =
     let pool = c.args.self.now in
     let x = view (g.R.Rack.seen pool.bay) pool.on pool.members pool.unclean in
     pool_as x (g.R.Rack.seen c.write_superblock.new.rack) c.args.from c.raise.new.seen c.raise-2.new.seen c.raise.ensures c.raise-2.ensures c.requires
-    c.write_superblock.ensures.writes.stays
+    c.write_superblock.ensures.writes.writes.stays

@@ -15,11 +15,11 @@ returns-in-Ok-settle-clause-opened g c =
     let bay = c.assemble.new.rack in
     opened _ _ _ _ _ _ c.in-Ok-settle.is
     (record { unspent = g.met.R.Bay.unspent bay; sound = λ traced. g.met.R.Rack.sound bay (g.met.R.Bay.always_fit bay) traced })
-    c.assemble.ensures.only (g.met.R.Bay.always_fit c.args.bay) c.in-Ok.ensures.assembled c.settle.ensures
+    c.assemble.ensures.only (g.met.R.Bay.always_fit c.args.bay) c.in-Ok.ensures.assembled c.settle.ensures.settles
 
 pub returns-in-Err-settle-clause-refused : goal.returns-in-Err-settle-clause-refused
 returns-in-Err-settle-clause-refused g c =
     let bay = c.assemble.new.rack in
     settling_refused _ _ _ _ _ _ c.in-Err-settle.is
     (record { unspent = g.met.R.Bay.unspent bay; sound = λ traced. g.met.R.Rack.sound bay (g.met.R.Bay.always_fit bay) traced })
-    c.assemble.ensures.only (g.met.R.Bay.always_fit c.args.bay) c.in-Ok.ensures.assembled c.settle.ensures
+    c.assemble.ensures.only (g.met.R.Bay.always_fit c.args.bay) c.in-Ok.ensures.assembled c.settle.ensures.settles

@@ -2,8 +2,8 @@ use Rattle.pool.specs.View.{view}
 use Rattle.pool.proofs.Data.{data_refused, data_written}
 use Rattle.pool.proofs.Pool.write_members.Goals as goal
 
-pub returns-in-Ok : goal.returns-in-Ok
-returns-in-Ok g c =
+pub returns-in-Ok-clause-writes : goal.returns-in-Ok-clause-writes
+returns-in-Ok-clause-writes g c =
     let pool = c.args.self.now in
     let middle = c.write.new.self in
     let bay = c.write-in-Ok.new.self in
@@ -14,8 +14,8 @@ returns-in-Ok g c =
     c.write.ensures.writes
     c.write-in-Ok.ensures.writes
 
-pub returns-in-Err : goal.returns-in-Err
-returns-in-Err g c =
+pub returns-in-Err-clause-writes : goal.returns-in-Err-clause-writes
+returns-in-Err-clause-writes g c =
     let pool = c.args.self.now in
     let bay = c.write.new.self in
     data_refused (view (g.R.Rack.seen pool.bay) pool.on pool.members pool.unclean) (g.R.Rack.seen bay)

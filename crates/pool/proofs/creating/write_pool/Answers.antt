@@ -16,8 +16,8 @@ write_durably-requires-clause-sector g c =
     let room = known_room birth state 0 new s0.blank.stays (lit< tt) in
     omega (arith, room)
 
-pub returns-in-Err : goal.returns-in-Err
-returns-in-Err g c =
+pub returns-in-Err-clause-writes : goal.returns-in-Err-clause-writes
+returns-in-Err-clause-writes g c =
     let x = g.R.Rack.seen c.args.rack.now in
     let birth = c.args.birth.now in
     let state = c.args.state.now in
@@ -38,8 +38,8 @@ write_durably-requires-2-clause-sector g c =
     let room = known_room birth state 1 new s1.blank.stays (lit< tt) in
     omega (arith, room)
 
-pub returns-in-Err-write_durably : goal.returns-in-Err-write_durably
-returns-in-Err-write_durably g c =
+pub returns-in-Err-write_durably-clause-writes : goal.returns-in-Err-write_durably-clause-writes
+returns-in-Err-write_durably-clause-writes g c =
     let x = g.R.Rack.seen c.args.rack.now in
     let birth = c.args.birth.now in
     let state = c.args.state.now in
@@ -76,8 +76,8 @@ lay_parts-requires-clause-bounded g c =
     let bounded = new.bounded 0 (lit< tt) in
     omega (arith, room, bounded, c.volume_size-volume.ensures)
 
-pub returns-in-Err-lay_parts : goal.returns-in-Err-lay_parts
-returns-in-Err-lay_parts g c =
+pub returns-in-Err-lay_parts-clause-writes : goal.returns-in-Err-lay_parts-clause-writes
+returns-in-Err-lay_parts-clause-writes g c =
     let x = g.R.Rack.seen c.args.rack.now in
     let birth = c.args.birth.now in
     let state = c.args.state.now in
@@ -86,8 +86,8 @@ returns-in-Err-lay_parts g c =
     let s1 = stage_clear x x (g.R.Rack.seen c.write_durably.new.rack) birth state 0 (Ok tt) new (record { unspent = g.met.R.Bay.unspent c.write_durably.new.rack; sound = λ traced. g.met.R.Rack.sound c.write_durably.new.rack (g.met.R.Bay.always_fit c.write_durably.new.rack) traced }) s0 c.in_default.ensures.writes in
     let s2 = stage_clear x (g.R.Rack.seen c.write_durably.new.rack) (g.R.Rack.seen c.write_durably-2.new.rack) birth state 1 (Ok tt) new (record { unspent = g.met.R.Bay.unspent c.write_durably-2.new.rack; sound = λ traced. g.met.R.Rack.sound c.write_durably-2.new.rack (g.met.R.Bay.always_fit c.write_durably-2.new.rack) traced }) s1 c.in_default-write_durably.ensures.writes in
     refused_early x (g.R.Rack.seen c.lay_parts.new.rack) birth state c.in-Err-lay_parts.gone
-    (blank_laid x (g.R.Rack.seen c.write_durably-2.new.rack) (g.R.Rack.seen c.lay_parts.new.rack) birth state 0 c.new_drive_id.result.0 c.volume_size-volume.result (Err c.in-Err-lay_parts.gone) new (record { unspent = g.met.R.Bay.unspent c.lay_parts.new.rack; sound = λ traced. g.met.R.Rack.sound c.lay_parts.new.rack (g.met.R.Bay.always_fit c.lay_parts.new.rack) traced }) (lit< tt) s2.blank c.new_drive_id.ensures c.volume_size-volume.ensures c.in-Err-lay_parts.ensures)
-    (cause_since (g.R.Rack.seen c.lay_parts.new.rack) birth state 0 c.in-Err-lay_parts.gone new s2.blank.stays (lit< tt) c.in-Err-lay_parts.ensures.gone)
+    (blank_laid x (g.R.Rack.seen c.write_durably-2.new.rack) (g.R.Rack.seen c.lay_parts.new.rack) birth state 0 c.new_drive_id.result.0 c.volume_size-volume.result (Err c.in-Err-lay_parts.gone) new (record { unspent = g.met.R.Bay.unspent c.lay_parts.new.rack; sound = λ traced. g.met.R.Rack.sound c.lay_parts.new.rack (g.met.R.Bay.always_fit c.lay_parts.new.rack) traced }) (lit< tt) s2.blank c.new_drive_id.ensures c.volume_size-volume.ensures c.in-Err-lay_parts.ensures.lays)
+    (cause_since (g.R.Rack.seen c.lay_parts.new.rack) birth state 0 c.in-Err-lay_parts.gone new s2.blank.stays (lit< tt) c.in-Err-lay_parts.ensures.lays.gone)
 
 pub lay_parts-requires-2-clause-some : goal.lay_parts-requires-2-clause-some
 lay_parts-requires-2-clause-some g c =
@@ -102,7 +102,7 @@ lay_parts-requires-2-clause-room g c =
     let s0 = stage_start x birth state new in
     let s1 = stage_clear x x (g.R.Rack.seen c.write_durably.new.rack) birth state 0 (Ok tt) new (record { unspent = g.met.R.Bay.unspent c.write_durably.new.rack; sound = λ traced. g.met.R.Rack.sound c.write_durably.new.rack (g.met.R.Bay.always_fit c.write_durably.new.rack) traced }) s0 c.in_default.ensures.writes in
     let s2 = stage_clear x (g.R.Rack.seen c.write_durably.new.rack) (g.R.Rack.seen c.write_durably-2.new.rack) birth state 1 (Ok tt) new (record { unspent = g.met.R.Bay.unspent c.write_durably-2.new.rack; sound = λ traced. g.met.R.Rack.sound c.write_durably-2.new.rack (g.met.R.Bay.always_fit c.write_durably-2.new.rack) traced }) s1 c.in_default-write_durably.ensures.writes in
-    let s3 = stage_laid x (g.R.Rack.seen c.write_durably-2.new.rack) (g.R.Rack.seen c.lay_parts.new.rack) birth state 0 c.new_drive_id.result.0 c.volume_size-volume.result new (record { unspent = g.met.R.Bay.unspent c.lay_parts.new.rack; sound = λ traced. g.met.R.Rack.sound c.lay_parts.new.rack (g.met.R.Bay.always_fit c.lay_parts.new.rack) traced }) (lit< tt) s2 c.new_drive_id.ensures c.volume_size-volume.ensures c.in_default-lay_parts.ensures in
+    let s3 = stage_laid x (g.R.Rack.seen c.write_durably-2.new.rack) (g.R.Rack.seen c.lay_parts.new.rack) birth state 0 c.new_drive_id.result.0 c.volume_size-volume.result new (record { unspent = g.met.R.Bay.unspent c.lay_parts.new.rack; sound = λ traced. g.met.R.Rack.sound c.lay_parts.new.rack (g.met.R.Bay.always_fit c.lay_parts.new.rack) traced }) (lit< tt) s2 c.new_drive_id.ensures c.volume_size-volume.ensures c.in_default-lay_parts.ensures.lays in
     let room = known_room birth state 1 new s3.blank.stays (lit< tt) in
     omega (arith, room, c.volume_size-volume.ensures)
 
@@ -113,8 +113,8 @@ lay_parts-requires-2-clause-bounded g c =
     let bounded = new.bounded 0 (lit< tt) in
     omega (arith, room, bounded, c.volume_size-volume.ensures)
 
-pub returns-in-Err-lay_parts-2 : goal.returns-in-Err-lay_parts-2
-returns-in-Err-lay_parts-2 g c =
+pub returns-in-Err-lay_parts-2-clause-writes : goal.returns-in-Err-lay_parts-2-clause-writes
+returns-in-Err-lay_parts-2-clause-writes g c =
     let x = g.R.Rack.seen c.args.rack.now in
     let birth = c.args.birth.now in
     let state = c.args.state.now in
@@ -122,10 +122,10 @@ returns-in-Err-lay_parts-2 g c =
     let s0 = stage_start x birth state new in
     let s1 = stage_clear x x (g.R.Rack.seen c.write_durably.new.rack) birth state 0 (Ok tt) new (record { unspent = g.met.R.Bay.unspent c.write_durably.new.rack; sound = λ traced. g.met.R.Rack.sound c.write_durably.new.rack (g.met.R.Bay.always_fit c.write_durably.new.rack) traced }) s0 c.in_default.ensures.writes in
     let s2 = stage_clear x (g.R.Rack.seen c.write_durably.new.rack) (g.R.Rack.seen c.write_durably-2.new.rack) birth state 1 (Ok tt) new (record { unspent = g.met.R.Bay.unspent c.write_durably-2.new.rack; sound = λ traced. g.met.R.Rack.sound c.write_durably-2.new.rack (g.met.R.Bay.always_fit c.write_durably-2.new.rack) traced }) s1 c.in_default-write_durably.ensures.writes in
-    let s3 = stage_laid x (g.R.Rack.seen c.write_durably-2.new.rack) (g.R.Rack.seen c.lay_parts.new.rack) birth state 0 c.new_drive_id.result.0 c.volume_size-volume.result new (record { unspent = g.met.R.Bay.unspent c.lay_parts.new.rack; sound = λ traced. g.met.R.Rack.sound c.lay_parts.new.rack (g.met.R.Bay.always_fit c.lay_parts.new.rack) traced }) (lit< tt) s2 c.new_drive_id.ensures c.volume_size-volume.ensures c.in_default-lay_parts.ensures in
+    let s3 = stage_laid x (g.R.Rack.seen c.write_durably-2.new.rack) (g.R.Rack.seen c.lay_parts.new.rack) birth state 0 c.new_drive_id.result.0 c.volume_size-volume.result new (record { unspent = g.met.R.Bay.unspent c.lay_parts.new.rack; sound = λ traced. g.met.R.Rack.sound c.lay_parts.new.rack (g.met.R.Bay.always_fit c.lay_parts.new.rack) traced }) (lit< tt) s2 c.new_drive_id.ensures c.volume_size-volume.ensures c.in_default-lay_parts.ensures.lays in
     refused_early x (g.R.Rack.seen c.lay_parts-2.new.rack) birth state c.in-Err-lay_parts-2.gone
-    (blank_laid x (g.R.Rack.seen c.lay_parts.new.rack) (g.R.Rack.seen c.lay_parts-2.new.rack) birth state 1 c.new_drive_id-2.result.0 c.volume_size-volume.result (Err c.in-Err-lay_parts-2.gone) new (record { unspent = g.met.R.Bay.unspent c.lay_parts-2.new.rack; sound = λ traced. g.met.R.Rack.sound c.lay_parts-2.new.rack (g.met.R.Bay.always_fit c.lay_parts-2.new.rack) traced }) (lit< tt) s3.blank c.new_drive_id-2.ensures c.volume_size-volume.ensures c.in-Err-lay_parts-2.ensures)
-    (cause_since (g.R.Rack.seen c.lay_parts-2.new.rack) birth state 1 c.in-Err-lay_parts-2.gone new s3.blank.stays (lit< tt) c.in-Err-lay_parts-2.ensures.gone)
+    (blank_laid x (g.R.Rack.seen c.lay_parts.new.rack) (g.R.Rack.seen c.lay_parts-2.new.rack) birth state 1 c.new_drive_id-2.result.0 c.volume_size-volume.result (Err c.in-Err-lay_parts-2.gone) new (record { unspent = g.met.R.Bay.unspent c.lay_parts-2.new.rack; sound = λ traced. g.met.R.Rack.sound c.lay_parts-2.new.rack (g.met.R.Bay.always_fit c.lay_parts-2.new.rack) traced }) (lit< tt) s3.blank c.new_drive_id-2.ensures c.volume_size-volume.ensures c.in-Err-lay_parts-2.ensures.lays)
+    (cause_since (g.R.Rack.seen c.lay_parts-2.new.rack) birth state 1 c.in-Err-lay_parts-2.gone new s3.blank.stays (lit< tt) c.in-Err-lay_parts-2.ensures.lays.gone)
 
 pub write_superblock-requires-clause-room : goal.write_superblock-requires-clause-room
 write_superblock-requires-clause-room g c =
@@ -136,13 +136,13 @@ write_superblock-requires-clause-room g c =
     let s0 = stage_start x birth state new in
     let s1 = stage_clear x x (g.R.Rack.seen c.write_durably.new.rack) birth state 0 (Ok tt) new (record { unspent = g.met.R.Bay.unspent c.write_durably.new.rack; sound = λ traced. g.met.R.Rack.sound c.write_durably.new.rack (g.met.R.Bay.always_fit c.write_durably.new.rack) traced }) s0 c.in_default.ensures.writes in
     let s2 = stage_clear x (g.R.Rack.seen c.write_durably.new.rack) (g.R.Rack.seen c.write_durably-2.new.rack) birth state 1 (Ok tt) new (record { unspent = g.met.R.Bay.unspent c.write_durably-2.new.rack; sound = λ traced. g.met.R.Rack.sound c.write_durably-2.new.rack (g.met.R.Bay.always_fit c.write_durably-2.new.rack) traced }) s1 c.in_default-write_durably.ensures.writes in
-    let s3 = stage_laid x (g.R.Rack.seen c.write_durably-2.new.rack) (g.R.Rack.seen c.lay_parts.new.rack) birth state 0 c.new_drive_id.result.0 c.volume_size-volume.result new (record { unspent = g.met.R.Bay.unspent c.lay_parts.new.rack; sound = λ traced. g.met.R.Rack.sound c.lay_parts.new.rack (g.met.R.Bay.always_fit c.lay_parts.new.rack) traced }) (lit< tt) s2 c.new_drive_id.ensures c.volume_size-volume.ensures c.in_default-lay_parts.ensures in
-    let s4 = stage_laid x (g.R.Rack.seen c.lay_parts.new.rack) (g.R.Rack.seen c.lay_parts-2.new.rack) birth state 1 c.new_drive_id-2.result.0 c.volume_size-volume.result new (record { unspent = g.met.R.Bay.unspent c.lay_parts-2.new.rack; sound = λ traced. g.met.R.Rack.sound c.lay_parts-2.new.rack (g.met.R.Bay.always_fit c.lay_parts-2.new.rack) traced }) (lit< tt) s3 c.new_drive_id-2.ensures c.volume_size-volume.ensures c.in_default-lay_parts-2.ensures in
+    let s3 = stage_laid x (g.R.Rack.seen c.write_durably-2.new.rack) (g.R.Rack.seen c.lay_parts.new.rack) birth state 0 c.new_drive_id.result.0 c.volume_size-volume.result new (record { unspent = g.met.R.Bay.unspent c.lay_parts.new.rack; sound = λ traced. g.met.R.Rack.sound c.lay_parts.new.rack (g.met.R.Bay.always_fit c.lay_parts.new.rack) traced }) (lit< tt) s2 c.new_drive_id.ensures c.volume_size-volume.ensures c.in_default-lay_parts.ensures.lays in
+    let s4 = stage_laid x (g.R.Rack.seen c.lay_parts.new.rack) (g.R.Rack.seen c.lay_parts-2.new.rack) birth state 1 c.new_drive_id-2.result.0 c.volume_size-volume.result new (record { unspent = g.met.R.Bay.unspent c.lay_parts-2.new.rack; sound = λ traced. g.met.R.Rack.sound c.lay_parts-2.new.rack (g.met.R.Bay.always_fit c.lay_parts-2.new.rack) traced }) (lit< tt) s3 c.new_drive_id-2.ensures c.volume_size-volume.ensures c.in_default-lay_parts-2.ensures.lays in
     let room = known_room birth state 0 new s4.blank.stays (lit< tt) in
     omega (arith, room)
 
-pub returns-in-Err-write_superblock : goal.returns-in-Err-write_superblock
-returns-in-Err-write_superblock g c =
+pub returns-in-Err-write_superblock-clause-writes : goal.returns-in-Err-write_superblock-clause-writes
+returns-in-Err-write_superblock-clause-writes g c =
     let x = g.R.Rack.seen c.args.rack.now in
     let birth = c.args.birth.now in
     let state = c.args.state.now in
@@ -150,11 +150,11 @@ returns-in-Err-write_superblock g c =
     let s0 = stage_start x birth state new in
     let s1 = stage_clear x x (g.R.Rack.seen c.write_durably.new.rack) birth state 0 (Ok tt) new (record { unspent = g.met.R.Bay.unspent c.write_durably.new.rack; sound = λ traced. g.met.R.Rack.sound c.write_durably.new.rack (g.met.R.Bay.always_fit c.write_durably.new.rack) traced }) s0 c.in_default.ensures.writes in
     let s2 = stage_clear x (g.R.Rack.seen c.write_durably.new.rack) (g.R.Rack.seen c.write_durably-2.new.rack) birth state 1 (Ok tt) new (record { unspent = g.met.R.Bay.unspent c.write_durably-2.new.rack; sound = λ traced. g.met.R.Rack.sound c.write_durably-2.new.rack (g.met.R.Bay.always_fit c.write_durably-2.new.rack) traced }) s1 c.in_default-write_durably.ensures.writes in
-    let s3 = stage_laid x (g.R.Rack.seen c.write_durably-2.new.rack) (g.R.Rack.seen c.lay_parts.new.rack) birth state 0 c.new_drive_id.result.0 c.volume_size-volume.result new (record { unspent = g.met.R.Bay.unspent c.lay_parts.new.rack; sound = λ traced. g.met.R.Rack.sound c.lay_parts.new.rack (g.met.R.Bay.always_fit c.lay_parts.new.rack) traced }) (lit< tt) s2 c.new_drive_id.ensures c.volume_size-volume.ensures c.in_default-lay_parts.ensures in
-    let s4 = stage_laid x (g.R.Rack.seen c.lay_parts.new.rack) (g.R.Rack.seen c.lay_parts-2.new.rack) birth state 1 c.new_drive_id-2.result.0 c.volume_size-volume.result new (record { unspent = g.met.R.Bay.unspent c.lay_parts-2.new.rack; sound = λ traced. g.met.R.Rack.sound c.lay_parts-2.new.rack (g.met.R.Bay.always_fit c.lay_parts-2.new.rack) traced }) (lit< tt) s3 c.new_drive_id-2.ensures c.volume_size-volume.ensures c.in_default-lay_parts-2.ensures in
+    let s3 = stage_laid x (g.R.Rack.seen c.write_durably-2.new.rack) (g.R.Rack.seen c.lay_parts.new.rack) birth state 0 c.new_drive_id.result.0 c.volume_size-volume.result new (record { unspent = g.met.R.Bay.unspent c.lay_parts.new.rack; sound = λ traced. g.met.R.Rack.sound c.lay_parts.new.rack (g.met.R.Bay.always_fit c.lay_parts.new.rack) traced }) (lit< tt) s2 c.new_drive_id.ensures c.volume_size-volume.ensures c.in_default-lay_parts.ensures.lays in
+    let s4 = stage_laid x (g.R.Rack.seen c.lay_parts.new.rack) (g.R.Rack.seen c.lay_parts-2.new.rack) birth state 1 c.new_drive_id-2.result.0 c.volume_size-volume.result new (record { unspent = g.met.R.Bay.unspent c.lay_parts-2.new.rack; sound = λ traced. g.met.R.Rack.sound c.lay_parts-2.new.rack (g.met.R.Bay.always_fit c.lay_parts-2.new.rack) traced }) (lit< tt) s3 c.new_drive_id-2.ensures c.volume_size-volume.ensures c.in_default-lay_parts-2.ensures.lays in
     refused_early x (g.R.Rack.seen c.write_superblock.new.rack) birth state c.in-Err-write_superblock.gone
-    (blank_said x (g.R.Rack.seen c.lay_parts-2.new.rack) (g.R.Rack.seen c.write_superblock.new.rack) birth state 0 c.args.members.now.first (Err c.in-Err-write_superblock.gone) new (record { unspent = g.met.R.Bay.unspent c.write_superblock.new.rack; sound = λ traced. g.met.R.Rack.sound c.write_superblock.new.rack (g.met.R.Bay.always_fit c.write_superblock.new.rack) traced }) s4.blank c.in-Err-write_superblock.ensures)
-    (cause_since (g.R.Rack.seen c.write_superblock.new.rack) birth state 0 c.in-Err-write_superblock.gone new s4.blank.stays (lit< tt) c.in-Err-write_superblock.ensures.writes.gone)
+    (blank_said x (g.R.Rack.seen c.lay_parts-2.new.rack) (g.R.Rack.seen c.write_superblock.new.rack) birth state 0 c.args.members.now.first (Err c.in-Err-write_superblock.gone) new (record { unspent = g.met.R.Bay.unspent c.write_superblock.new.rack; sound = λ traced. g.met.R.Rack.sound c.write_superblock.new.rack (g.met.R.Bay.always_fit c.write_superblock.new.rack) traced }) s4.blank c.in-Err-write_superblock.ensures.writes)
+    (cause_since (g.R.Rack.seen c.write_superblock.new.rack) birth state 0 c.in-Err-write_superblock.gone new s4.blank.stays (lit< tt) c.in-Err-write_superblock.ensures.writes.writes.gone)
 
 pub write_superblock-requires-2-clause-room : goal.write_superblock-requires-2-clause-room
 write_superblock-requires-2-clause-room g c =
@@ -165,14 +165,14 @@ write_superblock-requires-2-clause-room g c =
     let s0 = stage_start x birth state new in
     let s1 = stage_clear x x (g.R.Rack.seen c.write_durably.new.rack) birth state 0 (Ok tt) new (record { unspent = g.met.R.Bay.unspent c.write_durably.new.rack; sound = λ traced. g.met.R.Rack.sound c.write_durably.new.rack (g.met.R.Bay.always_fit c.write_durably.new.rack) traced }) s0 c.in_default.ensures.writes in
     let s2 = stage_clear x (g.R.Rack.seen c.write_durably.new.rack) (g.R.Rack.seen c.write_durably-2.new.rack) birth state 1 (Ok tt) new (record { unspent = g.met.R.Bay.unspent c.write_durably-2.new.rack; sound = λ traced. g.met.R.Rack.sound c.write_durably-2.new.rack (g.met.R.Bay.always_fit c.write_durably-2.new.rack) traced }) s1 c.in_default-write_durably.ensures.writes in
-    let s3 = stage_laid x (g.R.Rack.seen c.write_durably-2.new.rack) (g.R.Rack.seen c.lay_parts.new.rack) birth state 0 c.new_drive_id.result.0 c.volume_size-volume.result new (record { unspent = g.met.R.Bay.unspent c.lay_parts.new.rack; sound = λ traced. g.met.R.Rack.sound c.lay_parts.new.rack (g.met.R.Bay.always_fit c.lay_parts.new.rack) traced }) (lit< tt) s2 c.new_drive_id.ensures c.volume_size-volume.ensures c.in_default-lay_parts.ensures in
-    let s4 = stage_laid x (g.R.Rack.seen c.lay_parts.new.rack) (g.R.Rack.seen c.lay_parts-2.new.rack) birth state 1 c.new_drive_id-2.result.0 c.volume_size-volume.result new (record { unspent = g.met.R.Bay.unspent c.lay_parts-2.new.rack; sound = λ traced. g.met.R.Rack.sound c.lay_parts-2.new.rack (g.met.R.Bay.always_fit c.lay_parts-2.new.rack) traced }) (lit< tt) s3 c.new_drive_id-2.ensures c.volume_size-volume.ensures c.in_default-lay_parts-2.ensures in
-    let s5 = stage_said x (g.R.Rack.seen c.lay_parts-2.new.rack) (g.R.Rack.seen c.write_superblock.new.rack) birth state 0 c.args.members.now.first new (record { unspent = g.met.R.Bay.unspent c.write_superblock.new.rack; sound = λ traced. g.met.R.Rack.sound c.write_superblock.new.rack (g.met.R.Bay.always_fit c.write_superblock.new.rack) traced }) (lit< tt) s4 (ap (λ (m : Members). m.first) c.requires.members) c.in_default-write_superblock.ensures in
+    let s3 = stage_laid x (g.R.Rack.seen c.write_durably-2.new.rack) (g.R.Rack.seen c.lay_parts.new.rack) birth state 0 c.new_drive_id.result.0 c.volume_size-volume.result new (record { unspent = g.met.R.Bay.unspent c.lay_parts.new.rack; sound = λ traced. g.met.R.Rack.sound c.lay_parts.new.rack (g.met.R.Bay.always_fit c.lay_parts.new.rack) traced }) (lit< tt) s2 c.new_drive_id.ensures c.volume_size-volume.ensures c.in_default-lay_parts.ensures.lays in
+    let s4 = stage_laid x (g.R.Rack.seen c.lay_parts.new.rack) (g.R.Rack.seen c.lay_parts-2.new.rack) birth state 1 c.new_drive_id-2.result.0 c.volume_size-volume.result new (record { unspent = g.met.R.Bay.unspent c.lay_parts-2.new.rack; sound = λ traced. g.met.R.Rack.sound c.lay_parts-2.new.rack (g.met.R.Bay.always_fit c.lay_parts-2.new.rack) traced }) (lit< tt) s3 c.new_drive_id-2.ensures c.volume_size-volume.ensures c.in_default-lay_parts-2.ensures.lays in
+    let s5 = stage_said x (g.R.Rack.seen c.lay_parts-2.new.rack) (g.R.Rack.seen c.write_superblock.new.rack) birth state 0 c.args.members.now.first new (record { unspent = g.met.R.Bay.unspent c.write_superblock.new.rack; sound = λ traced. g.met.R.Rack.sound c.write_superblock.new.rack (g.met.R.Bay.always_fit c.write_superblock.new.rack) traced }) (lit< tt) s4 (ap (λ (m : Members). m.first) c.requires.members) c.in_default-write_superblock.ensures.writes in
     let room = known_room birth state 1 new s5.blank.stays (lit< tt) in
     omega (arith, room)
 
-pub returns-in-Err-write_superblock-2 : goal.returns-in-Err-write_superblock-2
-returns-in-Err-write_superblock-2 g c =
+pub returns-in-Err-write_superblock-2-clause-writes : goal.returns-in-Err-write_superblock-2-clause-writes
+returns-in-Err-write_superblock-2-clause-writes g c =
     let x = g.R.Rack.seen c.args.rack.now in
     let birth = c.args.birth.now in
     let state = c.args.state.now in
@@ -180,12 +180,12 @@ returns-in-Err-write_superblock-2 g c =
     let s0 = stage_start x birth state new in
     let s1 = stage_clear x x (g.R.Rack.seen c.write_durably.new.rack) birth state 0 (Ok tt) new (record { unspent = g.met.R.Bay.unspent c.write_durably.new.rack; sound = λ traced. g.met.R.Rack.sound c.write_durably.new.rack (g.met.R.Bay.always_fit c.write_durably.new.rack) traced }) s0 c.in_default.ensures.writes in
     let s2 = stage_clear x (g.R.Rack.seen c.write_durably.new.rack) (g.R.Rack.seen c.write_durably-2.new.rack) birth state 1 (Ok tt) new (record { unspent = g.met.R.Bay.unspent c.write_durably-2.new.rack; sound = λ traced. g.met.R.Rack.sound c.write_durably-2.new.rack (g.met.R.Bay.always_fit c.write_durably-2.new.rack) traced }) s1 c.in_default-write_durably.ensures.writes in
-    let s3 = stage_laid x (g.R.Rack.seen c.write_durably-2.new.rack) (g.R.Rack.seen c.lay_parts.new.rack) birth state 0 c.new_drive_id.result.0 c.volume_size-volume.result new (record { unspent = g.met.R.Bay.unspent c.lay_parts.new.rack; sound = λ traced. g.met.R.Rack.sound c.lay_parts.new.rack (g.met.R.Bay.always_fit c.lay_parts.new.rack) traced }) (lit< tt) s2 c.new_drive_id.ensures c.volume_size-volume.ensures c.in_default-lay_parts.ensures in
-    let s4 = stage_laid x (g.R.Rack.seen c.lay_parts.new.rack) (g.R.Rack.seen c.lay_parts-2.new.rack) birth state 1 c.new_drive_id-2.result.0 c.volume_size-volume.result new (record { unspent = g.met.R.Bay.unspent c.lay_parts-2.new.rack; sound = λ traced. g.met.R.Rack.sound c.lay_parts-2.new.rack (g.met.R.Bay.always_fit c.lay_parts-2.new.rack) traced }) (lit< tt) s3 c.new_drive_id-2.ensures c.volume_size-volume.ensures c.in_default-lay_parts-2.ensures in
-    let s5 = stage_said x (g.R.Rack.seen c.lay_parts-2.new.rack) (g.R.Rack.seen c.write_superblock.new.rack) birth state 0 c.args.members.now.first new (record { unspent = g.met.R.Bay.unspent c.write_superblock.new.rack; sound = λ traced. g.met.R.Rack.sound c.write_superblock.new.rack (g.met.R.Bay.always_fit c.write_superblock.new.rack) traced }) (lit< tt) s4 (ap (λ (m : Members). m.first) c.requires.members) c.in_default-write_superblock.ensures in
+    let s3 = stage_laid x (g.R.Rack.seen c.write_durably-2.new.rack) (g.R.Rack.seen c.lay_parts.new.rack) birth state 0 c.new_drive_id.result.0 c.volume_size-volume.result new (record { unspent = g.met.R.Bay.unspent c.lay_parts.new.rack; sound = λ traced. g.met.R.Rack.sound c.lay_parts.new.rack (g.met.R.Bay.always_fit c.lay_parts.new.rack) traced }) (lit< tt) s2 c.new_drive_id.ensures c.volume_size-volume.ensures c.in_default-lay_parts.ensures.lays in
+    let s4 = stage_laid x (g.R.Rack.seen c.lay_parts.new.rack) (g.R.Rack.seen c.lay_parts-2.new.rack) birth state 1 c.new_drive_id-2.result.0 c.volume_size-volume.result new (record { unspent = g.met.R.Bay.unspent c.lay_parts-2.new.rack; sound = λ traced. g.met.R.Rack.sound c.lay_parts-2.new.rack (g.met.R.Bay.always_fit c.lay_parts-2.new.rack) traced }) (lit< tt) s3 c.new_drive_id-2.ensures c.volume_size-volume.ensures c.in_default-lay_parts-2.ensures.lays in
+    let s5 = stage_said x (g.R.Rack.seen c.lay_parts-2.new.rack) (g.R.Rack.seen c.write_superblock.new.rack) birth state 0 c.args.members.now.first new (record { unspent = g.met.R.Bay.unspent c.write_superblock.new.rack; sound = λ traced. g.met.R.Rack.sound c.write_superblock.new.rack (g.met.R.Bay.always_fit c.write_superblock.new.rack) traced }) (lit< tt) s4 (ap (λ (m : Members). m.first) c.requires.members) c.in_default-write_superblock.ensures.writes in
     refused_early x (g.R.Rack.seen c.write_superblock-2.new.rack) birth state c.in-Err-write_superblock-2.gone
-    (blank_said x (g.R.Rack.seen c.write_superblock.new.rack) (g.R.Rack.seen c.write_superblock-2.new.rack) birth state 1 c.args.members.now.second (Err c.in-Err-write_superblock-2.gone) new (record { unspent = g.met.R.Bay.unspent c.write_superblock-2.new.rack; sound = λ traced. g.met.R.Rack.sound c.write_superblock-2.new.rack (g.met.R.Bay.always_fit c.write_superblock-2.new.rack) traced }) s5.blank c.in-Err-write_superblock-2.ensures)
-    (cause_since (g.R.Rack.seen c.write_superblock-2.new.rack) birth state 1 c.in-Err-write_superblock-2.gone new s5.blank.stays (lit< tt) c.in-Err-write_superblock-2.ensures.writes.gone)
+    (blank_said x (g.R.Rack.seen c.write_superblock.new.rack) (g.R.Rack.seen c.write_superblock-2.new.rack) birth state 1 c.args.members.now.second (Err c.in-Err-write_superblock-2.gone) new (record { unspent = g.met.R.Bay.unspent c.write_superblock-2.new.rack; sound = λ traced. g.met.R.Rack.sound c.write_superblock-2.new.rack (g.met.R.Bay.always_fit c.write_superblock-2.new.rack) traced }) s5.blank c.in-Err-write_superblock-2.ensures.writes)
+    (cause_since (g.R.Rack.seen c.write_superblock-2.new.rack) birth state 1 c.in-Err-write_superblock-2.gone new s5.blank.stays (lit< tt) c.in-Err-write_superblock-2.ensures.writes.writes.gone)
 
 pub write_state-requires-clause-room : goal.write_state-requires-clause-room
 write_state-requires-clause-room g c =
@@ -196,10 +196,10 @@ write_state-requires-clause-room g c =
     let s0 = stage_start x birth state new in
     let s1 = stage_clear x x (g.R.Rack.seen c.write_durably.new.rack) birth state 0 (Ok tt) new (record { unspent = g.met.R.Bay.unspent c.write_durably.new.rack; sound = λ traced. g.met.R.Rack.sound c.write_durably.new.rack (g.met.R.Bay.always_fit c.write_durably.new.rack) traced }) s0 c.in_default.ensures.writes in
     let s2 = stage_clear x (g.R.Rack.seen c.write_durably.new.rack) (g.R.Rack.seen c.write_durably-2.new.rack) birth state 1 (Ok tt) new (record { unspent = g.met.R.Bay.unspent c.write_durably-2.new.rack; sound = λ traced. g.met.R.Rack.sound c.write_durably-2.new.rack (g.met.R.Bay.always_fit c.write_durably-2.new.rack) traced }) s1 c.in_default-write_durably.ensures.writes in
-    let s3 = stage_laid x (g.R.Rack.seen c.write_durably-2.new.rack) (g.R.Rack.seen c.lay_parts.new.rack) birth state 0 c.new_drive_id.result.0 c.volume_size-volume.result new (record { unspent = g.met.R.Bay.unspent c.lay_parts.new.rack; sound = λ traced. g.met.R.Rack.sound c.lay_parts.new.rack (g.met.R.Bay.always_fit c.lay_parts.new.rack) traced }) (lit< tt) s2 c.new_drive_id.ensures c.volume_size-volume.ensures c.in_default-lay_parts.ensures in
-    let s4 = stage_laid x (g.R.Rack.seen c.lay_parts.new.rack) (g.R.Rack.seen c.lay_parts-2.new.rack) birth state 1 c.new_drive_id-2.result.0 c.volume_size-volume.result new (record { unspent = g.met.R.Bay.unspent c.lay_parts-2.new.rack; sound = λ traced. g.met.R.Rack.sound c.lay_parts-2.new.rack (g.met.R.Bay.always_fit c.lay_parts-2.new.rack) traced }) (lit< tt) s3 c.new_drive_id-2.ensures c.volume_size-volume.ensures c.in_default-lay_parts-2.ensures in
-    let s5 = stage_said x (g.R.Rack.seen c.lay_parts-2.new.rack) (g.R.Rack.seen c.write_superblock.new.rack) birth state 0 c.args.members.now.first new (record { unspent = g.met.R.Bay.unspent c.write_superblock.new.rack; sound = λ traced. g.met.R.Rack.sound c.write_superblock.new.rack (g.met.R.Bay.always_fit c.write_superblock.new.rack) traced }) (lit< tt) s4 (ap (λ (m : Members). m.first) c.requires.members) c.in_default-write_superblock.ensures in
-    let s6 = stage_said x (g.R.Rack.seen c.write_superblock.new.rack) (g.R.Rack.seen c.write_superblock-2.new.rack) birth state 1 c.args.members.now.second new (record { unspent = g.met.R.Bay.unspent c.write_superblock-2.new.rack; sound = λ traced. g.met.R.Rack.sound c.write_superblock-2.new.rack (g.met.R.Bay.always_fit c.write_superblock-2.new.rack) traced }) (lit< tt) s5 (ap (λ (m : Members). m.second) c.requires.members) c.in_default-write_superblock-2.ensures in
+    let s3 = stage_laid x (g.R.Rack.seen c.write_durably-2.new.rack) (g.R.Rack.seen c.lay_parts.new.rack) birth state 0 c.new_drive_id.result.0 c.volume_size-volume.result new (record { unspent = g.met.R.Bay.unspent c.lay_parts.new.rack; sound = λ traced. g.met.R.Rack.sound c.lay_parts.new.rack (g.met.R.Bay.always_fit c.lay_parts.new.rack) traced }) (lit< tt) s2 c.new_drive_id.ensures c.volume_size-volume.ensures c.in_default-lay_parts.ensures.lays in
+    let s4 = stage_laid x (g.R.Rack.seen c.lay_parts.new.rack) (g.R.Rack.seen c.lay_parts-2.new.rack) birth state 1 c.new_drive_id-2.result.0 c.volume_size-volume.result new (record { unspent = g.met.R.Bay.unspent c.lay_parts-2.new.rack; sound = λ traced. g.met.R.Rack.sound c.lay_parts-2.new.rack (g.met.R.Bay.always_fit c.lay_parts-2.new.rack) traced }) (lit< tt) s3 c.new_drive_id-2.ensures c.volume_size-volume.ensures c.in_default-lay_parts-2.ensures.lays in
+    let s5 = stage_said x (g.R.Rack.seen c.lay_parts-2.new.rack) (g.R.Rack.seen c.write_superblock.new.rack) birth state 0 c.args.members.now.first new (record { unspent = g.met.R.Bay.unspent c.write_superblock.new.rack; sound = λ traced. g.met.R.Rack.sound c.write_superblock.new.rack (g.met.R.Bay.always_fit c.write_superblock.new.rack) traced }) (lit< tt) s4 (ap (λ (m : Members). m.first) c.requires.members) c.in_default-write_superblock.ensures.writes in
+    let s6 = stage_said x (g.R.Rack.seen c.write_superblock.new.rack) (g.R.Rack.seen c.write_superblock-2.new.rack) birth state 1 c.args.members.now.second new (record { unspent = g.met.R.Bay.unspent c.write_superblock-2.new.rack; sound = λ traced. g.met.R.Rack.sound c.write_superblock-2.new.rack (g.met.R.Bay.always_fit c.write_superblock-2.new.rack) traced }) (lit< tt) s5 (ap (λ (m : Members). m.second) c.requires.members) c.in_default-write_superblock-2.ensures.writes in
     let room = known_room birth state 0 new s6.blank.stays (lit< tt) in
     omega (arith, room)
 
@@ -211,8 +211,8 @@ pub write_state-requires-2-clause-valid : goal.write_state-requires-2-clause-val
 write_state-requires-2-clause-valid g c =
     valid_given (g.R.Rack.seen c.args.rack.now) c.args.birth.now c.args.state.now 1 c.requires.pool (lit< tt)
 
-pub returns-in-Err-write_state : goal.returns-in-Err-write_state
-returns-in-Err-write_state g c =
+pub returns-in-Err-write_state-clause-writes : goal.returns-in-Err-write_state-clause-writes
+returns-in-Err-write_state-clause-writes g c =
     let x = g.R.Rack.seen c.args.rack.now in
     let birth = c.args.birth.now in
     let state = c.args.state.now in
@@ -220,11 +220,11 @@ returns-in-Err-write_state g c =
     let s0 = stage_start x birth state new in
     let s1 = stage_clear x x (g.R.Rack.seen c.write_durably.new.rack) birth state 0 (Ok tt) new (record { unspent = g.met.R.Bay.unspent c.write_durably.new.rack; sound = λ traced. g.met.R.Rack.sound c.write_durably.new.rack (g.met.R.Bay.always_fit c.write_durably.new.rack) traced }) s0 c.in_default.ensures.writes in
     let s2 = stage_clear x (g.R.Rack.seen c.write_durably.new.rack) (g.R.Rack.seen c.write_durably-2.new.rack) birth state 1 (Ok tt) new (record { unspent = g.met.R.Bay.unspent c.write_durably-2.new.rack; sound = λ traced. g.met.R.Rack.sound c.write_durably-2.new.rack (g.met.R.Bay.always_fit c.write_durably-2.new.rack) traced }) s1 c.in_default-write_durably.ensures.writes in
-    let s3 = stage_laid x (g.R.Rack.seen c.write_durably-2.new.rack) (g.R.Rack.seen c.lay_parts.new.rack) birth state 0 c.new_drive_id.result.0 c.volume_size-volume.result new (record { unspent = g.met.R.Bay.unspent c.lay_parts.new.rack; sound = λ traced. g.met.R.Rack.sound c.lay_parts.new.rack (g.met.R.Bay.always_fit c.lay_parts.new.rack) traced }) (lit< tt) s2 c.new_drive_id.ensures c.volume_size-volume.ensures c.in_default-lay_parts.ensures in
-    let s4 = stage_laid x (g.R.Rack.seen c.lay_parts.new.rack) (g.R.Rack.seen c.lay_parts-2.new.rack) birth state 1 c.new_drive_id-2.result.0 c.volume_size-volume.result new (record { unspent = g.met.R.Bay.unspent c.lay_parts-2.new.rack; sound = λ traced. g.met.R.Rack.sound c.lay_parts-2.new.rack (g.met.R.Bay.always_fit c.lay_parts-2.new.rack) traced }) (lit< tt) s3 c.new_drive_id-2.ensures c.volume_size-volume.ensures c.in_default-lay_parts-2.ensures in
-    let s5 = stage_said x (g.R.Rack.seen c.lay_parts-2.new.rack) (g.R.Rack.seen c.write_superblock.new.rack) birth state 0 c.args.members.now.first new (record { unspent = g.met.R.Bay.unspent c.write_superblock.new.rack; sound = λ traced. g.met.R.Rack.sound c.write_superblock.new.rack (g.met.R.Bay.always_fit c.write_superblock.new.rack) traced }) (lit< tt) s4 (ap (λ (m : Members). m.first) c.requires.members) c.in_default-write_superblock.ensures in
-    let s6 = stage_said x (g.R.Rack.seen c.write_superblock.new.rack) (g.R.Rack.seen c.write_superblock-2.new.rack) birth state 1 c.args.members.now.second new (record { unspent = g.met.R.Bay.unspent c.write_superblock-2.new.rack; sound = λ traced. g.met.R.Rack.sound c.write_superblock-2.new.rack (g.met.R.Bay.always_fit c.write_superblock-2.new.rack) traced }) (lit< tt) s5 (ap (λ (m : Members). m.second) c.requires.members) c.in_default-write_superblock-2.ensures in
-    first_refused x (g.R.Rack.seen c.write_superblock-2.new.rack) (g.R.Rack.seen c.write_state.new.rack) birth state c.in-Err-write_state.gone new (record { unspent = g.met.R.Bay.unspent c.write_state.new.rack; sound = λ traced. g.met.R.Rack.sound c.write_state.new.rack (g.met.R.Bay.always_fit c.write_state.new.rack) traced }) s6 c.in-Err-write_state.ensures
+    let s3 = stage_laid x (g.R.Rack.seen c.write_durably-2.new.rack) (g.R.Rack.seen c.lay_parts.new.rack) birth state 0 c.new_drive_id.result.0 c.volume_size-volume.result new (record { unspent = g.met.R.Bay.unspent c.lay_parts.new.rack; sound = λ traced. g.met.R.Rack.sound c.lay_parts.new.rack (g.met.R.Bay.always_fit c.lay_parts.new.rack) traced }) (lit< tt) s2 c.new_drive_id.ensures c.volume_size-volume.ensures c.in_default-lay_parts.ensures.lays in
+    let s4 = stage_laid x (g.R.Rack.seen c.lay_parts.new.rack) (g.R.Rack.seen c.lay_parts-2.new.rack) birth state 1 c.new_drive_id-2.result.0 c.volume_size-volume.result new (record { unspent = g.met.R.Bay.unspent c.lay_parts-2.new.rack; sound = λ traced. g.met.R.Rack.sound c.lay_parts-2.new.rack (g.met.R.Bay.always_fit c.lay_parts-2.new.rack) traced }) (lit< tt) s3 c.new_drive_id-2.ensures c.volume_size-volume.ensures c.in_default-lay_parts-2.ensures.lays in
+    let s5 = stage_said x (g.R.Rack.seen c.lay_parts-2.new.rack) (g.R.Rack.seen c.write_superblock.new.rack) birth state 0 c.args.members.now.first new (record { unspent = g.met.R.Bay.unspent c.write_superblock.new.rack; sound = λ traced. g.met.R.Rack.sound c.write_superblock.new.rack (g.met.R.Bay.always_fit c.write_superblock.new.rack) traced }) (lit< tt) s4 (ap (λ (m : Members). m.first) c.requires.members) c.in_default-write_superblock.ensures.writes in
+    let s6 = stage_said x (g.R.Rack.seen c.write_superblock.new.rack) (g.R.Rack.seen c.write_superblock-2.new.rack) birth state 1 c.args.members.now.second new (record { unspent = g.met.R.Bay.unspent c.write_superblock-2.new.rack; sound = λ traced. g.met.R.Rack.sound c.write_superblock-2.new.rack (g.met.R.Bay.always_fit c.write_superblock-2.new.rack) traced }) (lit< tt) s5 (ap (λ (m : Members). m.second) c.requires.members) c.in_default-write_superblock-2.ensures.writes in
+    first_refused x (g.R.Rack.seen c.write_superblock-2.new.rack) (g.R.Rack.seen c.write_state.new.rack) birth state c.in-Err-write_state.gone new (record { unspent = g.met.R.Bay.unspent c.write_state.new.rack; sound = λ traced. g.met.R.Rack.sound c.write_state.new.rack (g.met.R.Bay.always_fit c.write_state.new.rack) traced }) s6 c.in-Err-write_state.ensures.writes
 
 pub write_state-requires-2-clause-room : goal.write_state-requires-2-clause-room
 write_state-requires-2-clause-room g c =
@@ -235,15 +235,15 @@ write_state-requires-2-clause-room g c =
     let s0 = stage_start x birth state new in
     let s1 = stage_clear x x (g.R.Rack.seen c.write_durably.new.rack) birth state 0 (Ok tt) new (record { unspent = g.met.R.Bay.unspent c.write_durably.new.rack; sound = λ traced. g.met.R.Rack.sound c.write_durably.new.rack (g.met.R.Bay.always_fit c.write_durably.new.rack) traced }) s0 c.in_default.ensures.writes in
     let s2 = stage_clear x (g.R.Rack.seen c.write_durably.new.rack) (g.R.Rack.seen c.write_durably-2.new.rack) birth state 1 (Ok tt) new (record { unspent = g.met.R.Bay.unspent c.write_durably-2.new.rack; sound = λ traced. g.met.R.Rack.sound c.write_durably-2.new.rack (g.met.R.Bay.always_fit c.write_durably-2.new.rack) traced }) s1 c.in_default-write_durably.ensures.writes in
-    let s3 = stage_laid x (g.R.Rack.seen c.write_durably-2.new.rack) (g.R.Rack.seen c.lay_parts.new.rack) birth state 0 c.new_drive_id.result.0 c.volume_size-volume.result new (record { unspent = g.met.R.Bay.unspent c.lay_parts.new.rack; sound = λ traced. g.met.R.Rack.sound c.lay_parts.new.rack (g.met.R.Bay.always_fit c.lay_parts.new.rack) traced }) (lit< tt) s2 c.new_drive_id.ensures c.volume_size-volume.ensures c.in_default-lay_parts.ensures in
-    let s4 = stage_laid x (g.R.Rack.seen c.lay_parts.new.rack) (g.R.Rack.seen c.lay_parts-2.new.rack) birth state 1 c.new_drive_id-2.result.0 c.volume_size-volume.result new (record { unspent = g.met.R.Bay.unspent c.lay_parts-2.new.rack; sound = λ traced. g.met.R.Rack.sound c.lay_parts-2.new.rack (g.met.R.Bay.always_fit c.lay_parts-2.new.rack) traced }) (lit< tt) s3 c.new_drive_id-2.ensures c.volume_size-volume.ensures c.in_default-lay_parts-2.ensures in
-    let s5 = stage_said x (g.R.Rack.seen c.lay_parts-2.new.rack) (g.R.Rack.seen c.write_superblock.new.rack) birth state 0 c.args.members.now.first new (record { unspent = g.met.R.Bay.unspent c.write_superblock.new.rack; sound = λ traced. g.met.R.Rack.sound c.write_superblock.new.rack (g.met.R.Bay.always_fit c.write_superblock.new.rack) traced }) (lit< tt) s4 (ap (λ (m : Members). m.first) c.requires.members) c.in_default-write_superblock.ensures in
-    let s6 = stage_said x (g.R.Rack.seen c.write_superblock.new.rack) (g.R.Rack.seen c.write_superblock-2.new.rack) birth state 1 c.args.members.now.second new (record { unspent = g.met.R.Bay.unspent c.write_superblock-2.new.rack; sound = λ traced. g.met.R.Rack.sound c.write_superblock-2.new.rack (g.met.R.Bay.always_fit c.write_superblock-2.new.rack) traced }) (lit< tt) s5 (ap (λ (m : Members). m.second) c.requires.members) c.in_default-write_superblock-2.ensures in
-    let room = known_room birth state 1 new (stays_then s6.blank.stays c.in_default-write_state.ensures.writes.stays) (lit< tt) in
+    let s3 = stage_laid x (g.R.Rack.seen c.write_durably-2.new.rack) (g.R.Rack.seen c.lay_parts.new.rack) birth state 0 c.new_drive_id.result.0 c.volume_size-volume.result new (record { unspent = g.met.R.Bay.unspent c.lay_parts.new.rack; sound = λ traced. g.met.R.Rack.sound c.lay_parts.new.rack (g.met.R.Bay.always_fit c.lay_parts.new.rack) traced }) (lit< tt) s2 c.new_drive_id.ensures c.volume_size-volume.ensures c.in_default-lay_parts.ensures.lays in
+    let s4 = stage_laid x (g.R.Rack.seen c.lay_parts.new.rack) (g.R.Rack.seen c.lay_parts-2.new.rack) birth state 1 c.new_drive_id-2.result.0 c.volume_size-volume.result new (record { unspent = g.met.R.Bay.unspent c.lay_parts-2.new.rack; sound = λ traced. g.met.R.Rack.sound c.lay_parts-2.new.rack (g.met.R.Bay.always_fit c.lay_parts-2.new.rack) traced }) (lit< tt) s3 c.new_drive_id-2.ensures c.volume_size-volume.ensures c.in_default-lay_parts-2.ensures.lays in
+    let s5 = stage_said x (g.R.Rack.seen c.lay_parts-2.new.rack) (g.R.Rack.seen c.write_superblock.new.rack) birth state 0 c.args.members.now.first new (record { unspent = g.met.R.Bay.unspent c.write_superblock.new.rack; sound = λ traced. g.met.R.Rack.sound c.write_superblock.new.rack (g.met.R.Bay.always_fit c.write_superblock.new.rack) traced }) (lit< tt) s4 (ap (λ (m : Members). m.first) c.requires.members) c.in_default-write_superblock.ensures.writes in
+    let s6 = stage_said x (g.R.Rack.seen c.write_superblock.new.rack) (g.R.Rack.seen c.write_superblock-2.new.rack) birth state 1 c.args.members.now.second new (record { unspent = g.met.R.Bay.unspent c.write_superblock-2.new.rack; sound = λ traced. g.met.R.Rack.sound c.write_superblock-2.new.rack (g.met.R.Bay.always_fit c.write_superblock-2.new.rack) traced }) (lit< tt) s5 (ap (λ (m : Members). m.second) c.requires.members) c.in_default-write_superblock-2.ensures.writes in
+    let room = known_room birth state 1 new (stays_then s6.blank.stays c.in_default-write_state.ensures.writes.writes.stays) (lit< tt) in
     omega (arith, room)
 
-pub returns : goal.returns
-returns g c =
+pub returns-clause-writes : goal.returns-clause-writes
+returns-clause-writes g c =
     let x = g.R.Rack.seen c.args.rack.now in
     let birth = c.args.birth.now in
     let state = c.args.state.now in
@@ -251,8 +251,29 @@ returns g c =
     let s0 = stage_start x birth state new in
     let s1 = stage_clear x x (g.R.Rack.seen c.write_durably.new.rack) birth state 0 (Ok tt) new (record { unspent = g.met.R.Bay.unspent c.write_durably.new.rack; sound = λ traced. g.met.R.Rack.sound c.write_durably.new.rack (g.met.R.Bay.always_fit c.write_durably.new.rack) traced }) s0 c.in_default.ensures.writes in
     let s2 = stage_clear x (g.R.Rack.seen c.write_durably.new.rack) (g.R.Rack.seen c.write_durably-2.new.rack) birth state 1 (Ok tt) new (record { unspent = g.met.R.Bay.unspent c.write_durably-2.new.rack; sound = λ traced. g.met.R.Rack.sound c.write_durably-2.new.rack (g.met.R.Bay.always_fit c.write_durably-2.new.rack) traced }) s1 c.in_default-write_durably.ensures.writes in
-    let s3 = stage_laid x (g.R.Rack.seen c.write_durably-2.new.rack) (g.R.Rack.seen c.lay_parts.new.rack) birth state 0 c.new_drive_id.result.0 c.volume_size-volume.result new (record { unspent = g.met.R.Bay.unspent c.lay_parts.new.rack; sound = λ traced. g.met.R.Rack.sound c.lay_parts.new.rack (g.met.R.Bay.always_fit c.lay_parts.new.rack) traced }) (lit< tt) s2 c.new_drive_id.ensures c.volume_size-volume.ensures c.in_default-lay_parts.ensures in
-    let s4 = stage_laid x (g.R.Rack.seen c.lay_parts.new.rack) (g.R.Rack.seen c.lay_parts-2.new.rack) birth state 1 c.new_drive_id-2.result.0 c.volume_size-volume.result new (record { unspent = g.met.R.Bay.unspent c.lay_parts-2.new.rack; sound = λ traced. g.met.R.Rack.sound c.lay_parts-2.new.rack (g.met.R.Bay.always_fit c.lay_parts-2.new.rack) traced }) (lit< tt) s3 c.new_drive_id-2.ensures c.volume_size-volume.ensures c.in_default-lay_parts-2.ensures in
-    let s5 = stage_said x (g.R.Rack.seen c.lay_parts-2.new.rack) (g.R.Rack.seen c.write_superblock.new.rack) birth state 0 c.args.members.now.first new (record { unspent = g.met.R.Bay.unspent c.write_superblock.new.rack; sound = λ traced. g.met.R.Rack.sound c.write_superblock.new.rack (g.met.R.Bay.always_fit c.write_superblock.new.rack) traced }) (lit< tt) s4 (ap (λ (m : Members). m.first) c.requires.members) c.in_default-write_superblock.ensures in
-    let s6 = stage_said x (g.R.Rack.seen c.write_superblock.new.rack) (g.R.Rack.seen c.write_superblock-2.new.rack) birth state 1 c.args.members.now.second new (record { unspent = g.met.R.Bay.unspent c.write_superblock-2.new.rack; sound = λ traced. g.met.R.Rack.sound c.write_superblock-2.new.rack (g.met.R.Bay.always_fit c.write_superblock-2.new.rack) traced }) (lit< tt) s5 (ap (λ (m : Members). m.second) c.requires.members) c.in_default-write_superblock-2.ensures in
-    pool_made x (g.R.Rack.seen c.write_superblock-2.new.rack) (g.R.Rack.seen c.write_state.new.rack) (g.R.Rack.seen c.write_state-2.new.rack) birth state c.write_state-2.result new (record { unspent = g.met.R.Bay.unspent c.write_state.new.rack; sound = λ traced. g.met.R.Rack.sound c.write_state.new.rack (g.met.R.Bay.always_fit c.write_state.new.rack) traced }) (record { unspent = g.met.R.Bay.unspent c.write_state-2.new.rack; sound = λ traced. g.met.R.Rack.sound c.write_state-2.new.rack (g.met.R.Bay.always_fit c.write_state-2.new.rack) traced }) s6 c.in_default-write_state.ensures c.write_state-2.ensures
+    let s3 = stage_laid x (g.R.Rack.seen c.write_durably-2.new.rack) (g.R.Rack.seen c.lay_parts.new.rack) birth state 0 c.new_drive_id.result.0 c.volume_size-volume.result new (record { unspent = g.met.R.Bay.unspent c.lay_parts.new.rack; sound = λ traced. g.met.R.Rack.sound c.lay_parts.new.rack (g.met.R.Bay.always_fit c.lay_parts.new.rack) traced }) (lit< tt) s2 c.new_drive_id.ensures c.volume_size-volume.ensures c.in_default-lay_parts.ensures.lays in
+    let s4 = stage_laid x (g.R.Rack.seen c.lay_parts.new.rack) (g.R.Rack.seen c.lay_parts-2.new.rack) birth state 1 c.new_drive_id-2.result.0 c.volume_size-volume.result new (record { unspent = g.met.R.Bay.unspent c.lay_parts-2.new.rack; sound = λ traced. g.met.R.Rack.sound c.lay_parts-2.new.rack (g.met.R.Bay.always_fit c.lay_parts-2.new.rack) traced }) (lit< tt) s3 c.new_drive_id-2.ensures c.volume_size-volume.ensures c.in_default-lay_parts-2.ensures.lays in
+    let s5 = stage_said x (g.R.Rack.seen c.lay_parts-2.new.rack) (g.R.Rack.seen c.write_superblock.new.rack) birth state 0 c.args.members.now.first new (record { unspent = g.met.R.Bay.unspent c.write_superblock.new.rack; sound = λ traced. g.met.R.Rack.sound c.write_superblock.new.rack (g.met.R.Bay.always_fit c.write_superblock.new.rack) traced }) (lit< tt) s4 (ap (λ (m : Members). m.first) c.requires.members) c.in_default-write_superblock.ensures.writes in
+    let s6 = stage_said x (g.R.Rack.seen c.write_superblock.new.rack) (g.R.Rack.seen c.write_superblock-2.new.rack) birth state 1 c.args.members.now.second new (record { unspent = g.met.R.Bay.unspent c.write_superblock-2.new.rack; sound = λ traced. g.met.R.Rack.sound c.write_superblock-2.new.rack (g.met.R.Bay.always_fit c.write_superblock-2.new.rack) traced }) (lit< tt) s5 (ap (λ (m : Members). m.second) c.requires.members) c.in_default-write_superblock-2.ensures.writes in
+    pool_made x (g.R.Rack.seen c.write_superblock-2.new.rack) (g.R.Rack.seen c.write_state.new.rack) (g.R.Rack.seen c.write_state-2.new.rack) birth state c.write_state-2.result new (record { unspent = g.met.R.Bay.unspent c.write_state.new.rack; sound = λ traced. g.met.R.Rack.sound c.write_state.new.rack (g.met.R.Bay.always_fit c.write_state.new.rack) traced }) (record { unspent = g.met.R.Bay.unspent c.write_state-2.new.rack; sound = λ traced. g.met.R.Rack.sound c.write_state-2.new.rack (g.met.R.Bay.always_fit c.write_state-2.new.rack) traced }) s6 c.in_default-write_state.ensures.writes c.write_state-2.ensures.writes
+
+pub returns-in-Err-write_durably-clause-runs : goal.returns-in-Err-write_durably-clause-runs
+returns-in-Err-write_durably-clause-runs g c = (g.met.R.Rack.runs_then _ _ _ c.write_durably.ensures.runs c.write_durably-2.ensures.runs)
+
+pub returns-in-Err-lay_parts-clause-runs : goal.returns-in-Err-lay_parts-clause-runs
+returns-in-Err-lay_parts-clause-runs g c = (g.met.R.Rack.runs_then _ _ _ (g.met.R.Rack.runs_then _ _ _ c.write_durably.ensures.runs c.write_durably-2.ensures.runs) c.lay_parts.ensures.runs)
+
+pub returns-in-Err-lay_parts-2-clause-runs : goal.returns-in-Err-lay_parts-2-clause-runs
+returns-in-Err-lay_parts-2-clause-runs g c = (g.met.R.Rack.runs_then _ _ _ (g.met.R.Rack.runs_then _ _ _ (g.met.R.Rack.runs_then _ _ _ c.write_durably.ensures.runs c.write_durably-2.ensures.runs) c.lay_parts.ensures.runs) c.lay_parts-2.ensures.runs)
+
+pub returns-in-Err-write_superblock-clause-runs : goal.returns-in-Err-write_superblock-clause-runs
+returns-in-Err-write_superblock-clause-runs g c = (g.met.R.Rack.runs_then _ _ _ (g.met.R.Rack.runs_then _ _ _ (g.met.R.Rack.runs_then _ _ _ (g.met.R.Rack.runs_then _ _ _ c.write_durably.ensures.runs c.write_durably-2.ensures.runs) c.lay_parts.ensures.runs) c.lay_parts-2.ensures.runs) c.write_superblock.ensures.runs)
+
+pub returns-in-Err-write_superblock-2-clause-runs : goal.returns-in-Err-write_superblock-2-clause-runs
+returns-in-Err-write_superblock-2-clause-runs g c = (g.met.R.Rack.runs_then _ _ _ (g.met.R.Rack.runs_then _ _ _ (g.met.R.Rack.runs_then _ _ _ (g.met.R.Rack.runs_then _ _ _ (g.met.R.Rack.runs_then _ _ _ c.write_durably.ensures.runs c.write_durably-2.ensures.runs) c.lay_parts.ensures.runs) c.lay_parts-2.ensures.runs) c.write_superblock.ensures.runs) c.write_superblock-2.ensures.runs)
+
+pub returns-in-Err-write_state-clause-runs : goal.returns-in-Err-write_state-clause-runs
+returns-in-Err-write_state-clause-runs g c = (g.met.R.Rack.runs_then _ _ _ (g.met.R.Rack.runs_then _ _ _ (g.met.R.Rack.runs_then _ _ _ (g.met.R.Rack.runs_then _ _ _ (g.met.R.Rack.runs_then _ _ _ (g.met.R.Rack.runs_then _ _ _ c.write_durably.ensures.runs c.write_durably-2.ensures.runs) c.lay_parts.ensures.runs) c.lay_parts-2.ensures.runs) c.write_superblock.ensures.runs) c.write_superblock-2.ensures.runs) c.write_state.ensures.runs)
+
+pub returns-clause-runs : goal.returns-clause-runs
+returns-clause-runs g c = (g.met.R.Rack.runs_then _ _ _ (g.met.R.Rack.runs_then _ _ _ (g.met.R.Rack.runs_then _ _ _ (g.met.R.Rack.runs_then _ _ _ (g.met.R.Rack.runs_then _ _ _ (g.met.R.Rack.runs_then _ _ _ (g.met.R.Rack.runs_then _ _ _ c.write_durably.ensures.runs c.write_durably-2.ensures.runs) c.lay_parts.ensures.runs) c.lay_parts-2.ensures.runs) c.write_superblock.ensures.runs) c.write_superblock-2.ensures.runs) c.write_state.ensures.runs) c.write_state-2.ensures.runs)

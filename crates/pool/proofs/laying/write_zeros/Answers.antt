@@ -10,10 +10,11 @@ pub loop-place-init : goal.loop-place-init
 loop-place-init g c = record {
   follows = only_none (g.R.Rack.seen c.args.rack.now) (IsPlanned c.args.disk (zeros_plan c.args.first c.args.count)) c.requires.fit;
   zeros = λ k below. absurd (omega arith);
+  runs = g.met.R.Rack.runs_same c.args.rack.now;
 }
 
-pub returns-in-Err : goal.returns-in-Err
-returns-in-Err g c =
+pub returns-in-Err-clause-writes : goal.returns-in-Err-clause-writes
+returns-in-Err-clause-writes g c =
     plan_refused (g.R.Rack.seen c.args.rack.now) (g.R.Rack.seen c.loop-place.rack) (g.R.Rack.seen c.write.new.self) c.args.disk (c.args.first + c.loop-place.place)
     zero_sector (zeros_plan c.args.first c.args.count) c.in-Err.gone c.loop-place.invariant.follows
     c.in-Err.ensures.writes (zeros_planned c.args.first c.args.count c.loop-place.place c.loop-place-test.true)
@@ -25,9 +26,10 @@ loop-place-preserved g c = record {
       c.in_default.ensures.writes (zeros_planned c.args.first c.args.count c.loop-place.place c.loop-place-test.true);
   zeros = one_more_zero (g.R.Rack.seen c.args.rack.now) (g.R.Rack.seen c.loop-place.rack) (g.R.Rack.seen c.write.new.self) c.args.disk c.args.first c.loop-place.place
       c.loop-place.invariant.follows.stays c.in_default.ensures.writes c.loop-place.invariant.zeros;
+  runs = g.met.R.Rack.runs_then _ _ _ c.loop-place.invariant.runs c.in_default.ensures.runs;
 }
 
-pub returns : goal.returns
-returns g c =
+pub returns-clause-writes : goal.returns-clause-writes
+returns-clause-writes g c =
     zeros_written (g.R.Rack.seen c.args.rack.now) (g.R.Rack.seen c.loop-place.rack) c.args.disk c.args.first c.args.count
     c.loop-place.invariant.follows (λ k below. c.loop-place.invariant.zeros k (omega arith))

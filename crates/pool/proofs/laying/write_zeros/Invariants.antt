@@ -7,4 +7,5 @@ abbrev pub invariant-loop-place : goal.invariant-loop-place
 invariant-loop-place g l = record {
   follows : Follows (g.R.Rack.seen l.initial.rack) (g.R.Rack.seen l.rack) l.fn.disk (zeros_plan l.fn.first l.fn.count);
   zeros : AreZeros (g.R.Rack.seen l.initial.rack) (g.R.Rack.seen l.rack) l.fn.disk l.fn.first l.place;
+  runs : g.R.Rack.runs l.initial.rack l.rack;
 }

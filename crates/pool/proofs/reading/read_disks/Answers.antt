@@ -35,4 +35,5 @@ loop-disk-preserved g c =
           (subst (λ n. seen.gone ≡ true → Rose (y.faults n) (z.faults n)) (sym count) c.read_disk-seen.ensures.gone)
           c.read_disk-seen.ensures.valid)
           d s (sym (ap (λ xs. slice_get xs d) items) ∙ is);
+      runs = g.met.R.Rack.runs_then _ _ _ c.loop-disk.invariant.runs c.read_disk-seen.ensures.runs;
     }

@@ -9,4 +9,5 @@ invariant-loop-disk g l = record {
   only : OnlyReads (g.R.Rack.seen l.initial.rack) (g.R.Rack.seen l.rack);
   count : length l.shown.items ≡ l.disk;
   each : (d : ℕ) (s : Shown) → slice_get l.shown.items d ≡ Some s → IsShown (g.R.Rack.seen l.initial.rack) (g.R.Rack.seen l.rack) d s;
+  runs : g.R.Rack.runs l.initial.rack l.rack;
 }

@@ -6,8 +6,8 @@ use Rattle.pool.proofs.Decoding.{superblock_there}
 use Rattle.pool.proofs.Sights.{read_says}
 use Rattle.pool.proofs.reading.read_superblock.Goals as goal
 
-pub returns : goal.returns
-returns g c =
+pub returns-clause-found : goal.returns-clause-found
+returns-clause-found g c =
     let x = g.R.Rack.seen c.args.rack.now in
     let y = g.R.Rack.seen c.read.new.self in
     let size = c.sectors.ensures.number in

@@ -20,14 +20,14 @@ settle_member-requires-2-clause-member g c =
     subst (λ (m : Members). is_member_of c.args.on.now.state 1 m.second ≡ true) (sym c.in-Ok.ensures)
     (settled_member c.args.on.now.state c.args.members.now c.requires.member 1 (lit< tt))
 
-pub returns-in-Err-settle_member : goal.returns-in-Err-settle_member
-returns-in-Err-settle_member g c =
-    members_refused _ _ _ _ _ _ _ c.in-Ok.ensures c.in-Err-settle_member.is c.settle_member.ensures
+pub returns-in-Err-settle_member-clause-settles : goal.returns-in-Err-settle_member-clause-settles
+returns-in-Err-settle_member-clause-settles g c =
+    members_refused _ _ _ _ _ _ _ c.in-Ok.ensures c.in-Err-settle_member.is c.settle_member.ensures.settles
 
-pub returns-in-Ok-settle_member-2 : goal.returns-in-Ok-settle_member-2
-returns-in-Ok-settle_member-2 g c =
-    members_settled _ _ _ _ _ _ _ _ _ _ c.in-Ok.ensures c.in-Ok-settle_member.is c.in-Ok-settle_member-2.is c.settle_member.ensures c.settle_member-2.ensures
+pub returns-in-Ok-settle_member-2-clause-settles : goal.returns-in-Ok-settle_member-2-clause-settles
+returns-in-Ok-settle_member-2-clause-settles g c =
+    members_settled _ _ _ _ _ _ _ _ _ _ c.in-Ok.ensures c.in-Ok-settle_member.is c.in-Ok-settle_member-2.is c.settle_member.ensures.settles c.settle_member-2.ensures.settles
 
-pub returns-in-Err-settle_member-2 : goal.returns-in-Err-settle_member-2
-returns-in-Err-settle_member-2 g c =
-    second_refused _ _ _ _ _ _ _ _ _ _ c.in-Ok.ensures c.in-Ok-settle_member.is c.in-Err-settle_member-2.is c.settle_member.ensures c.settle_member-2.ensures
+pub returns-in-Err-settle_member-2-clause-settles : goal.returns-in-Err-settle_member-2-clause-settles
+returns-in-Err-settle_member-2-clause-settles g c =
+    second_refused _ _ _ _ _ _ _ _ _ _ c.in-Ok.ensures c.in-Ok-settle_member.is c.in-Err-settle_member-2.is c.settle_member.ensures.settles c.settle_member-2.ensures.settles

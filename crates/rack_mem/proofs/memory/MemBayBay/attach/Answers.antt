@@ -10,19 +10,19 @@ use Rattle.rack_mem.proofs.Attaching.{not_attached, attached_at, first_name, is_
 use Rattle.rack_mem.proofs.Histories.{AreOn-more}
 use Rattle.rack_mem.proofs.memory.MemBayBay.attach.Goals as goal
 
-pub returns-in-Some : goal.returns-in-Some
-returns-in-Some c =
+pub returns-in-Some-clause-attaches : goal.returns-in-Some-clause-attaches
+returns-in-Some-clause-attaches c =
     is_twice (memory c.args.self.now) c.args.name.now c.in-Some.disk c.args.self.now.names_differ
     (rw (← c.as_bytes-name.ensures.value) (attached_at (memory c.args.self.now) c.as_bytes-name.result.now c.in-Some.disk c.in-Some.ensures))
 
-pub returns-in_default-first_named : goal.returns-in_default-first_named
-returns-in_default-first_named c =
+pub returns-in_default-first_named-clause-attaches : goal.returns-in_default-first_named-clause-attaches
+returns-in_default-first_named-clause-attaches c =
     is_failed (memory c.args.self.now) c.args.name.now c.one_more-self.result
     (rw (← c.as_bytes-name.ensures.value) (not_attached (memory c.args.self.now) c.as_bytes-name.result.now c.in_default.ensures))
     c.one_more-self.ensures.later c.one_more-self.ensures.rose
 
-pub returns-then-disk : goal.returns-then-disk
-returns-then-disk c =
+pub returns-then-disk-clause-attaches : goal.returns-then-disk-clause-attaches
+returns-then-disk-clause-attaches c =
     is_full (memory c.args.self.now) c.args.name.now
     (rw (← c.as_bytes-name.ensures.value) (not_attached (memory c.args.self.now) c.as_bytes-name.result.now c.in_default.ensures))
 
@@ -34,8 +34,8 @@ pub invariant_of-self-then-is_err-clause-attached_first : goal.invariant_of-self
 invariant_of-self-then-is_err-clause-attached_first c =
     subst (λ attached. AreOn c.args.self.now.calls.items (length attached)) (sym c.reserve.ensures.items) c.args.self.now.attached_first
 
-pub returns-then-is_err : goal.returns-then-is_err
-returns-then-is_err c =
+pub returns-then-is_err-clause-attaches : goal.returns-then-is_err-clause-attaches
+returns-then-is_err-clause-attaches c =
     let before : Memory = memory c.args.self.now in
     subst (λ attached. Attaches (seen_of before) (seen_of (record before { attached = attached })) (shelf_of before) (shelf_of (record before { attached = attached })) c.args.name.now (Err NoRoom))
     (sym c.reserve.ensures.items)
@@ -58,8 +58,8 @@ invariant_of-self-2-clause-attached_first c =
     AreOn-more c.args.self.now.calls.items _ _
     (omega (arith, ap length c.push_within.ensures.items, ap length c.reserve.ensures.items, length_push c.reserve.new.self.items)) c.args.self.now.attached_first
 
-pub returns : goal.returns
-returns c =
+pub returns-clause-attaches : goal.returns-clause-attaches
+returns-clause-attaches c =
     let before : Memory = memory c.args.self.now in
     let x : Attached = record { number = c.in-Some-first_named.number; faults = 0; failed = false } in
     let found : first_named before.shelf c.args.name.now ≡ Some x.number =
