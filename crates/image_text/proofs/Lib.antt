@@ -1,3 +1,4 @@
 pub mod Looking
 pub mod Sectors
 pub mod Joining
+pub mod Volumes

@@ -1,10 +1,10 @@
 -- What a call that reads an image does to the rack and gives.
-use Rattle.std.specs.Prelude.{◌≡◌, ℕ, Result, Ok, Err, IfOk}
+use Rattle.std.specs.Prelude.{◌≡◌, ℕ, Result, Err, IfOk}
 use Rattle.rack.specs.Seen.{Seen, Rose}
 use Rattle.gpt_table.specs.Calls.{OnlyReads}
 use Rattle.gpt_table.specs.Disk.{Contents}
 use Rattle.image_text.specs.declared.bytes.Unread.{Unread}
-use Rattle.image_text.specs.declared.bytes.Unread.TheVariants.{Gone, Memory}
+use Rattle.image_text.specs.declared.bytes.Unread.TheVariants.{Gone}
 use Rattle.image_text.specs.Contents.{IsImage}
 
 -- nothing was written; the value says this of the image that the disk holds, and a fault of the disk is counted

@@ -107,10 +107,10 @@ fn read_sectors<B: Bay>(
     };
     for place in 0..count {
         let mut sector = [0; 512];
-        if bay.read(disk, first + place as u64, &mut sector).is_err() {
+        if let Err(_) = bay.read(disk, first + place as u64, &mut sector) {
             return Err(Unread::Gone);
         }
-        if bytes.append(&sector).is_err() {
+        if let Err(_) = bytes.append(&sector) {
             return Err(Unread::Memory);
         }
     }
@@ -139,8 +139,8 @@ pub fn append_bytes<B: Bay>(
         Ok(bytes) => bytes,
         Err(why) => return Err(why),
     };
-    if into.append(&bytes.as_slice()[skipped..skipped + count]).is_err() {
-        return Err(Unread::Memory);
+    match into.append(&bytes.as_slice()[skipped..skipped + count]) {
+        Ok(()) => Ok(()),
+        Err(_) => Err(Unread::Memory),
     }
-    Ok(())
 }

@@ -62,6 +62,7 @@ fn find_table<B: Bay>(bay: &mut B, disk: u32) -> Result<Option<Seen>, Unread>
     requires { disk < (B.seen bay.old).disks }
     ensures gives { Gives (B.seen bay.old) (B.seen bay.new) disk (λ image found. found ≡ first_table ((B.seen bay.old).sectors disk) image) result }
     ensures inside { IfOk result (λ found. All (λ entry. is_inside ((B.seen bay.old).sectors disk) entry.slice ≡ true) (entries_in found)) }
+    ensures cause { result ≢ Err Unread.Memory }
 {
     match read_table(bay, disk) {
         Ok(found) => Ok(Some(found)),
@@ -95,7 +96,14 @@ fn examine_all<B: Bay, O: Sink>(
     }
     match found {
         None => Ok(()),
-        Some(seen) => examine_slices(alloc, bay, disk, seen.table.entries.as_slice(), out),
+        Some(seen) => examine_slices(
+            alloc,
+            bay,
+            disk,
+            sectors,
+            seen.table.entries.as_slice(),
+            out,
+        ),
     }
 }
 
@@ -113,11 +121,13 @@ fn examine_slices<B: Bay, O: Sink>(
     alloc: Global,
     bay: &mut B,
     disk: u32,
+    sectors: u64,
     entries: &[Entry],
     out: &mut O,
 ) -> Result<(), Stop>
     requires disk { disk < (B.seen bay.old).disks }
-    requires inside { All (λ entry. is_inside ((B.seen bay.old).sectors disk) entry.slice ≡ true) entries.now }
+    requires size { sectors ≡ (B.seen bay.old).sectors disk }
+    requires inside { All (λ entry. is_inside sectors entry.slice ≡ true) entries.now }
     ensures { Shows (B.seen bay.old) (B.seen bay.new) disk (O.faults out.old) (O.faults out.new) (O.told out.old) (O.told out.new) (O.taken out.old) (O.taken out.new)
         (λ image. slices_lines image entries.now) result }
 {
@@ -128,7 +138,7 @@ fn examine_slices<B: Bay, O: Sink>(
         Ok(()) => {}
         Err(stop) => return Err(stop),
     }
-    examine_slices(alloc, bay, disk, others, out)
+    examine_slices(alloc, bay, disk, sectors, others, out)
 }
 
 // Puts the lines of one entry.

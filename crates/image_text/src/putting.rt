@@ -1,11 +1,11 @@
 //! Lines, put in a sink.
 
-ghost use Rattle.std.specs.Prelude.{◌≡◌, ◌≤◌, ◌++◌, [], ◌∷◌, codes, decimal, length, ℕ, List};
+ghost use Rattle.std.specs.Prelude.{◌≡◌, ◌≤◌, ◌++◌, [], ◌∷◌, Ok, codes, decimal, length, position};
 ghost use Rattle.shr_script.specs.Reply.{as_line};
 ghost use Rattle.lvm_text.specs.Group.{group_of};
 ghost use Rattle.image_text.specs.Putting.{Says};
 ghost use Rattle.image_text.specs.Lines.{volume_lines, text_lines, group_words};
-ghost use Rattle.image_text.specs.Volume.{before_zero};
+ghost use Rattle.image_text.specs.Volume.{is_zero, before_zero};
 
 use crate::Stop;
 use crate::texts::add_field;
@@ -54,10 +54,17 @@ pub fn put_volume<O: Sink>(alloc: Global, volume: &Volume, out: &mut O) -> Resul
 fn without_zero(bytes: &[u8]) -> &[u8]
     ensures { result.now ≡ before_zero bytes.now }
 {
-    match bytes.iter().position(|byte| *byte == 0) {
+    match first_zero(bytes) {
         Some(end) => &bytes[..end],
         None => bytes,
     }
+}
+
+// The place of the first zero.
+fn first_zero(bytes: &[u8]) -> Option<usize>
+    ensures { result ≡ position is_zero bytes.now }
+{
+    bytes.iter().position(|byte| *byte == 0)
 }
 
 // Puts a text, its length before it and its group behind it.

@@ -58,9 +58,9 @@ pub fn read_volume<B: Bay>(
         Err(why) => return Err(why),
     };
     match label {
-        Ok(label) => match label.metadata.as_slice() {
-            [] => Ok(Volume::Empty),
-            [area, ..] => read_area(alloc, bay, disk, base, 512 * sectors, area),
+        Ok(label) => match label.metadata.as_slice().split_first() {
+            None => Ok(Volume::Empty),
+            Some((area, _others)) => read_area(alloc, bay, disk, base, 512 * sectors, area),
         },
         Err(LabelFault::NoLabel) => Ok(Volume::Nothing),
         Err(LabelFault::BadCrc) => Ok(Volume::BadCrc),
@@ -115,9 +115,9 @@ fn read_area<B: Bay>(
         Err(why) => return Err(why),
     };
     match header {
-        Ok(header) => match header.locations.as_slice() {
-            [] => Ok(Volume::Empty),
-            [place, ..] => read_text(alloc, bay, disk, base, bytes, area, place),
+        Ok(header) => match header.locations.as_slice().split_first() {
+            None => Ok(Volume::Empty),
+            Some((place, _others)) => read_text(alloc, bay, disk, base, bytes, area, place),
         },
         Err(LabelFault::BadCrc) => Ok(Volume::BadCrc),
         Err(_) => Ok(Volume::BadHeader),
@@ -216,7 +216,14 @@ fn read_parts<B: Bay>(
     let Ok(mut bytes) = Bytes::with_room(alloc, place.size as usize) else {
         return Err(Unread::Memory);
     };
-    match append_bytes(alloc, bay, disk, start + place.offset, front as usize, &mut bytes) {
+    match append_bytes(
+        alloc,
+        bay,
+        disk,
+        start + place.offset,
+        front as usize,
+        &mut bytes,
+    ) {
         Ok(()) => {}
         Err(why) => return Err(why),
     }
