@@ -3,7 +3,8 @@ use Rattle.std.proofs.Common.{◌≡◌, ◌≢◌, ℕ, ◌<◌, List, Some, su
 use Rattle.rack.specs.Values.{MayLeave}
 use Rattle.rack.specs.Seen.{Seen, IsLive, IsPick, Stays}
 use Rattle.rack.specs.Joins.{keeps_then, leaves_weaker, leaves_then, stays_then, live_first, live_second}
-use Rattle.gpt_table.specs.Calls.{Plan, MayBecome, Follows, OnlyReads}
+use Rattle.rack.specs.Sequences.{OnlyReads}
+use Rattle.gpt_table.specs.Calls.{Plan, MayBecome, Follows}
 use Rattle.gpt_table.specs.Disk.{Contents}
 use Rattle.gpt_table.specs.Changes.{IsElsewhere, IsLeftover, Changes}
 use Rattle.gpt_table.proofs.Planned.{unplanned}

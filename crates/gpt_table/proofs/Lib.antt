@@ -1,6 +1,5 @@
 pub mod Ranges
 pub mod Decoded
-pub mod Looking
 pub mod Joined
 pub mod Copies
 pub mod Spent

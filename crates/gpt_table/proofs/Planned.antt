@@ -12,11 +12,10 @@ use Rattle.rack.specs.declared.Gone.{Gone}
 use Rattle.rack.specs.Values.{Values, append}
 use Rattle.rack.specs.Seen.{Seen, IsLive, Stays}
 use Rattle.rack.specs.Calls.{Writes, Syncs}
-use Rattle.rack.specs.Joins.{live_first, live_second}
+use Rattle.rack.specs.Joins.{live_first, live_second, rose_later}
 use Rattle.shr_base.specs.Blocks.{bytes_at}
 use Rattle.gpt_table.specs.Calls.{Plan, Follows}
 use Rattle.gpt_table.specs.Plans.{sector_plan, entries_plan, copy_plan, WritesPlan, WritesSectors}
-use Rattle.gpt_table.proofs.Looking.{rose_later}
 use Rattle.gpt_table.proofs.Stretches.{follows_start, follows_write, follows_keeps, follows_wider}
 
 -- where no value is planned

@@ -4,7 +4,7 @@ use Rattle.std.proofs.lemmas.Bool.{and_left}
 use Rattle.rack.specs.declared.Gone.{Gone}
 use Rattle.rack.specs.Values.{MayLeave}
 use Rattle.rack.specs.Seen.{Seen, IsLive, Stays}
-use Rattle.rack.specs.Joins.{stays_then, live_first, live_second}
+use Rattle.rack.specs.Joins.{stays_then, live_first, live_second, rose_later}
 use Rattle.shr_base.specs.Blocks.{bytes_at}
 use Rattle.shr_base.proofs.Blocks.{bytes_at-zeros}
 use Rattle.gpt_table.specs.declared.Table.{Table}
@@ -15,7 +15,6 @@ use Rattle.gpt_table.specs.Calls.{Plan, MayBecome}
 use Rattle.gpt_table.specs.Plans.{sector_plan, entries_plan, WritesSectors}
 use Rattle.gpt_table.specs.Changes.{Changes, Passes, ReplacesCopy, IsPickOf, AreLive}
 use Rattle.gpt_table.proofs.Decoded.{invalid_header}
-use Rattle.gpt_table.proofs.Looking.{rose_later}
 use Rattle.gpt_table.proofs.Planned.{unplanned, plan_cases, plan_holds, parts_apart, entries_cases, entries_planned, sector_cases, sector_planned}
 use Rattle.gpt_table.proofs.Changed.{live_back, changes_from, changes_join, changes_wider}
 

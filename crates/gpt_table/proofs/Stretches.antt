@@ -6,9 +6,8 @@ use Rattle.rack.specs.Values.{Values, MayLeave, Keeps, append}
 use Rattle.rack.specs.Seen.{Seen, IsLive, IsPick, Stays, appended}
 use Rattle.rack.specs.Moments.{Leaves}
 use Rattle.rack.specs.Calls.{KeepsAll}
-use Rattle.rack.specs.Joins.{keeps_same, keeps_then, leaves_same, leaves_weaker, leaves_then, stays_then, live_first, live_second, append-may_leave}
+use Rattle.rack.specs.Joins.{keeps_same, keeps_then, leaves_same, leaves_weaker, leaves_then, stays_then, live_first, live_second, append-may_leave, stays_same}
 use Rattle.gpt_table.specs.Calls.{Plan, MayBecome, Follows}
-use Rattle.gpt_table.proofs.Looking.{stays_same}
 
 -- before the first write
 pub follows_start : (a : Seen) (disk : ℕ) (plan : Plan) → a.fit → Follows a a disk plan

@@ -5,7 +5,7 @@ use Rattle.std.proofs.lemmas.Option.{none-some}
 use Rattle.rack.specs.declared.Gone.{Gone}
 use Rattle.rack.specs.Seen.{Seen, IsLive, Stays}
 use Rattle.rack.specs.Calls.{Writes}
-use Rattle.rack.specs.Joins.{live_first, live_second, stays_then}
+use Rattle.rack.specs.Joins.{live_first, live_second, stays_then, rose_later}
 use Rattle.gpt_table.specs.declared.Table.{Table}
 use Rattle.gpt_table.specs.declared.TableCopy.{TableCopy}
 use Rattle.gpt_table.specs.declared.TableCopy.TheVariants.{Primary, Backup}
@@ -14,7 +14,6 @@ use Rattle.gpt_table.specs.Disk.{IsOfCopy, IsAmong, HoldsCopy, now_on}
 use Rattle.gpt_table.specs.Calls.{Plan, Follows}
 use Rattle.gpt_table.specs.Plans.{IsOfTable, WritesCopy, WritesTable}
 use Rattle.gpt_table.proofs.Copies.{copy_is_on_disk}
-use Rattle.gpt_table.proofs.Looking.{rose_later}
 use Rattle.gpt_table.proofs.Stretches.{follows_join, follows_wider}
 use Rattle.gpt_table.proofs.Planned.{unplanned, write_keeps, write_sets, follows_served, follows_refused}
 

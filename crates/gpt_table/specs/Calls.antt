@@ -4,12 +4,7 @@ use Rattle.rack.specs.declared.Gone.{Gone}
 use Rattle.rack.specs.Seen.{Seen, Rose, Stays, IsLive}
 use Rattle.rack.specs.Values.{MayLeave, Keeps}
 use Rattle.rack.specs.Moments.{Leaves}
-use Rattle.rack.specs.Calls.{KeepsAll}
-
--- nothing was written
-pub record OnlyReads (a b : Seen) : Type 0 where
-  pub stays : Stays a b
-  pub keeps : KeepsAll a b
+use Rattle.rack.specs.Sequences.{OnlyReads}
 
 -- nothing was written, and some sectors, not spent at the start, were read; of a told disk the value says this
 pub record Looks (a b : Seen) (disk : ℕ) (at : ℕ → Type 0) {X : Type 0} (says : X → Type 0) (result : Result X Gone)

@@ -12,7 +12,7 @@ use Rattle.gpt_table.specs.Changes.{IsElsewhere, IsOfCopies, the_table}
 use Rattle.gpt_table.specs.Disk.{Contents, IsAmong, first_of, now_on, table_at}
 use Rattle.gpt_table.specs.Plans.{WritesPlan, WritesTable, IsOfTable}
 use Rattle.gpt_table.proofs.Planned.{unplanned}
-use Rattle.pool.specs.Durable.{WritesDurably}
+use Rattle.rack.specs.Sequences.{WritesDurably}
 use Rattle.pool.specs.Laying.{WritesOnly, IsOfParts, IsLaid, LaysParts, zero_sector, zeros_plan, data_first}
 use Rattle.pool.proofs.Frames.{copies_bounds, table_agrees}
 use Rattle.pool.proofs.Zeros.{zeros_cases, zeros_planned}

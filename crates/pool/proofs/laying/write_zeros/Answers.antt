@@ -15,15 +15,15 @@ pub returns-in-Err : goal.returns-in-Err
 returns-in-Err g c =
     plan_refused (g.R.Rack.seen c.args.rack.now) (g.R.Rack.seen c.loop-place.rack) (g.R.Rack.seen c.write.new.self) c.args.disk (c.args.first + c.loop-place.place)
     zero_sector (zeros_plan c.args.first c.args.count) c.in-Err.gone c.loop-place.invariant.follows
-    c.in-Err.ensures (zeros_planned c.args.first c.args.count c.loop-place.place c.loop-place-test.true)
+    c.in-Err.ensures.writes (zeros_planned c.args.first c.args.count c.loop-place.place c.loop-place-test.true)
 
 pub loop-place-preserved : goal.loop-place-preserved
 loop-place-preserved g c = record {
   follows = follows_served (g.R.Rack.seen c.args.rack.now) (g.R.Rack.seen c.loop-place.rack) (g.R.Rack.seen c.write.new.self) c.args.disk (c.args.first + c.loop-place.place)
       zero_sector (zeros_plan c.args.first c.args.count) c.loop-place.invariant.follows
-      c.in_default.ensures (zeros_planned c.args.first c.args.count c.loop-place.place c.loop-place-test.true);
+      c.in_default.ensures.writes (zeros_planned c.args.first c.args.count c.loop-place.place c.loop-place-test.true);
   zeros = one_more_zero (g.R.Rack.seen c.args.rack.now) (g.R.Rack.seen c.loop-place.rack) (g.R.Rack.seen c.write.new.self) c.args.disk c.args.first c.loop-place.place
-      c.loop-place.invariant.follows.stays c.in_default.ensures c.loop-place.invariant.zeros;
+      c.loop-place.invariant.follows.stays c.in_default.ensures.writes c.loop-place.invariant.zeros;
 }
 
 pub returns : goal.returns
