@@ -4,7 +4,7 @@ use Rattle.rack.specs.declared.Gone.{Gone as Refusal}
 use Rattle.rack.specs.Seen.{Seen, IsPick}
 use Rattle.rack.specs.Calls.{Reads}
 use Rattle.rack.specs.Joins.{keeps_same, leaves_same, stays_same, stays_then, keeps_all_then, rose_since}
-use Rattle.gpt_table.specs.Calls.{OnlyReads}
+use Rattle.rack.specs.Sequences.{OnlyReads}
 use Rattle.gpt_table.specs.Disk.{Contents}
 use Rattle.image_text.specs.declared.bytes.Unread.{Unread}
 use Rattle.image_text.specs.declared.bytes.Unread.TheVariants.{Gone, Memory}

@@ -3,7 +3,7 @@ use Rattle.std.specs.Prelude.{◌≡◌, ◌≢◌, ℕ, ◌≤◌, List, ◌++�
 use Rattle.std.specs.List.{concat}
 use Rattle.rack.specs.Seen.{Seen, Rose}
 use Rattle.io_ends.specs.Sink.{AddsPrefix}
-use Rattle.gpt_table.specs.Calls.{OnlyReads}
+use Rattle.rack.specs.Sequences.{OnlyReads}
 use Rattle.gpt_table.specs.Disk.{Contents}
 use Rattle.image_text.specs.declared.Stop.{Stop}
 use Rattle.image_text.specs.declared.Stop.TheVariants.{Sink, Gone, Memory}

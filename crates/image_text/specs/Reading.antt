@@ -1,7 +1,7 @@
 -- What a call that reads an image does to the rack and gives.
 use Rattle.std.specs.Prelude.{◌≡◌, ℕ, Result, Err, IfOk}
 use Rattle.rack.specs.Seen.{Seen, Rose}
-use Rattle.gpt_table.specs.Calls.{OnlyReads}
+use Rattle.rack.specs.Sequences.{OnlyReads}
 use Rattle.gpt_table.specs.Disk.{Contents}
 use Rattle.image_text.specs.declared.bytes.Unread.{Unread}
 use Rattle.image_text.specs.declared.bytes.Unread.TheVariants.{Gone}

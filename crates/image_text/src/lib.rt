@@ -31,3 +31,6 @@ pub enum Stop {
     /// There was no memory for a text or its group.
     Memory,
 }
+
+#[cfg(test)]
+mod tests;

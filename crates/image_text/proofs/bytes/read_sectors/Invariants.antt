@@ -1,6 +1,6 @@
 -- The sectors so far were read.
 use Rattle.std.proofs.Common.{◌≡◌, ◌*◌, length}
-use Rattle.gpt_table.specs.Calls.{OnlyReads}
+use Rattle.rack.specs.Sequences.{OnlyReads}
 use Rattle.gpt_table.specs.Disk.{Contents, joined}
 use Rattle.image_text.specs.Contents.{IsImage}
 use Rattle.image_text.proofs.bytes.read_sectors.Given as goal
