@@ -1,0 +1,4 @@
+pub mod Looking
+pub mod Sectors
+pub mod Joining
+pub mod Volumes

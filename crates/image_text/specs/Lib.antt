@@ -1,0 +1,5 @@
+pub mod Contents
+pub mod Volume
+pub mod Lines
+pub mod Reading
+pub mod Putting
