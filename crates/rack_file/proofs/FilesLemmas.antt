@@ -186,7 +186,6 @@ attached disks new faults name named unfaulted none =
                 };
             unfaulted = ap faults_of (get-last disks new) ∙ unfaulted;
             traced = λ traced told. traced;
-            lenders = refl;
             past = λ traced k c until stops. stops;
             waited = λ told. absurd told;
             names = names-push disks new ∙ ap (λ n. names_of disks ++ n ∷ []) named;
@@ -264,7 +263,6 @@ not_attached disks faults name none =
             clock = refl;
             others = λ e. record { sectors = refl; held = λ s. refl; faults = refl; told = λ told. told };
             traced = λ traced. traced;
-            lenders = refl;
             past = λ k c stops. stops;
             kept = λ k c stops. stops;
             names = refl;

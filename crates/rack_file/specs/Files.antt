@@ -39,7 +39,6 @@ files_seen disks =
       fit = Unit {0};
       told = λ d. ⊥;
       traced = ⊥;
-      lenders = [];
     }
 
 -- what the bay shows

@@ -114,6 +114,8 @@ where
 
     ghost runs = { λ old new. KeepsShelf (files_shelf old.disks.items old.faults) (files_shelf new.disks.items new.faults) };
 
+    ghost lenders = { λ b. [] };
+
     fn disks(&self) -> u32 {
         self.disks.len() as u32
     }
@@ -159,6 +161,8 @@ where
     ghost runs_same = { λ b. keeps_shelf_same (files_shelf b.disks.items b.faults) };
 
     ghost runs_then = { λ x y z. keeps_shelf_then (files_shelf x.disks.items x.faults) (files_shelf y.disks.items y.faults) (files_shelf z.disks.items z.faults) };
+
+    ghost runs_lenders = { λ x y runs. refl };
 }
 
 impl<'a, R: Files> Bay for FileBay<'a, R>

@@ -27,7 +27,6 @@ nothing_attached x s empty numbered =
     record {
       disks = empty;
       clock = refl;
-      lenders = refl;
       attached = no_names s.names (numbered ∙ empty);
       differ = λ i j name at_i at_j. absurd (nothing_at i name at_i);
       faults = omega arith;
@@ -97,7 +96,6 @@ attached_then x y z s t u names name d old attaches =
     record {
       disks = let more = adds.disks in omega arith;
       clock = adds.clock ∙ old.clock;
-      lenders = adds.lenders ∙ old.lenders;
       attached = adds.names ∙ ap (λ ns. ns ++ name ∷ []) old.attached;
       differ = differ_push names name old.differ new;
       faults = let grows = attaches.faults in let before = old.faults in omega arith;

@@ -1,4 +1,4 @@
--- A pool that was made through a reference on attached disks was made on those that waited.
+-- A pool that was made on attached disks was made on those that waited.
 use Rattle.std.proofs.Common.{◌≡◌, ℕ, ◌<◌, ◌≤◌, Bool, false, List, [], ◌∷◌, length, map, Option, Some, None, Result, Ok, Err, refl, sym, ◌∙◌, ap, subst, inl, inr, lit<, arith}
 use Rattle.std.proofs.lemmas.Bool.{cases_lt, le-ltb}
 use Rattle.std.specs.List.{range_with_len}
@@ -8,7 +8,6 @@ use Rattle.rack.specs.declared.AttachFault.TheVariants.{Failed, Twice, Memory as
 use Rattle.rack.specs.declared.Gone.{Gone}
 use Rattle.rack.specs.Values.{MayLeave}
 use Rattle.rack.specs.Seen.{Image, Seen, Stays}
-use Rattle.rack.specs.References.{through}
 use Rattle.rack.specs.Shelf.{Shelf}
 use Rattle.rack.specs.Moments.{Leaves}
 use Rattle.rack.specs.Joins.{stays_same, stays_then, leaves_same, rose_since}
@@ -44,7 +43,7 @@ use Rattle.shr_tool.specs.Run.CreateOutcome.{attach_refused, twice_refused, no_m
 use Rattle.shr_tool.specs.Making.{LeavesMade, MadeOn, NotMadeOn, HasFaultCause, MakeOutcome}
 use Rattle.shr_tool.proofs.OnePool.{same_pool}
 use Rattle.shr_tool.proofs.Entering.{HasDisksOf, shows_on, means_on}
-use Rattle.shr_tool.proofs.Served.{stays_out, holds_out, all_told}
+use Rattle.shr_tool.proofs.Served.{all_told}
 
 -- the contents at each moment show no pool, or the new one
 abbrev pub LeavesNewPool : Seen → Seen → Birth → State → Type 0
@@ -163,47 +162,32 @@ same_disks m v stays = record { disks = stays.disks; sectors = λ d known. stays
 same_back : (m v : Seen) → Stays m v → HasDisksOf v m
 same_back m v stays = record { disks = sym stays.disks; sectors = λ d known. sym (stays.sectors d) }
 
-through_same : (n : ℕ) (m : Seen) → HasDisksOf (through n m) m
-through_same n m = record { disks = refl; sectors = λ d known. refl }
-
-through_back : (n : ℕ) (m : Seen) → HasDisksOf m (through n m)
-through_back n m = record { disks = refl; sectors = λ d known. refl }
-
 -- the moments of the making
 leaves_made :
-    (n k : ℕ) (m u : Seen) (extent : ℕ) (birth : Birth)
-    → LeavesNewPool (through n m) (through k u) birth (state_on m extent birth)
+    (m u : Seen) (extent : ℕ) (birth : Birth)
+    → LeavesNewPool m u birth (state_on m extent birth)
     → LeavesMade m u extent birth
-leaves_made n k m u extent birth leaves traced told ids none j i until stops =
+leaves_made m u extent birth leaves traced told ids none j i until stops =
     let at = leaves traced told ids none in
     elim (cases_lt m.clock j) [
       | inl behind ↦
           inr
-          (shows_new_on (through n m) m (state_on m extent birth) i (through_same n m) (through_back n m)
-          (shows_new (through n m) (state_on m extent birth) i (at.new j i behind until stops)))
+          (shows_new m (state_on m extent birth) i (at.new j i behind until stops))
       | inr before ↦ inl (before, at.past j i before stops)
     ]
 
-cause_out :
-    (n l : ℕ) (m v : Seen) (extent : ℕ) (why : CreateFault)
-    → HasFaultCause why (through n m) (through l v) extent
-    → HasFaultCause why m v extent
-cause_out n l m v extent (Layout error) is = is
-cause_out n l m v extent (DriveGone disk) is = is
-cause_out n l m v extent Memory is = tt
-
 pub not_made_on :
-    (n l : ℕ) (m v : Seen) (extent : ℕ) (birth : Birth) (why : CreateFault) (out out' : List ℕ) (status : Status)
-    → Refused (through n m) (through l v) extent birth why
+    (m v : Seen) (extent : ℕ) (birth : Birth) (why : CreateFault) (out out' : List ℕ) (status : Status)
+    → Refused m v extent birth why
     → Says (fault_status why) (refused_line (fault_words why)) out out' status
     → NotMadeOn m v extent birth out out' status
-not_made_on n l m v extent birth why out out' status refused says =
+not_made_on m v extent birth why out out' status refused says =
     record {
-      stays = stays_out n l m v refused.stays;
+      stays = refused.stays;
       why = why;
       says = says;
-      cause = cause_out n l m v extent why refused.cause;
-      leaves = leaves_made n l m v extent birth refused.leaves;
+      cause = refused.cause;
+      leaves = leaves_made m v extent birth refused.leaves;
     }
 
 -- the superblocks of a new pool stay as they are at its end
@@ -212,19 +196,19 @@ clean_members members all = rw all refl
 
 -- the end of a new pool
 ended_holds :
-    (k l : ℕ) (m u v : Seen) (p_on q_on : Assembled) (p_members q_members : Members) (p_unclean q_unclean : Bool)
+    (m u v : Seen) (p_on q_on : Assembled) (p_members q_members : Members) (p_unclean q_unclean : Bool)
     (state : State) (birth : Birth) (r : Result (Unit {0}) Gone)
     → Stays m u
     → p_on ≡ in_order state
     → p_members ≡ new_members birth state
     → p_unclean ≡ false
-    → Ends (view (through k u) p_on p_members p_unclean) (view (through l v) q_on q_members q_unclean) r
-    → Holds (view (through k u) p_on p_members p_unclean) (zero_array state)
+    → Ends (view u p_on p_members p_unclean) (view v q_on q_members q_unclean) r
+    → Holds (view u p_on p_members p_unclean) (zero_array state)
     → NoneRose m v
     → Holds (view v (in_order state) (new_members birth state) false) (zero_array state)
-ended_holds k l m u v p_on q_on p_members q_members p_unclean q_unclean state birth (Ok done) stays on members clean ends holds none =
+ended_holds m u v p_on q_on p_members q_members p_unclean q_unclean state birth (Ok done) stays on members clean ends holds none =
     let held : Holds (view v q_on q_members q_unclean) (zero_array state) =
-    holds_out l v q_on q_members q_unclean (zero_array state) (ends.becomes (zero_array state) holds) in
+    ends.becomes (zero_array state) holds in
     let unclean : q_unclean ≡ false = ends.pool.unclean ∙ clean in
     let kept : q_members ≡ new_members birth state =
     ends.members
@@ -234,49 +218,49 @@ ended_holds k l m u v p_on q_on p_members q_members p_unclean q_unclean state bi
     subst (λ c. Holds (view v (in_order state) (new_members birth state) c) (zero_array state)) unclean
     (subst (λ q. Holds (view v (in_order state) q q_unclean) (zero_array state)) kept
     (subst (λ o. Holds (view v o q_members q_unclean) (zero_array state)) (ends.pool.on ∙ on) held))
-ended_holds k l m u v p_on q_on p_members q_members p_unclean q_unclean state birth (Err e) stays on members clean ends holds none =
+ended_holds m u v p_on q_on p_members q_members p_unclean q_unclean state birth (Err e) stays on members clean ends holds none =
     let went = ends.gone in
     absurd (none e.disk (subst (λ n. e.disk < n) stays.disks went.disk) (rose_since (stays.faults e.disk) went.rose))
 
 ended_leaves :
-    (n k l : ℕ) (m u v : Seen) (p_on q_on : Assembled) (p_members q_members : Members) (p_unclean q_unclean : Bool)
+    (m u v : Seen) (p_on q_on : Assembled) (p_members q_members : Members) (p_unclean q_unclean : Bool)
     (extent : ℕ) (birth : Birth) (r : Result (Unit {0}) Gone)
     → Stays m u
     → p_on ≡ in_order (state_on m extent birth)
-    → Ends (view (through k u) p_on p_members p_unclean) (view (through l v) q_on q_members q_unclean) r
-    → (AllTold m → HasTwoIds birth → Holds (view (through k u) p_on p_members p_unclean) (zero_array (state_on m extent birth)))
-    → LeavesNewPool (through n m) (through k u) birth (state_on m extent birth)
+    → Ends (view u p_on p_members p_unclean) (view v q_on q_members q_unclean) r
+    → (AllTold m → HasTwoIds birth → Holds (view u p_on p_members p_unclean) (zero_array (state_on m extent birth)))
+    → LeavesNewPool m u birth (state_on m extent birth)
     → LeavesMade m v extent birth
-ended_leaves n k l m u v p_on q_on p_members q_members p_unclean q_unclean extent birth r stays on ends holds leaves traced told ids none j i until stops =
+ended_leaves m u v p_on q_on p_members q_members p_unclean q_unclean extent birth r stays on ends holds leaves traced told ids none j i until stops =
     let state = state_on m extent birth in
     let held = holds told ids in
     let later = ends.leaves (stays.traced traced) (zero_array state) held in
     elim (cases_lt u.clock j) [
       | inl behind ↦
-          let means : Means (through k u) p_on (zero_array state) i = later.new j i behind until stops in
-          let has : HasDisksOf (through k u) m =
+          let means : Means u p_on (zero_array state) i = later.new j i behind until stops in
+          let has : HasDisksOf u m =
           record { disks = sym stays.disks; sectors = λ d known. sym (stays.sectors d) } in
           inr
           (means_new m state i
-          (means_on (through k u) m (in_order state) (zero_array state) i has
-          (subst (λ o. Means (through k u) o (zero_array state) i) on means)))
+          (means_on u m (in_order state) (zero_array state) i has
+          (subst (λ o. Means u o (zero_array state) i) on means)))
       | inr before ↦
-          leaves_made n k m u extent birth leaves traced told ids none j i before (later.past j i before stops)
+          leaves_made m u extent birth leaves traced told ids none j i before (later.past j i before stops)
     ]
 
 pub made_on :
-    (n k l : ℕ) (m u v : Seen) (p_on q_on : Assembled) (p_members q_members : Members) (p_unclean q_unclean : Bool)
+    (m u v : Seen) (p_on q_on : Assembled) (p_members q_members : Members) (p_unclean q_unclean : Bool)
     (extent : ℕ) (birth : Birth) (r : Result (Unit {0}) Gone) (size : ℕ) (out out' : List ℕ) (status : Status)
-    → Creates (through n m) (view (through k u) p_on p_members p_unclean) extent birth
+    → Creates m (view u p_on p_members p_unclean) extent birth
     → size ≡ volume_sectors p_on.state
-    → Ends (view (through k u) p_on p_members p_unclean) (view (through l v) q_on q_members q_unclean) r
+    → Ends (view u p_on p_members p_unclean) (view v q_on q_members q_unclean) r
     → Says Done (created_line size) out out' status
     → MadeOn m v extent birth out out' status
-made_on n k l m u v p_on q_on p_members q_members p_unclean q_unclean extent birth r size out out' status creates is ends says =
+made_on m u v p_on q_on p_members q_members p_unclean q_unclean extent birth r size out out' status creates is ends says =
     let state = state_on m extent birth in
-    let stays : Stays m u = stays_out n k m u creates.stays in
+    let stays : Stays m u = creates.stays in
     record {
-      stays = stays_out n l m v (stays_then creates.stays ends.pool.stays);
+      stays = stays_then creates.stays ends.pool.stays;
       two = creates.two;
       says =
           subst (λ c. Says Done (created_line c) out out' status)
@@ -284,10 +268,10 @@ made_on n k l m u v p_on q_on p_members q_members p_unclean q_unclean extent bir
           says;
       holds =
           λ told ids none.
-          ended_holds k l m u v p_on q_on p_members q_members p_unclean q_unclean state birth r stays creates.on
+          ended_holds m u v p_on q_on p_members q_members p_unclean q_unclean state birth r stays creates.on
           creates.members creates.unclean ends (creates.holds told ids) none;
       leaves =
-          ended_leaves n k l m u v p_on q_on p_members q_members p_unclean q_unclean extent birth r stays creates.on ends
+          ended_leaves m u v p_on q_on p_members q_members p_unclean q_unclean extent birth r stays creates.on ends
           creates.holds creates.leaves;
     }
 

@@ -1,4 +1,4 @@
--- A pool that was opened through a reference on attached disks was opened on those that waited.
+-- A pool that was opened on attached disks was opened on those that waited.
 use Rattle.std.proofs.Common.{◌≡◌, ℕ, ◌+◌, ◌<◌, ◌≤◌, Bool, List, [], ◌∷◌, length, Option, refl, sym, ◌∙◌, ap, subst, inl, inr, arith}
 use Rattle.std.proofs.lemmas.Bool.{cases_lt}
 use Rattle.rack.specs.declared.AttachFault.{AttachFault}
@@ -6,7 +6,6 @@ use Rattle.rack.specs.declared.AttachFault.TheVariants.{Failed, Twice, Memory as
 use Rattle.rack.specs.Values.{MayLeave, IsSingle, only}
 use Rattle.rack.specs.Seen.{Seen, Rose, Stays}
 use Rattle.rack.specs.Moments.{Leaves}
-use Rattle.rack.specs.References.{through}
 use Rattle.rack.specs.Shelf.{Shelf}
 use Rattle.rack.specs.Joins.{stays_then, rose_since}
 use Rattle.flat_array.specs.Array.{FlatArray}
@@ -37,66 +36,18 @@ use Rattle.shr_tool.proofs.OnePool.{same_pool, read_pool, only_memory}
 use Rattle.shr_tool.proofs.Entering.{AreAlike, HasDisksOf, copied_alike, table_alike, superblock_alike, shows_on, means_on, seated_on, guarded_on, volume_same, means_alike, means_same, holds_same}
 use Rattle.shr_tool.proofs.Carried.{IsShownAs, outcome_as}
 
--- all but the first of a list
-rest_of : List ℕ → List ℕ
-rest_of [] = []
-rest_of (x ∷ xs) = xs
-
-tail_same : (m n : ℕ) (xs ys : List ℕ) → m ∷ xs ≡ n ∷ ys → xs ≡ ys
-unfolding rest_of
-tail_same m n xs ys same = ap rest_of same
-
-pub stays_out : (m n : ℕ) (x y : Seen) → Stays (through m x) (through n y) → Stays x y
-stays_out m n x y stays =
-    record {
-      fit = stays.fit;
-      disks = stays.disks;
-      sectors = stays.sectors;
-      faults = stays.faults;
-      spent = stays.spent;
-      lasting = stays.lasting;
-      lasts = stays.lasts;
-      steady = stays.steady;
-      told = stays.told;
-      traced = stays.traced;
-      lenders = tail_same n m y.lenders x.lenders stays.lenders;
-    }
-
--- a reference that was lent and kept is the one lent
-pub head_same : (m n k : ℕ) (xs ys : List ℕ) → n ∷ ys ≡ m ∷ xs → n ≡ k → k ≡ m
-head_same m n k xs ys same lent = cc
-
-found_in : (n : ℕ) (x : Seen) (on : Assembled) → IsFound x on → IsFound (through n x) on
-found_in n x on found =
-    record { told = found.told; single = found.single; shows = found.shows; guarded = found.guarded }
-
-pub holds_out :
-    (n : ℕ) (y : Seen) (on : Assembled) (members : Members) (unclean : Bool) (a : FlatArray)
-    → Holds (view (through n y) on members unclean) a
-    → Holds (view y on members unclean) a
-holds_out n y on members unclean a holds =
-    record {
-      told = holds.told;
-      shows = holds.shows;
-      says = holds.says;
-      size = holds.size;
-      values = holds.values;
-      even = holds.even;
-      agree = holds.agree;
-    }
-
--- the pool through a reference, with this pool's state
-shown_out :
-    (l : ℕ) (v : Seen) (p_on q_on : Assembled) (members : Members) (unclean : Bool)
+-- the pool with the state that it was opened with
+shown_as :
+    (v : Seen) (p_on q_on : Assembled) (members : Members) (unclean : Bool)
     → q_on ≡ p_on
-    → IsShownAs (view (through l v) q_on members unclean) (view v p_on members unclean)
-shown_out l v p_on q_on members unclean same =
+    → IsShownAs (view v q_on members unclean) (view v p_on members unclean)
+shown_as v p_on q_on members unclean same =
     record {
       disks = refl;
       faults = λ d. refl;
       clock = refl;
       stops = λ k i stops. stops;
-      holds = λ a holds. subst (λ o. Holds (view v o members unclean) a) same (holds_out l v q_on members unclean a holds);
+      holds = λ a holds. subst (λ o. Holds (view v o members unclean) a) same holds;
       single =
           λ place s single. subst (λ (o : Assembled). IsSingle (v.held (disk_of o place) (volume_first + s))) same single;
       unclean = refl;
@@ -104,72 +55,68 @@ shown_out l v p_on q_on members unclean same =
     }
 
 pub opened_on :
-    (n k l : ℕ) (m u v : Seen) (p_on q_on : Assembled) (p_members q_members : Members) (p_unclean q_unclean : Bool)
+    (m u v : Seen) (p_on q_on : Assembled) (p_members q_members : Members) (p_unclean q_unclean : Bool)
     (text rest out out' : List ℕ) (status : Status)
     → m.fit
-    → Opens (through n m) (view (through k u) p_on p_members p_unclean)
-    → IsSamePool (view (through k u) p_on p_members p_unclean) (view (through l v) q_on q_members q_unclean)
+    → Opens m (view u p_on p_members p_unclean)
+    → IsSamePool (view u p_on p_members p_unclean) (view v q_on q_members q_unclean)
     → (u.traced
     → (a : FlatArray)
-    → Holds (view (through k u) p_on p_members p_unclean) a
-    → Leaves (through k u) (through l v) Anything)
+    → Holds (view u p_on p_members p_unclean) a
+    → Leaves u v Anything)
     → ((a : FlatArray)
-    → Holds (view (through k u) p_on p_members p_unclean) a
-    → Outcome status (view (through l v) q_on q_members q_unclean) u.traced (Means (through k u) p_on) u.faults u.clock a text rest out out')
+    → Holds (view u p_on p_members p_unclean) a
+    → Outcome status (view v q_on q_members q_unclean) u.traced (Means u p_on) u.faults u.clock a text rest out out')
     → OpenedOn m v text rest out out' status
-opened_on n k l m u v p_on q_on p_members q_members p_unclean q_unclean text rest out out' status fit opens same passes outcome =
-    let p = view (through k u) p_on p_members p_unclean in
-    let has : HasDisksOf (through k u) m =
+opened_on m u v p_on q_on p_members q_members p_unclean q_unclean text rest out out' status fit opens same passes outcome =
+    let p = view u p_on p_members p_unclean in
+    let has : HasDisksOf u m =
     record { disks = sym opens.stays.disks; sectors = λ d known. sym (opens.stays.sectors d) } in
-    let also : HasDisksOf (through n m) m = record { disks = refl; sectors = λ d known. refl } in
+    let also : HasDisksOf m m = record { disks = refl; sectors = λ d known. refl } in
     let volume = array_in p_on (now_in m) in
     record {
-      stays = stays_out n l m v (stays_then opens.stays same.stays);
+      stays = stays_then opens.stays same.stays;
       on = p_on;
       members = q_members;
       unclean = q_unclean;
       from = u.clock;
       counts = u.faults;
       grown = same.stays.faults;
-      seated = seated_on (through k u) m p_on fit has opens.pool.seated;
+      seated = seated_on u m p_on fit has opens.pool.seated;
       shown =
           λ told other shows none.
           let a = opens.assembled told in
-          same_pool m.disks a.0 p_on other a.2 (read_pool (through n m) (through k u) a.0 other none a.1 shows);
-      later = λ traced found. (opens.leaves traced (found_in n m p_on found)).later;
+          same_pool m.disks a.0 p_on other a.2 (read_pool m u a.0 other none a.1 shows);
+      later = λ traced found. (opens.leaves traced found).later;
       opening =
           λ traced found j i until stops.
-          let held = opens.holds (found_in n m p_on found) in
-          let leaves = opens.leaves traced (found_in n m p_on found) in
+          let held = opens.holds found in
+          let leaves = opens.leaves traced found in
           let stopped = (passes (opens.stays.traced traced) volume held).past j i until stops in
           elim (cases_lt m.clock j) [
-            | inl behind ↦ inr (means_on (through n m) m p_on volume i also (leaves.new j i behind until stopped))
+            | inl behind ↦ inr (means_on m m p_on volume i also (leaves.new j i behind until stopped))
             | inr before ↦ inl (before, leaves.past j i before stopped)
           ];
       outcome =
           λ found a alike.
-          let held = opens.holds (found_in n m p_on found) in
-          outcome_as status (view (through l v) q_on q_members q_unclean) (view v p_on q_members q_unclean) u.traced m.traced
-          (Means (through k u) p_on) (Means m p_on) u.faults u.clock a text rest out out'
-          (shown_out l v p_on q_on q_members q_unclean same.on)
+          let held = opens.holds found in
+          outcome_as status (view v q_on q_members q_unclean) (view v p_on q_members q_unclean) u.traced m.traced
+          (Means u p_on) (Means m p_on) u.faults u.clock a text rest out out'
+          (shown_as v p_on q_on q_members q_unclean same.on)
           (λ traced. opens.stays.traced traced)
-          (λ b i means. means_on (through k u) m p_on b i has means)
+          (λ b i means. means_on u m p_on b i has means)
           (outcome a (holds_same p a volume alike held));
     }
 
-reading_out : (n l : ℕ) (m v : Seen) (look : Look) → IsReading (through n m) (through l v) look → IsReading m v look
-reading_out n l m v look reading =
-    record { copied = reading.copied; table = reading.table; superblock = reading.superblock }
-
 pub not_opened_on :
-    (n l : ℕ) (m v : Seen) (why : Refusal) (out out' : List ℕ) (status : Status)
-    → Stays (through n m) (through l v)
-    → (AllTold (through n m) → Refuses (through n m) (through l v) why)
+    (m v : Seen) (why : Refusal) (out out' : List ℕ) (status : Status)
+    → Stays m v
+    → (AllTold m → Refuses m v why)
     → Says (refusal_status why) (refused_line (refusal_words why)) out out' status
     → NotOpenedOn m v out out' status
-not_opened_on n l m v why out out' status stays refuses says =
+not_opened_on m v why out out' status stays refuses says =
     record {
-      stays = stays_out n l m v stays;
+      stays = stays;
       why = why;
       says = says;
       cause =
@@ -178,16 +125,16 @@ not_opened_on n l m v why out out' status stays refuses says =
           record {
             look = r.look;
             went = r.went;
-            reading = reading_out n l m v r.look r.reading;
+            reading = r.reading;
             gone = r.gone;
             refused = r.refused;
             leaves =
                 λ traced on shown found k i until stops.
-                let leaves = r.leaves traced on shown (found_in n m on found) in
+                let leaves = r.leaves traced on shown found in
                 elim (cases_lt m.clock k) [
                   | inl behind ↦
                       inr
-                      (means_on (through n m) m on (array_in on (now_in m)) i (record { disks = refl; sectors = λ d known. refl })
+                      (means_on m m on (array_in on (now_in m)) i (record { disks = refl; sectors = λ d known. refl })
                       (leaves.new k i behind until stops))
                   | inr before ↦ inl (before, leaves.past k i before stops)
                 ];

@@ -11,7 +11,6 @@ use Rattle.rack_file.specs.Files.{Differ}
 pub record AreAttached (x y : Seen) (s t : Shelf) (names : List (List ℕ)) : Type 0 where
   pub disks : y.disks ≡ length names
   pub clock : y.clock ≡ x.clock
-  pub lenders : y.lenders ≡ x.lenders
   pub attached : t.names ≡ names
   pub differ : Differ names
   pub faults : s.faults ≤ t.faults

@@ -46,7 +46,6 @@ entry_seen ready names =
       fit = Unit {0};
       told = λ d. Unit {0};
       traced = ⊥;
-      lenders = [];
     }
 
 -- a disk of a rack is one that waited: one value in each sector, told

@@ -21,6 +21,7 @@ pub fn perform<R: Bay>(
 ) -> Result<(), Gone>
     requires { IsPool (view_of R.seen pool.old) }
     ensures pool { IsPool (view_of R.seen pool.new) }
+    ensures runs { R.runs pool.old.bay pool.new.bay }
     ensures done { OnOk result (Performs (view_of R.seen pool.old) (view_of R.seen pool.new) command.now text.new.items) }
     ensures gone { IfErr result (λ e. Breaks (view_of R.seen pool.old) (view_of R.seen pool.new) command.now e.disk) }
 {
@@ -56,6 +57,7 @@ pub fn perform<R: Bay>(
 fn perform_read<R: Bay>(pool: &mut Pool<R>, sector: u64, text: &mut ReplyText) -> Result<(), Gone>
     requires { IsPool (view_of R.seen pool.old) }
     ensures pool { IsPool (view_of R.seen pool.new) }
+    ensures runs { R.runs pool.old.bay pool.new.bay }
     ensures done { OnOk result (Performs (view_of R.seen pool.old) (view_of R.seen pool.new) (Read sector) text.new.items) }
     ensures gone { IfErr result (λ e. Breaks (view_of R.seen pool.old) (view_of R.seen pool.new) (Read sector) e.disk) }
 {
@@ -77,6 +79,7 @@ fn perform_write<R: Bay>(
 ) -> Result<(), Gone>
     requires { IsPool (view_of R.seen pool.old) }
     ensures pool { IsPool (view_of R.seen pool.new) }
+    ensures runs { R.runs pool.old.bay pool.new.bay }
     ensures done { OnOk result (Performs (view_of R.seen pool.old) (view_of R.seen pool.new) (Write sector bytes.now) text.new.items) }
     ensures gone { IfErr result (λ e. Breaks (view_of R.seen pool.old) (view_of R.seen pool.new) (Write sector bytes.now) e.disk) }
 {
@@ -98,6 +101,7 @@ fn perform_fill<R: Bay>(
 ) -> Result<(), Gone>
     requires { IsPool (view_of R.seen pool.old) }
     ensures pool { IsPool (view_of R.seen pool.new) }
+    ensures runs { R.runs pool.old.bay pool.new.bay }
     ensures done { OnOk result (Performs (view_of R.seen pool.old) (view_of R.seen pool.new) (Fill sector count byte) text.new.items) }
     ensures gone { IfErr result (λ e. Breaks (view_of R.seen pool.old) (view_of R.seen pool.new) (Fill sector count byte) e.disk) }
 {
@@ -123,6 +127,7 @@ fn fill_sectors<R: Bay>(
     requires pool { IsPool (view_of R.seen pool.old) }
     requires inside { sector + count ≤ volume_sectors pool.old.on.state }
     ensures pool { IsPool (view_of R.seen pool.new) }
+    ensures runs { R.runs pool.old.bay pool.new.bay }
     ensures fills { Fills (view_of R.seen pool.old) (view_of R.seen pool.new) sector count bytes.now result }
 {
     for at in sector..sector + count {
@@ -139,6 +144,7 @@ fn fill_sectors<R: Bay>(
 fn perform_flush<R: Bay>(pool: &mut Pool<R>, text: &mut ReplyText) -> Result<(), Gone>
     requires { IsPool (view_of R.seen pool.old) }
     ensures pool { IsPool (view_of R.seen pool.new) }
+    ensures runs { R.runs pool.old.bay pool.new.bay }
     ensures done { OnOk result (Performs (view_of R.seen pool.old) (view_of R.seen pool.new) Flush text.new.items) }
     ensures gone { IfErr result (λ e. Breaks (view_of R.seen pool.old) (view_of R.seen pool.new) Flush e.disk) }
 {

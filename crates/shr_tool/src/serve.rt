@@ -49,6 +49,7 @@ pub fn answer_script<R: Bay, I: Source, O: Sink>(
 ) -> Stop
     requires { IsPool (view_of R.seen pool.old) }
     ensures pool { IsPool (view_of R.seen pool.new) }
+    ensures runs { R.runs pool.old.bay pool.new.bay }
     ensures same { IsSamePool (view_of R.seen pool.old) (view_of R.seen pool.new) }
     ensures source { I.faults input.old ≤ I.faults input.new }
     ensures sink { O.faults out.old ≤ O.faults out.new }
@@ -82,6 +83,7 @@ fn answer_last<R: Bay, O: Sink>(
 ) -> Stop
     requires { IsPool (view_of R.seen pool.old) }
     ensures pool { IsPool (view_of R.seen pool.new) }
+    ensures runs { R.runs pool.old.bay pool.new.bay }
     ensures same { IsSamePool (view_of R.seen pool.old) (view_of R.seen pool.new) }
     ensures sink { O.faults out.old ≤ O.faults out.new }
     ensures cause { HasCause result (view_of R.seen pool.old) (view_of R.seen pool.new) 0 0 (O.faults out.old) (O.faults out.new) }
@@ -104,6 +106,7 @@ fn answer_line<R: Bay, O: Sink>(
 ) -> Result<(), Stop>
     requires { IsPool (view_of R.seen pool.old) }
     ensures pool { IsPool (view_of R.seen pool.new) }
+    ensures runs { R.runs pool.old.bay pool.new.bay }
     ensures same { IsSamePool (view_of R.seen pool.old) (view_of R.seen pool.new) }
     ensures sink { O.faults out.old ≤ O.faults out.new }
     ensures cause { IfErr result (λ stop. HasCause stop (view_of R.seen pool.old) (view_of R.seen pool.new) 0 0 (O.faults out.old) (O.faults out.new)) }
@@ -129,6 +132,7 @@ fn answer<R: Bay, O: Sink>(
     requires pool { IsPool (view_of R.seen pool.old) }
     requires replied { IsReplied command.now }
     ensures pool { IsPool (view_of R.seen pool.new) }
+    ensures runs { R.runs pool.old.bay pool.new.bay }
     ensures same { IsSamePool (view_of R.seen pool.old) (view_of R.seen pool.new) }
     ensures sink { O.faults out.old ≤ O.faults out.new }
     ensures cause { IfErr result (λ stop. HasCause stop (view_of R.seen pool.old) (view_of R.seen pool.new) 0 0 (O.faults out.old) (O.faults out.new)) }

@@ -26,6 +26,7 @@ pub fn serve_pool<R: Bay, I: Source, O: Sink>(
 ) -> Status
     requires { IsPool (view_of R.seen pool.old) }
     ensures pool { IsPool (view_of R.seen pool.new) }
+    ensures runs { R.runs pool.old.bay pool.new.bay }
     ensures same { IsSamePool (view_of R.seen pool.old) (view_of R.seen pool.new) }
     ensures source { I.faults input.old ≤ I.faults input.new }
     ensures sink { O.faults out.old ≤ O.faults out.new }
@@ -60,6 +61,7 @@ pub fn serve_pool<R: Bay, I: Source, O: Sink>(
 fn end_script<R: Bay, O: Sink>(pool: &mut Pool<R>, out: &mut O) -> Status
     requires { IsPool (view_of R.seen pool.old) }
     ensures pool { IsPool (view_of R.seen pool.new) }
+    ensures runs { R.runs pool.old.bay pool.new.bay }
     ensures same { IsSamePool (view_of R.seen pool.old) (view_of R.seen pool.new) }
     ensures sink { O.faults out.old ≤ O.faults out.new }
     ensures cause { HasStatusCause result 0 0 (O.faults out.old) (O.faults out.new) }

@@ -15,7 +15,7 @@ returns-in-Err-clause-unattached g c =
     (λ all. IsUnattached (g.B.Bay.shelf c.args.bay.now) (g.B.Bay.shelf c.attach.new.self) all c.disks-number.result c.in-Err.fault)
     (sym (split.1 ∙ named))
     (unattached _ _ _ _ _ _ so_far split.0 c.as_str.result.now c.attach.result c.in-Err.fault c.disks-number.result c.in-Err.is
-    c.disks-number.ensures c.loop-name.invariant c.attach.ensures)
+    c.disks-number.ensures c.loop-name.invariant c.attach.ensures.attaches)
 
 pub loop-name-preserved : goal.loop-name-preserved
 loop-name-preserved g c =
@@ -27,4 +27,4 @@ loop-name-preserved g c =
     subst
     (λ all. AreAttached (g.B.Rack.seen c.args.bay.now) (g.B.Rack.seen c.attach.new.self) (g.B.Bay.shelf c.args.bay.now) (g.B.Bay.shelf c.attach.new.self) all)
     (sym (more ∙ named))
-    (attached_more _ _ _ _ _ _ so_far c.as_str.result.now c.attach.result c.in-Ok.field-0 c.in-Ok.is c.loop-name.invariant c.attach.ensures)
+    (attached_more _ _ _ _ _ _ so_far c.as_str.result.now c.attach.result c.in-Ok.field-0 c.in-Ok.is c.loop-name.invariant c.attach.ensures.attaches)

@@ -14,6 +14,7 @@ loop-at-init g c =
       from = omega arith;
       until = omega arith;
       pool = c.requires.pool;
+      runs = g.met.R.Rack.runs_same bay;
       size = refl;
       filled =
           filled_start (view_of g.R.Rack.seen c.args.pool.now) c.args.sector c.args.bytes.now c.requires.pool
@@ -27,6 +28,7 @@ loop-at-preserved g c =
       from = let from = before.from in omega arith;
       until = let until = before.until in omega arith;
       pool = c.write.ensures.pool;
+      runs = g.met.R.Rack.runs_then _ _ _ before.runs c.write.ensures.runs;
       size = ap (λ (on : Assembled). volume_sectors on.state) c.write.ensures.written.pool.on ∙ before.size;
       filled = filled_step _ _ _ _ _ _ _ c.in-Ok.is before.from before.filled c.write.ensures.written;
     }

@@ -13,6 +13,7 @@ invariant-loop-at g l =
       from : l.sector ≤ l.at;
       until : l.at ≤ l.sector + l.count;
       pool : IsPool (shown l.pool);
+      runs : g.R.Rack.runs l.fn.pool.bay l.pool.bay;
       size : volume_sectors l.pool.on.state ≡ volume_sectors l.fn.pool.on.state;
       filled : IsFilled (shown l.fn.pool) (shown l.pool) l.sector (l.at - l.sector) l.bytes;
     }

@@ -15,6 +15,7 @@ lines-init g c =
     let left = g.I.Source.left c.args.input.now in
     record {
       pool = c.requires;
+      runs = g.met.R.Rack.runs_same c.args.pool.now.bay;
       same = same_pool _ c.requires;
       source = omega arith;
       sink = omega arith;
@@ -61,6 +62,7 @@ lines-preserved g c =
     let before = c.lines.invariant in
     record {
       pool = c.answer_line.ensures.pool;
+      runs = g.met.R.Rack.runs_then _ _ _ before.runs c.answer_line.ensures.runs;
       same = pools_then _ _ _ before.same c.answer_line.ensures.same;
       source = let old = before.source in let now = c.next.ensures.faults in omega arith;
       sink = let old = before.sink in let now = c.answer_line.ensures.sink in omega arith;

@@ -15,6 +15,7 @@ invariant-lines g l =
     let taken = g.O.Sink.taken in
     record {
       pool : IsPool (shown l.pool);
+      runs : g.R.Rack.runs l.fn.pool.bay l.pool.bay;
       same : IsSamePool (shown l.fn.pool) (shown l.pool);
       source : g.I.Source.faults l.fn.input ≤ g.I.Source.faults l.input;
       sink : g.O.Sink.faults l.fn.out ≤ g.O.Sink.faults l.out;
