@@ -1,2 +1,4 @@
 pub mod Truths
 pub mod Composed
+mod VolumeExamples
+mod PoolExamples
