@@ -1,4 +1,7 @@
 pub mod Truths
 pub mod Composed
+mod SeatExamples
 mod VolumeExamples
-mod PoolExamples
+mod WrittenPool
+mod RefusalExamples
+mod ReplayExamples

@@ -1,6 +1,6 @@
 -- The definitions of the volumes at arrays that are written out: the pool of three drives of 79104, 80384 and 80384 sectors, whose
 -- array 0 has three members and whose array 1 has two.
-use Rattle.std.specs.Prelude.{◌≡◌, ℕ, ◌+◌, ◌-◌, ◌*◌, ◌/◌, ◌%◌, ◌==◌, ◌&&◌, nat_lt, if◌then◌else◌, Bool, true, false, List, [], ◌∷◌, ◌++◌, length, map, take, drop, replicate, codes, Option, Some, None, option_map, refl}
+use Rattle.std.specs.Prelude.{◌≡◌, ℕ, ◌+◌, ◌-◌, ◌*◌, ◌==◌, ◌&&◌, nat_lt, if◌then◌else◌, List, [], ◌∷◌, ◌++◌, length, map, take, drop, replicate, codes, Some, None, option_map, refl}
 use Rattle.std.specs.List.{range_with_len}
 use Rattle.std.specs.Fmt.{digits}
 use Rattle.rack.specs.Seen.{Image}
@@ -11,7 +11,7 @@ use Rattle.lvm_label.specs.Header.{header_of, locations_at}
 use Rattle.lvm_text.specs.Words.{past_blanks, string_at, integer_at, item_at, body_at, value_at, first_value_at, separator_at, words_at}
 use Rattle.lvm_text.specs.Group.{found_at, name_of, number_in, number_at, text_in, text_at, section_in, section_at, logical_volumes, each_at, pv_at, stripe_in, kind_at, segment_at, numbered, segment_numbered, segments_at, lv_at, group_at, group_in}
 use Rattle.array_image.specs.Foremost.{foremost}
-use Rattle.pool_image.specs.Volumes.{Arrays, Spot, part_of, group_in as the_group_in, is_bad, first_bad, spot_in, place_by, extent_at, extents_of}
+use Rattle.pool_image.specs.Volumes.{Arrays, part_of, group_in as the_group_in, is_bad, first_bad, spot_in, place_by, extent_at}
 
 digit : ℕ → ℕ
 digit code = if nat_lt code 58 then code - 48 else code - 87
@@ -125,4 +125,3 @@ bad_beside = refl
 not_in_group : first_bad (arrays (λ n x. if n == 0 then alone n x else replicate 512 0)) ≡ None
 unfolding is_bad the_group_in part_of label_in label_of areas_at fields_at header_of locations_at past_blanks string_at integer_at item_at body_at value_at first_value_at separator_at words_at found_at name_of number_in number_at text_in text_at section_in section_at logical_volumes each_at pv_at stripe_in kind_at segment_at numbered segment_numbered segments_at lv_at group_at group_in digits foremost times_x times_x_to arrays whole held sector from_hex digit first_label second_label the_text the_header sha1 first_words schedule rounds compress hash_after digest_bytes alone alone_header alone_text
 not_in_group = refl
-
