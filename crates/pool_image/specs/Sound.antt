@@ -78,12 +78,11 @@ pub record HasSoundTops (f : Found) : Type 0 where
   pub one_other : above_top f (λ place. not (is_planned f.state place)) ≤ 1
   pub one_at_all : (is_none (planned f.state.plan) || (f.state.made == 16)) ≡ true → above_top f (λ place. true) ≤ 1
 
--- What growth says of a book: the extents that each array is to have in the volume at the plan's end, whether the group has
--- room for so many segments, and how many works are left.
+-- What growth says of a book: the extents that each array is to have in the volume at the plan's end, and whether the group has
+-- room for so many segments.
 pub record Growth : Type 0 where
   pub target : Book → ℕ → ℕ
   pub fits : Group → (ℕ → ℕ) → Bool
-  pub left : Book → ℕ
 
 -- a label as the pool writes it, but for the device's size
 abbrev pub written_label : Found → ℕ → ℕ → Label
