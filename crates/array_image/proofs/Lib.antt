@@ -7,5 +7,6 @@ pub mod Losing
 pub mod Noted
 pub mod Replays
 pub mod Rewritten
-pub mod Examples
+mod Examples
 pub mod SoundFrames
+mod LogExamples

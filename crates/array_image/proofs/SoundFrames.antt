@@ -7,7 +7,7 @@ use Rattle.array_image.specs.Stripes.{width, sector_in, there, AgreeIn}
 use Rattle.array_image.specs.Arrays.{Shape, column, layout_at}
 use Rattle.array_image.specs.Even.{AreEven}
 use Rattle.array_image.specs.SoundArray.{IsSoundArray}
-use Rattle.array_image.proofs.Frames.{Agree, map_same, super_same, column_same, shape_same}
+use Rattle.array_image.proofs.Frames.{Agree, map_same, supers_same, column_same, shape_same}
 
 pub even_same : (shape : Shape) (array resync : ℕ) (c e : Image) → Agree array c e → AreEven shape array resync e → AreEven shape array resync c
 even_same shape array resync c e same even x inside synced counts =
@@ -23,7 +23,7 @@ sound_same s c e array t same sound =
       two = sound.two;
       written = sound.written;
       same = λ p q u v at_p at_q is_u is_v events.
-          sound.same p q u v at_p at_q (sym (super_same s c e array p same) ∙ is_u) (sym (super_same s c e array q same) ∙ is_v) events;
-      rebuilt = λ p u at_p is_u rebuilding. sound.rebuilt p u at_p (sym (super_same s c e array p same) ∙ is_u) rebuilding;
+          sound.same p q u v at_p at_q (sym (supers_same s c e array same p) ∙ is_u) (sym (supers_same s c e array same q) ∙ is_v) events;
+      rebuilt = λ p u at_p is_u rebuilding. sound.rebuilt p u at_p (sym (supers_same s c e array same p) ∙ is_u) rebuilding;
       even = λ joined shape is. even_same shape array _ c e same (sound.even joined shape (sym (shape_same s c e array same) ∙ is));
     }

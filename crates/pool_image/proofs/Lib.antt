@@ -1,0 +1,7 @@
+pub mod Truths
+pub mod Composed
+mod SeatExamples
+mod VolumeExamples
+mod WrittenPool
+mod RefusalExamples
+mod ReplayExamples
