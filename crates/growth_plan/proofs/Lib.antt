@@ -4,3 +4,12 @@ pub mod Appending
 pub mod Cuts
 pub mod NewLayer
 pub mod Counts
+pub mod Heads
+pub mod Parts
+pub mod OneArray
+pub mod RowsDone
+pub mod GrowthDone
+pub mod ZerosDone
+pub mod MakeDone
+pub mod EndDone
+pub mod Done

@@ -12,7 +12,7 @@ use Rattle.layer_plan.specs.Layering.{places_reaching}
 use Rattle.growth_plan.specs.declared.ArrayNow.{ArrayNow}
 use Rattle.growth_plan.specs.declared.Progress.{Progress}
 use Rattle.growth_plan.specs.Book.{units_of, height_of}
-use Rattle.growth_plan.specs.Target.{layer_above, targets}
+use Rattle.growth_plan.specs.Target.{layer_above, new_layer, targets}
 use Rattle.growth_plan.specs.Works.{rows_of}
 
 pub record Book : Type 0 where
@@ -64,3 +64,11 @@ after (Zero n) s p = with_arrays s p (change n (λ a. record a { zero = a.zero -
 after (Ready n) s p = record { state = record s { joined = s.made }; progress = p }
 after Extend s p = record { state = s; progress = record p { extents = sum (targets s p.arrays.items) } }
 after Close s p = record { state = record s { plan = Nothing }; progress = p }
+
+-- how high the layers stand at the plan's end
+abbrev pub top_at_end : State → List ArrayNow → ℕ
+top_at_end s arrays = height_of arrays + option_map_or (λ layer. layer.height) (new_layer s arrays) 0
+
+-- a change gives one new layer at most: the drives have room for none above it
+pub record HasOneLayer (s : State) (arrays : List ArrayNow) : Type 0 where
+  pub no_other : layer_above (units_of s) (top_at_end s arrays) ≡ None

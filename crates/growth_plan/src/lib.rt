@@ -10,11 +10,12 @@
 //! each answers for every book, also for one whose parts disagree.
 #![tactic(auto)]
 
-ghost use Rattle.std.specs.Prelude.{◌≡◌, ℕ, ◌+◌, ◌-◌, ◌*◌, ◌^◌, ◌<◌, ◌≤◌, length, slice_get, sum};
+ghost use Rattle.std.specs.Prelude.{◌≡◌, ℕ, ◌+◌, ◌-◌, ◌*◌, ◌^◌, ◌<◌, ◌≤◌, length, drop, slice_get, sum, IfSome};
 ghost use Rattle.std.specs.Result.{result_err};
 ghost use Rattle.growth_plan.specs.Book.{IsBook};
 ghost use Rattle.growth_plan.specs.Target.{targets};
 ghost use Rattle.growth_plan.specs.Works.{works_left};
+ghost use Rattle.growth_plan.specs.Doing.{after, HasOneLayer};
 ghost use Rattle.growth_plan.specs.Admission.{add_refusals, replace_refusals, first_refusal};
 
 mod admission;
@@ -129,7 +130,10 @@ pub fn admit_replace(state: &State, progress: &Progress, place: u32, units: u64)
 /// The first work that is left, or none where all is done.
 pub fn next_work(state: &State, progress: &Progress) -> Option<Work>
     requires { IsBook state.now progress.now }
-    ensures { result ≡ slice_get (works_left state.now progress.now) 0 }
+    ensures first { result ≡ slice_get (works_left state.now progress.now) 0 }
+    // The book after it has the rest of the works left.
+    ensures done { IfSome result (λ work. HasOneLayer state.now progress.now.arrays.items →
+        works_left (after work state.now progress.now).state (after work state.now progress.now).progress ≡ drop 1 (works_left state.now progress.now)) }
 {
     works::tally(state, progress).first
 }
