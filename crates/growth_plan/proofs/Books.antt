@@ -14,8 +14,11 @@ use Rattle.growth_plan.specs.Book.{IsSmall, height_of, units_of}
 
 pub height_small : (arrays : List ArrayNow) → length arrays ≤ 16 → All IsSmall arrays → height_of arrays ≤ 16 * 2 ^ 52
 height_small arrays few small =
-    omega (arith, sum_by-le (λ (a : ArrayNow). a.height) (2 ^ 52) arrays
-    (All-weaker IsSmall (λ (a : ArrayNow). a.height ≤ 2 ^ 52) (λ a s. omega (arith, s.height)) arrays small))
+    omega (
+      arith,
+      sum_by-le (λ (a : ArrayNow). a.height) (2 ^ 52) arrays
+          (All-weaker IsSmall (λ (a : ArrayNow). a.height ≤ 2 ^ 52) (λ a s. omega (arith, s.height)) arrays small),
+    )
 
 -- the level above one array more
 pub height_more : (arrays : List ArrayNow) (i : ℕ) (x : ArrayNow) (level : ℕ) → i < length arrays → x ≡ get_or arrays i x →
@@ -61,8 +64,11 @@ few_arrays s valid =
     let drives = (and_parts (nat_le 2 (length s.drives.items) && nat_le (length s.drives.items) 16) _ few).0 in (
       leb-true s.made 16 (and_parts (nat_le 1 s.made) (nat_le s.made 16) made).1,
       leb-true s.joined s.made (and_parts (nat_le s.joined s.made) _ ready).0,
-      omega (arith, leb-true (length s.drives.items) 16 (and_parts (nat_le 2 (length s.drives.items)) _ drives).1,
-        length-map {A = Drive} s.drives.items (λ drive. drive.units)),
+      omega (
+        arith,
+        leb-true (length s.drives.items) 16 (and_parts (nat_le 2 (length s.drives.items)) _ drives).1,
+        length-map {A = Drive} s.drives.items (λ drive. drive.units),
+      ),
     )
 
 pub slice_get_at : {X : Type 0} (xs : List X) (i : ℕ) (x : X) → i < length xs → x ≡ get_or xs i x → slice_get xs i ≡ Some x

@@ -21,7 +21,7 @@ use Rattle.growth_plan.proofs.Books.{few_arrays, units_small, extent_small, All-
 use Rattle.growth_plan.proofs.NewLayer.{new_layer_is, layer_height}
 
 -- what holds of all arrays holds of them standing
-all_standing : (P : ArrayNow → Type 0) (number level : ℕ) (arrays : List ArrayNow) → All P arrays → All (λ (x : Standing). P x.now) (standing_from number level arrays)
+pub all_standing : (P : ArrayNow → Type 0) (number level : ℕ) (arrays : List ArrayNow) → All P arrays → All (λ (x : Standing). P x.now) (standing_from number level arrays)
 all_standing P number level [] all = All-nil (λ (x : Standing). P x.now)
 all_standing P number level (a ∷ above) all =
     All-cons (λ (x : Standing). P x.now) _ (standing_from (number + 1) (level + a.height) above) (All-head P a above all)
@@ -99,7 +99,7 @@ few_makes s p book =
     (λ ws. length ws ≤ 2 ^ 61)
     (λ e. omega (arith, few_zeros s.joined (option_map_or (λ a. a.zero) (slice_get arrays s.joined) 0), young))
     (λ e. few_new s (new_layer s arrays) (extent_small s book.valid)
-      (λ l is. layer_height (units_of s) (height_of arrays) l (units_small s book.valid) (new_layer_is s arrays l is).2))
+    (λ l is. layer_height (units_of s) (height_of arrays) l (units_small s book.valid) (new_layer_is s arrays l is).2))
 
 pub few_works : (s : State) (p : Progress) → IsBook s p → length (works_left s p) < 2 ^ 64
 few_works s p book =

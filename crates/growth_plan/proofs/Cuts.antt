@@ -18,11 +18,11 @@ lesser_is level own cut others (Some least) is step above e =
     let found = step least is in
     ⊎_elim
     (λ (h : own < least).
-      let same : own ≡ cut = omega (arith, e) in
-      subst (λ (k : ℕ). (level < k) × Contains (own ∷ others) k) same (above, contains_first own others))
+    let same : own ≡ cut = omega (arith, e) in
+    subst (λ (k : ℕ). (level < k) × Contains (own ∷ others) k) same (above, contains_first own others))
     (λ (h : least ≤ own).
-      let same : least ≡ cut = omega (arith, e) in
-      subst (λ (k : ℕ). (level < k) × Contains (own ∷ others) k) same (found.0, contains_later own least others found.1))
+    let same : least ≡ cut = omega (arith, e) in
+    subst (λ (k : ℕ). (level < k) × Contains (own ∷ others) k) same (found.0, contains_later own least others found.1))
     (cases_lt own least)
 
 -- it is above the level, and among the units
@@ -31,8 +31,8 @@ least_is level cut [] e = cc
 least_is level cut (own ∷ others) e =
     ⊎_elim
     (λ (h : level < own). lesser_is level own cut others (least_above level others) refl (λ least is. least_is level least others is) h
-      (cc (rw (lt-ltb level own h) at e)))
+    (cc (rw (lt-ltb level own h) at e)))
     (λ (h : own ≤ level).
-      let no : nat_lt level own ≡ false = le-ltb level own h in
-      let rest = least_is level cut others (rw no at e) in (rest.0, contains_later own cut others rest.1))
+    let no : nat_lt level own ≡ false = le-ltb level own h in
+    let rest = least_is level cut others (rw no at e) in (rest.0, contains_later own cut others rest.1))
     (cases_lt level own)

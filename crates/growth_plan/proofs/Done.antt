@@ -33,8 +33,8 @@ makes_done s p w more book one e =
     ⊎_elim
     (λ (young : nat_lt s.joined s.made ≡ true). young_done s p w more young one (rw young at e))
     (λ (ready : nat_lt s.joined s.made ≡ false). new_done s p w more (new_layer s p.arrays.items) book refl
-      (sym (cond-false (nat_lt s.joined s.made) (zeros s.joined (zero_at p.arrays.items s.joined))
-        (option_map_or (λ l. Make s.made l.height ∷ zeros s.made (rows_of s l.height)) (new_layer s p.arrays.items) []) ready) ∙ e))
+    (sym (cond-false (nat_lt s.joined s.made) (zeros s.joined (zero_at p.arrays.items s.joined))
+    (option_map_or (λ l. Make s.made l.height ∷ zeros s.made (rows_of s l.height)) (new_layer s p.arrays.items) []) ready) ∙ e))
     (cases_Bool (nat_lt s.joined s.made))
 
 -- the end, where all else is done

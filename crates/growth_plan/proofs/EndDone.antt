@@ -28,11 +28,11 @@ extend_done s p w more e =
     let total = sum (targets s p.arrays.items) in
     ⊎_elim
     (λ (yes : nat_lt p.extents total ≡ true).
-      let only = rw yes at e in
-      let first : w ≡ Extend = cc only in
-      let last : [] ≡ more = cc only in
-      let done = cond-false (nat_lt total total) (Extend ∷ []) [] (le-ltb total total (omega arith)) in
-      ap (λ (v : Work). left_after v s p) first ∙ ap (λ (ws : List Work). at_end s p ws (closes s)) (done ∙ last))
+    let only = rw yes at e in
+    let first : w ≡ Extend = cc only in
+    let last : [] ≡ more = cc only in
+    let done = cond-false (nat_lt total total) (Extend ∷ []) [] (le-ltb total total (omega arith)) in
+    ap (λ (v : Work). left_after v s p) first ∙ ap (λ (ws : List Work). at_end s p ws (closes s)) (done ∙ last))
     (λ (no : nat_lt p.extents total ≡ false). cc (rw no at e))
     (cases_Bool (nat_lt p.extents total))
 
@@ -70,15 +70,15 @@ close_done s p w more e rebuilt grown =
     let closed : State = record s { plan = Nothing } in
     ⊎_elim
     (λ (yes : is_some (planned s.plan) ≡ true).
-      let only = rw yes at e in
-      let first : w ≡ Close = cc only in
-      let last : [] ≡ more = cc only in
-      let quiet = idle s (standing arrays) grown in
-      let target = ap (λ (es : List ℕ). targets_by s es (height_of arrays)) quiet.1 in
-      let extended : extends closed p ≡ extends s p = ap (λ (ts : List ℕ). if nat_lt p.extents (sum ts) then Extend ∷ [] else []) target in
-      ap (λ (v : Work). left_after v s p) first
-      ∙ in_order-same _ _ _ (makes s arrays) (extends s p) more (flat_map resyncs (standing arrays)) (flat_map (rebuilds closed) (standing arrays))
-        (flat_map (growths closed) (standing arrays)) (makes closed arrays) (extends closed p) (closes closed)
-        refl (none_rebuilt s (standing arrays) ∙ sym rebuilt) (quiet.0 ∙ sym grown) refl extended last)
+    let only = rw yes at e in
+    let first : w ≡ Close = cc only in
+    let last : [] ≡ more = cc only in
+    let quiet = idle s (standing arrays) grown in
+    let target = ap (λ (es : List ℕ). targets_by s es (height_of arrays)) quiet.1 in
+    let extended : extends closed p ≡ extends s p = ap (λ (ts : List ℕ). if nat_lt p.extents (sum ts) then Extend ∷ [] else []) target in
+    ap (λ (v : Work). left_after v s p) first
+    ∙ in_order-same _ _ _ (makes s arrays) (extends s p) more (flat_map resyncs (standing arrays)) (flat_map (rebuilds closed) (standing arrays))
+    (flat_map (growths closed) (standing arrays)) (makes closed arrays) (extends closed p) (closes closed)
+    refl (none_rebuilt s (standing arrays) ∙ sym rebuilt) (quiet.0 ∙ sym grown) refl extended last)
     (λ (no : is_some (planned s.plan) ≡ false). cc (rw no at e))
     (cases_Bool (is_some (planned s.plan)))

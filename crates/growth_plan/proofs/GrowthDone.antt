@@ -53,7 +53,7 @@ joined_no s below x place e =
     let fails : (reaches && not (has (x.members.items ++ place ∷ []) place)) ≡ false =
     and_right reaches (not (has (x.members.items ++ place ∷ []) place)) (not_from_true (has (x.members.items ++ place ∷ []) place) member) in
     ap (λ (o : Option ℕ). option_and_then
-      (λ q. then_some (nat_le (height_of below + x.height) (slice_index (units_of s) q) && not (has (x.members.items ++ place ∷ []) q)) q) o)
+    (λ q. then_some (nat_le (height_of below + x.height) (slice_index (units_of s) q) && not (has (x.members.items ++ place ∷ []) q)) q) o)
     (joining_is s (at below x) place e)
     ∙ ap (λ (b : Bool). then_some b place) fails
 
@@ -63,32 +63,39 @@ step_joining s p below x w more None is idle e = cc
 step_joining s p below x w more (Some place) is idle e =
     ⊎_elim
     (λ (mirror : is_mirror x ≡ true).
-      let e1 = rw mirror at e in
-      let first : w ≡ TakeOver (length below) = cc e1 in
-      record {
-        to = λ a. record a { level = pos 5 };
-        does = ap (λ (v : Work). left_after v s p) first;
-        here = rw idle (ap (λ (o : Option ℕ). option_map_or (joins (at below (record x { level = pos 5 }))) o []) is ∙ cc e1);
-        level = refl; young = refl; resync = refl; rebuild = refl; ends = refl;
-      })
+    let e1 = rw mirror at e in
+    let first : w ≡ TakeOver (length below) = cc e1 in
+    record {
+      to = λ a. record a { level = pos 5 };
+      does = ap (λ (v : Work). left_after v s p) first;
+      here = rw idle (ap (λ (o : Option ℕ). option_map_or (joins (at below (record x { level = pos 5 }))) o []) is ∙ cc e1);
+      level = refl;
+      young = refl;
+      resync = refl;
+      rebuild = refl;
+      ends = refl;
+    })
     (λ (raid : is_mirror x ≡ false).
-      let e1 = rw raid at e in
-      let first : w ≡ Begin (length below) place = cc e1 in
-      let no = joined_no s below x place is in
-      let count : length (x.members.items ++ place ∷ []) + 0 ≡ length x.members.items + 1 =
-      omega (arith, length-append x.members.items (place ∷ [])) in
-      record {
-        to = begun place;
-        does = ap (λ (v : Work). left_after v s p) first;
-        here =
-            ap (λ (o : Option ℕ). reshapes (length below) x.rows ++ option_map_or (joins (at below (begun place x))) o []) no
-            ∙ append-nil (reshapes (length below) x.rows) ∙ cc e1;
-        level = refl; young = refl; resync = refl; rebuild = refl;
-        ends =
-            ap (λ (o : Option ℕ). (length (x.members.items ++ place ∷ []) + (if is_some o then 1 else 0) - 1) * x.height) no
-            ∙ ap (λ (n : ℕ). (n - 1) * x.height) count
-            ∙ sym (ap (λ (o : Option ℕ). (length x.members.items + (if is_some o then 1 else 0) - 1) * x.height) is);
-      })
+    let e1 = rw raid at e in
+    let first : w ≡ Begin (length below) place = cc e1 in
+    let no = joined_no s below x place is in
+    let count : length (x.members.items ++ place ∷ []) + 0 ≡ length x.members.items + 1 =
+    omega (arith, length-append x.members.items (place ∷ [])) in
+    record {
+      to = begun place;
+      does = ap (λ (v : Work). left_after v s p) first;
+      here =
+          ap (λ (o : Option ℕ). reshapes (length below) x.rows ++ option_map_or (joins (at below (begun place x))) o []) no
+          ∙ append-nil (reshapes (length below) x.rows) ∙ cc e1;
+      level = refl;
+      young = refl;
+      resync = refl;
+      rebuild = refl;
+      ends =
+          ap (λ (o : Option ℕ). (length (x.members.items ++ place ∷ []) + (if is_some o then 1 else 0) - 1) * x.height) no
+          ∙ ap (λ (n : ℕ). (n - 1) * x.height) count
+          ∙ sym (ap (λ (o : Option ℕ). (length x.members.items + (if is_some o then 1 else 0) - 1) * x.height) is);
+    })
     (cases_Bool (is_mirror x))
 
 step_reshaping : (s : State) (p : Progress) (below : List ArrayNow) (x : ArrayNow) (w : Work) (more others : List Work) →
@@ -105,7 +112,11 @@ step_reshaping s p below x w more others rest on e =
             to = λ a. record a { reshaping = false };
             does = ap (λ (v : Work). left_after v s p) first;
             here = rest ∙ others_are;
-            level = refl; young = refl; resync = refl; rebuild = refl; ends = refl;
+            level = refl;
+            young = refl;
+            resync = refl;
+            rebuild = refl;
+            ends = refl;
           }
       | inr some ↦
           let copy = first_copy x.reshape row w some.more some.here in
@@ -115,9 +126,13 @@ step_reshaping s p below x w more others rest on e =
             here =
                 rw on
                 (ap (λ (ws : List Work). reshapes n (x.reshape - 1) ++ ws) rest
-                  ∙ append_assoc (replicate (x.reshape - 1) row) (Finish n ∷ []) others
-                  ∙ sym (some.behind ∙ ap (λ (ws : List Work). ws ++ Finish n ∷ others) copy.1));
-            level = refl; young = refl; resync = refl; rebuild = refl; ends = refl;
+                ∙ append_assoc (replicate (x.reshape - 1) row) (Finish n ∷ []) others
+                ∙ sym (some.behind ∙ ap (λ (ws : List Work). ws ++ Finish n ∷ others) copy.1));
+            level = refl;
+            young = refl;
+            resync = refl;
+            rebuild = refl;
+            ends = refl;
           }
     ]
 
@@ -131,7 +146,7 @@ step s p below x w more e =
 
 pub growth_done : (s : State) (p : Progress) (w : Work) (rest more : List Work) → flat_map (growths s) (standing p.arrays.items) ≡ w ∷ more →
     rest ≡ in_order (flat_map resyncs (standing p.arrays.items)) (flat_map (rebuilds s) (standing p.arrays.items)) more
-      (makes s p.arrays.items) (extends s p) (closes s) →
+    (makes s p.arrays.items) (extends s p) (closes s) →
     left_after w s p ≡ rest
 growth_done s p w rest more e behind =
     let found = first_at (growths s) p.arrays.items w more e in
@@ -142,8 +157,8 @@ growth_done s p w rest more e behind =
     let done = array_done s p found.below found.above x y _ _ more found.arrays_are it.level
     it.young it.ends
     (swapped resyncs found.below found.above x y it.level it.resync
-      ∙ sym (ap (λ (xs : List ArrayNow). flat_map resyncs (standing xs)) found.arrays_are))
+    ∙ sym (ap (λ (xs : List ArrayNow). flat_map resyncs (standing xs)) found.arrays_are))
     (swapped (rebuilds s) found.below found.above x y it.level it.rebuild
-      ∙ sym (ap (λ (xs : List ArrayNow). flat_map (rebuilds s) (standing xs)) found.arrays_are))
+    ∙ sym (ap (λ (xs : List ArrayNow). flat_map (rebuilds s) (standing xs)) found.arrays_are))
     (head_gone (growths s) found.below found.above x y found.more it.level found.quiet it.here ∙ sym found.behind) in
     it.does ∙ ap (λ (xs : List ArrayNow). works_left s (put p xs)) news ∙ done ∙ sym behind

@@ -13,3 +13,6 @@ pub mod ZerosDone
 pub mod MakeDone
 pub mod EndDone
 pub mod Done
+pub mod Above
+pub mod Held
+pub mod Sums

@@ -31,13 +31,13 @@ has_passing q a zero place low high e = absurd (omega arith)
 has_passing q a (suc n) place low high e =
     ⊎_elim
     (λ (l : a < place).
-      let rest = has_passing q (a + 1) n place (omega arith) (omega arith) e in
-      cond_both (q a) (a ∷ filter q (range_with_len (a + 1) n)) (filter q (range_with_len (a + 1) n)) (λ t. has t place ≡ true)
-      (λ h. or_right (a == place) (has (filter q (range_with_len (a + 1) n)) place) rest) (λ h. rest))
+    let rest = has_passing q (a + 1) n place (omega arith) (omega arith) e in
+    cond_both (q a) (a ∷ filter q (range_with_len (a + 1) n)) (filter q (range_with_len (a + 1) n)) (λ t. has t place ≡ true)
+    (λ h. or_right (a == place) (has (filter q (range_with_len (a + 1) n)) place) rest) (λ h. rest))
     (λ (l : place ≤ a).
-      let same : a ≡ place = omega arith in
-      let here : q a ≡ true = ap q same ∙ e in
-      rw here (or_left (a == place) (has (filter q (range_with_len (a + 1) n)) place) (eq-eqb a place same)))
+    let same : a ≡ place = omega arith in
+    let here : q a ≡ true = ap q same ∙ e in
+    rw here (or_left (a == place) (has (filter q (range_with_len (a + 1) n)) place) (eq-eqb a place same)))
     (cases_lt a place)
 
 -- a drive that reaches a level above 0 is in the list
@@ -54,13 +54,13 @@ none_joins units level None above = refl
 none_joins units level (Some q) above =
     ⊎_elim
     (λ (reaches : nat_le level (slice_index units q) ≡ true).
-      let inside = reaches_inside units q level above (leb-true level (slice_index units q) reaches) in
-      let member : has (places_reaching units level) q ≡ true =
-      has_passing (λ place. nat_le level (slice_index units place)) 0 (length units) q (omega arith) (omega arith) reaches in
-      ap (λ (b : Bool). then_some b q)
-      (and_right (nat_le level (slice_index units q)) (not (has (places_reaching units level) q)) (not_from_true (has (places_reaching units level) q) member)))
+    let inside = reaches_inside units q level above (leb-true level (slice_index units q) reaches) in
+    let member : has (places_reaching units level) q ≡ true =
+    has_passing (λ place. nat_le level (slice_index units place)) 0 (length units) q (omega arith) (omega arith) reaches in
+    ap (λ (b : Bool). then_some b q)
+    (and_right (nat_le level (slice_index units q)) (not (has (places_reaching units level) q)) (not_from_true (has (places_reaching units level) q) member)))
     (λ (short : nat_le level (slice_index units q) ≡ false).
-      ap (λ (b : Bool). then_some b q) (and_left (nat_le level (slice_index units q)) (not (has (places_reaching units level) q)) short))
+    ap (λ (b : Bool). then_some b q) (and_left (nat_le level (slice_index units q)) (not (has (places_reaching units level) q)) short))
     (cases_Bool (nat_le level (slice_index units q)))
 
 none_rebuilt : (place : Option ℕ) (x : Standing) → x.now.rebuild ≡ 0 → rebuilds_on place x ≡ []

@@ -31,12 +31,16 @@ at_cut units level layer None least e = cc
 at_cut units level layer (Some cut) least e =
     ⊎_elim
     (λ (yes : is_redundant (layer_between units (level, cut)) ≡ true).
-      let same : layer ≡ layer_between units (level, cut) = cc (rw yes at e) in
-      let found = least_is level cut units least in
-      record {
-        cut = cut; least = least; above = found.0; among = found.1; is = same;
-        pair = rw same (leb-true 2 (length (places_reaching units cut)) yes);
-      })
+    let same : layer ≡ layer_between units (level, cut) = cc (rw yes at e) in
+    let found = least_is level cut units least in
+    record {
+      cut = cut;
+      least = least;
+      above = found.0;
+      among = found.1;
+      is = same;
+      pair = rw same (leb-true 2 (length (places_reaching units cut)) yes);
+    })
     (λ (no : is_redundant (layer_between units (level, cut)) ≡ false). cc (rw no at e))
     (cases_Bool (is_redundant (layer_between units (level, cut))))
 
@@ -57,8 +61,8 @@ new_layer_is s arrays layer e =
     ⊎_elim
     (λ (yes : (nat_lt s.joined s.made || nat_le 16 s.made) ≡ true). cc (rw yes at e))
     (λ (no : (nat_lt s.joined s.made || nat_le 16 s.made) ≡ false).
-      let parts = or_parts (nat_lt s.joined s.made) (nat_le 16 s.made) no in
-      (ltb-false s.joined s.made parts.0, leb-false 16 s.made parts.1, rw no at e))
+    let parts = or_parts (nat_lt s.joined s.made) (nat_le 16 s.made) no in
+    (ltb-false s.joined s.made parts.0, leb-false 16 s.made parts.1, rw no at e))
     (cases_Bool (nat_lt s.joined s.made || nat_le 16 s.made))
 
 -- what a layer over so few drives offers
@@ -69,8 +73,12 @@ layer_extents units level layer few small e =
     let height = layer_height units level layer small e in
     let members = length (places_reaching units is.cut) in
     let most : members ≤ 16 =
-    omega (arith, length-filter (λ place. nat_le is.cut (slice_index units place)) (range_with_len 0 (length units)),
-      count_by-le-length (λ place. nat_le is.cut (slice_index units place)) (range_with_len 0 (length units)), length-range_with_len 0 (length units)) in
+    omega (
+      arith,
+      length-filter (λ place. nat_le is.cut (slice_index units place)) (range_with_len 0 (length units)),
+      count_by-le-length (λ place. nat_le is.cut (slice_index units place)) (range_with_len 0 (length units)),
+      length-range_with_len 0 (length units),
+    ) in
     let step : is.cut - level ≡ layer.height = sym (ap (λ (l : Layer). l.height) is.is) in
     let product : (members - 1) * (is.cut - level) ≤ 16 * 2 ^ 41 = mul-le-mul {n₁ = members - 1} {m₁ = is.cut - level} {n₂ = 16} {m₂ = 2 ^ 41} (omega arith) (omega arith) in
     omega (arith, product, ap (λ (l : Layer). l.extents) is.is)

@@ -67,7 +67,11 @@ first_array f number level (a ∷ above) w rest e =
           let found = first_array f (number + 1) (level + a.height) above w rest none.1 in
           let total : height_of (a ∷ found.below) ≡ a.height + height_of found.below = sum_by-cons (λ (x : ArrayNow). x.height) a found.below in
           record {
-            below = a ∷ found.below; now = found.now; above = found.above; place = found.place; under = found.under;
+            below = a ∷ found.below;
+            now = found.now;
+            above = found.above;
+            place = found.place;
+            under = found.under;
             arrays_are = ap (λ (xs : List ArrayNow). a ∷ xs) found.arrays_are;
             place_is = omega (arith, found.place_is);
             under_is = omega (arith, found.under_is, total);
@@ -75,9 +79,17 @@ first_array f number level (a ∷ above) w rest e =
             first = found.first;
           }
       | inr some ↦ record {
-          below = []; now = a; above = above; place = number; under = level; arrays_are = refl;
-          place_is = omega arith; under_is = omega arith; quiet = refl; first = some;
-        }
+        below = [];
+        now = a;
+        above = above;
+        place = number;
+        under = level;
+        arrays_are = refl;
+        place_is = omega arith;
+        under_is = omega arith;
+        quiet = refl;
+        first = some;
+      }
     ]
 
 pub record FirstAt (f : Standing → List Work) (arrays : List ArrayNow) (w : Work) (rest : List Work) : Type 0 where
@@ -98,11 +110,15 @@ first_at f arrays w rest e =
     let place : found.place ≡ length found.below = omega (arith, found.place_is) in
     let under : found.under ≡ height_of found.below = omega (arith, found.under_is) in
     record {
-      below = found.below; now = x; above = found.above; more = found.first.more;
-      arrays_are = found.arrays_are; quiet = found.quiet;
+      below = found.below;
+      now = x;
+      above = found.above;
+      more = found.first.more;
+      arrays_are = found.arrays_are;
+      quiet = found.quiet;
       here =
           sym (ap (λ (n : ℕ). f (record { number = n; top = found.under + x.height; now = x })) place
-            ∙ ap (λ (u : ℕ). f (record { number = length found.below; top = u + x.height; now = x })) under) ∙ found.first.here;
+          ∙ ap (λ (u : ℕ). f (record { number = length found.below; top = u + x.height; now = x })) under) ∙ found.first.here;
       behind =
           found.first.behind
           ∙ ap (λ (n : ℕ). found.first.more ++ flat_map f (standing_from (n + 1) (found.under + x.height) found.above)) place

@@ -26,7 +26,7 @@ change_at to arrays below above x are = ap (λ (xs : List ArrayNow). change (len
 
 pub resync_done : (s : State) (p : Progress) (w : Work) (rest more : List Work) → flat_map resyncs (standing p.arrays.items) ≡ w ∷ more →
     rest ≡ in_order more (flat_map (rebuilds s) (standing p.arrays.items)) (flat_map (growths s) (standing p.arrays.items))
-      (makes s p.arrays.items) (extends s p) (closes s) →
+    (makes s p.arrays.items) (extends s p) (closes s) →
     left_after w s p ≡ rest
 resync_done s p w rest more e behind =
     let found = first_at resyncs p.arrays.items w more e in
@@ -39,9 +39,9 @@ resync_done s p w rest more e behind =
     refl refl
     (head_gone resyncs found.below found.above x y found.more refl found.quiet (sym copy.1) ∙ sym found.behind)
     (swapped (rebuilds s) found.below found.above x y refl refl
-      ∙ sym (ap (λ (xs : List ArrayNow). flat_map (rebuilds s) (standing xs)) found.arrays_are))
+    ∙ sym (ap (λ (xs : List ArrayNow). flat_map (rebuilds s) (standing xs)) found.arrays_are))
     (swapped (growths s) found.below found.above x y refl refl
-      ∙ sym (ap (λ (xs : List ArrayNow). flat_map (growths s) (standing xs)) found.arrays_are)) in
+    ∙ sym (ap (λ (xs : List ArrayNow). flat_map (growths s) (standing xs)) found.arrays_are)) in
     ap (λ (v : Work). left_after v s p) copy.0
     ∙ ap (λ (xs : List ArrayNow). works_left s (put p xs)) news ∙ done ∙ sym behind
 
@@ -52,27 +52,26 @@ first_rebuild None below x w more e = cc
 first_rebuild (Some place) below x w more e =
     ⊎_elim
     (λ (yes : (x.rebuilding == place) ≡ true).
-      let copy = first_copy x.rebuild (Rebuild (length below) place) w more (rw yes at e) in
-      let v = Rebuild (length below) place in
-      (
-        place,
-        copy.0,
-        ⊎_elim
-        (λ (last : (x.rebuild == 1) ≡ true).
+    let copy = first_copy x.rebuild (Rebuild (length below) place) w more (rw yes at e) in
+    let v = Rebuild (length below) place in (
+      place,
+      copy.0,
+      ⊎_elim
+          (λ (last : (x.rebuild == 1) ≡ true).
           let none : x.rebuild - 1 ≡ 0 = omega (arith, eqb-true x.rebuild 1 last) in
           let empty : more ≡ [] = copy.1 ∙ ap (λ (n : ℕ). replicate n v) none in
           rw last
           (ap (λ (n : ℕ). if 0 == place then replicate n v else []) none
-            ∙ cond_both (0 == place) [] [] (λ ws. ws ≡ []) (λ h. refl) (λ h. refl) ∙ sym empty))
-        (λ (other : (x.rebuild == 1) ≡ false). rw (other, yes) (sym copy.1))
-        (cases_Bool (x.rebuild == 1)),
-      ))
+          ∙ cond_both (0 == place) [] [] (λ ws. ws ≡ []) (λ h. refl) (λ h. refl) ∙ sym empty))
+          (λ (other : (x.rebuild == 1) ≡ false). rw (other, yes) (sym copy.1))
+          (cases_Bool (x.rebuild == 1)),
+    ))
     (λ (no : (x.rebuilding == place) ≡ false). cc (rw no at e))
     (cases_Bool (x.rebuilding == place))
 
 pub rebuild_done : (s : State) (p : Progress) (w : Work) (rest more : List Work) → flat_map (rebuilds s) (standing p.arrays.items) ≡ w ∷ more →
     rest ≡ in_order (flat_map resyncs (standing p.arrays.items)) more (flat_map (growths s) (standing p.arrays.items))
-      (makes s p.arrays.items) (extends s p) (closes s) →
+    (makes s p.arrays.items) (extends s p) (closes s) →
     left_after w s p ≡ rest
 rebuild_done s p w rest more e behind =
     let found = first_at (rebuilds s) p.arrays.items w more e in
@@ -83,9 +82,9 @@ rebuild_done s p w rest more e behind =
     let done = array_done s p found.below found.above x y _ more _ found.arrays_are refl
     refl refl
     (swapped resyncs found.below found.above x y refl refl
-      ∙ sym (ap (λ (xs : List ArrayNow). flat_map resyncs (standing xs)) found.arrays_are))
+    ∙ sym (ap (λ (xs : List ArrayNow). flat_map resyncs (standing xs)) found.arrays_are))
     (head_gone (rebuilds s) found.below found.above x y found.more refl found.quiet row.2 ∙ sym found.behind)
     (swapped (growths s) found.below found.above x y refl refl
-      ∙ sym (ap (λ (xs : List ArrayNow). flat_map (growths s) (standing xs)) found.arrays_are)) in
+    ∙ sym (ap (λ (xs : List ArrayNow). flat_map (growths s) (standing xs)) found.arrays_are)) in
     ap (λ (v : Work). left_after v s p) row.1
     ∙ ap (λ (xs : List ArrayNow). works_left s (put p xs)) news ∙ done ∙ sym behind

@@ -82,11 +82,11 @@ zero_done s p w more young e =
     rw young (ap (λ (z : ℕ). zeros s.joined z) rows ∙ ap (λ (ws : List Work). ws ++ Ready s.joined ∷ []) (sym copy.1)) in
     let done = array_done_with s p split.below split.above x y _ _ _ (more ++ Ready s.joined ∷ []) split.arrays_are refl made refl
     (swapped resyncs split.below split.above x y refl refl
-      ∙ sym (ap (λ (xs : List ArrayNow). flat_map resyncs (standing xs)) split.arrays_are))
+    ∙ sym (ap (λ (xs : List ArrayNow). flat_map resyncs (standing xs)) split.arrays_are))
     (swapped (rebuilds s) split.below split.above x y refl refl
-      ∙ sym (ap (λ (xs : List ArrayNow). flat_map (rebuilds s) (standing xs)) split.arrays_are))
+    ∙ sym (ap (λ (xs : List ArrayNow). flat_map (rebuilds s) (standing xs)) split.arrays_are))
     (swapped (growths s) split.below split.above x y refl refl
-      ∙ sym (ap (λ (xs : List ArrayNow). flat_map (growths s) (standing xs)) split.arrays_are)) in
+    ∙ sym (ap (λ (xs : List ArrayNow). flat_map (growths s) (standing xs)) split.arrays_are)) in
     ap (λ (v : Work). left_after v s p) copy.0
     ∙ ap (λ (i : ℕ). works_left s (put p (change i to arrays))) (sym split.count)
     ∙ ap (λ (xs : List ArrayNow). works_left s (put p xs)) news ∙ done

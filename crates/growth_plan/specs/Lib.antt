@@ -4,3 +4,4 @@ pub mod Works
 pub mod Doing
 pub mod Admission
 pub mod Tally
+pub mod Sound

@@ -102,7 +102,12 @@ pub fn admit_add(state: &State, progress: &Progress, units: u64) -> Result<(), A
 }
 
 /// Whether a drive of so many units may take the part of the drive at a place.
-pub fn admit_replace(state: &State, progress: &Progress, place: u32, units: u64) -> Result<(), AdmitFault>
+pub fn admit_replace(
+    state: &State,
+    progress: &Progress,
+    place: u32,
+    units: u64,
+) -> Result<(), AdmitFault>
     requires book { IsBook state.now progress.now }
     requires listed { place < length state.now.drives.items }
     requires small { units < 2 ^ 41 }

@@ -34,7 +34,12 @@ fn append_resyncs(tally: &mut Tally, arrays: &[ArrayNow])
 {
     for (number, array) in arrays.iter().enumerate() {
         let array_number = number as u32;
-        tally.append(Work::Resync { array: array_number }, array.resync);
+        tally.append(
+            Work::Resync {
+                array: array_number,
+            },
+            array.resync,
+        );
     }
 }
 

@@ -10,5 +10,5 @@ returns-clause-done c =
     let s = c.args.state.now in
     let p = c.args.progress.now in
     subst (λ (first : Option Work). IfSome first (λ work. HasOneLayer s p.arrays.items →
-      works_left (after work s p).state (after work s p).progress ≡ drop 1 (works_left s p)))
+    works_left (after work s p).state (after work s p).progress ≡ drop 1 (works_left s p)))
     (sym c.tally.ensures.first) (first_done s p c.requires)

@@ -16,8 +16,13 @@ overflow_add-top c =
     let below = height_below arrays c.loop-array.array-index c.array-item.result c.loop-array.top
     c.loop-array-test.true c.array-item.is c.loop-array.invariant.level in
     let same = ap (λ (xs : List ArrayNow). height_of xs) c.as_slice-array-items.ensures.value in
-    omega (arith, below, same, height_small c.args.progress.now.arrays.items
-      (omega (arith, c.requires.made, (few_arrays c.args.state.now c.requires.valid).0)) c.requires.small)
+    omega (
+      arith,
+      below,
+      same,
+      height_small c.args.progress.now.arrays.items
+          (omega (arith, c.requires.made, (few_arrays c.args.state.now c.requires.valid).0)) c.requires.small,
+    )
 
 pub loop-array-preserved : goal.loop-array-preserved
 loop-array-preserved c =
@@ -32,15 +37,15 @@ loop-array-preserved c =
       offered =
           c.push.ensures.items
           ∙ ap (λ (e : ℕ). c.loop-array.extents.items ++ e ∷ [])
-            (c.extents_at_end.ensures.value ∙ ap (λ (l : ℕ). extents_at_end s (record { number = 0; top = l + x.height; now = x })) level)
+          (c.extents_at_end.ensures.value ∙ ap (λ (l : ℕ). extents_at_end s (record { number = 0; top = l + x.height; now = x })) level)
           ∙ ap (λ (es : List ℕ). es ++ extents_at_end s here ∷ []) c.loop-array.invariant.offered
           ∙ sym (ap (λ (xs : List Standing). map (extents_at_end s) xs) (standing-more arrays i x c.loop-array-test.true c.array-item.is)
-            ∙ map-append (extents_at_end s) before (here ∷ []));
+          ∙ map-append (extents_at_end s) before (here ∷ []));
       level = height_more arrays i x c.loop-array.top c.loop-array-test.true c.array-item.is level;
       count = omega (arith, c.loop-array.invariant.count, c.push.ensures.len);
       small = subst (λ (es : List ℕ). All (λ extents. extents < 2 ^ 57) es) (sym c.push.ensures.items)
           (All-push (λ extents. extents < 2 ^ 57) c.loop-array.extents.items c.extents_at_end.result c.loop-array.invariant.small
-            c.extents_at_end.ensures.small);
+          c.extents_at_end.ensures.small);
     }
 
 pub returns-in-Some-clause-small : goal.returns-in-Some-clause-small
@@ -55,10 +60,24 @@ returns-in-Some-clause-small c =
     subst (λ (es : List ℕ). All (λ e. e < 2 ^ 57) es) (sym c.push-in-Some.ensures.items)
     (All-push (λ e. e < 2 ^ 57) c.loop-array.extents.items c.in-Some.layer.extents c.loop-array.invariant.small extents) in
     sum_small c.push-in-Some.new.self.items
-    (omega (arith, count, length-append c.loop-array.extents.items (c.in-Some.layer.extents ∷ []), c.loop-array.invariant.count, c.loop-array.auto,
-        ap (λ (xs : List ArrayNow). length xs) c.as_slice-array-items.ensures.value, c.requires.made, is.1)) all
+    (omega (
+      arith,
+      count,
+      length-append c.loop-array.extents.items (c.in-Some.layer.extents ∷ []),
+      c.loop-array.invariant.count,
+      c.loop-array.auto,
+      ap (λ (xs : List ArrayNow). length xs) c.as_slice-array-items.ensures.value,
+      c.requires.made,
+      is.1,
+    )) all
 
 pub returns-in_default-clause-small : goal.returns-in_default-clause-small
 returns-in_default-clause-small c =
-    sum_small c.loop-array.extents.items (omega (arith, c.loop-array.invariant.count, c.loop-array.auto,
-        ap (λ (xs : List ArrayNow). length xs) c.as_slice-array-items.ensures.value, c.requires.made, (few_arrays c.args.state.now c.requires.valid).0)) c.loop-array.invariant.small
+    sum_small c.loop-array.extents.items (omega (
+      arith,
+      c.loop-array.invariant.count,
+      c.loop-array.auto,
+      ap (λ (xs : List ArrayNow). length xs) c.as_slice-array-items.ensures.value,
+      c.requires.made,
+      (few_arrays c.args.state.now c.requires.valid).0,
+    )) c.loop-array.invariant.small

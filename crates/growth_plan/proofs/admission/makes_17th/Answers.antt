@@ -11,5 +11,5 @@ returns c =
     let yes : nat_le 16 c.args.state.now.made ≡ true = le-leb 16 c.args.state.now.made (omega (arith, c.if-state-lt-MOST.false)) in
     rw yes
     (c.is_some.ensures ∙ ap (λ (o : Option Layer). is_some o) c.layer_above.ensures
-      ∙ ap (λ (level : ℕ). is_some (layer_above c.args.units.now level)) c.height_of.ensures
-      ∙ ap (λ (arrays : List ArrayNow). is_some (layer_above c.args.units.now (height_of arrays))) c.deref.ensures.0)
+    ∙ ap (λ (level : ℕ). is_some (layer_above c.args.units.now level)) c.height_of.ensures
+    ∙ ap (λ (arrays : List ArrayNow). is_some (layer_above c.args.units.now (height_of arrays))) c.deref.ensures.0)

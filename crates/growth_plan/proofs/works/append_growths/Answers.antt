@@ -25,8 +25,8 @@ loop-number-preserved c =
           c.args.tally.now c.loop-number.tally c.append_growth.new.tally
           c.loop-number-test.true c.index-arrays-number.is c.loop-number.invariant.appended
           (appends_same c.loop-number.tally c.append_growth.new.tally _ _ c.append_growth.ensures
-            (ap (λ (place : Option ℕ). growths_by place here) c.joining.ensures
-              ∙ ap (λ (level : ℕ). growths_by (joining c.args.state.now (record { number = 0; top = level + x.height; now = x })) here)
-              c.loop-number.invariant.level));
+          (ap (λ (place : Option ℕ). growths_by place here) c.joining.ensures
+          ∙ ap (λ (level : ℕ). growths_by (joining c.args.state.now (record { number = 0; top = level + x.height; now = x })) here)
+          c.loop-number.invariant.level));
       level = height_more c.args.arrays.now c.loop-number.number x c.loop-number.top c.loop-number-test.true c.index-arrays-number.is c.loop-number.invariant.level;
     }

@@ -11,4 +11,4 @@ loop-number-preserved c =
     c.args.tally.now c.loop-number.tally c.append_rebuild.new.tally
     c.loop-number-test.true c.index-arrays-number.is c.loop-number.invariant
     (appends_same c.loop-number.tally c.append_rebuild.new.tally _ _ c.append_rebuild.ensures
-      (ap (λ (place : Option ℕ). rebuilds_on place here) c.rebuilt-rebuilt.ensures))
+    (ap (λ (place : Option ℕ). rebuilds_on place here) c.rebuilt-rebuilt.ensures))
