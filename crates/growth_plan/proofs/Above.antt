@@ -40,9 +40,9 @@ pub record IsTwo (level : ℕ) (xs : List ℕ) : Type 0 where
   pub sum : excess level xs ≡ (cut - level) + (greatest xs - level)
 
 pub data Few (level : ℕ) (xs : List ℕ) : Type 0 where
-  pub none : IsNone level xs → Few level xs
-  pub one : IsOne level xs → Few level xs
-  pub two : IsTwo level xs → Few level xs
+  none : IsNone level xs → Few level xs
+  one : IsOne level xs → Few level xs
+  two : IsTwo level xs → Few level xs
 
 yes_count : (level x : ℕ) (xs : List ℕ) → level < x → count_above level (x ∷ xs) ≡ 1 + count_above level xs
 yes_count level x xs h =
@@ -55,12 +55,12 @@ no_count level x xs h =
     let step : count_above level (x ∷ xs) ≡ 0 + count_above level xs =
     sum_by-cons (λ y. cond (nat_lt level y) 1 0) x xs ∙ ap (λ b. cond b 1 0 + count_above level xs) no in omega (arith, step)
 
-yes_least : (level x : ℕ) (xs : List ℕ) (o : Option ℕ) → level < x → least_above level xs ≡ o →
+pub yes_least : (level x : ℕ) (xs : List ℕ) (o : Option ℕ) → level < x → least_above level xs ≡ o →
     least_above level (x ∷ xs) ≡ Some (option_map_or (λ least. min x least) o x)
 yes_least level x xs o h e =
     let yes : nat_lt level x ≡ true = lt-ltb level x h in rw yes (ap (λ (p : Option ℕ). Some (option_map_or (λ least. min x least) p x)) e)
 
-no_least : (level x : ℕ) (xs : List ℕ) → x ≤ level → least_above level (x ∷ xs) ≡ least_above level xs
+pub no_least : (level x : ℕ) (xs : List ℕ) → x ≤ level → least_above level (x ∷ xs) ≡ least_above level xs
 no_least level x xs h = let no : nat_lt level x ≡ false = le-ltb level x h in rw no
 
 below : (level x : ℕ) (xs : List ℕ) → x ≤ level → Few level xs → Few level (x ∷ xs)

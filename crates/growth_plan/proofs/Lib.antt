@@ -16,3 +16,6 @@ pub mod Done
 pub mod Above
 pub mod Held
 pub mod Sums
+pub mod Greatest
+pub mod Best
+pub mod Kept

@@ -27,7 +27,7 @@ reaching_count units level =
     ∙ sum_by_place (λ own. cond (nat_le level own) 1 0) units
 
 -- sums of what agrees everywhere
-agree : (f g : Standing → ℕ) (xs : List Standing) → All (λ x. f x ≡ g x) xs → sum_by f xs ≡ sum_by g xs
+pub agree : (f g : Standing → ℕ) (xs : List Standing) → All (λ x. f x ≡ g x) xs → sum_by f xs ≡ sum_by g xs
 agree f g [] all = refl
 agree f g (x ∷ xs) all =
     omega (arith, sum_by-cons f x xs, sum_by-cons g x xs, All-head (λ y. f y ≡ g y) x xs all, agree f g xs (All-tail (λ y. f y ≡ g y) x xs all))

@@ -10,9 +10,12 @@
 //! each answers for every book, also for one whose parts disagree.
 #![tactic(auto)]
 
-ghost use Rattle.std.specs.Prelude.{◌≡◌, ℕ, ◌+◌, ◌-◌, ◌*◌, ◌^◌, ◌<◌, ◌≤◌, length, drop, slice_get, sum, IfSome};
+ghost use Rattle.std.specs.Prelude.{◌≡◌, ℕ, ◌+◌, ◌-◌, ◌*◌, ◌^◌, ◌<◌, ◌≤◌, length, drop, slice_get, slice_index, sum, IfSome};
+ghost use Rattle.growth_plan.specs.declared.ArrayNow.{ArrayNow};
 ghost use Rattle.std.specs.Result.{result_err};
-ghost use Rattle.growth_plan.specs.Book.{IsBook};
+ghost use Rattle.layer_plan.specs.Slicing.{IsBest};
+ghost use Rattle.growth_plan.specs.Book.{IsBook, units_of};
+ghost use Rattle.growth_plan.specs.Sound.{IsSoundBook};
 ghost use Rattle.growth_plan.specs.Target.{targets};
 ghost use Rattle.growth_plan.specs.Works.{works_left};
 ghost use Rattle.growth_plan.specs.Doing.{after, HasOneLayer};
@@ -156,6 +159,11 @@ pub fn target(state: &State, progress: &Progress) -> ArrayVec<u64, 16>
     requires { IsBook state.now progress.now }
     ensures extents { result.items ≡ targets state.now progress.now.arrays.items }
     ensures small { sum result.items < 2 ^ 64 }
+    // An array offers no less than it does now.
+    ensures kept { (number : ℕ) (now : ArrayNow) → slice_get progress.now.arrays.items number ≡ Some now →
+        (length now.members.items - 1) * now.height ≤ slice_index result.items number }
+    // Where the parts of the book agree, no slicing of all drives into redundant arrays offers more.
+    ensures greatest { IsSoundBook state.now progress.now → IsBest (units_of state.now) (sum result.items) }
 {
     let mut extents = ArrayVec::new();
     let mut top = 0;

@@ -4,6 +4,7 @@ ghost use Rattle.std.specs.Prelude.{◌≡◌, ℕ, ◌+◌, ◌++◌, ◌^◌, 
 ghost use Rattle.std.specs.List.{flat_map};
 ghost use Rattle.pool_state.specs.Valid.{has_places};
 ghost use Rattle.growth_plan.specs.Book.{IsBook, IsSmall, standing};
+ghost use Rattle.growth_plan.specs.Target.{targets};
 ghost use Rattle.growth_plan.specs.Tally.{IsTally, Appends};
 ghost use Rattle.growth_plan.specs.Works.{resyncs, rebuilt, rebuilds_on, rebuilds, reshapes, joins, growths_by, growths, is_mirror, rows_of, zeros, makes, extends, closes, works_left};
 
@@ -179,7 +180,7 @@ fn append_end(tally: &mut Tally, state: &State, progress: &Progress)
     requires { IsBook state.now progress.now }
     ensures { Appends tally.old tally.new (extends state.now progress.now ++ closes state.now) }
 {
-    if progress.extents < total(&target(state, progress)) {
+    if progress.extents < extents_at_end(state, progress) {
         tally.append(Work::Extend, 1);
     }
     if planned(&state.plan).is_some() {
@@ -187,9 +188,10 @@ fn append_end(tally: &mut Tally, state: &State, progress: &Progress)
     }
 }
 
-fn total(extents: &[u64]) -> u64
-    requires { sum extents.now < 2 ^ 64 }
-    ensures { result ≡ sum extents.now }
+/// The extents of the volume at the plan's end.
+fn extents_at_end(state: &State, progress: &Progress) -> u64
+    requires { IsBook state.now progress.now }
+    ensures { result ≡ sum (targets state.now progress.now.arrays.items) }
 {
-    extents.iter().sum()
+    target(state, progress).as_slice().iter().sum()
 }

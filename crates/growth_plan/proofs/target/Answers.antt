@@ -1,13 +1,17 @@
-use Rattle.std.proofs.Common.{◌≡◌, ℕ, ◌+◌, ◌<◌, ◌^◌, List, [], ◌∷◌, ◌++◌, map, take, length, sum, All, ap, sym, ◌∙◌, arith, subst}
+use Rattle.std.proofs.Common.{◌≡◌, ℕ, ◌-◌, ◌*◌, ◌≤◌, slice_index, ◌+◌, ◌<◌, ◌^◌, List, [], ◌∷◌, ◌++◌, map, take, length, sum, All, ap, sym, ◌∙◌, arith, subst, take_all, Option, Some, None, append-nil}
 use Rattle.std.proofs.lemmas.List.Elements.{All-push}
 use Rattle.std.proofs.lemmas.List.{map-append, length-append}
+use Rattle.std.specs.Option.{option_map_or}
+use Rattle.layer_plan.specs.Slicing.{IsBest}
 use Rattle.layer_plan.specs.declared.Layer.{Layer}
 use Rattle.growth_plan.specs.declared.ArrayNow.{ArrayNow}
 use Rattle.growth_plan.specs.Book.{Standing, standing, height_of, units_of}
-use Rattle.growth_plan.specs.Target.{extents_at_end}
+use Rattle.growth_plan.specs.Target.{extents_at_end, targets}
 use Rattle.growth_plan.proofs.Books.{height_small, height_below, height_more, sum_small, units_small, few_arrays}
 use Rattle.growth_plan.proofs.Standings.{standing-more}
 use Rattle.growth_plan.proofs.NewLayer.{new_layer_is, layer_extents}
+use Rattle.growth_plan.proofs.Best.{targets_best}
+use Rattle.growth_plan.proofs.Kept.{kept}
 use Rattle.growth_plan.proofs.target.Goals as goal
 
 pub overflow_add-top : goal.overflow_add-top
@@ -48,8 +52,8 @@ loop-array-preserved c =
           c.extents_at_end.ensures.small);
     }
 
-pub returns-in-Some-clause-small : goal.returns-in-Some-clause-small
-returns-in-Some-clause-small c =
+pub returns-in-Some : goal.returns-in-Some
+returns-in-Some c =
     let s = c.args.state.now in
     let arrays = c.args.progress.now.arrays.items in
     let room = few_arrays s c.requires.valid in
@@ -59,7 +63,17 @@ returns-in-Some-clause-small c =
     let all : All (λ e. e < 2 ^ 57) c.push-in-Some.new.self.items =
     subst (λ (es : List ℕ). All (λ e. e < 2 ^ 57) es) (sym c.push-in-Some.ensures.items)
     (All-push (λ e. e < 2 ^ 57) c.loop-array.extents.items c.in-Some.layer.extents c.loop-array.invariant.small extents) in
-    sum_small c.push-in-Some.new.self.items
+    let p = c.args.progress.now in
+    let layer = c.in-Some.layer in
+    let same = take_all c.loop-array.array-index c.as_slice-array-items.result.now c.loop-array-test.false ∙ c.as_slice-array-items.ensures.value in
+    let are : c.push-in-Some.new.self.items ≡ targets s arrays =
+    c.push-in-Some.ensures.items ∙ ap (λ (es : List ℕ). es ++ layer.extents ∷ []) c.loop-array.invariant.offered
+    ∙ ap (λ (xs : List ArrayNow). map (extents_at_end s) (standing xs) ++ layer.extents ∷ []) same
+    ∙ ap (λ (o : Option Layer). map (extents_at_end s) (standing arrays) ++ option_map_or (λ l. l.extents ∷ []) o [])
+      (sym (sym c.new_layer.ensures ∙ c.in-Some.is)) in
+    record {
+      extents = are;
+      small = sum_small c.push-in-Some.new.self.items
     (omega (
       arith,
       count,
@@ -69,15 +83,32 @@ returns-in-Some-clause-small c =
       ap (λ (xs : List ArrayNow). length xs) c.as_slice-array-items.ensures.value,
       c.requires.made,
       is.1,
-    )) all
+    )) all;
+      kept = λ number now there. subst (λ (es : List ℕ). (length now.members.items - 1) * now.height ≤ slice_index es number) (sym are) (kept s arrays number now there);
+      greatest = λ sound. subst (λ (es : List ℕ). IsBest (units_of s) (sum es)) (sym are) (targets_best s p c.requires sound);
+    }
 
-pub returns-in_default-clause-small : goal.returns-in_default-clause-small
-returns-in_default-clause-small c =
-    sum_small c.loop-array.extents.items (omega (
+pub returns-in_default : goal.returns-in_default
+returns-in_default c =
+    let s = c.args.state.now in
+    let p = c.args.progress.now in
+    let arrays = p.arrays.items in
+    let same = take_all c.loop-array.array-index c.as_slice-array-items.result.now c.loop-array-test.false ∙ c.as_slice-array-items.ensures.value in
+    let ends = map (extents_at_end s) (standing arrays) in
+    let are : c.loop-array.extents.items ≡ targets s arrays =
+    c.loop-array.invariant.offered ∙ ap (λ (xs : List ArrayNow). map (extents_at_end s) (standing xs)) same
+    ∙ sym (append-nil ends)
+    ∙ ap (λ (o : Option Layer). ends ++ option_map_or (λ l. l.extents ∷ []) o []) (sym (sym c.new_layer.ensures ∙ c.in_default.is)) in
+    record {
+      extents = are;
+      small = sum_small c.loop-array.extents.items (omega (
       arith,
       c.loop-array.invariant.count,
       c.loop-array.auto,
       ap (λ (xs : List ArrayNow). length xs) c.as_slice-array-items.ensures.value,
       c.requires.made,
       (few_arrays c.args.state.now c.requires.valid).0,
-    )) c.loop-array.invariant.small
+    )) c.loop-array.invariant.small;
+      kept = λ number now there. subst (λ (es : List ℕ). (length now.members.items - 1) * now.height ≤ slice_index es number) (sym are) (kept s arrays number now there);
+      greatest = λ sound. subst (λ (es : List ℕ). IsBest (units_of s) (sum es)) (sym are) (targets_best s p c.requires sound);
+    }
