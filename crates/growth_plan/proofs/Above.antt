@@ -1,8 +1,7 @@
 -- What drives have above a level, where at most two reach so far.
-use Rattle.std.proofs.Common.{◌≡◌, ◌⊎◌, ℕ, zero, suc, ◌+◌, ◌-◌, ◌<◌, ◌≤◌, List, [], ◌∷◌, length, max, min, sum_by, count_by, cond, Option, Some, None, All, Contains, true, false, nat_lt, nat_le, if◌then◌else◌, inl, inr, refl, sym, ap, subst, ◌∙◌, arith, ⊎_elim}
+use Rattle.std.proofs.Common.{◌≡◌, ℕ, ◌+◌, ◌-◌, ◌<◌, ◌≤◌, List, [], ◌∷◌, max, min, sum_by, count_by, cond, Option, Some, None, Contains, true, false, nat_lt, refl, ap, subst, ◌∙◌, arith, ⊎_elim}
 use Rattle.std.specs.Option.{option_map_or}
-use Rattle.std.proofs.lemmas.Bool.{cases_lt, lt-ltb, le-ltb, le-leb, lt-leb}
-use Rattle.std.proofs.lemmas.List.Elements.{All-nil, All-cons, All-head, All-tail, All-weaker}
+use Rattle.std.proofs.lemmas.Bool.{cases_lt, lt-ltb, le-ltb}
 use Rattle.std.proofs.lemmas.List.Sums.{sum_by-cons}
 use Rattle.layer_plan.proofs.CutPoints.{contains_first, contains_later}
 use Rattle.growth_plan.specs.Target.{least_above}
@@ -66,33 +65,46 @@ no_least level x xs h = let no : nat_lt level x ≡ false = le-ltb level x h in 
 below : (level x : ℕ) (xs : List ℕ) → x ≤ level → Few level xs → Few level (x ∷ xs)
 below level x xs h (none f) =
     none (record {
-      count = no_count level x xs h ∙ f.count; least = no_least level x xs h ∙ f.least;
-      most = omega (arith, f.most); sum = omega (arith, sum_by-cons (λ y. y - level) x xs, f.sum);
+      count = no_count level x xs h ∙ f.count;
+      least = no_least level x xs h ∙ f.least;
+      most = omega (arith, f.most);
+      sum = omega (arith, sum_by-cons (λ y. y - level) x xs, f.sum);
     })
 below level x xs h (one f) =
     let same : greatest xs ≡ greatest (x ∷ xs) = omega (arith, f.most) in
     one (record {
-      count = no_count level x xs h ∙ f.count; least = no_least level x xs h ∙ f.least ∙ ap Some same;
-      most = omega (arith, f.most, same); sum = omega (arith, sum_by-cons (λ y. y - level) x xs, f.sum, same);
+      count = no_count level x xs h ∙ f.count;
+      least = no_least level x xs h ∙ f.least ∙ ap Some same;
+      most = omega (arith, f.most, same);
+      sum = omega (arith, sum_by-cons (λ y. y - level) x xs, f.sum, same);
     })
 below level x xs h (two f) =
     let same : greatest xs ≡ greatest (x ∷ xs) = omega (arith, f.most, f.above) in
     two (record {
-      cut = f.cut; count = no_count level x xs h ∙ f.count; least = no_least level x xs h ∙ f.least; above = f.above;
-      most = omega (arith, f.most, same); sum = omega (arith, sum_by-cons (λ y. y - level) x xs, f.sum, same);
+      cut = f.cut;
+      count = no_count level x xs h ∙ f.count;
+      least = no_least level x xs h ∙ f.least;
+      above = f.above;
+      most = omega (arith, f.most, same);
+      sum = omega (arith, sum_by-cons (λ y. y - level) x xs, f.sum, same);
     })
 
 beyond : (level x : ℕ) (xs : List ℕ) → level < x → count_above level (x ∷ xs) ≤ 2 → Few level xs → Few level (x ∷ xs)
 beyond level x xs h few (none f) =
     let same : x ≡ greatest (x ∷ xs) = omega (arith, f.most) in
     one (record {
-      count = omega (arith, yes_count level x xs h, f.count); least = yes_least level x xs None h f.least ∙ ap Some same;
-      most = omega (arith, same); sum = omega (arith, sum_by-cons (λ y. y - level) x xs, f.sum, same);
+      count = omega (arith, yes_count level x xs h, f.count);
+      least = yes_least level x xs None h f.least ∙ ap Some same;
+      most = omega (arith, same);
+      sum = omega (arith, sum_by-cons (λ y. y - level) x xs, f.sum, same);
     })
 beyond level x xs h few (one f) =
     two (record {
-      cut = min x (greatest xs); count = omega (arith, yes_count level x xs h, f.count);
-      least = yes_least level x xs (Some (greatest xs)) h f.least; above = omega (arith, f.most); most = omega arith;
+      cut = min x (greatest xs);
+      count = omega (arith, yes_count level x xs h, f.count);
+      least = yes_least level x xs (Some (greatest xs)) h f.least;
+      above = omega (arith, f.most);
+      most = omega arith;
       sum = omega (arith, sum_by-cons (λ y. y - level) x xs, f.sum, f.most);
     })
 beyond level x xs h few (two f) = absurd (omega (arith, yes_count level x xs h, f.count))
@@ -119,8 +131,8 @@ greatest_is_one x [] =
 greatest_is_one x (y ∷ ys) =
     ⊎_elim
     (λ (h : x < greatest (y ∷ ys)).
-      let same : greatest (y ∷ ys) ≡ greatest (x ∷ y ∷ ys) = omega arith in
-      subst (λ (k : ℕ). Contains (x ∷ y ∷ ys) k) same (contains_later x (greatest (y ∷ ys)) (y ∷ ys) (greatest_is_one y ys)))
+    let same : greatest (y ∷ ys) ≡ greatest (x ∷ y ∷ ys) = omega arith in
+    subst (λ (k : ℕ). Contains (x ∷ y ∷ ys) k) same (contains_later x (greatest (y ∷ ys)) (y ∷ ys) (greatest_is_one y ys)))
     (λ (h : greatest (y ∷ ys) ≤ x).
-      let same : x ≡ greatest (x ∷ y ∷ ys) = omega arith in subst (λ (k : ℕ). Contains (x ∷ y ∷ ys) k) same (contains_first x (y ∷ ys)))
+    let same : x ≡ greatest (x ∷ y ∷ ys) = omega arith in subst (λ (k : ℕ). Contains (x ∷ y ∷ ys) k) same (contains_first x (y ∷ ys)))
     (cases_lt x (greatest (y ∷ ys)))

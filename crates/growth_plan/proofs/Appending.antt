@@ -1,5 +1,5 @@
 -- Works that a tally takes in, one list behind the other.
-use Rattle.std.proofs.Common.{◌≡◌, ℕ, ◌+◌, ◌<◌, ◌≤◌, List, [], ◌∷◌, ◌++◌, length, get_or, take, refl, sym, ap, subst, ◌∙◌, arith, append_assoc, append-nil}
+use Rattle.std.proofs.Common.{◌≡◌, ℕ, ◌+◌, ◌<◌, List, [], ◌++◌, length, get_or, take, sym, subst, append_assoc, append-nil}
 use Rattle.std.specs.List.{flat_map}
 use Rattle.pool_state.specs.declared.contents.Work.{Work}
 use Rattle.growth_plan.specs.declared.ArrayNow.{ArrayNow}

@@ -1,14 +1,13 @@
 -- The arrays at the plan's end are a slicing that no other exceeds.
-use Rattle.std.proofs.Common.{◌≡◌, ◌⊎◌, ℕ, zero, suc, ◌+◌, ◌-◌, ◌*◌, ◌<◌, ◌≤◌, ◌++◌, List, [], ◌∷◌, length, map, sum, sum_by, get_or, Option, Some, None, All, Contains, Bool, true, false, ◌&&◌, nat_le, slice_index, if◌then◌else◌, refl, sym, ap, subst, ◌∙◌, arith, ⊎_elim, append-nil}
-use Rattle.std.specs.List.{range_with_len}
+use Rattle.std.proofs.Common.{◌≡◌, ℕ, ◌-◌, ◌*◌, ◌<◌, ◌≤◌, ◌++◌, List, [], ◌∷◌, length, map, sum, sum_by, get_or, Option, Some, None, All, Bool, true, ◌&&◌, nat_le, slice_index, if◌then◌else◌, refl, sym, ap, subst, ◌∙◌, arith, ⊎_elim, append-nil}
 use Rattle.std.specs.Option.{option_map_or}
 use Rattle.std.proofs.lemmas.Bool.{cases_lt, le-leb, lt-leb, leb-true, and_parts, cond-true, cond-false}
 use Rattle.std.proofs.lemmas.List.{get_or_default, length-map}
 use Rattle.std.proofs.lemmas.List.Elements.{All-map, All-push, All-weaker}
 use Rattle.std.proofs.lemmas.List.Sums.{sum_by-cons, sum_by-append}
 use Rattle.layer_plan.specs.declared.Layer.{Layer}
-use Rattle.layer_plan.specs.Layering.{places_reaching, array_of, layer_between}
-use Rattle.layer_plan.specs.Slicing.{Array, IsRedundant, IsSlicing, IsBest, has, height_on, load, array_capacity, slicing_capacity}
+use Rattle.layer_plan.specs.Layering.{places_reaching, array_of}
+use Rattle.layer_plan.specs.Slicing.{Array, IsRedundant, IsSlicing, IsBest, height_on, load, array_capacity, slicing_capacity}
 use Rattle.layer_plan.proofs.Reached.{has_range, distinct_range, inside_range}
 use Rattle.layer_plan.proofs.Sums.{sum_by-map, sum_by_agree}
 use Rattle.layer_plan.proofs.UpperBound.{within_bound}
@@ -18,13 +17,13 @@ use Rattle.pool_state.specs.Valid.{is_extent, has_places, is_valid}
 use Rattle.growth_plan.specs.declared.ArrayNow.{ArrayNow}
 use Rattle.growth_plan.specs.declared.Progress.{Progress}
 use Rattle.growth_plan.specs.Book.{IsBook, Standing, standing, units_of, height_of}
-use Rattle.growth_plan.specs.Target.{members_at_end, extents_at_end, new_layer, targets}
+use Rattle.growth_plan.specs.Target.{extents_at_end, new_layer, targets}
 use Rattle.growth_plan.specs.Sound.{IsSoundBook}
 use Rattle.growth_plan.proofs.Above.{greatest, greatest_is_one}
 use Rattle.growth_plan.proofs.Counts.{all_standing}
 use Rattle.growth_plan.proofs.Greatest.{targets_sum}
 use Rattle.growth_plan.proofs.Held.{taken, held, held_most, held_all}
-use Rattle.growth_plan.proofs.NewLayer.{IsLayerAbove, layer_is, new_layer_is}
+use Rattle.growth_plan.proofs.NewLayer.{layer_is, new_layer_is}
 use Rattle.growth_plan.proofs.Sums.{agree, reaching_count, members_count}
 
 -- an array over all drives that reach a level
@@ -60,7 +59,7 @@ load_standing s arrays place inside =
     let units = units_of s in
     sum_by-map (λ (a : Array). height_on a place) (array_at units) (standing arrays)
     ∙ sum_by_agree (λ x. height_on (array_at units x) place) (λ x. taken (slice_index units place) x) (standing arrays)
-      (λ x. height_reaching units x.top x.now.height place inside)
+    (λ x. height_reaching units x.top x.now.height place inside)
 
 pairs_at_end : (s : State) (p : Progress) → IsBook s p → IsSoundBook s p →
     All (λ x. 2 ≤ length (places_reaching (units_of s) x.top)) (standing p.arrays.items)
@@ -85,7 +84,7 @@ redundant_ends : (s : State) (p : Progress) → IsBook s p → IsSoundBook s p �
 redundant_ends s p book sound =
     All-map (IsRedundant (length (units_of s))) (array_at (units_of s)) (standing p.arrays.items)
     (All-weaker (λ (x : Standing). 2 ≤ length (places_reaching (units_of s) x.top)) (λ x. IsRedundant (length (units_of s)) (array_at (units_of s) x))
-      (λ x pair. redundant (units_of s) x.top x.now.height pair) (standing p.arrays.items) (pairs_at_end s p book sound))
+    (λ x pair. redundant (units_of s) x.top x.now.height pair) (standing p.arrays.items) (pairs_at_end s p book sound))
 
 slicing_by : (s : State) (p : Progress) (layer : Option Layer) → IsBook s p → IsSoundBook s p → new_layer s p.arrays.items ≡ layer →
     IsSlicing (units_of s) (map (array_at (units_of s)) (standing p.arrays.items) ++ made_by layer)
@@ -116,11 +115,11 @@ slicing_by s p (Some layer) book sound is =
           let below = load_standing s p.arrays.items place inside in
           ⊎_elim
           (λ (short : own < above.cut).
-            let none = cond-false {A = ℕ} (nat_le above.cut own) (above.cut - high) 0 (lt-leb above.cut own short) in
-            omega (arith, whole, last, taken_by, none, below, held_most own 0 0 p.arrays.items))
+          let none = cond-false {A = ℕ} (nat_le above.cut own) (above.cut - high) 0 (lt-leb above.cut own short) in
+          omega (arith, whole, last, taken_by, none, below, held_most own 0 0 p.arrays.items))
           (λ (long : above.cut ≤ own).
-            let all = cond-true {A = ℕ} (nat_le above.cut own) (above.cut - high) 0 (le-leb above.cut own long) in
-            omega (arith, whole, last, taken_by, all, below, above.above, held_all own 0 0 p.arrays.items (omega (arith, above.above))))
+          let all = cond-true {A = ℕ} (nat_le above.cut own) (above.cut - high) 0 (le-leb above.cut own long) in
+          omega (arith, whole, last, taken_by, all, below, above.above, held_all own 0 0 p.arrays.items (omega (arith, above.above))))
           (cases_lt own above.cut);
     }
 
@@ -156,8 +155,11 @@ some_drives s valid =
     let places = (and_parts (is_extent s.extent) _ valid).1 in
     let few = (and_parts (has_places s 0) _ places).0 in
     let drives = (and_parts (nat_le 2 (length s.drives.items) && nat_le (length s.drives.items) 16) _ few).0 in
-    omega (arith, leb-true 2 (length s.drives.items) (and_parts (nat_le 2 (length s.drives.items)) _ drives).0,
-      length-map {A = Drive} s.drives.items (λ drive. drive.units))
+    omega (
+      arith,
+      leb-true 2 (length s.drives.items) (and_parts (nat_le 2 (length s.drives.items)) _ drives).0,
+      length-map {A = Drive} s.drives.items (λ drive. drive.units),
+    )
 
 pub targets_best : (s : State) (p : Progress) → IsBook s p → IsSoundBook s p → IsBest (units_of s) (sum (targets s p.arrays.items))
 targets_best s p book sound =

@@ -1,5 +1,5 @@
 -- How large the numbers of a book are together.
-use Rattle.std.proofs.Common.{◌≡◌, ℕ, ◌+◌, ◌*◌, ◌^◌, ◌<◌, ◌≤◌, List, length, subst, get_or, take, drop, sum_by, true, ◌&&◌, zero, suc, sym, Option, Some, slice_get, nat_le, nat_lt, All, arith, ap, map, sum, ◌++◌, ◌∷◌, []}
+use Rattle.std.proofs.Common.{◌≡◌, ℕ, ◌+◌, ◌*◌, ◌^◌, ◌<◌, ◌≤◌, List, length, subst, get_or, take, true, ◌&&◌, zero, suc, sym, Some, slice_get, nat_le, nat_lt, All, arith, ap, sum, ◌∷◌, []}
 use Rattle.std.specs.Int.{is_power_of_two}
 use Rattle.std.specs.List.{list_all}
 use Rattle.std.proofs.lemmas.Bool.{and_parts, ltb-true, leb-true}
@@ -8,7 +8,7 @@ use Rattle.std.proofs.lemmas.List.Sums.{sum_by-le, sum_by-cons, sum_by-append, s
 use Rattle.std.proofs.lemmas.List.Elements.{All-weaker, All-map, All-head, All-tail}
 use Rattle.pool_state.specs.declared.contents.Drive.{Drive}
 use Rattle.pool_state.specs.declared.contents.State.{State}
-use Rattle.pool_state.specs.Valid.{is_extent, has_places, has_arrays, has_epoch, is_drive, is_valid}
+use Rattle.pool_state.specs.Valid.{is_extent, has_places, has_arrays, is_drive, is_valid}
 use Rattle.growth_plan.specs.declared.ArrayNow.{ArrayNow}
 use Rattle.growth_plan.specs.Book.{IsSmall, height_of, units_of}
 

@@ -1,5 +1,5 @@
 -- The first work that is left, done: the rest of the list is left.
-use Rattle.std.proofs.Common.{◌≡◌, ◌⊎◌, ℕ, List, [], ◌∷◌, ◌++◌, drop, slice_get, Option, Some, None, IfSome, inl, inr, true, false, nat_lt, refl, sym, ap, ◌∙◌, arith, ⊎_elim}
+use Rattle.std.proofs.Common.{◌≡◌, List, [], ◌∷◌, ◌++◌, drop, slice_get, Option, Some, None, IfSome, inl, inr, true, false, nat_lt, refl, sym, ap, ◌∙◌, ⊎_elim}
 use Rattle.std.specs.List.{flat_map}
 use Rattle.std.specs.Option.{option_map_or}
 use Rattle.std.proofs.lemmas.Bool.{cases_Bool, cond-false}
@@ -8,11 +8,11 @@ use Rattle.pool_state.specs.declared.contents.State.{State}
 use Rattle.pool_state.specs.declared.contents.Work.{Work}
 use Rattle.pool_state.specs.declared.contents.Work.TheVariants.{Make}
 use Rattle.growth_plan.specs.declared.Progress.{Progress}
-use Rattle.growth_plan.specs.Book.{IsBook, Standing, standing}
+use Rattle.growth_plan.specs.Book.{IsBook, standing}
 use Rattle.growth_plan.specs.Target.{new_layer}
 use Rattle.growth_plan.specs.Works.{resyncs, rebuilds, growths, rows_of, zeros, makes, extends, closes, works_left}
 use Rattle.growth_plan.specs.Doing.{HasOneLayer}
-use Rattle.growth_plan.proofs.Heads.{in_order, in_order-same, IsFirstOf, first_part}
+use Rattle.growth_plan.proofs.Heads.{in_order-same, first_part}
 use Rattle.growth_plan.proofs.RowsDone.{left_after, resync_done, rebuild_done}
 use Rattle.growth_plan.proofs.GrowthDone.{growth_done}
 use Rattle.growth_plan.proofs.ZerosDone.{zero_at, after_makes, young_done}

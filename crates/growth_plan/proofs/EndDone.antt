@@ -1,5 +1,5 @@
 -- The volume is extended, or the plan is closed.
-use Rattle.std.proofs.Common.{◌≡◌, ℕ, zero, suc, ◌+◌, ◌-◌, ◌*◌, ◌<◌, List, [], ◌∷◌, ◌++◌, length, map, sum, Option, Some, None, is_some, true, false, nat_lt, if◌then◌else◌, refl, sym, ap, ◌∙◌, arith, ⊎_elim}
+use Rattle.std.proofs.Common.{◌≡◌, ℕ, ◌+◌, ◌-◌, ◌*◌, List, [], ◌∷◌, ◌++◌, length, map, sum, Option, Some, None, is_some, true, false, nat_lt, if◌then◌else◌, refl, sym, ap, ◌∙◌, arith, ⊎_elim}
 use Rattle.std.specs.List.{flat_map}
 use Rattle.std.specs.Option.{option_map_or}
 use Rattle.std.proofs.lemmas.Bool.{cases_Bool, cond-false, le-ltb}
@@ -7,12 +7,10 @@ use Rattle.pool_state.specs.declared.contents.Plan.TheVariants.{Nothing}
 use Rattle.pool_state.specs.declared.contents.State.{State}
 use Rattle.pool_state.specs.declared.contents.Work.{Work}
 use Rattle.pool_state.specs.declared.contents.Work.TheVariants.{TakeOver, Begin, Extend, Close}
-use Rattle.growth_plan.specs.declared.ArrayNow.{ArrayNow}
 use Rattle.growth_plan.specs.declared.Progress.{Progress}
 use Rattle.growth_plan.specs.Book.{Standing, standing, height_of}
 use Rattle.growth_plan.specs.Target.{planned, joining, extents_at_end, targets}
-use Rattle.growth_plan.specs.Works.{resyncs, rebuilds, reshapes, joins, growths, is_mirror, makes, extends, closes, works_left}
-use Rattle.growth_plan.specs.Doing.{after}
+use Rattle.growth_plan.specs.Works.{resyncs, rebuilds, reshapes, joins, growths, is_mirror, makes, extends, closes}
 use Rattle.growth_plan.proofs.Heads.{in_order, in_order-same, both_nil}
 use Rattle.growth_plan.proofs.OneArray.{targets_by}
 use Rattle.growth_plan.proofs.RowsDone.{left_after}

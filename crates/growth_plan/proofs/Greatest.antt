@@ -1,21 +1,20 @@
 -- On a book whose parts agree, what all arrays offer at the plan's end is the greatest capacity of the drives.
-use Rattle.std.proofs.Common.{◌≡◌, ◌⊎◌, ℕ, zero, suc, ◌+◌, ◌-◌, ◌*◌, ◌<◌, ◌≤◌, ◌||◌, ◌&&◌, ◌++◌, List, [], ◌∷◌, length, map, max, min, sum, sum_by, count_by, cond, get_or, Option, Some, None, All, Contains, true, false, nat_lt, nat_le, slice_index, if◌then◌else◌, inl, inr, refl, sym, ap, subst, ◌∙◌, arith, ⊎_elim, add-zero, append-nil}
+use Rattle.std.proofs.Common.{zero, suc, Contains, ◌≡◌, ◌⊎◌, ℕ, ◌+◌, ◌-◌, ◌*◌, ◌<◌, ◌≤◌, ◌||◌, ◌&&◌, ◌++◌, List, [], ◌∷◌, length, map, min, sum, sum_by, count_by, cond, Option, Some, None, All, true, false, nat_lt, nat_le, if◌then◌else◌, inl, inr, refl, sym, ap, subst, ◌∙◌, arith, ⊎_elim, add-zero, append-nil}
 use Rattle.std.specs.Option.{option_map_or, option_and_then}
 use Rattle.std.proofs.lemmas.Bool.{cases_Bool, cond_both, cases_lt, lt-ltb, le-ltb, le-leb, lt-leb, cond-true, cond-false, and_parts, leb-true}
-use Rattle.std.proofs.lemmas.List.{get_or_default}
 use Rattle.std.proofs.lemmas.List.Elements.{All-nil, All-cons, All-head, All-tail}
 use Rattle.std.proofs.lemmas.List.Sums.{sum_by-cons, sum_by-append}
 use Rattle.layer_plan.specs.declared.Layer.{Layer}
 use Rattle.layer_plan.specs.Layering.{places_reaching, layer_between, is_redundant}
-use Rattle.layer_plan.specs.Slicing.{IsBest}
 use Rattle.pool_state.specs.declared.contents.State.{State}
 use Rattle.pool_state.specs.Valid.{is_extent, has_places, has_arrays, is_valid}
 use Rattle.growth_plan.specs.declared.ArrayNow.{ArrayNow}
 use Rattle.growth_plan.specs.declared.Progress.{Progress}
 use Rattle.growth_plan.specs.Book.{IsBook, Standing, standing_from, standing, units_of, height_of}
 use Rattle.growth_plan.specs.Target.{members_at_end, extents_at_end, least_above, layer_above, new_layer, targets}
-use Rattle.growth_plan.specs.Doing.{HasOneLayer, top_at_end}
+use Rattle.growth_plan.specs.Doing.{HasOneLayer}
 use Rattle.growth_plan.specs.Sound.{IsSoundBook}
+use Rattle.growth_plan.proofs.Cuts.{least_is}
 use Rattle.growth_plan.proofs.Above.{greatest, count_above, excess, Few, none, one, two, few_above, parted_at, yes_least, no_least}
 use Rattle.growth_plan.proofs.Counts.{all_standing}
 use Rattle.growth_plan.proofs.Sums.{reaching_count, members_count, ends_sum}
@@ -31,11 +30,11 @@ least_from level cut [] h = All-nil (λ x. (x ≤ level) ⊎ (cut ≤ x))
 least_from level cut (x ∷ xs) h =
     ⊎_elim
     (λ (above : level < x).
-      let head = first_least level cut x xs (least_above level xs) above refl h in
-      All-cons (λ y. (y ≤ level) ⊎ (cut ≤ y)) x xs (inr head)
-      (least_from level cut xs (λ least e. omega (arith, h (min x least) (yes_least level x xs (Some least) above e)))))
+    let head = first_least level cut x xs (least_above level xs) above refl h in
+    All-cons (λ y. (y ≤ level) ⊎ (cut ≤ y)) x xs (inr head)
+    (least_from level cut xs (λ least e. omega (arith, h (min x least) (yes_least level x xs (Some least) above e)))))
     (λ (below : x ≤ level).
-      All-cons (λ y. (y ≤ level) ⊎ (cut ≤ y)) x xs (inl below) (least_from level cut xs (λ least e. h least (no_least level x xs below ∙ e))))
+    All-cons (λ y. (y ≤ level) ⊎ (cut ≤ y)) x xs (inl below) (least_from level cut xs (λ least e. h least (no_least level x xs below ∙ e))))
     (cases_lt level x)
 
 -- the drives that reach the least units above a level are those above it
@@ -71,8 +70,8 @@ greatest_high level [] some = absurd (omega arith)
 greatest_high level (x ∷ xs) some =
     ⊎_elim
     (λ (short : x < level).
-      let no = ap {B = ℕ} (λ b. cond b 1 0) (lt-leb level x short) in
-      let rest = greatest_high level xs (omega (arith, some, sum_by-cons (λ y. cond (nat_le level y) 1 0) x xs, no)) in omega arith)
+    let no = ap {B = ℕ} (λ b. cond b 1 0) (lt-leb level x short) in
+    let rest = greatest_high level xs (omega (arith, some, sum_by-cons (λ y. cond (nat_le level y) 1 0) x xs, no)) in omega arith)
     (λ (long : level ≤ x). omega arith)
     (cases_lt x level)
 
@@ -147,7 +146,7 @@ new_is_above s p sound count =
     let closed = nat_lt s.joined s.made || nat_le 16 s.made in
     ⊎_elim
     (λ (yes : closed ≡ true).
-      let limit = cond-true {A = ℕ} closed 1 2 yes in absurd (omega (arith, sound.above, count, limit)))
+    let limit = cond-true {A = ℕ} closed 1 2 yes in absurd (omega (arith, sound.above, count, limit)))
     (λ (no : closed ≡ false). cond-false closed None (layer_above (units_of s) (height_of p.arrays.items)) no)
     (cases_Bool closed)
 
@@ -187,3 +186,81 @@ count_few s p sound =
 
 pub targets_sum : (s : State) (p : Progress) → IsBook s p → IsSoundBook s p → sum (targets s p.arrays.items) + greatest (units_of s) ≡ sum (units_of s)
 targets_sum s p book sound = targets_by_few s p book sound (few_above (height_of p.arrays.items) (units_of s) (count_few s p sound))
+
+-- fewer drives go on above a drive's end than above a level below it
+fewer_above : (level cut : ℕ) (xs : List ℕ) → level < cut → count_above cut xs ≤ count_above level xs
+fewer_above level cut [] rises = omega arith
+fewer_above level cut (x ∷ xs) rises =
+    let rest = fewer_above level cut xs rises in
+    let low = sum_by-cons (λ y. cond (nat_lt level y) 1 0) x xs in
+    let high = sum_by-cons (λ y. cond (nat_lt cut y) 1 0) x xs in
+    ⊎_elim
+    (λ (over : cut < x).
+    let a = ap {B = ℕ} (λ b. cond b 1 0) (lt-ltb cut x over) in
+    let b = ap {B = ℕ} (λ b. cond b 1 0) (lt-ltb level x (omega arith)) in omega (arith, rest, low, high, a, b))
+    (λ (under : x ≤ cut). let a = ap {B = ℕ} (λ b. cond b 1 0) (le-ltb cut x under) in omega (arith, rest, low, high, a))
+    (cases_lt cut x)
+
+one_fewer : (level cut : ℕ) (xs : List ℕ) → level < cut → Contains xs cut → count_above cut xs + 1 ≤ count_above level xs
+one_fewer level cut [] rises (k, inside, is) = absurd (omega arith)
+one_fewer level cut (x ∷ xs) rises (zero, inside, is) =
+    let rest = fewer_above level cut xs rises in
+    let a = ap {B = ℕ} (λ b. cond b 1 0) (le-ltb cut x (omega (arith, is))) in
+    let b = ap {B = ℕ} (λ b. cond b 1 0) (lt-ltb level x (omega (arith, is))) in
+    omega (arith, rest, sum_by-cons (λ y. cond (nat_lt level y) 1 0) x xs, sum_by-cons (λ y. cond (nat_lt cut y) 1 0) x xs, a, b)
+one_fewer level cut (x ∷ xs) rises (suc k, inside, is) =
+    let rest = one_fewer level cut xs rises (k, omega arith, is) in
+    let low = sum_by-cons (λ y. cond (nat_lt level y) 1 0) x xs in
+    let high = sum_by-cons (λ y. cond (nat_lt cut y) 1 0) x xs in
+    ⊎_elim
+    (λ (over : cut < x).
+    let a = ap {B = ℕ} (λ b. cond b 1 0) (lt-ltb cut x over) in
+    let b = ap {B = ℕ} (λ b. cond b 1 0) (lt-ltb level x (omega arith)) in omega (arith, rest, low, high, a, b))
+    (λ (under : x ≤ cut). let a = ap {B = ℕ} (λ b. cond b 1 0) (le-ltb cut x under) in omega (arith, rest, low, high, a))
+    (cases_lt cut x)
+
+-- above a level that at most one drive passes there is no layer
+alone_above : (units : List ℕ) (level : ℕ) → count_above level units ≤ 1 → Few level units → layer_above units level ≡ None
+alone_above units level alone (none f) = none_above units level f.least
+alone_above units level alone (one f) = one_above units level (greatest units) f.most f.least f.count
+alone_above units level alone (two f) = absurd (omega (arith, alone, f.count))
+
+-- a new layer ends where at most one drive goes on
+one_layer_by : (s : State) (p : Progress) → IsSoundBook s p → Few (height_of p.arrays.items) (units_of s) → HasOneLayer s p.arrays.items
+one_layer_by s p sound (none f) =
+    let arrays = p.arrays.items in
+    let units = units_of s in
+    let no = none_above units (height_of arrays) f.least in
+    let none_made = no_layer s arrays no in
+    record {
+      no_other =
+          ap (λ (o : Option Layer). layer_above units (height_of arrays + option_map_or (λ layer. layer.height) o 0)) none_made
+          ∙ ap (λ (level : ℕ). layer_above units level) (add-zero (height_of arrays)) ∙ no;
+    }
+one_layer_by s p sound (one f) =
+    let arrays = p.arrays.items in
+    let units = units_of s in
+    let no = one_above units (height_of arrays) (greatest units) f.most f.least f.count in
+    let none_made = no_layer s arrays no in
+    record {
+      no_other =
+          ap (λ (o : Option Layer). layer_above units (height_of arrays + option_map_or (λ layer. layer.height) o 0)) none_made
+          ∙ ap (λ (level : ℕ). layer_above units level) (add-zero (height_of arrays)) ∙ no;
+    }
+one_layer_by s p sound (two f) =
+    let arrays = p.arrays.items in
+    let units = units_of s in
+    let high = height_of arrays in
+    let made = new_is_above s p sound f.count ∙ two_above units high f.cut f.above f.least f.count in
+    let found = least_is high f.cut units f.least in
+    let end : high + (f.cut - high) ≡ f.cut = omega (arith, f.above) in
+    let alone : count_above f.cut units ≤ 1 = omega (arith, one_fewer high f.cut units f.above found.1, f.count) in
+    record {
+      no_other =
+          ap (λ (o : Option Layer). layer_above units (high + option_map_or (λ layer. layer.height) o 0)) made
+          ∙ ap (λ (level : ℕ). layer_above units level) end
+          ∙ alone_above units f.cut alone (few_above f.cut units (omega arith));
+    }
+
+pub one_layer : (s : State) (p : Progress) → IsSoundBook s p → HasOneLayer s p.arrays.items
+one_layer s p sound = one_layer_by s p sound (few_above (height_of p.arrays.items) (units_of s) (count_few s p sound))

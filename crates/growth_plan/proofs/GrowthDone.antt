@@ -1,7 +1,7 @@
 -- A step of taking the plan's drive into an array is done.
-use Rattle.std.proofs.Common.{◌≡◌, ◌⊎◌, ℕ, zero, suc, pos, ◌+◌, ◌-◌, ◌*◌, ◌&&◌, not, nat_le, List, [], ◌∷◌, ◌++◌, length, map, replicate, Option, Some, None, is_some, inl, inr, slice_get, slice_index, Bool, true, false, cond, ◌==◌, if◌then◌else◌, refl, sym, ap, subst, ◌∙◌, arith, ⊎_elim, append-nil, append_assoc}
+use Rattle.std.proofs.Common.{◌≡◌, ℕ, pos, ◌+◌, ◌-◌, ◌*◌, ◌&&◌, not, nat_le, List, [], ◌∷◌, ◌++◌, length, replicate, Option, Some, None, is_some, inl, inr, slice_index, Bool, true, false, ◌==◌, if◌then◌else◌, refl, sym, ap, ◌∙◌, arith, ⊎_elim, append-nil, append_assoc}
 use Rattle.std.specs.Bool.{then_some}
-use Rattle.std.specs.List.{flat_map, list_any}
+use Rattle.std.specs.List.{flat_map}
 use Rattle.std.specs.Option.{option_map_or, option_and_then}
 use Rattle.std.proofs.lemmas.Bool.{cases_Bool, eq-eqb, or_right, and_right, not_from_true}
 use Rattle.std.proofs.lemmas.List.{length-append}
@@ -12,11 +12,11 @@ use Rattle.pool_state.specs.declared.contents.Work.TheVariants.{TakeOver, Begin,
 use Rattle.growth_plan.specs.declared.ArrayNow.{ArrayNow}
 use Rattle.growth_plan.specs.declared.Progress.{Progress}
 use Rattle.growth_plan.specs.Book.{Standing, standing, units_of, height_of}
-use Rattle.growth_plan.specs.Target.{planned, joining, members_at_end, extents_at_end}
-use Rattle.growth_plan.specs.Works.{resyncs, rebuilds, reshapes, joins, growths_by, growths, is_mirror, makes, extends, closes, works_left}
-use Rattle.growth_plan.specs.Doing.{after, change, begun}
-use Rattle.growth_plan.proofs.Heads.{in_order, IsFirstOf, first_part, first_copy}
-use Rattle.growth_plan.proofs.Parts.{at, FirstAt, first_at, head_gone, swapped, changed}
+use Rattle.growth_plan.specs.Target.{planned, joining, extents_at_end}
+use Rattle.growth_plan.specs.Works.{resyncs, rebuilds, reshapes, joins, growths, is_mirror, makes, extends, closes, works_left}
+use Rattle.growth_plan.specs.Doing.{change, begun}
+use Rattle.growth_plan.proofs.Heads.{in_order, first_part, first_copy}
+use Rattle.growth_plan.proofs.Parts.{at, first_at, head_gone, swapped}
 use Rattle.growth_plan.proofs.OneArray.{put, array_done}
 use Rattle.growth_plan.proofs.RowsDone.{left_after, change_at}
 

@@ -1,11 +1,10 @@
 -- What arrays that stand on one another take of the drives that reach them.
-use Rattle.std.proofs.Common.{◌≡◌, ◌⊎◌, ℕ, zero, suc, ◌+◌, ◌-◌, ◌*◌, ◌<◌, ◌≤◌, List, [], ◌∷◌, length, map, min, sum_by, count_by, cond, Bool, true, false, All, Contains, nat_le, if◌then◌else◌, inl, inr, refl, sym, ap, subst, ◌∙◌, arith, ⊎_elim, suc-mul, zero-mul}
+use Rattle.std.proofs.Common.{◌≡◌, ℕ, zero, suc, ◌+◌, ◌-◌, ◌*◌, ◌<◌, ◌≤◌, List, [], ◌∷◌, map, sum_by, count_by, cond, true, false, Contains, nat_le, if◌then◌else◌, refl, sym, ap, ◌∙◌, arith, ⊎_elim, suc-mul, zero-mul}
 use Rattle.std.proofs.lemmas.Bool.{cases_lt, le-leb, lt-leb}
-use Rattle.std.proofs.lemmas.List.Elements.{All-nil, All-cons, All-head, All-tail}
 use Rattle.std.proofs.lemmas.List.Sums.{sum_by-cons}
 use Rattle.layer_plan.proofs.Sums.{sum_by_agree, sum_by_swap}
 use Rattle.growth_plan.specs.declared.ArrayNow.{ArrayNow}
-use Rattle.growth_plan.specs.Book.{Standing, standing_from, standing, height_of}
+use Rattle.growth_plan.specs.Book.{Standing, standing_from, height_of}
 
 -- what an array takes of a drive with so many units
 abbrev pub taken : ℕ → Standing → ℕ
@@ -63,8 +62,7 @@ held_top own number level (a ∷ above) (zero, inside, is) =
     let most = held_most own (number + 1) (level + a.height) above in
     (omega (arith, is), omega (arith, is, most, held_cons own number level a above, yes_taken own (first_of number level a) (omega (arith, is))))
 held_top own number level (a ∷ above) (suc k, inside, is) =
-    let rest = held_top own (number + 1) (level + a.height) above (k, omega arith, is) in
-    (
+    let rest = held_top own (number + 1) (level + a.height) above (k, omega arith, is) in (
       omega (arith, rest.0),
       omega (arith, rest.0, rest.1, held_cons own number level a above, yes_taken own (first_of number level a) (omega (arith, rest.0))),
     )
@@ -78,22 +76,22 @@ taken_of_all x (own ∷ others) =
     let count = sum_by-cons (λ u. cond (nat_le x.top u) 1 0) own others in
     ⊎_elim
     (λ (h : own < x.top).
-      let no : nat_le x.top own ≡ false = lt-leb x.top own h in
-      let same : count_by (λ u. nat_le x.top u) (own ∷ others) ≡ count_by (λ u. nat_le x.top u) others =
-      let step : count_by (λ u. nat_le x.top u) (own ∷ others) ≡ 0 + count_by (λ u. nat_le x.top u) others =
-      count ∙ ap (λ b. cond b 1 0 + count_by (λ u. nat_le x.top u) others) no in omega (arith, step) in
-      let here = no_taken own x h in
-      let total : sum_by (λ u. taken u x) (own ∷ others) ≡ sum_by (λ u. taken u x) others = omega (arith, all, here) in
-      total ∙ rest ∙ sym (ap (λ n. n * x.now.height) same))
+    let no : nat_le x.top own ≡ false = lt-leb x.top own h in
+    let same : count_by (λ u. nat_le x.top u) (own ∷ others) ≡ count_by (λ u. nat_le x.top u) others =
+    let step : count_by (λ u. nat_le x.top u) (own ∷ others) ≡ 0 + count_by (λ u. nat_le x.top u) others =
+    count ∙ ap (λ b. cond b 1 0 + count_by (λ u. nat_le x.top u) others) no in omega (arith, step) in
+    let here = no_taken own x h in
+    let total : sum_by (λ u. taken u x) (own ∷ others) ≡ sum_by (λ u. taken u x) others = omega (arith, all, here) in
+    total ∙ rest ∙ sym (ap (λ n. n * x.now.height) same))
     (λ (h : x.top ≤ own).
-      let yes : nat_le x.top own ≡ true = le-leb x.top own h in
-      let same : count_by (λ u. nat_le x.top u) (own ∷ others) ≡ suc (count_by (λ u. nat_le x.top u) others) =
-      let step : count_by (λ u. nat_le x.top u) (own ∷ others) ≡ 1 + count_by (λ u. nat_le x.top u) others =
-      count ∙ ap (λ b. cond b 1 0 + count_by (λ u. nat_le x.top u) others) yes in omega (arith, step) in
-      let here = yes_taken own x h in
-      let total : sum_by (λ u. taken u x) (own ∷ others) ≡ count_by (λ u. nat_le x.top u) others * x.now.height + x.now.height =
-      omega (arith, all, here, rest) in
-      total ∙ sym (ap (λ n. n * x.now.height) same ∙ suc-mul (count_by (λ u. nat_le x.top u) others) x.now.height))
+    let yes : nat_le x.top own ≡ true = le-leb x.top own h in
+    let same : count_by (λ u. nat_le x.top u) (own ∷ others) ≡ suc (count_by (λ u. nat_le x.top u) others) =
+    let step : count_by (λ u. nat_le x.top u) (own ∷ others) ≡ 1 + count_by (λ u. nat_le x.top u) others =
+    count ∙ ap (λ b. cond b 1 0 + count_by (λ u. nat_le x.top u) others) yes in omega (arith, step) in
+    let here = yes_taken own x h in
+    let total : sum_by (λ u. taken u x) (own ∷ others) ≡ count_by (λ u. nat_le x.top u) others * x.now.height + x.now.height =
+    omega (arith, all, here, rest) in
+    total ∙ sym (ap (λ n. n * x.now.height) same ∙ suc-mul (count_by (λ u. nat_le x.top u) others) x.now.height))
     (cases_lt own x.top)
 
 -- all arrays over all drives

@@ -1,11 +1,11 @@
 -- No array offers less at the plan's end than it does now.
-use Rattle.std.proofs.Common.{◌≡◌, ℕ, zero, suc, ◌+◌, ◌-◌, ◌*◌, ◌≤◌, ◌++◌, List, [], ◌∷◌, length, map, get_or, slice_get, slice_index, Option, Some, is_some, if◌then◌else◌, subst, arith}
+use Rattle.std.proofs.Common.{◌≡◌, ℕ, zero, suc, ◌+◌, ◌-◌, ◌*◌, ◌≤◌, ◌++◌, List, [], ◌∷◌, length, map, slice_get, slice_index, Some, subst, arith}
 use Rattle.std.specs.Option.{option_map_or}
 use Rattle.std.proofs.Math.Nat.{mul-le-mul_right}
 use Rattle.pool_state.specs.declared.contents.State.{State}
 use Rattle.growth_plan.specs.declared.ArrayNow.{ArrayNow}
 use Rattle.growth_plan.specs.Book.{Standing, standing_from}
-use Rattle.growth_plan.specs.Target.{joining, members_at_end, extents_at_end, new_layer, targets}
+use Rattle.growth_plan.specs.Target.{members_at_end, extents_at_end, new_layer, targets}
 
 kept_from : (s : State) (below level : ℕ) (arrays : List ArrayNow) (new : List ℕ) (number : ℕ) (now : ArrayNow) → slice_get arrays number ≡ Some now →
     (length now.members.items - 1) * now.height ≤ slice_index (map (extents_at_end s) (standing_from below level arrays) ++ new) number

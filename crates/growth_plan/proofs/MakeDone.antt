@@ -1,27 +1,27 @@
 -- A new array is made.
-use Rattle.std.proofs.Common.{◌≡◌, ℕ, zero, suc, pos, ◌+◌, ◌-◌, ◌*◌, ◌<◌, ◌≤◌, ◌||◌, ◌&&◌, not, List, [], ◌∷◌, ◌++◌, length, map, filter, sum, replicate, Option, Some, None, is_some, slice_get, slice_index, get_or, Bool, true, false, nat_lt, nat_le, ◌==◌, if◌then◌else◌, refl, sym, ap, subst, ◌∙◌, arith, add-zero, append-nil, ⊎_elim}
+use Rattle.std.proofs.Common.{◌≡◌, ℕ, zero, suc, ◌+◌, ◌-◌, ◌*◌, ◌<◌, ◌≤◌, ◌||◌, ◌&&◌, not, List, [], ◌∷◌, ◌++◌, length, map, filter, sum, replicate, Option, Some, None, is_some, slice_index, Bool, true, false, nat_lt, nat_le, ◌==◌, if◌then◌else◌, refl, sym, ap, ◌∙◌, arith, add-zero, append-nil, ⊎_elim}
 use Rattle.std.specs.Bool.{then_some}
 use Rattle.std.specs.List.{flat_map, range_with_len}
 use Rattle.std.specs.Option.{option_map_or, option_and_then}
-use Rattle.std.proofs.lemmas.Bool.{cases_Bool, cases_lt, cond_both, cond-false, cond-true, lt-ltb, le-ltb, leb-true, eq-eqb, or_left, or_right, and_left, and_right, not_from_true}
+use Rattle.std.proofs.lemmas.Bool.{cases_Bool, cases_lt, cond_both, cond-true, lt-ltb, leb-true, eq-eqb, or_left, or_right, and_left, and_right, not_from_true}
 use Rattle.std.proofs.lemmas.List.Concat.{flat_map_single}
 use Rattle.std.proofs.lemmas.List.{get_or_past}
 use Rattle.layer_plan.specs.declared.Layer.{Layer}
-use Rattle.layer_plan.specs.Layering.{places_reaching, layer_between}
+use Rattle.layer_plan.specs.Layering.{places_reaching}
 use Rattle.layer_plan.specs.Slicing.{has}
 use Rattle.pool_state.specs.declared.contents.State.{State}
 use Rattle.pool_state.specs.declared.contents.Work.{Work}
-use Rattle.pool_state.specs.declared.contents.Work.TheVariants.{Rebuild, Make, Zero, Ready, Extend}
+use Rattle.pool_state.specs.declared.contents.Work.TheVariants.{Rebuild, Make, Extend}
 use Rattle.growth_plan.specs.declared.ArrayNow.{ArrayNow}
 use Rattle.growth_plan.specs.declared.Progress.{Progress}
 use Rattle.growth_plan.specs.Book.{IsBook, Standing, standing, units_of, height_of}
 use Rattle.growth_plan.specs.Target.{planned, joining, extents_at_end, layer_above, new_layer, targets}
-use Rattle.growth_plan.specs.Works.{resyncs, rebuilt, rebuilds_on, rebuilds, joins, growths, rows_of, zeros, makes, extends, closes, works_left}
-use Rattle.growth_plan.specs.Doing.{after, new_array}
+use Rattle.growth_plan.specs.Works.{resyncs, rebuilt, rebuilds_on, rebuilds, joins, growths, rows_of, zeros, makes, extends, closes}
+use Rattle.growth_plan.specs.Doing.{new_array}
 use Rattle.growth_plan.proofs.Books.{few_arrays}
-use Rattle.growth_plan.proofs.Heads.{in_order, in_order-same}
+use Rattle.growth_plan.proofs.Heads.{in_order-same}
 use Rattle.growth_plan.proofs.Parts.{at, parted, field-at}
-use Rattle.growth_plan.proofs.NewLayer.{IsLayerAbove, layer_is, new_layer_is}
+use Rattle.growth_plan.proofs.NewLayer.{layer_is, new_layer_is}
 use Rattle.growth_plan.proofs.RowsDone.{left_after}
 use Rattle.growth_plan.proofs.ZerosDone.{zero_at, after_makes}
 

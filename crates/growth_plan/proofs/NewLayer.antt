@@ -1,8 +1,8 @@
 -- What a new layer is, and how large it is.
-use Rattle.std.proofs.Common.{◌≡◌, ℕ, ◌+◌, ◌-◌, ◌*◌, ◌^◌, ◌<◌, ◌≤◌, ◌||◌, List, length, Option, Some, None, All, Contains, count_by, nat_lt, nat_le, true, false, if◌then◌else◌, slice_index, refl, sym, ap, ◌∙◌, arith, ⊎_elim}
+use Rattle.std.proofs.Common.{◌≡◌, ℕ, ◌-◌, ◌*◌, ◌^◌, ◌<◌, ◌≤◌, ◌||◌, List, length, Option, Some, None, All, Contains, nat_lt, nat_le, true, false, if◌then◌else◌, slice_index, refl, sym, ap, arith, ⊎_elim}
 use Rattle.std.specs.List.{range_with_len}
 use Rattle.std.specs.Option.{option_and_then}
-use Rattle.std.proofs.lemmas.Bool.{cases_Bool, leb-true, lt-ltb, le-leb, ltb-false, leb-false, or_parts}
+use Rattle.std.proofs.lemmas.Bool.{cases_Bool, leb-true, ltb-false, leb-false, or_parts}
 use Rattle.std.proofs.lemmas.List.Elements.{All-contains}
 use Rattle.std.proofs.lemmas.List.Sums.{length-filter, count_by-le-length}
 use Rattle.std.proofs.lemmas.List.FromFn.{length-range_with_len}

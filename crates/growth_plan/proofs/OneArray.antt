@@ -1,5 +1,5 @@
 -- All works of a book after one of its arrays has changed.
-use Rattle.std.proofs.Common.{◌≡◌, ℕ, ◌+◌, List, [], ◌∷◌, ◌++◌, length, map, sum, Option, slice_get, nat_lt, nat_le, ◌||◌, if◌then◌else◌, None, refl, sym, ap, ◌∙◌, arith}
+use Rattle.std.proofs.Common.{◌≡◌, ℕ, List, [], ◌∷◌, ◌++◌, map, sum, Option, slice_get, nat_lt, nat_le, ◌||◌, if◌then◌else◌, None, refl, sym, ap, ◌∙◌}
 use Rattle.std.specs.List.{flat_map}
 use Rattle.std.specs.Option.{option_map_or}
 use Rattle.std.proofs.lemmas.List.Concat.{flat_map_single}
@@ -9,8 +9,8 @@ use Rattle.pool_state.specs.declared.contents.Work.{Work}
 use Rattle.pool_state.specs.declared.contents.Work.TheVariants.{Make, Extend}
 use Rattle.growth_plan.specs.declared.ArrayNow.{ArrayNow}
 use Rattle.growth_plan.specs.declared.Progress.{Progress}
-use Rattle.growth_plan.specs.Book.{Standing, standing, units_of, height_of}
-use Rattle.growth_plan.specs.Target.{extents_at_end, layer_above, new_layer, targets}
+use Rattle.growth_plan.specs.Book.{standing, units_of, height_of}
+use Rattle.growth_plan.specs.Target.{extents_at_end, layer_above, targets}
 use Rattle.growth_plan.specs.Works.{resyncs, rebuilds, growths, rows_of, zeros, makes, extends, closes, works_left}
 use Rattle.growth_plan.proofs.Heads.{in_order, in_order-same}
 use Rattle.growth_plan.proofs.Parts.{at, swapped, height-swapped, field-swapped}

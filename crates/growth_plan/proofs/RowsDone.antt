@@ -1,18 +1,17 @@
 -- A row is resynced or rebuilt.
-use Rattle.std.proofs.Common.{◌≡◌, ℕ, ◌+◌, ◌-◌, List, [], ◌∷◌, ◌++◌, length, map, replicate, Option, Some, None, slice_get, true, false, ◌==◌, if◌then◌else◌, refl, sym, ap, subst, ◌∙◌, arith, ⊎_elim}
+use Rattle.std.proofs.Common.{◌≡◌, ℕ, ◌-◌, List, [], ◌∷◌, ◌++◌, length, replicate, Option, Some, None, true, false, ◌==◌, if◌then◌else◌, refl, sym, ap, ◌∙◌, arith, ⊎_elim}
 use Rattle.std.specs.List.{flat_map}
-use Rattle.std.specs.Option.{option_map_or}
 use Rattle.std.proofs.lemmas.Bool.{cases_Bool, cond_both, eqb-true}
 use Rattle.pool_state.specs.declared.contents.State.{State}
 use Rattle.pool_state.specs.declared.contents.Work.{Work}
 use Rattle.pool_state.specs.declared.contents.Work.TheVariants.{Resync, Rebuild}
 use Rattle.growth_plan.specs.declared.ArrayNow.{ArrayNow}
 use Rattle.growth_plan.specs.declared.Progress.{Progress}
-use Rattle.growth_plan.specs.Book.{Standing, standing, height_of}
+use Rattle.growth_plan.specs.Book.{standing}
 use Rattle.growth_plan.specs.Works.{resyncs, rebuilt, rebuilds_on, rebuilds, growths, makes, extends, closes, works_left}
-use Rattle.growth_plan.specs.Doing.{after, change, with_arrays, row_rebuilt}
-use Rattle.growth_plan.proofs.Heads.{in_order, IsFirstOf, first_copy}
-use Rattle.growth_plan.proofs.Parts.{at, FirstAt, first_at, head_gone, swapped, changed}
+use Rattle.growth_plan.specs.Doing.{after, change, row_rebuilt}
+use Rattle.growth_plan.proofs.Heads.{in_order, first_copy}
+use Rattle.growth_plan.proofs.Parts.{at, first_at, head_gone, swapped, changed}
 use Rattle.growth_plan.proofs.OneArray.{put, array_done}
 
 -- the works after a change of one array

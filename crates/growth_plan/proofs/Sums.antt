@@ -1,23 +1,19 @@
 -- The sum of what all arrays offer at the plan's end, on a book whose parts agree.
-use Rattle.std.proofs.Common.{IsPermutation, ◌≡◌, ◌⊎◌, ℕ, zero, suc, ◌+◌, ◌-◌, ◌*◌, ◌<◌, ◌≤◌, ◌||◌, ◌++◌, List, [], ◌∷◌, length, map, min, max, sum, sum_by, count_by, cond, Option, Some, None, is_some, option_to_list, All, Contains, Bool, true, false, nat_lt, nat_le, slice_index, if◌then◌else◌, inl, inr, refl, sym, ap, subst, ◌∙◌, arith, ⊎_elim, suc-mul, add-zero, append-nil}
+use Rattle.std.proofs.Common.{IsPermutation, ◌≡◌, ◌⊎◌, ℕ, suc, ◌+◌, ◌-◌, ◌*◌, ◌<◌, ◌≤◌, List, [], ◌∷◌, length, map, min, sum, sum_by, count_by, cond, Option, Some, None, is_some, option_to_list, All, Contains, nat_le, slice_index, if◌then◌else◌, refl, ap, ◌∙◌, arith, ⊎_elim, suc-mul}
 use Rattle.std.specs.List.{range_with_len}
-use Rattle.std.specs.Option.{option_map_or, option_and_then}
-use Rattle.std.proofs.lemmas.Bool.{cases_Bool, cases_lt, lt-ltb, le-ltb, le-leb, lt-leb, cond-true, cond-false}
+use Rattle.std.proofs.lemmas.Bool.{cases_lt}
 use Rattle.std.proofs.lemmas.List.{length-append}
-use Rattle.std.proofs.lemmas.List.Elements.{All-nil, All-cons, All-head, All-tail, All-weaker}
+use Rattle.std.proofs.lemmas.List.Elements.{All-head, All-tail, All-weaker}
 use Rattle.std.proofs.lemmas.List.Sorted.{length_permutation}
-use Rattle.std.proofs.lemmas.List.Sums.{sum_by-cons, sum_by-append, length-filter}
-use Rattle.layer_plan.specs.declared.Layer.{Layer}
-use Rattle.layer_plan.specs.Layering.{places_reaching, layer_between, is_redundant}
+use Rattle.std.proofs.lemmas.List.Sums.{sum_by-cons, length-filter}
+use Rattle.layer_plan.specs.Layering.{places_reaching}
 use Rattle.layer_plan.proofs.Sums.{sum_by-map, sum_by_place}
 use Rattle.pool_state.specs.declared.contents.State.{State}
 use Rattle.growth_plan.specs.declared.ArrayNow.{ArrayNow}
 use Rattle.growth_plan.specs.declared.Progress.{Progress}
 use Rattle.growth_plan.specs.Book.{IsBook, Standing, standing_from, standing, units_of, height_of}
-use Rattle.growth_plan.specs.Target.{joining, members_at_end, extents_at_end, least_above, layer_above, new_layer, targets}
+use Rattle.growth_plan.specs.Target.{joining, members_at_end, extents_at_end}
 use Rattle.growth_plan.specs.Sound.{IsSoundBook, ends_with}
-use Rattle.growth_plan.proofs.Above.{greatest, count_above, excess, Few, none, one, two, few_above, parted_at}
-use Rattle.growth_plan.proofs.Cuts.{least_is}
 use Rattle.growth_plan.proofs.Held.{held, held_all, held_top, held_of_all}
 use Rattle.growth_plan.proofs.Counts.{all_standing}
 
@@ -51,8 +47,12 @@ less_one f (x ∷ xs) all =
 heights : (number level : ℕ) (arrays : List ArrayNow) → sum_by (λ x. x.now.height) (standing_from number level arrays) ≡ height_of arrays
 heights number level [] = refl
 heights number level (a ∷ above) =
-    omega (arith, heights (number + 1) (level + a.height) above, sum_by-cons (λ (x : ArrayNow). x.height) a above,
-      sum_by-cons (λ (x : Standing). x.now.height) (record { number = number; top = level + a.height; now = a }) (standing_from (number + 1) (level + a.height) above))
+    omega (
+      arith,
+      heights (number + 1) (level + a.height) above,
+      sum_by-cons (λ (x : ArrayNow). x.height) a above,
+      sum_by-cons (λ (x : Standing). x.now.height) (record { number = number; top = level + a.height; now = a }) (standing_from (number + 1) (level + a.height) above),
+    )
 
 one_more : (o : Option ℕ) → length (option_to_list o) ≡ (if is_some o then 1 else 0)
 one_more None = refl
@@ -63,8 +63,13 @@ pub members_count : (s : State) (p : Progress) → IsSoundBook s p →
 members_count s p sound =
     All-weaker (λ x. IsPermutation (places_reaching (units_of s) x.top) (ends_with s x))
     (λ x. members_at_end s x ≡ count_by (λ own. nat_le x.top own) (units_of s))
-    (λ x moved. omega (arith, length_permutation (places_reaching (units_of s) x.top) (ends_with s x) moved, reaching_count (units_of s) x.top,
-        length-append x.now.members.items (option_to_list (joining s x)), one_more (joining s x)))
+    (λ x moved. omega (
+      arith,
+      length_permutation (places_reaching (units_of s) x.top) (ends_with s x) moved,
+      reaching_count (units_of s) x.top,
+      length-append x.now.members.items (option_to_list (joining s x)),
+      one_more (joining s x),
+    ))
     (standing p.arrays.items) sound.members
 
 -- what all arrays offer, and their height, is what the drives have up to the highest top
@@ -82,17 +87,17 @@ ends_sum s p book sound =
     let counted : sum_by (λ x. members_at_end s x * x.now.height) xs ≡ sum_by (λ x. count_by (λ own. nat_le x.top own) (units_of s) * x.now.height) xs =
     agree (λ x. members_at_end s x * x.now.height) (λ x. count_by (λ own. nat_le x.top own) (units_of s) * x.now.height) xs
     (All-weaker (λ x. members_at_end s x ≡ count_by (λ own. nat_le x.top own) (units_of s))
-      (λ x. members_at_end s x * x.now.height ≡ count_by (λ own. nat_le x.top own) (units_of s) * x.now.height)
-      (λ x e. ap (λ (n : ℕ). n * x.now.height) e) xs (members_count s p sound)) in
+    (λ x. members_at_end s x * x.now.height ≡ count_by (λ own. nat_le x.top own) (units_of s) * x.now.height)
+    (λ x e. ap (λ (n : ℕ). n * x.now.height) e) xs (members_count s p sound)) in
     let swapped = held_of_all xs (units_of s) in
     let each : sum_by (λ own. held xs own) (units_of s) ≡ sum_by (λ own. min own high) (units_of s) =
     agree_units (λ own. held xs own) (λ own. min own high) (λ own. Contains (map (λ (x : Standing). x.top) xs) own ⊎ (high ≤ own)) (units_of s)
     (λ own where_it_ends. ⊎_elim
-      (λ (above : high < own). omega (arith, held_all own 0 0 p.arrays.items (omega arith)))
-      (λ (below : own ≤ high). ⊎_elim
-        (λ (at : Contains (map (λ (x : Standing). x.top) xs) own). omega (arith, (held_top own 0 0 p.arrays.items at).1))
-        (λ (over : high ≤ own). omega (arith, held_all own 0 0 p.arrays.items (omega arith)))
-        where_it_ends)
-      (cases_lt high own))
+    (λ (above : high < own). omega (arith, held_all own 0 0 p.arrays.items (omega arith)))
+    (λ (below : own ≤ high). ⊎_elim
+    (λ (at : Contains (map (λ (x : Standing). x.top) xs) own). omega (arith, (held_top own 0 0 p.arrays.items at).1))
+    (λ (over : high ≤ own). omega (arith, held_all own 0 0 p.arrays.items (omega arith)))
+    where_it_ends)
+    (cases_lt high own))
     sound.tops in
     omega (arith, mapped, whole, total, counted, swapped, each)

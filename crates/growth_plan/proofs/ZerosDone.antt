@@ -1,5 +1,5 @@
 -- A row of a new array is zeroed, or the array becomes ready.
-use Rattle.std.proofs.Common.{◌≡◌, ℕ, zero, suc, ◌+◌, ◌-◌, ◌<◌, ◌≤◌, ◌||◌, List, [], ◌∷◌, ◌++◌, length, map, sum, replicate, Option, Some, None, inl, inr, slice_get, true, false, nat_lt, nat_le, if◌then◌else◌, refl, sym, ap, subst, ◌∙◌, arith, add-zero}
+use Rattle.std.proofs.Common.{◌≡◌, ℕ, ◌+◌, ◌-◌, ◌||◌, List, [], ◌∷◌, ◌++◌, map, sum, replicate, Option, Some, None, inl, inr, slice_get, true, nat_lt, nat_le, if◌then◌else◌, refl, sym, ap, ◌∙◌, arith, add-zero}
 use Rattle.std.specs.List.{flat_map}
 use Rattle.std.specs.Option.{option_map_or}
 use Rattle.std.proofs.lemmas.Bool.{cond_both, cond-false, le-ltb}
@@ -9,12 +9,12 @@ use Rattle.pool_state.specs.declared.contents.Work.{Work}
 use Rattle.pool_state.specs.declared.contents.Work.TheVariants.{Make, Zero, Ready, Extend}
 use Rattle.growth_plan.specs.declared.ArrayNow.{ArrayNow}
 use Rattle.growth_plan.specs.declared.Progress.{Progress}
-use Rattle.growth_plan.specs.Book.{Standing, standing, units_of, height_of}
+use Rattle.growth_plan.specs.Book.{standing, units_of, height_of}
 use Rattle.growth_plan.specs.Target.{extents_at_end, layer_above, new_layer, targets}
 use Rattle.growth_plan.specs.Works.{resyncs, rebuilds, growths, rows_of, zeros, makes, extends, closes, works_left}
-use Rattle.growth_plan.specs.Doing.{after, change, HasOneLayer}
-use Rattle.growth_plan.proofs.Heads.{in_order, in_order-same, IsFirstOf, first_part, first_copy}
-use Rattle.growth_plan.proofs.Parts.{at, swapped, changed, field-at, SplitAt, split_at}
+use Rattle.growth_plan.specs.Doing.{change, HasOneLayer}
+use Rattle.growth_plan.proofs.Heads.{in_order, in_order-same, first_part, first_copy}
+use Rattle.growth_plan.proofs.Parts.{swapped, field-at, split_at}
 use Rattle.growth_plan.proofs.OneArray.{put, array_done_with}
 use Rattle.growth_plan.proofs.RowsDone.{left_after, change_at}
 

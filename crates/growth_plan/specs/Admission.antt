@@ -1,7 +1,6 @@
 -- Which drives a pool takes in.
-use Rattle.std.specs.Prelude.{ℕ, ◌^◌, ◌-◌, Bool, true, false, ◌&&◌, ◌||◌, ◌==◌, not, nat_lt, nat_le, if◌then◌else◌, List, [], ◌∷◌, ◌++◌, length, map, find, is_some, remove, slice_index, slice_set, Option, Some, None, option_map}
+use Rattle.std.specs.Prelude.{ℕ, Bool, ◌&&◌, ◌||◌, ◌==◌, not, nat_lt, nat_le, List, [], ◌∷◌, ◌++◌, length, find, is_some, remove, slice_index, slice_set, Option, option_map}
 use Rattle.std.specs.List.{list_any, list_all}
-use Rattle.std.specs.Option.{option_map_or}
 use Rattle.pool_state.specs.declared.contents.State.{State}
 use Rattle.growth_plan.specs.declared.AdmitFault.{AdmitFault}
 use Rattle.growth_plan.specs.declared.AdmitFault.TheVariants.{Size, Smaller, TooManyDrives, TooManyLayers}

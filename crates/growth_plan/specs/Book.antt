@@ -1,6 +1,5 @@
 -- A pool at one moment: its state, how each of its arrays stands, and what its drives have room for.
 use Rattle.std.specs.Prelude.{◌≡◌, ℕ, ◌+◌, ◌^◌, ◌<◌, ◌≤◌, true, List, [], ◌∷◌, length, map, sum_by, All}
-use Rattle.pool_state.specs.declared.contents.Drive.{Drive}
 use Rattle.pool_state.specs.declared.contents.State.{State}
 use Rattle.pool_state.specs.Valid.{is_valid}
 use Rattle.growth_plan.specs.declared.ArrayNow.{ArrayNow}

@@ -1,5 +1,5 @@
 -- A book whose parts agree with one another.
-use Rattle.std.specs.Prelude.{◌≡◌, ℕ, ◌≤◌, ◌||◌, ◌⊎◌, nat_lt, nat_le, if◌then◌else◌, List, ◌++◌, map, count_by, option_to_list, All, Contains, IsPermutation}
+use Rattle.std.specs.Prelude.{ℕ, ◌≤◌, ◌||◌, ◌⊎◌, nat_lt, nat_le, if◌then◌else◌, List, ◌++◌, map, count_by, option_to_list, All, Contains, IsPermutation}
 use Rattle.layer_plan.specs.Layering.{places_reaching}
 use Rattle.pool_state.specs.declared.contents.State.{State}
 use Rattle.growth_plan.specs.declared.Progress.{Progress}

@@ -1,5 +1,5 @@
 -- The layers at the end of a plan, and what they offer to the volume.
-use Rattle.std.specs.Prelude.{ℕ, ◌+◌, ◌-◌, ◌*◌, Bool, true, false, ◌&&◌, ◌||◌, ◌==◌, not, nat_lt, nat_le, if◌then◌else◌, min, List, [], ◌∷◌, ◌++◌, length, map, slice_index, Option, Some, None, is_some}
+use Rattle.std.specs.Prelude.{ℕ, ◌+◌, ◌-◌, ◌*◌, ◌&&◌, ◌||◌, not, nat_lt, nat_le, if◌then◌else◌, min, List, [], ◌∷◌, ◌++◌, length, map, slice_index, Option, Some, None, is_some}
 use Rattle.std.specs.Bool.{then_some}
 use Rattle.std.specs.Option.{option_and_then, option_map_or}
 use Rattle.layer_plan.specs.declared.Layer.{Layer}
@@ -9,7 +9,6 @@ use Rattle.pool_state.specs.declared.contents.Plan.{Plan}
 use Rattle.pool_state.specs.declared.contents.Plan.TheVariants.{Nothing, Add, Replace}
 use Rattle.pool_state.specs.declared.contents.State.{State}
 use Rattle.growth_plan.specs.declared.ArrayNow.{ArrayNow}
-use Rattle.growth_plan.specs.declared.Progress.{Progress}
 use Rattle.growth_plan.specs.Book.{units_of, height_of, Standing, standing}
 
 -- the place of the plan's drive

@@ -142,6 +142,7 @@ pub fn next_work(state: &State, progress: &Progress) -> Option<Work>
     // The book after it has the rest of the works left.
     ensures done { IfSome result (λ work. HasOneLayer state.now progress.now.arrays.items →
         works_left (after work state.now progress.now).state (after work state.now progress.now).progress ≡ drop 1 (works_left state.now progress.now)) }
+    ensures one_layer { IsSoundBook state.now progress.now → HasOneLayer state.now progress.now.arrays.items }
 {
     works::tally(state, progress).first
 }

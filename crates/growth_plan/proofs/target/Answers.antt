@@ -1,4 +1,4 @@
-use Rattle.std.proofs.Common.{◌≡◌, ℕ, ◌-◌, ◌*◌, ◌≤◌, slice_index, ◌+◌, ◌<◌, ◌^◌, List, [], ◌∷◌, ◌++◌, map, take, length, sum, All, ap, sym, ◌∙◌, arith, subst, take_all, Option, Some, None, append-nil}
+use Rattle.std.proofs.Common.{◌≡◌, ℕ, ◌-◌, ◌*◌, ◌≤◌, slice_index, ◌+◌, ◌<◌, ◌^◌, List, [], ◌∷◌, ◌++◌, map, take, length, sum, All, ap, sym, ◌∙◌, arith, subst, take_all, Option, append-nil}
 use Rattle.std.proofs.lemmas.List.Elements.{All-push}
 use Rattle.std.proofs.lemmas.List.{map-append, length-append}
 use Rattle.std.specs.Option.{option_map_or}
@@ -70,20 +70,20 @@ returns-in-Some c =
     c.push-in-Some.ensures.items ∙ ap (λ (es : List ℕ). es ++ layer.extents ∷ []) c.loop-array.invariant.offered
     ∙ ap (λ (xs : List ArrayNow). map (extents_at_end s) (standing xs) ++ layer.extents ∷ []) same
     ∙ ap (λ (o : Option Layer). map (extents_at_end s) (standing arrays) ++ option_map_or (λ l. l.extents ∷ []) o [])
-      (sym (sym c.new_layer.ensures ∙ c.in-Some.is)) in
+    (sym (sym c.new_layer.ensures ∙ c.in-Some.is)) in
     record {
       extents = are;
       small = sum_small c.push-in-Some.new.self.items
-    (omega (
-      arith,
-      count,
-      length-append c.loop-array.extents.items (c.in-Some.layer.extents ∷ []),
-      c.loop-array.invariant.count,
-      c.loop-array.auto,
-      ap (λ (xs : List ArrayNow). length xs) c.as_slice-array-items.ensures.value,
-      c.requires.made,
-      is.1,
-    )) all;
+          (omega (
+            arith,
+            count,
+            length-append c.loop-array.extents.items (c.in-Some.layer.extents ∷ []),
+            c.loop-array.invariant.count,
+            c.loop-array.auto,
+            ap (λ (xs : List ArrayNow). length xs) c.as_slice-array-items.ensures.value,
+            c.requires.made,
+            is.1,
+          )) all;
       kept = λ number now there. subst (λ (es : List ℕ). (length now.members.items - 1) * now.height ≤ slice_index es number) (sym are) (kept s arrays number now there);
       greatest = λ sound. subst (λ (es : List ℕ). IsBest (units_of s) (sum es)) (sym are) (targets_best s p c.requires sound);
     }
@@ -102,13 +102,13 @@ returns-in_default c =
     record {
       extents = are;
       small = sum_small c.loop-array.extents.items (omega (
-      arith,
-      c.loop-array.invariant.count,
-      c.loop-array.auto,
-      ap (λ (xs : List ArrayNow). length xs) c.as_slice-array-items.ensures.value,
-      c.requires.made,
-      (few_arrays c.args.state.now c.requires.valid).0,
-    )) c.loop-array.invariant.small;
+        arith,
+        c.loop-array.invariant.count,
+        c.loop-array.auto,
+        ap (λ (xs : List ArrayNow). length xs) c.as_slice-array-items.ensures.value,
+        c.requires.made,
+        (few_arrays c.args.state.now c.requires.valid).0,
+      )) c.loop-array.invariant.small;
       kept = λ number now there. subst (λ (es : List ℕ). (length now.members.items - 1) * now.height ≤ slice_index es number) (sym are) (kept s arrays number now there);
       greatest = λ sound. subst (λ (es : List ℕ). IsBest (units_of s) (sum es)) (sym are) (targets_best s p c.requires sound);
     }

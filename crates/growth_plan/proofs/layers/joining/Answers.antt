@@ -1,4 +1,4 @@
-use Rattle.std.proofs.Common.{◌≡◌, ℕ, nat_le, Bool, List, true, false, not, ◌&&◌, slice_index, Option, Some, ap, sym, ◌∙◌, arith, refl}
+use Rattle.std.proofs.Common.{◌≡◌, ℕ, nat_le, Bool, List, true, false, not, ◌&&◌, slice_index, Some, ap, sym, ◌∙◌, arith, refl}
 use Rattle.std.specs.Bool.{then_some}
 use Rattle.std.proofs.lemmas.Bool.{le-leb, lt-leb}
 use Rattle.layer_plan.specs.Slicing.{has}

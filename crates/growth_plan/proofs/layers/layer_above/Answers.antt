@@ -1,6 +1,5 @@
-use Rattle.std.proofs.Common.{◌≡◌, ◌^◌, ◌<◌, Some, sym, ◌∙◌}
+use Rattle.std.proofs.Common.{◌^◌, ◌<◌, sym, ◌∙◌}
 use Rattle.std.proofs.lemmas.List.Elements.{All-contains}
-use Rattle.growth_plan.specs.Target.{least_above}
 use Rattle.growth_plan.proofs.Cuts.{least_is}
 use Rattle.growth_plan.proofs.layers.layer_above.Goals as goal
 

@@ -1,4 +1,4 @@
-use Rattle.std.proofs.Common.{ℕ, List, ◌^◌, ◌<◌, All, map, take, subst, sym, ap, ◌∙◌, take_all, arith, length}
+use Rattle.std.proofs.Common.{ℕ, List, ◌^◌, ◌<◌, All, map, subst, sym, ap, ◌∙◌, take_all}
 use Rattle.pool_state.specs.declared.contents.Drive.{Drive}
 use Rattle.growth_plan.proofs.Books.{units_small}
 use Rattle.growth_plan.proofs.layers.units_of.Goals as goal

@@ -1,8 +1,5 @@
-use Rattle.std.proofs.Common.{◌≡◌, ℕ, ◌+◌, Option, ap, ◌∙◌, arith, sym, take, List, sum_by, ◌∷◌, []}
-use Rattle.std.proofs.lemmas.List.{take_more}
-use Rattle.std.proofs.lemmas.List.Sums.{sum_by-append, sum_by-cons}
-use Rattle.growth_plan.specs.declared.ArrayNow.{ArrayNow}
-use Rattle.growth_plan.specs.Book.{Standing, height_of}
+use Rattle.std.proofs.Common.{ℕ, ◌+◌, Option, ap, ◌∙◌, arith}
+use Rattle.growth_plan.specs.Book.{Standing}
 use Rattle.growth_plan.specs.Target.{joining}
 use Rattle.growth_plan.specs.Works.{growths, growths_by}
 use Rattle.growth_plan.proofs.Appending.{appends_more, appends_same}

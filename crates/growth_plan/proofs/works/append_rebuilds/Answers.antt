@@ -1,4 +1,4 @@
-use Rattle.std.proofs.Common.{◌≡◌, ℕ, Option, ap}
+use Rattle.std.proofs.Common.{ℕ, Option, ap}
 use Rattle.growth_plan.specs.Book.{Standing}
 use Rattle.growth_plan.specs.Works.{rebuilds, rebuilds_on}
 use Rattle.growth_plan.proofs.Appending.{appends_more, appends_same}

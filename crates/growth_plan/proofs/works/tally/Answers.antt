@@ -1,10 +1,9 @@
-use Rattle.std.proofs.Common.{◌≡◌, ◌<◌, ◌^◌, ℕ, List, [], ◌++◌, length, slice_get, min, subst, sym, ap, ◌∙◌, arith}
+use Rattle.std.proofs.Common.{List, [], ap, arith}
 use Rattle.std.specs.List.{flat_map}
-use Rattle.pool_state.specs.declared.contents.Work.{Work}
 use Rattle.growth_plan.specs.declared.ArrayNow.{ArrayNow}
 use Rattle.growth_plan.specs.Book.{standing}
-use Rattle.growth_plan.specs.Tally.{IsTally, Appends}
-use Rattle.growth_plan.specs.Works.{resyncs, rebuilds, growths, makes, extends, closes, works_left}
+use Rattle.growth_plan.specs.Tally.{Appends}
+use Rattle.growth_plan.specs.Works.{resyncs, rebuilds, growths, works_left}
 use Rattle.growth_plan.proofs.Appending.{appends_both, appends_same}
 use Rattle.growth_plan.proofs.Counts.{few_works}
 use Rattle.growth_plan.proofs.works.tally.Goals as goal
