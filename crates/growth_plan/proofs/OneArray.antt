@@ -23,8 +23,8 @@ abbrev pub layer_by : State → ℕ → Option Layer
 layer_by s height = if nat_lt s.joined s.made || nat_le 16 s.made then None else layer_above (units_of s) height
 
 abbrev pub makes_by : State → ℕ → ℕ → List Work
-makes_by s zero height =
-    if nat_lt s.joined s.made then zeros s.joined zero
+makes_by s rows height =
+    if nat_lt s.joined s.made then zeros s.joined rows
     else option_map_or (λ layer. Make s.made layer.height ∷ zeros s.made (rows_of s layer.height)) (layer_by s height) []
 
 pub makes-same : (s : State) (arrays news : List ArrayNow) →

@@ -31,14 +31,18 @@ fn has_small_numbers(array: &ArrayNow) -> bool
 fn is_book(state: &State, progress: &Progress) -> bool
     ensures { IsTrue result → IsBook state.now progress.now }
 {
+    if !is_state_of(state, 0) {
+        return false;
+    }
+    if progress.arrays.len() != state.made as usize || progress.extents >= LIMIT {
+        return false;
+    }
     for array in progress.arrays.as_slice() {
         if !has_small_numbers(array) {
             return false;
         }
     }
-    is_state_of(state, 0)
-        && progress.arrays.len() == state.made as usize
-        && progress.extents < LIMIT
+    true
 }
 
 /// A pool of drives with these units and no plan, with extents of 128 sectors.
@@ -224,6 +228,7 @@ fn a_drive_is_added(rt: HostRuntime) {
 fn a_drive_is_replaced(rt: HostRuntime) {
     let mut book = three_drives();
     assert!(rt; is_book(&book.state, &book.progress));
+    assert_eq!(rt; book.state.drives.len(), 3);
     assert_eq!(rt; admit_replace(&book.state, &book.progress, 1, 10), Ok(()));
     replace(&mut book, 1, 10);
     let works = [(Work::Rebuild { array: 0, place: 1 }, 26), (Work::Close, 1)];
@@ -235,6 +240,7 @@ fn a_drive_is_replaced(rt: HostRuntime) {
 fn a_larger_drive_replaces_another(rt: HostRuntime) {
     let mut book = three_drives();
     assert!(rt; is_book(&book.state, &book.progress));
+    assert_eq!(rt; book.state.drives.len(), 3);
     assert_eq!(rt; admit_replace(&book.state, &book.progress, 0, 20), Ok(()));
     replace(&mut book, 0, 20);
     let works = [
@@ -285,6 +291,7 @@ fn a_mirror_takes_in_a_drive(rt: HostRuntime) {
 fn a_smaller_drive_replaces_none(rt: HostRuntime) {
     let book = three_drives();
     assert!(rt; is_book(&book.state, &book.progress));
+    assert_eq!(rt; book.state.drives.len(), 3);
     let refused = admit_replace(&book.state, &book.progress, 2, 10);
     assert_eq!(rt; refused, Err(AdmitFault::Smaller));
     assert_eq!(rt;
@@ -312,6 +319,7 @@ fn the_last_place_and_the_last_serial(rt: HostRuntime) {
     book.state.serial = u32::MAX - 1;
     assert!(rt; is_book(&book.state, &book.progress));
     assert_eq!(rt; admit_add(&book.state, &book.progress, 10), Ok(()));
+    assert_eq!(rt; book.state.drives.len(), 15);
     assert_eq!(rt; admit_replace(&book.state, &book.progress, 0, 10), Ok(()));
     book.state.serial = u32::MAX;
     assert!(rt; is_book(&book.state, &book.progress));
@@ -326,6 +334,7 @@ fn the_last_place_and_the_last_serial(rt: HostRuntime) {
     book.state.serial = 0;
     add(&mut book, 10);
     assert!(rt; is_book(&book.state, &book.progress));
+    assert_eq!(rt; book.state.drives.len(), 16);
     assert_eq!(rt;
         admit_add(&book.state, &book.progress, 10),
         Err(AdmitFault::TooManyDrives)
@@ -354,6 +363,7 @@ fn many_layers(count: u32) -> Book {
 fn the_last_layer(rt: HostRuntime) {
     let book = many_layers(16);
     assert!(rt; is_book(&book.state, &book.progress));
+    assert_eq!(rt; book.state.drives.len(), 2);
     assert_eq!(rt;
         admit_add(&book.state, &book.progress, 20),
         Err(AdmitFault::TooManyLayers)
