@@ -6,8 +6,9 @@
 //!
 //! The model is `works_left` in `specs/Works.antt`, the list of all works that a book has left. The
 //! contract for the layer above: [`next_work`] is its head and [`left`] its length, and the book after
-//! that work, as `specs/Doing.antt` defines it, has the rest of the list left. No call takes memory, and
-//! each answers for every book, also for one whose parts disagree.
+//! that work, as `specs/Doing.antt` defines it, has the rest of the list left. On a sound book, by
+//! `specs/Sound.antt`, the sum of [`target`] is the greatest capacity of all drives. No call takes
+//! memory, and each answers for every book, also for one whose parts disagree.
 #![tactic(auto)]
 
 ghost use Rattle.std.specs.Prelude.{◌≡◌, ℕ, ◌+◌, ◌-◌, ◌*◌, ◌^◌, ◌<◌, ◌≤◌, length, drop, slice_get, slice_index, sum, IfSome};
