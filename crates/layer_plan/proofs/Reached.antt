@@ -40,7 +40,7 @@ none_below q a (suc n) p below =
     (λ e. rw (other, rest)) (λ e. rest)
 
 -- a place of a range is among those that pass a test where it passes
-has_range : (q : ℕ → Bool) (a n p : ℕ) → a ≤ p → p < a + n → has (filter q (range_with_len a n)) p ≡ q p
+pub has_range : (q : ℕ → Bool) (a n p : ℕ) → a ≤ p → p < a + n → has (filter q (range_with_len a n)) p ≡ q p
 has_range q a zero p low high = absurd (omega arith)
 has_range q a (suc n) p low high =
     ⊎_elim
@@ -65,7 +65,7 @@ apart q b a (suc n) below =
     cond_both (q a) (a ∷ filter q (range_with_len (a + 1) n)) (filter q (range_with_len (a + 1) n))
     (λ t. AllByRecursion (λ y. (b == y) ≡ false) t) (λ e. (other, rest)) (λ e. rest)
 
-distinct_range : (q : ℕ → Bool) (a n : ℕ) → IsDistinct (λ a b. a == b) (filter q (range_with_len a n))
+pub distinct_range : (q : ℕ → Bool) (a n : ℕ) → IsDistinct (λ a b. a == b) (filter q (range_with_len a n))
 unfolding IsDistinct
 distinct_range q a zero = tt
 distinct_range q a (suc n) =
@@ -74,7 +74,7 @@ distinct_range q a (suc n) =
     (λ t. IsDistinct (λ a b. a == b) t) (λ e. (apart q a (a + 1) n (omega arith), rest)) (λ e. rest)
 
 -- they are inside it
-inside_range : (q : ℕ → Bool) (a n m : ℕ) → a + n ≤ m → All (λ p. p < m) (filter q (range_with_len a n))
+pub inside_range : (q : ℕ → Bool) (a n m : ℕ) → a + n ≤ m → All (λ p. p < m) (filter q (range_with_len a n))
 inside_range q a zero m end = All-nil (λ p. p < m)
 inside_range q a (suc n) m end =
     let rest = inside_range q (a + 1) n m (omega arith) in

@@ -43,7 +43,7 @@ fn reaching(units: &[u64], level: u64) -> Places
 }
 
 /// The layer between two cut points, whether or not it has two members.
-fn between(units: &[u64], lower: u64, upper: u64) -> Layer
+pub fn between(units: &[u64], lower: u64, upper: u64) -> Layer
     requires drives { length units.now ≤ MAX_DRIVES }
     requires rising { lower < upper }
     requires small { upper < 2 ^ 41 }

@@ -19,6 +19,7 @@ mod layering;
 pub mod search;
 
 use arrayvec::ArrayVec;
+pub use layering::between;
 use layering::{largest_drive, layers_of};
 use rack::Places;
 

@@ -13,7 +13,7 @@ const UNITS_END: u64 = 1 << 41;
 const EPOCH_END: u64 = 1 << 63;
 
 /// Whether this is a state that a pool may have, and a place of its list.
-pub(crate) fn is_state_of(state: &State, own: u32) -> bool
+pub fn is_state_of(state: &State, own: u32) -> bool
     ensures { result ≡ is_valid state.now own }
 {
     is_extent_size(state.extent)
