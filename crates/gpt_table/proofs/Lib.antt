@@ -6,7 +6,6 @@ pub mod Spent
 pub mod Slots
 pub mod Headers
 pub mod Placed
-pub mod Stretches
 pub mod Planned
 pub mod Whole
 pub mod Writable

@@ -25,7 +25,7 @@ use Rattle.pool.specs.Reading.{AllTold}
 use Rattle.pool.specs.Refusals.{HasNoPool}
 use Rattle.pool.proofs.Frames.{copies_bounds}
 use Rattle.pool.proofs.Steps.{IsDrives, live_all}
-use Rattle.rack.proofs.Durably.{appended_elsewhere}
+use Rattle.rack.proofs.Writing.{appended_elsewhere}
 use Rattle.pool.proofs.PartsLaid.{KeepsOut, only_durably}
 
 -- the table, the superblock and the data of each drive lie inside it

@@ -19,7 +19,7 @@ use Rattle.pool.specs.Volume.{Holds}
 use Rattle.pool.specs.View.{view}
 use Rattle.pool.proofs.Frames.{copies_bounds}
 use Rattle.pool.proofs.Steps.{IsDrives}
-use Rattle.rack.proofs.Durably.{appended_elsewhere}
+use Rattle.rack.proofs.Writing.{appended_elsewhere}
 use Rattle.pool.proofs.PartsLaid.{only_durably}
 use Rattle.pool.proofs.PoolParts.{IsRoomy, Blank, AreLaid, AreSaid, AreCopied, blank_start, blank_only, blank_clear, laid_only, laid_more, said_only, said_more, copied_more}
 use Rattle.pool.proofs.PoolMade.{room_given, roomy_given, first_copy, HasFirst, second_copy, pool_holds}

@@ -1,13 +1,13 @@
 -- A write and a sync in a row.
 use Rattle.std.proofs.Common.{◌≡◌, ◌≢◌, ◌⊎◌, ℕ, ◌==◌, ◌&&◌, List, Bool, true, false, if◌then◌else◌, Result, Ok, Err, OnOk, IfErr, refl, ap, ◌∙◌, subst, inl, inr}
-use Rattle.std.proofs.lemmas.Bool.{and_left, and_right, and_from, ne_eqb, eq-eqb}
+use Rattle.std.proofs.lemmas.Bool.{and_left, and_right, and_from, ne_eqb, eq-eqb, cases_eq}
 use Rattle.rack.specs.declared.Gone.{Gone}
 use Rattle.rack.specs.Values.{Values, MayLeave, Keeps, IsSingle, append}
 use Rattle.rack.specs.Seen.{Held, Seen, IsLive, IsPick, Rose, Stays, appended}
 use Rattle.rack.specs.Calls.{Writes, Syncs}
 use Rattle.rack.specs.Joins.{keeps_then, may_leave-append, stays_then, live_first, live_second, leaves_weaker, leaves_then, pick_kept, pick_longer, rose_since}
-use Rattle.rack.specs.Sequences.{WritesDurably}
-use Rattle.rack.proofs.Writing.{appended_elsewhere, appended_here}
+use Rattle.rack.specs.Sequences.{IsMix, WritesOnly, WritesDurably}
+use Rattle.rack.proofs.Writing.{appended_elsewhere, appended_here, appended_may}
 
 choice_leaves : (b : Bool) (h : Values) (v w : List ℕ) → MayLeave h w → MayLeave (if b then append h v else h) w
 choice_leaves true h v w leaves = may_leave-append h v w leaves
@@ -120,4 +120,32 @@ write_then_sync a m b disk sector v r q u is at_result syncs =
           (syncs.keeps.held d s (live_second writes.stays live));
       synced = synced_now a m b disk q writes.stays syncs;
       durable = durable_now a m b disk sector v q writes syncs;
+    }
+
+-- nothing else was written
+pub durable_only :
+    {a b : Seen} {disk sector : ℕ} {value : List ℕ} (r : Result (Unit {0}) Gone)
+    → WritesDurably a b disk sector value r
+    → WritesOnly a b (λ d s v. (d ≡ disk) × (s ≡ sector) × (v ≡ value))
+durable_only {a} {b} {disk} {sector} {value} r writes =
+    record {
+      stays = writes.stays;
+      others =
+          λ d s live never.
+          elim (cases_eq d disk) [
+            | inl here ↦
+                elim (cases_eq s sector) [
+                  | inl there ↦ absurd (never value (here, there, refl))
+                  | inr other ↦ writes.others d s live (inr other)
+                ]
+            | inr other ↦ writes.others d s live (inl other)
+          ];
+      within = λ d s v live left. appended_may a.held disk sector value d s v (writes.within d s v live left);
+      stops =
+          λ traced.
+          leaves_weaker
+          (IsPick a b (appended a.held disk sector value))
+          (IsMix a b (λ d s v. (d ≡ disk) × (s ≡ sector) × (v ≡ value)))
+          (λ i pick d s live. appended_may a.held disk sector value d s (i d s) (pick d s live))
+          (writes.stops traced);
     }

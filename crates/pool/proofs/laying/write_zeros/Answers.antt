@@ -1,5 +1,6 @@
 use Rattle.std.proofs.Common.{◌+◌, arith}
-use Rattle.gpt_table.proofs.Stretches.{follows_start}
+use Rattle.rack.proofs.Writing.{only_none}
+use Rattle.gpt_table.specs.Calls.{IsPlanned}
 use Rattle.gpt_table.proofs.Planned.{follows_served, plan_refused}
 use Rattle.pool.specs.Laying.{zero_sector, zeros_plan}
 use Rattle.pool.proofs.Zeros.{zeros_planned, one_more_zero, zeros_written}
@@ -7,7 +8,7 @@ use Rattle.pool.proofs.laying.write_zeros.Goals as goal
 
 pub loop-place-init : goal.loop-place-init
 loop-place-init g c = record {
-  follows = follows_start (g.R.Rack.seen c.args.rack.now) c.args.disk (zeros_plan c.args.first c.args.count) c.requires.fit;
+  follows = only_none (g.R.Rack.seen c.args.rack.now) (IsPlanned c.args.disk (zeros_plan c.args.first c.args.count)) c.requires.fit;
   zeros = λ k below. absurd (omega arith);
 }
 
