@@ -118,7 +118,7 @@ check 'create of nothing' 2 'refused words\n' create
 check 'create of no names' 2 'refused words\n' create 128
 check 'create with an extent of 64 sectors' 2 'refused words\n' create 64 first second
 check 'create of three names' 6 'refused unbuilt\n' create 128 first second third
-for form in import export status examine trial; do
+for form in import export status trial; do
   check "a form that is not built: $form" 6 'refused unbuilt\n' "$form" first second
 done
 

@@ -9,9 +9,7 @@ use rack_mem::{DiskSpec, MemBay};
 use std::alloc::Global;
 use std::process::Abort;
 use std::test::Fail;
-use vectors::{
-    BACKUP_HEADER, HEADER, LABEL, MIRROR, RAID5, TABLE_ENTRIES, TABLE_HEADER, TEXT,
-};
+use vectors::{BACKUP_HEADER, HEADER, LABEL, MIRROR, RAID5, TABLE_ENTRIES, TABLE_HEADER, TEXT};
 
 // The sectors of the disk that sgdisk wrote a table on.
 const SECTORS: u64 = 98304;
@@ -20,12 +18,7 @@ const SECTORS: u64 = 98304;
 const NOTHING: &str = "table none\nmd none\nlvm none\n";
 
 // A bay with one disk of so many sectors of zeros, on which these calls fail.
-fn bay_of(
-    rt: &impl Abort,
-    alloc: Global,
-    sectors: u64,
-    failing: Vec<u64>,
-) -> Result<MemBay, Fail> {
+fn bay_of(rt: &impl Abort, alloc: Global, sectors: u64, failing: Vec<u64>) -> Result<MemBay, Fail> {
     let mut shelf = Vec::new(alloc);
     let name = Name::of(alloc, b"A")?;
     shelf.push(DiskSpec { name, sectors })?;
@@ -109,7 +102,8 @@ const OF_RAID5: &str = "slice 2 49152 49119\n\
 fn what_sgdisk_mdadm_and_lvm2_wrote(rt: HostRuntime) -> Result<(), Fail> {
     let mut bay = disk_of_tools(&rt, rt.alloc(), TEXT.as_bytes())?;
     let wanted = format!(in rt.alloc();
-        "image 98304\ntable primary\n{OF_IMAGE}{OF_MIRROR}text 1021\n{TEXT}\ngroup vga seqno 2 extent 2048 pvs 1 lvs 1\n{OF_RAID5}")?;
+        "image 98304\ntable primary\n{OF_IMAGE}{OF_MIRROR}text 1021\n{TEXT}\ngroup vga seqno 2 extent 2048 pvs 1 lvs 1\n{OF_RAID5}"
+    )?;
     check(&rt, rt.alloc(), &mut bay, wanted.as_str())
 }
 
@@ -119,7 +113,8 @@ fn a_text_with_another_byte(rt: HostRuntime) -> Result<(), Fail> {
     text[3] = b'b';
     let mut bay = disk_of_tools(&rt, rt.alloc(), text.as_slice())?;
     let wanted = format!(in rt.alloc();
-        "image 98304\ntable primary\n{OF_IMAGE}{OF_MIRROR}lvm bad-text\n{OF_RAID5}")?;
+        "image 98304\ntable primary\n{OF_IMAGE}{OF_MIRROR}lvm bad-text\n{OF_RAID5}"
+    )?;
     check(&rt, rt.alloc(), &mut bay, wanted.as_str())
 }
 
@@ -146,7 +141,8 @@ fn volumes_without_a_table(rt: HostRuntime) -> Result<(), Fail> {
     let mut bay = bay_of(&rt, rt.alloc(), 2048, Vec::new(rt.alloc()))?;
     lay_volume(&rt, &mut bay, 0, TEXT.as_bytes())?;
     let wanted = format!(in rt.alloc();
-        "image 2048\ntable none\nmd none\ntext 1021\n{TEXT}\ngroup vga seqno 2 extent 2048 pvs 1 lvs 1\n")?;
+        "image 2048\ntable none\nmd none\ntext 1021\n{TEXT}\ngroup vga seqno 2 extent 2048 pvs 1 lvs 1\n"
+    )?;
     check(&rt, rt.alloc(), &mut bay, wanted.as_str())?;
     lay(&rt, &mut bay, 8, &[0; 512])?;
     let broken = "image 2048\ntable none\nmd none\nlvm bad-crc\n";
@@ -163,7 +159,10 @@ fn a_disk_that_fails_at_each_call(rt: HostRuntime) -> Result<(), Fail> {
         let mut bay = bay_of(&rt, rt.alloc(), 12, failing)?;
         let (put, ended) = text_of(&rt, rt.alloc(), &mut bay)?;
         assert_eq!(rt; ended, Err(Stop::Gone));
-        assert_eq!(rt; put.as_slice(), parts[(call / 2).min(1) as usize].as_bytes());
+        assert_eq!(rt;
+            put.as_slice(),
+            parts[(call / 2).min(1) as usize].as_bytes()
+        );
     }
     let mut bay = bay_of(&rt, rt.alloc(), 12, Vec::new(rt.alloc()))?;
     check(&rt, rt.alloc(), &mut bay, whole)
@@ -171,7 +170,12 @@ fn a_disk_that_fails_at_each_call(rt: HostRuntime) -> Result<(), Fail> {
 
 #[test]
 fn a_sink_that_fails_at_each_line(rt: HostRuntime) -> Result<(), Fail> {
-    let parts = ["", "image 0\n", "image 0\ntable none\n", "image 0\ntable none\nmd none\n"];
+    let parts = [
+        "",
+        "image 0\n",
+        "image 0\ntable none\n",
+        "image 0\ntable none\nmd none\n",
+    ];
     for (number, part) in parts.iter().enumerate() {
         let mut bay = bay_of(&rt, rt.alloc(), 0, Vec::new(rt.alloc()))?;
         let mut out = MemSink::new(rt.alloc(), 100, Some(number as u64))?;

@@ -10,11 +10,11 @@ use Rattle.std.specs.Str.{bytes_eq}
 use Rattle.std.specs.Int.{is_power_of_two}
 use Rattle.pool_state.specs.Valid.{is_extent as valid_extent}
 use Rattle.shr_tool.specs.declared.words.Form.{Form}
-use Rattle.shr_tool.specs.declared.words.Form.TheVariants.{Wrong, Unbuilt, Serve, Create, Layout}
+use Rattle.shr_tool.specs.declared.words.Form.TheVariants.{Wrong, Unbuilt, Serve, Create, Layout, Examine}
 use Rattle.shr_tool.specs.LayoutWords.{layout_request, extent_of, is_extent, if_passes}
 use Rattle.shr_script.specs.Line.{number_of}
 use Rattle.shr_tool.specs.declared.layout.request.LayoutRequest.{LayoutRequest}
-use Rattle.shr_tool.specs.Forms.{is_name, are_names, is_form_name, serve_form, create_form_of, create_form, layout_form, form_of}
+use Rattle.shr_tool.specs.Forms.{is_name, are_names, is_form_name, serve_form, create_form_of, create_form, layout_form, examine_form, form_of}
 
 -- of mapped words
 pub are_names-map :
@@ -54,16 +54,18 @@ create-many extent names named many =
 
 -- a form that isn't one of two others is the one between them
 create_choice :
-    (p q r s : Bool) (f g h : Form) (extent : ℕ)
-    → (if p then f else if q then g else if r then h else if s then Unbuilt else Wrong) ≡ Create extent
+    (p q r e s : Bool) (f g h k : Form) (extent : ℕ)
+    → (if p then f else if q then g else if r then h else if e then k else if s then Unbuilt else Wrong) ≡ Create extent
     → f ≢ Create extent
     → h ≢ Create extent
+    → k ≢ Create extent
     → g ≡ Create extent
-create_choice true q r s f g h extent same first last = absurd (first same)
-create_choice false true r s f g h extent same first last = same
-create_choice false false true s f g h extent same first last = absurd (last same)
-create_choice false false false true f g h extent same first last = cc
-create_choice false false false false f g h extent same first last = cc
+create_choice true q r e s f g h k extent same first third last = absurd (first same)
+create_choice false true r e s f g h k extent same first third last = same
+create_choice false false true e s f g h k extent same first third last = absurd (third same)
+create_choice false false false true s f g h k extent same first third last = absurd (last same)
+create_choice false false false false true f g h k extent same first third last = cc
+create_choice false false false false false f g h k extent same first third last = cc
 
 serve_no_create : (named : Bool) (extent : ℕ) → (if named then Serve else Wrong) ≢ Create extent
 serve_no_create true extent same = cc
@@ -72,6 +74,11 @@ serve_no_create false extent same = cc
 layout_no_create : (asked : Bool) (extent : ℕ) → (if asked then Layout else Wrong) ≢ Create extent
 layout_no_create true extent same = cc
 layout_no_create false extent same = cc
+
+examine_no_create : (named few : Bool) (extent : ℕ) → (if named then (if few then Examine else Wrong) else Wrong) ≢ Create extent
+examine_no_create true true extent same = cc
+examine_no_create true false extent same = cc
+examine_no_create false few extent same = cc
 
 create_parts :
     (p q : Bool) (x extent : ℕ)
@@ -122,8 +129,10 @@ created_words [] extent same = cc
 created_words (first ∷ arguments) extent same =
     create_is first arguments extent
     (create_choice (bytes_eq first (codes "serve")) (bytes_eq first (codes "create")) (bytes_eq first (codes "layout"))
-    (is_form_name first) (serve_form arguments) (create_form arguments) (layout_form arguments) extent same
-    (serve_no_create (are_names arguments) extent) (layout_no_create (is_some (layout_request arguments)) extent))
+    (bytes_eq first (codes "examine")) (is_form_name first) (serve_form arguments) (create_form arguments) (layout_form arguments)
+    (examine_form arguments) extent same
+    (serve_no_create (are_names arguments) extent) (layout_no_create (is_some (layout_request arguments)) extent)
+    (examine_no_create (are_names arguments) (nat_le (length arguments) 1) extent))
 
 -- the form of words that make a pool
 pub create_form_is :
@@ -213,20 +222,27 @@ extent_same words word names extent found are is named few form =
 
 -- a form that isn't one of the two before it
 layout_choice :
-    (p q r s : Bool) (f g h : Form)
-    → (if p then f else if q then g else if r then h else if s then Unbuilt else Wrong) ≡ Layout
+    (p q r e s : Bool) (f g h k : Form)
+    → (if p then f else if q then g else if r then h else if e then k else if s then Unbuilt else Wrong) ≡ Layout
     → f ≢ Layout
     → g ≢ Layout
+    → k ≢ Layout
     → h ≡ Layout
-layout_choice true q r s f g h same first second = absurd (first same)
-layout_choice false true r s f g h same first second = absurd (second same)
-layout_choice false false true s f g h same first second = same
-layout_choice false false false true f g h same first second = cc
-layout_choice false false false false f g h same first second = cc
+layout_choice true q r e s f g h k same first second last = absurd (first same)
+layout_choice false true r e s f g h k same first second last = absurd (second same)
+layout_choice false false true e s f g h k same first second last = same
+layout_choice false false false true s f g h k same first second last = absurd (last same)
+layout_choice false false false false true f g h k same first second last = cc
+layout_choice false false false false false f g h k same first second last = cc
 
 serve_no_layout : (named : Bool) → (if named then Serve else Wrong) ≢ Layout
 serve_no_layout true same = cc
 serve_no_layout false same = cc
+
+examine_no_layout : (named few : Bool) → (if named then (if few then Examine else Wrong) else Wrong) ≢ Layout
+examine_no_layout true true same = cc
+examine_no_layout true false same = cc
+examine_no_layout false few same = cc
 
 parts_no_layout : (p q : Bool) (x : ℕ) → (if p then (if q then Create x else Unbuilt) else Wrong) ≢ Layout
 parts_no_layout true true x same = cc
@@ -244,6 +260,39 @@ create_no_layout (word ∷ names) same = option_no_layout (extent_of word) names
 wrong_no_layout : Wrong ≡ Layout → ⊥
 wrong_no_layout same = cc
 
+-- words that examine an image have its name
+wrong_no_examine : Wrong ≡ Examine → ⊥
+wrong_no_examine same = cc
+
+-- no form that examines stands alone
+examine_choice :
+    (p q r e s : Bool) (f g h k : Form)
+    → (if p then f else if q then g else if r then h else if e then k else if s then Unbuilt else Wrong) ≡ Examine
+    → f ≢ Examine
+    → g ≢ Examine
+    → h ≢ Examine
+    → k ≡ Examine
+examine_choice true q r e s f g h k same first second third = absurd (first same)
+examine_choice false true r e s f g h k same first second third = absurd (second same)
+examine_choice false false true e s f g h k same first second third = absurd (third same)
+examine_choice false false false true s f g h k same first second third = same
+examine_choice false false false false true f g h k same first second third = cc
+examine_choice false false false false false f g h k same first second third = cc
+
+layout_no_examine : (asked : Bool) → (if asked then Layout else Wrong) ≢ Examine
+layout_no_examine true same = cc
+layout_no_examine false same = cc
+
+pub examined_words :
+    (words : List (List ℕ)) → form_of words ≡ Examine → 2 ≤ length words
+examined_words [] same = cc
+examined_words (first ∷ []) same =
+    absurd (wrong_no_examine
+    (examine_choice (bytes_eq first (codes "serve")) (bytes_eq first (codes "create")) (bytes_eq first (codes "layout"))
+    (bytes_eq first (codes "examine")) (is_form_name first) Wrong Wrong (layout_form []) Wrong same
+    wrong_no_examine wrong_no_examine (layout_no_examine (is_some (layout_request [])))))
+examined_words (first ∷ name ∷ names) same = omega arith
+
 -- words of a layout ask for one
 pub layout_asked :
     {Y : Type 0} (h : Y → List ℕ) (ys : List Y)
@@ -257,6 +306,8 @@ layout_asked h (y ∷ ys) same none =
     ap (λ zs. layout_request (map h zs)) (sym (take_rest (y ∷ ys) 1)) ∙ none in
     let form : layout_form arguments ≡ Layout =
     layout_choice (bytes_eq (h y) (codes "serve")) (bytes_eq (h y) (codes "create")) (bytes_eq (h y) (codes "layout"))
-    (is_form_name (h y)) (serve_form arguments) (create_form arguments) (layout_form arguments) same
-    (serve_no_layout (are_names arguments)) (create_no_layout arguments) in
+    (bytes_eq (h y) (codes "examine")) (is_form_name (h y)) (serve_form arguments) (create_form arguments) (layout_form arguments)
+    (examine_form arguments) same
+    (serve_no_layout (are_names arguments)) (create_no_layout arguments)
+    (examine_no_layout (are_names arguments) (nat_le (length arguments) 1)) in
     wrong_no_layout (sym (ap (λ (o : Option LayoutRequest). if is_some o then Layout else Wrong) rest) ∙ form)

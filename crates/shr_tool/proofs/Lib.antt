@@ -14,3 +14,4 @@ pub mod Entering
 pub mod Carried
 pub mod Served
 pub mod Made
+pub mod Examined

@@ -3,7 +3,7 @@ use Rattle.std.specs.Prelude.{ℕ, ◌==◌, nat_le, nat_lt, ◌&&◌, ◌||◌,
 use Rattle.std.specs.List.{list_all}
 use Rattle.std.specs.Str.{bytes_eq}
 use Rattle.shr_tool.specs.declared.words.Form.{Form}
-use Rattle.shr_tool.specs.declared.words.Form.TheVariants.{Wrong, Unbuilt, Serve, Create, Layout}
+use Rattle.shr_tool.specs.declared.words.Form.TheVariants.{Wrong, Unbuilt, Serve, Create, Layout, Examine}
 use Rattle.shr_tool.specs.LayoutWords.{layout_request, extent_of}
 
 -- a name isn't empty and doesn't begin with a dash
@@ -21,7 +21,6 @@ is_form_name word =
     bytes_eq word (codes "import")
     || bytes_eq word (codes "export")
     || bytes_eq word (codes "status")
-    || bytes_eq word (codes "examine")
     || bytes_eq word (codes "trial")
 
 -- `serve NAME..`
@@ -43,6 +42,10 @@ create_form (extent ∷ names) = create_form_of (extent_of extent) names
 abbrev pub layout_form : List (List ℕ) → Form
 layout_form arguments = if is_some (layout_request arguments) then Layout else Wrong
 
+-- `examine NAME`
+abbrev pub examine_form : List (List ℕ) → Form
+examine_form names = if are_names names then (if nat_le (length names) 1 then Examine else Wrong) else Wrong
+
 -- the form of all words
 abbrev pub form_of : List (List ℕ) → Form
 form_of [] = Wrong
@@ -53,6 +56,8 @@ form_of (first ∷ arguments) =
     then create_form arguments
     else if bytes_eq first (codes "layout")
     then layout_form arguments
+    else if bytes_eq first (codes "examine")
+    then examine_form arguments
     else if is_form_name first
     then Unbuilt
     else Wrong
@@ -64,3 +69,4 @@ uses_disks Unbuilt = false
 uses_disks Serve = true
 uses_disks (Create extent) = true
 uses_disks Layout = false
+uses_disks Examine = true

@@ -14,3 +14,4 @@ pub mod Opened
 pub mod Making
 pub mod LayoutWords
 pub mod LayoutText
+pub mod Examining

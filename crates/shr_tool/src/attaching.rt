@@ -5,11 +5,11 @@ ghost use Rattle.shr_tool.specs.Outcome.{HasStatusCause};
 ghost use Rattle.shr_tool.specs.Attaching.{AreAttached, IsUnattached};
 ghost use Rattle.shr_tool.specs.Run.{SaysFault};
 
-use shr_script::{ReplyText, refused_number_reply};
 use crate::saying::{refuse, say};
 use crate::status::Status;
 use io_ends::Sink;
 use rack::{AttachFault, Bay, Rack};
+use shr_script::{ReplyText, refused_number_reply};
 
 /// A name that couldn't be attached.
 #[derive(Clone, Copy, Debug, PartialEq, Eq)]

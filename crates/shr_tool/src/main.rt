@@ -5,6 +5,7 @@
 #![tactic(auto)]
 
 mod attaching;
+mod examining;
 mod layout;
 mod making;
 mod opening;

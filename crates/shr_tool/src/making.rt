@@ -8,13 +8,13 @@ ghost use Rattle.shr_tool.specs.Run.{CreateOutcome, Says, created_line};
 
 use crate::attaching::{attach_all, refuse_name};
 use crate::refusals::refuse_create;
-use shr_script::{ReplyText, add};
 use crate::saying::say;
 use crate::status::Status;
 use io_ends::Sink;
 use itoa::Buffer;
 use pool::{Birth, Pool};
 use rack::{Bay, Rack};
+use shr_script::{ReplyText, add};
 
 /// Attaches the disks, and makes their pool.
 pub fn create<B: Bay, O: Sink>(

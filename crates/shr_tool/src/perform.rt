@@ -8,10 +8,9 @@ ghost use Rattle.shr_tool.specs.Meaning.{view_of};
 ghost use Rattle.shr_tool.specs.Timeline.{Performs, Breaks};
 ghost use Rattle.shr_tool.specs.Filling.{Fills};
 
-use shr_script::{ReplyText, data_reply, line_reply, refused_reply, size_reply};
-use shr_script::Command;
 use pool::{BareFault, Pool};
 use rack::{Bay, Gone, Rack};
+use shr_script::{Command, ReplyText, data_reply, line_reply, refused_reply, size_reply};
 
 /// Does a command and sets its reply. A drive's refusal leaves no reply.
 pub fn perform<R: Bay>(

@@ -6,13 +6,13 @@ ghost use Rattle.shr_tool.specs.Outcome.{HasStatusCause};
 ghost use Rattle.shr_tool.specs.Refusing.{part_word as word_for, refusal_words, refusal_status, plan_words, fault_words, fault_status};
 ghost use Rattle.shr_tool.specs.Run.{Says};
 
-use shr_script::{ReplyText, add, refused_number_reply};
 use crate::saying::{refuse, say};
 use crate::status::Status;
 use io_ends::Sink;
 use itoa::Buffer;
 use layer_plan::PlanError;
 use pool::{CreateFault, Part, Refusal};
+use shr_script::{ReplyText, add, refused_number_reply};
 
 /// Says why a pool couldn't be opened.
 pub fn refuse_open<O: Sink>(out: &mut O, why: Refusal) -> Status

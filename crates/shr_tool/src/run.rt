@@ -6,11 +6,13 @@ ghost use Rattle.shr_tool.specs.declared.words.Form.TheVariants.{Wrong, Unbuilt,
 ghost use Rattle.shr_tool.specs.declared.status.Status.TheVariants.{Words, Refused};
 ghost use Rattle.shr_tool.specs.LayoutWords.{layout_request as request_in, units_asked, extent_of};
 ghost use Rattle.shr_tool.specs.LayoutText.{Prints};
-ghost use Rattle.shr_tool.specs.Forms.{are_names, uses_disks, form_of as form_in};
+ghost use Rattle.shr_tool.specs.Forms.{is_name, are_names, uses_disks, form_of as form_in};
 ghost use Rattle.shr_script.specs.Reply.{refused_line};
 ghost use Rattle.shr_tool.specs.Limits.{KeepsLimit};
 ghost use Rattle.shr_tool.specs.Run.{Ended, Says, ServeOutcome, CreateOutcome};
+ghost use Rattle.shr_tool.specs.Examining.{ExamineOutcome};
 
+use crate::examining::examine_image;
 use crate::layout::{layout_request, print_layout};
 use crate::making::create;
 use crate::opening::serve;
@@ -56,12 +58,19 @@ pub fn run<B: Bay, I: Source, O: Sink>(
         → O.told out.old
         → Ended result (λ status. Prints (O.told out.old) status (units_asked request) (O.taken out.old) (O.taken out.new)) }
 
+    ensures examine { (name : List ℕ)
+        → map string_bytes words.now ≡ codes "examine" ∷ name ∷ []
+        → is_name name ≡ true
+        → O.told out.old
+        → Ended result (ExamineOutcome (B.seen bay.old) (B.shelf bay.old) (B.seen bay.new) (B.shelf bay.new)
+        (name ∷ []) (O.taken out.old) (O.taken out.new)) }
+
     ensures wrong { form_in (map string_bytes words.now) ≡ Wrong → O.told out.old
         → Ended result (Says Words (refused_line (codes "words")) (O.taken out.old) (O.taken out.new)) }
     ensures unbuilt { form_in (map string_bytes words.now) ≡ Unbuilt → O.told out.old
         → Ended result (Says Refused (refused_line (codes "unbuilt")) (O.taken out.old) (O.taken out.new)) }
 
-    // Only `serve` and `create` touch the bay, and only `serve` the input.
+    // Only `serve`, `create` and `examine` touch the bay, and only `serve` the input.
     ensures untouched { uses_disks (form_in (map string_bytes words.now)) ≡ false → bay.new ≡ bay.old }
     ensures unread { form_in (map string_bytes words.now) ≢ Serve → input.new ≡ input.old }
 
@@ -75,6 +84,7 @@ pub fn run<B: Bay, I: Source, O: Sink>(
     match form_of(words) {
         Form::Wrong => refuse(out, b"words", Status::Words).code(),
         Form::Unbuilt => refuse(out, b"unbuilt", Status::Refused).code(),
+        Form::Examine => examine_image(alloc, bay, &words[1..], out).code(),
         Form::Layout => match layout_request(&words[1..]) {
             Some(request) => print_layout(&request, out).code(),
             None => unreachable!(),

@@ -5,9 +5,9 @@ ghost use Rattle.shr_script.specs.Reply.{refused_line};
 ghost use Rattle.shr_tool.specs.Outcome.{HasStatusCause};
 ghost use Rattle.shr_tool.specs.Run.{IsSaid, Says};
 
-use shr_script::{ReplyText, refused_reply};
 use crate::status::Status;
 use io_ends::Sink;
+use shr_script::{ReplyText, refused_reply};
 
 /// Puts `refused WHY`.
 pub fn refuse<O: Sink>(out: &mut O, why: &[u8], status: Status) -> Status

@@ -13,13 +13,11 @@ ghost use Rattle.shr_tool.specs.Limits.{KeepsLimit};
 ghost use Rattle.shr_tool.specs.Serving.{IsReplied, LineAnswers, Serves, HasCause, answer_of};
 
 use crate::perform::perform;
-use shr_script::ReplyText;
-use shr_script::{Ended, LineReader, SCRIPT_LIMIT, next_line, without_return};
 pub use finish::serve_pool;
-use shr_script::Command;
 use io_ends::{Sink, Source};
 use pool::Pool;
 use rack::{Bay, Gone, Rack};
+use shr_script::{Command, Ended, LineReader, ReplyText, SCRIPT_LIMIT, next_line, without_return};
 
 /// Why the answering of a script stopped.
 #[derive(Clone, Copy, Debug, PartialEq, Eq)]

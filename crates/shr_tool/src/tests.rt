@@ -1,5 +1,6 @@
 //! Tests of whole runs over disks in memory, beside a flat array.
 
+mod examining;
 mod faults;
 mod forms;
 mod limits;
@@ -11,13 +12,12 @@ mod stops;
 ghost use Rattle.std.specs.Prelude.{◌≡◌};
 
 use crate::run::run;
-use shr_script::next_line;
 use flat_array::FlatDisk;
-use shr_script::{Command, next_line};
 use io_ends::{MemSink, MemSource, Source};
 use pool::Birth;
 use rack::{Bay, Name, Rack};
 use rack_mem::{DiskSpec, MemBay, Pick};
+use shr_script::{Command, next_line, next_line};
 use std::alloc::Global;
 use std::process::Abort;
 use std::test::Fail;

@@ -2,7 +2,7 @@
 
 ghost use Rattle.std.specs.Prelude.{◌≡◌, map, string_bytes};
 ghost use Rattle.std.specs.List.{list_all};
-ghost use Rattle.shr_tool.specs.Forms.{form_of as form_in, serve_form as serve_form_in, create_form as create_form_in, layout_form as layout_form_in, is_form_name as names_a_form, is_name as names_a_disk, are_names as name_disks};
+ghost use Rattle.shr_tool.specs.Forms.{form_of as form_in, examine_form as examine_form_in, serve_form as serve_form_in, create_form as create_form_in, layout_form as layout_form_in, is_form_name as names_a_form, is_name as names_a_disk, are_names as name_disks};
 
 use crate::layout::{extent_of, layout_request};
 
@@ -22,6 +22,8 @@ pub enum Form {
     },
     /// `layout E S..`
     Layout,
+    /// `examine NAME`
+    Examine,
 }
 
 /// The form of the words after the program's name.
@@ -37,6 +39,8 @@ pub fn form_of(words: &[String]) -> Form
         create_form(arguments)
     } else if first.as_str() == "layout" {
         layout_form(arguments)
+    } else if first.as_str() == "examine" {
+        examine_form(arguments)
     } else if is_form_name(first.as_str()) {
         Form::Unbuilt
     } else {
@@ -52,6 +56,19 @@ fn layout_form(arguments: &[String]) -> Form
         Some(_) => Form::Layout,
         None => Form::Wrong,
     }
+}
+
+// `examine NAME`
+fn examine_form(names: &[String]) -> Form
+    ensures { result ≡ examine_form_in (map string_bytes names.now) }
+{
+    if !are_names(names) {
+        return Form::Wrong;
+    }
+    if names.len() <= 1 {
+        return Form::Examine;
+    }
+    Form::Wrong
 }
 
 // `serve NAME..`
@@ -115,5 +132,5 @@ fn is_name(word: &str) -> bool
 fn is_form_name(word: &str) -> bool
     ensures { result ≡ names_a_form word.now }
 {
-    word == "import" || word == "export" || word == "status" || word == "examine" || word == "trial"
+    word == "import" || word == "export" || word == "status" || word == "trial"
 }

@@ -14,12 +14,12 @@ use crate::layout::lines::{
     bound_text, capacity_text, layer_text, refusal_text, unused_text, used,
 };
 use crate::layout::request::{LayoutRequest, MOST_SIZES};
-use shr_script::ReplyText;
 use crate::status::Status;
 use arrayvec::ArrayVec;
 use io_ends::{Failed, Sink};
 use layer_plan::{Layer, Layers, layout};
 use shr_base::units;
+use shr_script::ReplyText;
 
 /// Plans the layers and puts them, or why there are none, one line a call of the sink. It takes no
 /// memory.

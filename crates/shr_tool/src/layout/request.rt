@@ -4,8 +4,8 @@ ghost use Rattle.std.specs.Prelude.{◌≡◌, ◌≤◌, ◌<◌, ◌^◌, All,
 ghost use Rattle.std.specs.List.{list_all};
 ghost use Rattle.shr_tool.specs.LayoutWords.{IsSound, extent_of as extent_in, asked as asked_in, size_of as size_in, layout_request as request_in};
 
-use shr_script::number_of;
 use arrayvec::ArrayVec;
+use shr_script::number_of;
 
 /// One size more than the most drives that a plan takes.
 pub const MOST_SIZES: usize = 17;

@@ -11,12 +11,12 @@ ghost use Rattle.shr_tool.specs.Meaning.{view_of, meaning_in};
 ghost use Rattle.shr_tool.specs.Limits.{KeepsLimit};
 ghost use Rattle.shr_tool.specs.Outcome.{Outcome, SaysGone, HasStatusCause, EndsOutcome};
 
-use shr_script::{ReplyText, refused_number_reply};
 use crate::serve::{Stop, answer_script};
 use crate::status::Status;
 use io_ends::{Sink, Source};
 use pool::Pool;
 use rack::{Bay, Rack};
+use shr_script::{ReplyText, refused_number_reply};
 
 /// Answers the script on the input, and ends the pool unless a drive refused a call.
 pub fn serve_pool<R: Bay, I: Source, O: Sink>(

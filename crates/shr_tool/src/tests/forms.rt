@@ -44,7 +44,7 @@ fn check(
 
 #[test]
 fn words_that_are_no_form_are_refused(rt: HostRuntime) -> Result<(), Fail> {
-    let rows: [&[&str]; 15] = [
+    let rows: [&[&str]; 21] = [
         &[],
         &["bogus"],
         &["Serve", "M", "N"],
@@ -60,18 +60,23 @@ fn words_that_are_no_form_are_refused(rt: HostRuntime) -> Result<(), Fail> {
         &["create", "129", "M", "N"],
         &["create", "131072", "M", "N"],
         &["create", "128", "M", "-N"],
+        &["examine"],
+        &["examine", ""],
+        &["examine", "-M"],
+        &["examine", "M", "N"],
+        &["help"],
+        &["serve", "--x", "M"],
     ];
     check(&rt, rt.alloc(), &rows, "refused words\n", 2)
 }
 
 #[test]
 fn forms_that_are_not_built_are_refused(rt: HostRuntime) -> Result<(), Fail> {
-    let rows: [&[&str]; 6] = [
+    let rows: [&[&str]; 5] = [
         &["create", "128", "M", "N", "L"],
         &["import", "M"],
         &["export", "M"],
         &["status", "M"],
-        &["examine"],
         &["trial", "-x", ""],
     ];
     check(&rt, rt.alloc(), &rows, "refused unbuilt\n", 6)

@@ -1,7 +1,7 @@
 //! The limit of a script, by a reader with a small one.
 
-use shr_script::{Ended, LineReader};
 use io_ends::MemSource;
+use shr_script::{Ended, LineReader};
 use std::alloc::Global;
 use std::test::Fail;
 

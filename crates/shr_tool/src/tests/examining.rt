@@ -1,0 +1,49 @@
+//! `examine` on the images of a pool, and on a disk that fails.
+
+use super::{bay_of, made, run_over};
+use io_ends::MemSource;
+use rack::Rack;
+use rack_mem::MemBay;
+use std::alloc::Global;
+use std::process::Abort;
+use std::test::Fail;
+
+// `examine NAME` on a bay with nothing attached puts this, and ends with this status.
+fn check(
+    rt: &impl Abort,
+    alloc: Global,
+    bay: &mut MemBay,
+    name: &str,
+    wanted: &str,
+    status: u8,
+) -> Result<(), Fail> {
+    assert!(rt; bay.disks() == 0);
+    let input = MemSource::new(Vec::new(alloc), None);
+    let ran = run_over(alloc, &["examine", name], bay, input, None)?;
+    assert_eq!(rt; ran.put.as_slice(), wanted.as_bytes());
+    assert_eq!(rt; ran.status, status);
+    Ok(())
+}
+
+#[test]
+fn the_images_of_a_new_pool(rt: HostRuntime) -> Result<(), Fail> {
+    for (name, role) in [("M", 0), ("N", 1)] {
+        let mut bay = made(&rt, rt.alloc(), 79104)?;
+        let wanted = format!(in rt.alloc();
+            "image 79104\ntable primary\nmd none\nlvm none\nslice 1 2048 8192\nmd none\nlvm none\n\
+             slice 2 10240 5376\nmd level 1 members 2 chunk 0 size 3328 events 1 \
+             resync 18446744073709551615 role {role} features 0\nlvm none\n"
+        )?;
+        check(&rt, rt.alloc(), &mut bay, name, wanted.as_str(), 0)?;
+    }
+    Ok(())
+}
+
+#[test]
+fn an_image_without_sectors(rt: HostRuntime) -> Result<(), Fail> {
+    let mut bay = bay_of(&rt, rt.alloc(), &[("M", 0)])?;
+    let wanted = "image 0\ntable none\nmd none\nlvm none\n";
+    check(&rt, rt.alloc(), &mut bay, "M", wanted, 0)?;
+    let mut bay = bay_of(&rt, rt.alloc(), &[("M", 0)])?;
+    check(&rt, rt.alloc(), &mut bay, "N", "refused attach 0\n", 6)
+}
