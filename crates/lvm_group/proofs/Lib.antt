@@ -1,0 +1,4 @@
+pub mod Totals
+pub mod Found
+pub mod Below
+pub mod AllSynced

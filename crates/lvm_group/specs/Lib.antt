@@ -1,0 +1,5 @@
+pub mod Runs
+pub mod Shown
+pub mod Sequences
+pub mod Laws
+pub mod Volume
