@@ -17,7 +17,6 @@ use Rattle.lvm_group.proofs.Totals.{total_grows, total_rose, total_same}
 inside_still : {l : Linear} {a b : Seen} → Stays a b → IsInside l a → IsInside l b
 inside_still {l} {a} {b} stays inside = record {
   small = rw (stays.disks, total_same a.sectors b.sectors a.disks stays.sectors) inside.small;
-  bounded = inside.bounded;
   arrays = subst (λ n. l.arrays ≤ n) (sym stays.disks) inside.arrays;
   placed = inside.placed;
   held = λ e below. subst (λ n. data_start + (place_of l.runs e).extent * l.extent + l.extent ≤ n) (sym (stays.sectors (place_of l.runs e).array)) (inside.held e below);
@@ -100,7 +99,7 @@ unread_volume {l} {a} {b} d s into gone orderly inside within r =
 -- ---- writes
 
 -- one sector below belongs to one sector of the volume alone
-one_sector : (l : Linear) (s u : ℕ) → IsOrderly l → s < sectors_in l → u < sectors_in l
+pub one_sector : (l : Linear) (s u : ℕ) → IsOrderly l → s < sectors_in l → u < sectors_in l
     → array_of l s ≡ array_of l u → sector_of l s ≡ sector_of l u → s ≡ u
 one_sector l s u orderly within other same_array same_sector =
     let places = same_from_place (place_of l.runs (s / l.extent)).extent (s % l.extent) (place_of l.runs (u / l.extent)).extent (u % l.extent) l.extent

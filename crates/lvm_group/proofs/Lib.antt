@@ -1,4 +1,5 @@
 pub mod Totals
 pub mod Found
 pub mod Below
+pub mod Counted
 pub mod AllSynced

@@ -11,7 +11,6 @@ total f (suc disks) = total f disks + f disks
 -- the extents lie inside the arrays, which have fewer than 2^52 sectors together
 pub record IsInside (l : Linear) (a : Seen) : Type 0 where
   pub small : total a.sectors a.disks < 2 ^ 52
-  pub bounded : sectors_in l < 2 ^ 52
   pub arrays : l.arrays ≤ a.disks
   pub placed : (extent : ℕ) → extent < extents_of l.runs → (place_of l.runs extent).array < l.arrays
   pub held :
