@@ -11,11 +11,11 @@ use Rattle.lvm_group.specs.declared.runs.Run.{Run}
 use Rattle.lvm_group.specs.Runs.{AreInOrder, extents_of, has_extent, run_of}
 
 -- a run has the extents from its start on, as many as it counts
-has_it : (run : Run) (extent : ℕ) → run.start ≤ extent → extent < run.start + run.count → has_extent extent run ≡ true
+pub has_it : (run : Run) (extent : ℕ) → run.start ≤ extent → extent < run.start + run.count → has_extent extent run ≡ true
 has_it run extent starts ends = rw (le-leb run.start extent starts, lt-ltb extent (run.start + run.count) ends) refl
 
 -- and none behind them
-lacks_it : (run : Run) (extent : ℕ) → run.start + run.count ≤ extent → has_extent extent run ≡ false
+pub lacks_it : (run : Run) (extent : ℕ) → run.start + run.count ≤ extent → has_extent extent run ≡ false
 lacks_it run extent ends = rw (le-ltb extent (run.start + run.count) ends, and-false (nat_le run.start extent)) refl
 
 -- the run at a place, where those up to it start at the extent or before, and the others behind

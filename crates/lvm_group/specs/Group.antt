@@ -70,9 +70,13 @@ volume_in c sectors joined = option_map (λ g. contents_of (linear_in joined g) 
 
 -- ---- the groups that the pool writes
 
--- a physical volume of the group by an array's name
+-- a physical volume has the name of an array's
+abbrev pub names : ℕ → Pv → Bool
+names array pv = option_map_or (λ n. n == array) (array_named pv.name) false
+
+-- the physical volume of an array in the group
 abbrev pub pv_of : Group → ℕ → Option Pv
-pv_of g array = find (λ pv. bytes_eq pv.name (pv_name array)) g.pvs
+pv_of g array = find (names array) g.pvs
 
 -- a physical volume of a joined array, which holds its extents
 abbrev pub is_pv_of : List ℕ → ℕ → (ℕ → ℕ) → ℕ → Pv → ℕ → Bool
