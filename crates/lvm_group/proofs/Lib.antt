@@ -3,5 +3,6 @@ pub mod Found
 pub mod Below
 pub mod Counted
 pub mod Tests
-pub mod Profile
+pub mod Named
+pub mod OwnGroup
 pub mod AllSynced

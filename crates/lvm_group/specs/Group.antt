@@ -75,8 +75,8 @@ abbrev pub names : ℕ → Pv → Bool
 names array pv = option_map_or (λ n. n == array) (array_named pv.name) false
 
 -- the physical volume of an array in the group
-abbrev pub pv_of : Group → ℕ → Option Pv
-pv_of g array = find (names array) g.pvs
+abbrev pub pv_of : List Pv → ℕ → Option Pv
+pv_of pvs array = find (names array) pvs
 
 -- a physical volume of a joined array, which holds its extents
 abbrev pub is_pv_of : List ℕ → ℕ → (ℕ → ℕ) → ℕ → Pv → ℕ → Bool
@@ -97,8 +97,8 @@ follow start [] = true
 follow start (segment ∷ others) = (segment.start == start) && (is_some (run_in segment) && follow (start + segment.count) others)
 
 -- a run lies in the physical volume of its array
-abbrev pub lies_in : Group → Run → Bool
-lies_in g run = option_map_or (λ (pv : Pv). nat_le (run.first + run.count) pv.pe_count) (pv_of g run.array) false
+abbrev pub lies_in : List Pv → Run → Bool
+lies_in pvs run = option_map_or (λ (pv : Pv). nat_le (run.first + run.count) pv.pe_count) (pv_of pvs run.array) false
 
 -- two runs share no extent of an array
 abbrev pub are_apart : Run → Run → Bool
@@ -112,21 +112,21 @@ all_apart (run ∷ others) = list_all (are_apart run) others && all_apart others
 abbrev pub most_segments : ℕ
 most_segments = 1024
 
-abbrev pub is_lv : List ℕ → Group → Lv → Bool
-is_lv pool g lv =
+abbrev pub is_lv : List ℕ → List Pv → Lv → Bool
+is_lv pool pvs lv =
     bytes_eq lv.name lv_name && (bytes_eq lv.id (text_id (lv_id pool)) && (nat_le (length lv.segments) most_segments
-    && (follow 0 lv.segments && (list_all (lies_in g) (runs_from lv.segments) && all_apart (runs_from lv.segments)))))
+    && (follow 0 lv.segments && (list_all (lies_in pvs) (runs_from lv.segments) && all_apart (runs_from lv.segments)))))
 
 -- the group has one logical volume, and it is the pool's
-abbrev pub is_only_lv : List ℕ → Group → List Lv → Bool
-is_only_lv pool g (lv ∷ []) = is_lv pool g lv
-is_only_lv pool g lvs = false
+abbrev pub is_only_lv : List ℕ → List Pv → List Lv → Bool
+is_only_lv pool pvs (lv ∷ []) = is_lv pool pvs lv
+is_only_lv pool pvs lvs = false
 
 -- a group as the pool writes it
 abbrev pub is_own_group : List ℕ → ℕ → (ℕ → ℕ) → ℕ → Group → Bool
 is_own_group pool extent sectors joined g =
     bytes_eq g.name group_name && (bytes_eq g.id (text_id (group_id pool)) && ((g.extent_size == extent) && (nat_lt g.seqno (2 ^ 63)
-    && (list_all (is_pv pool extent sectors joined) g.pvs && (differ g.pvs && is_only_lv pool g g.lvs)))))
+    && (list_all (is_pv pool extent sectors joined) g.pvs && (differ g.pvs && is_only_lv pool g.pvs g.lvs)))))
 
 -- ---- bad arrays
 
@@ -137,7 +137,7 @@ has_own_label pool array part =
 
 -- the group names an array
 abbrev pub names_array : Group → ℕ → Bool
-names_array g array = is_some (pv_of g array)
+names_array g array = is_some (pv_of g.pvs array)
 
 -- a bad text; named without a label of its id and a header; or, of array 0, a group that isn't the pool's
 abbrev pub is_bad_by : List ℕ → ℕ → (ℕ → ℕ) → ℕ → Option Group → ℕ → Part → Bool

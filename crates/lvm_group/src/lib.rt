@@ -12,6 +12,8 @@
 //! is fit where its extents lie inside the arrays, which have fewer than 2^52 sectors together.
 #![tactic(auto)]
 
+mod naming;
+mod profile;
 mod runs;
 mod syncing;
 mod volume;

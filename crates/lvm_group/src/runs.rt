@@ -26,7 +26,7 @@ pub(crate) struct Spot {
 }
 
 /// The sector of an array at which its first extent begins.
-const DATA_START: u64 = 2048;
+pub(crate) const DATA_START: u64 = 2048;
 
 /// The run that has an extent, found by halving.
 pub(crate) fn run_with(runs: &[Run], extent: u64) -> Run

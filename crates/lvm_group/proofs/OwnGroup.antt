@@ -159,10 +159,10 @@ same_value : {X : Type 0} (o : Option X) (x y : X) → o ≡ Some x → o ≡ So
 same_value o x y first second = let same : Some x ≡ Some y = sym first ∙ second in cc
 
 -- a run lies inside its array
-run_inside : (pool : List ℕ) (extent joined : ℕ) (sectors : ℕ → ℕ) (g : Group) (run : Run) → list_all (is_pv pool extent sectors joined) g.pvs ≡ true → lies_in g run ≡ true
+run_inside : (pool : List ℕ) (extent joined : ℕ) (sectors : ℕ → ℕ) (g : Group) (run : Run) → list_all (is_pv pool extent sectors joined) g.pvs ≡ true → lies_in g.pvs run ≡ true
     → (run.array < joined) × (data_start + (run.first + run.count) * extent ≤ sectors run.array)
 run_inside pool extent joined sectors g run all lies =
-    let pv = some_passes (λ (pv : Pv). nat_le (run.first + run.count) pv.pe_count) (pv_of g run.array) lies in
+    let pv = some_passes (λ (pv : Pv). nat_le (run.first + run.count) pv.pe_count) (pv_of g.pvs run.array) lies in
     let name = some_passes (λ n. n == run.array) (array_named pv.0.name) (found_passes (names run.array) g.pvs pv.0 pv.1) in
     let own = some_passes (is_pv_of pool extent sectors joined pv.0) (array_named pv.0.name) (found_all (names run.array) (is_pv pool extent sectors joined) g.pvs pv.0 pv.1 all) in
     let array : own.0 ≡ run.array = same_value (array_named pv.0.name) own.0 name.0 own.1 name.1 ∙ eqb-true name.0 run.array name.2 in
@@ -181,7 +181,7 @@ record IsPlaced (extent joined : ℕ) (sectors : ℕ → ℕ) (runs : List Run) 
   apart : AreApart runs
   inside : (place : ℕ) (run : Run) → slice_get runs place ≡ Some run → (run.array < joined) × (data_start + (run.first + run.count) * extent ≤ sectors run.array)
 
-lv_placed : (pool : List ℕ) (extent joined : ℕ) (sectors : ℕ → ℕ) (g : Group) (lvs : List Lv) → list_all (is_pv pool extent sectors joined) g.pvs ≡ true → is_only_lv pool g lvs ≡ true
+lv_placed : (pool : List ℕ) (extent joined : ℕ) (sectors : ℕ → ℕ) (g : Group) (lvs : List Lv) → list_all (is_pv pool extent sectors joined) g.pvs ≡ true → is_only_lv pool g.pvs lvs ≡ true
     → IsPlaced extent joined sectors (runs_in lvs)
 lv_placed pool extent joined sectors g [] all is = cc
 lv_placed pool extent joined sectors g (lv ∷ []) all is =
@@ -189,12 +189,12 @@ lv_placed pool extent joined sectors g (lv ∷ []) all is =
     let id = both (bytes_eq lv.id (text_id (lv_id pool))) _ name.1 in
     let few = both (nat_le (length lv.segments) most_segments) _ id.1 in
     let follows = both (follow 0 lv.segments) _ few.1 in
-    let lie = both (list_all (lies_in g) (runs_from lv.segments)) (all_apart (runs_from lv.segments)) follows.1 in
+    let lie = both (list_all (lies_in g.pvs) (runs_from lv.segments)) (all_apart (runs_from lv.segments)) follows.1 in
     let order = order_of lv.segments 0 follows.0 in
     record {
       order = order;
       apart = apart_of (runs_from lv.segments) order lie.1;
-      inside = λ place run at. run_inside pool extent joined sectors g run all (all_at (lies_in g) (runs_from lv.segments) place run lie.0 at);
+      inside = λ place run at. run_inside pool extent joined sectors g run all (all_at (lies_in g.pvs) (runs_from lv.segments) place run lie.0 at);
     }
 lv_placed pool extent joined sectors g (lv ∷ other ∷ others) all is = cc
 
@@ -221,7 +221,7 @@ own_placed pool extent joined sectors g own =
     let size = both (g.extent_size == extent) _ id.1 in
     let seqno = both (nat_lt g.seqno (2 ^ 63)) _ size.1 in
     let pvs = both (list_all (is_pv pool extent sectors joined) g.pvs) _ seqno.1 in
-    let lvs = both (differ g.pvs) (is_only_lv pool g g.lvs) pvs.1 in
+    let lvs = both (differ g.pvs) (is_only_lv pool g.pvs g.lvs) pvs.1 in
     record { sized = eqb-true g.extent_size extent size.0; placed = lv_placed pool extent joined sectors g g.lvs pvs.0 lvs.1 }
 
 -- it is orderly
