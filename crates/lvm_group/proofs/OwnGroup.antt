@@ -16,7 +16,7 @@ use Rattle.lvm_group.specs.Ids.{array_named, group_id, pv_id, lv_id, text_id, gr
 use Rattle.rack.specs.Seen.{Seen}
 use Rattle.lvm_group.specs.Shown.{IsInside, total}
 use Rattle.lvm_group.specs.Runs.{Linear, Place, AreInOrder, AreApart, IsOrderly, place_of, place_in, data_start, extents_of, run_of}
-use Rattle.lvm_group.specs.Group.{run_by, run_in, with_run, runs_from, runs_in, linear_in, names, pv_of, is_pv_of, is_pv, follow, lies_in, are_apart, all_apart, differ, most_segments, is_lv, is_only_lv, is_own_group}
+use Rattle.lvm_group.specs.Group.{run_by, run_in, with_run, runs_from, runs_in, linear_in, names, pv_of, is_pv_of, is_pv, follow, lies_in, are_apart, all_apart, differ, most_segments, has_own_name, has_own_head, is_lv, is_only_lv, is_own_group}
 use Rattle.lvm_group.proofs.Tests.{both, found_passes, found_all, all_at, some_passes, is_there}
 use Rattle.lvm_group.proofs.Found.{has_it, lacks_it}
 
@@ -185,9 +185,8 @@ lv_placed : (pool : List ℕ) (extent joined : ℕ) (sectors : ℕ → ℕ) (g :
     → IsPlaced extent joined sectors (runs_in lvs)
 lv_placed pool extent joined sectors g [] all is = cc
 lv_placed pool extent joined sectors g (lv ∷ []) all is =
-    let name = both (bytes_eq lv.name lv_name) _ is in
-    let id = both (bytes_eq lv.id (text_id (lv_id pool))) _ name.1 in
-    let few = both (nat_le (length lv.segments) most_segments) _ id.1 in
+    let name = both (has_own_name pool lv) _ is in
+    let few = both (nat_le (length lv.segments) most_segments) _ name.1 in
     let follows = both (follow 0 lv.segments) _ few.1 in
     let lie = both (list_all (lies_in g.pvs) (runs_from lv.segments)) (all_apart (runs_from lv.segments)) follows.1 in
     let order = order_of lv.segments 0 follows.0 in
@@ -216,11 +215,11 @@ record IsOwn (pool : List ℕ) (extent joined : ℕ) (sectors : ℕ → ℕ) (g 
 
 own_placed : (pool : List ℕ) (extent joined : ℕ) (sectors : ℕ → ℕ) (g : Group) → is_own_group pool extent sectors joined g ≡ true → IsOwn pool extent joined sectors g
 own_placed pool extent joined sectors g own =
-    let name = both (bytes_eq g.name group_name) _ own in
+    let head = both (has_own_head pool extent g) _ own in
+    let name = both (bytes_eq g.name group_name) _ head.0 in
     let id = both (bytes_eq g.id (text_id (group_id pool))) _ name.1 in
-    let size = both (g.extent_size == extent) _ id.1 in
-    let seqno = both (nat_lt g.seqno (2 ^ 63)) _ size.1 in
-    let pvs = both (list_all (is_pv pool extent sectors joined) g.pvs) _ seqno.1 in
+    let size = both (g.extent_size == extent) (nat_lt g.seqno (2 ^ 63)) id.1 in
+    let pvs = both (list_all (is_pv pool extent sectors joined) g.pvs) _ head.1 in
     let lvs = both (differ g.pvs) (is_only_lv pool g.pvs g.lvs) pvs.1 in
     record { sized = eqb-true g.extent_size extent size.0; placed = lv_placed pool extent joined sectors g g.lvs pvs.0 lvs.1 }
 

@@ -112,21 +112,29 @@ all_apart (run ∷ others) = list_all (are_apart run) others && all_apart others
 abbrev pub most_segments : ℕ
 most_segments = 1024
 
+-- it has the pool's name and id
+abbrev pub has_own_name : List ℕ → Lv → Bool
+has_own_name pool lv = bytes_eq lv.name lv_name && bytes_eq lv.id (text_id (lv_id pool))
+
 abbrev pub is_lv : List ℕ → List Pv → Lv → Bool
 is_lv pool pvs lv =
-    bytes_eq lv.name lv_name && (bytes_eq lv.id (text_id (lv_id pool)) && (nat_le (length lv.segments) most_segments
-    && (follow 0 lv.segments && (list_all (lies_in pvs) (runs_from lv.segments) && all_apart (runs_from lv.segments)))))
+    has_own_name pool lv && (nat_le (length lv.segments) most_segments
+    && (follow 0 lv.segments && (list_all (lies_in pvs) (runs_from lv.segments) && all_apart (runs_from lv.segments))))
 
 -- the group has one logical volume, and it is the pool's
 abbrev pub is_only_lv : List ℕ → List Pv → List Lv → Bool
 is_only_lv pool pvs (lv ∷ []) = is_lv pool pvs lv
 is_only_lv pool pvs lvs = false
 
+-- the group has the pool's name and id, its size of an extent, and a seqno with room
+abbrev pub has_own_head : List ℕ → ℕ → Group → Bool
+has_own_head pool extent g =
+    bytes_eq g.name group_name && (bytes_eq g.id (text_id (group_id pool)) && ((g.extent_size == extent) && nat_lt g.seqno (2 ^ 63)))
+
 -- a group as the pool writes it
 abbrev pub is_own_group : List ℕ → ℕ → (ℕ → ℕ) → ℕ → Group → Bool
 is_own_group pool extent sectors joined g =
-    bytes_eq g.name group_name && (bytes_eq g.id (text_id (group_id pool)) && ((g.extent_size == extent) && (nat_lt g.seqno (2 ^ 63)
-    && (list_all (is_pv pool extent sectors joined) g.pvs && (differ g.pvs && is_only_lv pool g.pvs g.lvs)))))
+    has_own_head pool extent g && (list_all (is_pv pool extent sectors joined) g.pvs && (differ g.pvs && is_only_lv pool g.pvs g.lvs))
 
 -- ---- bad arrays
 

@@ -2,13 +2,14 @@
 
 ghost use Rattle.std.specs.Prelude.{◌≡◌, ◌≤◌, ◌==◌, ◌&&◌, ◌^◌, IfOk, IfSome, bytes_eq, is_some, length, nat_lt, not, option_map, slice_index};
 ghost use Rattle.std.specs.List.{list_all, list_any};
-ghost use Rattle.lvm_group.specs.Ids.{group_id, group_name, lv_id, lv_name};
-ghost use Rattle.lvm_group.specs.Ids.{text_id as spelled_id};
 ghost use Rattle.lvm_group.specs.Group.{
   all_apart,
   are_apart,
   differ,
   follow,
+  has_own_head,
+  has_own_name,
+  is_lv,
   is_only_lv,
   is_own_group,
   is_pv,
@@ -235,8 +236,7 @@ fn differ(pvs: &[Pv]) -> bool
 
 /// Whether a group has the pool's name and id, its size of an extent, and a seqno with room.
 fn has_own_head(pool: &Id, extent: u32, group: &Group) -> bool
-    ensures { result ≡ (bytes_eq group.now.name group_name && (bytes_eq group.now.id (spelled_id (group_id pool.now.0))
-        && ((group.now.extent_size == extent) && nat_lt group.now.seqno (2 ^ 63)))) }
+    ensures { result ≡ has_own_head pool.now.0 extent group.now }
 {
     group.name.bytes() == b"vg1000".as_slice()
         && group.id.bytes() == text_id(&child_id(pool, 5, 0, 0)).as_slice()
@@ -246,7 +246,46 @@ fn has_own_head(pool: &Id, extent: u32, group: &Group) -> bool
 
 /// Whether a logical volume has the pool's name and id.
 fn has_own_name(pool: &Id, lv: &Lv) -> bool
-    ensures { result ≡ (bytes_eq lv.now.name lv_name && bytes_eq lv.now.id (spelled_id (lv_id pool.now.0))) }
+    ensures { result ≡ has_own_name pool.now.0 lv.now }
 {
     lv.name.bytes() == b"lv".as_slice() && lv.id.bytes() == text_id(&child_id(pool, 7, 0, 0)).as_slice()
+}
+
+/// The runs of a logical volume, where it is the pool's.
+fn own_lv_runs(alloc: Global, pool: &Id, pvs: &[Pv], lv: &Lv) -> Result<Option<Vec<Run>>, NoMemory>
+    ensures own { IfOk result (λ found. is_some found ≡ is_lv pool.now.0 pvs.now lv.now) }
+    ensures runs { IfOk result (λ found. IfSome found (λ runs. runs.items ≡ runs_from lv.now.segments)) }
+{
+    let segments = lv.segments.as_slice();
+    if !has_own_name(pool, lv) || segments.len() > MOST_SEGMENTS || !follow(segments) {
+        return Ok(None);
+    }
+    let runs = runs_from(alloc, segments)?;
+    if !all_lie(pvs, runs.as_slice()) || !all_apart(runs.as_slice()) {
+        return Ok(None);
+    }
+    Ok(Some(runs))
+}
+
+/// The runs of a group's volume, where the group is one that the pool writes. The slice has the
+/// joined arrays' sectors.
+pub(crate) fn own_runs(
+    alloc: Global,
+    pool: &Id,
+    extent: u32,
+    sectors: &[u64],
+    group: &Group,
+) -> Result<Option<Vec<Run>>, NoMemory>
+    ensures own { IfOk result (λ found. is_some found
+        ≡ is_own_group pool.now.0 extent (slice_index sectors.now) (length sectors.now) group.now) }
+    ensures runs { IfOk result (λ found. IfSome found (λ runs. runs.items ≡ runs_in group.now.lvs)) }
+{
+    let pvs = group.pvs.as_slice();
+    if !has_own_head(pool, extent, group) || !are_pvs(pool, extent, sectors, pvs) || !differ(pvs) {
+        return Ok(None);
+    }
+    match group.lvs.as_slice() {
+        [lv] => own_lv_runs(alloc, pool, pvs, lv),
+        _ => Ok(None),
+    }
 }
