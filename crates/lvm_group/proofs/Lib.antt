@@ -3,6 +3,8 @@ pub mod Found
 pub mod Below
 pub mod Counted
 pub mod Tests
+pub mod Looking
+pub mod LabelRead
 pub mod Named
 pub mod OwnGroup
 pub mod AllSynced

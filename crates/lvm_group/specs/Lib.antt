@@ -5,4 +5,5 @@ pub mod Laws
 pub mod Volume
 pub mod Ids
 pub mod Parts
+pub mod Reading
 pub mod Group

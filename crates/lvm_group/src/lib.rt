@@ -14,6 +14,7 @@
 
 mod naming;
 mod profile;
+mod reading;
 mod runs;
 mod syncing;
 mod volume;
