@@ -4,6 +4,7 @@ pub mod Below
 pub mod Counted
 pub mod Tests
 pub mod Looking
+pub mod HeaderRead
 pub mod LabelRead
 pub mod Named
 pub mod OwnGroup

@@ -61,6 +61,8 @@ fn read_header<R: Rack>(rack: &mut R, array: u32, sector: u64) -> Option<Header>
     ensures value { (now : Array) → IsNow (R.seen rack.old) array now
         → (c : Array) × AreRead (R.seen rack.old) (R.seen rack.new) array now c × (result ≡ result_ok (header_of (c sector))) }
 {
-    let bytes = read_at(rack, array, sector)?;
-    decode_header(&bytes).ok()
+    match read_at(rack, array, sector) {
+        Some(bytes) => decode_header(&bytes).ok(),
+        None => None,
+    }
 }
