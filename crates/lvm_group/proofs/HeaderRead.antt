@@ -7,8 +7,8 @@ use Rattle.rack.specs.Seen.{Seen}
 use Rattle.lvm_label.specs.declared.header.Header.{Header}
 use Rattle.lvm_label.specs.Header.{header_of}
 use Rattle.lvm_group.specs.Parts.{Array}
-use Rattle.lvm_group.specs.Reading.{IsRead, AreRead}
-use Rattle.lvm_group.proofs.Looking.{held_on, held_read, with_sector, sector_read}
+use Rattle.lvm_group.specs.Reading.{IsRead, AreRead, held_on}
+use Rattle.lvm_group.proofs.Looking.{held_read, with_sector, sector_read}
 
 -- the contents with a sector have it
 pub has_sector : (c : Array) (sector : ℕ) (bytes : List ℕ) → with_sector c sector bytes sector ≡ bytes

@@ -5,8 +5,8 @@ use Rattle.std.specs.Result.{result_ok}
 use Rattle.rack.specs.Seen.{Seen}
 use Rattle.lvm_label.specs.Label.{label_in}
 use Rattle.lvm_group.specs.Parts.{Array, label_on}
-use Rattle.lvm_group.specs.Reading.{Looks, IsNow, IsRead, AreRead}
-use Rattle.lvm_group.proofs.Looking.{looks_same, looks_then, read_longer, held_on, held_read, with_sector, sector_read}
+use Rattle.lvm_group.specs.Reading.{Looks, IsNow, IsRead, AreRead, held_on}
+use Rattle.lvm_group.proofs.Looking.{looks_same, looks_then, read_longer, held_read, with_sector, sector_read}
 
 abbrev zeros : List ℕ
 zeros = replicate 512 0

@@ -4,6 +4,10 @@ pub mod Below
 pub mod Counted
 pub mod Tests
 pub mod Looking
+pub mod Rows
+pub mod GroupRead
+pub mod TextRead
+pub mod RowRead
 pub mod HeaderRead
 pub mod LabelRead
 pub mod Named

@@ -7,7 +7,7 @@ use Rattle.rack.specs.Seen.{Seen, IsLive, Rose, Stays}
 use Rattle.rack.specs.Calls.{KeepsAll, Reads}
 use Rattle.rack.specs.Joins.{stays_same, stays_then, keeps_all_then, keeps_same, leaves_same, rose_since}
 use Rattle.lvm_group.specs.Parts.{Array}
-use Rattle.lvm_group.specs.Reading.{Looks, IsNow, IsRead, AreRead}
+use Rattle.lvm_group.specs.Reading.{Looks, IsNow, IsRead, AreRead, held_on}
 
 -- no call
 pub looks_same : (a : Seen) → a.fit → Looks a a
@@ -73,10 +73,6 @@ read_longer {a} {b} {c} {d} array now sector bytes before after is = record {
   ];
   past = λ over. is.past (subst (λ n. n ≤ sector) (sym (before.stays.sectors array)) over);
 }
-
--- the contents where nothing was refused
-abbrev pub held_on : Seen → ℕ → Array → Array
-held_on a array now = λ sector. if nat_lt sector (a.sectors array) then now sector else []
 
 pub held_read : (a b : Seen) (array : ℕ) (now : Array) → AreRead a b array now (held_on a array now)
 held_read a b array now = λ sector. elim (cases_lt sector (a.sectors array)) [

@@ -1,9 +1,8 @@
 -- What stands in an array for its volume group: a label with its metadata area, a header, and the text at the
 -- header's first location.
-use Rattle.std.specs.Prelude.{ℕ, ◌+◌, ◌-◌, ◌*◌, ◌/◌, ◌%◌, ◌==◌, ◌&&◌, Bool, nat_le, nat_lt, not, is_some, if◌then◌else◌, List, [], ◌∷◌, map, slice_get, Option, Some, None, option_map}
+use Rattle.std.specs.Prelude.{ℕ, zero, suc, min, ◌++◌, ◌+◌, ◌-◌, ◌*◌, ◌/◌, ◌%◌, ◌==◌, ◌&&◌, Bool, nat_le, nat_lt, not, is_some, if◌then◌else◌, List, [], ◌∷◌, slice_get, Option, Some, None, option_map}
 use Rattle.std.specs.Option.{option_and_then}
 use Rattle.std.specs.Result.{result_ok}
-use Rattle.std.specs.List.{range_with_len}
 use Rattle.rack.specs.Seen.{Image}
 use Rattle.shr_base.specs.Crc.{lvm_crc_of}
 use Rattle.lvm_label.specs.declared.label.Area.{Area}
@@ -47,22 +46,28 @@ own_header_sector = 8
 abbrev pub byte_at : Array → ℕ → Option ℕ
 byte_at a place = slice_get (a (place / 512)) (place % 512)
 
--- a place in an area; past the area's end it goes on behind the header
-abbrev pub wrapped : Area → ℕ → ℕ
-wrapped area place = if nat_lt place area.size then place else place - (area.size - 512)
-
 -- the bytes, where each of them is there
 abbrev pub with_byte : Option ℕ → Option (List ℕ) → Option (List ℕ)
 with_byte byte bytes = option_and_then (λ b. option_map (λ (bs : List ℕ). b ∷ bs) bytes) byte
 
-unfoldable pub all_bytes : List (Option ℕ) → Option (List ℕ)
-all_bytes [] = Some []
-all_bytes (byte ∷ bytes) = with_byte byte (all_bytes bytes)
+-- bytes that lie in a row, from a place on
+unfoldable pub row_at : Array → ℕ → ℕ → Option (List ℕ)
+row_at a place zero = Some []
+row_at a place (suc count) = with_byte (byte_at a place) (row_at a (place + 1) count)
 
--- the bytes at a location
+-- bytes behind others
+abbrev pub behind : List ℕ → Option (List ℕ) → Option (List ℕ)
+behind front back = option_map (λ (bytes : List ℕ). front ++ bytes) back
+
+-- how many bytes of a text stand before the end of its area
+abbrev pub before_end : Area → Location → ℕ
+before_end area location = min location.size (area.size - location.offset)
+
+-- the bytes at a location; past the end of the area they go on behind the header
 unfoldable pub text_at : Array → Area → Location → Option (List ℕ)
 text_at a area location =
-    all_bytes (map (λ k. byte_at a (area.offset + wrapped area (location.offset + k))) (range_with_len 0 location.size))
+    option_and_then (λ (front : List ℕ). behind front (row_at a (area.offset + 512) (location.size - before_end area location)))
+    (row_at a (area.offset + location.offset) (before_end area location))
 
 -- the longest text
 abbrev pub most_text : ℕ
@@ -93,21 +98,25 @@ pub record Part : Type 0 where
 abbrev pub location_in : Header → Option Location
 location_in header = slice_get header.locations.items 0
 
--- with a label the header is that of the label's first metadata area, and without one a header in sector 8 has no area
-unfoldable pub part_by : Array → ℕ → Option Label → Part
-part_by a sectors None = record { label = None; header = result_ok (header_of (a own_header_sector)); group = None }
-part_by a sectors (Some label) =
-    let area = area_of sectors label in
-    let header = option_and_then (header_at a) area in
-    record {
-      label = Some label;
-      header = header;
-      group = option_and_then (λ h. option_and_then (λ p. option_and_then (λ l. group_at a p l) (location_in h)) area) header;
-    }
+-- the group of the text at a header's first location
+abbrev pub group_in_area : Array → Option Area → Option Header → Option Group
+group_in_area a area header = option_and_then (λ h. option_and_then (λ p. option_and_then (λ l. group_at a p l) (location_in h)) area) header
 
--- what stands in an array of so many sectors
+-- with a label the header is that of the label's first metadata area, and without one a header in sector 8 has no area
+unfoldable pub part_by : Array → Array → ℕ → Option Label → Part
+part_by headers texts sectors None = record { label = None; header = result_ok (header_of (headers own_header_sector)); group = None }
+part_by headers texts sectors (Some label) =
+    let area = area_of sectors label in
+    let header = option_and_then (header_at headers) area in
+    record { label = Some label; header = header; group = group_in_area texts area header }
+
+-- what stands in an array of so many sectors, where label, header and text are read one after the other
+abbrev pub part_from : Array → Array → Array → ℕ → Part
+part_from labels headers texts sectors = part_by headers texts sectors (label_on labels)
+
+-- what stands in an array
 abbrev pub part_of : Array → ℕ → Part
-part_of a sectors = part_by a sectors (label_on a)
+part_of a sectors = part_from a a a sectors
 
 -- a header has a location that gives no group
 abbrev pub has_bad_text : Part → Bool

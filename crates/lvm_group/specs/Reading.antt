@@ -1,5 +1,5 @@
 -- What reading an array gives, where sectors may be refused or spent meanwhile.
-use Rattle.std.specs.Prelude.{◌≡◌, ◌⊎◌, ℕ, ◌<◌, ◌≤◌, false, List, []}
+use Rattle.std.specs.Prelude.{◌≡◌, ◌⊎◌, ℕ, ◌<◌, ◌≤◌, false, nat_lt, if◌then◌else◌, List, []}
 use Rattle.rack.specs.Seen.{Seen, Rose, Stays}
 use Rattle.rack.specs.Calls.{KeepsAll}
 use Rattle.lvm_group.specs.Parts.{Array}
@@ -22,3 +22,7 @@ pub record IsRead (a b : Seen) (array : ℕ) (now : Array) (sector : ℕ) (bytes
 -- an array was read as these contents
 abbrev pub AreRead : Seen → Seen → ℕ → Array → Array → Type 0
 AreRead a b array now c = (sector : ℕ) → IsRead a b array now sector (c sector)
+
+-- the contents where nothing was refused
+abbrev pub held_on : Seen → ℕ → Array → Array
+held_on a array now = λ sector. if nat_lt sector (a.sectors array) then now sector else []
