@@ -5,6 +5,8 @@ pub mod Counted
 pub mod Tests
 pub mod Looking
 pub mod Rows
+pub mod AreaRead
+pub mod PartRead
 pub mod GroupRead
 pub mod TextRead
 pub mod RowRead

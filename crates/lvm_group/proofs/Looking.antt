@@ -88,7 +88,7 @@ not_there : (b : Bool) → (b ≡ true → ⊥) → b ≡ false
 not_there true never = absurd (never refl)
 not_there false never = refl
 
-differs : (m n : ℕ) → m ≢ n → (m == n) ≡ false
+pub differs : (m n : ℕ) → m ≢ n → (m == n) ≡ false
 differs m n other = not_there (m == n) (λ same. other (eqb-true m n same))
 
 pub sector_read : {a b : Seen} (array : ℕ) (now c : Array) (sector : ℕ) (bytes : List ℕ) → AreRead a b array now c → IsRead a b array now sector bytes → AreRead a b array now (with_sector c sector bytes)

@@ -14,7 +14,8 @@ use Rattle.lvm_group.specs.declared.runs.Run.{Run}
 use Rattle.lvm_group.specs.Runs.{Linear, data_start}
 use Rattle.lvm_group.specs.Shown.{contents_of}
 use Rattle.lvm_group.specs.Ids.{group_id, pv_id, lv_id, label_id, text_id, group_name, lv_name, pv_name, array_named}
-use Rattle.lvm_group.specs.Parts.{Part, part_of, has_bad_text}
+use Rattle.lvm_group.specs.declared.parts.Part.{Part}
+use Rattle.lvm_group.specs.Parts.{part_of, has_bad_text}
 
 -- ---- which text counts
 

@@ -6,4 +6,5 @@ pub mod Volume
 pub mod Ids
 pub mod Parts
 pub mod Reading
+pub mod Found
 pub mod Group

@@ -13,6 +13,7 @@ use Rattle.lvm_label.specs.Label.{label_in}
 use Rattle.lvm_label.specs.Header.{header_of}
 use Rattle.lvm_text.specs.declared.group.Group.{Group}
 use Rattle.lvm_text.specs.Group.{group_of}
+use Rattle.lvm_group.specs.declared.parts.Part.{Part}
 
 -- An array is its sectors by number; what can't be read or lies past its end is the empty list, which is no label, no
 -- header and no byte of a text.
@@ -87,12 +88,6 @@ unfoldable pub group_at : Array → Area → Location → Option Group
 group_at a area location = if is_inside area location then option_and_then (group_by location) (text_at a area location) else None
 
 -- ---- an array's part of the group
-
-pub record Part : Type 0 where
-  pub label : Option Label
-  pub header : Option Header
-  -- the group of its text, where label, header and text are valid
-  pub group : Option Group
 
 -- the first location of a header
 abbrev pub location_in : Header → Option Location

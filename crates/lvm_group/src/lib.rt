@@ -13,6 +13,7 @@
 #![tactic(auto)]
 
 mod naming;
+mod parts;
 mod profile;
 mod reading;
 mod runs;

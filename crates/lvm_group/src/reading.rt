@@ -45,7 +45,7 @@ fn or_zeros(sector: Option<[u8; 512]>) -> [u8; 512]
 }
 
 /// Reads the label of an array.
-fn read_label<R: Rack>(rack: &mut R, array: u32) -> Option<Label>
+pub(crate) fn read_label<R: Rack>(rack: &mut R, array: u32) -> Option<Label>
     requires fit { (R.seen rack.old).fit }
     requires array { array < (R.seen rack.old).disks }
     ensures looks { Looks (R.seen rack.old) (R.seen rack.new) }
@@ -62,7 +62,7 @@ fn read_label<R: Rack>(rack: &mut R, array: u32) -> Option<Label>
 }
 
 /// Reads the header in a sector of an array.
-fn read_header<R: Rack>(rack: &mut R, array: u32, sector: u64) -> Option<Header>
+pub(crate) fn read_header<R: Rack>(rack: &mut R, array: u32, sector: u64) -> Option<Header>
     requires fit { (R.seen rack.old).fit }
     requires array { array < (R.seen rack.old).disks }
     ensures looks { Looks (R.seen rack.old) (R.seen rack.new) }
@@ -167,7 +167,7 @@ fn group_of(alloc: Global, text: &[u8]) -> Result<Option<Group>, NoMemory>
 
 /// Reads the group at a location of an array, by a buffer with room for the longest text.
 #[tactic(auto, unfolding(crate::specs::Parts::group_at))]
-fn read_group<R: Rack>(
+pub(crate) fn read_group<R: Rack>(
     alloc: Global,
     rack: &mut R,
     array: u32,
