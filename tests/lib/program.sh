@@ -1,8 +1,8 @@
 # For the checks of the built program, which source this file: the frame of all checks, the program, and `check`.
 . "$(dirname "$(readlink -f "${BASH_SOURCE[0]}")")/checks.sh"
 
-# Has the launcher build the program, and then calls that program alone: no build speaks below.
-"$top/roskubel" </dev/null >/dev/null
+# Has the launcher build the program where it isn't built, and then calls that program alone: no build speaks below.
+ROSKUBEL_BUILD=1 "$top/roskubel" </dev/null >/dev/null
 [ $? -eq 2 ] || { echo "the program isn't built"; exit 1; }
 tool=$top/out/shr_tool
 

@@ -1,35 +1,9 @@
 -- The flat run: what each command replies and leaves.
 use Rattle.std.specs.Prelude.{ℕ, ◌+◌, ◌==◌, nat_le, nat_lt, if◌then◌else◌, List, [], ◌∷◌, ◌++◌, replicate, codes, decimal}
-use Rattle.hex.specs.Hex.{encode_lower}
-use Rattle.flat_array.specs.declared.Command.{Command}
-use Rattle.flat_array.specs.declared.Command.TheVariants.{Read, Write, Fill, Flush, Size, Quit, Unbuilt, Syntax}
+use Rattle.shr_script.specs.declared.Command.{Command}
+use Rattle.shr_script.specs.declared.Command.TheVariants.{Read, Write, Fill, Flush, Size, Quit, Unbuilt, Syntax}
+use Rattle.shr_script.specs.Reply.{as_line, data_line, refused_line}
 use Rattle.flat_array.specs.Array.{FlatArray, written, filled, flushed}
-
--- bytes without the zeros at their end
-abbrev pub before_zeros : ℕ → List ℕ → List ℕ
-before_zeros b [] = if b == 0 then [] else b ∷ []
-before_zeros b (c ∷ bytes) = b ∷ c ∷ bytes
-
-abbrev pub without_zeros : List ℕ → List ℕ
-without_zeros [] = []
-without_zeros (b ∷ bytes) = before_zeros b (without_zeros bytes)
-
--- lower-case digits, or a dash for no byte
-abbrev pub digits_or_dash : List ℕ → List ℕ
-digits_or_dash [] = codes "-"
-digits_or_dash (b ∷ bytes) = encode_lower (b ∷ bytes)
-
--- a text as a line
-abbrev pub as_line : List ℕ → List ℕ
-as_line text = text ++ 10 ∷ []
-
--- `data H`
-abbrev pub data_line : List ℕ → List ℕ
-data_line bytes = codes "data " ++ digits_or_dash (without_zeros bytes) ++ 10 ∷ []
-
--- `refused WHY`
-abbrev pub refused_line : List ℕ → List ℕ
-refused_line why = codes "refused " ++ why ++ 10 ∷ []
 
 -- a sector whose bytes are all the same
 abbrev pub uniform_sector : ℕ → List ℕ

@@ -3,10 +3,11 @@
 ghost use Rattle.std.specs.Prelude.{◌≡◌, ℕ, ◌+◌, ◌-◌, ◌<◌, ◌≤◌, ◌==◌, nat_le, nat_lt, if◌then◌else◌, List, [], ◌∷◌, ◌++◌, length, take, replicate, codes, decimal, Some, None, IfOk, OnOk, OnErr};
 ghost use Rattle.rack.specs.Values.{all_of};
 ghost use Rattle.flat_array.specs.Array.{FlatArray, fresh, written, filled, flushed};
-ghost use Rattle.flat_array.specs.Reply.{reply, after, without_zeros as trimmed, digits_or_dash, data_line, as_line, refused_line};
+ghost use Rattle.shr_script.specs.Reply.{without_zeros as trimmed, digits_or_dash, data_line, as_line, refused_line};
+ghost use Rattle.flat_array.specs.Reply.{reply, after};
 ghost use Rattle.flat_array.specs.Disk.{zero_sector as zeros, size_of, kept_at, last_alone, Holds};
 
-use crate::Command;
+use shr_script::Command;
 use std::alloc::{AllocError, Global};
 
 /// A flat array of 512-byte sectors in memory.

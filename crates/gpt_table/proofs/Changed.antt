@@ -3,10 +3,11 @@ use Rattle.std.proofs.Common.{◌≡◌, ◌≢◌, ℕ, ◌<◌, List, Some, su
 use Rattle.rack.specs.Values.{MayLeave}
 use Rattle.rack.specs.Seen.{Seen, IsLive, IsPick, Stays}
 use Rattle.rack.specs.Joins.{keeps_then, leaves_weaker, leaves_then, stays_then, live_first, live_second}
-use Rattle.gpt_table.specs.Calls.{Plan, MayBecome, Follows, OnlyReads}
+use Rattle.rack.specs.Sequences.{OnlyReads}
+use Rattle.rack.specs.Sequences.{MayBecome}
+use Rattle.gpt_table.specs.Calls.{Plan, IsPlanned, Follows}
 use Rattle.gpt_table.specs.Disk.{Contents}
 use Rattle.gpt_table.specs.Changes.{IsElsewhere, IsLeftover, Changes}
-use Rattle.gpt_table.proofs.Planned.{unplanned}
 
 -- a sector that is live in a later call was live before it
 pub live_back : {a b c : Seen} {d s : ℕ} → Stays a b → Stays b c → a.told d → IsLive b c d s → IsLive a b d s
@@ -24,16 +25,15 @@ live_both told live = record { disk = live.disk; sector = live.sector; is_told =
 -- what follows a plan for some sectors changes these alone
 pub changes_from : (a b : Seen) (disk : ℕ) (of : ℕ → Type 0) (plan : Plan) (P : Contents → Type 0) → Follows a b disk plan →
     ((s : ℕ) (v : List ℕ) → plan s ≡ Some v → of s) →
-    (((s : ℕ) → of s → IsLive a b disk s) → (contents : Contents) → ((s : ℕ) → of s → MayBecome a disk plan disk s (contents s)) → P contents) →
+    (((s : ℕ) → of s → IsLive a b disk s) → (contents : Contents) → ((s : ℕ) → of s → MayBecome a (IsPlanned disk plan) disk s (contents s)) → P contents) →
     Changes a b disk of P
 changes_from a b disk of plan P follows within says = record {
   stays = follows.stays;
   others = λ d s live elsewhere.
       follows.others d s live
-      (⊎_elim (λ (differs : d ≢ disk). inl differs)
-      (λ (outside : of s → ⊥). inr (unplanned (plan s) (λ w planned. outside (within s w planned)))) elsewhere);
+      (λ v planned. ⊎_elim (λ (differs : d ≢ disk). differs planned.0) (λ (outside : of s → ⊥). outside (within s v planned.1)) elsewhere);
   stops = λ traced.
-      leaves_weaker (λ i. (d s : ℕ) → IsLive a b d s → MayBecome a disk plan d s (i d s)) (IsLeftover a b disk of P)
+      leaves_weaker (λ i. (d s : ℕ) → IsLive a b d s → MayBecome a (IsPlanned disk plan) d s (i d s)) (IsLeftover a b disk of P)
       (λ i may. (
         (λ d s live elsewhere. old d s (i d s) elsewhere (may d s live)),
         (λ live. says live (i disk) (λ s among. may disk s (live s among))),
@@ -41,7 +41,7 @@ changes_from a b disk of plan P follows within says = record {
       (follows.stops traced);
   held = λ live contents pick. says live contents (λ s among. follows.within disk s (contents s) (live s among) (pick s among));
 } where
-  old : (d s : ℕ) (v : List ℕ) → IsElsewhere disk of d s → MayBecome a disk plan d s v → MayLeave (a.held d s) v
+  old : (d s : ℕ) (v : List ℕ) → IsElsewhere disk of d s → MayBecome a (IsPlanned disk plan) d s v → MayLeave (a.held d s) v
   old d s v elsewhere may =
       ⊎_elim (λ (was : MayLeave (a.held d s) v). was)
       (λ (new : (d ≡ disk) × (plan s ≡ Some v)).

@@ -9,8 +9,9 @@ use Rattle.gpt_table.specs.declared.TableCopy.{TableCopy}
 use Rattle.gpt_table.specs.declared.TableCopy.TheVariants.{Primary, Backup}
 use Rattle.gpt_table.specs.Format.{header_sector, entries_sector, table_of}
 use Rattle.gpt_table.specs.Disk.{Contents, IsAmong, IsOfCopy, entries_bytes, now_on, table_at, first_table, first_of}
-use Rattle.gpt_table.specs.Calls.{OnlyReads, Looks}
-use Rattle.gpt_table.proofs.Looking.{only_reads_start, only_reads_then, only_reads_join, value_then, unspent_before, same_after}
+use Rattle.rack.specs.Sequences.{OnlyReads}
+use Rattle.gpt_table.specs.Calls.{Looks}
+use Rattle.rack.proofs.Reading.{only_reads_start, only_reads_then, only_reads_join, value_then, unspent_before, same_after}
 use Rattle.gpt_table.proofs.Joined.{joined_agrees, table_at_agrees}
 
 -- bytes of entries that hold the same

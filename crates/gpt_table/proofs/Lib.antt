@@ -1,13 +1,11 @@
 pub mod Ranges
 pub mod Decoded
-pub mod Looking
 pub mod Joined
 pub mod Copies
 pub mod Spent
 pub mod Slots
 pub mod Headers
 pub mod Placed
-pub mod Stretches
 pub mod Planned
 pub mod Whole
 pub mod Writable

@@ -1,5 +1,5 @@
 -- The sectors of one copy, written one after the other.
-use Rattle.std.proofs.Common.{◌≡◌, ℕ, ◌+◌, ◌-◌, ◌*◌, ◌<◌, ◌≤◌, ◌⊎◌, ◌==◌, ◌&&◌, nat_le, nat_lt, true, false, List, Option, Some, None, Ok, Err, refl, sym, ap, subst, subst₂, ◌∙◌, inl, inr, ⊎_elim, arith, eqb-true, zero, suc, ◌++◌, length, take, add-one, take-add, take_all}
+use Rattle.std.proofs.Common.{◌≡◌, ℕ, ◌+◌, ◌-◌, ◌*◌, ◌<◌, ◌≤◌, ◌⊎◌, ◌==◌, ◌&&◌, nat_le, nat_lt, true, false, List, Option, Some, None, Result, Ok, Err, OnOk, ◌≢◌, refl, sym, ap, subst, subst₂, ◌∙◌, inl, inr, ⊎_elim, arith, eqb-true, zero, suc, ◌++◌, length, take, add-one, take-add, take_all}
 use Rattle.gpt_table.specs.declared.Table.{Table}
 use Rattle.gpt_table.specs.declared.TableCopy.{TableCopy}
 use Rattle.gpt_table.specs.declared.TableCopy.TheVariants.{Primary, Backup}
@@ -12,17 +12,13 @@ use Rattle.rack.specs.declared.Gone.{Gone}
 use Rattle.rack.specs.Values.{Values, append}
 use Rattle.rack.specs.Seen.{Seen, IsLive, Stays}
 use Rattle.rack.specs.Calls.{Writes, Syncs}
-use Rattle.rack.specs.Joins.{live_first, live_second}
+use Rattle.rack.specs.Joins.{live_first, live_second, rose_later}
 use Rattle.shr_base.specs.Blocks.{bytes_at}
-use Rattle.gpt_table.specs.Calls.{Plan, Follows}
+use Rattle.rack.specs.Sequences.{WritesDurably}
+use Rattle.rack.proofs.Writing.{only_none, only_quiet, only_written, only_refused, only_weaker, only_then}
+use Rattle.rack.proofs.Durably.{durable_only}
+use Rattle.gpt_table.specs.Calls.{Plan, IsPlanned, Follows}
 use Rattle.gpt_table.specs.Plans.{sector_plan, entries_plan, copy_plan, WritesPlan, WritesSectors}
-use Rattle.gpt_table.proofs.Looking.{rose_later}
-use Rattle.gpt_table.proofs.Stretches.{follows_start, follows_write, follows_keeps, follows_wider}
-
--- where no value is planned
-pub unplanned : (o : Option (List ℕ)) → ((w : List ℕ) → o ≡ Some w → ⊥) → o ≡ None
-unplanned None never = refl
-unplanned (Some w) never = absurd (never w refl)
 
 -- what is planned for the entries
 pub entries_planned : (first : ℕ) (bytes : List ℕ) (k : ℕ) → k < 32 → entries_plan first bytes (first + k) ≡ Some (bytes_at (512 * k) 512 bytes)
@@ -81,15 +77,11 @@ plan_cases own header first bytes s v planned =
 pub entries_wider : (a b : Seen) (disk own first : ℕ) (header bytes : List ℕ) → (own < first) ⊎ (first + 32 ≤ own) →
     Follows a b disk (entries_plan first bytes) → Follows a b disk (copy_plan own header first bytes)
 entries_wider a b disk own first header bytes apart follows =
-    follows_wider a b disk (entries_plan first bytes) (copy_plan own header first bytes) follows
-    (λ s v planned.
-    let at = entries_cases first bytes s v planned in
-    plan_elsewhere own header first bytes s (entries_apart own first s apart at.0 at.1) ∙ planned)
-    (λ s none.
-    ⊎_elim
-    (λ (here : (s == own) ≡ true). absurd (none-some header (sym none ∙ cond-true (s == own) (Some header) _ here)))
-    (λ (there : (s == own) ≡ false). sym (cond-false (s == own) (Some header) _ there) ∙ none)
-    (cases_Bool (s == own)))
+    only_weaker (IsPlanned disk (entries_plan first bytes)) (IsPlanned disk (copy_plan own header first bytes))
+    (λ d s v planned.
+    let at = entries_cases first bytes s v planned.1 in
+    (planned.0, plan_elsewhere own header first bytes s (entries_apart own first s apart at.0 at.1) ∙ planned.1))
+    follows
 
 -- a write that was served changes no other sector
 pub write_keeps : (b c : Seen) (disk t : ℕ) (value : List ℕ) (s : ℕ) → Writes b c disk t value {X = Unit {0}} (Ok tt) → (s ≡ t → ⊥) → IsLive b c disk s →
@@ -109,13 +101,13 @@ write_sets b c disk t value wrote live =
 pub follows_served : (a b c : Seen) (disk t : ℕ) (value : List ℕ) (plan : Plan) → Follows a b disk plan → Writes b c disk t value {X = Unit {0}} (Ok tt) →
     plan t ≡ Some value → Follows a c disk plan
 follows_served a b c disk t value plan first wrote planned =
-    follows_write a b c disk t value plan first wrote.stays wrote.stops (λ d s live. inr (wrote.done d s live)) planned
+    only_then (IsPlanned disk plan) first (only_written (IsPlanned disk plan) disk t value (refl, planned) wrote)
 
 -- and so does a refused one
 pub follows_refused : (a b c : Seen) (disk t : ℕ) (value : List ℕ) (plan : Plan) (gone : Gone) → Follows a b disk plan →
     Writes b c disk t value {X = Unit {0}} (Err gone) → plan t ≡ Some value → WritesSectors a c disk plan {X = Unit {0}} (Err gone)
 follows_refused a b c disk t value plan gone first wrote planned = record {
-  follows = follows_write a b c disk t value plan first wrote.stays wrote.stops wrote.failed planned;
+  follows = only_then (IsPlanned disk plan) first (only_refused (IsPlanned disk plan) disk t value gone (refl, planned) wrote);
   written = tt;
   durable = tt;
   gone = (wrote.cause.gone.0, rose_later a b c disk first.stays wrote.cause.gone.1);
@@ -172,24 +164,25 @@ entries_written a b disk first bytes follows each = record {
   gone = tt;
 }
 
--- one sector was written
-pub sector_written : (a b : Seen) (disk t : ℕ) (value : List ℕ) → a.fit → Writes a b disk t value {X = Unit {0}} (Ok tt) →
-    WritesPlan a b disk (sector_plan t value) {X = Unit {0}} (Ok tt)
-sector_written a b disk t value fit wrote = record {
-  follows = follows_served a a b disk t value (sector_plan t value) (follows_start a disk (sector_plan t value) fit) wrote (sector_planned t value);
-  written = λ s v planned live.
-      let at = sector_cases t value s v planned in
-      subst (λ (u : ℕ). IsLive a b disk u → (b.held disk u).current ≡ value) (sym at.0)
-      (λ here. write_sets a b disk t value wrote here) live
-      ∙ at.1;
-  gone = tt;
-}
+written_there : (a b : Seen) (disk t : ℕ) (value : List ℕ) (r : Result (Unit {0}) Gone) → WritesDurably a b disk t value r →
+    OnOk r ((s : ℕ) (v : List ℕ) → sector_plan t value s ≡ Some v → IsLive a b disk s → (b.held disk s).current ≡ v)
+written_there a b disk t value (Err e) wrote = tt
+written_there a b disk t value (Ok done) wrote = λ s v planned live.
+    let at = sector_cases t value s v planned in
+    subst (λ (u : ℕ). IsLive a b disk u → (b.held disk u).current ≡ value) (sym at.0)
+    (λ here. wrote.durable here (b.held disk t).current (inl refl)) live
+    ∙ at.1
 
--- or refused
-pub sector_refused : (a b : Seen) (disk t : ℕ) (value : List ℕ) (gone : Gone) → a.fit → Writes a b disk t value {X = Unit {0}} (Err gone) →
-    WritesSectors a b disk (sector_plan t value) {X = Unit {0}} (Err gone)
-sector_refused a b disk t value gone fit wrote =
-    follows_refused a a b disk t value (sector_plan t value) gone (follows_start a disk (sector_plan t value) fit) wrote (sector_planned t value)
+-- one sector was written and made durable, or refused
+pub sector_durable : (a b : Seen) (disk t : ℕ) (value : List ℕ) (r : Result (Unit {0}) Gone) → WritesDurably a b disk t value r →
+    WritesSectors a b disk (sector_plan t value) r
+sector_durable a b disk t value r wrote = record {
+  follows = only_weaker (λ d s v. (d ≡ disk) × (s ≡ t) × (v ≡ value)) (IsPlanned disk (sector_plan t value))
+      (λ d s v at. (at.0, rw (at.1, at.2) (sector_planned t value))) (durable_only r wrote);
+  written = written_there a b disk t value r wrote;
+  durable = wrote.synced;
+  gone = wrote.gone;
+}
 
 -- a plan that was refused
 pub refused_plan : (a b : Seen) (disk : ℕ) (plan : Plan) (gone : Gone) → WritesPlan a b disk plan {X = Unit {0}} (Err gone) →
@@ -200,7 +193,7 @@ refused_plan a b disk plan gone wrote = record { follows = wrote.follows; writte
 pub then_synced : (a b c : Seen) (disk : ℕ) (plan : Plan) → WritesPlan a b disk plan {X = Unit {0}} (Ok tt) →
     Syncs b c disk {X = Unit {0}} (Ok tt) → WritesSectors a c disk plan {X = Unit {0}} (Ok tt)
 then_synced a b c disk plan wrote synced = record {
-  follows = follows_keeps a b c disk plan wrote.follows synced.stays synced.keeps;
+  follows = only_then (IsPlanned disk plan) wrote.follows (only_quiet (IsPlanned disk plan) synced.stays synced.keeps);
   written = λ s v planned live.
       (synced.keeps.held disk s (live_second wrote.follows.stays live)).current ∙ wrote.written s v planned (live_first synced.stays live);
   durable = λ s live v may. synced.done s v (live_second wrote.follows.stays live) may;
@@ -211,7 +204,7 @@ then_synced a b c disk plan wrote synced = record {
 pub then_refused : (a b c : Seen) (disk : ℕ) (plan : Plan) (gone : Gone) → WritesPlan a b disk plan {X = Unit {0}} (Ok tt) →
     Syncs b c disk {X = Unit {0}} (Err gone) → WritesSectors a c disk plan {X = Unit {0}} (Err gone)
 then_refused a b c disk plan gone wrote synced = record {
-  follows = follows_keeps a b c disk plan wrote.follows synced.stays synced.keeps;
+  follows = only_then (IsPlanned disk plan) wrote.follows (only_quiet (IsPlanned disk plan) synced.stays synced.keeps);
   written = tt;
   durable = tt;
   gone = (synced.gone.0, rose_later a b c disk wrote.follows.stays synced.gone.1);
@@ -229,7 +222,7 @@ all_written a b c d disk own first header bytes apart follows entries wrote sync
     let after_sync : (s : ℕ) → IsLive a d disk s → (d.held disk s).current ≡ (c.held disk s).current =
     λ s live. (synced.keeps.held disk s (live_second one.stays live)).current in
     record {
-      follows = follows_keeps a c d disk plan one synced.stays synced.keeps;
+      follows = only_then (IsPlanned disk plan) one (only_quiet (IsPlanned disk plan) synced.stays synced.keeps);
       written = λ s v planned live.
           ⊎_elim
           (λ (here : (s ≡ own) × (header ≡ v)).
@@ -260,7 +253,7 @@ sync_refused a b c d disk own first header bytes gone follows wrote synced =
     let plan : Plan = copy_plan own header first bytes in
     let one : Follows a c disk plan = follows_served a b c disk own header plan follows wrote (plan_own own header first bytes) in
     record {
-      follows = follows_keeps a c d disk plan one synced.stays synced.keeps;
+      follows = only_then (IsPlanned disk plan) one (only_quiet (IsPlanned disk plan) synced.stays synced.keeps);
       written = tt;
       durable = tt;
       gone = (synced.gone.0, rose_later a c d disk one.stays synced.gone.1);

@@ -4,19 +4,19 @@ use Rattle.std.proofs.lemmas.Bool.{and_left}
 use Rattle.rack.specs.declared.Gone.{Gone}
 use Rattle.rack.specs.Values.{MayLeave}
 use Rattle.rack.specs.Seen.{Seen, IsLive, Stays}
-use Rattle.rack.specs.Joins.{stays_then, live_first, live_second}
+use Rattle.rack.specs.Joins.{stays_then, live_first, live_second, rose_later}
 use Rattle.shr_base.specs.Blocks.{bytes_at}
 use Rattle.shr_base.proofs.Blocks.{bytes_at-zeros}
 use Rattle.gpt_table.specs.declared.Table.{Table}
 use Rattle.gpt_table.specs.declared.TableCopy.{TableCopy}
 use Rattle.gpt_table.specs.Format.{header_sector, entries_sector, table_of, is_header, IsWritten}
 use Rattle.gpt_table.specs.Disk.{Contents, IsOfCopy, HoldsCopy, entries_bytes, table_at}
-use Rattle.gpt_table.specs.Calls.{Plan, MayBecome}
+use Rattle.rack.specs.Sequences.{MayBecome}
+use Rattle.gpt_table.specs.Calls.{Plan, IsPlanned}
 use Rattle.gpt_table.specs.Plans.{sector_plan, entries_plan, WritesSectors}
 use Rattle.gpt_table.specs.Changes.{Changes, Passes, ReplacesCopy, IsPickOf, AreLive}
 use Rattle.gpt_table.proofs.Decoded.{invalid_header}
-use Rattle.gpt_table.proofs.Looking.{rose_later}
-use Rattle.gpt_table.proofs.Planned.{unplanned, plan_cases, plan_holds, parts_apart, entries_cases, entries_planned, sector_cases, sector_planned}
+use Rattle.gpt_table.proofs.Planned.{plan_cases, plan_holds, parts_apart, entries_cases, entries_planned, sector_cases, sector_planned}
 use Rattle.gpt_table.proofs.Changed.{live_back, changes_from, changes_join, changes_wider}
 
 -- a sector of zeros is no header
@@ -66,7 +66,7 @@ settled a b disk plan s v w wrote planned live may = wrote.durable s live w may 
 
 -- while the header is cleared, the copy is as it was or has none
 clearing : (a : Seen) (disk : ℕ) (copy : TableCopy) (table : Table) (contents : Contents) →
-    ((s : ℕ) → IsOfCopy copy table.sectors s → MayBecome a disk (sector_plan (header_sector copy table.sectors) (replicate 512 0)) disk s (contents s)) →
+    ((s : ℕ) → IsOfCopy copy table.sectors s → MayBecome a (IsPlanned disk (sector_plan (header_sector copy table.sectors) (replicate 512 0))) disk s (contents s)) →
     Passes a disk copy table contents
 clearing a disk copy table contents may =
     let own = header_sector copy table.sectors in
@@ -140,9 +140,8 @@ cleared_still a m n disk copy table bytes w room first second live may =
     let own = header_sector copy table.sectors in
     let zeros : List ℕ = replicate 512 0 in
     let plan : Plan = entries_plan (entries_sector copy table.sectors) bytes in
-    let none : plan own ≡ None = unplanned (plan own) (λ v planned. own_unplanned copy table.sectors bytes v room planned) in
     settled a m disk (sector_plan own zeros) own zeros w first (sector_planned own zeros) (live_first second.follows.stays live)
-    ((second.follows.others disk own (live_second first.follows.stays live) (inr none)).within w may)
+    ((second.follows.others disk own (live_second first.follows.stays live) (λ v planned. own_unplanned copy table.sectors bytes v room planned.1)).within w may)
 
 not_own : (copy : TableCopy) (sectors : ℕ) (bytes : List ℕ) (s : ℕ) (v : List ℕ) → 67 ≤ sectors →
     entries_plan (entries_sector copy sectors) bytes s ≡ Some v → s ≡ header_sector copy sectors → ⊥
@@ -195,11 +194,10 @@ finished a m n b disk copy table header bytes written start second third live co
     (settled n b disk plan own header (contents own) third (sector_planned own header) (live_second early (live own (inl refl))) (pick own (inl refl)))
     (λ s v planned.
     let among = entries_within copy table.sectors bytes s v planned in
-    let none : plan s ≡ None =
-    unplanned (plan s) (λ w here. not_own copy table.sectors bytes s v written.room planned (sector_cases own header s w here).0) in
     settled m n disk (entries_plan (entries_sector copy table.sectors) bytes) s v (contents s) second planned
     (live_second start (live_first third.follows.stays (live s among)))
-    ((third.follows.others disk s (live_second early (live s among)) (inr none)).within (contents s) (pick s among)))
+    ((third.follows.others disk s (live_second early (live s among))
+    (λ w here. not_own copy table.sectors bytes s v written.room planned (sector_cases own header s w here.1).0)).within (contents s) (pick s among)))
 
 -- what was shown of each step holds, as the copy's sectors are told
 passes : (a b : Seen) (disk : ℕ) (copy : TableCopy) (table : Table) → Changes a b disk (IsOfCopy copy table.sectors) (Passing a disk copy table) →

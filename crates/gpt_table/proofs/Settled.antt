@@ -2,7 +2,7 @@
 use Rattle.std.proofs.Common.{◌≡◌, ◌≢◌, ℕ, ◌≤◌, ◌⊎◌, Option, Some, None, option_map, Result, Ok, Err, IfSome, OnErr, Bool, true, false, refl, sym, ap, subst, ◌∙◌, inl, inr, ⊎_elim}
 use Rattle.rack.specs.Values.{MayLeave, Keeps}
 use Rattle.rack.specs.Seen.{Seen, Rose, Stays}
-use Rattle.rack.specs.Joins.{keeps_then, live_first, live_second}
+use Rattle.rack.specs.Joins.{keeps_then, live_first, live_second, rose_later}
 use Rattle.gpt_table.specs.declared.Table.{Table}
 use Rattle.gpt_table.specs.declared.TableCopy.{TableCopy}
 use Rattle.gpt_table.specs.declared.TableCopy.TheVariants.{Primary, Backup}
@@ -10,10 +10,10 @@ use Rattle.gpt_table.specs.declared.TableFault.{TableFault}
 use Rattle.gpt_table.specs.declared.TableFault.TheVariants.{NoTable, Gone}
 use Rattle.gpt_table.specs.Format.{IsWritableOn}
 use Rattle.gpt_table.specs.Disk.{Contents, IsOfCopy, now_on, table_at, first_of, first_table}
-use Rattle.gpt_table.specs.Calls.{OnlyReads}
+use Rattle.rack.specs.Sequences.{OnlyReads}
 use Rattle.gpt_table.specs.Changes.{the_table, AreLive, BothLive, IsPickOf, AreSingle, IsOfCopies, Passes, Changes, ReplacesCopy, Settles, BothSay, IsKeptOrWritten, SettlesTable}
 use Rattle.std.proofs.lemmas.Bool.{both_ways}
-use Rattle.gpt_table.proofs.Looking.{rose_later, only_reads_join}
+use Rattle.rack.proofs.Reading.{only_reads_join}
 use Rattle.gpt_table.proofs.Joined.{table_at_agrees}
 use Rattle.gpt_table.proofs.Whole.{copies_apart}
 use Rattle.gpt_table.proofs.Changed.{live_back, changes_read, changes_join, changes_wider}

@@ -2,13 +2,12 @@
 use Rattle.std.proofs.Common.{◌≡◌, ℕ, ◌≤◌, ◌⊎◌, Option, Some, None, option_map, Result, Ok, Err, IfErr, refl, ap, ◌∙◌, inl, inr, ⊎_elim}
 use Rattle.rack.specs.declared.Gone.{Gone}
 use Rattle.rack.specs.Seen.{Seen, IsLive}
-use Rattle.rack.specs.Joins.{live_first, live_second}
+use Rattle.rack.specs.Joins.{live_first, live_second, rose_later}
 use Rattle.gpt_table.specs.declared.Table.{Table}
 use Rattle.gpt_table.specs.declared.TableCopy.{TableCopy}
 use Rattle.gpt_table.specs.declared.TableCopy.TheVariants.{Primary, Backup}
 use Rattle.gpt_table.specs.Disk.{Contents, IsOfCopy, HoldsCopy, table_at, first_of}
 use Rattle.gpt_table.specs.Changes.{the_table, IsPickOf, IsOfCopies, PrimarySays, IsOneOf, Passes, Changes, ReplacesCopy, ChangesTable}
-use Rattle.gpt_table.proofs.Looking.{rose_later}
 use Rattle.gpt_table.proofs.Whole.{copies_apart}
 use Rattle.gpt_table.proofs.Changed.{live_back, changes_join, changes_wider}
 

@@ -5,18 +5,17 @@ use Rattle.std.proofs.lemmas.Option.{none-some}
 use Rattle.rack.specs.declared.Gone.{Gone}
 use Rattle.rack.specs.Seen.{Seen, IsLive, Stays}
 use Rattle.rack.specs.Calls.{Writes}
-use Rattle.rack.specs.Joins.{live_first, live_second, stays_then}
+use Rattle.rack.specs.Joins.{live_first, live_second, stays_then, rose_later}
 use Rattle.gpt_table.specs.declared.Table.{Table}
 use Rattle.gpt_table.specs.declared.TableCopy.{TableCopy}
 use Rattle.gpt_table.specs.declared.TableCopy.TheVariants.{Primary, Backup}
 use Rattle.gpt_table.specs.Format.{mbr_of}
 use Rattle.gpt_table.specs.Disk.{IsOfCopy, IsAmong, HoldsCopy, now_on}
-use Rattle.gpt_table.specs.Calls.{Plan, Follows}
+use Rattle.gpt_table.specs.Calls.{Plan, IsPlanned, Follows}
 use Rattle.gpt_table.specs.Plans.{IsOfTable, WritesCopy, WritesTable}
 use Rattle.gpt_table.proofs.Copies.{copy_is_on_disk}
-use Rattle.gpt_table.proofs.Looking.{rose_later}
-use Rattle.gpt_table.proofs.Stretches.{follows_join, follows_wider}
-use Rattle.gpt_table.proofs.Planned.{unplanned, write_keeps, write_sets, follows_served, follows_refused}
+use Rattle.rack.proofs.Writing.{only_weaker, only_then}
+use Rattle.gpt_table.proofs.Planned.{write_keeps, write_sets, follows_served, follows_refused}
 
 -- one value, or else another
 abbrev pub or_else : Option (List ℕ) → Option (List ℕ) → Option (List ℕ)
@@ -30,10 +29,6 @@ whole_plan mbr backup primary s = cond (s == 0) (Some mbr) (or_else (backup s) (
 or_else_cases : (o p : Option (List ℕ)) (v : List ℕ) → or_else o p ≡ Some v → (o ≡ Some v) ⊎ (p ≡ Some v)
 or_else_cases None p v is = inr is
 or_else_cases (Some w) p v is = inl is
-
-or_else_none : (o p : Option (List ℕ)) → or_else o p ≡ None → (o ≡ None) × (p ≡ None)
-or_else_none None p is = (refl, is)
-or_else_none (Some w) p is = absurd (none-some w (sym is))
 
 or_else_left : (o p : Option (List ℕ)) (v : List ℕ) → o ≡ Some v → or_else o p ≡ Some v
 or_else_left None p v is = absurd (none-some v is)
@@ -81,14 +76,6 @@ primary_is_part sectors mbr backup primary parts s v is =
     ∙ or_else_right (backup s) (primary s) v
     (λ w both. copies_apart sectors s parts.room (parts.primary_within s v is) (parts.backup_within s w both)) is
 
-nothing_planned : (mbr : List ℕ) (backup primary : Plan) (s : ℕ) → whole_plan mbr backup primary s ≡ None → (backup s ≡ None) × (primary s ≡ None)
-nothing_planned mbr backup primary s none =
-    ⊎_elim
-    (λ (here : (s == 0) ≡ true). absurd (none-some mbr (sym none ∙ cond-true (s == 0) (Some mbr) (or_else (backup s) (primary s)) here)))
-    (λ (there : (s == 0) ≡ false).
-    or_else_none (backup s) (primary s) (sym (cond-false (s == 0) (Some mbr) (or_else (backup s) (primary s)) there) ∙ none))
-    (cases_Bool (s == 0))
-
 pub whole_within : (sectors : ℕ) (mbr : List ℕ) (backup primary : Plan) (parts : Parts sectors backup primary) (s : ℕ) (v : List ℕ) →
     whole_plan mbr backup primary s ≡ Some v → IsOfTable sectors s
 whole_within sectors mbr backup primary parts s v is =
@@ -118,9 +105,8 @@ begun : (a m n : Seen) (disk : ℕ) (table : Table) (mbr : List ℕ) (primary : 
     (first : WritesCopy a m disk Backup table {X = Unit {0}} (Ok tt)) → Parts table.sectors first.plan primary →
     Follows a m disk (whole_plan mbr first.plan primary)
 begun a m n disk table mbr primary first parts =
-    follows_wider a m disk first.plan (whole_plan mbr first.plan primary) first.writes.follows
-    (backup_is_part table.sectors mbr first.plan primary parts)
-    (λ s none. (nothing_planned mbr first.plan primary s none).0)
+    only_weaker (IsPlanned disk first.plan) (IsPlanned disk (whole_plan mbr first.plan primary))
+    (λ d s v planned. (planned.0, backup_is_part table.sectors mbr first.plan primary parts s v planned.1)) first.writes.follows
 
 -- the MBR was refused
 pub whole_gone_second : (a m n : Seen) (disk : ℕ) (table : Table) (mbr : List ℕ) (gone : Gone) → 67 ≤ table.sectors →
@@ -150,10 +136,10 @@ all_follow : (a m n b : Seen) (disk : ℕ) (table : Table) (mbr : List ℕ) (pri
     Writes m n disk 0 mbr {X = Unit {0}} (Ok tt) → Follows n b disk primary → Follows a b disk (whole_plan mbr first.plan primary)
 all_follow a m n b disk table mbr primary first parts second third =
     let plan : Plan = whole_plan mbr first.plan primary in
-    follows_join a n b disk plan
+    only_then (IsPlanned disk plan)
     (follows_served a m n disk 0 mbr plan (begun a m n disk table mbr primary first parts) second (whole_at_zero mbr first.plan primary))
-    (follows_wider n b disk primary plan third (primary_is_part table.sectors mbr first.plan primary parts)
-    (λ s none. (nothing_planned mbr first.plan primary s none).1))
+    (only_weaker (IsPlanned disk primary) (IsPlanned disk plan)
+    (λ d s v planned. (planned.0, primary_is_part table.sectors mbr first.plan primary parts s v planned.1)) third)
 
 -- the primary was refused
 pub whole_gone_third : (a m n b : Seen) (disk : ℕ) (table : Table) (mbr : List ℕ) (gone : Gone) → 67 ≤ table.sectors →
@@ -185,8 +171,7 @@ whole_written a m n b disk table mbr room has size is first second third =
       both = λ told unspent copy. says told unspent copy;
       mbr = λ live.
           let late : IsLive n b disk 0 = live_second early live in
-          let none : third.plan 0 ≡ None = unplanned (third.plan 0) (λ w of. above_start Primary table.sectors 0 room (third.within 0 w of) refl) in
-          (third.writes.follows.others disk 0 late (inr none)).current
+          (third.writes.follows.others disk 0 late (λ w of. above_start Primary table.sectors 0 room (third.within 0 w of.1) refl)).current
           ∙ write_sets m n disk 0 mbr second (live_second first.writes.follows.stays (live_first third.writes.follows.stays live)) ∙ is;
       durable = λ s live. third.writes.durable s (live_second early live);
       gone = tt;
@@ -220,8 +205,7 @@ whole_written a m n b disk table mbr room has size is first second third =
           let of : IsOfCopy Backup table.sectors s = first.within s v planned in
           let live : IsLive a b disk s = live_at Backup told unspent s of in
           let late : IsLive n b disk s = live_second (stays_then first.writes.follows.stays second.stays) live in
-          let none : third.plan s ≡ None = unplanned (third.plan s) (λ w both. copies_apart table.sectors s room (third.within s w both) of) in
-          (third.writes.follows.others disk s late (inr none)).current
+          (third.writes.follows.others disk s late (λ w both. copies_apart table.sectors s room (third.within s w both.1) of)).current
           ∙ write_keeps m n disk 0 mbr s second (above_start Backup table.sectors s room of)
           (live_second first.writes.follows.stays (live_first third.writes.follows.stays live))
           ∙ first.writes.written s v planned (live_first second.stays (live_first third.writes.follows.stays live)))

@@ -4,12 +4,7 @@ use Rattle.rack.specs.declared.Gone.{Gone}
 use Rattle.rack.specs.Seen.{Seen, Rose, Stays, IsLive}
 use Rattle.rack.specs.Values.{MayLeave, Keeps}
 use Rattle.rack.specs.Moments.{Leaves}
-use Rattle.rack.specs.Calls.{KeepsAll}
-
--- nothing was written
-pub record OnlyReads (a b : Seen) : Type 0 where
-  pub stays : Stays a b
-  pub keeps : KeepsAll a b
+use Rattle.rack.specs.Sequences.{OnlyReads, WritesOnly}
 
 -- nothing was written, and some sectors, not spent at the start, were read; of a told disk the value says this
 pub record Looks (a b : Seen) (disk : ℕ) (at : ℕ → Type 0) {X : Type 0} (says : X → Type 0) (result : Result X Gone)
@@ -23,13 +18,10 @@ pub record Looks (a b : Seen) (disk : ℕ) (at : ℕ → Type 0) {X : Type 0} (s
 abbrev pub Plan : Type 0
 Plan = ℕ → Option (List ℕ)
 
--- a value that was held before, or the planned one
-abbrev pub MayBecome : Seen → ℕ → Plan → ℕ → ℕ → List ℕ → Type 0
-MayBecome a disk plan d s v = MayLeave (a.held d s) v ⊎ ((d ≡ disk) × (plan s ≡ Some v))
+-- a value that is planned for a sector
+abbrev pub IsPlanned : ℕ → Plan → ℕ → ℕ → List ℕ → Type 0
+IsPlanned disk plan d s v = (d ≡ disk) × (plan s ≡ Some v)
 
 -- nothing but planned values came, neither now nor at any moment
-pub record Follows (a b : Seen) (disk : ℕ) (plan : Plan) : Type 0 where
-  pub stays : Stays a b
-  pub others : (d s : ℕ) → IsLive a b d s → (d ≢ disk) ⊎ (plan s ≡ None) → Keeps (a.held d s) (b.held d s)
-  pub within : (d s : ℕ) (v : List ℕ) → IsLive a b d s → MayLeave (b.held d s) v → MayBecome a disk plan d s v
-  pub stops : a.traced → Leaves a b (λ c. (d s : ℕ) → IsLive a b d s → MayBecome a disk plan d s (c d s))
+abbrev pub Follows : Seen → Seen → ℕ → Plan → Type 0
+Follows a b disk plan = WritesOnly a b (IsPlanned disk plan)

@@ -10,7 +10,7 @@ use Rattle.gpt_table.specs.declared.TableCopy.{TableCopy}
 use Rattle.gpt_table.specs.declared.TableCopy.TheVariants.{Primary, Backup}
 use Rattle.gpt_table.specs.declared.TableFault.{TableFault}
 use Rattle.gpt_table.specs.declared.TableFault.TheVariants.{NoTable}
-use Rattle.gpt_table.specs.Calls.{OnlyReads}
+use Rattle.rack.specs.Sequences.{OnlyReads}
 use Rattle.gpt_table.specs.Disk.{Contents, IsOfCopy, HoldsCopy, now_on, table_at, first_table}
 
 -- whether an entry has a lower number, or a higher one

@@ -3,7 +3,7 @@
 
 ghost use Rattle.std.specs.Prelude.{◌≡◌, ◌≤◌, ◌<◌, ◌+◌, ◌++◌, ◌^◌, length, filter, IfErr};
 ghost use Rattle.gpt_table.specs.Format.{IsWritable};
-ghost use Rattle.gpt_table.specs.Plans.{sector_plan, entries_plan, WritesSectors};
+ghost use Rattle.gpt_table.specs.Plans.{entries_plan, WritesSectors};
 ghost use Rattle.gpt_table.specs.Changes.{is_below, is_above, with_entry, changed, ReplacesCopy, ChangesTable};
 
 use crate::codec::{entries_sector, header_sector};
@@ -11,29 +11,7 @@ use crate::encoding::{encode_entries, encode_header};
 use crate::writing::write_entries;
 use crate::{ENTRIES, ENTRIES_BYTES, Entry, Table, TableCopy};
 use arrayvec::ArrayVec;
-use rack::{Gone, Rack};
-
-/// Writes one sector, and makes it durable.
-fn write_durably<R: Rack>(
-    rack: &mut R,
-    disk: u32,
-    sector: u64,
-    value: &[u8; 512],
-) -> Result<(), Gone>
-    requires fit { (R.seen rack.old).fit }
-    requires disk { disk < (R.seen rack.old).disks }
-    requires sector { sector < (R.seen rack.old).sectors disk }
-    ensures writes { WritesSectors (R.seen rack.old) (R.seen rack.new) disk (sector_plan sector value.now) result }
-    ensures runs { R.runs rack.old rack.new }
-{
-    if let Err(gone) = rack.write(disk, sector, value) {
-        return Err(gone);
-    }
-    match rack.sync(disk) {
-        Ok(()) => Ok(()),
-        Err(gone) => Err(gone),
-    }
-}
+use rack::{Gone, Rack, write_durably};
 
 /// Writes the sectors of a copy's entries, and makes them durable.
 fn write_entries_durably<R: Rack>(

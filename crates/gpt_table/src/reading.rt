@@ -3,7 +3,8 @@
 
 ghost use Rattle.std.specs.Prelude.{◌≡◌, ◌≢◌, ◌≤◌, ◌<◌, ◌+◌, ◌*◌, ◌^◌, ℕ, List, length, OnOk, IfOk, IfSome, None};
 ghost use Rattle.rack.specs.Seen.{Rose};
-ghost use Rattle.gpt_table.specs.Calls.{Looks, OnlyReads};
+ghost use Rattle.rack.specs.Sequences.{OnlyReads};
+ghost use Rattle.gpt_table.specs.Calls.{Looks};
 ghost use Rattle.gpt_table.specs.Format.{IsWritableOn};
 ghost use Rattle.gpt_table.specs.Disk.{IsAmong, IsOfCopy, table_at, first_table, entries_bytes, now_on, Contents, AgreesUnspent};
 

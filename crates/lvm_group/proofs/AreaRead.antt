@@ -38,7 +38,7 @@ odd_area a b array now area r is odd = record {
   headers_read = held_read a b array now;
   texts_read = held_read a b array now;
   header_is = sym (ap (option_and_then (header_at (held_on a array now))) is
-  ∙ ap (λ test. if test then result_ok (header_of (held_on a array now (r.offset / 512))) else None) (differs (r.offset % 512) 0 odd));
+      ∙ ap (λ test. if test then result_ok (header_of (held_on a array now (r.offset / 512))) else None) (differs (r.offset % 512) 0 odd));
   group_is = refl;
 }
 

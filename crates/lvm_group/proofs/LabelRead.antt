@@ -39,15 +39,14 @@ label_read {a} {b} {c} {d} {e} array now o p q r fit first second third fourth z
     let to_d = looks_then to_c third in
     let from_c = looks_then third fourth in
     let from_b = looks_then second from_c in
-    let end = looks_same e (looks_then to_d fourth).stays.fit in
-    (
+    let end = looks_same e (looks_then to_d fourth).stays.fit in (
       with_sector (with_sector (with_sector (with_sector (held_on a array now) 0 (unwrap_or o [])) 1 (unwrap_or p [])) 2 (unwrap_or q [])) 3 (unwrap_or r []),
       sector_read array now _ 3 (unwrap_or r [])
-      (sector_read array now _ 2 (unwrap_or q [])
-      (sector_read array now _ 1 (unwrap_or p [])
-      (sector_read array now (held_on a array now) 0 (unwrap_or o []) (held_read a e array now) (read_longer array now 0 (unwrap_or o []) (looks_same a fit) from_b zero))
-      (read_longer array now 1 (unwrap_or p []) first from_c one))
-      (read_longer array now 2 (unwrap_or q []) to_c fourth two))
-      (read_longer array now 3 (unwrap_or r []) to_d end three),
+          (sector_read array now _ 2 (unwrap_or q [])
+          (sector_read array now _ 1 (unwrap_or p [])
+          (sector_read array now (held_on a array now) 0 (unwrap_or o []) (held_read a e array now) (read_longer array now 0 (unwrap_or o []) (looks_same a fit) from_b zero))
+          (read_longer array now 1 (unwrap_or p []) first from_c one))
+          (read_longer array now 2 (unwrap_or q []) to_c fourth two))
+          (read_longer array now 3 (unwrap_or r []) to_d end three),
       ap result_ok (four_sectors o p q r),
     )

@@ -28,14 +28,14 @@ pub now_later : {a b : Seen} (array : ℕ) (now : Array) → array < a.disks →
 now_later {a} {b} array now there looks is = record {
   told = looks.stays.told array is.told;
   current = λ sector within unspent.
-    let inside : sector < a.sectors array = subst (λ n. sector < n) (looks.stays.sectors array) within in
-    (looks.keeps.held array sector (record {
-      disk = subst (λ n. array < n) (sym looks.stays.disks) there;
-      sector = within;
-      is_told = is.told;
-      unspent = unspent;
-    })).current
-    ∙ is.current sector inside (looks.stays.spent array sector unspent);
+      let inside : sector < a.sectors array = subst (λ n. sector < n) (looks.stays.sectors array) within in
+      (looks.keeps.held array sector (record {
+        disk = subst (λ n. array < n) (sym looks.stays.disks) there;
+        sector = within;
+        is_told = is.told;
+        unspent = unspent;
+      })).current
+      ∙ is.current sector inside (looks.stays.spent array sector unspent);
 }
 
 -- a sector that was answered

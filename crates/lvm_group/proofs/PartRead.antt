@@ -39,7 +39,7 @@ labelled {a} {x} {b} array now labels label area header group fit first second l
     let end = looks_same b second.stays.fit in
     let header_is : header ≡ option_and_then (header_at found.headers) (area_of (a.sectors array) label) = found.header_is ∙ ap (option_and_then (header_at found.headers)) area_is in
     let group_is : group ≡ group_in_area found.texts (area_of (a.sectors array) label) (option_and_then (header_at found.headers) (area_of (a.sectors array) label)) =
-        found.group_is ∙ (λ i. group_in_area found.texts (area_is i) (header_is i)) in
+    found.group_is ∙ (λ i. group_in_area found.texts (area_is i) (header_is i)) in
     record {
       labels = labels;
       headers = found.headers;

@@ -35,7 +35,7 @@ row_refused {a} {x} {b} array now from count at before after starts ends is = (
   with_sector (held_on a array now) (at / 512) [],
   sector_read array now (held_on a array now) (at / 512) [] (held_read a b array now) (read_longer array now (at / 512) [] before (looks_same b after.stays.fit) is),
   row_none (with_sector (held_on a array now) (at / 512) []) from count at starts ends
-  (ap (λ (v : List ℕ). slice_get v (at % 512)) (has_sector (held_on a array now) (at / 512) [])),
+      (ap (λ (v : List ℕ). slice_get v (at % 512)) (has_sector (held_on a array now) (at / 512) [])),
 )
 
 -- a sector that was read is what the array holds

@@ -19,7 +19,7 @@ pub text_given : (c : Array) (area : Area) (location : Location) (from front aga
 unfolding text_at
 text_given c area location from front again first whole from_is front_is again_is one two =
     let row : row_at c (area.offset + location.offset) (before_end area location) ≡ Some first =
-        (λ i. row_at c (sym from_is i) (sym front_is i)) ∙ sym (behind_none (row_at c from front)) ∙ one in
+    (λ i. row_at c (sym from_is i) (sym front_is i)) ∙ sym (behind_none (row_at c from front)) ∙ one in
     ap (option_and_then (λ (bytes : List ℕ). behind bytes (row_at c (area.offset + 512) (location.size - before_end area location)))) row
     ∙ (λ i. behind first (row_at c (sym again_is i) (location.size - sym front_is i))) ∙ two
 

@@ -248,7 +248,8 @@ fn has_own_head(pool: &Id, extent: u32, group: &Group) -> bool
 fn has_own_name(pool: &Id, lv: &Lv) -> bool
     ensures { result ≡ has_own_name pool.now.0 lv.now }
 {
-    lv.name.bytes() == b"lv".as_slice() && lv.id.bytes() == text_id(&child_id(pool, 7, 0, 0)).as_slice()
+    lv.name.bytes() == b"lv".as_slice()
+        && lv.id.bytes() == text_id(&child_id(pool, 7, 0, 0)).as_slice()
 }
 
 /// The runs of a logical volume, where it is the pool's.

@@ -57,7 +57,12 @@ pub(crate) fn read_label<R: Rack>(rack: &mut R, array: u32) -> Option<Label>
     let second = read_at(rack, array, 1);
     let third = read_at(rack, array, 2);
     let fourth = read_at(rack, array, 3);
-    let sectors = [or_zeros(first), or_zeros(second), or_zeros(third), or_zeros(fourth)];
+    let sectors = [
+        or_zeros(first),
+        or_zeros(second),
+        or_zeros(third),
+        or_zeros(fourth),
+    ];
     decode_label(&sectors).ok()
 }
 

@@ -3,7 +3,7 @@ use Rattle.std.proofs.Common.{◌≡◌, ℕ, ◌+◌, ◌<◌, ◌≤◌, ◌==
 use Rattle.std.specs.Option.{option_and_then}
 use Rattle.rack.specs.Seen.{Seen, Stays}
 use Rattle.rack.specs.Joins.{stays_same, stays_then}
-use Rattle.gpt_table.specs.Calls.{OnlyReads}
+use Rattle.rack.specs.Sequences.{OnlyReads}
 use Rattle.pool_state.specs.declared.contents.Copied.{Copied}
 use Rattle.pool_state.specs.declared.contents.State.{State}
 use Rattle.pool_state.specs.Valid.{is_valid}
@@ -22,8 +22,7 @@ use Rattle.pool.specs.Assembling.{disk_of, damage_of, IsAssembled, IsSeated}
 use Rattle.pool.specs.Reading.{AllTold, HaveGone, IsReading, WereRead}
 use Rattle.pool.specs.Refusals.{IsPoolOf, IsDamaged, IsRefused, no_pool, two_pools, absent, damaged, unbuilt, memory}
 use Rattle.pool.specs.Shown.{AreShown, IsValidCopy, copied_at, look_of}
-use Rattle.pool.specs.Seats.{IsForemost, IsForemostOf, HasCopy, IsTaken, HasDamage, HasRoom, Stands, IsOpened, seats_of, has_other, gone_at}
-use Rattle.pool.specs.Seats.{two_pools as of_two_pools, unbuilt as of_unbuilt, seated as of_seated}
+use Rattle.pool.specs.Seats.{IsForemost, IsForemostOf, HasCopy, IsTaken, HasDamage, HasRoom, Stands, IsOpened, seats_of, has_other, gone_at, two_pools as of_two_pools, unbuilt as of_unbuilt, seated as of_seated}
 use Rattle.pool.proofs.Heights.{valid_epoch}
 use Rattle.pool.proofs.Opened as saw
 use Rattle.pool.proofs.Outcomes.{of_both, went_of, have_gone, absent_is, gone_rose, were_read, stayed_of}

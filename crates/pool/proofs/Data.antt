@@ -23,7 +23,8 @@ use Rattle.pool.specs.Carrying.{Step}
 use Rattle.pool.proofs.Frames.{disks_differ, one_of_two}
 use Rattle.pool.proofs.Steps.{IsDrives, Takes, live_all, takes_pick, means_later, means_earlier, meanings_then, carries_on}
 use Rattle.pool.proofs.Written.{means_after_data, superblock_read, some_one}
-use Rattle.pool.proofs.Durably.{appended_elsewhere, refused_within, refused_others}
+use Rattle.rack.proofs.Writing.{appended_elsewhere}
+use Rattle.rack.proofs.Durably.{refused_within, refused_others}
 use Rattle.pool.proofs.Marking.{volume_known, superblock_known, seated_later, carries_of, ends_of, takes_now}
 
 value_kept : (here : Bool) (h : Values) (v w : List ℕ) → MayLeave h w → MayLeave (if here then append h v else h) w

@@ -13,7 +13,7 @@ use Rattle.gpt_table.specs.declared.TableCopy.{TableCopy}
 use Rattle.gpt_table.specs.declared.TableCopy.TheVariants.{Primary, Backup}
 use Rattle.gpt_table.specs.Format.{header_sector, entries_sector, table_of, is_valid}
 use Rattle.gpt_table.specs.Disk.{Contents, entries_bytes, table_at, first_of}
-use Rattle.gpt_table.specs.Calls.{OnlyReads}
+use Rattle.rack.specs.Sequences.{OnlyReads}
 use Rattle.gpt_table.specs.Changes.{the_table}
 use Rattle.pool_state.specs.declared.contents.Copied.{Copied}
 use Rattle.pool_state.specs.declared.contents.State.{State}

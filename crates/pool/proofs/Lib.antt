@@ -1,7 +1,6 @@
 pub mod Frames
 pub mod Steps
 pub mod Written
-pub mod Durably
 pub mod Member
 pub mod Marking
 pub mod Data

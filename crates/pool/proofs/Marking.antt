@@ -13,7 +13,7 @@ use Rattle.pool.specs.DriveMap.{superblock_sector, volume_first, volume_sectors,
 use Rattle.pool.specs.Looks.{look_at, now_in}
 use Rattle.pool.specs.Assembling.{disk_of, IsSeated}
 use Rattle.pool.specs.Reading.{AllTold}
-use Rattle.pool.specs.Durable.{WritesDurably}
+use Rattle.rack.specs.Sequences.{WritesDurably}
 use Rattle.pool.specs.View.{View, IsPool, member_of, raised, both_raised, view}
 use Rattle.pool.specs.Volume.{Holds, TakesHeld, Means, IsEvenBelow, volume_of}
 use Rattle.pool.specs.Calls.{WentIn}

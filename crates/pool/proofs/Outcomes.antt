@@ -5,7 +5,7 @@ use Rattle.std.proofs.Common.{◌≡◌, ◌↔◌, ℕ, zero, suc, ◌<◌, ◌
 use Rattle.std.specs.List.{range_with_len}
 use Rattle.std.proofs.lemmas.Bool.{or_cases, or_left, or_right, eq-eqb, eqb-true, or_parts}
 use Rattle.rack.specs.Seen.{Seen, Rose, Stays}
-use Rattle.gpt_table.proofs.Looking.{rose_early}
+use Rattle.rack.specs.Joins.{rose_early}
 use Rattle.pool_state.specs.declared.contents.State.{State}
 use Rattle.pool.specs.declared.assembling.Refusal.TheVariants as refusal
 use Rattle.pool.specs.declared.reading.Shown.{Shown}

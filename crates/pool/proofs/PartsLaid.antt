@@ -7,12 +7,11 @@ use Rattle.rack.specs.Calls.{KeepsAll, Syncs}
 use Rattle.rack.specs.Joins.{keeps_then, stays_then, live_first, live_second, leaves_weaker, leaves_then, rose_since}
 use Rattle.gpt_table.specs.declared.Table.{Table}
 use Rattle.gpt_table.specs.declared.TableCopy.TheVariants.{Primary, Backup}
-use Rattle.gpt_table.specs.Calls.{Plan, MayBecome, Follows}
+use Rattle.gpt_table.specs.Calls.{Plan, IsPlanned, Follows}
 use Rattle.gpt_table.specs.Changes.{IsElsewhere, IsOfCopies, the_table}
 use Rattle.gpt_table.specs.Disk.{Contents, IsAmong, first_of, now_on, table_at}
 use Rattle.gpt_table.specs.Plans.{WritesPlan, WritesTable, IsOfTable}
-use Rattle.gpt_table.proofs.Planned.{unplanned}
-use Rattle.pool.specs.Durable.{WritesDurably}
+use Rattle.rack.specs.Sequences.{MayBecome, WritesDurably}
 use Rattle.pool.specs.Laying.{WritesOnly, IsOfParts, IsLaid, LaysParts, zero_sector, zeros_plan, data_first}
 use Rattle.pool.proofs.Frames.{copies_bounds, table_agrees}
 use Rattle.pool.proofs.Zeros.{zeros_cases, zeros_planned}
@@ -33,16 +32,16 @@ only_planned a b disk plan of follows inside =
       others = λ d s live other. follows.others d s live (none d s other);
       stops =
           λ traced.
-          leaves_weaker (λ i. (d s : ℕ) → IsLive a b d s → MayBecome a disk plan d s (i d s)) (KeepsOut a b disk of)
+          leaves_weaker (λ i. (d s : ℕ) → IsLive a b d s → MayBecome a (IsPlanned disk plan) d s (i d s)) (KeepsOut a b disk of)
           (λ i may d s live other. old d s (i d s) other (may d s live))
           (follows.stops traced);
     }
   where
-    none : (d s : ℕ) → IsElsewhere disk of d s → (d ≢ disk) ⊎ (plan s ≡ None)
-    none d s (inl other) = inl other
-    none d s (inr out) = inr (unplanned (plan s) (λ v planned. out (inside s v planned)))
+    none : (d s : ℕ) → IsElsewhere disk of d s → (v : List ℕ) → IsPlanned disk plan d s v → ⊥
+    none d s (inl other) v planned = other planned.0
+    none d s (inr out) v planned = out (inside s v planned.1)
 
-    old : (d s : ℕ) (v : List ℕ) → IsElsewhere disk of d s → MayBecome a disk plan d s v → MayLeave (a.held d s) v
+    old : (d s : ℕ) (v : List ℕ) → IsElsewhere disk of d s → MayBecome a (IsPlanned disk plan) d s v → MayLeave (a.held d s) v
     old d s v other (inl before) = before
     old d s v (inl other) (inr new) = absurd (other new.0)
     old d s v (inr out) (inr new) = absurd (out (inside s v new.1))
@@ -148,9 +147,9 @@ laid_at a m n b disk table count size room wrote zeros synced known told unspent
           let middle = live_second wrote.follows.stays (live_first synced.stays (live s inside)) in
           now s inside (c s) (picks s own)
           ∙ (zeros.follows.others disk s middle
-          (inr (unplanned (zeros_plan data_first count s) (λ v planned.
-          let at = zeros_cases data_first count s v planned in
-          data_outside table.sectors count s room own (at.0, at.1))))).current in
+          (λ v planned.
+          let at = zeros_cases data_first count s v planned.1 in
+          data_outside table.sectors count s room own (at.0, at.1))).current in
           table_agrees table.sectors (now_on m disk) c agrees
           ∙ table_of_both table.sectors (now_on m disk) table
           ((wrote.both told (λ s own. zeros.follows.stays.spent disk s (synced.stays.spent disk s (unspent s))) Primary).says);

@@ -27,7 +27,7 @@ use Rattle.pool.specs.View.{view, member_of}
 use Rattle.pool.specs.Volume.{Holds, TakesHeld}
 use Rattle.pool.proofs.Steps.{IsDrives}
 use Rattle.pool.proofs.Written.{superblock_read}
-use Rattle.pool.proofs.Durably.{appended_elsewhere}
+use Rattle.rack.proofs.Writing.{appended_elsewhere}
 use Rattle.pool.proofs.NewPools.{AreUnits, extent_bounds, units_room, units_low, sizes_of, volume_some, volume_room, valid_at, table_at_place, member_at_place}
 use Rattle.pool.proofs.PoolParts.{IsRoomy, Blank, AreLaid, AreSaid, AreCopied, told_later, live_later, new_or_before}
 use Rattle.pool.proofs.OnlyPool.{none_shown, lonely, HasBoth, the_pool, places_new, AreParts, place_disk, shows_pool, copied_read, assembles_later}

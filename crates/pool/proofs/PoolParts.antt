@@ -15,7 +15,7 @@ use Rattle.pool_state.specs.declared.contents.State.{State}
 use Rattle.pool_state.specs.Sector.{decoded as state_decoded}
 use Rattle.pool.specs.declared.Birth.{Birth}
 use Rattle.pool.specs.DriveMap.{state_sector, superblock_sector, volume_sectors, member_sectors}
-use Rattle.pool.specs.Durable.{WritesDurably}
+use Rattle.rack.specs.Sequences.{WritesDurably}
 use Rattle.pool.specs.Laying.{WritesOnly, IsLaid, IsOfParts, LaysParts, zero_sector, data_first}
 use Rattle.pool.specs.Looks.{look_at, copied_on}
 use Rattle.pool.specs.Marks.{WritesSuperblock}
@@ -25,7 +25,7 @@ use Rattle.pool.specs.Reading.{AllTold}
 use Rattle.pool.specs.Refusals.{HasNoPool}
 use Rattle.pool.proofs.Frames.{copies_bounds}
 use Rattle.pool.proofs.Steps.{IsDrives, live_all}
-use Rattle.pool.proofs.Durably.{appended_elsewhere}
+use Rattle.rack.proofs.Writing.{appended_elsewhere}
 use Rattle.pool.proofs.PartsLaid.{KeepsOut, only_durably}
 
 -- the table, the superblock and the data of each drive lie inside it

@@ -7,7 +7,7 @@ use Rattle.rack.specs.Calls.{KeepsAll}
 use Rattle.rack.specs.Joins.{keeps_then, rose_since, stays_then, keeps_all_then, leaves_weaker}
 use Rattle.flat_array.specs.Array.{FlatArray}
 use Rattle.gpt_table.specs.Disk.{now_on, IsOfCopy}
-use Rattle.gpt_table.specs.Calls.{OnlyReads}
+use Rattle.rack.specs.Sequences.{OnlyReads}
 use Rattle.gpt_table.specs.Changes.{the_table, AreSingle, IsElsewhere, IsOfCopies}
 use Rattle.pool.specs.declared.assembling.Assembled.{Assembled}
 use Rattle.pool.specs.declared.assembling.Refusal.{Refusal}

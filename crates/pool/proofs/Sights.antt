@@ -2,10 +2,11 @@
 use Rattle.std.proofs.Common.{◌≡◌, ℕ, zero, suc, ◌<◌, List, [], ◌∷◌, ◌++◌, length, slice_get, Option, Some, Ok, true, refl, sym, subst, ◌∙◌, inl, inr, false}
 use Rattle.rack.specs.Seen.{Seen, Rose, Stays}
 use Rattle.rack.specs.Calls.{Reads}
-use Rattle.gpt_table.specs.Calls.{OnlyReads}
+use Rattle.rack.specs.Sequences.{OnlyReads}
 use Rattle.gpt_table.specs.Changes.{the_table}
 use Rattle.gpt_table.specs.Disk.{Contents, AgreesUnspent}
-use Rattle.gpt_table.proofs.Looking.{same_after, rose_later, rose_early}
+use Rattle.rack.proofs.Reading.{same_after}
+use Rattle.rack.specs.Joins.{rose_later, rose_early}
 use Rattle.pool.specs.declared.reading.Shown.{Shown}
 use Rattle.pool.specs.Looks.{now_in, copied_on}
 use Rattle.pool.specs.Reading.{IsReadOr}

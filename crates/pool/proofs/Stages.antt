@@ -9,7 +9,7 @@ use Rattle.md_super.specs.declared.superblock.Super.{Super}
 use Rattle.pool_state.specs.declared.contents.State.{State}
 use Rattle.pool.specs.declared.Birth.{Birth}
 use Rattle.pool.specs.DriveMap.{state_sector, superblock_sector, volume_first, volume_sectors, member_sectors}
-use Rattle.pool.specs.Durable.{WritesDurably}
+use Rattle.rack.specs.Sequences.{WritesDurably}
 use Rattle.pool.specs.Laying.{IsLaid, WritesOnly, IsOfParts, LaysParts, zero_sector, data_first}
 use Rattle.pool.specs.Marks.{WritesSuperblock}
 use Rattle.pool.specs.NewPool.{new_drive_id, new_table, new_member, new_members, in_order}
@@ -19,7 +19,7 @@ use Rattle.pool.specs.Volume.{Holds}
 use Rattle.pool.specs.View.{view}
 use Rattle.pool.proofs.Frames.{copies_bounds}
 use Rattle.pool.proofs.Steps.{IsDrives}
-use Rattle.pool.proofs.Durably.{appended_elsewhere}
+use Rattle.rack.proofs.Writing.{appended_elsewhere}
 use Rattle.pool.proofs.PartsLaid.{only_durably}
 use Rattle.pool.proofs.PoolParts.{IsRoomy, Blank, AreLaid, AreSaid, AreCopied, blank_start, blank_only, blank_clear, laid_only, laid_more, said_only, said_more, copied_more}
 use Rattle.pool.proofs.PoolMade.{room_given, roomy_given, first_copy, HasFirst, second_copy, pool_holds}

@@ -1,9 +1,9 @@
 -- How the drive of a place stands, over several calls.
 use Rattle.std.proofs.Common.{◌≡◌, ℕ, ◌+◌, ◌<◌, ◌≤◌, List, Option, Some, None, length, subst, inl, inr}
 use Rattle.rack.specs.Seen.{Seen, Stays}
-use Rattle.gpt_table.specs.Calls.{OnlyReads}
+use Rattle.rack.specs.Sequences.{OnlyReads}
 use Rattle.gpt_table.specs.Changes.{the_table}
-use Rattle.gpt_table.proofs.Looking.{rose_later, rose_early}
+use Rattle.rack.specs.Joins.{rose_later, rose_early}
 use Rattle.pool_state.specs.declared.contents.State.{State}
 use Rattle.pool.specs.declared.assembling.Part.{Part}
 use Rattle.pool.specs.declared.reading.Shown.{Shown}

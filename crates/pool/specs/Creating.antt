@@ -18,7 +18,7 @@ use Rattle.pool.specs.declared.assembling.Assembled.{Assembled}
 use Rattle.pool.specs.declared.creating.CreateFault.{CreateFault}
 use Rattle.pool.specs.declared.creating.CreateFault.TheVariants.{Layout, Gone as DriveGone, Memory}
 use Rattle.pool.specs.DriveMap.{state_sector, superblock_sector, volume_sectors, member_sectors}
-use Rattle.pool.specs.Durable.{WritesDurably}
+use Rattle.rack.specs.Sequences.{WritesDurably}
 use Rattle.pool.specs.Looks.{copied_on}
 use Rattle.pool.specs.Assembling.{Assembles}
 use Rattle.pool.specs.Laying.{zero_sector, IsLaid}

@@ -8,7 +8,6 @@ pub mod View
 pub mod Volume
 pub mod Carrying
 pub mod Calls
-pub mod Durable
 pub mod Marks
 pub mod Data
 pub mod Sizes

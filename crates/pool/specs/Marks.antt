@@ -9,7 +9,7 @@ use Rattle.md_super.specs.declared.superblock.Super.{Super}
 use Rattle.md_super.specs.Layout.{decoded}
 use Rattle.pool.specs.DriveMap.{superblock_sector, volume_first}
 use Rattle.pool.specs.Assembling.{disk_of}
-use Rattle.pool.specs.Durable.{WritesDurably}
+use Rattle.rack.specs.Sequences.{WritesDurably}
 use Rattle.pool.specs.View.{View, both_raised, marked, cleaned}
 use Rattle.pool.specs.Volume.{Holds, Means, IsEvenBelow, AreSingle}
 use Rattle.pool.specs.Calls.{IsSamePool, WentIn, Becomes, LeavesMeanings, EndsWithMeanings, unchanged}

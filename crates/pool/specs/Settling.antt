@@ -12,7 +12,7 @@ use Rattle.pool.specs.declared.assembling.Assembled.{Assembled}
 use Rattle.pool.specs.declared.assembling.Part.TheVariants.{Table as TablePart}
 use Rattle.pool.specs.declared.assembling.Refusal.{Refusal}
 use Rattle.pool.specs.declared.assembling.Refusal.TheVariants.{Absent, Damaged, Memory}
-use Rattle.gpt_table.specs.Calls.{OnlyReads}
+use Rattle.rack.specs.Sequences.{OnlyReads}
 use Rattle.md_super.specs.declared.superblock.Super.{Super}
 use Rattle.pool.specs.declared.members.Members.{Members}
 use Rattle.md_super.specs.Layout.{decoded}

@@ -4,7 +4,7 @@ use Rattle.std.specs.Option.{option_and_then}
 use Rattle.rack.specs.declared.Gone.{Gone}
 use Rattle.rack.specs.Seen.{Seen, Rose}
 use Rattle.gpt_table.specs.declared.Table.{Table}
-use Rattle.gpt_table.specs.Calls.{OnlyReads}
+use Rattle.rack.specs.Sequences.{OnlyReads}
 use Rattle.gpt_table.specs.Changes.{the_table}
 use Rattle.gpt_table.specs.Disk.{Contents, AgreesUnspent}
 use Rattle.pool_state.specs.declared.contents.Copied.{Copied}

@@ -1,7 +1,7 @@
 //! From disks to a pool: the state, and the disk of each place.
 
 ghost use Rattle.std.specs.Prelude.{ℕ, Bool, IfOk, IfErr};
-ghost use Rattle.gpt_table.specs.Calls.{OnlyReads};
+ghost use Rattle.rack.specs.Sequences.{OnlyReads};
 ghost use Rattle.pool.specs.Looks.{Look};
 ghost use Rattle.pool.specs.Assembling.{IsAssembled, IsSeated};
 ghost use Rattle.pool.specs.Reading.{AllTold, HaveGone, IsReading, WereRead};

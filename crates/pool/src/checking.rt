@@ -3,7 +3,7 @@
 
 ghost use Rattle.std.specs.Prelude.{◌≡◌, ℕ, ◌<◌, ◌^◌, true, false, length, Some, None, IfOk};
 ghost use Rattle.std.specs.Option.{option_map_or};
-ghost use Rattle.gpt_table.specs.Calls.{OnlyReads};
+ghost use Rattle.rack.specs.Sequences.{OnlyReads};
 ghost use Rattle.gpt_table.specs.Changes.{the_table};
 ghost use Rattle.pool_state.specs.Valid.{is_valid};
 ghost use Rattle.pool.specs.DriveMap.{is_table_of, is_member_of};

@@ -10,7 +10,6 @@ ghost use Rattle.pool.specs.Creating.{IsUnplanned, IsRefusedFor, IsNewPool, Writ
 ghost use Rattle.pool.specs.View.{view};
 
 use crate::drive_map::STATE_SECTOR;
-use crate::durable::write_durably;
 use crate::laying::{ZEROS, lay_parts};
 use crate::matching::volume_size;
 use crate::members::{Members, write_superblock};
@@ -19,7 +18,7 @@ use crate::{Assembled, Birth, Pool};
 use arrayvec::ArrayVec;
 use layer_plan::{PlanError, layout};
 use pool_state::{State, encode_state};
-use rack::{Back, Bay, Gone, Rack};
+use rack::{Back, Bay, Gone, Rack, write_durably};
 use shr_base::units;
 use thiserror::Error;
 

@@ -15,7 +15,6 @@ mod assembling;
 mod checking;
 mod creating;
 mod drive_map;
-mod durable;
 mod laying;
 mod matching;
 mod members;

@@ -6,9 +6,8 @@ ghost use Rattle.pool.specs.Marks.{WritesSuperblock};
 ghost use Rattle.pool.specs.View.{raised};
 
 use crate::drive_map::SUPERBLOCK_SECTOR;
-use crate::durable::write_durably;
 use md_super::{Super, encode};
-use rack::{Gone, Rack};
+use rack::{Gone, Rack, write_durably};
 
 /// The most events of an array: their number stands still there.
 const MOST_EVENTS: u64 = (1 << 63) - 1;

@@ -3,7 +3,7 @@
 
 ghost use Rattle.std.specs.Prelude.{◌≡◌, ◌⊎◌, ◌++◌, ◌^◌, ℕ, ◌<◌, true, length, replicate, IfOk, IfSome, None};
 ghost use Rattle.rack.specs.Seen.{Rose};
-ghost use Rattle.gpt_table.specs.Calls.{OnlyReads};
+ghost use Rattle.rack.specs.Sequences.{OnlyReads};
 ghost use Rattle.gpt_table.specs.Changes.{the_table};
 ghost use Rattle.gpt_table.specs.Disk.{Contents, AgreesUnspent};
 ghost use Rattle.std.specs.Result.{result_ok};

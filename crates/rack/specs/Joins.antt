@@ -67,6 +67,11 @@ pub rose_since : {a b c : ℕ} → a ≤ b → Rose b c → Rose a c
 rose_since before (inl rose) = inl (omega arith)
 rose_since before (inr stands) = inr stands
 
+-- and one that rose before a later call rose until after it
+pub rose_before : {a b c : ℕ} → b ≤ c → Rose a b → Rose a c
+rose_before after (inl rose) = inl (omega arith)
+rose_before after (inr stands) = inr (omega arith)
+
 -- nothing was called
 pub stays_same : (x : Seen) → x.fit → Stays x x
 stays_same x fit =
@@ -102,6 +107,16 @@ stays_then first second =
       traced = λ traced. second.traced (first.traced traced);
       lenders = second.lenders ∙ first.lenders;
     }
+
+-- a disk whose faults rose later did so over the whole time
+pub rose_later :
+    (a b c : Seen) (disk : ℕ) → Stays a b → Rose (b.faults disk) (c.faults disk) → Rose (a.faults disk) (c.faults disk)
+rose_later a b c disk first rose = rose_since (first.faults disk) rose
+
+-- and one whose faults rose early did too
+pub rose_early :
+    (a b c : Seen) (disk : ℕ) → Stays b c → Rose (a.faults disk) (b.faults disk) → Rose (a.faults disk) (c.faults disk)
+rose_early a b c disk second rose = rose_before (second.faults disk) rose
 
 -- a sector that is live over two calls is live over the first
 pub live_first : {a b c : Seen} {d s : ℕ} → Stays b c → IsLive a c d s → IsLive a b d s

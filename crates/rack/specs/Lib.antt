@@ -5,3 +5,5 @@ pub mod Calls
 pub mod Shelf
 pub mod Joins
 pub mod References
+pub mod Targets
+pub mod Sequences

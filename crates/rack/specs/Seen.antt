@@ -1,10 +1,14 @@
 -- What a rack shows to contracts.
-use Rattle.std.specs.Prelude.{◌≡◌, ◌⊎◌, ℕ, ◌-◌, ◌<◌, ◌≤◌, ◌^◌, List, Bool, false, ◌==◌, ◌&&◌, if◌then◌else◌}
+use Rattle.std.specs.Prelude.{◌≡◌, ◌⊎◌, ℕ, ◌-◌, ◌<◌, ◌≤◌, ◌^◌, List, Bool, false, ◌==◌, ◌&&◌, if◌then◌else◌, Option, Some}
 use Rattle.rack.specs.Values.{Values, MayLeave, append}
 
 -- contents of all disks: the 512 bytes of a disk's sector
 abbrev pub Image : Type 0
 Image = ℕ → ℕ → List ℕ
+
+-- what a read of contents gives: each sector can be read. Where there is no sector it is the empty list.
+abbrev pub read_in : Image → ℕ → ℕ → Option (List ℕ)
+read_in c disk sector = Some (c disk sector)
 
 -- the values of each disk's sectors
 abbrev pub Held : Type 0

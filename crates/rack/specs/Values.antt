@@ -1,10 +1,14 @@
 -- The disk model of one sector: which values a stop may leave in it.
-use Rattle.std.specs.Prelude.{◌≡◌, ◌⊎◌, ℕ, List, [], ◌∷◌, ◌++◌}
+use Rattle.std.specs.Prelude.{◌≡◌, ◌⊎◌, ℕ, List, [], ◌∷◌, ◌++◌, length}
 
 -- the values of a sector since its disk's last sync, oldest first, the current one apart
 pub record Values : Type 0 where
   pub older : List (List ℕ)
   pub current : List ℕ
+
+-- the bytes of a sector. No rack owes it of what it holds: layers carry it of the sectors that they wrote.
+abbrev pub IsSector : List ℕ → Type 0
+IsSector v = length v ≡ 512
 
 -- a value stands in a list
 abbrev pub Has : List (List ℕ) → List ℕ → Type 0

@@ -11,10 +11,16 @@
 //!
 //! **The contract.** `read` gives the current value, `write` appends one, `sync` keeps the last one
 //! alone, and a refusal comes only where that disk's faults rose. Each call has one clause, a
-//! relation between what the rack shows before and after it (specs/Calls.antt); the clauses of calls
-//! in a row join by the lemmas of specs/Joins.antt.
+//! relation between what the rack shows before and after it (specs/Calls.antt). What a layer below
+//! promises beyond that reaches the layers above through the relation `runs`.
+//!
+//! **Calls in a row** are one: reads alone, writes of a list of targets on disks of which some go, syncs
+//! of many disks, a write made durable (specs/Sequences.antt). The lemmas that join them are promises
+//! of this crate: specs/Joins.antt for two calls, proofs/Reading.antt, Phases.antt and Durably.antt for
+//! any number.
 #![tactic(auto)]
 
+mod durable;
 mod name;
 mod references;
 
@@ -25,6 +31,7 @@ ghost use Rattle.rack.specs.Calls.{Reads, Writes, Syncs};
 ghost use Rattle.rack.specs.Shelf.{Shelf, KeepsShelf, Attaches};
 
 use arrayvec::ArrayVec;
+pub use durable::write_durably;
 pub use name::Name;
 
 /// Bytes in a sector.

@@ -2,7 +2,7 @@
 use Rattle.std.proofs.Common.{◌≡◌, ℕ, ◌+◌, ◌<◌, ◌≤◌, List, [], ◌∷◌, ◌++◌, sym, ◌∙◌, subst, inl, inr}
 use Rattle.rack.specs.Values.{IsSingle}
 use Rattle.rack.specs.Seen.{Image, Rose}
-use Rattle.flat_array.specs.declared.Command.{Command}
+use Rattle.shr_script.specs.declared.Command.{Command}
 use Rattle.flat_array.specs.Array.{FlatArray, flushed}
 use Rattle.flat_array.specs.Reply.{after, array_after}
 use Rattle.pool.specs.DriveMap.{volume_first}

@@ -4,7 +4,7 @@ use Rattle.std.proofs.lemmas.Bool.{eqb-true}
 use Rattle.std.proofs.lemmas.List.{append-nil}
 use Rattle.rack.specs.declared.Gone.{Gone}
 use Rattle.rack.specs.Moments.{Leaves}
-use Rattle.flat_array.specs.declared.Command.{Command}
+use Rattle.shr_script.specs.declared.Command.{Command}
 use Rattle.flat_array.specs.Array.{FlatArray, flushed}
 use Rattle.flat_array.specs.Reply.{replies, array_after}
 use Rattle.pool.specs.declared.members.Members.{Members}

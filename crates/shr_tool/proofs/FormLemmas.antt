@@ -12,7 +12,7 @@ use Rattle.pool_state.specs.Valid.{is_extent as valid_extent}
 use Rattle.shr_tool.specs.declared.words.Form.{Form}
 use Rattle.shr_tool.specs.declared.words.Form.TheVariants.{Wrong, Unbuilt, Serve, Create, Layout}
 use Rattle.shr_tool.specs.LayoutWords.{layout_request, extent_of, is_extent, if_passes}
-use Rattle.flat_array.specs.Line.{number_of}
+use Rattle.shr_script.specs.Line.{number_of}
 use Rattle.shr_tool.specs.declared.layout.request.LayoutRequest.{LayoutRequest}
 use Rattle.shr_tool.specs.Forms.{is_name, are_names, is_form_name, serve_form, create_form_of, create_form, layout_form, form_of}
 

@@ -4,9 +4,9 @@ use Rattle.std.proofs.lemmas.List.{append-nil}
 use Rattle.rack.specs.Seen.{Image, Seen}
 use Rattle.rack.specs.Moments.{Leaves}
 use Rattle.rack.specs.Joins.{leaves_same, leaves_weaker, leaves_then}
-use Rattle.flat_array.specs.declared.Command.{Command}
+use Rattle.shr_script.specs.declared.Command.{Command}
 use Rattle.flat_array.specs.Array.{FlatArray}
-use Rattle.flat_array.specs.Script.{script_of, cut_script_of}
+use Rattle.shr_script.specs.Script.{script_of, cut_script_of}
 use Rattle.flat_array.specs.Reply.{reply, replies, after, array_after}
 use Rattle.pool.specs.View.{View}
 use Rattle.pool.specs.Volume.{Holds}

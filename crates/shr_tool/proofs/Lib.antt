@@ -1,14 +1,9 @@
-pub mod Parsing
-pub mod ReadingLemmas
-pub mod LongLines
 pub mod Limits
 pub mod Meanings
 pub mod Filled
 pub mod Performing
-pub mod Scripts
 pub mod History
 pub mod Stopping
-pub mod FilesLemmas
 pub mod Finishing
 pub mod FormLemmas
 pub mod Putting

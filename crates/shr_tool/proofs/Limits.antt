@@ -2,12 +2,12 @@
 use Rattle.std.proofs.Common.{◌≡◌, ◌≢◌, ℕ, zero, suc, ◌+◌, ◌-◌, ◌≤◌, List, [], ◌∷◌, ◌++◌, length, take, drop, Some, append_assoc, length-append, length-take, length-drop, sym, ◌∙◌, ap, subst, arith}
 use Rattle.std.specs.List.{All}
 use Rattle.std.proofs.Math.Seq.{take-append_seam}
-use Rattle.flat_array.specs.declared.Command.TheVariants.{Quit}
-use Rattle.flat_array.specs.Line.{command_of}
-use Rattle.flat_array.specs.Script.{without_return, ended_lines_of}
+use Rattle.shr_script.specs.declared.Command.TheVariants.{Quit}
+use Rattle.shr_script.specs.Line.{command_of}
+use Rattle.shr_script.specs.Script.{without_return, ended_lines_of}
 use Rattle.shr_tool.specs.Limits.{NoQuit, KeepsLimit}
-use Rattle.shr_tool.specs.Reading.{ReadsPart, ReadsLine, ReadsMost}
-use Rattle.shr_tool.proofs.Scripts.{NoFeed, ended_lines_of-line, ended_lines_of-last}
+use Rattle.shr_script.specs.Reading.{ReadsPart, ReadsLine, ReadsMost}
+use Rattle.shr_script.specs.ScriptLaws.{NoFeed, ended_lines_of-line, ended_lines_of-last}
 
 -- what holds of the first of a list and of all others
 All-cons : {A : Type 0} (P : A → Type 0) (x : A) (xs : List A) → P x → All P xs → All P (x ∷ xs)

@@ -14,7 +14,7 @@ use Rattle.rack.specs.Moments.{Leaves}
 use Rattle.rack.specs.Joins.{stays_same, stays_then, leaves_same, rose_since}
 use Rattle.layer_plan.specs.declared.PlanError.{PlanError}
 use Rattle.layer_plan.specs.declared.PlanError.TheVariants.{TooFew}
-use Rattle.flat_array.specs.Reply.{refused_line}
+use Rattle.shr_script.specs.Reply.{refused_line}
 use Rattle.shr_base.specs.Units.{units_of}
 use Rattle.pool_state.specs.declared.contents.State.{State}
 use Rattle.pool_state.specs.declared.contents.Copied.{Copied}

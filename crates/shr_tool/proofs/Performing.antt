@@ -4,10 +4,11 @@ use Rattle.std.proofs.lemmas.Bool.{cases_lt}
 use Rattle.std.proofs.lemmas.Bool.Decides.{nat_tests}
 use Rattle.rack.specs.declared.Gone.{Gone}
 use Rattle.rack.specs.Joins.{leaves_same, leaves_weaker}
-use Rattle.flat_array.specs.declared.Command.{Command}
-use Rattle.flat_array.specs.declared.Command.TheVariants.{Read, Write, Fill, Flush}
+use Rattle.shr_script.specs.declared.Command.{Command}
+use Rattle.shr_script.specs.declared.Command.TheVariants.{Read, Write, Fill, Flush}
 use Rattle.flat_array.specs.Array.{FlatArray, written, filled}
-use Rattle.flat_array.specs.Reply.{reply as reply_to, after, uniform_sector, data_line, as_line, refused_line}
+use Rattle.shr_script.specs.Reply.{data_line, as_line, refused_line}
+use Rattle.flat_array.specs.Reply.{reply as reply_to, after, uniform_sector}
 use Rattle.pool.specs.declared.BareFault.{BareFault}
 use Rattle.pool.specs.declared.BareFault.TheVariants.{Range, Gone as DriveGone}
 use Rattle.pool.specs.DriveMap.{volume_sectors}

@@ -27,7 +27,7 @@ use Rattle.shr_tool.specs.declared.status.Status.{Status}
 use Rattle.shr_tool.specs.Entry.{waiting_at, sectors_in, contents_in, entry_image, entry_seen}
 use Rattle.shr_tool.specs.Attaching.{AreAttached, IsUnattached}
 use Rattle.shr_tool.specs.Refusing.{refusal_words, refusal_status}
-use Rattle.flat_array.specs.Reply.{refused_line}
+use Rattle.shr_script.specs.Reply.{refused_line}
 use Rattle.shr_tool.specs.Serving.{Anything}
 use Rattle.shr_tool.specs.Outcome.{Outcome}
 use Rattle.shr_tool.specs.Opened.{AreSame, OpenedOn, NotOpenedOn, OpenOutcome}

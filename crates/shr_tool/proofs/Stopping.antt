@@ -4,16 +4,16 @@ use Rattle.std.proofs.lemmas.List.{append-nil}
 use Rattle.std.proofs.Math.Seq.{take-append_seam}
 use Rattle.pool.specs.View.{View}
 use Rattle.pool.specs.Calls.{IsSamePool}
-use Rattle.flat_array.specs.declared.Command.{Command}
-use Rattle.flat_array.specs.declared.Command.TheVariants.{Read, Write, Fill, Flush, Size, Quit, Unbuilt, Syntax}
-use Rattle.flat_array.specs.Line.{command_of}
-use Rattle.flat_array.specs.Script.{without_return, script_of, cut_script_of}
+use Rattle.shr_script.specs.declared.Command.{Command}
+use Rattle.shr_script.specs.declared.Command.TheVariants.{Read, Write, Fill, Flush, Size, Quit, Unbuilt, Syntax}
+use Rattle.shr_script.specs.Line.{command_of}
+use Rattle.shr_script.specs.Script.{without_return, script_of, cut_script_of}
 use Rattle.flat_array.specs.Reply.{replies, array_after}
 use Rattle.shr_tool.specs.declared.serve.Stop.{Stop}
 use Rattle.shr_tool.specs.declared.serve.Stop.TheVariants.{Quit as AtQuit, Input, SourceFault, Limit, SinkFault, DriveGone}
-use Rattle.shr_tool.specs.Reading.{ReadsPart, ReadsLine, ReadsRest, ReadsMost}
+use Rattle.shr_script.specs.Reading.{ReadsPart, ReadsLine, ReadsRest, ReadsMost}
 use Rattle.shr_tool.specs.Serving.{IsReplied, LineAnswers, Answered, StopsAtEnd, StopsAtSource, StopsAtLimit, Serves, answer_of}
-use Rattle.shr_tool.proofs.Scripts.{prepend, script_of-line, script_of-last, cut_script_of-line, cut_script_of-last}
+use Rattle.shr_script.specs.ScriptLaws.{prepend, script_of-line, script_of-last, cut_script_of-line, cut_script_of-last}
 use Rattle.shr_tool.proofs.History.{History, served_more, answered_more, runs_into}
 use Rattle.shr_tool.proofs.Filled.{went_since}
 

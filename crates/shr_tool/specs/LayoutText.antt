@@ -2,7 +2,7 @@
 use Rattle.std.specs.Prelude.{◌≡◌, ◌⊎◌, ℕ, ◌+◌, ◌-◌, ◌<◌, ◌≤◌, ◌↔◌, ◌==◌, nat_lt, if◌then◌else◌, List, [], ◌∷◌, ◌++◌, length, map, sum, remove, position, flat_map, slice_index, codes, decimal, Some, Result, Ok, Err, IfOk}
 use Rattle.std.specs.List.{range_with_len, IsFirstMaxByKey}
 use Rattle.io_ends.specs.Sink.{AddsPrefix}
-use Rattle.flat_array.specs.Reply.{as_line, refused_line}
+use Rattle.shr_script.specs.Reply.{as_line, refused_line}
 use Rattle.layer_plan.specs.declared.Layer.{Layer}
 use Rattle.layer_plan.specs.declared.Layers.{Layers}
 use Rattle.layer_plan.specs.declared.PlanError.{PlanError}

@@ -2,7 +2,7 @@
 use Rattle.std.specs.Prelude.{ℕ, ◌^◌, ◌<◌, ◌≤◌, nat_le, nat_lt, ◌&&◌, Bool, if◌then◌else◌, List, [], ◌∷◌, length, take, map, filter_map, All, Option, Some, None, is_some}
 use Rattle.std.specs.List.{list_all}
 use Rattle.std.specs.Int.{is_power_of_two}
-use Rattle.flat_array.specs.Line.{number_of}
+use Rattle.shr_script.specs.Line.{number_of}
 use Rattle.shr_base.specs.Units.{units_of}
 use Rattle.shr_tool.specs.declared.layout.request.LayoutRequest.{LayoutRequest}
 

@@ -1,6 +1,3 @@
-pub mod Words
-pub mod Reading
-pub mod Pieces
 pub mod Limits
 pub mod Meaning
 pub mod Timeline
@@ -10,8 +7,6 @@ pub mod Forms
 pub mod StatusCode
 pub mod Outcome
 pub mod Entry
-pub mod Files
-pub mod FilesLaws
 pub mod Attaching
 pub mod Refusing
 pub mod Run

@@ -1,9 +1,9 @@
 -- A script that is longer than its limit.
 use Rattle.std.specs.Prelude.{◌≢◌, ◌↔◌, ℕ, ◌+◌, ◌<◌, ◌≤◌, List, length, take, Some}
 use Rattle.std.specs.List.{All}
-use Rattle.flat_array.specs.declared.Command.TheVariants.{Quit}
-use Rattle.flat_array.specs.Line.{command_of}
-use Rattle.flat_array.specs.Script.{ended_lines_of}
+use Rattle.shr_script.specs.declared.Command.TheVariants.{Quit}
+use Rattle.shr_script.specs.Line.{command_of}
+use Rattle.shr_script.specs.Script.{ended_lines_of}
 
 -- no `quit` line ends in these bytes
 abbrev pub NoQuit : List ℕ → Type 0

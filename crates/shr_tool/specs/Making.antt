@@ -1,7 +1,7 @@
 -- How the making of a pool on attached disks came out.
 use Rattle.std.specs.Prelude.{◌≡◌, ◌⊎◌, ℕ, ◌<◌, ◌≤◌, List, false}
 use Rattle.rack.specs.Seen.{Image, Seen, Rose, Stays}
-use Rattle.flat_array.specs.Reply.{refused_line}
+use Rattle.shr_script.specs.Reply.{refused_line}
 use Rattle.pool.specs.declared.Birth.{Birth}
 use Rattle.pool.specs.declared.creating.CreateFault.{CreateFault}
 use Rattle.pool.specs.declared.creating.CreateFault.TheVariants.{Layout, Gone, Memory}

@@ -2,7 +2,7 @@
 use Rattle.std.specs.Prelude.{◌≡◌, ◌⊎◌, ℕ, ◌<◌, ◌≤◌, Bool, List}
 use Rattle.rack.specs.Seen.{Image, Seen, Rose, Stays}
 use Rattle.flat_array.specs.Array.{FlatArray}
-use Rattle.flat_array.specs.Reply.{refused_line}
+use Rattle.shr_script.specs.Reply.{refused_line}
 use Rattle.pool.specs.declared.assembling.Assembled.{Assembled}
 use Rattle.pool.specs.declared.assembling.Refusal.{Refusal}
 use Rattle.pool.specs.declared.members.Members.{Members}

@@ -2,10 +2,11 @@
 use Rattle.std.specs.Prelude.{◌≡◌, ◌⊎◌, ℕ, ◌+◌, ◌<◌, ◌≤◌, ◌^◌, List, [], ◌∷◌, ◌++◌, length, take, false, codes, decimal}
 use Rattle.rack.specs.Seen.{Image, Seen, Rose}
 use Rattle.io_ends.specs.Sink.{AddsPrefix}
-use Rattle.flat_array.specs.declared.Command.{Command}
+use Rattle.shr_script.specs.declared.Command.{Command}
 use Rattle.flat_array.specs.Array.{FlatArray, flushed}
-use Rattle.flat_array.specs.Script.{script_of, cut_script_of}
-use Rattle.flat_array.specs.Reply.{reply, replies, array_after, refused_line}
+use Rattle.shr_script.specs.Script.{script_of, cut_script_of}
+use Rattle.shr_script.specs.Reply.{refused_line}
+use Rattle.flat_array.specs.Reply.{reply, replies, array_after}
 use Rattle.pool.specs.View.{View, all_rows}
 use Rattle.pool.specs.Volume.{Holds, AreSingle}
 use Rattle.pool.specs.Calls.{WentIn, Becomes, LeavesMeanings, EndsWithMeanings, AreDurable, unchanged}

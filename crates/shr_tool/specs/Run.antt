@@ -5,7 +5,7 @@ use Rattle.rack.specs.declared.AttachFault.TheVariants.{Failed, Twice, Memory as
 use Rattle.rack.specs.Seen.{Image, Seen, Rose}
 use Rattle.rack.specs.Shelf.{Shelf}
 use Rattle.io_ends.specs.Sink.{AddsPrefix}
-use Rattle.flat_array.specs.Reply.{refused_line, as_line}
+use Rattle.shr_script.specs.Reply.{refused_line, as_line}
 use Rattle.pool_state.specs.declared.contents.State.{State}
 use Rattle.pool.specs.declared.Birth.{Birth}
 use Rattle.pool.specs.declared.assembling.Assembled.{Assembled}
@@ -27,7 +27,7 @@ use Rattle.pool.specs.Creating.{IsUnplanned, HasNoCopy, HasTwoIds, state_on, zer
 use Rattle.shr_tool.specs.declared.status.Status.{Status}
 use Rattle.shr_tool.specs.declared.status.Status.TheVariants.{Done, Words, Limit, Source, Sink, Refused, Memory}
 use Rattle.shr_tool.specs.StatusCode.{code_of}
-use Rattle.shr_tool.specs.Files.{Differ}
+use Rattle.rack_file.specs.Files.{Differ}
 use Rattle.shr_tool.specs.Entry.{waiting_at, sectors_in, entry_image, entry_seen}
 use Rattle.shr_tool.specs.Attaching.{IsTwice}
 use Rattle.shr_tool.specs.Refusing.{refusal_words, refusal_status, fault_words, fault_status}

@@ -3,10 +3,10 @@ use Rattle.std.specs.Prelude.{◌≡◌, ◌⊎◌, ℕ, ◌<◌, ◌≤◌, ◌
 use Rattle.rack.specs.Seen.{Image, Rose}
 use Rattle.rack.specs.Moments.{Leaves}
 use Rattle.io_ends.specs.Sink.{AddsPrefix}
-use Rattle.flat_array.specs.declared.Command.{Command}
-use Rattle.flat_array.specs.declared.Command.TheVariants.{Read, Write, Fill, Flush, Size, Quit, Unbuilt, Syntax}
+use Rattle.shr_script.specs.declared.Command.{Command}
+use Rattle.shr_script.specs.declared.Command.TheVariants.{Read, Write, Fill, Flush, Size, Quit, Unbuilt, Syntax}
 use Rattle.flat_array.specs.Array.{FlatArray}
-use Rattle.flat_array.specs.Script.{script_of, cut_script_of}
+use Rattle.shr_script.specs.Script.{script_of, cut_script_of}
 use Rattle.flat_array.specs.Reply.{reply, replies, array_after}
 use Rattle.pool.specs.View.{View}
 use Rattle.pool.specs.Volume.{Holds}

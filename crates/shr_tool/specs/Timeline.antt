@@ -2,7 +2,7 @@
 use Rattle.std.specs.Prelude.{◌≡◌, ◌⊎◌, ℕ, ◌<◌, ◌≤◌, List, [], ◌∷◌}
 use Rattle.rack.specs.Seen.{Image}
 use Rattle.rack.specs.Moments.{Leaves}
-use Rattle.flat_array.specs.declared.Command.{Command}
+use Rattle.shr_script.specs.declared.Command.{Command}
 use Rattle.flat_array.specs.Array.{FlatArray}
 use Rattle.flat_array.specs.Reply.{reply as reply_to, after}
 use Rattle.pool.specs.View.{View}

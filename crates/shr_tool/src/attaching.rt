@@ -5,7 +5,7 @@ ghost use Rattle.shr_tool.specs.Outcome.{HasStatusCause};
 ghost use Rattle.shr_tool.specs.Attaching.{AreAttached, IsUnattached};
 ghost use Rattle.shr_tool.specs.Run.{SaysFault};
 
-use crate::reply::{ReplyText, refused_number_reply};
+use shr_script::{ReplyText, refused_number_reply};
 use crate::saying::{refuse, say};
 use crate::status::Status;
 use io_ends::Sink;

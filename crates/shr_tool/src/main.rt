@@ -9,13 +9,10 @@ mod layout;
 mod making;
 mod opening;
 mod perform;
-mod rack_file;
 mod refusals;
-mod reply;
 mod run;
 mod saying;
 mod serve;
-mod shr_script;
 mod status;
 mod words;
 

@@ -8,7 +8,7 @@ ghost use Rattle.shr_tool.specs.Run.{CreateOutcome, Says, created_line};
 
 use crate::attaching::{attach_all, refuse_name};
 use crate::refusals::refuse_create;
-use crate::reply::{ReplyText, add};
+use shr_script::{ReplyText, add};
 use crate::saying::say;
 use crate::status::Status;
 use io_ends::Sink;

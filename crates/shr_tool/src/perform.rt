@@ -1,15 +1,15 @@
 //! A command of a script, done on a pool.
 
 ghost use Rattle.std.specs.Prelude.{◌+◌, ◌≤◌, replicate, OnOk, IfErr};
-ghost use Rattle.flat_array.specs.declared.Command.TheVariants.{Read, Write, Fill, Flush, Size};
+ghost use Rattle.shr_script.specs.declared.Command.TheVariants.{Read, Write, Fill, Flush, Size};
 ghost use Rattle.pool.specs.DriveMap.{volume_sectors};
 ghost use Rattle.pool.specs.View.{IsPool};
 ghost use Rattle.shr_tool.specs.Meaning.{view_of};
 ghost use Rattle.shr_tool.specs.Timeline.{Performs, Breaks};
 ghost use Rattle.shr_tool.specs.Filling.{Fills};
 
-use crate::reply::{ReplyText, data_reply, line_reply, refused_reply, size_reply};
-use flat_array::Command;
+use shr_script::{ReplyText, data_reply, line_reply, refused_reply, size_reply};
+use shr_script::Command;
 use pool::{BareFault, Pool};
 use rack::{Bay, Gone, Rack};
 

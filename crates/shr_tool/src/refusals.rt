@@ -1,12 +1,12 @@
 //! Says why a pool couldn't be opened or made.
 
 ghost use Rattle.std.specs.Prelude.{◌≡◌, ◌≢◌, ◌≤◌, ◌++◌, codes, decimal, length};
-ghost use Rattle.flat_array.specs.Reply.{refused_line};
+ghost use Rattle.shr_script.specs.Reply.{refused_line};
 ghost use Rattle.shr_tool.specs.Outcome.{HasStatusCause};
 ghost use Rattle.shr_tool.specs.Refusing.{part_word as word_for, refusal_words, refusal_status, plan_words, fault_words, fault_status};
 ghost use Rattle.shr_tool.specs.Run.{Says};
 
-use crate::reply::{ReplyText, add, refused_number_reply};
+use shr_script::{ReplyText, add, refused_number_reply};
 use crate::saying::{refuse, say};
 use crate::status::Status;
 use io_ends::Sink;

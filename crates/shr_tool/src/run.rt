@@ -7,7 +7,7 @@ ghost use Rattle.shr_tool.specs.declared.status.Status.TheVariants.{Words, Refus
 ghost use Rattle.shr_tool.specs.LayoutWords.{layout_request as request_in, units_asked, extent_of};
 ghost use Rattle.shr_tool.specs.LayoutText.{Prints};
 ghost use Rattle.shr_tool.specs.Forms.{are_names, uses_disks, form_of as form_in};
-ghost use Rattle.flat_array.specs.Reply.{refused_line};
+ghost use Rattle.shr_script.specs.Reply.{refused_line};
 ghost use Rattle.shr_tool.specs.Limits.{KeepsLimit};
 ghost use Rattle.shr_tool.specs.Run.{Ended, Says, ServeOutcome, CreateOutcome};
 

@@ -1,11 +1,11 @@
 //! Lines that end a run.
 
 ghost use Rattle.std.specs.Prelude.{◌≡◌, ◌≢◌, ◌≤◌, length};
-ghost use Rattle.flat_array.specs.Reply.{refused_line};
+ghost use Rattle.shr_script.specs.Reply.{refused_line};
 ghost use Rattle.shr_tool.specs.Outcome.{HasStatusCause};
 ghost use Rattle.shr_tool.specs.Run.{IsSaid, Says};
 
-use crate::reply::{ReplyText, refused_reply};
+use shr_script::{ReplyText, refused_reply};
 use crate::status::Status;
 use io_ends::Sink;
 

@@ -3,9 +3,9 @@
 mod finish;
 
 ghost use Rattle.std.specs.Prelude.{◌≡◌, ◌≢◌, ◌<◌, ◌≤◌, ◌^◌, Some, IsOk, IfErr};
-ghost use Rattle.flat_array.specs.declared.Command.TheVariants.{Quit};
-ghost use Rattle.flat_array.specs.Line.{command_of};
-ghost use Rattle.flat_array.specs.Script.{without_return as line_without_return};
+ghost use Rattle.shr_script.specs.declared.Command.TheVariants.{Quit};
+ghost use Rattle.shr_script.specs.Line.{command_of};
+ghost use Rattle.shr_script.specs.Script.{without_return as line_without_return};
 ghost use Rattle.pool.specs.View.{IsPool};
 ghost use Rattle.pool.specs.Calls.{IsSamePool};
 ghost use Rattle.shr_tool.specs.Meaning.{view_of};
@@ -13,10 +13,10 @@ ghost use Rattle.shr_tool.specs.Limits.{KeepsLimit};
 ghost use Rattle.shr_tool.specs.Serving.{IsReplied, LineAnswers, Serves, HasCause, answer_of};
 
 use crate::perform::perform;
-use crate::reply::ReplyText;
-use crate::shr_script::{Ended, LineReader, SCRIPT_LIMIT, parse_line};
+use shr_script::ReplyText;
+use shr_script::{Ended, LineReader, SCRIPT_LIMIT, next_line, without_return};
 pub use finish::serve_pool;
-use flat_array::Command;
+use shr_script::Command;
 use io_ends::{Sink, Source};
 use pool::Pool;
 use rack::{Bay, Gone, Rack};
@@ -39,20 +39,6 @@ pub enum Stop {
         /// The number of its disk.
         disk: u32,
     },
-}
-
-// A line without the carriage return at its end.
-fn without_return(line: &[u8]) -> &[u8]
-    ensures { result.now ≡ line_without_return line.now }
-{
-    let count = line.len();
-    if count == 0 {
-        return line;
-    }
-    if line[count - 1] != b'\r' {
-        return line;
-    }
-    &line[..count - 1]
 }
 
 /// Answers the lines of the input until one of the causes in [`Stop`].
@@ -126,7 +112,7 @@ fn answer_line<R: Bay, O: Sink>(
     ensures other { IfErr result (λ stop. stop ≢ Stop.Limit) }
     ensures answers { O.told out.old → LineAnswers (view_of R.seen) result (command_of (line_without_return line.now)) pool.old pool.new (O.taken out.old) (O.taken out.new) }
 {
-    match parse_line(without_return(line)) {
+    match next_line(without_return(line)) {
         None => Ok(()),
         Some(Command::Quit) => Err(Stop::Quit),
         Some(command) => answer(pool, &command, text, out),

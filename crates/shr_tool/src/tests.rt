@@ -11,8 +11,9 @@ mod stops;
 ghost use Rattle.std.specs.Prelude.{◌≡◌};
 
 use crate::run::run;
-use crate::shr_script::parse_line;
-use flat_array::{Command, FlatDisk};
+use shr_script::next_line;
+use flat_array::FlatDisk;
+use shr_script::{Command, next_line};
 use io_ends::{MemSink, MemSource, Source};
 use pool::Birth;
 use rack::{Bay, Name, Rack};
@@ -113,7 +114,7 @@ fn without_return(line: &[u8]) -> &[u8] {
 fn commands_of(alloc: Global, script: &[u8]) -> Result<Vec<Command>, Fail> {
     let mut commands = Vec::new(alloc);
     for line in script.split(|byte| *byte == b'\n') {
-        match parse_line(without_return(line)) {
+        match next_line(without_return(line)) {
             None => {}
             Some(Command::Quit) => return Ok(commands),
             Some(command) => commands.push(command)?,

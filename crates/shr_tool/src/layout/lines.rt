@@ -6,7 +6,7 @@ ghost use Rattle.layer_plan.specs.Slicing.{has, height_on as height_on_place};
 ghost use Rattle.layer_plan.specs.Layering.{array_of};
 ghost use Rattle.shr_tool.specs.LayoutText.{spaced, layer_line, unused_line as unused_text_of, capacity_line, bound_line, refusal_line};
 
-use crate::reply::{ReplyText, add, refused_number_reply, refused_reply};
+use shr_script::{ReplyText, add, refused_number_reply, refused_reply};
 use itoa::Buffer;
 use layer_plan::{Layer, PlanError};
 

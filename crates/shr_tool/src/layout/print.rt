@@ -14,7 +14,7 @@ use crate::layout::lines::{
     bound_text, capacity_text, layer_text, refusal_text, unused_text, used,
 };
 use crate::layout::request::{LayoutRequest, MOST_SIZES};
-use crate::reply::ReplyText;
+use shr_script::ReplyText;
 use crate::status::Status;
 use arrayvec::ArrayVec;
 use io_ends::{Failed, Sink};

@@ -4,7 +4,7 @@ ghost use Rattle.std.specs.Prelude.{◌≡◌, ◌≤◌, ◌<◌, ◌^◌, All,
 ghost use Rattle.std.specs.List.{list_all};
 ghost use Rattle.shr_tool.specs.LayoutWords.{IsSound, extent_of as extent_in, asked as asked_in, size_of as size_in, layout_request as request_in};
 
-use crate::shr_script::number_of;
+use shr_script::number_of;
 use arrayvec::ArrayVec;
 
 /// One size more than the most drives that a plan takes.

@@ -11,7 +11,7 @@ ghost use Rattle.shr_tool.specs.Meaning.{view_of, meaning_in};
 ghost use Rattle.shr_tool.specs.Limits.{KeepsLimit};
 ghost use Rattle.shr_tool.specs.Outcome.{Outcome, SaysGone, HasStatusCause, EndsOutcome};
 
-use crate::reply::{ReplyText, refused_number_reply};
+use shr_script::{ReplyText, refused_number_reply};
 use crate::serve::{Stop, answer_script};
 use crate::status::Status;
 use io_ends::{Sink, Source};

@@ -1,6 +1,6 @@
 //! The limit of a script, by a reader with a small one.
 
-use crate::shr_script::{Ended, LineReader};
+use shr_script::{Ended, LineReader};
 use io_ends::MemSource;
 use std::alloc::Global;
 use std::test::Fail;

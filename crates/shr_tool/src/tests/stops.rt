@@ -3,7 +3,8 @@
 ghost use Rattle.std.specs.Prelude.{◌<◌};
 
 use super::{DISK_SECTORS, Ran, bay_of, commands_of, made, run_over, serve};
-use flat_array::{Command, FlatDisk};
+use flat_array::FlatDisk;
+use shr_script::{Command, parse_line};
 use io_ends::MemSource;
 use rack::Rack;
 use rack_mem::{MemBay, Pick};

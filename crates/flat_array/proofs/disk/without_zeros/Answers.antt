@@ -1,8 +1,8 @@
 -- Zeros at the end are passed over one by one.
 use Rattle.std.proofs.Common.{arith, ap, length}
 use Rattle.std.proofs.lemmas.List.{take_all}
-use Rattle.flat_array.specs.Reply.{without_zeros}
-use Rattle.flat_array.specs.Trimming.{trimmed-zero, trimmed-other, trimmed-none}
+use Rattle.shr_script.specs.Reply.{without_zeros}
+use Rattle.shr_script.specs.Trimming.{trimmed-zero, trimmed-other, trimmed-none}
 use Rattle.flat_array.proofs.disk.without_zeros.Goals as goal
 use Rattle.flat_array.proofs.disk.without_zeros.Goals.{then-loop-count-test+else-bytes-count-eq0, else-loop-count-test}
 

@@ -1,6 +1,6 @@
 -- The bytes past the count are zeros.
 use Rattle.std.proofs.Common.{◌≡◌, ◌≤◌, take, length}
-use Rattle.flat_array.specs.Reply.{without_zeros}
+use Rattle.shr_script.specs.Reply.{without_zeros}
 use Rattle.flat_array.proofs.disk.without_zeros.Given as goal
 
 abbrev pub invariant-loop-count : goal.invariant-loop-count

@@ -2,7 +2,7 @@ use Rattle.std.proofs.Common.{◌≡◌, ◌*◌, ◌+◌, ◌++◌, ℕ, take, 
 use Rattle.std.proofs.lemmas.List.{length-replicate}
 use Rattle.shr_base.specs.Blocks.{put_at}
 use Rattle.gpt_table.specs.Disk.{joined, now_on}
-use Rattle.gpt_table.proofs.Looking.{only_reads_start, only_reads_then, value_then, unspent_before}
+use Rattle.rack.proofs.Reading.{only_reads_start, only_reads_then, value_then, unspent_before}
 use Rattle.gpt_table.proofs.Joined.{joined_more, take_put, entries_read}
 use Rattle.gpt_table.proofs.reading.read_entries.Goals as goal
 

@@ -1,5 +1,5 @@
 use Rattle.std.proofs.Common.{◌≡◌, ℕ, ◌+◌, ◌*◌, ◌<◌, take, length, false}
-use Rattle.gpt_table.specs.Calls.{OnlyReads}
+use Rattle.rack.specs.Sequences.{OnlyReads}
 use Rattle.gpt_table.specs.Disk.{joined, now_on}
 use Rattle.gpt_table.proofs.reading.read_entries.Given as goal
 

@@ -1,12 +1,13 @@
 use Rattle.std.proofs.Common.{◌∙◌, sym, ap, arith, ℕ, List, ◌+◌, Some}
 use Rattle.gpt_table.specs.Plans.{entries_plan}
-use Rattle.gpt_table.proofs.Stretches.{follows_start}
+use Rattle.rack.proofs.Writing.{only_none}
+use Rattle.gpt_table.specs.Calls.{IsPlanned}
 use Rattle.gpt_table.proofs.Planned.{entries_planned, follows_served, plan_refused, one_more, entries_written}
 use Rattle.gpt_table.proofs.writing.write_entries.Goals as goal
 
 pub loop-place-init : goal.loop-place-init
 loop-place-init g c = record {
-  follows = follows_start (g.R.Rack.seen c.args.rack.now) c.args.disk (entries_plan c.args.first c.args.bytes.now) c.requires.fit;
+  follows = only_none (g.R.Rack.seen c.args.rack.now) (IsPlanned c.args.disk (entries_plan c.args.first c.args.bytes.now)) c.requires.fit;
   written = λ k below. absurd (omega arith);
   runs = g.met.R.Rack.runs_same c.args.rack.now;
 }

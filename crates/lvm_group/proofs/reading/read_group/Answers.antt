@@ -35,6 +35,8 @@ returns-clause-group g c =
     IfOk-weaker c.group_of.result _ _ (λ found said now is.
     let held = held_on a c.args.array now in
     let text = c.read_text.ensures.text c.if-not-read_text.false now is in
-    let is_said : found ≡ _ = said in
-    (held, held_read a (g.R.Rack.seen c.read_text.new.rack) c.args.array now,
-    is_said ∙ (search rules) ∙ sym (group_said held c.args.area.now c.args.location.now c.read_text.new.into.bytes inside text sum))) c.group_of.ensures
+    let is_said : found ≡ _ = said in (
+      held,
+      held_read a (g.R.Rack.seen c.read_text.new.rack) c.args.array now,
+      is_said ∙ (search rules) ∙ sym (group_said held c.args.area.now c.args.location.now c.read_text.new.into.bytes inside text sum),
+    )) c.group_of.ensures

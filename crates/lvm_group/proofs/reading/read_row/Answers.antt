@@ -28,10 +28,10 @@ loop-left-preserved g c =
     let some = c.loop-left-test.true in
     let cut : at % 512 + piece - at % 512 ≡ piece = omega arith in
     let appended : c.append.new.self.bytes ≡ front ++ take piece (drop (at % 512) c.in-Some.bytes) =
-        c.append.ensures.bytes ∙ ap (λ n. front ++ take n (drop (at % 512) c.in-Some.bytes)) cut in
+    c.append.ensures.bytes ∙ ap (λ n. front ++ take n (drop (at % 512) c.in-Some.bytes)) cut in
     let long : length c.append.new.self.bytes ≡ length front + piece =
-        ap length appended ∙ length-append front (take piece (drop (at % 512) c.in-Some.bytes))
-        ∙ ap (λ n. length front + n) (piece_long (at % 512) piece c.in-Some.bytes (omega (arith, c.in-Some.ensures.whole))) in
+    ap length appended ∙ length-append front (take piece (drop (at % 512) c.in-Some.bytes))
+    ∙ ap (λ n. length front + n) (piece_long (at % 512) piece c.in-Some.bytes (omega (arith, c.in-Some.ensures.whole))) in
     let room = c.loop-left.invariant.room in
     let kept = c.loop-left.invariant.kept in
     let short = c.loop-left.invariant.short in

@@ -48,8 +48,7 @@ returns-clause-none g c false now is =
     let again_is : c.from-again.result + 512 ≡ area.offset + 512 = ap (λ n. n + 512) c.from-again.ensures in
     let looks = c.read_row.ensures.looks in
     let end = looks_same (g.R.Rack.seen c.read_row-2.new.rack) c.read_row-2.ensures.looks.stays.fit in
-    let found = c.read_row-2.ensures.none false now (now_later c.args.array now c.requires.array looks is) in
-    (
+    let found = c.read_row-2.ensures.none false now (now_later c.args.array now c.requires.array looks is) in (
       found.0,
       λ sector. read_longer c.args.array now sector (found.0 sector) looks end (found.1 sector),
       second_lacks found.0 area location c.min-front.result _ front_is again_is found.2,

@@ -17,7 +17,7 @@ returns-in-Ok-clause-read g c =
     read_inside (view (g.R.Rack.seen pool.bay) pool.on pool.members pool.unclean) (g.R.Rack.seen bay) c.args.sector c.read.new.into c.read.result _ c.in-Ok.is c.requires
     (record { unspent = g.met.R.Bay.unspent bay; sound = λ traced. g.met.R.Rack.sound bay (g.met.R.Bay.always_fit bay) traced })
     (subst (λ n. c.args.sector < n) c.size.ensures.size c.if-sector-size.false)
-    c.read.ensures
+    c.read.ensures.reads
 
 pub returns-in-Err-clause-read : goal.returns-in-Err-clause-read
 returns-in-Err-clause-read g c =
@@ -26,4 +26,4 @@ returns-in-Err-clause-read g c =
     read_gone (view (g.R.Rack.seen pool.bay) pool.on pool.members pool.unclean) (g.R.Rack.seen bay) c.args.sector c.read.new.into c.read.result _ c.in-Err.is c.requires
     (record { unspent = g.met.R.Bay.unspent bay; sound = λ traced. g.met.R.Rack.sound bay (g.met.R.Bay.always_fit bay) traced })
     (subst (λ n. c.args.sector < n) c.size.ensures.size c.if-sector-size.false)
-    c.read.ensures
+    c.read.ensures.reads

@@ -11,8 +11,8 @@ returns-in-Ok g c =
     c.args.sector c.args.from.now c.write.result c.write-in-Ok.result _ c.in-Ok.is c.requires.pool c.requires.marked c.requires.inside
     (record { unspent = g.met.R.Bay.unspent middle; sound = λ traced. g.met.R.Rack.sound middle (g.met.R.Bay.always_fit middle) traced })
     (record { unspent = g.met.R.Bay.unspent bay; sound = λ traced. g.met.R.Rack.sound bay (g.met.R.Bay.always_fit bay) traced })
-    c.write.ensures
-    c.write-in-Ok.ensures
+    c.write.ensures.writes
+    c.write-in-Ok.ensures.writes
 
 pub returns-in-Err : goal.returns-in-Err
 returns-in-Err g c =
@@ -21,4 +21,4 @@ returns-in-Err g c =
     data_refused (view (g.R.Rack.seen pool.bay) pool.on pool.members pool.unclean) (g.R.Rack.seen bay)
     c.args.sector c.args.from.now c.write.result _ c.in-Err.is c.requires.pool c.requires.marked c.requires.inside
     (record { unspent = g.met.R.Bay.unspent bay; sound = λ traced. g.met.R.Rack.sound bay (g.met.R.Bay.always_fit bay) traced })
-    c.write.ensures
+    c.write.ensures.writes

@@ -24,8 +24,8 @@ returns-in-Err g c =
     let new = c.requires.pool in
     let s0 = stage_start x birth state new in
     refused_early x (g.R.Rack.seen c.write_durably.new.rack) birth state c.in-Err.gone
-    (stage_clear x x (g.R.Rack.seen c.write_durably.new.rack) birth state 0 (Err c.in-Err.gone) new (record { unspent = g.met.R.Bay.unspent c.write_durably.new.rack; sound = λ traced. g.met.R.Rack.sound c.write_durably.new.rack (g.met.R.Bay.always_fit c.write_durably.new.rack) traced }) s0 c.in-Err.ensures).blank
-    (cause_since (g.R.Rack.seen c.write_durably.new.rack) birth state 0 c.in-Err.gone new s0.blank.stays (lit< tt) c.in-Err.ensures.gone)
+    (stage_clear x x (g.R.Rack.seen c.write_durably.new.rack) birth state 0 (Err c.in-Err.gone) new (record { unspent = g.met.R.Bay.unspent c.write_durably.new.rack; sound = λ traced. g.met.R.Rack.sound c.write_durably.new.rack (g.met.R.Bay.always_fit c.write_durably.new.rack) traced }) s0 c.in-Err.ensures.writes).blank
+    (cause_since (g.R.Rack.seen c.write_durably.new.rack) birth state 0 c.in-Err.gone new s0.blank.stays (lit< tt) c.in-Err.ensures.writes.gone)
 
 pub write_durably-requires-2-clause-sector : goal.write_durably-requires-2-clause-sector
 write_durably-requires-2-clause-sector g c =
@@ -34,7 +34,7 @@ write_durably-requires-2-clause-sector g c =
     let state = c.args.state.now in
     let new = c.requires.pool in
     let s0 = stage_start x birth state new in
-    let s1 = stage_clear x x (g.R.Rack.seen c.write_durably.new.rack) birth state 0 (Ok tt) new (record { unspent = g.met.R.Bay.unspent c.write_durably.new.rack; sound = λ traced. g.met.R.Rack.sound c.write_durably.new.rack (g.met.R.Bay.always_fit c.write_durably.new.rack) traced }) s0 c.in_default.ensures in
+    let s1 = stage_clear x x (g.R.Rack.seen c.write_durably.new.rack) birth state 0 (Ok tt) new (record { unspent = g.met.R.Bay.unspent c.write_durably.new.rack; sound = λ traced. g.met.R.Rack.sound c.write_durably.new.rack (g.met.R.Bay.always_fit c.write_durably.new.rack) traced }) s0 c.in_default.ensures.writes in
     let room = known_room birth state 1 new s1.blank.stays (lit< tt) in
     omega (arith, room)
 
@@ -45,10 +45,10 @@ returns-in-Err-write_durably g c =
     let state = c.args.state.now in
     let new = c.requires.pool in
     let s0 = stage_start x birth state new in
-    let s1 = stage_clear x x (g.R.Rack.seen c.write_durably.new.rack) birth state 0 (Ok tt) new (record { unspent = g.met.R.Bay.unspent c.write_durably.new.rack; sound = λ traced. g.met.R.Rack.sound c.write_durably.new.rack (g.met.R.Bay.always_fit c.write_durably.new.rack) traced }) s0 c.in_default.ensures in
+    let s1 = stage_clear x x (g.R.Rack.seen c.write_durably.new.rack) birth state 0 (Ok tt) new (record { unspent = g.met.R.Bay.unspent c.write_durably.new.rack; sound = λ traced. g.met.R.Rack.sound c.write_durably.new.rack (g.met.R.Bay.always_fit c.write_durably.new.rack) traced }) s0 c.in_default.ensures.writes in
     refused_early x (g.R.Rack.seen c.write_durably-2.new.rack) birth state c.in-Err-write_durably.gone
-    (stage_clear x (g.R.Rack.seen c.write_durably.new.rack) (g.R.Rack.seen c.write_durably-2.new.rack) birth state 1 (Err c.in-Err-write_durably.gone) new (record { unspent = g.met.R.Bay.unspent c.write_durably-2.new.rack; sound = λ traced. g.met.R.Rack.sound c.write_durably-2.new.rack (g.met.R.Bay.always_fit c.write_durably-2.new.rack) traced }) s1 c.in-Err-write_durably.ensures).blank
-    (cause_since (g.R.Rack.seen c.write_durably-2.new.rack) birth state 1 c.in-Err-write_durably.gone new s1.blank.stays (lit< tt) c.in-Err-write_durably.ensures.gone)
+    (stage_clear x (g.R.Rack.seen c.write_durably.new.rack) (g.R.Rack.seen c.write_durably-2.new.rack) birth state 1 (Err c.in-Err-write_durably.gone) new (record { unspent = g.met.R.Bay.unspent c.write_durably-2.new.rack; sound = λ traced. g.met.R.Rack.sound c.write_durably-2.new.rack (g.met.R.Bay.always_fit c.write_durably-2.new.rack) traced }) s1 c.in-Err-write_durably.ensures.writes).blank
+    (cause_since (g.R.Rack.seen c.write_durably-2.new.rack) birth state 1 c.in-Err-write_durably.gone new s1.blank.stays (lit< tt) c.in-Err-write_durably.ensures.writes.gone)
 
 pub volume_size-volume-requires : goal.volume_size-volume-requires
 volume_size-volume-requires g c = sizes_given (g.R.Rack.seen c.args.rack.now) c.args.birth.now c.args.state.now c.requires.pool
@@ -64,8 +64,8 @@ lay_parts-requires-clause-room g c =
     let state = c.args.state.now in
     let new = c.requires.pool in
     let s0 = stage_start x birth state new in
-    let s1 = stage_clear x x (g.R.Rack.seen c.write_durably.new.rack) birth state 0 (Ok tt) new (record { unspent = g.met.R.Bay.unspent c.write_durably.new.rack; sound = λ traced. g.met.R.Rack.sound c.write_durably.new.rack (g.met.R.Bay.always_fit c.write_durably.new.rack) traced }) s0 c.in_default.ensures in
-    let s2 = stage_clear x (g.R.Rack.seen c.write_durably.new.rack) (g.R.Rack.seen c.write_durably-2.new.rack) birth state 1 (Ok tt) new (record { unspent = g.met.R.Bay.unspent c.write_durably-2.new.rack; sound = λ traced. g.met.R.Rack.sound c.write_durably-2.new.rack (g.met.R.Bay.always_fit c.write_durably-2.new.rack) traced }) s1 c.in_default-write_durably.ensures in
+    let s1 = stage_clear x x (g.R.Rack.seen c.write_durably.new.rack) birth state 0 (Ok tt) new (record { unspent = g.met.R.Bay.unspent c.write_durably.new.rack; sound = λ traced. g.met.R.Rack.sound c.write_durably.new.rack (g.met.R.Bay.always_fit c.write_durably.new.rack) traced }) s0 c.in_default.ensures.writes in
+    let s2 = stage_clear x (g.R.Rack.seen c.write_durably.new.rack) (g.R.Rack.seen c.write_durably-2.new.rack) birth state 1 (Ok tt) new (record { unspent = g.met.R.Bay.unspent c.write_durably-2.new.rack; sound = λ traced. g.met.R.Rack.sound c.write_durably-2.new.rack (g.met.R.Bay.always_fit c.write_durably-2.new.rack) traced }) s1 c.in_default-write_durably.ensures.writes in
     let room = known_room birth state 0 new s2.blank.stays (lit< tt) in
     omega (arith, room, c.volume_size-volume.ensures)
 
@@ -83,8 +83,8 @@ returns-in-Err-lay_parts g c =
     let state = c.args.state.now in
     let new = c.requires.pool in
     let s0 = stage_start x birth state new in
-    let s1 = stage_clear x x (g.R.Rack.seen c.write_durably.new.rack) birth state 0 (Ok tt) new (record { unspent = g.met.R.Bay.unspent c.write_durably.new.rack; sound = λ traced. g.met.R.Rack.sound c.write_durably.new.rack (g.met.R.Bay.always_fit c.write_durably.new.rack) traced }) s0 c.in_default.ensures in
-    let s2 = stage_clear x (g.R.Rack.seen c.write_durably.new.rack) (g.R.Rack.seen c.write_durably-2.new.rack) birth state 1 (Ok tt) new (record { unspent = g.met.R.Bay.unspent c.write_durably-2.new.rack; sound = λ traced. g.met.R.Rack.sound c.write_durably-2.new.rack (g.met.R.Bay.always_fit c.write_durably-2.new.rack) traced }) s1 c.in_default-write_durably.ensures in
+    let s1 = stage_clear x x (g.R.Rack.seen c.write_durably.new.rack) birth state 0 (Ok tt) new (record { unspent = g.met.R.Bay.unspent c.write_durably.new.rack; sound = λ traced. g.met.R.Rack.sound c.write_durably.new.rack (g.met.R.Bay.always_fit c.write_durably.new.rack) traced }) s0 c.in_default.ensures.writes in
+    let s2 = stage_clear x (g.R.Rack.seen c.write_durably.new.rack) (g.R.Rack.seen c.write_durably-2.new.rack) birth state 1 (Ok tt) new (record { unspent = g.met.R.Bay.unspent c.write_durably-2.new.rack; sound = λ traced. g.met.R.Rack.sound c.write_durably-2.new.rack (g.met.R.Bay.always_fit c.write_durably-2.new.rack) traced }) s1 c.in_default-write_durably.ensures.writes in
     refused_early x (g.R.Rack.seen c.lay_parts.new.rack) birth state c.in-Err-lay_parts.gone
     (blank_laid x (g.R.Rack.seen c.write_durably-2.new.rack) (g.R.Rack.seen c.lay_parts.new.rack) birth state 0 c.new_drive_id.result.0 c.volume_size-volume.result (Err c.in-Err-lay_parts.gone) new (record { unspent = g.met.R.Bay.unspent c.lay_parts.new.rack; sound = λ traced. g.met.R.Rack.sound c.lay_parts.new.rack (g.met.R.Bay.always_fit c.lay_parts.new.rack) traced }) (lit< tt) s2.blank c.new_drive_id.ensures c.volume_size-volume.ensures c.in-Err-lay_parts.ensures)
     (cause_since (g.R.Rack.seen c.lay_parts.new.rack) birth state 0 c.in-Err-lay_parts.gone new s2.blank.stays (lit< tt) c.in-Err-lay_parts.ensures.gone)
@@ -100,8 +100,8 @@ lay_parts-requires-2-clause-room g c =
     let state = c.args.state.now in
     let new = c.requires.pool in
     let s0 = stage_start x birth state new in
-    let s1 = stage_clear x x (g.R.Rack.seen c.write_durably.new.rack) birth state 0 (Ok tt) new (record { unspent = g.met.R.Bay.unspent c.write_durably.new.rack; sound = λ traced. g.met.R.Rack.sound c.write_durably.new.rack (g.met.R.Bay.always_fit c.write_durably.new.rack) traced }) s0 c.in_default.ensures in
-    let s2 = stage_clear x (g.R.Rack.seen c.write_durably.new.rack) (g.R.Rack.seen c.write_durably-2.new.rack) birth state 1 (Ok tt) new (record { unspent = g.met.R.Bay.unspent c.write_durably-2.new.rack; sound = λ traced. g.met.R.Rack.sound c.write_durably-2.new.rack (g.met.R.Bay.always_fit c.write_durably-2.new.rack) traced }) s1 c.in_default-write_durably.ensures in
+    let s1 = stage_clear x x (g.R.Rack.seen c.write_durably.new.rack) birth state 0 (Ok tt) new (record { unspent = g.met.R.Bay.unspent c.write_durably.new.rack; sound = λ traced. g.met.R.Rack.sound c.write_durably.new.rack (g.met.R.Bay.always_fit c.write_durably.new.rack) traced }) s0 c.in_default.ensures.writes in
+    let s2 = stage_clear x (g.R.Rack.seen c.write_durably.new.rack) (g.R.Rack.seen c.write_durably-2.new.rack) birth state 1 (Ok tt) new (record { unspent = g.met.R.Bay.unspent c.write_durably-2.new.rack; sound = λ traced. g.met.R.Rack.sound c.write_durably-2.new.rack (g.met.R.Bay.always_fit c.write_durably-2.new.rack) traced }) s1 c.in_default-write_durably.ensures.writes in
     let s3 = stage_laid x (g.R.Rack.seen c.write_durably-2.new.rack) (g.R.Rack.seen c.lay_parts.new.rack) birth state 0 c.new_drive_id.result.0 c.volume_size-volume.result new (record { unspent = g.met.R.Bay.unspent c.lay_parts.new.rack; sound = λ traced. g.met.R.Rack.sound c.lay_parts.new.rack (g.met.R.Bay.always_fit c.lay_parts.new.rack) traced }) (lit< tt) s2 c.new_drive_id.ensures c.volume_size-volume.ensures c.in_default-lay_parts.ensures in
     let room = known_room birth state 1 new s3.blank.stays (lit< tt) in
     omega (arith, room, c.volume_size-volume.ensures)
@@ -120,8 +120,8 @@ returns-in-Err-lay_parts-2 g c =
     let state = c.args.state.now in
     let new = c.requires.pool in
     let s0 = stage_start x birth state new in
-    let s1 = stage_clear x x (g.R.Rack.seen c.write_durably.new.rack) birth state 0 (Ok tt) new (record { unspent = g.met.R.Bay.unspent c.write_durably.new.rack; sound = λ traced. g.met.R.Rack.sound c.write_durably.new.rack (g.met.R.Bay.always_fit c.write_durably.new.rack) traced }) s0 c.in_default.ensures in
-    let s2 = stage_clear x (g.R.Rack.seen c.write_durably.new.rack) (g.R.Rack.seen c.write_durably-2.new.rack) birth state 1 (Ok tt) new (record { unspent = g.met.R.Bay.unspent c.write_durably-2.new.rack; sound = λ traced. g.met.R.Rack.sound c.write_durably-2.new.rack (g.met.R.Bay.always_fit c.write_durably-2.new.rack) traced }) s1 c.in_default-write_durably.ensures in
+    let s1 = stage_clear x x (g.R.Rack.seen c.write_durably.new.rack) birth state 0 (Ok tt) new (record { unspent = g.met.R.Bay.unspent c.write_durably.new.rack; sound = λ traced. g.met.R.Rack.sound c.write_durably.new.rack (g.met.R.Bay.always_fit c.write_durably.new.rack) traced }) s0 c.in_default.ensures.writes in
+    let s2 = stage_clear x (g.R.Rack.seen c.write_durably.new.rack) (g.R.Rack.seen c.write_durably-2.new.rack) birth state 1 (Ok tt) new (record { unspent = g.met.R.Bay.unspent c.write_durably-2.new.rack; sound = λ traced. g.met.R.Rack.sound c.write_durably-2.new.rack (g.met.R.Bay.always_fit c.write_durably-2.new.rack) traced }) s1 c.in_default-write_durably.ensures.writes in
     let s3 = stage_laid x (g.R.Rack.seen c.write_durably-2.new.rack) (g.R.Rack.seen c.lay_parts.new.rack) birth state 0 c.new_drive_id.result.0 c.volume_size-volume.result new (record { unspent = g.met.R.Bay.unspent c.lay_parts.new.rack; sound = λ traced. g.met.R.Rack.sound c.lay_parts.new.rack (g.met.R.Bay.always_fit c.lay_parts.new.rack) traced }) (lit< tt) s2 c.new_drive_id.ensures c.volume_size-volume.ensures c.in_default-lay_parts.ensures in
     refused_early x (g.R.Rack.seen c.lay_parts-2.new.rack) birth state c.in-Err-lay_parts-2.gone
     (blank_laid x (g.R.Rack.seen c.lay_parts.new.rack) (g.R.Rack.seen c.lay_parts-2.new.rack) birth state 1 c.new_drive_id-2.result.0 c.volume_size-volume.result (Err c.in-Err-lay_parts-2.gone) new (record { unspent = g.met.R.Bay.unspent c.lay_parts-2.new.rack; sound = λ traced. g.met.R.Rack.sound c.lay_parts-2.new.rack (g.met.R.Bay.always_fit c.lay_parts-2.new.rack) traced }) (lit< tt) s3.blank c.new_drive_id-2.ensures c.volume_size-volume.ensures c.in-Err-lay_parts-2.ensures)
@@ -134,8 +134,8 @@ write_superblock-requires-clause-room g c =
     let state = c.args.state.now in
     let new = c.requires.pool in
     let s0 = stage_start x birth state new in
-    let s1 = stage_clear x x (g.R.Rack.seen c.write_durably.new.rack) birth state 0 (Ok tt) new (record { unspent = g.met.R.Bay.unspent c.write_durably.new.rack; sound = λ traced. g.met.R.Rack.sound c.write_durably.new.rack (g.met.R.Bay.always_fit c.write_durably.new.rack) traced }) s0 c.in_default.ensures in
-    let s2 = stage_clear x (g.R.Rack.seen c.write_durably.new.rack) (g.R.Rack.seen c.write_durably-2.new.rack) birth state 1 (Ok tt) new (record { unspent = g.met.R.Bay.unspent c.write_durably-2.new.rack; sound = λ traced. g.met.R.Rack.sound c.write_durably-2.new.rack (g.met.R.Bay.always_fit c.write_durably-2.new.rack) traced }) s1 c.in_default-write_durably.ensures in
+    let s1 = stage_clear x x (g.R.Rack.seen c.write_durably.new.rack) birth state 0 (Ok tt) new (record { unspent = g.met.R.Bay.unspent c.write_durably.new.rack; sound = λ traced. g.met.R.Rack.sound c.write_durably.new.rack (g.met.R.Bay.always_fit c.write_durably.new.rack) traced }) s0 c.in_default.ensures.writes in
+    let s2 = stage_clear x (g.R.Rack.seen c.write_durably.new.rack) (g.R.Rack.seen c.write_durably-2.new.rack) birth state 1 (Ok tt) new (record { unspent = g.met.R.Bay.unspent c.write_durably-2.new.rack; sound = λ traced. g.met.R.Rack.sound c.write_durably-2.new.rack (g.met.R.Bay.always_fit c.write_durably-2.new.rack) traced }) s1 c.in_default-write_durably.ensures.writes in
     let s3 = stage_laid x (g.R.Rack.seen c.write_durably-2.new.rack) (g.R.Rack.seen c.lay_parts.new.rack) birth state 0 c.new_drive_id.result.0 c.volume_size-volume.result new (record { unspent = g.met.R.Bay.unspent c.lay_parts.new.rack; sound = λ traced. g.met.R.Rack.sound c.lay_parts.new.rack (g.met.R.Bay.always_fit c.lay_parts.new.rack) traced }) (lit< tt) s2 c.new_drive_id.ensures c.volume_size-volume.ensures c.in_default-lay_parts.ensures in
     let s4 = stage_laid x (g.R.Rack.seen c.lay_parts.new.rack) (g.R.Rack.seen c.lay_parts-2.new.rack) birth state 1 c.new_drive_id-2.result.0 c.volume_size-volume.result new (record { unspent = g.met.R.Bay.unspent c.lay_parts-2.new.rack; sound = λ traced. g.met.R.Rack.sound c.lay_parts-2.new.rack (g.met.R.Bay.always_fit c.lay_parts-2.new.rack) traced }) (lit< tt) s3 c.new_drive_id-2.ensures c.volume_size-volume.ensures c.in_default-lay_parts-2.ensures in
     let room = known_room birth state 0 new s4.blank.stays (lit< tt) in
@@ -148,8 +148,8 @@ returns-in-Err-write_superblock g c =
     let state = c.args.state.now in
     let new = c.requires.pool in
     let s0 = stage_start x birth state new in
-    let s1 = stage_clear x x (g.R.Rack.seen c.write_durably.new.rack) birth state 0 (Ok tt) new (record { unspent = g.met.R.Bay.unspent c.write_durably.new.rack; sound = λ traced. g.met.R.Rack.sound c.write_durably.new.rack (g.met.R.Bay.always_fit c.write_durably.new.rack) traced }) s0 c.in_default.ensures in
-    let s2 = stage_clear x (g.R.Rack.seen c.write_durably.new.rack) (g.R.Rack.seen c.write_durably-2.new.rack) birth state 1 (Ok tt) new (record { unspent = g.met.R.Bay.unspent c.write_durably-2.new.rack; sound = λ traced. g.met.R.Rack.sound c.write_durably-2.new.rack (g.met.R.Bay.always_fit c.write_durably-2.new.rack) traced }) s1 c.in_default-write_durably.ensures in
+    let s1 = stage_clear x x (g.R.Rack.seen c.write_durably.new.rack) birth state 0 (Ok tt) new (record { unspent = g.met.R.Bay.unspent c.write_durably.new.rack; sound = λ traced. g.met.R.Rack.sound c.write_durably.new.rack (g.met.R.Bay.always_fit c.write_durably.new.rack) traced }) s0 c.in_default.ensures.writes in
+    let s2 = stage_clear x (g.R.Rack.seen c.write_durably.new.rack) (g.R.Rack.seen c.write_durably-2.new.rack) birth state 1 (Ok tt) new (record { unspent = g.met.R.Bay.unspent c.write_durably-2.new.rack; sound = λ traced. g.met.R.Rack.sound c.write_durably-2.new.rack (g.met.R.Bay.always_fit c.write_durably-2.new.rack) traced }) s1 c.in_default-write_durably.ensures.writes in
     let s3 = stage_laid x (g.R.Rack.seen c.write_durably-2.new.rack) (g.R.Rack.seen c.lay_parts.new.rack) birth state 0 c.new_drive_id.result.0 c.volume_size-volume.result new (record { unspent = g.met.R.Bay.unspent c.lay_parts.new.rack; sound = λ traced. g.met.R.Rack.sound c.lay_parts.new.rack (g.met.R.Bay.always_fit c.lay_parts.new.rack) traced }) (lit< tt) s2 c.new_drive_id.ensures c.volume_size-volume.ensures c.in_default-lay_parts.ensures in
     let s4 = stage_laid x (g.R.Rack.seen c.lay_parts.new.rack) (g.R.Rack.seen c.lay_parts-2.new.rack) birth state 1 c.new_drive_id-2.result.0 c.volume_size-volume.result new (record { unspent = g.met.R.Bay.unspent c.lay_parts-2.new.rack; sound = λ traced. g.met.R.Rack.sound c.lay_parts-2.new.rack (g.met.R.Bay.always_fit c.lay_parts-2.new.rack) traced }) (lit< tt) s3 c.new_drive_id-2.ensures c.volume_size-volume.ensures c.in_default-lay_parts-2.ensures in
     refused_early x (g.R.Rack.seen c.write_superblock.new.rack) birth state c.in-Err-write_superblock.gone
@@ -163,8 +163,8 @@ write_superblock-requires-2-clause-room g c =
     let state = c.args.state.now in
     let new = c.requires.pool in
     let s0 = stage_start x birth state new in
-    let s1 = stage_clear x x (g.R.Rack.seen c.write_durably.new.rack) birth state 0 (Ok tt) new (record { unspent = g.met.R.Bay.unspent c.write_durably.new.rack; sound = λ traced. g.met.R.Rack.sound c.write_durably.new.rack (g.met.R.Bay.always_fit c.write_durably.new.rack) traced }) s0 c.in_default.ensures in
-    let s2 = stage_clear x (g.R.Rack.seen c.write_durably.new.rack) (g.R.Rack.seen c.write_durably-2.new.rack) birth state 1 (Ok tt) new (record { unspent = g.met.R.Bay.unspent c.write_durably-2.new.rack; sound = λ traced. g.met.R.Rack.sound c.write_durably-2.new.rack (g.met.R.Bay.always_fit c.write_durably-2.new.rack) traced }) s1 c.in_default-write_durably.ensures in
+    let s1 = stage_clear x x (g.R.Rack.seen c.write_durably.new.rack) birth state 0 (Ok tt) new (record { unspent = g.met.R.Bay.unspent c.write_durably.new.rack; sound = λ traced. g.met.R.Rack.sound c.write_durably.new.rack (g.met.R.Bay.always_fit c.write_durably.new.rack) traced }) s0 c.in_default.ensures.writes in
+    let s2 = stage_clear x (g.R.Rack.seen c.write_durably.new.rack) (g.R.Rack.seen c.write_durably-2.new.rack) birth state 1 (Ok tt) new (record { unspent = g.met.R.Bay.unspent c.write_durably-2.new.rack; sound = λ traced. g.met.R.Rack.sound c.write_durably-2.new.rack (g.met.R.Bay.always_fit c.write_durably-2.new.rack) traced }) s1 c.in_default-write_durably.ensures.writes in
     let s3 = stage_laid x (g.R.Rack.seen c.write_durably-2.new.rack) (g.R.Rack.seen c.lay_parts.new.rack) birth state 0 c.new_drive_id.result.0 c.volume_size-volume.result new (record { unspent = g.met.R.Bay.unspent c.lay_parts.new.rack; sound = λ traced. g.met.R.Rack.sound c.lay_parts.new.rack (g.met.R.Bay.always_fit c.lay_parts.new.rack) traced }) (lit< tt) s2 c.new_drive_id.ensures c.volume_size-volume.ensures c.in_default-lay_parts.ensures in
     let s4 = stage_laid x (g.R.Rack.seen c.lay_parts.new.rack) (g.R.Rack.seen c.lay_parts-2.new.rack) birth state 1 c.new_drive_id-2.result.0 c.volume_size-volume.result new (record { unspent = g.met.R.Bay.unspent c.lay_parts-2.new.rack; sound = λ traced. g.met.R.Rack.sound c.lay_parts-2.new.rack (g.met.R.Bay.always_fit c.lay_parts-2.new.rack) traced }) (lit< tt) s3 c.new_drive_id-2.ensures c.volume_size-volume.ensures c.in_default-lay_parts-2.ensures in
     let s5 = stage_said x (g.R.Rack.seen c.lay_parts-2.new.rack) (g.R.Rack.seen c.write_superblock.new.rack) birth state 0 c.args.members.now.first new (record { unspent = g.met.R.Bay.unspent c.write_superblock.new.rack; sound = λ traced. g.met.R.Rack.sound c.write_superblock.new.rack (g.met.R.Bay.always_fit c.write_superblock.new.rack) traced }) (lit< tt) s4 (ap (λ (m : Members). m.first) c.requires.members) c.in_default-write_superblock.ensures in
@@ -178,8 +178,8 @@ returns-in-Err-write_superblock-2 g c =
     let state = c.args.state.now in
     let new = c.requires.pool in
     let s0 = stage_start x birth state new in
-    let s1 = stage_clear x x (g.R.Rack.seen c.write_durably.new.rack) birth state 0 (Ok tt) new (record { unspent = g.met.R.Bay.unspent c.write_durably.new.rack; sound = λ traced. g.met.R.Rack.sound c.write_durably.new.rack (g.met.R.Bay.always_fit c.write_durably.new.rack) traced }) s0 c.in_default.ensures in
-    let s2 = stage_clear x (g.R.Rack.seen c.write_durably.new.rack) (g.R.Rack.seen c.write_durably-2.new.rack) birth state 1 (Ok tt) new (record { unspent = g.met.R.Bay.unspent c.write_durably-2.new.rack; sound = λ traced. g.met.R.Rack.sound c.write_durably-2.new.rack (g.met.R.Bay.always_fit c.write_durably-2.new.rack) traced }) s1 c.in_default-write_durably.ensures in
+    let s1 = stage_clear x x (g.R.Rack.seen c.write_durably.new.rack) birth state 0 (Ok tt) new (record { unspent = g.met.R.Bay.unspent c.write_durably.new.rack; sound = λ traced. g.met.R.Rack.sound c.write_durably.new.rack (g.met.R.Bay.always_fit c.write_durably.new.rack) traced }) s0 c.in_default.ensures.writes in
+    let s2 = stage_clear x (g.R.Rack.seen c.write_durably.new.rack) (g.R.Rack.seen c.write_durably-2.new.rack) birth state 1 (Ok tt) new (record { unspent = g.met.R.Bay.unspent c.write_durably-2.new.rack; sound = λ traced. g.met.R.Rack.sound c.write_durably-2.new.rack (g.met.R.Bay.always_fit c.write_durably-2.new.rack) traced }) s1 c.in_default-write_durably.ensures.writes in
     let s3 = stage_laid x (g.R.Rack.seen c.write_durably-2.new.rack) (g.R.Rack.seen c.lay_parts.new.rack) birth state 0 c.new_drive_id.result.0 c.volume_size-volume.result new (record { unspent = g.met.R.Bay.unspent c.lay_parts.new.rack; sound = λ traced. g.met.R.Rack.sound c.lay_parts.new.rack (g.met.R.Bay.always_fit c.lay_parts.new.rack) traced }) (lit< tt) s2 c.new_drive_id.ensures c.volume_size-volume.ensures c.in_default-lay_parts.ensures in
     let s4 = stage_laid x (g.R.Rack.seen c.lay_parts.new.rack) (g.R.Rack.seen c.lay_parts-2.new.rack) birth state 1 c.new_drive_id-2.result.0 c.volume_size-volume.result new (record { unspent = g.met.R.Bay.unspent c.lay_parts-2.new.rack; sound = λ traced. g.met.R.Rack.sound c.lay_parts-2.new.rack (g.met.R.Bay.always_fit c.lay_parts-2.new.rack) traced }) (lit< tt) s3 c.new_drive_id-2.ensures c.volume_size-volume.ensures c.in_default-lay_parts-2.ensures in
     let s5 = stage_said x (g.R.Rack.seen c.lay_parts-2.new.rack) (g.R.Rack.seen c.write_superblock.new.rack) birth state 0 c.args.members.now.first new (record { unspent = g.met.R.Bay.unspent c.write_superblock.new.rack; sound = λ traced. g.met.R.Rack.sound c.write_superblock.new.rack (g.met.R.Bay.always_fit c.write_superblock.new.rack) traced }) (lit< tt) s4 (ap (λ (m : Members). m.first) c.requires.members) c.in_default-write_superblock.ensures in
@@ -194,8 +194,8 @@ write_state-requires-clause-room g c =
     let state = c.args.state.now in
     let new = c.requires.pool in
     let s0 = stage_start x birth state new in
-    let s1 = stage_clear x x (g.R.Rack.seen c.write_durably.new.rack) birth state 0 (Ok tt) new (record { unspent = g.met.R.Bay.unspent c.write_durably.new.rack; sound = λ traced. g.met.R.Rack.sound c.write_durably.new.rack (g.met.R.Bay.always_fit c.write_durably.new.rack) traced }) s0 c.in_default.ensures in
-    let s2 = stage_clear x (g.R.Rack.seen c.write_durably.new.rack) (g.R.Rack.seen c.write_durably-2.new.rack) birth state 1 (Ok tt) new (record { unspent = g.met.R.Bay.unspent c.write_durably-2.new.rack; sound = λ traced. g.met.R.Rack.sound c.write_durably-2.new.rack (g.met.R.Bay.always_fit c.write_durably-2.new.rack) traced }) s1 c.in_default-write_durably.ensures in
+    let s1 = stage_clear x x (g.R.Rack.seen c.write_durably.new.rack) birth state 0 (Ok tt) new (record { unspent = g.met.R.Bay.unspent c.write_durably.new.rack; sound = λ traced. g.met.R.Rack.sound c.write_durably.new.rack (g.met.R.Bay.always_fit c.write_durably.new.rack) traced }) s0 c.in_default.ensures.writes in
+    let s2 = stage_clear x (g.R.Rack.seen c.write_durably.new.rack) (g.R.Rack.seen c.write_durably-2.new.rack) birth state 1 (Ok tt) new (record { unspent = g.met.R.Bay.unspent c.write_durably-2.new.rack; sound = λ traced. g.met.R.Rack.sound c.write_durably-2.new.rack (g.met.R.Bay.always_fit c.write_durably-2.new.rack) traced }) s1 c.in_default-write_durably.ensures.writes in
     let s3 = stage_laid x (g.R.Rack.seen c.write_durably-2.new.rack) (g.R.Rack.seen c.lay_parts.new.rack) birth state 0 c.new_drive_id.result.0 c.volume_size-volume.result new (record { unspent = g.met.R.Bay.unspent c.lay_parts.new.rack; sound = λ traced. g.met.R.Rack.sound c.lay_parts.new.rack (g.met.R.Bay.always_fit c.lay_parts.new.rack) traced }) (lit< tt) s2 c.new_drive_id.ensures c.volume_size-volume.ensures c.in_default-lay_parts.ensures in
     let s4 = stage_laid x (g.R.Rack.seen c.lay_parts.new.rack) (g.R.Rack.seen c.lay_parts-2.new.rack) birth state 1 c.new_drive_id-2.result.0 c.volume_size-volume.result new (record { unspent = g.met.R.Bay.unspent c.lay_parts-2.new.rack; sound = λ traced. g.met.R.Rack.sound c.lay_parts-2.new.rack (g.met.R.Bay.always_fit c.lay_parts-2.new.rack) traced }) (lit< tt) s3 c.new_drive_id-2.ensures c.volume_size-volume.ensures c.in_default-lay_parts-2.ensures in
     let s5 = stage_said x (g.R.Rack.seen c.lay_parts-2.new.rack) (g.R.Rack.seen c.write_superblock.new.rack) birth state 0 c.args.members.now.first new (record { unspent = g.met.R.Bay.unspent c.write_superblock.new.rack; sound = λ traced. g.met.R.Rack.sound c.write_superblock.new.rack (g.met.R.Bay.always_fit c.write_superblock.new.rack) traced }) (lit< tt) s4 (ap (λ (m : Members). m.first) c.requires.members) c.in_default-write_superblock.ensures in
@@ -218,8 +218,8 @@ returns-in-Err-write_state g c =
     let state = c.args.state.now in
     let new = c.requires.pool in
     let s0 = stage_start x birth state new in
-    let s1 = stage_clear x x (g.R.Rack.seen c.write_durably.new.rack) birth state 0 (Ok tt) new (record { unspent = g.met.R.Bay.unspent c.write_durably.new.rack; sound = λ traced. g.met.R.Rack.sound c.write_durably.new.rack (g.met.R.Bay.always_fit c.write_durably.new.rack) traced }) s0 c.in_default.ensures in
-    let s2 = stage_clear x (g.R.Rack.seen c.write_durably.new.rack) (g.R.Rack.seen c.write_durably-2.new.rack) birth state 1 (Ok tt) new (record { unspent = g.met.R.Bay.unspent c.write_durably-2.new.rack; sound = λ traced. g.met.R.Rack.sound c.write_durably-2.new.rack (g.met.R.Bay.always_fit c.write_durably-2.new.rack) traced }) s1 c.in_default-write_durably.ensures in
+    let s1 = stage_clear x x (g.R.Rack.seen c.write_durably.new.rack) birth state 0 (Ok tt) new (record { unspent = g.met.R.Bay.unspent c.write_durably.new.rack; sound = λ traced. g.met.R.Rack.sound c.write_durably.new.rack (g.met.R.Bay.always_fit c.write_durably.new.rack) traced }) s0 c.in_default.ensures.writes in
+    let s2 = stage_clear x (g.R.Rack.seen c.write_durably.new.rack) (g.R.Rack.seen c.write_durably-2.new.rack) birth state 1 (Ok tt) new (record { unspent = g.met.R.Bay.unspent c.write_durably-2.new.rack; sound = λ traced. g.met.R.Rack.sound c.write_durably-2.new.rack (g.met.R.Bay.always_fit c.write_durably-2.new.rack) traced }) s1 c.in_default-write_durably.ensures.writes in
     let s3 = stage_laid x (g.R.Rack.seen c.write_durably-2.new.rack) (g.R.Rack.seen c.lay_parts.new.rack) birth state 0 c.new_drive_id.result.0 c.volume_size-volume.result new (record { unspent = g.met.R.Bay.unspent c.lay_parts.new.rack; sound = λ traced. g.met.R.Rack.sound c.lay_parts.new.rack (g.met.R.Bay.always_fit c.lay_parts.new.rack) traced }) (lit< tt) s2 c.new_drive_id.ensures c.volume_size-volume.ensures c.in_default-lay_parts.ensures in
     let s4 = stage_laid x (g.R.Rack.seen c.lay_parts.new.rack) (g.R.Rack.seen c.lay_parts-2.new.rack) birth state 1 c.new_drive_id-2.result.0 c.volume_size-volume.result new (record { unspent = g.met.R.Bay.unspent c.lay_parts-2.new.rack; sound = λ traced. g.met.R.Rack.sound c.lay_parts-2.new.rack (g.met.R.Bay.always_fit c.lay_parts-2.new.rack) traced }) (lit< tt) s3 c.new_drive_id-2.ensures c.volume_size-volume.ensures c.in_default-lay_parts-2.ensures in
     let s5 = stage_said x (g.R.Rack.seen c.lay_parts-2.new.rack) (g.R.Rack.seen c.write_superblock.new.rack) birth state 0 c.args.members.now.first new (record { unspent = g.met.R.Bay.unspent c.write_superblock.new.rack; sound = λ traced. g.met.R.Rack.sound c.write_superblock.new.rack (g.met.R.Bay.always_fit c.write_superblock.new.rack) traced }) (lit< tt) s4 (ap (λ (m : Members). m.first) c.requires.members) c.in_default-write_superblock.ensures in
@@ -233,8 +233,8 @@ write_state-requires-2-clause-room g c =
     let state = c.args.state.now in
     let new = c.requires.pool in
     let s0 = stage_start x birth state new in
-    let s1 = stage_clear x x (g.R.Rack.seen c.write_durably.new.rack) birth state 0 (Ok tt) new (record { unspent = g.met.R.Bay.unspent c.write_durably.new.rack; sound = λ traced. g.met.R.Rack.sound c.write_durably.new.rack (g.met.R.Bay.always_fit c.write_durably.new.rack) traced }) s0 c.in_default.ensures in
-    let s2 = stage_clear x (g.R.Rack.seen c.write_durably.new.rack) (g.R.Rack.seen c.write_durably-2.new.rack) birth state 1 (Ok tt) new (record { unspent = g.met.R.Bay.unspent c.write_durably-2.new.rack; sound = λ traced. g.met.R.Rack.sound c.write_durably-2.new.rack (g.met.R.Bay.always_fit c.write_durably-2.new.rack) traced }) s1 c.in_default-write_durably.ensures in
+    let s1 = stage_clear x x (g.R.Rack.seen c.write_durably.new.rack) birth state 0 (Ok tt) new (record { unspent = g.met.R.Bay.unspent c.write_durably.new.rack; sound = λ traced. g.met.R.Rack.sound c.write_durably.new.rack (g.met.R.Bay.always_fit c.write_durably.new.rack) traced }) s0 c.in_default.ensures.writes in
+    let s2 = stage_clear x (g.R.Rack.seen c.write_durably.new.rack) (g.R.Rack.seen c.write_durably-2.new.rack) birth state 1 (Ok tt) new (record { unspent = g.met.R.Bay.unspent c.write_durably-2.new.rack; sound = λ traced. g.met.R.Rack.sound c.write_durably-2.new.rack (g.met.R.Bay.always_fit c.write_durably-2.new.rack) traced }) s1 c.in_default-write_durably.ensures.writes in
     let s3 = stage_laid x (g.R.Rack.seen c.write_durably-2.new.rack) (g.R.Rack.seen c.lay_parts.new.rack) birth state 0 c.new_drive_id.result.0 c.volume_size-volume.result new (record { unspent = g.met.R.Bay.unspent c.lay_parts.new.rack; sound = λ traced. g.met.R.Rack.sound c.lay_parts.new.rack (g.met.R.Bay.always_fit c.lay_parts.new.rack) traced }) (lit< tt) s2 c.new_drive_id.ensures c.volume_size-volume.ensures c.in_default-lay_parts.ensures in
     let s4 = stage_laid x (g.R.Rack.seen c.lay_parts.new.rack) (g.R.Rack.seen c.lay_parts-2.new.rack) birth state 1 c.new_drive_id-2.result.0 c.volume_size-volume.result new (record { unspent = g.met.R.Bay.unspent c.lay_parts-2.new.rack; sound = λ traced. g.met.R.Rack.sound c.lay_parts-2.new.rack (g.met.R.Bay.always_fit c.lay_parts-2.new.rack) traced }) (lit< tt) s3 c.new_drive_id-2.ensures c.volume_size-volume.ensures c.in_default-lay_parts-2.ensures in
     let s5 = stage_said x (g.R.Rack.seen c.lay_parts-2.new.rack) (g.R.Rack.seen c.write_superblock.new.rack) birth state 0 c.args.members.now.first new (record { unspent = g.met.R.Bay.unspent c.write_superblock.new.rack; sound = λ traced. g.met.R.Rack.sound c.write_superblock.new.rack (g.met.R.Bay.always_fit c.write_superblock.new.rack) traced }) (lit< tt) s4 (ap (λ (m : Members). m.first) c.requires.members) c.in_default-write_superblock.ensures in
@@ -249,8 +249,8 @@ returns g c =
     let state = c.args.state.now in
     let new = c.requires.pool in
     let s0 = stage_start x birth state new in
-    let s1 = stage_clear x x (g.R.Rack.seen c.write_durably.new.rack) birth state 0 (Ok tt) new (record { unspent = g.met.R.Bay.unspent c.write_durably.new.rack; sound = λ traced. g.met.R.Rack.sound c.write_durably.new.rack (g.met.R.Bay.always_fit c.write_durably.new.rack) traced }) s0 c.in_default.ensures in
-    let s2 = stage_clear x (g.R.Rack.seen c.write_durably.new.rack) (g.R.Rack.seen c.write_durably-2.new.rack) birth state 1 (Ok tt) new (record { unspent = g.met.R.Bay.unspent c.write_durably-2.new.rack; sound = λ traced. g.met.R.Rack.sound c.write_durably-2.new.rack (g.met.R.Bay.always_fit c.write_durably-2.new.rack) traced }) s1 c.in_default-write_durably.ensures in
+    let s1 = stage_clear x x (g.R.Rack.seen c.write_durably.new.rack) birth state 0 (Ok tt) new (record { unspent = g.met.R.Bay.unspent c.write_durably.new.rack; sound = λ traced. g.met.R.Rack.sound c.write_durably.new.rack (g.met.R.Bay.always_fit c.write_durably.new.rack) traced }) s0 c.in_default.ensures.writes in
+    let s2 = stage_clear x (g.R.Rack.seen c.write_durably.new.rack) (g.R.Rack.seen c.write_durably-2.new.rack) birth state 1 (Ok tt) new (record { unspent = g.met.R.Bay.unspent c.write_durably-2.new.rack; sound = λ traced. g.met.R.Rack.sound c.write_durably-2.new.rack (g.met.R.Bay.always_fit c.write_durably-2.new.rack) traced }) s1 c.in_default-write_durably.ensures.writes in
     let s3 = stage_laid x (g.R.Rack.seen c.write_durably-2.new.rack) (g.R.Rack.seen c.lay_parts.new.rack) birth state 0 c.new_drive_id.result.0 c.volume_size-volume.result new (record { unspent = g.met.R.Bay.unspent c.lay_parts.new.rack; sound = λ traced. g.met.R.Rack.sound c.lay_parts.new.rack (g.met.R.Bay.always_fit c.lay_parts.new.rack) traced }) (lit< tt) s2 c.new_drive_id.ensures c.volume_size-volume.ensures c.in_default-lay_parts.ensures in
     let s4 = stage_laid x (g.R.Rack.seen c.lay_parts.new.rack) (g.R.Rack.seen c.lay_parts-2.new.rack) birth state 1 c.new_drive_id-2.result.0 c.volume_size-volume.result new (record { unspent = g.met.R.Bay.unspent c.lay_parts-2.new.rack; sound = λ traced. g.met.R.Rack.sound c.lay_parts-2.new.rack (g.met.R.Bay.always_fit c.lay_parts-2.new.rack) traced }) (lit< tt) s3 c.new_drive_id-2.ensures c.volume_size-volume.ensures c.in_default-lay_parts-2.ensures in
     let s5 = stage_said x (g.R.Rack.seen c.lay_parts-2.new.rack) (g.R.Rack.seen c.write_superblock.new.rack) birth state 0 c.args.members.now.first new (record { unspent = g.met.R.Bay.unspent c.write_superblock.new.rack; sound = λ traced. g.met.R.Rack.sound c.write_superblock.new.rack (g.met.R.Bay.always_fit c.write_superblock.new.rack) traced }) (lit< tt) s4 (ap (λ (m : Members). m.first) c.requires.members) c.in_default-write_superblock.ensures in

@@ -14,7 +14,7 @@ returns-in-Err g c =
     let is : table ≡ new_table c.args.drive.now.0 c.args.volume (a.sectors c.args.disk) =
     c.new_table-table.ensures ∙ ap (λ (n : ℕ). new_table c.args.drive.now.0 c.args.volume n) c.sectors-sectors.ensures.number in
     subst (λ (t : Table). LaysParts a b c.args.disk t (c.args.volume + 2048) {X = Unit {0}} (Err c.in-Err.gone)) is
-    (table_refused a b c.args.disk (c.args.volume + 2048) table c.in-Err.gone c.in-Err.ensures)
+    (table_refused a b c.args.disk (c.args.volume + 2048) table c.in-Err.gone c.in-Err.ensures.writes)
 
 pub returns-in-Err-write_zeros : goal.returns-in-Err-write_zeros
 returns-in-Err-write_zeros g c =
@@ -25,7 +25,7 @@ returns-in-Err-write_zeros g c =
     let is : table ≡ new_table c.args.drive.now.0 c.args.volume (a.sectors c.args.disk) =
     c.new_table-table.ensures ∙ ap (λ (n : ℕ). new_table c.args.drive.now.0 c.args.volume n) c.sectors-sectors.ensures.number in
     subst (λ (t : Table). LaysParts a b c.args.disk t (c.args.volume + 2048) {X = Unit {0}} (Err c.in-Err-write_zeros.gone)) is
-    (zeros_refused a m b c.args.disk (c.args.volume + 2048) table c.in-Err-write_zeros.gone c.in_default.ensures c.in-Err-write_zeros.ensures)
+    (zeros_refused a m b c.args.disk (c.args.volume + 2048) table c.in-Err-write_zeros.gone c.in_default.ensures.writes c.in-Err-write_zeros.ensures)
 
 pub returns : goal.returns
 returns g c =
@@ -39,4 +39,4 @@ returns g c =
     let size : table.sectors ≡ a.sectors c.args.disk = ap (λ (t : Table). t.sectors) is in
     subst (λ (t : Table). LaysParts a b c.args.disk t (c.args.volume + 2048) c.sync.result) is
     (parts_synced a m n b c.args.disk (c.args.volume + 2048) table c.sync.result size (omega (arith, size, c.requires.room))
-    c.in_default.ensures c.in_default-write_zeros.ensures c.sync.ensures)
+    c.in_default.ensures.writes c.in_default-write_zeros.ensures c.sync.ensures.syncs)

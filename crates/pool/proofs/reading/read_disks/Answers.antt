@@ -1,7 +1,7 @@
 use Rattle.std.proofs.Common.{◌≡◌, ◌<◌, ◌+◌, ◌++◌, true, ◌∷◌, [], List, length, slice_get, rules, ap, sym, ◌∙◌, subst, arith, length-append}
 use Rattle.rack.specs.Seen.{Rose}
 use Rattle.gpt_table.specs.Disk.{Contents, AgreesUnspent}
-use Rattle.gpt_table.proofs.Looking.{only_reads_join}
+use Rattle.rack.proofs.Reading.{only_reads_join}
 use Rattle.pool.specs.declared.reading.Shown.{Shown}
 use Rattle.pool.specs.Shown.{IsShown, Sees}
 use Rattle.pool.proofs.Sights.{each_push, shown_until, shown_since}

@@ -1,5 +1,5 @@
 use Rattle.std.proofs.Common.{◌≡◌, ℕ, length, slice_get, Some}
-use Rattle.gpt_table.specs.Calls.{OnlyReads}
+use Rattle.rack.specs.Sequences.{OnlyReads}
 use Rattle.pool.specs.declared.reading.Shown.{Shown}
 use Rattle.pool.specs.Shown.{IsShown}
 use Rattle.pool.proofs.reading.read_disks.Given as goal

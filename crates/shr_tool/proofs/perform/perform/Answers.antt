@@ -1,8 +1,8 @@
 -- Commands that call nothing.
 use Rattle.std.proofs.Common.{rules, ◌++◌, codes, refl, sym, ◌∙◌, ap}
 use Rattle.std.specs.Prelude.{decimal}
-use Rattle.flat_array.specs.declared.Command.TheVariants.{Size, Quit, Unbuilt, Syntax}
-use Rattle.flat_array.specs.Reply.{as_line}
+use Rattle.shr_script.specs.declared.Command.TheVariants.{Size, Quit, Unbuilt, Syntax}
+use Rattle.shr_script.specs.Reply.{as_line}
 use Rattle.shr_tool.specs.Meaning.{view_of}
 use Rattle.shr_tool.proofs.Performing.{still_done}
 use Rattle.shr_tool.proofs.perform.perform.Goals as goal

@@ -1,5 +1,5 @@
 use Rattle.std.proofs.Common.{sym, ◌∙◌, ap, subst, Err}
-use Rattle.flat_array.specs.declared.Command.TheVariants.{Read}
+use Rattle.shr_script.specs.declared.Command.TheVariants.{Read}
 use Rattle.shr_tool.specs.Meaning.{view_of}
 use Rattle.shr_tool.specs.Timeline.{Breaks}
 use Rattle.shr_tool.proofs.Performing.{read_done, read_broken}

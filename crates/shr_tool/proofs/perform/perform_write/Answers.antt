@@ -1,5 +1,5 @@
 use Rattle.std.proofs.Common.{sym, subst, ◌∙◌, ap, Err}
-use Rattle.flat_array.specs.declared.Command.TheVariants.{Write}
+use Rattle.shr_script.specs.declared.Command.TheVariants.{Write}
 use Rattle.shr_tool.specs.Meaning.{view_of}
 use Rattle.shr_tool.specs.Timeline.{Performs}
 use Rattle.shr_tool.proofs.Performing.{write_done, write_outside, write_broken}

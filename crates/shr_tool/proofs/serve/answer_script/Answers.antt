@@ -1,10 +1,10 @@
 -- Each line adds its command to those answered.
 use Rattle.std.proofs.Common.{◌≡◌, ◌++◌, ◌^◌, refl, ◌∙◌, ap, arith}
-use Rattle.flat_array.specs.Line.{command_of}
-use Rattle.flat_array.specs.Script.{without_return}
+use Rattle.shr_script.specs.Line.{command_of}
+use Rattle.shr_script.specs.Script.{without_return}
 use Rattle.shr_tool.specs.Meaning.{view_of}
 use Rattle.shr_tool.proofs.Meanings.{same_pool, pools_then}
-use Rattle.shr_tool.proofs.LongLines.{command_of-kept}
+use Rattle.shr_script.specs.LongLines.{command_of-kept}
 use Rattle.shr_tool.proofs.History.{history_none}
 use Rattle.shr_tool.proofs.Limits.{passed_none, passed_line, part_within, line_within, most_over}
 use Rattle.shr_tool.proofs.Stopping.{line_answered, line_stopped, last_answered, line_script, last_script, last_length, source_stopped, limit_stopped}

@@ -3,7 +3,7 @@ use Rattle.std.proofs.Common.{◌-◌, ◌^◌, ◌≤◌, ◌++◌}
 use Rattle.pool.specs.View.{IsPool}
 use Rattle.pool.specs.Calls.{IsSamePool}
 use Rattle.shr_tool.specs.Meaning.{view_of}
-use Rattle.shr_tool.specs.Pieces.{pending, taken_by}
+use Rattle.shr_script.specs.Pieces.{pending, taken_by}
 use Rattle.shr_tool.proofs.History.{History}
 use Rattle.shr_tool.proofs.Limits.{Passed}
 use Rattle.shr_tool.proofs.serve.answer_script.Given as goal

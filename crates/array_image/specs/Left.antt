@@ -1,0 +1,31 @@
+-- What a stop leaves on slices, and the same once the pending record is replayed.
+use Rattle.std.specs.Prelude.{◌≡◌, ◌≢◌, ◌⊎◌, ℕ, ◌+◌}
+use Rattle.rack.specs.Values.{MayLeave}
+use Rattle.rack.specs.Seen.{Image, Seen, IsLive}
+use Rattle.array_image.specs.Places.{slice_of, log_slice, member_slice}
+use Rattle.array_image.specs.Arrays.{replayed}
+
+-- contents that a stop now may leave
+abbrev pub Picks : Seen → Image → Type 0
+Picks x c = (d t : ℕ) → IsLive x x d t → MayLeave (x.held d t) (c d t)
+
+-- those once the pending record is replayed
+abbrev pub IsLeft : Seen → Image → Type 0
+IsLeft x r = (c : Image) × Picks x c × ((d t : ℕ) → r d t ≡ replayed x.sectors c d t)
+
+-- a sector of another array's slice, or a state's sector
+abbrev pub IsApart : ℕ → ℕ → ℕ → Type 0
+IsApart array d t = (slice_of d ≢ array + 1) × ((slice_of d ≢ 0) ⊎ (t ≡ 0))
+
+-- Contents whose log slices a stop now may leave, whatever stands elsewhere. Replaying goes by the log slices alone, so what is
+-- said of all such contents says which sectors have no target pending.
+abbrev pub PicksLogs : Seen → Image → Type 0
+PicksLogs x c = (place t : ℕ) → IsLive x x (log_slice place) t → MayLeave (x.held (log_slice place) t) (c (log_slice place) t)
+
+-- nothing is pending outside an array's slices
+abbrev pub IsCalm : ℕ → Seen → Type 0
+IsCalm array x = (c : Image) → PicksLogs x c → (d t : ℕ) → IsApart array d t → replayed x.sectors c d t ≡ c d t
+
+-- nothing is pending in them
+abbrev pub IsClosed : ℕ → Seen → Type 0
+IsClosed array x = (c : Image) → PicksLogs x c → (place t : ℕ) → replayed x.sectors c (member_slice place array) t ≡ c (member_slice place array) t

@@ -1,0 +1,13 @@
+pub mod Foremost
+pub mod Places
+pub mod Record
+pub mod States
+pub mod Supers
+pub mod Stripes
+pub mod Arrays
+pub mod Spent
+pub mod Held
+pub mod Marks
+pub mod Left
+pub mod Even
+pub mod SoundArray

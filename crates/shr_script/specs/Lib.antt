@@ -1,0 +1,9 @@
+pub mod Line
+pub mod Script
+pub mod ScriptLaws
+pub mod Words
+pub mod Reading
+pub mod Pieces
+pub mod LongLines
+pub mod Reply
+pub mod Trimming

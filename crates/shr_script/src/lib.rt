@@ -1,0 +1,60 @@
+//! The lines of a script: read from a source, parsed into commands, and the texts of their replies.
+//!
+//! **The model.** A script is bytes: lines of words parted by one space, each line a [`Command`]
+//! (specs/Line.antt). Its commands are those of its lines up to the first `quit`; a line without a
+//! line feed is dropped where the text was cut off (specs/Script.antt). A reply is one line
+//! (specs/Reply.antt).
+//!
+//! **The contract for the layer above.** [`next_line`] gives the command of a line. A
+//! [`LineReader`] gives the lines of a source in their order, with constant memory: of a line that
+//! is too long it keeps as many bytes as tell its command (specs/LongLines.antt). What a row of
+//! lines says of a whole script stands in specs/ScriptLaws.antt.
+#![tactic(auto)]
+
+mod line;
+mod reader;
+mod reply;
+
+pub use line::{next_line, number_of, without_return};
+pub use reader::{Ended, LineReader, SCRIPT_LIMIT};
+pub use reply::{
+    REPLY_ROOM, ReplyText, add, data_reply, line_reply, refused_number_reply, refused_reply,
+    size_reply,
+};
+
+/// A line of a script, as a command.
+#[derive(Debug, Drop)]
+pub enum Command {
+    /// `read S`: replies the sector's current bytes in hexadecimal digits, without the zeros at
+    /// their end.
+    Read {
+        /// The number of the sector.
+        sector: u64,
+    },
+    /// `write S HEX`: gives the sector a value.
+    Write {
+        /// The number of the sector.
+        sector: u64,
+        /// The value, filled up with zeros.
+        bytes: [u8; 512],
+    },
+    /// `fill S N XX`: gives each of so many sectors the value whose bytes are all the same.
+    Fill {
+        /// The number of the first sector.
+        sector: u64,
+        /// How many sectors.
+        count: u64,
+        /// Each byte of the value.
+        byte: u8,
+    },
+    /// `flush`: from here on each sector keeps its current value alone.
+    Flush,
+    /// `size`: replies the number of sectors.
+    Size,
+    /// `quit`: ends the script, with no reply.
+    Quit,
+    /// A line whose first word is one of the commands that aren't built yet.
+    Unbuilt,
+    /// A line that is none of these, or too long.
+    Syntax,
+}

@@ -1,0 +1,262 @@
+//! A line of a script as a command: words parted by one space.
+
+ghost use Rattle.std.specs.Prelude.{◌≡◌, ◌≤◌, ◌%◌, ◌∷◌, ◌++◌, ℕ, List, true, length, drop, position, IsErr};
+ghost use Rattle.std.specs.Bool.{OnTrue, OnFalse};
+ghost use Rattle.std.specs.Char.{is_ascii_digit};
+ghost use Rattle.std.specs.List.{slice_split, list_all};
+ghost use Rattle.std.specs.Str.Parse.{digits_value};
+ghost use Rattle.hex.specs.Hex.{decode_of};
+ghost use Rattle.std.specs.Option.{option_copied};
+ghost use Rattle.shr_script.specs.Line.{is_space, is_unbuilt as is_unbuilt_word, built_of, read_words, write_words, fill_words, fill_of, alone as stands_alone, words_command, command_of, number_of as number_in, sector_of as sector_in, byte_of as byte_in};
+ghost use Rattle.shr_script.specs.Script.{without_return as line_without_return};
+ghost use Rattle.shr_script.specs.Words.{words_after};
+
+use crate::Command;
+
+/// The longest line that is read as a command, in bytes.
+pub const LONGEST: usize = 1100;
+
+/// The command of a line without its line end; an empty line has none.
+pub fn next_line(line: &[u8]) -> Option<Command>
+    ensures { result ≡ command_of line.now }
+{
+    if line.is_empty() {
+        return None;
+    }
+    Some(command_in(line))
+}
+
+/// A line without the carriage return at its end.
+pub fn without_return(line: &[u8]) -> &[u8]
+    ensures { result.now ≡ line_without_return line.now }
+{
+    let count = line.len();
+    if count == 0 {
+        return line;
+    }
+    if line[count - 1] != b'\r' {
+        return line;
+    }
+    &line[..count - 1]
+}
+
+// The command of a line that isn't empty.
+fn command_in(line: &[u8]) -> Command
+    ensures { result ≡ words_command (length line.now) (slice_split is_space line.now) }
+{
+    let (first, rest) = cut_word(line);
+    if is_unbuilt(first) {
+        Command::Unbuilt
+    } else if line.len() <= LONGEST {
+        built_command(first, rest)
+    } else {
+        Command::Syntax
+    }
+}
+
+// The bytes before the first space, and those after it where there is one.
+fn cut_word(bytes: &[u8]) -> (&[u8], Option<&[u8]>)
+    ensures { slice_split is_space bytes.now ≡ result.0.now ∷ words_after (option_copied result.1) }
+{
+    match first_space(bytes) {
+        Some(end) => (&bytes[..end], Some(&bytes[end + 1..])),
+        None => (bytes, None),
+    }
+}
+
+// The place of the first space.
+fn first_space(bytes: &[u8]) -> Option<usize>
+    ensures { result ≡ position is_space bytes.now }
+{
+    bytes.iter().position(|byte| *byte == b' ')
+}
+
+// The first word is one of a line that isn't built yet.
+fn is_unbuilt(word: &[u8]) -> bool
+    ensures { result ≡ is_unbuilt_word word.now }
+{
+    word == b"step".as_slice()
+        || word == b"add".as_slice()
+        || word == b"replace".as_slice()
+        || word == b"lose".as_slice()
+        || word == b"status".as_slice()
+}
+
+// The command of a line that isn't too long, by its first word.
+fn built_command(first: &[u8], rest: Option<&[u8]>) -> Command
+    ensures { result ≡ built_of first.now (words_after (option_copied rest.entry)) }
+{
+    if first == b"read".as_slice() {
+        read_command(rest)
+    } else if first == b"write".as_slice() {
+        write_command(rest)
+    } else if first == b"fill".as_slice() {
+        fill_command(rest)
+    } else if first == b"flush".as_slice() {
+        alone(Command::Flush, rest)
+    } else if first == b"size".as_slice() {
+        alone(Command::Size, rest)
+    } else if first == b"quit".as_slice() {
+        alone(Command::Quit, rest)
+    } else {
+        Command::Syntax
+    }
+}
+
+// The command of a word that stands alone.
+fn alone(command: Command, rest: Option<&[u8]>) -> Command
+    ensures { result ≡ stands_alone command (words_after (option_copied rest.entry)) }
+{
+    match rest {
+        None => command,
+        Some(_) => Command::Syntax,
+    }
+}
+
+// `read S`
+fn read_command(rest: Option<&[u8]>) -> Command
+    ensures { result ≡ read_words (words_after (option_copied rest.entry)) }
+{
+    let Some(words) = rest else {
+        return Command::Syntax;
+    };
+    let (word, more) = cut_word(words);
+    match (more, number_of(word)) {
+        (Some(_), _) => Command::Syntax,
+        (None, None) => Command::Syntax,
+        (None, Some(sector)) => Command::Read { sector },
+    }
+}
+
+// `write S HEX`
+fn write_command(rest: Option<&[u8]>) -> Command
+    ensures { result ≡ write_words (words_after (option_copied rest.entry)) }
+{
+    let Some(words) = rest else {
+        return Command::Syntax;
+    };
+    let (word, rest) = cut_word(words);
+    let Some(words) = rest else {
+        return Command::Syntax;
+    };
+    let (digits, more) = cut_word(words);
+    match (more, number_of(word), sector_of(digits)) {
+        (Some(_), _, _) => Command::Syntax,
+        (None, None, _) => Command::Syntax,
+        (None, Some(_), None) => Command::Syntax,
+        (None, Some(sector), Some(bytes)) => Command::Write { sector, bytes },
+    }
+}
+
+// `fill S N XX`
+fn fill_command(rest: Option<&[u8]>) -> Command
+    ensures { result ≡ fill_words (words_after (option_copied rest.entry)) }
+{
+    let Some(words) = rest else {
+        return Command::Syntax;
+    };
+    let (sector, rest) = cut_word(words);
+    let Some(words) = rest else {
+        return Command::Syntax;
+    };
+    let (count, rest) = cut_word(words);
+    let Some(words) = rest else {
+        return Command::Syntax;
+    };
+    let (digits, more) = cut_word(words);
+    match more {
+        Some(_) => Command::Syntax,
+        None => filling(number_of(sector), number_of(count), byte_of(digits)),
+    }
+}
+
+// The command of the parts of `fill S N XX`, where each of them is one.
+fn filling(sector: Option<u64>, count: Option<u64>, byte: Option<u8>) -> Command
+    ensures { result ≡ fill_of sector count byte }
+{
+    match (sector, count, byte) {
+        (Some(sector), Some(count), Some(byte)) => Command::Fill {
+            sector,
+            count,
+            byte,
+        },
+        _ => Command::Syntax,
+    }
+}
+
+/// One to twenty decimal digits with a value below 2^64.
+pub fn number_of(word: &[u8]) -> Option<u64>
+    ensures { result ≡ number_in word.now }
+{
+    if word.is_empty() || word.len() > 20 || !are_digits(word) {
+        return None;
+    }
+    let value = value_of_digits(word);
+    if value <= u128::from(u64::MAX) {
+        Some(value as u64)
+    } else {
+        None
+    }
+}
+
+// Each byte is a decimal digit.
+fn are_digits(word: &[u8]) -> bool
+    ensures { result ≡ list_all is_ascii_digit word.now }
+{
+    word.iter().all(|byte| byte.is_ascii_digit())
+}
+
+// The number that decimal digits write.
+fn value_of_digits(word: &[u8]) -> u128
+    requires digits { list_all is_ascii_digit word.now ≡ true }
+    requires short { length word.now ≤ 20 }
+    ensures { result ≡ digits_value 10 word.now }
+{
+    let mut value: u128 = 0;
+    for digit in word {
+        value = value * 10 + u128::from(*digit - b'0');
+    }
+    value
+}
+
+// 2 to 1024 hexadecimal digits, an even number, as a sector filled up with zeros.
+fn sector_of(digits: &[u8]) -> Option<[u8; 512]>
+    ensures { result ≡ sector_in digits.now }
+{
+    if digits.len() < 2 || digits.len() > 1024 || digits.len() % 2 == 1 {
+        return None;
+    }
+    let mut sector = [0; 512];
+    if !decode_front(digits, &mut sector) {
+        return None;
+    }
+    Some(sector)
+}
+
+// Two hexadecimal digits, as a byte.
+fn byte_of(digits: &[u8]) -> Option<u8>
+    ensures { result ≡ byte_in digits.now }
+{
+    if digits.len() != 2 {
+        return None;
+    }
+    let mut byte = [0; 1];
+    match hex::decode_to_slice(digits, &mut byte) {
+        Ok(()) => Some(byte[0]),
+        Err(_) => None,
+    }
+}
+
+// Decodes digits into the front of a sector; false where one is no hexadecimal digit.
+fn decode_front(digits: &[u8], sector: &mut [u8; 512]) -> bool
+    requires short { length digits.now ≤ 1024 }
+    requires even { length digits.now % 2 ≡ 0 }
+    ensures decoded { OnTrue result ((bytes : List ℕ) × (decode_of digits.now ≡ Ok bytes) × (sector.new ≡ bytes ++ drop (length bytes) sector.old)) }
+    ensures refused { OnFalse result (IsErr (decode_of digits.now)) }
+{
+    let count = digits.len() / 2;
+    match hex::decode_to_slice(digits, &mut sector[..count]) {
+        Ok(()) => true,
+        Err(_) => false,
+    }
+}

@@ -1,9 +1,0 @@
-use Rattle.std.proofs.Common.{refl, arith}
-use Rattle.shr_tool.proofs.Scripts.{without_return-some, without_return-other}
-use Rattle.shr_tool.proofs.serve.without_return.Goals as goal
-
-pub returns-then-line-count-ne13 : goal.returns-then-line-count-ne13
-returns-then-line-count-ne13 c = without_return-other _ _ refl (omega arith) c.if-line-count-ne13.true
-
-pub returns : goal.returns
-returns c = without_return-some _ _ refl (omega arith) c.if-line-count-ne13.false

@@ -1,6 +1,0 @@
-use Rattle.std.proofs.Common.{sym}
-use Rattle.shr_tool.proofs.Parsing.{alone-more}
-use Rattle.shr_tool.proofs.shr_script.line.alone.Goals as goal
-
-pub returns-in-Some : goal.returns-in-Some
-returns-in-Some c = rw c.in-Some.is (sym (alone-more c.args.command c.in-Some.field-0.now))

@@ -1,8 +1,0 @@
-use Rattle.std.proofs.Common.{arith}
-use Rattle.shr_tool.proofs.Parsing.{sector_of-decoded}
-use Rattle.shr_tool.proofs.shr_script.line.sector_of.Goals as goal
-
-pub returns : goal.returns
-returns c =
-    let decoded = c.if-not-decode_front.ensures.decoded in
-    sector_of-decoded _ _ decoded.0 (omega arith) (omega arith) decoded.1 decoded.2

@@ -1,0 +1,32 @@
+# For the scripts that build or keep the program, which source this file: which sources it is built from.
+
+# sources_hash TOP: one hash over the sources of every crate that crates.txt names.
+sources_hash() {
+  (
+    cd "$1" || exit 1
+    cat crates.txt
+    sed -n 's/^\([a-z_0-9]*\)[^#]*:.*/\1/p' crates.txt | sort -u | while read -r crate; do
+      find "crates/$crate/src" "crates/$crate/specs" "crates/$crate/proofs" -type f \
+        \( -name '*.rt' -o -name '*.antt' \) -print0 2>/dev/null
+    done | LC_ALL=C sort -z | xargs -0 sha256sum
+  ) </dev/null | sha256sum | cut -d ' ' -f 1
+}
+
+# keep_program TOP: keeps the program that was just proved and built in its crate's folder, with its sources' hash.
+keep_program() {
+  mkdir -p "$1/out" &&
+    cp "$1/crates/shr_tool/out/shr_tool" "$1/out/shr_tool.new" &&
+    mv "$1/out/shr_tool.new" "$1/out/shr_tool" &&
+    sources_hash "$1" >"$1/out/shr_tool.sources.new" &&
+    mv "$1/out/shr_tool.sources.new" "$1/out/shr_tool.sources"
+}
+
+# is_released TOP HASH: whether release/ has the program of the sources of this hash, whole, and this machine runs it.
+# With no words the program says `refused words` and ends with status 2.
+is_released() {
+  [ -x "$1/release/shr_tool" ] && [ "$(cat "$1/release/SOURCES" 2>/dev/null)" = "$2" ] || return 1
+  (cd "$1/release" && sha256sum --check --status SHA256SUMS) || return 1
+  local said
+  said=$("$1/release/shr_tool" </dev/null 2>/dev/null)
+  [ $? -eq 2 ] && [ "$said" = "refused words" ]
+}
