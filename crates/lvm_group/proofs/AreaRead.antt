@@ -1,6 +1,6 @@
 -- A metadata area that was read.
-use Rattle.std.proofs.Common.{◌≡◌, ℕ, ◌%◌, ◌/◌, Bool, true, false, List, Option, Some, None, refl, sym, ap, ◌∙◌}
-use Rattle.std.specs.Prelude.{◌==◌, if◌then◌else◌, option_map}
+use Rattle.std.proofs.Common.{◌≡◌, ℕ, ◌%◌, ◌/◌, Option, Some, None, refl, sym, ap, ◌∙◌}
+use Rattle.std.specs.Prelude.{if◌then◌else◌}
 use Rattle.std.specs.Option.{option_and_then}
 use Rattle.std.specs.Result.{result_ok}
 use Rattle.std.proofs.lemmas.Bool.{eq-eqb}
@@ -11,12 +11,13 @@ use Rattle.lvm_label.specs.declared.header.Location.{Location}
 use Rattle.lvm_label.specs.Header.{header_of}
 use Rattle.lvm_text.specs.declared.group.Group.{Group}
 use Rattle.lvm_group.specs.Parts.{Array, header_at, location_in, group_at, group_in_area}
-use Rattle.lvm_group.specs.Reading.{Looks, AreRead, held_on}
+use Rattle.rack.specs.Sequences.{OnlyReads}
+use Rattle.lvm_group.specs.Reading.{AreRead, held_on}
 use Rattle.lvm_group.specs.Found.{IsInArea}
 use Rattle.lvm_group.proofs.Looking.{looks_same, read_longer, held_read, differs}
 
 -- what was read over a part of the time
-pub all_longer : {a b c d : Seen} (array : ℕ) (now whole : Array) → Looks a b → Looks c d → AreRead b c array now whole → AreRead a d array now whole
+pub all_longer : {a b c d : Seen} (array : ℕ) (now whole : Array) → OnlyReads a b → OnlyReads c d → AreRead b c array now whole → AreRead a d array now whole
 all_longer array now whole before after all = λ sector. read_longer array now sector (whole sector) before after (all sector)
 
 -- without an area there is nothing
@@ -78,7 +79,7 @@ no_location {a} {b} array now c area r header is whole all read none = record {
 
 -- and one with a location has that of its text
 pub area_group : {a x b : Seen} (array : ℕ) (now c texts : Array) (area : Option Area) (r : Area) (header : Header) (location : Location) (group : Option Group)
-    → area ≡ Some r → r.offset % 512 ≡ 0 → Looks a x → Looks x b → a.fit → AreRead a x array now c → AreRead x b array now texts
+    → area ≡ Some r → r.offset % 512 ≡ 0 → OnlyReads a x → OnlyReads x b → a.fit → AreRead a x array now c → AreRead x b array now texts
     → Some header ≡ result_ok (header_of (c (r.offset / 512))) → location_in header ≡ Some location → group ≡ group_at texts r location
     → IsInArea a b array now area (Some header) group
 area_group {a} {x} {b} array now c texts area r header location group is whole first second fit all texts_all read there said = record {

@@ -1,5 +1,5 @@
 -- What a call of the rack below is to the volume.
-use Rattle.std.proofs.Common.{◌≡◌, ℕ, zero, ◌+◌, ◌*◌, ◌/◌, ◌%◌, ◌≤◌, ◌<◌, ◌^◌, ◌==◌, ◌&&◌, if◌then◌else◌, inl, inr, Bool, true, false, List, Ok, Err, refl, sym, ap, subst, ◌∙◌, arith}
+use Rattle.std.proofs.Common.{◌≡◌, ℕ, ◌+◌, ◌*◌, ◌/◌, ◌%◌, ◌≤◌, ◌<◌, ◌==◌, ◌&&◌, if◌then◌else◌, inl, inr, Bool, true, false, List, Ok, Err, refl, sym, ap, subst, ◌∙◌, arith}
 use Rattle.std.proofs.lemmas.Bool.{eq-eqb, eqb-true}
 use Rattle.std.proofs.lemmas.Nat.{same_from_place, mod_below, div-add-mod'}
 use Rattle.rack.specs.declared.Gone.{Gone}
@@ -7,8 +7,8 @@ use Rattle.rack.specs.Values.{Values, MayLeave, Keeps, append}
 use Rattle.rack.specs.Seen.{Image, Held, Seen, Rose, IsPick, Stays, appended}
 use Rattle.rack.specs.Moments.{Leaves}
 use Rattle.rack.specs.Calls.{KeepsAll, Reads, Writes, Syncs}
-use Rattle.lvm_group.specs.Runs.{Linear, IsOrderly, place_of, data_start, extents_of, sectors_in, array_of, sector_of}
-use Rattle.lvm_group.specs.Shown.{IsInside, contents_of, total, volume_of}
+use Rattle.lvm_group.specs.Runs.{Linear, IsOrderly, place_of, data_start, sectors_in, array_of, sector_of}
+use Rattle.lvm_group.specs.Shown.{IsInside, contents_of, volume_of}
 use Rattle.lvm_group.specs.Sequences.{SyncsAll}
 use Rattle.lvm_group.specs.Laws.{extent_below, array_below, live_below, shows}
 use Rattle.lvm_group.proofs.Totals.{total_grows, total_rose, total_same}

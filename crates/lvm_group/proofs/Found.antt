@@ -1,12 +1,11 @@
 -- The run that has an extent is the last one that starts at it or before.
-use Rattle.std.proofs.Common.{◌≡◌, ℕ, zero, suc, ◌+◌, ◌<◌, ◌≤◌, ◌-◌, Bool, true, false, List, [], ◌∷◌, Some, refl, subst, arith}
-use Rattle.std.specs.Prelude.{length, slice_get, ◌&&◌, nat_le, nat_lt, take, slice_index_or}
+use Rattle.std.proofs.Common.{◌≡◌, ℕ, zero, suc, ◌+◌, ◌<◌, ◌≤◌, ◌-◌, true, false, List, [], ◌∷◌, Some, refl, subst, arith}
+use Rattle.std.specs.Prelude.{length, slice_get, nat_le, take, slice_index_or}
 use Rattle.std.specs.List.Sorted.{IsNonDecreasingBy, IsPartitionPoint}
 use Rattle.std.proofs.Common.{leb}
 use Rattle.std.proofs.lemmas.Bool.{lt-ltb, le-ltb, le-leb, leb-true, leb-false}
 use Rattle.std.proofs.lemmas.Option.{slice_get-get_or, get_or_from_slice_get, slice_get_within}
 use Rattle.std.proofs.Math.Bool.{and-false}
-use Rattle.std.specs.List.{find}
 use Rattle.lvm_group.specs.declared.runs.Run.{Run}
 use Rattle.lvm_group.specs.Runs.{AreInOrder, extents_of, has_extent, run_of}
 

@@ -1,12 +1,11 @@
 -- The group at a location, by its text.
-use Rattle.std.proofs.Common.{◌≡◌, ℕ, Bool, true, false, List, Option, Some, None, refl, sym, ap, ◌∙◌}
+use Rattle.std.proofs.Common.{◌≡◌, ℕ, Bool, true, false, List, Option, Some, None, refl, ap, ◌∙◌}
 use Rattle.std.specs.Prelude.{◌==◌, if◌then◌else◌}
 use Rattle.std.specs.Option.{option_and_then}
 use Rattle.std.specs.Result.{result_ok}
 use Rattle.shr_base.specs.Crc.{lvm_crc_of}
 use Rattle.lvm_label.specs.declared.label.Area.{Area}
 use Rattle.lvm_label.specs.declared.header.Location.{Location}
-use Rattle.lvm_text.specs.declared.group.Group.{Group}
 use Rattle.lvm_text.specs.Group.{group_of}
 use Rattle.lvm_group.specs.Parts.{Array, text_at, is_inside, group_by, group_at}
 

@@ -1,10 +1,9 @@
 -- A header that was read.
-use Rattle.std.proofs.Common.{◌≡◌, ℕ, List, [], Option, Some, None, refl, sym, ap, ◌∙◌}
+use Rattle.std.proofs.Common.{◌≡◌, ℕ, List, [], None, refl, sym, ap}
 use Rattle.std.specs.Prelude.{if◌then◌else◌}
 use Rattle.std.specs.Result.{result_ok}
 use Rattle.std.proofs.lemmas.Bool.{eq-eqb}
 use Rattle.rack.specs.Seen.{Seen}
-use Rattle.lvm_label.specs.declared.header.Header.{Header}
 use Rattle.lvm_label.specs.Header.{header_of}
 use Rattle.lvm_group.specs.Parts.{Array}
 use Rattle.lvm_group.specs.Reading.{IsRead, AreRead, held_on}

@@ -2,7 +2,7 @@ pub mod Totals
 pub mod Found
 pub mod Below
 pub mod Counted
-pub mod Tests
+pub mod Passed
 pub mod Looking
 pub mod Rows
 pub mod AreaRead

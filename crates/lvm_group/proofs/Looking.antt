@@ -1,30 +1,31 @@
 -- Reads in a row, and what they give.
-use Rattle.std.proofs.Common.{◌≡◌, ◌⊎◌, ℕ, ◌<◌, ◌≤◌, Bool, true, false, List, [], Ok, Err, Result, inl, inr, refl, sym, ◌∙◌, subst, arith}
-use Rattle.std.specs.Prelude.{nat_lt, if◌then◌else◌, ◌==◌, ◌≢◌}
+use Rattle.std.proofs.Common.{◌≡◌, ℕ, ◌<◌, ◌≤◌, Bool, true, false, List, [], Ok, Err, Result, inl, inr, refl, sym, ◌∙◌, subst, arith}
+use Rattle.std.specs.Prelude.{if◌then◌else◌, ◌==◌, ◌≢◌}
 use Rattle.std.proofs.lemmas.Bool.{cases_lt, cases_eq, lt-ltb, le-ltb, eq-eqb, eqb-true}
 use Rattle.rack.specs.declared.Gone.{Gone}
-use Rattle.rack.specs.Seen.{Seen, IsLive, Rose, Stays}
-use Rattle.rack.specs.Calls.{KeepsAll, Reads}
+use Rattle.rack.specs.Seen.{Seen, Rose}
+use Rattle.rack.specs.Calls.{Reads}
 use Rattle.rack.specs.Joins.{stays_same, stays_then, keeps_all_then, keeps_same, leaves_same, rose_since}
 use Rattle.lvm_group.specs.Parts.{Array}
-use Rattle.lvm_group.specs.Reading.{Looks, IsNow, IsRead, AreRead, held_on}
+use Rattle.rack.specs.Sequences.{OnlyReads}
+use Rattle.lvm_group.specs.Reading.{IsNow, IsRead, AreRead, held_on}
 
 -- no call
-pub looks_same : (a : Seen) → a.fit → Looks a a
+pub looks_same : (a : Seen) → a.fit → OnlyReads a a
 looks_same a fit = record {
   stays = stays_same a fit;
   keeps = record { held = λ d s live. keeps_same (a.held d s); stops = λ traced. leaves_same a _ };
 }
 
-pub looks_then : {a b c : Seen} → Looks a b → Looks b c → Looks a c
+pub looks_then : {a b c : Seen} → OnlyReads a b → OnlyReads b c → OnlyReads a c
 looks_then first second = record { stays = stays_then first.stays second.stays; keeps = keeps_all_then first.stays second.stays first.keeps second.keeps }
 
 -- a read
-pub looks_read : {a b : Seen} (array sector : ℕ) (into : List ℕ) (result : Result (Unit {0}) Gone) → Reads a b array sector into result → Looks a b
+pub looks_read : {a b : Seen} (array sector : ℕ) (into : List ℕ) (result : Result (Unit {0}) Gone) → Reads a b array sector into result → OnlyReads a b
 looks_read array sector into result r = record { stays = r.stays; keeps = r.keeps }
 
 -- contents stay what they are
-pub now_later : {a b : Seen} (array : ℕ) (now : Array) → array < a.disks → Looks a b → IsNow a array now → IsNow b array now
+pub now_later : {a b : Seen} (array : ℕ) (now : Array) → array < a.disks → OnlyReads a b → IsNow a array now → IsNow b array now
 now_later {a} {b} array now there looks is = record {
   told = looks.stays.told array is.told;
   current = λ sector within unspent.
@@ -65,7 +66,7 @@ rose_until after (inl rose) = inl (omega arith)
 rose_until after (inr stands) = inr (omega arith)
 
 -- what was read was so over a longer time
-pub read_longer : {a b c d : Seen} (array : ℕ) (now : Array) (sector : ℕ) (bytes : List ℕ) → Looks a b → Looks c d → IsRead b c array now sector bytes → IsRead a d array now sector bytes
+pub read_longer : {a b c d : Seen} (array : ℕ) (now : Array) (sector : ℕ) (bytes : List ℕ) → OnlyReads a b → OnlyReads c d → IsRead b c array now sector bytes → IsRead a d array now sector bytes
 read_longer {a} {b} {c} {d} array now sector bytes before after is = record {
   within = λ inside. elim (is.within (subst (λ n. sector < n) (sym (before.stays.sectors array)) inside)) [
     | inl same ↦ inl same

@@ -1,8 +1,8 @@
 -- The volume of a group that the pool writes is orderly, and lies inside its arrays.
-use Rattle.std.proofs.Common.{◌≡◌, ◌≢◌, ◌⊎◌, ◌^◌, ℕ, zero, suc, ◌+◌, ◌-◌, ◌*◌, ◌<◌, ◌≤◌, ◌==◌, ◌&&◌, ◌||◌, Bool, true, false, inl, inr, List, [], ◌∷◌, Option, Some, None, refl, sym, ap, subst, ◌∙◌, arith}
-use Rattle.std.specs.Prelude.{length, slice_get, take, nat_le, nat_lt, not, is_some, bytes_eq, option_map}
+use Rattle.std.proofs.Common.{◌≡◌, ◌⊎◌, ◌^◌, ℕ, zero, suc, ◌+◌, ◌-◌, ◌*◌, ◌<◌, ◌≤◌, ◌==◌, ◌&&◌, ◌||◌, Bool, true, false, inl, inr, List, [], ◌∷◌, Option, Some, None, refl, sym, ap, subst, ◌∙◌, arith}
+use Rattle.std.specs.Prelude.{length, slice_get, nat_le, nat_lt, not, is_some, bytes_eq, option_map}
 use Rattle.std.specs.Option.{option_map_or}
-use Rattle.std.specs.List.{find, list_all}
+use Rattle.std.specs.List.{list_all}
 use Rattle.std.proofs.lemmas.Bool.{cases_eq, cases_lt, eq-eqb, eqb-true, leb-true, ltb-true}
 use Rattle.std.proofs.lemmas.Nat.{mul-le, row_fits}
 use Rattle.lvm_text.specs.declared.group.SegmentKind.{SegmentKind}
@@ -12,12 +12,12 @@ use Rattle.lvm_text.specs.declared.group.Pv.{Pv}
 use Rattle.lvm_text.specs.declared.group.Lv.{Lv}
 use Rattle.lvm_text.specs.declared.group.Group.{Group}
 use Rattle.lvm_group.specs.declared.runs.Run.{Run}
-use Rattle.lvm_group.specs.Ids.{array_named, group_id, pv_id, lv_id, text_id, group_name, lv_name}
+use Rattle.lvm_group.specs.Ids.{array_named, group_id, pv_id, text_id, group_name}
 use Rattle.rack.specs.Seen.{Seen}
 use Rattle.lvm_group.specs.Shown.{IsInside, total}
-use Rattle.lvm_group.specs.Runs.{Linear, Place, AreInOrder, AreApart, IsOrderly, place_of, place_in, data_start, extents_of, run_of}
-use Rattle.lvm_group.specs.Group.{run_by, run_in, with_run, runs_from, runs_in, linear_in, names, pv_of, is_pv_of, is_pv, follow, lies_in, are_apart, all_apart, differ, most_segments, has_own_name, has_own_head, is_lv, is_only_lv, is_own_group}
-use Rattle.lvm_group.proofs.Tests.{both, found_passes, found_all, all_at, some_passes, is_there}
+use Rattle.lvm_group.specs.Runs.{Place, AreInOrder, AreApart, IsOrderly, place_of, place_in, data_start, extents_of, run_of}
+use Rattle.lvm_group.specs.Group.{run_by, run_in, with_run, runs_from, runs_in, linear_in, names, pv_of, is_pv_of, is_pv, follow, lies_in, are_apart, all_apart, differ, most_segments, has_own_name, has_own_head, is_only_lv, is_own_group}
+use Rattle.lvm_group.proofs.Passed.{both, found_passes, found_all, all_at, some_passes, is_there}
 use Rattle.lvm_group.proofs.Found.{has_it, lacks_it}
 
 -- ---- order

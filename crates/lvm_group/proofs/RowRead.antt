@@ -1,13 +1,14 @@
 -- Bytes of an array that were read sector by sector.
-use Rattle.std.proofs.Common.{◌≡◌, ℕ, ◌+◌, ◌-◌, ◌*◌, ◌/◌, ◌%◌, ◌<◌, ◌≤◌, ◌++◌, List, [], Option, Some, None, inl, inr, refl, sym, ap, ◌∙◌, subst, length-drop, arith}
+use Rattle.std.proofs.Common.{◌≡◌, ℕ, ◌+◌, ◌-◌, ◌*◌, ◌/◌, ◌%◌, ◌<◌, ◌≤◌, ◌++◌, List, [], None, inl, inr, refl, sym, ap, ◌∙◌, subst, length-drop, arith}
 use Rattle.std.proofs.lemmas.List.{length-take-le}
 use Rattle.std.specs.Prelude.{length, take, drop, slice_get, if◌then◌else◌}
 use Rattle.std.proofs.lemmas.Bool.{cases_lt, lt-ltb, le-ltb}
-use Rattle.std.proofs.lemmas.Nat.{le-div, div_below, div-add-mod', mod_below}
+use Rattle.std.proofs.lemmas.Nat.{le-div, div_below, div-add-mod'}
 use Rattle.rack.specs.Seen.{Seen}
 use Rattle.lvm_group.specs.Parts.{Array, byte_at, row_at, behind}
-use Rattle.lvm_group.specs.Reading.{Looks, IsNow, IsRead, AreRead, held_on}
-use Rattle.lvm_group.proofs.Looking.{looks_same, looks_then, now_later, read_longer, held_read, with_sector, sector_read}
+use Rattle.rack.specs.Sequences.{OnlyReads}
+use Rattle.lvm_group.specs.Reading.{IsRead, AreRead, held_on}
+use Rattle.lvm_group.proofs.Looking.{looks_same, read_longer, held_read, with_sector, sector_read}
 use Rattle.lvm_group.proofs.HeaderRead.{has_sector}
 use Rattle.lvm_group.proofs.Rows.{row_piece, row_none, behind_twice}
 
@@ -29,7 +30,7 @@ row_past a array now from count some past = (
 )
 
 -- a refused sector has no byte
-pub row_refused : {a x b : Seen} (array : ℕ) (now : Array) (from count at : ℕ) → Looks a x → Looks x b → from ≤ at → at < from + count → IsRead x b array now (at / 512) []
+pub row_refused : {a x b : Seen} (array : ℕ) (now : Array) (from count at : ℕ) → OnlyReads a x → OnlyReads x b → from ≤ at → at < from + count → IsRead x b array now (at / 512) []
     → (c : Array) × AreRead a b array now c × (row_at c from count ≡ None)
 row_refused {a} {x} {b} array now from count at before after starts ends is = (
   with_sector (held_on a array now) (at / 512) [],
@@ -39,7 +40,7 @@ row_refused {a} {x} {b} array now from count at before after starts ends is = (
 )
 
 -- a sector that was read is what the array holds
-held_is : {a x b : Seen} (array : ℕ) (now : Array) (sector : ℕ) (bytes : List ℕ) → Looks a x → sector < a.sectors array → 0 < length bytes → IsRead x b array now sector bytes
+held_is : {a x b : Seen} (array : ℕ) (now : Array) (sector : ℕ) (bytes : List ℕ) → OnlyReads a x → sector < a.sectors array → 0 < length bytes → IsRead x b array now sector bytes
     → held_on a array now sector ≡ bytes
 held_is {a} {x} {b} array now sector bytes before inside some is =
     elim (is.within (subst (λ n. sector < n) (sym (before.stays.sectors array)) inside)) [
@@ -48,7 +49,7 @@ held_is {a} {x} {b} array now sector bytes before inside some is =
     ]
 
 -- so a row goes on behind the bytes read from it
-pub row_on : {a x b : Seen} (array : ℕ) (now : Array) (at left piece : ℕ) (bytes front : List ℕ) → Looks a x → at + left ≤ 512 * a.sectors array → 0 < left → length bytes ≡ 512
+pub row_on : {a x b : Seen} (array : ℕ) (now : Array) (at left piece : ℕ) (bytes front : List ℕ) → OnlyReads a x → at + left ≤ 512 * a.sectors array → 0 < left → length bytes ≡ 512
     → piece ≤ left → at % 512 + piece ≤ 512 → IsRead x b array now (at / 512) bytes
     → behind front (row_at (held_on a array now) at left) ≡ behind (front ++ take piece (drop (at % 512) bytes)) (row_at (held_on a array now) (at + piece) (left - piece))
 row_on {a} {x} {b} array now at left piece bytes front before within some whole fits short is =

@@ -1,6 +1,6 @@
 -- The volume group of a pool as its arrays' contents say it, and the volume that it keeps.
 use Rattle.std.specs.Prelude.{ℕ, ◌+◌, ◌*◌, ◌^◌, ◌==◌, ◌&&◌, ◌||◌, Bool, true, false, nat_le, nat_lt, not, is_some, bytes_eq, if◌then◌else◌, List, [], ◌∷◌, length, map, Option, Some, None, option_map}
-use Rattle.std.specs.Option.{option_map_or, option_and_then}
+use Rattle.std.specs.Option.{option_map_or}
 use Rattle.std.specs.List.{find, list_all, list_any, range_with_len}
 use Rattle.rack.specs.Seen.{Image}
 use Rattle.lvm_label.specs.declared.label.Label.{Label}
@@ -13,7 +13,7 @@ use Rattle.lvm_text.specs.declared.group.Group.{Group}
 use Rattle.lvm_group.specs.declared.runs.Run.{Run}
 use Rattle.lvm_group.specs.Runs.{Linear, data_start}
 use Rattle.lvm_group.specs.Shown.{contents_of}
-use Rattle.lvm_group.specs.Ids.{group_id, pv_id, lv_id, label_id, text_id, group_name, lv_name, pv_name, array_named}
+use Rattle.lvm_group.specs.Ids.{group_id, pv_id, lv_id, label_id, text_id, group_name, lv_name, array_named}
 use Rattle.lvm_group.specs.declared.parts.Part.{Part}
 use Rattle.lvm_group.specs.Parts.{part_of, has_bad_text}
 

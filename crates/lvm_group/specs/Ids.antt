@@ -1,5 +1,5 @@
 -- The names and ids of a pool's volume group.
-use Rattle.std.specs.Prelude.{ℕ, ◌<◌, List, [], ◌∷◌, ◌++◌, take, drop, codes, decimal, Option, bytes_eq}
+use Rattle.std.specs.Prelude.{ℕ, List, ◌++◌, take, drop, codes, decimal, Option, bytes_eq}
 use Rattle.std.specs.List.{find, range_with_len}
 use Rattle.hex.specs.Hex.{encode_lower}
 use Rattle.shr_base.specs.Ids.{name_based, child_name}

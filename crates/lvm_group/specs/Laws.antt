@@ -1,12 +1,12 @@
 -- What holds of a linear volume at any moment.
-use Rattle.std.specs.Prelude.{◌≡◌, ℕ, ◌+◌, ◌*◌, ◌/◌, ◌%◌, ◌<◌, ◌≤◌, Bool, true, nat_lt, if◌then◌else◌, List, [], refl}
+use Rattle.std.specs.Prelude.{◌≡◌, ℕ, ◌/◌, ◌<◌, if◌then◌else◌, [], refl}
 use Rattle.std.proofs.Common.{sym, ap, subst, ◌∙◌, arith}
 use Rattle.std.proofs.lemmas.Bool.{lt-ltb}
 use Rattle.std.proofs.lemmas.Nat.{div_below, mod_below}
 use Rattle.rack.specs.Values.{MayLeave}
 use Rattle.rack.specs.Seen.{Image, Seen, IsLive}
 use Rattle.rack.specs.Moments.{IsSound}
-use Rattle.lvm_group.specs.Runs.{Linear, IsOrderly, place_of, extents_of, sectors_in, array_of, sector_of}
+use Rattle.lvm_group.specs.Runs.{Linear, IsOrderly, extents_of, sectors_in, array_of, sector_of}
 use Rattle.lvm_group.specs.Shown.{IsInside, contents_of, volume_of}
 
 -- a sector lies in an extent of the volume

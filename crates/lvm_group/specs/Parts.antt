@@ -3,7 +3,6 @@
 use Rattle.std.specs.Prelude.{ℕ, zero, suc, min, ◌++◌, ◌+◌, ◌-◌, ◌*◌, ◌/◌, ◌%◌, ◌==◌, ◌&&◌, Bool, nat_le, nat_lt, not, is_some, if◌then◌else◌, List, [], ◌∷◌, slice_get, Option, Some, None, option_map}
 use Rattle.std.specs.Option.{option_and_then}
 use Rattle.std.specs.Result.{result_ok}
-use Rattle.rack.specs.Seen.{Image}
 use Rattle.shr_base.specs.Crc.{lvm_crc_of}
 use Rattle.lvm_label.specs.declared.label.Area.{Area}
 use Rattle.lvm_label.specs.declared.label.Label.{Label}

@@ -1,13 +1,7 @@
 -- What reading an array gives, where sectors may be refused or spent meanwhile.
 use Rattle.std.specs.Prelude.{◌≡◌, ◌⊎◌, ℕ, ◌<◌, ◌≤◌, false, nat_lt, if◌then◌else◌, List, []}
-use Rattle.rack.specs.Seen.{Seen, Rose, Stays}
-use Rattle.rack.specs.Calls.{KeepsAll}
+use Rattle.rack.specs.Seen.{Seen, Rose}
 use Rattle.lvm_group.specs.Parts.{Array}
-
--- calls that bring no value
-pub record Looks (a b : Seen) : Type 0 where
-  pub stays : Stays a b
-  pub keeps : KeepsAll a b
 
 -- an array's current contents, told, but for sectors that are spent
 pub record IsNow (x : Seen) (array : ℕ) (now : Array) : Type 0 where

@@ -21,3 +21,6 @@ mod syncing;
 mod volume;
 
 pub use volume::Volume;
+
+#[cfg(test)]
+mod tests;

@@ -2,7 +2,8 @@
 
 ghost use Rattle.std.specs.Prelude.{◌≡◌, ◌<◌, ◌≤◌, ◌+◌, ◌^◌, IfOk, length};
 ghost use Rattle.lvm_group.specs.Parts.{Array, area_of, location_in};
-ghost use Rattle.lvm_group.specs.Reading.{IsNow, Looks};
+ghost use Rattle.rack.specs.Sequences.{OnlyReads};
+ghost use Rattle.lvm_group.specs.Reading.{IsNow};
 ghost use Rattle.lvm_group.specs.Found.{IsInArea, IsPart};
 
 use crate::reading::{read_group, read_header, read_label};
@@ -65,7 +66,7 @@ fn read_in_area<R: Rack>(
     requires fit { (R.seen rack.old).fit }
     requires array { array < (R.seen rack.old).disks }
     requires room { 262144 ≤ length into.old.bytes + into.old.spare }
-    ensures looks { Looks (R.seen rack.old) (R.seen rack.new) }
+    ensures looks { OnlyReads (R.seen rack.old) (R.seen rack.new) }
     ensures runs { R.runs rack.old rack.new }
     ensures found { IfOk result (λ found. (now : Array) → IsNow (R.seen rack.old) array now
         → IsInArea (R.seen rack.old) (R.seen rack.new) array now area found.header found.group) }
@@ -103,7 +104,7 @@ pub(crate) fn read_part<R: Rack>(
     requires fit { (R.seen rack.old).fit }
     requires array { array < (R.seen rack.old).disks }
     requires room { 262144 ≤ length into.old.bytes + into.old.spare }
-    ensures looks { Looks (R.seen rack.old) (R.seen rack.new) }
+    ensures looks { OnlyReads (R.seen rack.old) (R.seen rack.new) }
     ensures runs { R.runs rack.old rack.new }
     ensures part { IfOk result (λ part. (now : Array) → IsNow (R.seen rack.old) array now
         → IsPart (R.seen rack.old) (R.seen rack.new) array now part) }

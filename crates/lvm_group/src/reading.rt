@@ -3,7 +3,8 @@
 ghost use Rattle.std.specs.Prelude.{◌≡◌, ◌<◌, ◌≤◌, ◌+◌, ◌^◌, [], IfOk, IfSome, IsFalse, IsTrue, None, Some, length, replicate, unwrap_or};
 ghost use Rattle.std.specs.Result.{result_ok};
 ghost use Rattle.lvm_group.specs.Parts.{Array, behind, group_at, is_inside, label_on, row_at, text_at};
-ghost use Rattle.lvm_group.specs.Reading.{AreRead, IsNow, IsRead, Looks, held_on};
+ghost use Rattle.rack.specs.Sequences.{OnlyReads};
+ghost use Rattle.lvm_group.specs.Reading.{AreRead, IsNow, IsRead, held_on};
 ghost use Rattle.lvm_label.specs.Header.{header_of};
 ghost use Rattle.lvm_text.specs.Group.{group_of};
 ghost use Rattle.lvm_text.specs.Written.{Grows};
@@ -21,7 +22,7 @@ const MOST_TEXT: u64 = 262144;
 fn read_at<R: Rack>(rack: &mut R, array: u32, sector: u64) -> Option<[u8; 512]>
     requires fit { (R.seen rack.old).fit }
     requires array { array < (R.seen rack.old).disks }
-    ensures looks { Looks (R.seen rack.old) (R.seen rack.new) }
+    ensures looks { OnlyReads (R.seen rack.old) (R.seen rack.new) }
     ensures runs { R.runs rack.old rack.new }
     ensures value { (now : Array) → IsNow (R.seen rack.old) array now
         → IsRead (R.seen rack.old) (R.seen rack.new) array now sector (unwrap_or result []) }
@@ -48,7 +49,7 @@ fn or_zeros(sector: Option<[u8; 512]>) -> [u8; 512]
 pub(crate) fn read_label<R: Rack>(rack: &mut R, array: u32) -> Option<Label>
     requires fit { (R.seen rack.old).fit }
     requires array { array < (R.seen rack.old).disks }
-    ensures looks { Looks (R.seen rack.old) (R.seen rack.new) }
+    ensures looks { OnlyReads (R.seen rack.old) (R.seen rack.new) }
     ensures runs { R.runs rack.old rack.new }
     ensures value { (now : Array) → IsNow (R.seen rack.old) array now
         → (c : Array) × AreRead (R.seen rack.old) (R.seen rack.new) array now c × (result ≡ label_on c) }
@@ -70,7 +71,7 @@ pub(crate) fn read_label<R: Rack>(rack: &mut R, array: u32) -> Option<Label>
 pub(crate) fn read_header<R: Rack>(rack: &mut R, array: u32, sector: u64) -> Option<Header>
     requires fit { (R.seen rack.old).fit }
     requires array { array < (R.seen rack.old).disks }
-    ensures looks { Looks (R.seen rack.old) (R.seen rack.new) }
+    ensures looks { OnlyReads (R.seen rack.old) (R.seen rack.new) }
     ensures runs { R.runs rack.old rack.new }
     ensures value { (now : Array) → IsNow (R.seen rack.old) array now
         → (c : Array) × AreRead (R.seen rack.old) (R.seen rack.new) array now c × (result ≡ result_ok (header_of (c sector))) }
@@ -88,7 +89,7 @@ fn read_row<R: Rack>(rack: &mut R, array: u32, from: u128, count: u64, into: &mu
     requires array { array < (R.seen rack.old).disks }
     requires from { from < 2 ^ 100 }
     requires room { count ≤ into.old.spare }
-    ensures looks { Looks (R.seen rack.old) (R.seen rack.new) }
+    ensures looks { OnlyReads (R.seen rack.old) (R.seen rack.new) }
     ensures runs { R.runs rack.old rack.new }
     ensures bytes { IsTrue result → (now : Array) → IsNow (R.seen rack.old) array now
         → behind into.old.bytes (row_at (held_on (R.seen rack.old) array now) from count) ≡ Some into.new.bytes }
@@ -129,7 +130,7 @@ fn read_text<R: Rack>(
     requires fit { (R.seen rack.old).fit }
     requires array { array < (R.seen rack.old).disks }
     requires room { location.now.size ≤ length into.old.bytes + into.old.spare }
-    ensures looks { Looks (R.seen rack.old) (R.seen rack.new) }
+    ensures looks { OnlyReads (R.seen rack.old) (R.seen rack.new) }
     ensures runs { R.runs rack.old rack.new }
     ensures text { IsTrue result → (now : Array) → IsNow (R.seen rack.old) array now
         → text_at (held_on (R.seen rack.old) array now) area.now location.now ≡ Some into.new.bytes }
@@ -183,7 +184,7 @@ pub(crate) fn read_group<R: Rack>(
     requires fit { (R.seen rack.old).fit }
     requires array { array < (R.seen rack.old).disks }
     requires room { 262144 ≤ length into.old.bytes + into.old.spare }
-    ensures looks { Looks (R.seen rack.old) (R.seen rack.new) }
+    ensures looks { OnlyReads (R.seen rack.old) (R.seen rack.new) }
     ensures runs { R.runs rack.old rack.new }
     ensures group { IfOk result (λ found. (now : Array) → IsNow (R.seen rack.old) array now
         → (c : Array) × AreRead (R.seen rack.old) (R.seen rack.new) array now c × (found ≡ group_at c area.now location.now)) }

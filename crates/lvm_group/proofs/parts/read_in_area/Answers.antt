@@ -1,4 +1,4 @@
-use Rattle.std.proofs.Common.{◌≡◌, ◌∙◌, sym}
+use Rattle.std.proofs.Common.{◌∙◌, sym}
 use Rattle.lvm_group.proofs.Looking.{now_later}
 use Rattle.lvm_group.proofs.AreaRead.{no_area, odd_area, no_header_there, no_location, area_group}
 use Rattle.lvm_group.proofs.parts.read_in_area.Goals as goal

@@ -1,4 +1,4 @@
-use Rattle.std.proofs.Common.{◌≡◌, ◌∙◌, sym, ap}
+use Rattle.std.proofs.Common.{◌∙◌, sym, ap}
 use Rattle.lvm_group.specs.Parts.{area_of}
 use Rattle.lvm_group.proofs.Looking.{now_later}
 use Rattle.lvm_group.proofs.PartRead.{unlabelled, labelled}

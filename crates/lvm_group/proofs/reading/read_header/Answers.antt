@@ -1,5 +1,4 @@
-use Rattle.std.proofs.Common.{◌≡◌, ◌∙◌, List, [], Some, None, ℕ, sym, ap, subst}
-use Rattle.std.specs.Prelude.{unwrap_or}
+use Rattle.std.proofs.Common.{◌∙◌, [], sym, ap}
 use Rattle.std.specs.Result.{result_ok}
 use Rattle.lvm_group.proofs.HeaderRead.{header_read, no_header}
 use Rattle.lvm_group.proofs.reading.read_header.Goals as goal

@@ -1,11 +1,12 @@
 use Rattle.std.proofs.Common.{◌≡◌, ◌+◌, ◌*◌, ◌<◌, ◌≤◌, ◌^◌, length}
 use Rattle.lvm_group.specs.Parts.{Array, behind, row_at}
-use Rattle.lvm_group.specs.Reading.{Looks, IsNow, held_on}
+use Rattle.rack.specs.Sequences.{OnlyReads}
+use Rattle.lvm_group.specs.Reading.{IsNow, held_on}
 use Rattle.lvm_group.proofs.reading.read_row.Given as goal
 
 abbrev pub invariant-loop-left : goal.invariant-loop-left
 invariant-loop-left g l = record {
-  looks : Looks (g.R.Rack.seen l.fn.rack) (g.R.Rack.seen l.rack);
+  looks : OnlyReads (g.R.Rack.seen l.fn.rack) (g.R.Rack.seen l.rack);
   runs : g.R.Rack.runs l.fn.rack l.rack;
   starts : l.fn.from ≤ l.at;
   ends : l.at + l.left ≡ l.fn.from + l.fn.count;

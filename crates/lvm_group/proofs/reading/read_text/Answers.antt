@@ -1,8 +1,8 @@
-use Rattle.std.proofs.Common.{◌≡◌, ◌+◌, ◌-◌, ◌∙◌, ℕ, List, [], length, Some, ap, sym, subst, arith}
+use Rattle.std.proofs.Common.{◌≡◌, ◌+◌, ◌-◌, ◌∙◌, ℕ, List, length, Some, ap, subst, arith}
 use Rattle.std.specs.Prelude.{min}
 use Rattle.lvm_group.specs.Parts.{behind, row_at, before_end}
 use Rattle.lvm_group.specs.Reading.{held_on}
-use Rattle.lvm_group.proofs.Looking.{looks_same, looks_then, now_later, read_longer}
+use Rattle.lvm_group.proofs.Looking.{looks_same, now_later, read_longer}
 use Rattle.lvm_group.proofs.TextRead.{same_held, text_given, first_lacks, second_lacks}
 use Rattle.lvm_group.proofs.reading.read_text.Goals as goal
 
