@@ -7,6 +7,7 @@ pub mod Looking
 pub mod Rows
 pub mod AreaRead
 pub mod PartRead
+pub mod PartsRead
 pub mod GroupRead
 pub mod TextRead
 pub mod RowRead

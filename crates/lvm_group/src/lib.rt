@@ -10,6 +10,12 @@
 //!
 //! **The contract.** It meets `Rack` over any rack, steady or not, by that rack's contract alone. It
 //! is fit where its extents lie inside the arrays, which have fewer than 2^52 sectors together.
+//!
+//! **The group.** What arrays' contents say of their volume group, which group counts, whether it is
+//! one that the pool writes and which arrays are bad is told by specs/Parts.antt and specs/Group.antt,
+//! in the words of the codecs. Each array's part is read by exactly that, a refused sector counting as
+//! one that has no bytes. The volume of a group that the pool writes is orderly and lies inside its
+//! arrays. Making, opening and extending a volume stand on this, and aren't built yet.
 #![tactic(auto)]
 
 mod naming;

@@ -1,10 +1,10 @@
 //! What stands in an array for its group, found by reading.
 
-ghost use Rattle.std.specs.Prelude.{◌≡◌, ◌<◌, ◌≤◌, ◌+◌, ◌^◌, IfOk, length};
+ghost use Rattle.std.specs.Prelude.{◌≡◌, ◌<◌, ◌≤◌, ◌+◌, ◌++◌, ◌∷◌, ◌^◌, [], IfOk, OnOk, length};
 ghost use Rattle.lvm_group.specs.Parts.{Array, area_of, location_in};
 ghost use Rattle.rack.specs.Sequences.{OnlyReads};
 ghost use Rattle.lvm_group.specs.Reading.{IsNow};
-ghost use Rattle.lvm_group.specs.Found.{IsInArea, IsPart};
+ghost use Rattle.lvm_group.specs.Found.{AreParts, IsInArea, IsPart};
 
 use crate::reading::{read_group, read_header, read_label};
 use lvm_label::{Area, Header, Label, Location};
@@ -126,4 +126,37 @@ pub(crate) fn read_part<R: Rack>(
         header: found.header,
         group: found.group,
     })
+}
+
+/// Appends a part.
+fn append(parts: &mut Vec<Part>, part: Part) -> Result<(), NoMemory>
+    ensures { OnOk result (parts.new.items ≡ parts.old.items ++ part ∷ []) }
+{
+    match parts.push(part) {
+        Ok(()) => Ok(()),
+        Err(_) => Err(NoMemory),
+    }
+}
+
+/// Reads the parts of the first arrays, so many, by a buffer with room for the longest text.
+pub(crate) fn read_parts<R: Rack>(
+    alloc: Global,
+    rack: &mut R,
+    joined: u32,
+    into: &mut Text,
+) -> Result<Vec<Part>, NoMemory>
+    requires fit { (R.seen rack.old).fit }
+    requires joined { joined ≤ (R.seen rack.old).disks }
+    requires room { 262144 ≤ length into.old.bytes + into.old.spare }
+    ensures looks { OnlyReads (R.seen rack.old) (R.seen rack.new) }
+    ensures runs { R.runs rack.old rack.new }
+    ensures count { IfOk result (λ parts. length parts.items ≡ joined) }
+    ensures parts { IfOk result (λ parts. AreParts (R.seen rack.old) (R.seen rack.new) joined parts.items) }
+{
+    let mut parts = Vec::new(alloc);
+    for array in 0..joined {
+        let part = read_part(alloc, rack, array, into)?;
+        append(&mut parts, part)?;
+    }
+    Ok(parts)
 }
