@@ -1,0 +1,13 @@
+use Rattle.std.proofs.Common.{◌≡◌, ◌+◌, ◌≤◌, length}
+use Rattle.rack.specs.Sequences.{OnlyReads}
+use Rattle.lvm_group.specs.Found.{AreParts}
+use Rattle.lvm_group.proofs.parts.read_parts.Given as goal
+
+abbrev pub invariant-loop-array : goal.invariant-loop-array
+invariant-loop-array g l = record {
+  looks : OnlyReads (g.R.Rack.seen l.fn.rack) (g.R.Rack.seen l.rack);
+  runs : g.R.Rack.runs l.fn.rack l.rack;
+  room : 262144 ≤ length l.into.bytes + l.into.spare;
+  count : length l.parts.items ≡ l.array;
+  parts : AreParts (g.R.Rack.seen l.fn.rack) (g.R.Rack.seen l.rack) l.array l.parts.items;
+}

@@ -1,0 +1,9 @@
+use Rattle.std.proofs.Common.{Ok}
+use Rattle.lvm_group.specs.Sequences.{SyncsAll}
+use Rattle.lvm_group.proofs.syncing.sync_first.Given as goal
+
+abbrev pub invariant-loop-disk : goal.invariant-loop-disk
+invariant-loop-disk g l = record {
+  synced : SyncsAll (g.R.Rack.seen l.fn.rack) (g.R.Rack.seen l.rack) l.disk {X = Unit {0}} (Ok tt);
+  runs : g.R.Rack.runs l.fn.rack l.rack;
+}

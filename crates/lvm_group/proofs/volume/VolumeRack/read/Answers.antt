@@ -1,0 +1,13 @@
+use Rattle.lvm_group.specs.Volume.{linear}
+use Rattle.lvm_group.proofs.Below.{read_volume, unread_volume}
+use Rattle.lvm_group.proofs.volume.VolumeRack.read.Goals as goal
+
+pub returns-in-Ok-clause-reads : goal.returns-in-Ok-clause-reads
+returns-in-Ok-clause-reads g c =
+    read_volume {l = linear c.args.self.now} c.args.disk c.args.sector _ c.args.self.now.orderly c.requires.fit.1 c.requires.sector
+    (rw (← c.spot-spot.ensures.array, ← c.spot-spot.ensures.sector) c.in-Ok.ensures.reads)
+
+pub returns-in-Err-clause-reads : goal.returns-in-Err-clause-reads
+returns-in-Err-clause-reads g c =
+    unread_volume {l = linear c.args.self.now} c.args.disk c.args.sector _ c.in-Err.field-0 c.args.self.now.orderly c.requires.fit.1 c.requires.sector
+    (rw (← c.spot-spot.ensures.array, ← c.spot-spot.ensures.sector) c.in-Err.ensures.reads)

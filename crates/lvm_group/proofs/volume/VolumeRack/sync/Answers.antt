@@ -1,0 +1,11 @@
+use Rattle.lvm_group.specs.Volume.{linear}
+use Rattle.lvm_group.proofs.Below.{sync_volume, unsynced_volume}
+use Rattle.lvm_group.proofs.volume.VolumeRack.sync.Goals as goal
+
+pub returns-in-Ok-clause-syncs : goal.returns-in-Ok-clause-syncs
+returns-in-Ok-clause-syncs g c =
+    sync_volume {l = linear c.args.self.now} c.args.disk c.args.self.now.orderly c.requires.fit.1 c.in-Ok.ensures.syncs
+
+pub returns-in-Err-clause-syncs : goal.returns-in-Err-clause-syncs
+returns-in-Err-clause-syncs g c =
+    unsynced_volume {l = linear c.args.self.now} c.args.disk c.in-Err.field-0 c.args.self.now.orderly c.requires.fit.1 c.in-Err.ensures.syncs

@@ -1,0 +1,13 @@
+use Rattle.lvm_group.specs.Volume.{linear}
+use Rattle.lvm_group.proofs.Below.{write_volume, unwritten_volume}
+use Rattle.lvm_group.proofs.volume.VolumeRack.write.Goals as goal
+
+pub returns-in-Ok-clause-writes : goal.returns-in-Ok-clause-writes
+returns-in-Ok-clause-writes g c =
+    write_volume {l = linear c.args.self.now} c.args.disk c.args.sector c.args.from.now c.args.self.now.orderly c.requires.fit.1 c.requires.disk c.requires.sector
+    (rw (← c.spot-spot.ensures.array, ← c.spot-spot.ensures.sector) c.in-Ok.ensures.writes)
+
+pub returns-in-Err-clause-writes : goal.returns-in-Err-clause-writes
+returns-in-Err-clause-writes g c =
+    unwritten_volume {l = linear c.args.self.now} c.args.disk c.args.sector c.args.from.now c.in-Err.field-0 c.args.self.now.orderly c.requires.fit.1 c.requires.disk c.requires.sector
+    (rw (← c.spot-spot.ensures.array, ← c.spot-spot.ensures.sector) c.in-Err.ensures.writes)

@@ -1,0 +1,32 @@
+//! A linear volume over a rack of arrays, as LVM2 keeps one.
+//!
+//! An array is a physical volume: its sectors from 2048 on are cut into extents. A [`Volume`] is the
+//! rack of one disk whose extents are runs of the arrays' extents, one behind the other.
+//!
+//! **The model.** What the volume shows is a function of its runs and of what the rack below shows
+//! (specs/Shown.antt): a sector is the sector of its array where its extent lies (specs/Runs.antt), with
+//! its values, whether it is spent and what a stop leaves in it. No two sectors of the volume are one
+//! sector of an array.
+//!
+//! **The contract.** It meets `Rack` over any rack, steady or not, by that rack's contract alone. It
+//! is fit where its extents lie inside the arrays, which have fewer than 2^52 sectors together.
+//!
+//! **The group.** What arrays' contents say of their volume group, which group counts, whether it is
+//! one that the pool writes and which arrays are bad is told by specs/Parts.antt and specs/Group.antt,
+//! in the words of the codecs. Each array's part is read by exactly that, a refused sector counting as
+//! one that has no bytes. The volume of a group that the pool writes is orderly and lies inside its
+//! arrays. Making, opening and extending a volume stand on this, and aren't built yet.
+#![tactic(auto)]
+
+mod naming;
+mod parts;
+mod profile;
+mod reading;
+mod runs;
+mod syncing;
+mod volume;
+
+pub use volume::Volume;
+
+#[cfg(test)]
+mod tests;

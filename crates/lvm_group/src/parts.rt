@@ -1,0 +1,162 @@
+//! What stands in an array for its group, found by reading.
+
+ghost use Rattle.std.specs.Prelude.{◌≡◌, ◌<◌, ◌≤◌, ◌+◌, ◌++◌, ◌∷◌, ◌^◌, [], IfOk, OnOk, length};
+ghost use Rattle.lvm_group.specs.Parts.{Array, area_of, location_in};
+ghost use Rattle.rack.specs.Sequences.{OnlyReads};
+ghost use Rattle.lvm_group.specs.Reading.{IsNow};
+ghost use Rattle.lvm_group.specs.Found.{AreParts, IsInArea, IsPart};
+
+use crate::reading::{read_group, read_header, read_label};
+use lvm_label::{Area, Header, Label, Location};
+use lvm_text::{Group, Text};
+use rack::{NoMemory, Rack};
+use std::alloc::Global;
+
+/// Where the header stands on an array without a label.
+const OWN_HEADER_SECTOR: u64 = 8;
+
+/// An array's part of its group, each where it is valid.
+#[derive(Debug, Drop)]
+pub(crate) struct Part {
+    pub label: Option<Label>,
+    pub header: Option<Header>,
+    /// The group that the text at the header's first location says.
+    pub group: Option<Group>,
+}
+
+/// What stands in the metadata area of an array.
+#[derive(Debug, Drop)]
+struct InArea {
+    header: Option<Header>,
+    group: Option<Group>,
+}
+
+/// The first metadata area of a label, on an array of so many sectors.
+fn area_of(sectors: u64, label: &Label) -> Option<Area>
+    requires { sectors < 2 ^ 52 }
+    ensures { result ≡ area_of sectors label.now }
+{
+    let area = label.metadata.as_slice().first()?;
+    let size = if area.size == 0 {
+        (512 * sectors).saturating_sub(area.offset)
+    } else {
+        area.size
+    };
+    Some(Area {
+        offset: area.offset,
+        size,
+    })
+}
+
+/// The first location of a header.
+fn location_in(header: &Header) -> Option<Location>
+    ensures { result ≡ location_in header.now }
+{
+    header.locations.as_slice().first().copied()
+}
+
+/// Reads the header and the group in a metadata area, by a buffer with room for the longest text.
+fn read_in_area<R: Rack>(
+    alloc: Global,
+    rack: &mut R,
+    array: u32,
+    area: Option<Area>,
+    into: &mut Text,
+) -> Result<InArea, NoMemory>
+    requires fit { (R.seen rack.old).fit }
+    requires array { array < (R.seen rack.old).disks }
+    requires room { 262144 ≤ length into.old.bytes + into.old.spare }
+    ensures looks { OnlyReads (R.seen rack.old) (R.seen rack.new) }
+    ensures runs { R.runs rack.old rack.new }
+    ensures found { IfOk result (λ found. (now : Array) → IsNow (R.seen rack.old) array now
+        → IsInArea (R.seen rack.old) (R.seen rack.new) array now area found.header found.group) }
+    ensures room { length into.old.bytes + into.old.spare ≤ length into.new.bytes + into.new.spare }
+{
+    let mut found = InArea {
+        header: None,
+        group: None,
+    };
+    let Some(area) = area else {
+        return Ok(found);
+    };
+    if area.offset % 512 != 0 {
+        return Ok(found);
+    }
+    let Some(header) = read_header(rack, array, area.offset / 512) else {
+        return Ok(found);
+    };
+    let location = location_in(&header);
+    found.header = Some(header);
+    let Some(location) = location else {
+        return Ok(found);
+    };
+    found.group = read_group(alloc, rack, array, &area, &location, into)?;
+    Ok(found)
+}
+
+/// Reads an array's part, by a buffer with room for the longest text.
+pub(crate) fn read_part<R: Rack>(
+    alloc: Global,
+    rack: &mut R,
+    array: u32,
+    into: &mut Text,
+) -> Result<Part, NoMemory>
+    requires fit { (R.seen rack.old).fit }
+    requires array { array < (R.seen rack.old).disks }
+    requires room { 262144 ≤ length into.old.bytes + into.old.spare }
+    ensures looks { OnlyReads (R.seen rack.old) (R.seen rack.new) }
+    ensures runs { R.runs rack.old rack.new }
+    ensures part { IfOk result (λ part. (now : Array) → IsNow (R.seen rack.old) array now
+        → IsPart (R.seen rack.old) (R.seen rack.new) array now part) }
+    ensures room { length into.old.bytes + into.old.spare ≤ length into.new.bytes + into.new.spare }
+{
+    let sectors = rack.sectors(array);
+    let Some(label) = read_label(rack, array) else {
+        let header = read_header(rack, array, OWN_HEADER_SECTOR);
+        return Ok(Part {
+            label: None,
+            header,
+            group: None,
+        });
+    };
+    let area = area_of(sectors, &label);
+    let found = read_in_area(alloc, rack, array, area, into)?;
+    Ok(Part {
+        label: Some(label),
+        header: found.header,
+        group: found.group,
+    })
+}
+
+/// Appends a part.
+fn append(parts: &mut Vec<Part>, part: Part) -> Result<(), NoMemory>
+    ensures { OnOk result (parts.new.items ≡ parts.old.items ++ part ∷ []) }
+{
+    match parts.push(part) {
+        Ok(()) => Ok(()),
+        Err(_) => Err(NoMemory),
+    }
+}
+
+/// Reads the parts of the first arrays, so many, by a buffer with room for the longest text.
+pub(crate) fn read_parts<R: Rack>(
+    alloc: Global,
+    rack: &mut R,
+    joined: u32,
+    into: &mut Text,
+) -> Result<Vec<Part>, NoMemory>
+    requires fit { (R.seen rack.old).fit }
+    requires joined { joined ≤ (R.seen rack.old).disks }
+    requires room { 262144 ≤ length into.old.bytes + into.old.spare }
+    ensures looks { OnlyReads (R.seen rack.old) (R.seen rack.new) }
+    ensures runs { R.runs rack.old rack.new }
+    ensures count { IfOk result (λ parts. length parts.items ≡ joined) }
+    ensures parts { IfOk result (λ parts. AreParts (R.seen rack.old) (R.seen rack.new) joined parts.items) }
+{
+    let mut parts = Vec::new(alloc);
+    for array in 0..joined {
+        let part = read_part(alloc, rack, array, into)?;
+        append(&mut parts, part)?;
+    }
+    Ok(parts)
+}
