@@ -35,7 +35,6 @@ stays_volume {l} {a} {b} inside stays = record {
   steady = stays.steady;
   told = λ d told array below. stays.told array (told array below);
   traced = stays.traced;
-  lenders = stays.lenders;
 }
 
 -- stops leave in the volume what they leave in the arrays

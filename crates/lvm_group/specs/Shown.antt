@@ -36,5 +36,4 @@ volume_of l a = record {
   fit = a.fit × IsInside l a;
   told = λ disk. (array : ℕ) → array < l.arrays → a.told array;
   traced = a.traced;
-  lenders = a.lenders;
 }

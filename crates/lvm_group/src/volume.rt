@@ -31,6 +31,8 @@ impl<R: Rack> Rack for Volume<R> {
 
     ghost runs = { λ old new. R.runs old.rack new.rack };
 
+    ghost lenders = { λ volume. R.lenders volume.rack };
+
     fn disks(&self) -> u32 {
         1
     }
@@ -67,6 +69,8 @@ impl<R: Rack> Rack for Volume<R> {
     ghost runs_same = { λ volume. R.runs_same volume.rack };
 
     ghost runs_then = { λ x y z one two. R.runs_then x.rack y.rack z.rack one two };
+
+    ghost runs_lenders = { λ x y runs. R.runs_lenders x.rack y.rack runs };
 }
 
 impl<R: Rack> Volume<R> {
