@@ -11,14 +11,13 @@ use Rattle.image_text.specs.Putting.{AddsLines}
 use Rattle.shr_tool.specs.declared.status.Status.{Status}
 use Rattle.shr_tool.specs.declared.status.Status.TheVariants.{Done, Sink, Refused, Memory}
 use Rattle.shr_tool.specs.Entry.{waiting_at, sectors_in, contents_in, IsEntryImage}
-use Rattle.shr_tool.specs.Outcome.{drive_line}
 use Rattle.shr_tool.specs.Run.{Says, AttachRefused, TwiceRefused}
 
 -- the lines of an image were put, or whole lines of them and why no more came, or the sink refused one
 pub data ShowsImage (lines : List (List ℕ)) (out out' : List ℕ) (status : Status) : Type 0 where
   shown : status ≡ Done → out' ≡ out ++ concat lines → ShowsImage lines out out' status
   cut : status ≡ Sink → AddsPrefix out out' (concat lines) → ShowsImage lines out out' status
-  gone : (between : List ℕ) → AddsLines out between lines → Says Refused (drive_line 0) between out' status → ShowsImage lines out out' status
+  gone : (between : List ℕ) → AddsLines out between lines → Says Refused (refused_line (codes "drive-gone 0")) between out' status → ShowsImage lines out out' status
   no_memory : (between : List ℕ) → AddsLines out between lines → Says Memory (refused_line (codes "memory")) between out' status → ShowsImage lines out out' status
 
 -- the text of the image that waited was put, and nothing was written to a disk

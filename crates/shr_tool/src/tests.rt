@@ -17,7 +17,7 @@ use io_ends::{MemSink, MemSource, Source};
 use pool::Birth;
 use rack::{Bay, Name, Rack};
 use rack_mem::{DiskSpec, MemBay, Pick};
-use shr_script::{Command, next_line, next_line};
+use shr_script::{Command, next_line};
 use std::alloc::Global;
 use std::process::Abort;
 use std::test::Fail;

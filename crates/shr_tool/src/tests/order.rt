@@ -23,6 +23,8 @@ fn count(returned: &Cell<u64>) {
 impl<'a, R: Rack> Rack for CountingBay<'a, R> {
     ghost seen = { λ counting. R.seen counting.bay };
 
+    ghost runs = { λ old new. R.runs old.bay new.bay };
+
     fn disks(&self) -> u32 {
         self.bay.disks()
     }
@@ -50,6 +52,10 @@ impl<'a, R: Rack> Rack for CountingBay<'a, R> {
     }
 
     ghost sound = { λ counting fit traced. R.sound counting.bay fit traced };
+
+    ghost runs_same = { λ counting. R.runs_same counting.bay };
+
+    ghost runs_then = { λ x y z one two. R.runs_then x.bay y.bay z.bay one two };
 }
 
 impl<'a, R: Bay> Bay for CountingBay<'a, R> {
@@ -66,6 +72,8 @@ impl<'a, R: Bay> Bay for CountingBay<'a, R> {
     ghost lasting = { λ counting. R.lasting counting.bay };
 
     ghost bounded = { λ counting. R.bounded counting.bay };
+
+    ghost runs_shelf = { λ x y runs. R.runs_shelf x.bay y.bay runs };
 
     ghost numbered = { λ counting. R.numbered counting.bay };
 }

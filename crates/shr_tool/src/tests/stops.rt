@@ -7,7 +7,7 @@ use flat_array::FlatDisk;
 use io_ends::MemSource;
 use rack::Rack;
 use rack_mem::{MemBay, Pick};
-use shr_script::{Command, parse_line};
+use shr_script::{Command, next_line};
 use std::alloc::Global;
 use std::process::Abort;
 use std::test::Fail;
