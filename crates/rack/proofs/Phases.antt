@@ -166,7 +166,7 @@ phase_write {a} {b} went disk sector v writes =
           λ d s w live here some.
           let at = target_look disk sector d s v w some in
           let value : (appended a.held disk sector v d s).current ≡ v =
-              rw (at.0, at.1) (appended_here a.held disk sector v) in
+          rw (at.0, at.1) (appended_here a.held disk sector v) in
           (writes.done d s live).current ∙ value ∙ at.2;
     }
 

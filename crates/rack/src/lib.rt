@@ -126,6 +126,7 @@ pub trait Rack: Drop {
 
     /// No call is a run, and runs in a row are one.
     ghost runs_same: { (x : Self) → runs x x };
+
     ghost runs_then: { (x y z : Self) → runs x y → runs y z → runs x z };
 
     /// They leave the lenders as they are.

@@ -74,12 +74,12 @@ shelf_stays {a} {b} f =
       ready =
           λ name.
           let attached : is_attached b.shelf b.attached name ≡ is_attached a.shelf a.attached name =
-              attached_by_names b.shelf b.attached name
-              ∙ ap (list_any (λ n. bytes_eq n name)) f.names
-              ∙ sym (attached_by_names a.shelf a.attached name) in
+          attached_by_names b.shelf b.attached name
+          ∙ ap (list_any (λ n. bytes_eq n name)) f.names
+          ∙ sym (attached_by_names a.shelf a.attached name) in
           let waits : option_map (waiting b) (first_named b.shelf name) ≡ option_map (waiting a) (first_named a.shelf name) =
-              ap (λ g. option_map g (first_named b.shelf name)) (λ i n. waiting_same f n i)
-              ∙ ap (λ shelf. option_map (waiting a) (first_named shelf name)) f.shelf in
+          ap (λ g. option_map g (first_named b.shelf name)) (λ i n. waiting_same f n i)
+          ∙ ap (λ shelf. option_map (waiting a) (first_named shelf name)) f.shelf in
           ap (λ t. if t then None else option_map (waiting b) (first_named b.shelf name)) attached
           ∙ ap (λ o. if is_attached a.shelf a.attached name then None else o) waits;
       told = λ told. told;
