@@ -1,5 +1,5 @@
 -- The sectors of one copy, written one after the other.
-use Rattle.std.proofs.Common.{◌≡◌, ℕ, ◌+◌, ◌-◌, ◌*◌, ◌<◌, ◌≤◌, ◌⊎◌, ◌==◌, ◌&&◌, nat_le, nat_lt, true, false, List, Option, Some, None, Result, Ok, Err, OnOk, ◌≢◌, refl, sym, ap, subst, subst₂, ◌∙◌, inl, inr, ⊎_elim, arith, eqb-true, zero, suc, ◌++◌, length, take, add-one, take-add, take_all}
+use Rattle.std.proofs.Common.{◌≡◌, ℕ, ◌+◌, ◌-◌, ◌*◌, ◌<◌, ◌≤◌, ◌⊎◌, ◌==◌, ◌&&◌, nat_le, nat_lt, true, false, List, Some, Result, Ok, Err, OnOk, refl, sym, ap, subst, subst₂, ◌∙◌, inl, inr, ⊎_elim, arith, eqb-true, zero, suc, ◌++◌, length, take, add-one, take-add, take_all}
 use Rattle.gpt_table.specs.declared.Table.{Table}
 use Rattle.gpt_table.specs.declared.TableCopy.{TableCopy}
 use Rattle.gpt_table.specs.declared.TableCopy.TheVariants.{Primary, Backup}
@@ -7,7 +7,7 @@ use Rattle.gpt_table.specs.Format.{header_sector, entries_sector, IsWritten}
 use Rattle.gpt_table.specs.Disk.{Contents, IsOfCopy, HoldsCopy, joined, entries_bytes}
 use Rattle.gpt_table.proofs.Joined.{joined_more}
 use Rattle.std.proofs.lemmas.Bool.{cases_Bool, cases_lt, cases_eq, and_parts, and_from, and_right, cond-true, cond-false, eq-eqb, ne_eqb, le-leb, lt-ltb, leb-true, ltb-true}
-use Rattle.std.proofs.lemmas.Option.{cond_some, same_Some, none-some}
+use Rattle.std.proofs.lemmas.Option.{cond_some, same_Some}
 use Rattle.rack.specs.declared.Gone.{Gone}
 use Rattle.rack.specs.Values.{Values, append}
 use Rattle.rack.specs.Seen.{Seen, IsLive, Stays}
@@ -15,7 +15,7 @@ use Rattle.rack.specs.Calls.{Writes, Syncs}
 use Rattle.rack.specs.Joins.{live_first, live_second, rose_later}
 use Rattle.shr_base.specs.Blocks.{bytes_at}
 use Rattle.rack.specs.Sequences.{WritesDurably}
-use Rattle.rack.proofs.Writing.{only_none, only_quiet, only_written, only_refused, only_weaker, only_then}
+use Rattle.rack.proofs.Writing.{only_quiet, only_written, only_refused, only_weaker, only_then}
 use Rattle.rack.proofs.Durably.{durable_only}
 use Rattle.gpt_table.specs.Calls.{Plan, IsPlanned, Follows}
 use Rattle.gpt_table.specs.Plans.{sector_plan, entries_plan, copy_plan, WritesPlan, WritesSectors}

@@ -1,9 +1,7 @@
 -- What the calls of this crate do to the rack that they are given.
-use Rattle.std.specs.Prelude.{◌≡◌, ℕ, List, Result, OnOk, IfOk, IfErr, false, Option, Some, None, ◌⊎◌, ◌≢◌}
+use Rattle.std.specs.Prelude.{◌≡◌, ℕ, List, Result, OnOk, IfOk, IfErr, false, Option, Some}
 use Rattle.rack.specs.declared.Gone.{Gone}
-use Rattle.rack.specs.Seen.{Seen, Rose, Stays, IsLive}
-use Rattle.rack.specs.Values.{MayLeave, Keeps}
-use Rattle.rack.specs.Moments.{Leaves}
+use Rattle.rack.specs.Seen.{Seen, Rose}
 use Rattle.rack.specs.Sequences.{OnlyReads, WritesOnly}
 
 -- nothing was written, and some sectors, not spent at the start, were read; of a told disk the value says this

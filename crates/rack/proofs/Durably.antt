@@ -1,6 +1,6 @@
 -- A write and a sync in a row.
-use Rattle.std.proofs.Common.{◌≡◌, ◌≢◌, ◌⊎◌, ℕ, ◌==◌, ◌&&◌, List, Bool, true, false, if◌then◌else◌, Result, Ok, Err, OnOk, IfErr, refl, ap, ◌∙◌, subst, inl, inr}
-use Rattle.std.proofs.lemmas.Bool.{and_left, and_right, and_from, ne_eqb, eq-eqb, cases_eq}
+use Rattle.std.proofs.Common.{◌≡◌, ◌≢◌, ◌⊎◌, ℕ, ◌==◌, ◌&&◌, List, Bool, true, false, if◌then◌else◌, Result, Ok, Err, OnOk, IfErr, refl, ◌∙◌, subst, inl, inr}
+use Rattle.std.proofs.lemmas.Bool.{cases_eq}
 use Rattle.rack.specs.declared.Gone.{Gone}
 use Rattle.rack.specs.Values.{Values, MayLeave, Keeps, IsSingle, append}
 use Rattle.rack.specs.Seen.{Held, Seen, IsLive, IsPick, Rose, Stays, appended}

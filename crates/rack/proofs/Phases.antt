@@ -1,16 +1,16 @@
 -- Calls of a rack are phases, and phases in a row are one. These are promises to every layer above: a call's clause is joined
 -- from its phases by `phase_then`, one step a call.
-use Rattle.std.proofs.Common.{◌≡◌, ◌⊎◌, ℕ, ◌<◌, ◌≤◌, Bool, true, false, ◌==◌, ◌&&◌, ◌||◌, if◌then◌else◌, List, [], ◌∷◌, ◌++◌, Option, Some, None, Result, Ok, Err, refl, sym, ap, subst, ◌∙◌, inl, inr, eq-eqb, eqb-true}
+use Rattle.std.proofs.Common.{◌≡◌, ℕ, Bool, true, false, ◌==◌, ◌||◌, if◌then◌else◌, List, [], ◌∷◌, ◌++◌, Option, Some, None, Ok, Err, refl, sym, ap, subst, ◌∙◌, inl, inr, eq-eqb, eqb-true}
 use Rattle.std.specs.Option.{option_or}
 use Rattle.std.proofs.lemmas.Option.{none-some, cond_some}
-use Rattle.std.proofs.lemmas.Bool.{both_ways, cases_Bool, and_parts, and_from, or_parts, cond-true, cond-false}
+use Rattle.std.proofs.lemmas.Bool.{both_ways, cases_Bool, and_parts, and_from, or_parts, cond-true}
 use Rattle.rack.specs.declared.Gone.{Gone}
-use Rattle.rack.specs.Values.{MayLeave, Keeps, append}
+use Rattle.rack.specs.Values.{MayLeave}
 use Rattle.rack.specs.Seen.{Seen, IsLive, Stays, Rose, appended}
 use Rattle.rack.specs.Calls.{KeepsAll, Reads, Writes, Syncs}
 use Rattle.rack.specs.Joins.{live_first, live_second, rose_later, rose_early}
 use Rattle.rack.specs.Targets.{Target, is_at, look, target}
-use Rattle.rack.specs.Sequences.{IsPayload, WritesOnly, Phase, SyncsEach, gone_too}
+use Rattle.rack.specs.Sequences.{IsPayload, Phase, SyncsEach, gone_too}
 use Rattle.rack.proofs.Writing.{appended_here, only_none, only_quiet, only_written, only_refused, only_weaker, only_then}
 
 -- ---- lists of targets

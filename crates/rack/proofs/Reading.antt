@@ -1,7 +1,7 @@
 -- Reads in a row.
 use Rattle.std.proofs.Common.{◌≡◌, ℕ, ◌<◌, List, Result, Ok, false, sym, subst, ◌∙◌}
 use Rattle.rack.specs.declared.Gone.{Gone}
-use Rattle.rack.specs.Seen.{Seen, IsLive, IsPick}
+use Rattle.rack.specs.Seen.{Seen, IsPick}
 use Rattle.rack.specs.Calls.{Reads}
 use Rattle.rack.specs.Joins.{keeps_same, leaves_same, stays_same, stays_then, keeps_all_then}
 use Rattle.rack.specs.Sequences.{OnlyReads}

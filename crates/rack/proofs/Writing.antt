@@ -1,10 +1,9 @@
 -- Writes in a row, of which it is said what they may write and nothing of their order.
-use Rattle.std.proofs.Common.{◌≡◌, ◌≢◌, ◌⊎◌, ℕ, ◌==◌, ◌&&◌, true, false, List, Result, Ok, Err, refl, sym, ap, subst, ◌∙◌, inl, inr, eq-eqb, eqb-true}
+use Rattle.std.proofs.Common.{◌≡◌, ◌≢◌, ◌⊎◌, ℕ, ◌==◌, ◌&&◌, List, Ok, Err, refl, sym, ap, subst, inl, inr, eq-eqb, eqb-true}
 use Rattle.std.proofs.lemmas.Bool.{cases_Bool, and_parts, and_from, and_left, and_right, cond-true, cond-false, ne_eqb}
 use Rattle.rack.specs.declared.Gone.{Gone}
 use Rattle.rack.specs.Values.{Values, MayLeave, Keeps, append}
-use Rattle.rack.specs.Seen.{Image, Seen, IsLive, IsPick, Stays, appended}
-use Rattle.rack.specs.Moments.{Leaves}
+use Rattle.rack.specs.Seen.{Seen, IsLive, IsPick, Stays, appended}
 use Rattle.rack.specs.Calls.{KeepsAll, Writes}
 use Rattle.rack.specs.Joins.{keeps_same, keeps_then, leaves_same, leaves_weaker, leaves_then, stays_same, stays_then, live_first, live_second, append-may_leave}
 use Rattle.rack.specs.Sequences.{MayBecome, IsMix, WritesOnly}

@@ -1,5 +1,5 @@
 -- Calls in a row, as one: reads alone, writes of a list of targets on disks of which some go, syncs, a write made durable.
-use Rattle.std.specs.Prelude.{◌≡◌, ◌≢◌, ◌⊎◌, ℕ, Bool, true, false, ◌==◌, ◌||◌, List, [], ◌∷◌, Some, None, Result, OnOk, IfErr}
+use Rattle.std.specs.Prelude.{◌≡◌, ◌≢◌, ◌⊎◌, ℕ, Bool, true, false, ◌==◌, ◌||◌, List, [], ◌∷◌, Some, Result, OnOk, IfErr}
 use Rattle.rack.specs.declared.Gone.{Gone}
 use Rattle.rack.specs.Values.{MayLeave, Keeps, IsSingle}
 use Rattle.rack.specs.Seen.{Image, Seen, IsLive, IsPick, Rose, Stays, appended}

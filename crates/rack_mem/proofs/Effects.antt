@@ -1,5 +1,5 @@
 -- What a kept call does to a bay as a rack.
-use Rattle.std.specs.Prelude.{Option, None, ◌||◌}
+use Rattle.std.specs.Prelude.{None, ◌||◌}
 use Rattle.std.specs.Option.{option_map}
 use Rattle.std.specs.List.{list_any}
 use Rattle.std.specs.Str.{bytes_eq}
@@ -10,7 +10,7 @@ use Rattle.rack.specs.Values.{Values, MayLeave, Keeps, append, only}
 use Rattle.rack.specs.Seen.{Image, IsPick, Stays}
 use Rattle.rack.specs.Moments.{Leaves}
 use Rattle.rack.specs.Calls.{KeepsAll}
-use Rattle.rack.specs.Shelf.{KeepsShelf, Waiting}
+use Rattle.rack.specs.Shelf.{KeepsShelf}
 use Rattle.rack.specs.Joins.{keeps_same, may_leave-append}
 use Rattle.rack_mem.specs.declared.calls.Call.{Call}
 use Rattle.rack_mem.specs.declared.calls.Call.TheVariants.{Quiet, Write, Sync}
