@@ -25,6 +25,8 @@ impl<'a, R: Rack> Rack for CountingBay<'a, R> {
 
     ghost runs = { λ old new. R.runs old.bay new.bay };
 
+    ghost lenders = { λ counting. R.lenders counting.bay };
+
     fn disks(&self) -> u32 {
         self.bay.disks()
     }
@@ -56,6 +58,8 @@ impl<'a, R: Rack> Rack for CountingBay<'a, R> {
     ghost runs_same = { λ counting. R.runs_same counting.bay };
 
     ghost runs_then = { λ x y z one two. R.runs_then x.bay y.bay z.bay one two };
+
+    ghost runs_lenders = { λ x y runs. R.runs_lenders x.bay y.bay runs };
 }
 
 impl<'a, R: Bay> Bay for CountingBay<'a, R> {
