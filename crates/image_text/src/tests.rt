@@ -33,8 +33,8 @@ fn lay(rt: &impl Abort, bay: &mut MemBay, first: u64, bytes: &[u8]) -> Result<()
     let mut at = first;
     for piece in bytes.chunks(512) {
         let mut sector = [0; 512];
+        assert!(rt; piece.len() <= 512 && bay.disks() == 1 && at < bay.sectors(0));
         sector[..piece.len()].copy_from_slice(piece);
-        assert!(rt; bay.disks() == 1 && at < bay.sectors(0));
         assert_eq!(rt; bay.write(0, at, &sector), Ok(()));
         at += 1;
     }
@@ -43,6 +43,7 @@ fn lay(rt: &impl Abort, bay: &mut MemBay, first: u64, bytes: &[u8]) -> Result<()
 
 // Lays a physical volume of lvm2 on the disk, its data from this sector on.
 fn lay_volume(rt: &impl Abort, bay: &mut MemBay, start: u64, text: &[u8]) -> Result<(), Fail> {
+    assert!(rt; start < SECTORS);
     lay(rt, bay, start + 1, &LABEL)?;
     lay(rt, bay, start + 8, &HEADER)?;
     lay(rt, bay, start + 11, text)
