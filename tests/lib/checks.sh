@@ -26,10 +26,11 @@ close() {
   [ "$failed" -eq 0 ]
 }
 
-# have COMMAND PACKAGE: whether a tool is here, which Debian's package has; it is installed where it is missing.
+# have COMMAND PACKAGE: whether a tool is here, which Debian's package has; it is installed where it is missing, and said so.
 PATH=$PATH:/usr/sbin:/sbin
 have() {
   command -v "$1" >/dev/null && return
+  echo "installing Debian's $2 for $1 (apt-get)"
   install() { DEBIAN_FRONTEND=noninteractive apt-get install -y --no-install-recommends "$1"; }
   { install "$2" || { apt-get update && install "$2"; }; } >/dev/null 2>&1 </dev/null
   command -v "$1" >/dev/null
