@@ -11,7 +11,7 @@ if [ -d "$top/release" ]; then
 
   # a machine without the kit: nothing but the base system on the path, and nothing built
   mkdir copy
-  (cd "$top" && git ls-files -z | xargs -0 cp --parents -t "$folder/copy")
+  tar -C "$top" --exclude=.git --exclude=out -cf - . | tar -C copy -xf -
   without_kit() { env -i PATH=/usr/bin:/bin HOME="$HOME" "$@"; }
   expect 'the demo runs without the kit' without_kit copy/demo
   expect 'nothing was built for it' test ! -e copy/out
