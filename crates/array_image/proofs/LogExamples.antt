@@ -5,7 +5,7 @@ use Rattle.shr_base.specs.Blocks.{bytes_at, number_at, put_at}
 use Rattle.shr_base.specs.Crc.{times_x, times_x_to}
 use Rattle.pool_state.specs.Sector.{drive_at, copied_of, has_zeros, is_canonical, sum_of}
 use Rattle.array_image.specs.Foremost.{foremost}
-use Rattle.array_image.specs.Targets.{Target, look}
+use Rattle.rack.specs.Targets.{Target, look}
 use Rattle.array_image.specs.Record.{gate_of, record_of, pending_at, pending, damaged_log}
 use Rattle.array_image.specs.States.{state_in, current_places}
 use Rattle.array_image.specs.Arrays.{replayed}

@@ -16,7 +16,7 @@ use Rattle.lvm_label.specs.Header.{header_of, locations_at}
 use Rattle.lvm_text.specs.Words.{past_blanks, string_at, integer_at, item_at, body_at, value_at, first_value_at, separator_at, words_at}
 use Rattle.lvm_text.specs.Group.{found_at, name_of, number_in, number_at as text_number_at, text_in, text_at, section_in, section_at, logical_volumes, each_at, pv_at, stripe_in, kind_at, segment_at, numbered, segment_numbered, segments_at, lv_at, group_at, group_in}
 use Rattle.array_image.specs.Foremost.{foremost}
-use Rattle.array_image.specs.Targets.{look}
+use Rattle.rack.specs.Targets.{look}
 use Rattle.array_image.specs.Record.{gate_of, record_of, pending_at, pending}
 use Rattle.array_image.specs.States.{current_places}
 use Rattle.array_image.specs.Supers.{truth_in}

@@ -11,7 +11,7 @@ use Rattle.pool_state.specs.declared.contents.State.{State}
 use Rattle.pool_state.specs.Sector.{decoded}
 use Rattle.array_image.specs.Foremost.{foremost}
 use Rattle.array_image.specs.Places.{place_of, slice_of, state_sector, log_sectors, arrays_first, raid_kind}
-use Rattle.array_image.specs.Targets.{Target, put}
+use Rattle.rack.specs.Targets.{Target, put}
 use Rattle.array_image.specs.Record.{pending}
 use Rattle.array_image.specs.States.{epoch_of, current_places}
 use Rattle.pool_image.specs.Disks.{Disks, Identities, Seats, identities_of, newest, seat_of}
