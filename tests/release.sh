@@ -12,7 +12,7 @@ if [ -d "$top/release" ]; then
   # a machine without the kit: nothing but the base system on the path, and nothing built
   mkdir copy
   tar -C "$top" --exclude=.git --exclude=out -cf - . | tar -C copy -xf -
-  without_kit() { env -i PATH=/usr/bin:/bin HOME="$HOME" "$@"; }
+  without_kit() { env -i PATH=/usr/bin:/bin "$@"; }
   expect 'the demo runs without the kit' without_kit copy/demo
   expect 'nothing was built for it' test ! -e copy/out
 else

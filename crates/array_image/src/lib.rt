@@ -9,7 +9,6 @@
 //!
 //! | Module of specs/ | What it defines |
 //! |---|---|
-//! | `Targets` | sectors to be written, and contents once they are |
 //! | `Record` | gates and records of the commit log, and what is pending |
 //! | `States` | the pool's state, and its current places |
 //! | `Supers` | which superblock is valid for a place, and an array's truth |
