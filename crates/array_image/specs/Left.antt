@@ -1,13 +1,21 @@
 -- What a stop leaves on slices, and the same once the pending record is replayed.
-use Rattle.std.specs.Prelude.{◌≡◌, ◌≢◌, ◌⊎◌, ℕ, ◌+◌}
+use Rattle.std.specs.Prelude.{◌≡◌, ◌≢◌, ◌⊎◌, ℕ, ◌+◌, ◌≤◌, nat_lt, if◌then◌else◌, []}
 use Rattle.rack.specs.Values.{MayLeave}
 use Rattle.rack.specs.Seen.{Image, Seen, IsLive}
 use Rattle.array_image.specs.Places.{slice_of, log_slice, member_slice}
 use Rattle.array_image.specs.Arrays.{replayed}
 
+-- there is nothing where a slice has no sector
+abbrev pub IsInside : (ℕ → ℕ) → Image → Type 0
+IsInside sectors c = (d t : ℕ) → sectors d ≤ t → c d t ≡ []
+
+abbrev pub LogsInside : (ℕ → ℕ) → Image → Type 0
+LogsInside sectors c = (place t : ℕ) → sectors (log_slice place) ≤ t → c (log_slice place) t ≡ []
+
 -- contents that a stop now may leave
-abbrev pub Picks : Seen → Image → Type 0
-Picks x c = (d t : ℕ) → IsLive x x d t → MayLeave (x.held d t) (c d t)
+pub record Picks (x : Seen) (c : Image) : Type 0 where
+  pub picks : (d t : ℕ) → IsLive x x d t → MayLeave (x.held d t) (c d t)
+  pub inside : IsInside x.sectors c
 
 -- those once the pending record is replayed
 abbrev pub IsLeft : Seen → Image → Type 0
@@ -19,8 +27,9 @@ IsApart array d t = (slice_of d ≢ array + 1) × ((slice_of d ≢ 0) ⊎ (t ≡
 
 -- Contents whose log slices a stop now may leave, whatever stands elsewhere. Replaying goes by the log slices alone, so what is
 -- said of all such contents says which sectors have no target pending.
-abbrev pub PicksLogs : Seen → Image → Type 0
-PicksLogs x c = (place t : ℕ) → IsLive x x (log_slice place) t → MayLeave (x.held (log_slice place) t) (c (log_slice place) t)
+pub record PicksLogs (x : Seen) (c : Image) : Type 0 where
+  pub picks : (place t : ℕ) → IsLive x x (log_slice place) t → MayLeave (x.held (log_slice place) t) (c (log_slice place) t)
+  pub inside : LogsInside x.sectors c
 
 -- nothing is pending outside an array's slices
 abbrev pub IsCalm : ℕ → Seen → Type 0
@@ -29,3 +38,7 @@ IsCalm array x = (c : Image) → PicksLogs x c → (d t : ℕ) → IsApart array
 -- nothing is pending in them
 abbrev pub IsClosed : ℕ → Seen → Type 0
 IsClosed array x = (c : Image) → PicksLogs x c → (place t : ℕ) → replayed x.sectors c (member_slice place array) t ≡ c (member_slice place array) t
+
+-- the contents as they read now
+abbrev pub reading : Seen → Image
+reading x d t = if nat_lt t (x.sectors d) then (x.held d t).current else []
