@@ -1,5 +1,5 @@
 -- The replay of a pending record at the pool that is written out, and its meaning.
-use Rattle.std.specs.Prelude.{◌≡◌, ℕ, List, [], ◌∷◌, map, replicate, codes, Some, None, option_map, refl}
+use Rattle.std.specs.Prelude.{◌≡◌, ℕ, ◌==◌, nat_lt, if◌then◌else◌, List, [], ◌∷◌, map, replicate, codes, Some, None, option_map, refl}
 use Rattle.std.specs.Fmt.{digits}
 use Rattle.rack.specs.Seen.{Image}
 use Rattle.sha1.specs.Sha1.{sha1, first_words, schedule, rounds, compress, hash_after, digest_bytes}
@@ -97,3 +97,36 @@ state_head = sector (from_hex (codes "534852424f445931000e3794010000000100000000
 no_state : refusal_of disks (but 0 2049 open_gate (but 1 2049 open_gate (but 2 2049 open_gate (but 0 6148 state_head (but 0 6244 (replicate 512 9) pool))))) ≡ Some (damaged 1 in_state)
 unfolding digits sha1 first_words schedule rounds compress hash_after digest_bytes bytes_at number_at put_at times_x times_x_to entries_bytes slice_of entries_of fields_of super_sum drive_at copied_of has_zeros is_canonical sum_of member_of parity_of row_of column_of sector_of xor xor_all label_of label_in areas_at fields_at header_of locations_at past_blanks string_at integer_at item_at body_at value_at first_value_at separator_at words_at found_at name_of number_in text_number_at text_in text_at section_in section_at logical_volumes each_at pv_at stripe_in kind_at segment_at numbered segment_numbered segments_at lv_at group_at group_in foremost look gate_of record_of pending_at pending current_places truth_in there at_position given shape_by value_by seat_of extents_below extent_by standing found first_of extent_of slices_of part_of the_group_in is_bad place_by extent_at volumes_in damage_of refused_by refusal_of meaning lib.Count.ones digit from_hex sector the_text chunk drive pool disks but header_0 entries_0 state_0 super_0 header_1 entries_1 state_1 super_1 header_2 entries_2 state_2 super_2 gate label text_header open_gate loss_head marked_0 marked_2 loss write_head written show state_head
 no_state = refl
+
+-- record 1: a state whose first two drives are two disks of 5000 sectors, which have no whole log slice
+unfoldable short_head : List ℕ
+short_head = sector (from_hex (codes "534852424f445931e662f9e80200000001000000000000000000000000000000000000000000000000000000000000000000000000000000000000000000000000000000000000000000000011"))
+
+unfoldable short_state_0 : List ℕ
+short_state_0 = sector (from_hex (codes "534852504f4f4c31010000008586af260102030405060708090a0b0c0d0e0f10020000000000000080000000030000000101000000000000050000000000000070e426e8404352f28ad2bb59091b1f5e0a00000000000000000000006c06498fa16e555db7d864c7965e0c880a0000000000000000000000715cd857cc9451279f27ddc76d824b7e14"))
+
+unfoldable short_state_1 : List ℕ
+short_state_1 = sector (from_hex (codes "534852504f4f4c3101000000a6a96b0d0102030405060708090a0b0c0d0e0f10020000000000000080000000030100000101000000000000050000000000000070e426e8404352f28ad2bb59091b1f5e0a00000000000000000000006c06498fa16e555db7d864c7965e0c880a0000000000000000000000715cd857cc9451279f27ddc76d824b7e14"))
+
+unfoldable short_header_3 : List ℕ
+short_header_3 = sector (from_hex (codes "4546492050415254000001005c000000a21dd776000000000100000000000000871300000000000022000000000000006613000000000000e826e4704340f2528ad2bb59091b1f5e0200000000000000800000008000000030a4b0d0"))
+
+unfoldable short_entries_3 : List ℕ
+short_entries_3 = sector (from_hex (codes "523c1f6b849d0a4ea7c152e8d03f9b76db554e8559179d5c9a76b3799a9faa3600080000000000002413"))
+
+unfoldable short_header_4 : List ℕ
+short_header_4 = sector (from_hex (codes "4546492050415254000001005c0000006b9173e30000000001000000000000008713000000000000220000000000000066130000000000008f49066c6ea15d55b7d864c7965e0c8802000000000000008000000080000000b4a7fff0"))
+
+unfoldable short_entries_4 : List ℕ
+short_entries_4 = sector (from_hex (codes "523c1f6b849d0a4ea7c152e8d03f9b76d2a5336753cfb251a3719f45e95369ea00080000000000002413"))
+
+unfoldable shorts : Image
+shorts d =
+    if d == 3 then drive short_header_3 short_entries_3 (replicate 512 0) (replicate 512 0) (λ x. replicate 512 0)
+    else if d == 4 then drive short_header_4 short_entries_4 (replicate 512 0) (replicate 512 0) (λ x. replicate 512 0)
+    else but 0 2049 open_gate (but 1 2049 open_gate (but 2 2049 open_gate (but 0 6148 short_head (but 0 6244 short_state_0 (but 0 6245 short_state_1 pool))))) d
+
+-- its targets are passed over, so the state before it stands
+short_disks : option_map {U = ℕ × List (List ℕ)} (λ f. (f.state.epoch, map (λ d. f.contents d 2048) (3 ∷ 4 ∷ []))) (found (record { count = 5; sectors = λ d. if nat_lt 2 d then 5000 else if d == 2 then 80384 else 79104 }) shorts) ≡ Some (1, (replicate 512 0) ∷ (replicate 512 0) ∷ [])
+unfolding digits sha1 first_words schedule rounds compress hash_after digest_bytes bytes_at number_at put_at times_x times_x_to entries_bytes slice_of entries_of fields_of super_sum drive_at copied_of has_zeros is_canonical sum_of member_of parity_of row_of column_of sector_of xor xor_all label_of label_in areas_at fields_at header_of locations_at past_blanks string_at integer_at item_at body_at value_at first_value_at separator_at words_at found_at name_of number_in text_number_at text_in text_at section_in section_at logical_volumes each_at pv_at stripe_in kind_at segment_at numbered segment_numbered segments_at lv_at group_at group_in foremost look gate_of record_of pending_at pending current_places truth_in there at_position given shape_by value_by seat_of extents_below extent_by standing found first_of extent_of slices_of part_of the_group_in is_bad place_by extent_at volumes_in damage_of refused_by refusal_of meaning lib.Count.ones digit from_hex sector the_text chunk drive pool disks but header_0 entries_0 state_0 super_0 header_1 entries_1 state_1 super_1 header_2 entries_2 state_2 super_2 gate label text_header open_gate loss_head marked_0 marked_2 loss short_header_3 short_entries_3 short_header_4 short_entries_4 short_head short_state_0 short_state_1 shorts
+short_disks = refl
