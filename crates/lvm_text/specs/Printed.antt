@@ -50,6 +50,10 @@ unfoldable pub stripes_line : SegmentKind → List ℕ
 stripes_line (kind.Linear pv first) = codes "stripes = [\"" ++ pv ++ codes "\", " ++ decimal first ++ codes "]\n"
 stripes_line kind.Other = []
 
+-- on one physical volume, from this extent on
+abbrev pub linear : List ℕ → ℕ → SegmentKind
+linear pv first = kind.Linear pv first
+
 -- a segment under its number
 unfoldable pub segment_text : ℕ → Segment → List ℕ
 segment_text number segment =
@@ -66,6 +70,10 @@ segments_text number (segment ∷ segments) = segment_text number segment ++ seg
 -- it is seen, and may be read and written
 abbrev pub lv_marks : List ℕ
 lv_marks = codes "status = [\"READ\", \"WRITE\", \"VISIBLE\"]\nflags = []\n"
+
+-- what stands before the segments of so many
+unfoldable pub lv_head : List ℕ → List ℕ → ℕ → List ℕ
+lv_head name id segments = opening name ++ text_line (codes "id") id ++ lv_marks ++ number_line (codes "segment_count") segments
 
 unfoldable pub lv_text : Lv → List ℕ
 lv_text lv =
@@ -91,6 +99,10 @@ unfoldable pub group_head : Group → List ℕ
 group_head group =
     opening group.name ++ text_line (codes "id") group.id ++ number_line (codes "seqno") group.seqno ++ group_marks
     ++ number_line (codes "extent_size") group.extent_size ++ group_limits
+
+-- a group of this name, id, number and size of an extent, before its volumes are told
+abbrev pub bare_group : List ℕ → List ℕ → ℕ → ℕ → Group
+bare_group name id seqno extent_size = record { name = name; id = id; seqno = seqno; extent_size = extent_size; pvs = []; lvs = [] }
 
 -- the whole text
 unfoldable pub printed : Group → List ℕ

@@ -25,7 +25,7 @@ mod walk;
 mod words;
 
 pub use group::{Group, Key, Lv, Lvs, Pv, Pvs, Segment, SegmentKind, Segments, TextFault};
-pub use printer::print;
+pub use printer::{print, print_group_head, print_lv_head, print_pv, print_segment};
 pub use text::Text;
 pub use walk::parse;
 

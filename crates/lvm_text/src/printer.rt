@@ -5,15 +5,16 @@ ghost use Rattle.lvm_text.specs.Printed.{
   IsId,
   IsName,
   IsPrintable,
-  IsPrintableKind,
   IsPrintableLv,
   IsPrintablePv,
   IsPrintableSegment,
-  KindInRange,
   LvInRange,
   PvInRange,
   SegmentInRange,
+  bare_group,
   group_head,
+  linear,
+  lv_head,
   lv_text,
   number_line,
   opening,
@@ -81,8 +82,34 @@ fn opening(name: &[u8], into: &mut Text)
     into.append(b" {\n");
 }
 
-/// A physical volume's section.
+/// Appends the section of a physical volume: name and id, its sectors, the sector of its first extent and
+/// how many extents it has.
 #[tactic(auto, unfolding(crate::specs::Printed::pv_text))]
+pub fn print_pv(
+    name: &[u8],
+    id: &[u8],
+    dev_size: u64,
+    pe_start: u64,
+    pe_count: u64,
+    into: &mut Text,
+)
+    requires printable { IsName name.now × IsId id.now }
+    requires room { 256 ≤ into.old.spare }
+    ensures text { into.new.bytes ≡ into.old.bytes
+        ++ pv_text (record { name = name.now; id = id.now; dev_size = dev_size; pe_start = pe_start; pe_count = pe_count }) }
+    ensures growth { Grows into.old into.new 256 }
+    ensures range { (dev_size < 2 ^ 64) × (pe_start < 2 ^ 64) × (pe_count < 2 ^ 64) }
+{
+    opening(name, into);
+    text_line(b"id", id, into);
+    into.append(b"device = \"unknown\"\nstatus = [\"ALLOCATABLE\"]\nflags = []\n");
+    number_line(b"dev_size", dev_size, into);
+    number_line(b"pe_start", pe_start, into);
+    number_line(b"pe_count", pe_count, into);
+    into.append(b"}\n");
+}
+
+/// A physical volume's section.
 fn pv(pv: &Pv, into: &mut Text)
     requires printable { IsPrintablePv pv.now }
     requires room { 256 ≤ into.old.spare }
@@ -90,13 +117,14 @@ fn pv(pv: &Pv, into: &mut Text)
     ensures growth { Grows into.old into.new 256 }
     ensures range { PvInRange pv.now }
 {
-    opening(pv.name.bytes(), into);
-    text_line(b"id", pv.id.bytes(), into);
-    into.append(b"device = \"unknown\"\nstatus = [\"ALLOCATABLE\"]\nflags = []\n");
-    number_line(b"dev_size", pv.dev_size, into);
-    number_line(b"pe_start", pv.pe_start, into);
-    number_line(b"pe_count", pv.pe_count, into);
-    into.append(b"}\n");
+    print_pv(
+        pv.name.bytes(),
+        pv.id.bytes(),
+        pv.dev_size,
+        pv.pe_start,
+        pv.pe_count,
+        into,
+    );
 }
 
 /// The sections of physical volumes.
@@ -114,25 +142,20 @@ fn pvs(pvs: &Pvs, into: &mut Text)
     }
 }
 
-/// Where a segment's extents lie.
+/// Where a linear segment's extents lie.
 #[tactic(auto, unfolding(crate::specs::Printed::stripes_line))]
-fn stripes_line(kind: &SegmentKind, into: &mut Text)
-    requires printable { IsPrintableKind kind.now }
+fn stripes_line(pv: &[u8], first: u64, into: &mut Text)
+    requires printable { IsName pv.now }
     requires room { 72 ≤ into.old.spare }
-    ensures text { into.new.bytes ≡ into.old.bytes ++ stripes_line kind.now }
+    ensures text { into.new.bytes ≡ into.old.bytes ++ stripes_line (linear pv.now first) }
     ensures growth { Grows into.old into.new 72 }
-    ensures range { KindInRange kind.now }
+    ensures range { first < 2 ^ 64 }
 {
-    match kind {
-        SegmentKind::Linear { pv, first } => {
-            into.append(b"stripes = [\"");
-            into.append(pv.bytes());
-            into.append(b"\", ");
-            digits(*first, into);
-            into.append(b"]\n");
-        }
-        SegmentKind::Other => {}
-    }
+    into.append(b"stripes = [\"");
+    into.append(pv);
+    into.append(b"\", ");
+    digits(first, into);
+    into.append(b"]\n");
 }
 
 /// Where a segment's section begins.
@@ -147,8 +170,25 @@ fn segment_opening(number: u64, into: &mut Text)
     into.append(b" {\n");
 }
 
-/// A segment's section.
+/// Appends the section of a linear segment: the extents of a logical volume from `start` on, which lie on
+/// a physical volume from its extent `first` on.
 #[tactic(auto, unfolding(crate::specs::Printed::segment_text))]
+pub fn print_segment(number: u64, start: u64, count: u64, pv: &[u8], first: u64, into: &mut Text)
+    requires printable { IsName pv.now }
+    requires room { 224 ≤ into.old.spare }
+    ensures text { into.new.bytes ≡ into.old.bytes ++ segment_text number (record { start = start; count = count; kind = linear pv.now first }) }
+    ensures growth { Grows into.old into.new 224 }
+    ensures range { (start < 2 ^ 64) × (count < 2 ^ 64) × (first < 2 ^ 64) }
+{
+    segment_opening(number, into);
+    number_line(b"start_extent", start, into);
+    number_line(b"extent_count", count, into);
+    into.append(b"type = \"striped\"\nstripe_count = 1\n");
+    stripes_line(pv, first, into);
+    into.append(b"}\n");
+}
+
+/// A segment's section.
 fn segment(number: u64, segment: &Segment, into: &mut Text)
     requires printable { IsPrintableSegment segment.now }
     requires room { 224 ≤ into.old.spare }
@@ -156,12 +196,19 @@ fn segment(number: u64, segment: &Segment, into: &mut Text)
     ensures growth { Grows into.old into.new 224 }
     ensures range { SegmentInRange segment.now }
 {
-    segment_opening(number, into);
-    number_line(b"start_extent", segment.start, into);
-    number_line(b"extent_count", segment.count, into);
-    into.append(b"type = \"striped\"\nstripe_count = 1\n");
-    stripes_line(&segment.kind, into);
-    into.append(b"}\n");
+    match &segment.kind {
+        SegmentKind::Linear { pv, first } => {
+            print_segment(
+                number,
+                segment.start,
+                segment.count,
+                pv.bytes(),
+                *first,
+                into,
+            );
+        }
+        SegmentKind::Other => {}
+    }
 }
 
 /// The sections of segments.
@@ -182,6 +229,20 @@ fn segments(segments: &Segments, into: &mut Text)
     }
 }
 
+/// Appends what stands before the segments of a logical volume of so many.
+#[tactic(auto, unfolding(crate::specs::Printed::lv_head))]
+pub fn print_lv_head(name: &[u8], id: &[u8], segment_count: u64, into: &mut Text)
+    requires printable { IsName name.now × IsId id.now }
+    requires room { 254 ≤ into.old.spare }
+    ensures text { into.new.bytes ≡ into.old.bytes ++ lv_head name.now id.now segment_count }
+    ensures growth { Grows into.old into.new 254 }
+{
+    opening(name, into);
+    text_line(b"id", id, into);
+    into.append(b"status = [\"READ\", \"WRITE\", \"VISIBLE\"]\nflags = []\n");
+    number_line(b"segment_count", segment_count, into);
+}
+
 /// A logical volume's section.
 #[tactic(auto, unfolding(crate::specs::Printed::lv_text))]
 fn lv(lv: &Lv, into: &mut Text)
@@ -191,10 +252,12 @@ fn lv(lv: &Lv, into: &mut Text)
     ensures growth { Grows into.old into.new (256 + 224 * length lv.now.segments) }
     ensures range { LvInRange lv.now }
 {
-    opening(lv.name.bytes(), into);
-    text_line(b"id", lv.id.bytes(), into);
-    into.append(b"status = [\"READ\", \"WRITE\", \"VISIBLE\"]\nflags = []\n");
-    number_line(b"segment_count", lv.segments.as_slice().len() as u64, into);
+    print_lv_head(
+        lv.name.bytes(),
+        lv.id.bytes(),
+        lv.segments.as_slice().len() as u64,
+        into,
+    );
     segments(&lv.segments, into);
     into.append(b"}\n");
 }
@@ -215,20 +278,20 @@ fn lvs(lvs: &Lvs, into: &mut Text)
     }
 }
 
-/// What stands before the volumes.
+/// Appends what stands before the volumes of a group of this name, id, number and sectors of an extent.
 #[tactic(auto, unfolding(crate::specs::Printed::group_head))]
-fn group_head(group: &Group, into: &mut Text)
-    requires printable { IsPrintable group.now }
+pub fn print_group_head(name: &[u8], id: &[u8], seqno: u64, extent_size: u64, into: &mut Text)
+    requires printable { IsName name.now × IsId id.now }
     requires room { 512 ≤ into.old.spare }
-    ensures text { into.new.bytes ≡ into.old.bytes ++ group_head group.now }
+    ensures text { into.new.bytes ≡ into.old.bytes ++ group_head (bare_group name.now id.now seqno extent_size) }
     ensures growth { Grows into.old into.new 512 }
-    ensures range { (group.now.seqno < 2 ^ 64) × (group.now.extent_size < 2 ^ 64) }
+    ensures range { (seqno < 2 ^ 64) × (extent_size < 2 ^ 64) }
 {
-    opening(group.name.bytes(), into);
-    text_line(b"id", group.id.bytes(), into);
-    number_line(b"seqno", group.seqno, into);
+    opening(name, into);
+    text_line(b"id", id, into);
+    number_line(b"seqno", seqno, into);
     into.append(b"format = \"lvm2\"\nstatus = [\"RESIZEABLE\", \"READ\", \"WRITE\"]\nflags = []\n");
-    number_line(b"extent_size", group.extent_size, into);
+    number_line(b"extent_size", extent_size, into);
     into.append(b"max_lv = 0\nmax_pv = 0\nmetadata_copies = 0\n");
 }
 
@@ -242,7 +305,13 @@ pub fn print(group: &Group, into: &mut Text)
     ensures room { length into.old.bytes + into.old.spare ≤ length into.new.bytes + into.new.spare }
     ensures read_back { group_of (printed group.now) ≡ Ok group.now }
 {
-    group_head(group, into);
+    print_group_head(
+        group.name.bytes(),
+        group.id.bytes(),
+        group.seqno,
+        group.extent_size,
+        into,
+    );
     opening(b"physical_volumes", into);
     pvs(&group.pvs, into);
     into.append(b"}\n");

@@ -1,6 +1,6 @@
 use Rattle.std.proofs.Common.{append_assoc}
 use Rattle.lvm_text.specs.Printed.{segment_text}
-use Rattle.lvm_text.proofs.printer.segment.Goals as goal
+use Rattle.lvm_text.proofs.printer.print_segment.Goals as goal
 
 pub returns-clause-text : goal.returns-clause-text
 unfolding segment_text
