@@ -14,7 +14,7 @@ use Rattle.lvm_group.specs.Laws.{extent_below, array_below, live_below, shows}
 use Rattle.lvm_group.proofs.Totals.{total_grows, total_rose, total_same}
 
 -- the extents still lie inside
-inside_still : {l : Linear} {a b : Seen} → Stays a b → IsInside l a → IsInside l b
+pub inside_still : {l : Linear} {a b : Seen} → Stays a b → IsInside l a → IsInside l b
 inside_still {l} {a} {b} stays inside = record {
   small = rw (stays.disks, total_same a.sectors b.sectors a.disks stays.sectors) inside.small;
   arrays = subst (λ n. l.arrays ≤ n) (sym stays.disks) inside.arrays;

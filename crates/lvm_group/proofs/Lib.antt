@@ -1,3 +1,14 @@
+pub mod NewVolume
+pub mod NewTargets
+pub mod Written
+pub mod TextStands
+pub mod Filling
+pub mod Putting
+pub mod Assembled
+pub mod IdText
+pub mod GrownRuns
+pub mod OwnText
+pub mod Grown
 pub mod Totals
 pub mod Found
 pub mod Below

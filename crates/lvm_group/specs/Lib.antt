@@ -1,4 +1,7 @@
 pub mod Runs
+pub mod Growth
+pub mod Own
+pub mod Writing
 pub mod Shown
 pub mod Sequences
 pub mod Laws
@@ -8,3 +11,4 @@ pub mod Parts
 pub mod Reading
 pub mod Found
 pub mod Group
+pub mod Made

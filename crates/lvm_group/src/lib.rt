@@ -15,18 +15,27 @@
 //! one that the pool writes and which arrays are bad is told by specs/Parts.antt and specs/Group.antt,
 //! in the words of the codecs. Each array's part is read by exactly that, a refused sector counting as
 //! one that has no bytes. The volume of a group that the pool writes is orderly and lies inside its
-//! arrays. Making, opening and extending a volume stand on this, and aren't built yet.
+//! arrays.
+//!
+//! **Making.** [`Volume::create`] writes labels, headers and the group's text on the arrays; each is durable
+//! before a header has the text. Whatever a stop leaves after it means that group and that volume, and no
+//! array is bad (specs/Made.antt). Whether a volume can be extended and the runs that it then has are told by
+//! specs/Growth.antt. Opening a volume and writing an extended one stand on this, and aren't built yet.
 #![tactic(auto)]
 
+mod growth;
+mod making;
 mod naming;
 mod parts;
+mod printing;
 mod profile;
 mod reading;
 mod runs;
 mod syncing;
 mod volume;
+mod writing;
 
-pub use volume::Volume;
+pub use volume::{Volume, VolumeFault};
 
 #[cfg(test)]
 mod tests;

@@ -2,6 +2,8 @@
 
 ghost use Rattle.std.specs.Prelude.{◌≡◌, ◌≤◌, ◌+◌, ◌++◌, length};
 ghost use Rattle.arrayvec.specs.ArrayVec.{array_vec_len};
+ghost use Rattle.hex.specs.Hex.{encode_lower};
+ghost use Rattle.lvm_text.specs.Printed.{IsId};
 ghost use Rattle.lvm_group.specs.Ids.{array_named, parted, pv_name, text_id};
 
 use arrayvec::ArrayVec;
@@ -41,14 +43,25 @@ pub(crate) fn array_named(name: &[u8]) -> Option<u32>
 
 /// An id in groups of 6, 4, 4, 4, 4, 4 and 6 digits parted by `-`.
 pub(crate) fn text_id(id: &Id) -> ArrayVec<u8, 64>
-    ensures { result.items ≡ text_id id.now.0 }
+    ensures text { result.items ≡ text_id id.now.0 }
+    ensures is_id { IsId result.items }
 {
-    parted(&lvm_id(id))
+    spelled(&id.0, &lvm_id(id))
+}
+
+/// The digits of an id's bytes in groups.
+fn spelled(bytes: &[u8; 16], digits: &[u8; 32]) -> ArrayVec<u8, 64>
+    requires { digits.now ≡ encode_lower bytes.now }
+    ensures text { result.items ≡ parted digits.now }
+    ensures is_id { IsId result.items }
+{
+    parted(digits)
 }
 
 #[tactic(auto, unfolding(crate::specs::Ids::parted))]
 fn parted(digits: &[u8; 32]) -> ArrayVec<u8, 64>
-    ensures { result.items ≡ parted digits.now }
+    ensures text { result.items ≡ parted digits.now }
+    ensures long { length result.items ≡ 38 }
 {
     let mut text = ArrayVec::new();
     append(&mut text, &digits[0..6]);

@@ -30,7 +30,7 @@ use shr_base::{Id, child_id};
 use std::alloc::Global;
 
 /// At most so many segments.
-const MOST_SEGMENTS: usize = 1024;
+pub(crate) const MOST_SEGMENTS: usize = 1024;
 
 /// The run of a segment, where it is linear on an array's physical volume.
 fn run_in(segment: &Segment) -> Option<Run>

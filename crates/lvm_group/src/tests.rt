@@ -1,10 +1,13 @@
 //! Tests of what no clause says: that the bytes which lvm2 2.03.16 wrote are read, also where a text goes
-//! on behind its header, and that faults are no part of a group.
+//! on behind its header, that faults are no part of a group, and that a volume is made where there is memory.
 
 ghost use Rattle.std.specs.Prelude.{◌<◌};
 
+use crate::growth::fits;
 use crate::naming::{array_named, pv_name, text_id};
 use crate::parts::{Part, read_part};
+use crate::runs::Run;
+use crate::volume::Volume;
 use arrayvec::ArrayVec;
 use lvm_label::{Area, Header, Label, Location, encode_header, encode_label};
 use lvm_text::Text;
@@ -136,4 +139,86 @@ fn names_and_ids_are_spelled(rt: HostRuntime) {
     assert_eq!(rt; array_named(b"pv16"), None);
     let id = text_id(&Id([0x5a; 16]));
     assert!(rt; id.as_slice() == b"5a5a5a-5a5a-5a5a-5a5a-5a5a-5a5a-5a5a5a".as_slice());
+}
+
+// Runs of one extent each, in turn on two arrays.
+fn turns(rt: &impl Abort, alloc: Global, count: u64) -> Result<Vec<Run>, Fail> {
+    let mut runs = Vec::new(alloc);
+    for start in 0..count {
+        runs.push(Run {
+            start,
+            count: 1,
+            array: (start % 2) as u32,
+            first: start / 2,
+        })?;
+    }
+    assert!(rt; runs.len() <= 1024);
+    Ok(runs)
+}
+
+#[test]
+fn no_more_segments_than_a_text_has(rt: HostRuntime) -> Result<(), Fail> {
+    let runs = turns(&rt, rt.alloc(), 1024)?;
+    assert!(rt; runs.len() <= 1024);
+    assert!(rt; fits(runs.as_slice(), &[512, 512]));
+    // the last run is longer
+    assert!(rt; fits(runs.as_slice(), &[512, 600]));
+    assert!(rt; !fits(runs.as_slice(), &[513, 512]));
+    assert!(rt; !fits(runs.as_slice(), &[512, 511]));
+    assert!(rt; !fits(runs.as_slice(), &[512]));
+    let fewer = turns(&rt, rt.alloc(), 1023)?;
+    assert!(rt; fewer.len() <= 1024);
+    assert!(rt; fits(fewer.as_slice(), &[512, 512]));
+    assert!(rt; !fits(fewer.as_slice(), &[512, 512, 1, 1]));
+    Ok(())
+}
+
+// A bay with two attached disks.
+fn two_arrays(rt: &impl Abort, alloc: Global) -> Result<MemBay, Fail> {
+    let mut shelf = Vec::new(alloc);
+    let name = Name::of(alloc, b"a")?;
+    shelf.push(DiskSpec {
+        name,
+        sectors: 6656,
+    })?;
+    let name = Name::of(alloc, b"b")?;
+    shelf.push(DiskSpec {
+        name,
+        sectors: 3328,
+    })?;
+    assert!(rt; shelf.len() == 2 && shelf.iter().all(|disk| disk.sectors < 1 << 48));
+    let mut bay = MemBay::new(alloc, shelf, Vec::new(alloc), 999)?;
+    assert_eq!(rt; bay.attach("a"), Ok(0));
+    assert_eq!(rt; bay.attach("b"), Ok(1));
+    Ok(bay)
+}
+
+// A volume of 20 extents of one array and 10 of another.
+fn two_runs(rt: &impl Abort, alloc: Global) -> Result<Volume<MemBay>, Fail> {
+    let bay = two_arrays(rt, alloc)?;
+    assert!(rt; bay.disks() == 2);
+    assert!(rt; bay.sectors(0) == 6656);
+    assert!(rt; bay.sectors(1) == 3328);
+    Ok(
+        Volume::create(alloc, bay, &Id([7; 16]), 128, &[20, 10])
+            .ok()
+            .expect(rt, "a volume"),
+    )
+}
+
+#[test]
+fn a_made_group_is_read(rt: HostRuntime) -> Result<(), Fail> {
+    let mut volume = two_runs(&rt, rt.alloc())?;
+    assert_eq!(rt; volume.extents(), 30);
+    assert!(rt; volume.fits(&[20, 10]) && volume.fits(&[30, 10, 5]) && !volume.fits(&[20, 9]));
+    let bay = volume.inner();
+    let part = part_on(&rt, rt.alloc(), bay)?;
+    let label = part.label.expect(&rt, "a label");
+    assert_eq!(rt; label.device_size, 6656 * 512);
+    let group = part.group.expect(&rt, "a group");
+    assert!(rt; group.name.bytes() == b"vg1000".as_slice());
+    assert_eq!(rt; group.seqno, 1);
+    assert_eq!(rt; group.pvs.as_slice().len(), 2);
+    assert_eq!(rt; group.lvs.as_slice().len(), 1);
+    Ok(())
 }

@@ -1,13 +1,29 @@
 //! The volume.
 
-ghost use Rattle.std.specs.Prelude.{◌≡◌};
+ghost use Rattle.std.specs.Prelude.{◌≡◌, ◌≤◌, length};
 ghost use Rattle.lvm_group.specs.Runs.{IsOrderly, extents_of};
 ghost use Rattle.lvm_group.specs.Shown.{IsInside, volume_of};
 ghost use Rattle.lvm_group.specs.Laws.{is_sound};
 
+use crate::growth::fits;
+use crate::making::{extents_in, make, take_room};
 use crate::runs::{Run, Spot, spot_with};
 use crate::syncing::sync_first;
-use rack::{Gone, Rack};
+use rack::{Back, Gone, Rack};
+use shr_base::Id;
+use std::alloc::Global;
+
+/// Why a volume can't be made or opened.
+#[derive(Clone, Copy, Debug, PartialEq, Eq)]
+pub enum VolumeFault {
+    /// An array's part of the group is bad, or the array refused a call.
+    BadVolume {
+        /// The number of the array.
+        array: u32,
+    },
+    /// No memory; nothing was called.
+    Memory,
+}
 
 /// A linear volume over arrays: a rack of one disk.
 #[derive(Drop)]
@@ -22,6 +38,7 @@ pub struct Volume<R> {
     runs: Vec<Run>,
     ghost orderly: { IsOrderly (record { extent = extent; arrays = arrays; runs = runs.items }) },
     ghost counted: { extents ≡ extents_of runs.items },
+    ghost few: { length runs.items ≤ 1024 },
 }
 
 impl<R: Rack> Rack for Volume<R> {
@@ -74,11 +91,79 @@ impl<R: Rack> Rack for Volume<R> {
 }
 
 impl<R: Rack> Volume<R> {
-    ghost use Rattle.std.specs.Prelude.{◌<◌};
+    ghost use Rattle.std.specs.Prelude.{◌<◌, ◌≤◌, ◌^◌, IfErr, IfOk, Ok, length};
+    ghost use Rattle.lvm_group.specs.Growth.{AreBelow, fits};
+    ghost use Rattle.lvm_group.specs.Made.{IsUnmade, Makes, made_targets, new_volume};
+    ghost use Rattle.lvm_group.specs.Own.{HoldAll};
+    ghost use Rattle.lvm_group.specs.Shown.{total, volume_of};
+    ghost use Rattle.lvm_group.specs.Writing.{Puts};
     ghost use Rattle.std.specs.Borrow.{sem, Lends};
     ghost use Rattle.lvm_group.specs.contracts.volume.Volume.{the_row};
     ghost use Rattle.lvm_group.specs.Runs.{array_of, sector_of, sectors_in};
     ghost use Rattle.lvm_group.specs.Volume.{below_of, linear};
+
+    /// Makes a volume group on the first arrays of a rack, as many as there are numbers, and the volume of their
+    /// first extents: as many of each array as its number says, array by array. An extent has so many sectors.
+    ///
+    /// The arrays get labels, headers and the group's text; each is durable before a header has the text. Where an
+    /// array refuses a call, it is the one that is named, and its arrays have some of these writes.
+    pub fn create(
+        alloc: Global,
+        rack: R,
+        pool: &Id,
+        extent: u32,
+        extents: &[u64],
+    ) -> Result<Volume<R>, Back<R, VolumeFault>>
+        requires fit { (R.seen rack).fit }
+        requires small { total (R.seen rack).sectors (R.seen rack).disks < 2 ^ 52 }
+        requires sized { 0 < extent }
+        requires some { 0 < length extents.now }
+        requires few { length extents.now ≤ 16 }
+        requires below { AreBelow extents.now }
+        requires arrays { length extents.now ≤ (R.seen rack).disks }
+        requires holds { HoldAll extent (R.seen rack).sectors 0 extents.now }
+        ensures volume { IfOk result (λ volume. linear volume ≡ new_volume extent extents.now) }
+        ensures fit { IfOk result (λ volume. (volume_of (linear volume) (R.seen volume.rack)).fit) }
+        ensures wrote { IfOk result (λ volume. Puts (R.seen rack) (R.seen volume.rack)
+            (made_targets pool.now.0 extent (R.seen rack).sectors extents.now) {X = Unit {0}} (Ok tt)) }
+        ensures makes { IfOk result (λ volume. Makes pool.now.0 extent extents.now (R.seen rack) (R.seen volume.rack)) }
+        ensures refused { IfErr result (λ back. IsUnmade R.seen rack (made_targets pool.now.0 extent (R.seen rack).sectors extents.now) back.rack back.why) }
+        ensures kept { IfOk result (λ volume. R.runs rack volume.rack) }
+        ensures returned { IfErr result (λ back. R.runs rack back.rack) }
+    {
+        let Ok(room) = take_room(alloc) else {
+            return Err(Back {
+                rack,
+                why: VolumeFault::Memory,
+            });
+        };
+        let mut room = room;
+        let mut rack = rack;
+        let sectors = u64::from(extent);
+        if let Err(gone) = make(&mut rack, pool, sectors, extents, &mut room) {
+            return Err(Back {
+                rack,
+                why: VolumeFault::BadVolume { array: gone.disk },
+            });
+        }
+        let count = extents_in(room.runs.as_slice());
+        Ok(Volume {
+            rack,
+            extent: sectors,
+            arrays: extents.len() as u32,
+            extents: count,
+            runs: room.runs,
+        })
+    }
+
+    /// Whether the volume can be extended to these numbers of extents of its arrays: each of its segments has
+    /// extents and ends within its array's number, and the extended volume has 1024 segments at most.
+    pub fn fits(&self, extents: &[u64]) -> bool
+        requires few { length extents.now ≤ 16 }
+        ensures { result ≡ fits (linear self.now).runs extents.now }
+    {
+        fits(self.runs.as_slice(), extents)
+    }
 
     /// How many extents the volume has.
     pub fn extents(&self) -> u64

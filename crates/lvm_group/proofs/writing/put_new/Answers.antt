@@ -1,0 +1,42 @@
+use Rattle.std.proofs.Common.{ℕ, List, ◌++◌, Ok, Err}
+use Rattle.rack.specs.Targets.{Target}
+use Rattle.lvm_group.specs.Writing.{first_targets, header_target, targets_to}
+use Rattle.lvm_group.proofs.Putting.{puts_cut, puts_quiet, puts_then, single_then}
+use Rattle.lvm_group.proofs.writing.put_new.Goals as goal
+
+abbrev firsts : List ℕ → (ℕ → ℕ) → List ℕ → ℕ → List Target
+firsts pool sectors text arrays = targets_to (first_targets pool sectors text) arrays
+
+abbrev headers : List ℕ → ℕ → List Target
+headers text arrays = targets_to (header_target 512 text) arrays
+
+pub returns-in-Err-clause-puts : goal.returns-in-Err-clause-puts
+returns-in-Err-clause-puts g c =
+    puts_cut (firsts c.args.pool.now.0 (g.R.Rack.seen c.args.rack.now).sectors c.args.text.now c.args.arrays) (headers c.args.text.now c.args.arrays) c.in-Err.gone c.in-Err.ensures.puts
+
+pub returns-in-Err-sync_first-clause-puts : goal.returns-in-Err-sync_first-clause-puts
+returns-in-Err-sync_first-clause-puts g c =
+    let first = firsts c.args.pool.now.0 (g.R.Rack.seen c.args.rack.now).sectors c.args.text.now c.args.arrays in
+    puts_cut first (headers c.args.text.now c.args.arrays) c.in-Err-sync_first.gone
+    (puts_quiet first c.args.arrays (Err c.in-Err-sync_first.gone) c.requires.arrays c.in_default.ensures.puts c.in-Err-sync_first.ensures.syncs)
+
+pub returns-in-Err-put_headers-clause-puts : goal.returns-in-Err-put_headers-clause-puts
+returns-in-Err-put_headers-clause-puts g c =
+    let first = firsts c.args.pool.now.0 (g.R.Rack.seen c.args.rack.now).sectors c.args.text.now c.args.arrays in
+    puts_then first (headers c.args.text.now c.args.arrays) (Err c.in-Err-put_headers.gone)
+    (puts_quiet first c.args.arrays (Ok tt) c.requires.arrays c.in_default.ensures.puts c.in_default-sync_first.ensures.syncs) c.in-Err-put_headers.ensures.puts
+
+pub returns-clause-puts : goal.returns-clause-puts
+returns-clause-puts g c =
+    let first = firsts c.args.pool.now.0 (g.R.Rack.seen c.args.rack.now).sectors c.args.text.now c.args.arrays in
+    puts_quiet (first ++ headers c.args.text.now c.args.arrays) c.args.arrays c.sync_first-2.result c.requires.arrays
+    (puts_then first (headers c.args.text.now c.args.arrays) (Ok tt)
+    (puts_quiet first c.args.arrays (Ok tt) c.requires.arrays c.in_default.ensures.puts c.in_default-sync_first.ensures.syncs) c.in_default-put_headers.ensures.puts)
+    c.sync_first-2.ensures.syncs
+
+pub returns-clause-single : goal.returns-clause-single
+returns-clause-single g c =
+    let first = firsts c.args.pool.now.0 (g.R.Rack.seen c.args.rack.now).sectors c.args.text.now c.args.arrays in
+    let puts = puts_then first (headers c.args.text.now c.args.arrays) (Ok tt)
+    (puts_quiet first c.args.arrays (Ok tt) c.requires.arrays c.in_default.ensures.puts c.in_default-sync_first.ensures.syncs) c.in_default-put_headers.ensures.puts in
+    single_then (g.R.Rack.seen c.args.rack.now) (g.R.Rack.seen c.put_headers.new.rack) (g.R.Rack.seen c.sync_first-2.new.rack) c.args.arrays c.sync_first-2.result puts.only.stays c.sync_first-2.ensures.syncs.done

@@ -1,0 +1,57 @@
+-- What making a volume leaves on its arrays.
+use Rattle.std.specs.Prelude.{◌≡◌, ℕ, ◌<◌, false, nat_eq, List, [], length, Some, None, Err}
+use Rattle.std.specs.List.{starts_with}
+use Rattle.rack.specs.Values.{MayLeave}
+use Rattle.rack.specs.Seen.{Image, Seen, IsLive}
+use Rattle.rack.specs.Targets.{Target}
+use Rattle.lvm_label.specs.Label.{label_word}
+use Rattle.lvm_text.specs.declared.group.Group.{Group}
+use Rattle.lvm_text.specs.Printed.{printed}
+use Rattle.lvm_group.specs.declared.volume.VolumeFault.{VolumeFault}
+use Rattle.lvm_group.specs.declared.volume.VolumeFault.TheVariants as fault
+use Rattle.lvm_group.specs.Writing.{Puts, new_targets}
+use Rattle.lvm_group.specs.Runs.{Linear}
+use Rattle.lvm_group.specs.Shown.{contents_of}
+use Rattle.lvm_group.specs.Sequences.{AreSingle}
+use Rattle.lvm_group.specs.Group.{first_bad, group_in, volume_in}
+use Rattle.lvm_group.specs.Growth.{grown}
+use Rattle.lvm_group.specs.Own.{own_group}
+
+-- the sectors before the first extents of the first arrays are told, and not spent at the end
+abbrev pub AreTold : Seen → Seen → ℕ → Type 0
+AreTold a b arrays = (d s : ℕ) → d < arrays → s < 2048 → IsLive a b d s
+
+-- their first sectors have no label, as LVM2 would find it before that of sector 1
+abbrev pub AreFree : Seen → ℕ → Type 0
+AreFree a arrays = (d : ℕ) → d < arrays → starts_with nat_eq (a.held d 0).current label_word ≡ false
+
+-- contents that a stop may leave in those sectors
+abbrev pub ArePicks : Seen → ℕ → Image → Type 0
+ArePicks b arrays c = (d s : ℕ) → d < arrays → s < 2048 → MayLeave (b.held d s) (c d s)
+
+-- the runs of a new volume: the arrays' first extents, array by array
+abbrev pub new_volume : ℕ → List ℕ → Linear
+new_volume extent numbers = record { extent = extent; arrays = length numbers; runs = grown [] numbers }
+
+-- the group of a new volume
+abbrev pub new_group : List ℕ → ℕ → (ℕ → ℕ) → List ℕ → Group
+new_group pool extent sectors numbers = own_group pool extent sectors 1 numbers (grown [] numbers)
+
+-- whatever a stop leaves, the arrays' group and volume are the new ones, and no array is bad
+pub record Means (pool : List ℕ) (extent : ℕ) (sectors : ℕ → ℕ) (numbers : List ℕ) (c : Image) : Type 0 where
+  pub group : group_in c sectors (length numbers) ≡ Some (new_group pool extent sectors numbers)
+  pub volume : volume_in c sectors (length numbers) ≡ Some (contents_of (new_volume extent numbers) c)
+  pub sound : first_bad pool extent sectors (length numbers) c ≡ None
+
+pub record Makes (pool : List ℕ) (extent : ℕ) (numbers : List ℕ) (a b : Seen) : Type 0 where
+  pub single : AreSingle a b (length numbers)
+  pub means : AreTold a b (length numbers) → AreFree a (length numbers) → (c : Image) → ArePicks b (length numbers) c → Means pool extent a.sectors numbers c
+
+-- what making a volume writes
+abbrev pub made_targets : List ℕ → ℕ → (ℕ → ℕ) → List ℕ → List Target
+made_targets pool extent sectors numbers = new_targets pool sectors (printed (new_group pool extent sectors numbers)) (length numbers)
+
+-- a volume that wasn't made: without memory the rack is as it was; else an array refused a call, and some of the writes were made
+abbrev pub IsUnmade : {R : Type 0} → (R → Seen) → R → List Target → R → VolumeFault → Type 0
+IsUnmade seen rack xs back fault.Memory = back ≡ rack
+IsUnmade seen rack xs back (fault.BadVolume array) = Puts (seen rack) (seen back) xs {X = Unit {0}} (Err (record { disk = array }))

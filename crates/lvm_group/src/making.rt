@@ -1,0 +1,114 @@
+//! Making a volume on arrays.
+
+ghost use Rattle.std.specs.Prelude.{◌≡◌, ◌<◌, ◌≤◌, ◌+◌, ◌^◌, ℕ, IfOk, Ok, OnOk, length, map, vec_capacity};
+ghost use Rattle.std.specs.List.{range_with_len};
+ghost use Rattle.lvm_text.specs.Printed.{printed};
+ghost use Rattle.lvm_group.specs.Runs.{extents_of};
+ghost use Rattle.lvm_group.specs.Growth.{AreBelow, grown};
+ghost use Rattle.lvm_group.specs.Own.{HoldAll};
+ghost use Rattle.lvm_group.specs.Made.{Makes, new_group};
+ghost use Rattle.lvm_group.specs.Writing.{Puts, new_targets};
+ghost use Rattle.std.specs.Prelude.{[]};
+
+use crate::growth::grow;
+use crate::printing::print_own;
+use crate::profile::MOST_SEGMENTS;
+use crate::runs::Run;
+use crate::writing::put_new;
+use arrayvec::ArrayVec;
+use lvm_label::{encoded_headers_decode, encoded_labels_decode};
+use lvm_text::Text;
+use rack::{Gone, NoMemory, Rack};
+use shr_base::Id;
+use std::alloc::Global;
+
+/// Bytes of the longest text.
+const MOST_TEXT: usize = 262144;
+
+/// The room of a volume: for the runs of as many segments as a text may have, and for a text.
+#[derive(Debug, Drop)]
+pub(crate) struct Room {
+    pub runs: Vec<Run>,
+    pub text: Text,
+}
+
+/// Takes the room of a volume.
+pub(crate) fn take_room(alloc: Global) -> Result<Room, NoMemory>
+    ensures runs { IfOk result (λ room. 1024 ≤ vec_capacity room.runs) }
+    ensures text { IfOk result (λ room. 262144 ≤ room.text.spare) }
+{
+    let Ok(runs) = Vec::with_capacity(alloc, MOST_SEGMENTS) else {
+        return Err(NoMemory);
+    };
+    let text = Text::with_room(alloc, MOST_TEXT)?;
+    Ok(Room { runs, text })
+}
+
+/// How many extents runs have.
+pub(crate) fn extents_in(runs: &[Run]) -> u64
+    requires { extents_of runs.now < 2 ^ 64 }
+    ensures { result ≡ extents_of runs.now }
+{
+    let mut sum = 0;
+    let mut rest = runs;
+    while let Some((run, after)) = rest.split_first() {
+        sum += run.count;
+        rest = after;
+    }
+    sum
+}
+
+/// The sectors of the first arrays, so many.
+fn sizes<R: Rack>(rack: &R, arrays: u32) -> ArrayVec<u64, 16>
+    requires fit { (R.seen rack.now).fit }
+    requires arrays { arrays ≤ (R.seen rack.now).disks }
+    requires few { arrays ≤ 16 }
+    ensures { result.items ≡ map (R.seen rack.now).sectors (range_with_len 0 arrays) }
+{
+    let mut sizes = ArrayVec::new();
+    for array in 0..arrays {
+        sizes.push(rack.sectors(array));
+    }
+    sizes
+}
+
+/// Makes a group on the first arrays, as many as there are numbers of extents, with a volume of these.
+#[tactic(auto, using(crate::proofs::NewVolume::new_fits))]
+pub(crate) fn make<R: Rack>(
+    rack: &mut R,
+    pool: &Id,
+    extent: u64,
+    numbers: &[u64],
+    room: &mut Room,
+) -> Result<(), Gone>
+    requires fit { (R.seen rack.old).fit }
+    requires some { 0 < length numbers.now }
+    requires few { length numbers.now ≤ 16 }
+    requires below { AreBelow numbers.now }
+    requires arrays { length numbers.now ≤ (R.seen rack.old).disks }
+    requires holds { HoldAll extent (R.seen rack.old).sectors 0 numbers.now }
+    requires room_of_runs { 1024 ≤ vec_capacity room.old.runs }
+    requires room_of_text { 262144 ≤ length room.old.text.bytes + room.old.text.spare }
+    ensures runs_are { room.new.runs.items ≡ grown [] numbers.now }
+    ensures puts { Puts (R.seen rack.old) (R.seen rack.new)
+        (new_targets pool.now.0 (R.seen rack.old).sectors (printed (new_group pool.now.0 extent (R.seen rack.old).sectors numbers.now)) (length numbers.now)) result }
+    ensures makes { OnOk result (Makes pool.now.0 extent numbers.now (R.seen rack.old) (R.seen rack.new)) }
+    ensures runs { R.runs rack.old rack.new }
+{
+    encoded_labels_decode();
+    encoded_headers_decode();
+    grow(&[], 0, numbers, &mut room.runs);
+    let arrays = numbers.len() as u32;
+    let sectors = sizes(rack, arrays);
+    room.text.clear();
+    print_own(
+        pool,
+        extent,
+        sectors.as_slice(),
+        1,
+        numbers,
+        room.runs.as_slice(),
+        &mut room.text,
+    );
+    put_new(rack, pool, arrays, room.text.as_slice())
+}
