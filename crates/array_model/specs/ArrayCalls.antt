@@ -1,0 +1,78 @@
+-- The calls of one array.
+--
+-- `s` is the state whose marks the images go by, `durable` the array's shape by these marks, and vals what its sectors hold.
+-- A call that meets Gone notes the place and goes on; the images go by the old marks until somebody commits new ones.
+use Rattle.std.specs.Prelude.{◌≡◌, ◌⊎◌, ℕ, Bool, false, ◌==◌, if◌then◌else◌, List}
+use Rattle.rack.specs.Values.{Values, Keeps, append}
+use Rattle.rack.specs.Seen.{Image, Seen, IsLive, Stays}
+use Rattle.rack.specs.Moments.{Leaves}
+use Rattle.rack.specs.Calls.{KeepsAll}
+use Rattle.pool_state.specs.declared.contents.State.{State}
+use Rattle.array_image.specs.Arrays.{Shape}
+use Rattle.array_image.specs.Held.{IsSettled}
+use Rattle.array_image.specs.Arrays.{replayed}
+use Rattle.array_image.specs.Left.{IsInside, IsLeft, IsApart, IsCalm}
+use Rattle.array_model.specs.View.{View, IsNoted, shape_of, spent_in}
+use Rattle.array_model.specs.Says.{Says, Holds}
+
+-- Contents, replayed, in a call of one array: this array's slices have P, and each other sector is as a stop before might leave it.
+-- The log's gates and halves are whatever the log makes of them.
+pub record Turns (array : ℕ) (a b : Seen) (P : Image → Type 0) (c : Image) : Type 0 where
+  pub before : Image
+  pub left : IsLeft a before
+  pub others : (d t : ℕ) → IsApart array d t → replayed a.sectors c d t ≡ before d t
+  pub own : P (replayed a.sectors c)
+
+-- A call of an array: during it images say `during`, and after it the array holds `vals_after` by the shape `after`. Reads, writes,
+-- syncs, a settled or clean mark and every row of maintenance are this record.
+pub record Acts (s : State) (v w : View) (spent : ℕ → Bool) (a b : Seen)
+    (durable : Shape) (vals : ℕ → Values) (during : Image → Type 0) (after : Shape) (vals_after : ℕ → Values) : Type 0 where
+  pub stays : Stays a b
+  pub noted : IsNoted v w a b
+  -- whatever holds, time goes on, the past stays, and nothing turns but this array's slices; these say it where the array held
+  pub leaves :
+      a.traced
+      → Leaves a b (λ c. IsInside a.sectors c → Turns v.number a b (λ r. Holds s durable v vals spent a → during r) c)
+  pub holds : Holds s durable v vals spent a → Holds s after w vals_after spent b
+  -- other arrays and the states are as before
+  pub apart : (d t : ℕ) → IsLive a b d t → IsApart v.number d t → Keeps (a.held d t) (b.held d t)
+  -- and nothing becomes pending for them
+  pub calm : IsCalm v.number a → IsCalm v.number b
+
+-- the values after a write to one sector
+abbrev pub appended_at : ℕ → List ℕ → (ℕ → Values) → ℕ → Values
+appended_at sector from vals y = if y == sector then append (vals y) from else vals y
+
+-- a map of the sectors that are spent at some later moment has each one that is spent now
+abbrev pub Covers : View → (ℕ → Bool) → Type 0
+Covers w spent = (y : ℕ) → spent y ≡ false → spent_in w y ≡ false
+
+-- a call that moves no value and no position
+abbrev pub Keeping : (s : State) (v w : View) (spent : ℕ → Bool) (a b : Seen) (durable : Shape) (vals : ℕ → Values) → Type 0
+Keeping s v w spent a b durable vals = Acts s v w spent a b durable vals (Says s v.number durable vals spent) durable vals
+
+-- a read of one sector
+pub record ReadsArray (s : State) (v w : View) (spent : ℕ → Bool) (a b : Seen) (durable : Shape) (vals : ℕ → Values)
+    (sector : ℕ) (into : List ℕ) : Type 0 where
+  pub acts : Keeping s v w spent a b durable vals
+  -- nothing was written, so whatever is pending for other arrays stays so
+  pub keeps : KeepsAll a b
+  pub value : Holds s durable v vals spent a → spent sector ≡ false → into ≡ (vals sector).current
+
+-- a write of one sector
+abbrev pub WritesArray : (s : State) (v w : View) (spent : ℕ → Bool) (a b : Seen) (durable : Shape) (vals : ℕ → Values) (sector : ℕ) (from : List ℕ) → Type 0
+WritesArray s v w spent a b durable vals sector from =
+    Acts s v w spent a b durable vals (Says s v.number durable (appended_at sector from vals) spent) durable (appended_at sector from vals)
+
+-- after a sync whoever is left has one value in each sector
+pub record SyncsArray (s : State) (v w : View) (spent : ℕ → Bool) (a b : Seen) (durable : Shape) (vals : ℕ → Values) : Type 0 where
+  pub acts : Keeping s v w spent a b durable vals
+  pub keeps : KeepsAll a b
+  pub settled : Holds s durable v vals spent a → IsSettled (shape_of w) w.number b.held
+
+-- one row of maintenance, or a step of it: at each moment the shape and values are those before or those after it
+abbrev pub Moving : (s : State) (v w : View) (spent : ℕ → Bool) (a b : Seen) (durable : Shape) (vals : ℕ → Values) (after : Shape) (vals_after : ℕ → Values) → Type 0
+Moving s v w spent a b durable vals after vals_after =
+    Acts s v w spent a b durable vals
+    (λ r. Says s v.number durable vals spent r ⊎ Says s v.number after vals_after spent r)
+    after vals_after
