@@ -1,0 +1,26 @@
+mod Copies
+pub mod Kept
+pub mod KeptAfter
+pub mod Calling
+pub mod Each
+pub mod Naming
+pub mod Records
+pub mod Halves
+pub mod Targets
+pub mod Checked
+pub mod Loads
+pub mod Rounds
+pub mod Closing
+pub mod GateRead
+pub mod Deciding
+pub mod Restored
+pub mod Counting
+pub mod Amid
+pub mod Late
+pub mod Whole
+pub mod Early
+pub mod Story
+pub mod Since
+pub mod Ended
+pub mod Told
+pub mod Committing

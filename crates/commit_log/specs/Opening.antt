@@ -1,0 +1,91 @@
+-- What looking for a pending record and replaying it do.
+use Rattle.std.specs.Prelude.{◌≡◌, ◌≢◌, ◌⊎◌, ℕ, ◌<◌, ◌≤◌, Bool, true, false, List, [], Option, Some, None, is_some}
+use Rattle.rack.specs.Values.{MayLeave, Keeps}
+use Rattle.rack.specs.Seen.{Image, Seen, IsLive, Stays, Rose}
+use Rattle.rack.specs.Moments.{Leaves}
+use Rattle.rack.specs.Calls.{KeepsAll}
+use Rattle.rack.specs.Sequences.{OnlyReads}
+use Rattle.rack.specs.Targets.{Target, look}
+use Rattle.array_image.specs.Places.{log_slice, place_of}
+use Rattle.array_image.specs.Record.{Gate, gate_sector, gate_of, gate_in, pending_at, pending, damaged_log}
+use Rattle.array_image.specs.Arrays.{replayed}
+use Rattle.array_image.specs.Held.{current_in}
+use Rattle.commit_log.specs.View.{LogView, names, left_of, in_order}
+use Rattle.commit_log.specs.Standing.{IsLogPart, IsAlike, IsInside, StatesStand, LogsStand, Decides, deciding, IsNumbered, SomeoneDecides}
+use Rattle.commit_log.specs.Commits.{Stands, HasGone}
+
+-- what the log finds in contents, on these places of `on`
+pub record Finds (m : LogView) (on places : List ℕ) (is_pending : Bool) (damaged : Option ℕ) (c : Image) : Type 0 where
+  pub damaged_is : damaged ≡ damaged_log places c
+  pub is_pending_is : damaged ≡ None → is_pending ≡ is_some (pending_at places c)
+  pub targets : m.pending ≡ pending places c
+  -- the number is the greatest of their gates, or that of a place whose gate was read and which went later
+  pub above : (p : ℕ) (g : Gate) → names places p ≡ true → gate_in c p ≡ Some g → g.number ≤ m.number
+  pub number : (m.number ≡ 0) ⊎ ((p : ℕ) × (g : Gate) × (names on p ≡ true) × (gate_in c p ≡ Some g) × (g.number ≡ m.number))
+  -- so is the openness
+  pub open_is :
+      damaged ≡ None → (p : ℕ) (g : Gate) → names places p ≡ true → gate_in c p ≡ Some g → g.is_open ≡ true → m.is_open ≡ true
+  pub opened : m.is_open ≡ true → (p : ℕ) × (g : Gate) × (names on p ≡ true) × (gate_in c p ≡ Some g) × (g.is_open ≡ true)
+
+-- Looking for the pending record: `gone` are the places whose disk answered `Gone` in it; they are passed over.
+pub record PendingCall (l m : LogView) (on gone : List ℕ) (is_pending : Bool) (damaged : Option ℕ) (a b : Seen) : Type 0 where
+  pub reads : OnlyReads a b
+  pub ordered : gone ≡ in_order gone
+  pub cause : (p : ℕ) → names gone p ≡ true → (names on p ≡ true) × Rose (a.faults (log_slice p)) (b.faults (log_slice p))
+  pub added : m.added ≡ l.added
+  pub lent : m.is_lent ≡ true
+  pub finds :
+      ((p : ℕ) → names on p ≡ true → a.told (log_slice p))
+      → Finds m on (left_of on gone) is_pending damaged (current_in a.held)
+
+-- slices as a stop in a replay may leave them: gates and halves as before, and each copy of the state too or as a target has it
+pub record StandsAmid (xs : List Target) (x : Seen) (c : Image) : Type 0 where
+  pub states : StatesStand xs x c
+  pub parts : (p t : ℕ) → 0 < t → IsLive x x (log_slice p) t → MayLeave (x.held (log_slice p) t) (c (log_slice p) t)
+  pub inside : IsInside x.sectors c
+
+-- What the clauses on stops need of the slices before a replay: whatever copies of the state a stop in it leaves, the log's
+-- pending record is the one that these contents have, none where it has none.
+pub record CanReplay (l : LogView) (x : Seen) : Type 0 where
+  pub lasting : x.lasting
+  pub logs : (p t : ℕ) → p < 16 → t < x.sectors (log_slice p) → IsLive x x (log_slice p) t
+  pub targets : (d t : ℕ) (v : List ℕ) → look l.pending d t ≡ Some v → t < x.sectors d → IsLive x x d t
+  pub numbers :
+      (c : Image) → StatesStand l.pending x c → (p : ℕ) → Decides c p → gate_sector < x.sectors (log_slice p) → IsNumbered l.number x p
+  pub same : (c : Image) → StandsAmid l.pending x c → pending (deciding c) c ≡ l.pending
+
+-- replayed, contents are as some that a stop before the call might leave, replayed too
+pub record Replays (a : Seen) (c : Image) : Type 0 where
+  pub before : Image
+  pub stands : Stands a before
+  pub same : IsAlike (replayed a.sectors c) (replayed a.sectors before)
+
+-- the log has something to write: a record is pending, or a gate that it read is open
+abbrev pub HasWork : LogView → Type 0
+HasWork l = (l.pending ≢ []) ⊎ (l.is_open ≡ true)
+
+-- The whole of a replay, where `lost` are the places whose disk answered `Gone` in it.
+pub record ReplayCall (l : LogView) (on lost : List ℕ) (a b : Seen) : Type 0 where
+  pub stays : Stays a b
+  pub gone : HasGone l.pending on lost a b
+  pub leaves : a.traced → Leaves a b (λ c. Unit {0})
+  -- so doing it again after a stop, or after it, gives the same
+  pub stops : a.traced → CanReplay l a → Leaves a b (λ c. IsInside a.sectors c → Replays a c)
+  pub after : CanReplay l a → (c : Image) → Stands b c → Replays a c
+  -- where nobody went, each gate of `on` is closed with the log's number, and nothing is pending any more
+  pub gates :
+      HasWork l → lost ≡ [] → (p : ℕ) (v : List ℕ) → names on p ≡ true → IsLive a b (log_slice p) gate_sector
+      → MayLeave (b.held (log_slice p) gate_sector) v
+      → gate_of v ≡ Some (record { is_open = false; number = l.number })
+  pub closed :
+      CanReplay l a → SomeoneDecides l.pending on lost a → HasWork l → lost ≡ []
+      → (c : Image) → LogsStand b c → pending (deciding c) c ≡ []
+  -- without work nothing is written
+  pub idle : (HasWork l → ⊥) → KeepsAll a b
+  pub apart : (d t : ℕ) → IsLive a b d t → (IsLogPart d t → ⊥) → look l.pending d t ≡ None → Keeps (a.held d t) (b.held d t)
+  pub within :
+      (d t : ℕ) (v : List ℕ) → IsLive a b d t → (IsLogPart d t → ⊥) → MayLeave (b.held d t) v
+      → MayLeave (a.held d t) v ⊎ (look l.pending d t ≡ Some v)
+  pub written :
+      (d t : ℕ) (w v : List ℕ) → IsLive a b d t → names lost (place_of d) ≡ false → look l.pending d t ≡ Some w
+      → MayLeave (b.held d t) v → v ≡ w

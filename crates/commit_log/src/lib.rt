@@ -1,0 +1,28 @@
+//! The commit log: records of many sectors that are written as one.
+//!
+//! A commit writes its targets and their payloads to one half of the log slice of each place, opens the
+//! gates, and then writes the payloads to their targets. A stop at any moment leaves slices that, once the
+//! pending record is replayed, have all targets written or none (docs/FORMATS.md, 'Commit log').
+//!
+//! **The model.** Contracts see a log as a `LogView` (specs/View.antt): its number, the targets added to it,
+//! and those of a pending record that it read. What slices leave pending is `array_image`'s definition. What
+//! may stand on the slices when a stop comes, and which places decide there, is said in specs/Standing.antt.
+//!
+//! **The contract.** `CommitCall` (specs/Commits.antt), over any rack of slices: all or nothing at each
+//! moment, whoever goes in which phase; all at the return, but on the places that it answers; each of these
+//! has its cause; and what the next commit needs. Once it is made, a log takes no memory.
+//!
+//! Looking for a pending record and replaying it aren't built yet; specs/Opening.antt has their clauses, which
+//! nothing proves so far.
+#![tactic(auto)]
+
+mod gates;
+mod loading;
+mod log;
+mod lost;
+mod record;
+#[cfg(test)]
+mod tests;
+mod writing;
+
+pub use log::{Log, Target};

@@ -1,0 +1,187 @@
+//! The log of a pool, and its calls.
+
+ghost use Rattle.std.specs.Prelude.{◌≡◌, ◌<◌, ◌-◌, ◌++◌, ◌∷◌, [], ℕ, List, length, IfOk, true, false, MatchOption, Some, None};
+ghost use Rattle.std.specs.List.{list_all};
+ghost use Rattle.rack.specs.Targets.{target, look};
+ghost use Rattle.array_image.specs.Record.{is_target, are_apart, half_of};
+ghost use Rattle.commit_log.specs.View.{LogView, new_log, emptied, committed, next_number, most_sectors, payload_of};
+ghost use Rattle.commit_log.specs.Bytes.{targets_in};
+ghost use Rattle.commit_log.specs.Phases.{AreLogs, IsHad};
+ghost use Rattle.commit_log.specs.Commits.{CommitCall};
+
+use crate::gates::Gate;
+use crate::lost::Lost;
+use crate::record::{MOST, Record};
+use crate::writing::{close_gates, settle_each, settle_record, settle_targets};
+use rack::{NoMemory, Places, Rack};
+use std::alloc::Global;
+use std::marker::Model;
+
+/// Where the gate stands in a log slice.
+pub(crate) const GATE: u64 = 1;
+
+/// Numbers of commits end here.
+const LAST_NUMBER: u64 = 0x7fff_ffff_ffff_ffff;
+
+/// A sector of a slice that a record writes.
+#[derive(Clone, Copy, Debug, PartialEq, Eq)]
+pub struct Target {
+    /// The slice, `17 * place + slice`.
+    pub disk: u32,
+    /// Its sector.
+    pub sector: u64,
+}
+
+/// The commit log of a pool: room for a record to be committed, and for one that is pending.
+#[derive(Drop)]
+pub struct Log {
+    number: u64,
+    added: Record,
+    pending: Record,
+    lent: bool,
+    opened: bool,
+}
+
+impl Model for Log {
+    ghost Value = { LogView };
+
+    ghost view = { λ log. record {
+      number = log.number;
+      added = targets_in log.added.bytes.items log.added.count;
+      pending = targets_in log.pending.bytes.items log.pending.count;
+      is_lent = log.lent;
+      is_open = log.opened;
+    } };
+}
+
+impl Log {
+    /// A log of a new pool.
+    pub fn make(alloc: Global) -> Result<Log, NoMemory>
+        ensures { IfOk result (λ log. log ≡ new_log) }
+    {
+        Ok(Log {
+            number: 0,
+            added: Record::make(alloc)?,
+            pending: Record::make(alloc)?,
+            lent: false,
+            opened: false,
+        })
+    }
+
+    /// Forgets what was added, and lends no payload any more.
+    pub fn clear(&mut self)
+        ensures { self.new ≡ emptied self.old }
+    {
+        self.added.clear();
+        self.lent = false;
+    }
+
+    /// How many sectors can still be added.
+    pub fn room(&self) -> u32
+        ensures { result ≡ most_sectors - length self.now.added }
+    {
+        MOST - self.added.count()
+    }
+
+    /// Adds a target and its payload.
+    pub fn add(&mut self, at: Target, from: &[u8; 512])
+        requires { length self.old.added < most_sectors }
+        ensures { self.new ≡ record self.old { added = self.old.added ++ target at.disk at.sector from.now ∷ [] } }
+    {
+        self.added.add(at.disk, at.sector, from);
+    }
+
+    /// Writes all that was added as one: whatever stops, all targets are written once the log is replayed,
+    /// or none. Answers the places that went; where there is one the gates stay open, and the next commit
+    /// takes their place.
+    pub fn commit<R: Rack>(&mut self, rack: &mut R, on: &Places) -> Places
+        requires fit { (R.seen rack.old).fit }
+        requires disks { (R.seen rack.old).disks ≡ 272 }
+        requires logs { AreLogs (R.seen rack.old).sectors on.now.items }
+        requires some { 0 < length self.old.added }
+        requires valid { list_all is_target self.old.added ≡ true }
+        requires apart { are_apart self.old.added ≡ true }
+        requires had { (d s : ℕ) (v : List ℕ) → look self.old.added d s ≡ Some v → IsHad (R.seen rack.old) d s }
+        ensures commits { CommitCall self.old on.now.items result.items (R.seen rack.old) (R.seen rack.new) }
+        ensures log { self.new ≡ committed self.old }
+        ensures runs { R.runs rack.old rack.new }
+    {
+        let number = next(self.number);
+        let on = on.as_slice();
+        self.added.seal(number);
+        let mut lost = Lost::none();
+        settle_record(rack, &mut lost, on, half(number), &self.added);
+        let opened = Gate { open: true, number };
+        settle_each(rack, &mut lost, on, GATE, &opened.encode());
+        settle_targets(rack, &mut lost, &self.added);
+        let closed = Gate {
+            open: false,
+            number,
+        };
+        close_gates(rack, &mut lost, on, &closed.encode());
+        self.number = number;
+        self.forget();
+        lost.list()
+    }
+
+    /// The bytes that were added for a target, or else those that the pending record has for it, since the last
+    /// `clear`, `commit` or `replay`.
+    pub fn payload(&self, at: &Target) -> Option<&[u8; 512]>
+        ensures { MatchOption result (payload_of self.now at.now.disk at.now.sector ≡ None) (λ p. payload_of self.now at.now.disk at.now.sector ≡ Some p.now) }
+    {
+        if let Some(added) = self.added.payload(at.disk, at.sector) {
+            return Some(added);
+        }
+        if self.lent {
+            self.pending.payload(at.disk, at.sector)
+        } else {
+            None
+        }
+    }
+
+    // Neither a record nor an open gate is left to replay.
+    fn forget(&mut self)
+        ensures { self.new ≡ record self.old { added = []; pending = []; is_lent = false; is_open = false } }
+    {
+        self.added.clear();
+        self.pending.clear();
+        self.lent = false;
+        self.opened = false;
+    }
+}
+
+// The number after one, below 2^63.
+fn next(number: u64) -> u64
+    ensures { result ≡ next_number number }
+{
+    if number < LAST_NUMBER {
+        number + 1
+    } else {
+        number
+    }
+}
+
+// The first sector of the half of a number.
+pub(crate) fn half(number: u64) -> u64
+    ensures { result ≡ half_of number }
+{
+    if number % 2 == 0 { 8 } else { 4100 }
+}
+
+#[cfg(test)]
+impl Log {
+    /// Whether all that a commit on a rack needs of what was added holds.
+    pub(crate) fn fits<R: Rack>(&self, rack: &R) -> bool
+        requires fit { (R.seen rack.now).fit }
+        requires disks { (R.seen rack.now).disks ≡ 272 }
+        ensures some { result ≡ true → 0 < length self.now.added }
+        ensures valid { result ≡ true → list_all is_target self.now.added ≡ true }
+        ensures apart { result ≡ true → are_apart self.now.added ≡ true }
+        ensures had { result ≡ true → (d s : ℕ) (v : List ℕ) → look self.now.added d s ≡ Some v → IsHad (R.seen rack.now) d s }
+    {
+        self.added.count() > 0
+            && self.added.are_valid()
+            && self.added.are_apart()
+            && crate::tests::all_had(rack, &self.added)
+    }
+}
