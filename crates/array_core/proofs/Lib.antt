@@ -1,0 +1,17 @@
+pub mod Lists
+pub mod Truths
+pub mod Rules
+pub mod Seating
+pub mod Adopting
+pub mod Leading
+pub mod SlotMembers
+pub mod Opened
+pub mod OwnSupers
+pub mod Staged
+pub mod Adding
+pub mod Noting
+pub mod Gathering
+pub mod StagedTargets
+pub mod Rewriting
+pub mod Settled
+pub mod Renewing

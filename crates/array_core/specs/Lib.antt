@@ -1,0 +1,10 @@
+pub mod Slots
+pub mod Model
+pub mod Opening
+pub mod Stands
+pub mod Seats
+pub mod Superblocks
+pub mod Contents
+pub mod Staging
+pub mod Parities
+pub mod Settling

@@ -1,0 +1,49 @@
+-- What settling makes of an array.
+use Rattle.std.specs.Prelude.{◌≡◌, ◌≢◌, ◌<◌, ℕ, List, Some, slice_get}
+use Rattle.rack.specs.Seen.{Seen, IsLive}
+use Rattle.array_model.specs.View.{View}
+use Rattle.array_model.specs.Members.{Notes, slice_on}
+use Rattle.array_core.specs.Superblocks.{settled, IsSectorOf, member_super}
+use Rattle.rack.specs.Values.{MayLeave}
+use Rattle.rack.specs.Sequences.{WritesOnly}
+use Rattle.array_image.specs.Places.{super_sector}
+use Rattle.array_model.specs.declared.Seat.TheVariants.{Missing}
+use Rattle.array_core.specs.declared.slots.Slot.{Slot}
+use Rattle.array_core.specs.Stands.{IsSlot}
+
+-- the places that went are noted, and the truth has one more event, with the rows that are left
+pub record Settles (v w : View) (a b : Seen) : Type 0 where
+  pub synced : View
+  pub notes : Notes v synced a b
+  pub truth : w ≡ settled synced
+
+-- the sector of a member's superblock, by position
+pub record IsOwnSector (v : View) (n : ℕ) (x : List ℕ) : Type 0 where
+  pub slot : Slot
+  pub is : IsSlot v n slot
+  pub bytes : IsSectorOf (member_super v.truth slot) x
+
+-- a value for the superblock of a member that isn't missing
+pub record IsNewSuper (v : View) (d t : ℕ) (x : List ℕ) : Type 0 where
+  pub position : ℕ
+  pub inside : position < v.truth.raid_disks
+  pub there : slice_get v.seats position ≢ Some Missing
+  pub disk : d ≡ slice_on v position
+  pub sector : t ≡ super_sector
+  pub own : IsOwnSector v position x
+
+-- the superblock of one member was written, unless it is missing, and durably unless it went
+pub record WritesSuper (v w : View) (a b : Seen) (n : ℕ) : Type 0 where
+  pub notes : Notes v w a b
+  pub only : WritesOnly a b (λ d t x. (d ≡ slice_on v n) × IsNewSuper v d t x)
+  pub durable :
+      slice_get w.seats n ≢ Some Missing → IsLive a b (slice_on v n) super_sector
+      → (x : List ℕ) → MayLeave (b.held (slice_on v n) super_sector) x → IsOwnSector v n x
+
+-- those of the first so many members were
+pub record WritesSupers (v w : View) (a b : Seen) (many : ℕ) : Type 0 where
+  pub notes : Notes v w a b
+  pub only : WritesOnly a b (IsNewSuper v)
+  pub durable :
+      (n : ℕ) → n < many → slice_get w.seats n ≢ Some Missing → IsLive a b (slice_on v n) super_sector
+      → (x : List ℕ) → MayLeave (b.held (slice_on v n) super_sector) x → IsOwnSector v n x

@@ -1,0 +1,82 @@
+//! Superblocks that say how the array stands once its members are synced.
+
+ghost use Rattle.std.specs.Prelude.{◌≡◌, ◌≤◌, ◌+◌, ◌<◌, ℕ, Bool, length};
+ghost use Rattle.rack.specs.Values.{Values};
+ghost use Rattle.rack.specs.Sequences.{OnlyReads};
+ghost use Rattle.pool_state.specs.declared.contents.State.{State};
+ghost use Rattle.array_image.specs.Arrays.{Shape};
+ghost use Rattle.array_model.specs.ArrayCalls.{Covers, SyncsArray};
+ghost use Rattle.array_model.specs.Members.{HasSlices};
+ghost use Rattle.commit_log.specs.View.{most_sectors};
+ghost use Rattle.array_core.specs.Settling.{IsOwnSector, Settles, WritesSuper, WritesSupers};
+ghost use Rattle.array_core.specs.Staging.{AddsSupersOf};
+
+use crate::Array;
+use crate::staging::SUPER_SECTOR;
+use crate::superblocks::member_sector;
+use commit_log::Log;
+use rack::{Rack, write_durably};
+
+impl Array {
+    /// Syncs the members and adds their superblocks to the log, with one more event. They leave the rows to resync that are left
+    /// in this run, or in a young array to zero, and no others; a mark that this run made is taken back. It stands in the images
+    /// once the log is committed.
+    pub fn settle<R: Rack>(&mut self, rack: &mut R, log: &mut Log)
+        requires slices { HasSlices self.old (R.seen rack.old) }
+        requires room { length log.old.added + 16 ≤ most_sectors }
+        ensures settles { (s : State) (durable : Shape) (vals : ℕ → Values) (spent : ℕ → Bool) → Covers self.new spent
+            → SyncsArray s self.old self.new spent (R.seen rack.old) (R.seen rack.new) durable vals }
+        ensures reads { OnlyReads (R.seen rack.old) (R.seen rack.new) }
+        ensures view { Settles self.old self.new (R.seen rack.old) (R.seen rack.new) }
+        ensures added { AddsSupersOf self.new log.old.added log.new.added }
+        ensures log { log.new ≡ record log.old { added = log.new.added } }
+        ensures runs { R.runs rack.old rack.new }
+    {
+        self.sync(rack);
+        self.settle_truth();
+        self.stage_own(log);
+    }
+
+    /// The sector of a member's superblock.
+    fn own_sector(&self, position: usize) -> [u8; 512]
+        requires { position < self.now.truth.raid_disks }
+        ensures { IsOwnSector self.now position result }
+    {
+        let slot = self.slot(position);
+        member_sector(&self.truth, &slot)
+    }
+
+    /// Writes the superblock of a member and syncs it, unless it is missing. One that refuses has gone.
+    fn renew_super<R: Rack>(&mut self, rack: &mut R, position: usize)
+        requires slices { HasSlices self.old (R.seen rack.old) }
+        requires position { position < self.old.truth.raid_disks }
+        ensures writes { WritesSuper self.old self.new (R.seen rack.old) (R.seen rack.new) position }
+        ensures runs { R.runs rack.old rack.new }
+    {
+        self.rules();
+        if self.is_missing(position) {
+            return;
+        }
+        let slice = self.slice(position);
+        let sector = self.own_sector(position);
+        match write_durably(rack, slice, SUPER_SECTOR, &sector) {
+            Ok(()) => {}
+            Err(_) => {
+                let place = self.place_on(position);
+                self.note(place);
+            }
+        }
+    }
+
+    /// Writes the superblocks of the members and syncs them, one after the other.
+    fn renew_supers<R: Rack>(&mut self, rack: &mut R)
+        requires slices { HasSlices self.old (R.seen rack.old) }
+        ensures writes { WritesSupers self.old self.new (R.seen rack.old) (R.seen rack.new) self.old.truth.raid_disks }
+        ensures runs { R.runs rack.old rack.new }
+    {
+        self.rules();
+        for position in 0..self.members() {
+            self.renew_super(rack, position);
+        }
+    }
+}

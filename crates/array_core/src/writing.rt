@@ -1,0 +1,176 @@
+//! Writes to an array over a rack of slices.
+
+ghost use Rattle.std.specs.Prelude.{◌≡◌, ◌≢◌, ◌<◌, ◌≤◌, ◌+◌, ℕ, Bool, List, [], ◌∷◌, Some, None, nat_lt, true, false, OnOk, IfErr};
+ghost use Rattle.rack.specs.Values.{Values};
+ghost use Rattle.rack.specs.Targets.{target};
+ghost use Rattle.rack.specs.Sequences.{OnlyReads};
+ghost use Rattle.pool_state.specs.declared.contents.State.{State};
+ghost use Rattle.raid_map.specs.LeftSymmetric.{member_of, parity_at, row_at, sector_of};
+ghost use Rattle.array_image.specs.Places.{data_sector};
+ghost use Rattle.array_image.specs.Stripes.{mirror, parity};
+ghost use Rattle.array_image.specs.Arrays.{final_layout};
+ghost use Rattle.array_image.specs.Spent.{wanting, spent_with};
+ghost use Rattle.array_model.specs.View.{has_gone, is_whole_array, member_on, place_at, sectors_of, shape_of, spent_in};
+ghost use Rattle.array_model.specs.ArrayCalls.{Covers, WritesArray};
+ghost use Rattle.array_model.specs.Members.{HasSlices, IsKept, Notes, Works, members_of, slice_on};
+ghost use Rattle.array_model.specs.Rows.{Wrote, copies};
+ghost use Rattle.array_core.specs.Stands.{IsStand};
+ghost use Rattle.array_core.specs.Parities.{FoundParity};
+
+use crate::members::{Spread, Stand};
+use crate::reading::DATA_SECTOR;
+use crate::{Array, Spent};
+use parity::xor_into;
+use rack::Rack;
+use raid_map::place;
+
+impl Array {
+    /// Writes a sector of a member's data that counts. One that refuses has gone.
+    fn send<R: Rack>(&mut self, rack: &mut R, position: usize, sector: u64, from: &[u8; 512])
+        requires slices { HasSlices self.old (R.seen rack.old) }
+        requires position { position < self.old.truth.raid_disks }
+        requires counts { sector < (member_on self.old position).reach }
+        requires sector { sector < self.old.truth.size }
+        ensures works { Works self.old self.new (R.seen rack.old) (R.seen rack.new) (target (slice_on self.old position) (data_sector + sector) from.now ∷ []) }
+        ensures runs { R.runs rack.old rack.new }
+    {
+        self.rules();
+        let slice = self.slice(position);
+        match rack.write(slice, DATA_SECTOR + sector, from) {
+            Ok(()) => {}
+            Err(_) => {
+                let place = self.place_on(position);
+                self.note(place);
+            }
+        }
+    }
+
+    /// Writes a sector of a member's data, unless it has gone in this call.
+    fn put<R: Rack>(&mut self, rack: &mut R, position: usize, sector: u64, from: &[u8; 512])
+        requires slices { HasSlices self.old (R.seen rack.old) }
+        requires position { position < self.old.truth.raid_disks }
+        requires kept { IsKept self.old position }
+        requires sector { sector < self.old.truth.size }
+        ensures works { Works self.old self.new (R.seen rack.old) (R.seen rack.new) (target (slice_on self.old position) (data_sector + sector) from.now ∷ []) }
+        ensures idle { has_gone self.old (place_at self.old position) ≡ true → (x : List ℕ)
+            → Works self.old self.new (R.seen rack.old) (R.seen rack.new) (target (slice_on self.old position) (data_sector + sector) x ∷ []) }
+        ensures runs { R.runs rack.old rack.new }
+    {
+        self.rules();
+        if !self.counts(position, sector) {
+            return;
+        }
+        self.send(rack, position, sector, from);
+    }
+
+    /// Writes a sector on all members of a whole mirror.
+    fn copy_all<R: Rack>(&mut self, rack: &mut R, sector: u64, from: &[u8; 512])
+        requires slices { HasSlices self.old (R.seen rack.old) }
+        requires whole { is_whole_array self.old ≡ true }
+        requires fresh { self.old.went ≡ [] }
+        requires sector { sector < self.old.truth.size }
+        ensures works { Works self.old self.new (R.seen rack.old) (R.seen rack.new) (copies (shape_of self.old) self.old.number sector from.now) }
+        ensures runs { R.runs rack.old rack.new }
+    {
+        self.rules();
+        for position in 0..self.members() {
+            self.put(rack, position, sector, from);
+        }
+    }
+
+    /// The parity that a row needs once a sector of it has a new value, by the old value and the old parity. The answer is false
+    /// where the sector is spent. A parity whose member has gone isn't wanted.
+    fn next_parity<R: Rack>(
+        &mut self,
+        rack: &mut R,
+        at: &Stand,
+        side: &Stand,
+        from: &[u8; 512],
+        into: &mut [u8; 512],
+    ) -> bool
+        requires slices { HasSlices self.old (R.seen rack.old) }
+        requires at { IsStand self.old at.now }
+        requires side { IsStand self.old side.now }
+        ensures reads { OnlyReads (R.seen rack.old) (R.seen rack.new) }
+        ensures notes { Notes self.old self.new (R.seen rack.old) (R.seen rack.new) }
+        ensures runs { R.runs rack.old rack.new }
+        ensures found { result ≡ true → FoundParity self.old self.new (R.seen rack.old) at.now side.now from.now into.new }
+        ensures refused { result ≡ false → spent_with (wanting at.now.sector (members_of self.new)) (nat_lt (row_at at.now.sector) self.new.resync) ≡ true }
+    {
+        let mut old = [0; 512];
+        if !self.find(rack, at, &mut old) {
+            return false;
+        }
+        self.own(rack, side, into);
+        xor_into(into, &old);
+        xor_into(into, from);
+        true
+    }
+
+    /// Writes a sector of a whole RAID-5 array, and the parity of its row.
+    fn change<R: Rack>(&mut self, rack: &mut R, x: u64, from: &[u8; 512])
+        requires slices { HasSlices self.old (R.seen rack.old) }
+        requires whole { is_whole_array self.old ≡ true }
+        requires fresh { self.old.went ≡ [] }
+        requires layout { final_layout self.old.truth ≡ parity self.old.truth.raid_disks }
+        requires sector { x < sectors_of self.old }
+        ensures wrote { Wrote self.old self.new (R.seen rack.old) (R.seen rack.new) x from.now }
+        ensures runs { R.runs rack.old rack.new }
+    {
+        self.rules();
+        let at = self.stand(x);
+        let side = self.parity_stand(x);
+        let mut parity = [0; 512];
+        if !self.next_parity(rack, &at, &side, from, &mut parity) {
+            return;
+        }
+        self.put(rack, at.position, at.sector, from);
+        self.put(rack, side.position, at.sector, &parity);
+    }
+
+    /// Writes the row of a sector of a whole array past the log.
+    fn write_row<R: Rack>(&mut self, rack: &mut R, sector: u64, from: &[u8; 512])
+        requires slices { HasSlices self.old (R.seen rack.old) }
+        requires whole { is_whole_array self.old ≡ true }
+        requires fresh { self.old.went ≡ [] }
+        requires sector { sector < sectors_of self.old }
+        ensures wrote { Wrote self.old self.new (R.seen rack.old) (R.seen rack.new) sector from.now }
+        ensures runs { R.runs rack.old rack.new }
+    {
+        self.rules();
+        if self.mirrors() {
+            self.copy_all(rack, sector, from);
+        } else {
+            self.change(rack, sector, from);
+        }
+    }
+
+    /// Writes a sector of a whole array whose mark is durable, past the log. A member that answers `Gone` is missing from then on,
+    /// and the others have the whole row. The sector is refused exactly where it is spent after that.
+    pub(crate) fn write_marked<R: Rack>(
+        &mut self,
+        rack: &mut R,
+        sector: u64,
+        from: &[u8; 512],
+    ) -> Result<(), Spent>
+        requires slices { HasSlices self.old (R.seen rack.old) }
+        requires whole { is_whole_array self.old ≡ true }
+        requires marked { self.old.marked ≡ true }
+        requires fresh { self.old.went ≡ [] }
+        requires sector { sector < sectors_of self.old }
+        ensures writes { (s : State) (vals : ℕ → Values) (spent : ℕ → Bool) → Covers self.new spent
+            → WritesArray s self.old self.new spent (R.seen rack.old) (R.seen rack.new) (shape_of self.old) vals sector from.now }
+        ensures notes { Notes self.old self.new (R.seen rack.old) (R.seen rack.new) }
+        ensures runs { R.runs rack.old rack.new }
+        ensures served { OnOk result (spent_in self.new sector ≡ false) }
+        ensures refused { IfErr result (λ e. (e.sector ≡ sector) × (spent_in self.new sector ≡ true)) }
+    {
+        self.rules();
+        self.write_row(rack, sector, from);
+        if self.is_spent(sector) {
+            Err(Spent { sector })
+        } else {
+            Ok(())
+        }
+    }
+}
