@@ -1,0 +1,288 @@
+-- A commit that marks losses: each array that stands gives its values at each moment of it, and stands after it by the new state.
+use Rattle.std.proofs.Common.{◌≡◌, ℕ, ◌+◌, ◌<◌, Bool, true, false, ◌||◌, List, [], Option, Some, None, unwrap_or, refl, sym, ap, ap₂, subst, ◌∙◌, inl, inr, arith}
+use Rattle.rack.specs.Values.{Values, MayLeave}
+use Rattle.rack.specs.Seen.{Image, Seen, IsLive}
+use Rattle.rack.specs.Joins.{leaves_weaker}
+use Rattle.rack.specs.Targets.{Target, look, put}
+use Rattle.md_super.specs.declared.superblock.Super.{Super}
+use Rattle.pool_state.specs.declared.contents.State.{State}
+use Rattle.array_image.specs.Places.{log_slice, member_slice, data_sector}
+use Rattle.array_image.specs.States.{state_in, is_current}
+use Rattle.array_image.specs.Supers.{super_in, truth_in}
+use Rattle.array_image.specs.SoundArray.{array_fields}
+use Rattle.array_image.specs.Arrays.{Member, Shape, place_with, value_by, replayed}
+use Rattle.array_image.specs.Held.{Among, current_in, IsSettled}
+use Rattle.array_image.specs.Left.{IsInside, LogsInside, Picks, IsLeft, IsClosed}
+use Rattle.array_image.proofs.Frames.{Agree, supers_same, truth_by_supers, state_same, shape_same}
+use Rattle.array_image.proofs.SoundFrames.{sound_same}
+use Rattle.array_image.proofs.Replays.{replayed_as_is}
+use Rattle.array_image.specs.Marks.{lowered}
+use Rattle.array_image.proofs.Settled.{settled_value}
+use Rattle.commit_log.specs.View.{LogView, names, next_number}
+use Rattle.commit_log.specs.Standing.{IsReady, SomeoneDecides, IsLogPart, IsAlike}
+use Rattle.commit_log.specs.Commits.{Commits, CommitCall}
+use Rattle.commit_log.specs.Kept.{LogKept, AreLeft, gone_with, Brings}
+use Rattle.commit_log.proofs.Kept.{stands_of, before_inside, brought_state, put_none}
+use Rattle.commit_log.proofs.KeptAfter.{kept_after}
+use Rattle.array_model.specs.View.{View, shape_of, may_vary}
+use Rattle.array_model.specs.Says.{Says, IsOpen, HoldsShape, IsEarlier}
+use Rattle.array_model.proofs.Keeping.{live_on, inside_before, logs_of, KeepsData}
+use Rattle.array_model.proofs.Losses.{noted_holds, marked_holds}
+use Rattle.raid_rack.specs.Raid.{Raid, Stood}
+use Rattle.raid_rack.specs.Marking.{NoData, Restates, SaysBetween, Part}
+use Rattle.raid_rack.specs.Book.{IsAfter}
+use Rattle.raid_rack.proofs.Books.{after_same}
+use Rattle.raid_rack.proofs.Own.{look_nothing, says_same, stood_left}
+
+-- ---- slices of an array, and the states' sectors, aren't the log's
+
+member_no_log : (n place t : ℕ) → n < 16 → IsLogPart (member_slice place n) t → ⊥
+member_no_log n place t few part = absurd (omega (arith, few, part.0))
+
+state_no_log : (place : ℕ) → IsLogPart (log_slice place) 0 → ⊥
+state_no_log place part = absurd (omega (arith, part.1))
+
+alike_agree : (n : ℕ) (c e : Image) → n < 16 → IsAlike c e → Agree n c e
+alike_agree n c e few alike place t = alike (member_slice place n) t (member_no_log n place t few)
+
+alike_state : (c e : Image) → IsAlike c e → state_in c ≡ state_in e
+alike_state c e alike = state_same c e (λ place. alike (log_slice place) 0 (state_no_log place))
+
+-- no target is for a member's data
+pub no_data : (xs : List Target) (n place sector : ℕ) → NoData xs → n < 16 → look xs (member_slice place n) (data_sector + sector) ≡ None
+no_data xs n place sector none few = of (look xs (member_slice place n) (data_sector + sector)) refl
+  where
+    of : (o : Option (List ℕ)) → look xs (member_slice place n) (data_sector + sector) ≡ o → o ≡ None
+    of None is = refl
+    of (Some w) is =
+        elim (none (member_slice place n) (data_sector + sector) w is) [
+          | inl log ↦ absurd (omega (arith, few, log))
+          | inr head ↦ absurd (omega (arith, head))
+        ]
+
+-- ---- with all targets written
+
+-- contents from before the commit with its targets say the array by the new state
+put_says : (t : State) (noted : Shape) (marked : Bool) (view : View) (vals : ℕ → Values) (spent : ℕ → Bool) (xs : List Target) (a : Seen) (n : ℕ) (c : Image)
+    → n < 16 → Restates t noted marked view xs a n → NoData xs
+    → Picks a c
+    → IsSettled noted n a.held
+    → ((m : Member) (sector : ℕ) → Among m noted.members → sector < m.reach → IsLive a a (member_slice m.place n) (data_sector + sector))
+    → ((y : ℕ) → spent y ≡ false → value_by noted (current_in a.held) n y ≡ (vals y).current)
+    → Says t n noted vals spent (put a.sectors xs c)
+put_says t noted marked view vals spent xs a n c few restates none picks settled live current =
+    record {
+      shape_is = restates.shape_is c picks;
+      value = λ y alive.
+          inl (settled_value noted n a.held (put a.sectors xs c) settled
+          (λ m sector among counts.
+          subst (MayLeave (a.held (member_slice m.place n) (data_sector + sector)))
+          (sym (put_none a.sectors xs c (member_slice m.place n) (data_sector + sector) (no_data xs n m.place sector none few)))
+          (picks.picks (member_slice m.place n) (data_sector + sector) (live m sector among counts)))
+          y
+          ∙ current y alive);
+      is_sound = restates.sound c picks;
+    }
+
+-- ---- at each moment
+
+-- what the commit needs of the pool, and what it is
+pub record MarksCall (s t : State) (gone : ℕ → Bool) (l : LogView) (on lost : List ℕ) (a b : Seen) : Type 0 where
+  pub commit : CommitCall l on lost a b
+  pub brings : Brings s t l.added on
+  pub are_left : AreLeft s gone on
+  pub none : NoData l.added
+  pub ready : IsReady l on a
+  pub decides : SomeoneDecides l.added on lost a
+  -- one of the places that are left, as the new state has it
+  pub place : ℕ
+  pub was : is_current s place ≡ true
+  pub left : gone place ≡ false
+  pub now : is_current t place ≡ true
+  pub stays : names lost place ≡ false
+
+marked_moment : (s t : State) (durable noted : Shape) (vary marked : Bool) (view : View) (vals : ℕ → Values) (spent gone : ℕ → Bool) (v : Raid) (l : LogView) (on lost : List ℕ) (a b : Seen) (n : ℕ) (c : Image)
+    → n < 16 → IsAfter s t
+    → MarksCall s t gone l on lost a b → Restates t noted marked view l.added a n → IsSettled noted n a.held
+    → HoldsShape s n durable noted (v.arrays n).resync vary vals spent a
+    → Stood s durable vals spent gone v a n
+    → IsInside a.sectors c → Commits l.added a c
+    → SaysBetween s t n vals spent (replayed a.sectors c)
+marked_moment s t durable noted vary marked view vals spent gone v l on lost a b n c few book call restates settled holds stood inside commits =
+    let before = commits.before in
+    let picks = before_inside l.added a c before inside commits.stands commits.either in
+    let r : Image = replayed a.sectors c in
+    elim commits.either [
+      | inl old ↦
+          let e : Image = replayed a.sectors before in
+          let left = stood_left s durable vals spent gone v a n before stood picks in
+          record {
+            state = s;
+            is_state = alike_state r e old ∙ left.0;
+            later = after_same s;
+            sooner = book;
+            shape = durable;
+            says = says_same s n durable vals spent r e (alike_agree n r e few old) left.1;
+          }
+      | inr new ↦
+          let e : Image = put a.sectors l.added before in
+          record {
+            state = t;
+            is_state =
+                alike_state r e new
+                ∙ brought_state s t gone on l.added a before call.place stood.log.logs stood.log.copies call.brings (stands_of before picks)
+                (stood.log.few call.place call.was) (stood.log.there call.place call.was call.left) call.was call.left call.now;
+            later = book;
+            sooner = after_same t;
+            shape = noted;
+            says = says_same t n noted vals spent r e (alike_agree n r e few new)
+                (put_says t noted marked view vals spent l.added a n before few restates call.none picks settled holds.open_left holds.current);
+          }
+    ]
+
+-- ---- after it
+
+-- what the commit leaves pending has no data
+still_after : (s t : State) (gone : ℕ → Bool) (l : LogView) (on lost : List ℕ) (a b : Seen) (n place sector : ℕ) (c : Image)
+    → n < 16 → MarksCall s t gone l on lost a b → Picks b c
+    → replayed b.sectors c (member_slice place n) (data_sector + sector) ≡ c (member_slice place n) (data_sector + sector)
+still_after s t gone l on lost a b n place sector c few call picks =
+    let rests = call.commit.rests call.ready call.decides c (logs_of c picks) in
+    replayed_as_is b.sectors c (member_slice place n) (data_sector + sector)
+    (elim rests.targets [
+      | inl none ↦ ap (λ (xs : List Target). look xs (member_slice place n) (data_sector + sector)) none ∙ look_nothing (member_slice place n) (data_sector + sector)
+      | inr all ↦
+          ap (λ (xs : List Target). look xs (member_slice place n) (data_sector + sector)) all.1
+          ∙ no_data l.added n place sector call.none few
+    ])
+
+-- and replayed contents restate the array
+restated_after : (s t : State) (noted : Shape) (marked : Bool) (view : View) (gone : ℕ → Bool) (l : LogView) (on lost : List ℕ) (a b : Seen) (n : ℕ) (r : Image)
+    → n < 16 → MarksCall s t gone l on lost a b → Restates t noted marked view l.added a n → IsLeft b r
+    → (before : Image) × Picks a before × Agree n r (put a.sectors l.added before)
+restated_after s t noted marked view gone l on lost a b n r few call restates left =
+    let c = left.0 in
+    let done = call.commit.after call.ready call.decides c (stands_of c left.1) in
+    let inside : IsInside a.sectors c = inside_before call.commit.stays c left.1.inside in
+    let same : (d u : ℕ) → r d u ≡ replayed a.sectors c d u =
+    λ d u. left.2 d u ∙ ap (λ (sectors : ℕ → ℕ). replayed sectors c d u) (λ i e. call.commit.stays.sectors e i) in (
+      done.before,
+      before_inside l.added a c done.before inside done.stands (inr done.all),
+      λ place u. same (member_slice place n) u ∙ alike_agree n (replayed a.sectors c) (put a.sectors l.added done.before) few done.all place u,
+    )
+
+-- no data was written
+data_kept : (s t : State) (noted : Shape) (gone : ℕ → Bool) (l : LogView) (on lost : List ℕ) (a b : Seen) (n : ℕ)
+    → n < 16 → MarksCall s t gone l on lost a b → IsOpen noted n a → KeepsData noted n a.held b.held
+data_kept s t noted gone l on lost a b n few call is_open m sector among counts =
+    call.commit.apart (member_slice m.place n) (data_sector + sector)
+    (live_on call.ready.lasting call.commit.stays (is_open m sector among counts))
+    (member_no_log n m.place (data_sector + sector) few)
+    (no_data l.added n m.place sector call.none few)
+
+-- An array whose members are settled holds for the new state what it held for the old one.
+pub shape_after : (s t : State) (durable noted : Shape) (resync : ℕ) (vary marked vary_now : Bool) (view : View) (vals : ℕ → Values) (spent gone : ℕ → Bool) (l : LogView) (on lost : List ℕ) (a b : Seen) (n : ℕ)
+    → n < 16 → MarksCall s t gone l on lost a b → Restates t noted marked view l.added a n → IsSettled noted n a.held
+    → HoldsShape s n durable noted resync vary vals spent a
+    → HoldsShape t n noted noted resync vary_now vals spent b
+shape_after s t durable noted resync vary marked vary_now view vals spent gone l on lost a b n few call restates settled holds =
+    marked_holds s t n durable noted resync vary vary_now vals spent a b holds settled call.ready.lasting call.commit.stays
+    (data_kept s t noted gone l on lost a b n few call holds.open_left)
+    (λ c picks m sector among counts. still_after s t gone l on lost a b n m.place sector c few call picks)
+    (λ r left.
+    let at = restated_after s t noted marked view gone l on lost a b n r few call restates left in
+    let e : Image = put a.sectors l.added at.0 in (
+      shape_same t r e n at.2 ∙ restates.shape_is at.0 at.1,
+      λ u is. sound_same t r e n u at.2 (restates.sound at.0 at.1 u (sym (truth_by_supers t r e n (supers_same t r e n at.2)) ∙ is)),
+    ))
+
+-- what contracts see of an array once those that went in the commit are noted
+pub record NotesLost (u : View) (noted : Shape) (resync : ℕ) (marked : Bool) (view : View) (lost : List ℕ) (n : ℕ) : Type 0 where
+  pub number : u.number ≡ n
+  pub shape : shape_of u ≡ lowered (names lost) noted
+  pub resync_is : u.resync ≡ resync
+  pub marked_is : u.marked ≡ true → marked ≡ true
+  pub view_number : view.number ≡ n
+  pub truth : u.truth ≡ view.truth
+  pub went : u.went ≡ [] → lost ≡ []
+
+-- what the commit leaves pending is nothing, where nobody went
+closed_after : (s t : State) (gone : ℕ → Bool) (l : LogView) (on lost : List ℕ) (a b : Seen) (n : ℕ)
+    → MarksCall s t gone l on lost a b → lost ≡ [] → IsClosed n b
+closed_after s t gone l on lost a b n call nobody c picks place u =
+    let rests = call.commit.rests call.ready call.decides c picks in
+    replayed_as_is b.sectors c (member_slice place n) u
+    (elim rests.targets [
+      | inl none ↦ ap (λ (xs : List Target). look xs (member_slice place n) u) none ∙ look_nothing (member_slice place n) u
+      | inr all ↦ absurd (all.0 nobody)
+    ])
+
+-- a superblock with the same fields isn't later
+earlier_same : (t u : Super) → array_fields t ≡ array_fields u → IsEarlier t u
+earlier_same t u same =
+    record {
+      fields = ap (λ (f : Super). record f { events = 0; resync_offset = 0 }) same;
+      events = let e = ap (λ (f : Super). f.events) same in omega arith;
+    }
+
+-- The whole of it: an array that stands before a commit of marks, its members settled, gives its values at each moment and stands
+-- after it, without those that went in it.
+pub marks_part : (s t : State) (durable noted : Shape) (vary marked : Bool) (view : View) (vals : ℕ → Values) (spent gone : ℕ → Bool) (v w : Raid) (l : LogView) (on lost : List ℕ) (a b : Seen) (n : ℕ)
+    → n < 16 → IsAfter s t → l.number ≡ v.number → w.number ≡ next_number l.number → n < t.joined → t.joined < 17
+    → MarksCall s t gone l on lost a b → Restates t noted marked view l.added a n → IsSettled noted n a.held
+    → HoldsShape s n durable noted (v.arrays n).resync vary vals spent a
+    → NotesLost (w.arrays n) noted (v.arrays n).resync marked view lost n
+    → ((y : ℕ) → spent y ≡ false → value_by (lowered (names lost) noted) (current_in b.held) n y ≡ value_by noted (current_in b.held) n y)
+    → Part s t durable noted vals vals spent gone (gone_with gone lost) v w a b n
+marks_part s t durable noted vary marked view vals spent gone v w l on lost a b n few book number number_now joined arrays call restates settled holds notes same =
+    let u = w.arrays n in
+    record {
+      stays = call.commit.stays;
+      book = book;
+      leaves = λ traced.
+          leaves_weaker (λ c. LogsInside a.sectors c → Commits l.added a c)
+          (λ c. IsInside a.sectors c → Stood s durable vals spent gone v a n → SaysBetween s t n vals spent (replayed a.sectors c))
+          (λ c commits inside stood.
+          marked_moment s t durable noted vary marked view vals spent gone v l on lost a b n c few book call restates settled holds stood inside (commits (λ place i out. inside (log_slice place) i out)))
+          (call.commit.stops traced call.ready call.decides);
+      holds = λ stood.
+          record {
+            joined = joined;
+            few = arrays;
+            number = notes.number;
+            log = subst (λ k. LogKept t k (gone_with gone lost) b) (sym number_now)
+                (kept_after s t gone l on lost a b call.commit (subst (λ k. LogKept s k gone a) (sym number) stood.log) call.brings call.are_left call.ready call.decides);
+            someone = (call.place, call.now, ap₂ (λ (x : Bool) (y : Bool). x || y) call.left call.stays);
+            holds = record {
+              shape =
+                  subst (λ k. HoldsShape t k noted (shape_of u) u.resync (may_vary u) vals spent b) (sym notes.number)
+                  (subst (λ k. HoldsShape t n noted (shape_of u) k (may_vary u) vals spent b) (sym notes.resync_is)
+                  (subst (λ (shape : Shape). HoldsShape t n noted shape (v.arrays n).resync (may_vary u) vals spent b) (sym notes.shape)
+                  (noted_holds t n noted noted (v.arrays n).resync (may_vary u) vals spent spent b (names lost)
+                  (shape_after s t durable noted (v.arrays n).resync vary marked (may_vary u) view vals spent gone l on lost a b n few call restates settled holds)
+                  (λ y alive. alive) same)));
+              mark = λ is r left tr truth.
+                  let at = restated_after s t noted marked view gone l on lost a b n r few call restates left in
+                  let e : Image = put a.sectors l.added at.0 in
+                  restates.dirty (notes.marked_is is) at.0 at.1 tr
+                  (sym (truth_by_supers t r e n (supers_same t r e n at.2)) ∙ subst (λ k. truth_in t r k ≡ Some tr) notes.number truth);
+              truth = λ r left tr truth.
+                  let at = restated_after s t noted marked view gone l on lost a b n r few call restates left in
+                  let e : Image = put a.sectors l.added at.0 in
+                  earlier_same tr u.truth
+                  (restates.truth at.0 at.1 tr
+                  (sym (truth_by_supers t r e n (supers_same t r e n at.2)) ∙ subst (λ k. truth_in t r k ≡ Some tr) notes.number truth)
+                  ∙ sym (ap array_fields notes.truth));
+              alone = λ r left place current other.
+                  let at = restated_after s t noted marked view gone l on lost a b n r few call restates left in
+                  let e : Image = put a.sectors l.added at.0 in
+                  subst (λ k. super_in t r k place ≡ None) (sym notes.number)
+                  (supers_same t r e n at.2 place
+                  ∙ subst (λ k. super_in t e k place ≡ None) notes.view_number
+                  (restates.alone at.0 at.1 place current
+                  (λ k small here. other k (subst (λ (q : Super). k < q.raid_disks) (sym notes.truth) small)
+                  (ap (λ (q : Super). unwrap_or (place_with q.roles.items k) 16) notes.truth ∙ here))));
+              closed = λ none. subst (λ k. IsClosed k b) (sym notes.number) (closed_after s t gone l on lost a b n call (notes.went none));
+            };
+          };
+    }

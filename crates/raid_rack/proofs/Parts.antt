@@ -1,0 +1,153 @@
+-- Parts of a call in a row, and the calls of arrays as parts: each seen from one array.
+use Rattle.std.proofs.Common.{◌≡◌, ℕ, ◌<◌, ◌≤◌, Bool, true, false, List, Some, refl, sym, ap, subst, ◌∙◌, inl, inr, arith}
+use Rattle.rack.specs.Values.{Values}
+use Rattle.rack.specs.Seen.{Image, Seen}
+use Rattle.rack.specs.Joins.{stays_then, leaves_then, leaves_weaker}
+use Rattle.rack.specs.Targets.{Target, look}
+use Rattle.pool_state.specs.declared.contents.State.{State}
+use Rattle.array_image.specs.Places.{log_slice, member_slice}
+use Rattle.array_image.specs.States.{state_in, is_current}
+use Rattle.array_image.specs.Arrays.{Shape, replayed}
+use Rattle.array_image.specs.Left.{IsInside, IsCalm, IsApart}
+use Rattle.array_image.proofs.Frames.{Agree, state_same}
+use Rattle.array_image.proofs.Replays.{replayed_as_is}
+use Rattle.commit_log.specs.Kept.{LogKept}
+use Rattle.commit_log.proofs.Kept.{stands_of, kept_replayed, kept_idle}
+use Rattle.array_model.specs.View.{View}
+use Rattle.array_model.specs.Says.{Says, Holds}
+use Rattle.array_model.specs.ArrayCalls.{Acts, Turns}
+use Rattle.array_model.proofs.Others.{other_holds_all}
+use Rattle.raid_rack.specs.Raid.{Raid, Stood}
+use Rattle.raid_rack.specs.Marking.{SaysBetween, Part}
+use Rattle.raid_rack.proofs.Books.{after_same, after_then}
+use Rattle.raid_rack.proofs.Own.{look_nothing, stood_left, says_at, says_same}
+
+-- two parts in a row are one
+pub part_then : (s t u : State) (first durable after : Shape) (vals now : ℕ → Values) (spent gone gone_now gone_after : ℕ → Bool) (v w z : Raid) (a b c : Seen) (n : ℕ)
+    → Part s t first durable vals now spent gone gone_now v w a b n
+    → Part t u durable after now now spent gone_now gone_after w z b c n
+    → Part s u first after vals now spent gone gone_after v z a c n
+part_then s t u first durable after vals now spent gone gone_now gone_after v w z a b c n one two =
+    record {
+      stays = stays_then one.stays two.stays;
+      book = after_then s t u one.book two.book;
+      leaves = λ traced.
+          leaves_then
+          (λ i. IsInside a.sectors i → Stood s first vals spent gone v a n → SaysBetween s u n now spent (replayed a.sectors i))
+          (leaves_weaker
+          (λ i. IsInside a.sectors i → Stood s first vals spent gone v a n → SaysBetween s t n now spent (replayed a.sectors i))
+          (λ i. IsInside a.sectors i → Stood s first vals spent gone v a n → SaysBetween s u n now spent (replayed a.sectors i))
+          (λ i says inside stood.
+          let at = says inside stood in
+          record { state = at.state; is_state = at.is_state; later = at.later; sooner = after_then at.state t u at.sooner two.book; shape = at.shape; says = at.says })
+          (one.leaves traced))
+          (leaves_weaker
+          (λ i. IsInside b.sectors i → Stood t durable now spent gone_now w b n → SaysBetween t u n now spent (replayed b.sectors i))
+          (λ i. IsInside a.sectors i → Stood s first vals spent gone v a n → SaysBetween s u n now spent (replayed a.sectors i))
+          (λ i says inside stood.
+          subst (λ (sectors : ℕ → ℕ). SaysBetween s u n now spent (replayed sectors i)) (λ k d. one.stays.sectors d k)
+          (let at = says (λ d t out. inside d t (subst (λ k. k ≤ t) (one.stays.sectors d) out)) (one.holds stood) in
+          record { state = at.state; is_state = at.is_state; later = after_then s t at.state one.book at.later; sooner = at.sooner; shape = at.shape; says = at.says }))
+          (two.leaves (one.stays.traced traced)));
+      holds = λ stood. two.holds (one.holds stood);
+    }
+
+-- ---- a call of the array itself
+
+-- contents that turn in an array's slices alone have the state from before
+turned_state : (s : State) (durable : Shape) (vals : ℕ → Values) (spent gone : ℕ → Bool) (v : Raid) (a b : Seen) (n m : ℕ) (P : Image → Type 0) (c : Image)
+    → Stood s durable vals spent gone v a n → Turns m a b P c → state_in (replayed a.sectors c) ≡ Some s
+turned_state s durable vals spent gone v a b n m P c stood turns =
+    let before = turns.left.0 in
+    state_same (replayed a.sectors c) (replayed a.sectors before)
+    (λ place.
+    turns.others (log_slice place) 0 (λ same. absurd (omega (arith, same)), inr refl)
+    ∙ turns.left.2 (log_slice place) 0)
+    ∙ kept_replayed s v.number gone a before stood.someone.0 stood.log (stands_of before turns.left.1) stood.someone.1 stood.someone.2
+
+pub part_own : (s : State) (durable : Shape) (vals now : ℕ → Values) (spent gone gone_now : ℕ → Bool) (v w : Raid) (a b : Seen) (n : ℕ)
+    → Acts s (v.arrays n) (w.arrays n) spent a b durable vals (Says s (v.arrays n).number durable now spent) durable now
+    → (LogKept s v.number gone a → LogKept s w.number gone_now b)
+    → ((place : ℕ) × (is_current s place ≡ true) × (gone_now place ≡ false))
+    → Part s s durable durable vals now spent gone gone_now v w a b n
+part_own s durable vals now spent gone gone_now v w a b n acts log someone =
+    record {
+      stays = acts.stays;
+      book = after_same s;
+      leaves = λ traced.
+          leaves_weaker
+          (λ c. IsInside a.sectors c → Turns (v.arrays n).number a b (λ r. Holds s durable (v.arrays n) vals spent a → Says s (v.arrays n).number durable now spent r) c)
+          (λ c. IsInside a.sectors c → Stood s durable vals spent gone v a n → SaysBetween s s n now spent (replayed a.sectors c))
+          (λ c turn inside stood.
+          let turns = turn inside in
+          says_at s n durable now spent (replayed a.sectors c)
+          (turned_state s durable vals spent gone v a b n (v.arrays n).number (λ r. Holds s durable (v.arrays n) vals spent a → Says s (v.arrays n).number durable now spent r) c stood turns)
+          (subst (λ k. Says s k durable now spent (replayed a.sectors c)) stood.number (turns.own stood.holds)))
+          (acts.leaves traced);
+      holds = λ stood.
+          record {
+            joined = stood.joined;
+            few = stood.few;
+            number = acts.noted.same.number ∙ stood.number;
+            log = log stood.log;
+            someone = someone;
+            holds = acts.holds stood.holds;
+          };
+    }
+
+-- ---- a call of another array
+
+-- where all current places are left, nothing is pending for other arrays
+pub kept_calm : (s : State) (number : ℕ) (gone : ℕ → Bool) (x : Seen) (m : ℕ) → LogKept s number gone x
+    → ((p : ℕ) → is_current s p ≡ true → gone p ≡ false) → IsCalm m x
+kept_calm s number gone x m kept all c picks d t apart =
+    replayed_as_is x.sectors c d t
+    (ap (λ (xs : List Target). look xs d t) (kept_idle s number gone x c kept picks all) ∙ look_nothing d t)
+
+-- the slices of another array are apart
+other_slices : (m n place t : ℕ) → m < 16 → n < 16 → (n ≡ m → ⊥) → IsApart m (member_slice place n) t
+other_slices m n place t few also other =
+    (λ same. absurd (other (omega (arith, few, also, same))), inl (λ none. absurd (omega (arith, also, none))))
+
+-- A call of array m, in which the view of array n stays: n gives its values at each moment, and stands.
+pub part_other : (s : State) (durable durable_m : Shape) (vals : ℕ → Values) (vals_m now_m : ℕ → Values) (spent spent_m gone gone_now : ℕ → Bool) (v w : Raid) (a b : Seen) (n m : ℕ) (during : Image → Type 0)
+    → m < 16 → n < 16 → (n ≡ m → ⊥) → (v.arrays m).number ≡ m → w.arrays n ≡ v.arrays n
+    → a.lasting
+    → ((p : ℕ) → is_current s p ≡ true → gone p ≡ false)
+    → Acts s (v.arrays m) (w.arrays m) spent_m a b durable_m vals_m during durable_m now_m
+    → (LogKept s v.number gone a → LogKept s w.number gone_now b)
+    → ((place : ℕ) × (is_current s place ≡ true) × (gone_now place ≡ false))
+    → Part s s durable durable vals vals spent gone gone_now v w a b n
+part_other s durable durable_m vals vals_m now_m spent spent_m gone gone_now v w a b n m during few also other number same lasting all acts log someone =
+    record {
+      stays = acts.stays;
+      book = after_same s;
+      leaves = λ traced.
+          leaves_weaker
+          (λ c. IsInside a.sectors c → Turns (v.arrays m).number a b (λ r. Holds s durable_m (v.arrays m) vals_m spent_m a → during r) c)
+          (λ c. IsInside a.sectors c → Stood s durable vals spent gone v a n → SaysBetween s s n vals spent (replayed a.sectors c))
+          (λ c turn inside stood.
+          let turns = turn inside in
+          let before = turns.left.0 in
+          let left = stood_left s durable vals spent gone v a n before stood turns.left.1 in
+          let agree : Agree n (replayed a.sectors c) (replayed a.sectors before) =
+          λ place t.
+          turns.others (member_slice place n) t (subst (λ k. IsApart k (member_slice place n) t) (sym number) (other_slices m n place t few also other))
+          ∙ turns.left.2 (member_slice place n) t in
+          says_at s n durable vals spent (replayed a.sectors c)
+          (turned_state s durable vals spent gone v a b n (v.arrays m).number (λ r. Holds s durable_m (v.arrays m) vals_m spent_m a → during r) c stood turns)
+          (says_same s n durable vals spent (replayed a.sectors c) (replayed a.sectors before) agree left.1))
+          (acts.leaves traced);
+      holds = λ stood.
+          let calm = kept_calm s v.number gone a (v.arrays m).number stood.log all in
+          record {
+            joined = stood.joined;
+            few = stood.few;
+            number = ap (λ (u : View). u.number) same ∙ stood.number;
+            log = log stood.log;
+            someone = someone;
+            holds = subst (λ (u : View). Holds s durable u vals spent b) (sym same)
+                (other_holds_all (v.arrays m).number (v.arrays n) (subst (λ k. k < 16) (sym number) few) (subst (λ k. k < 16) (sym stood.number) also)
+                (λ is. other (sym stood.number ∙ is ∙ number)) lasting acts.stays acts.apart calm (acts.calm calm) s durable vals spent stood.holds);
+          };
+    }

@@ -1,0 +1,100 @@
+-- What contracts see of a rack of arrays, and what it shows as a rack.
+use Rattle.std.specs.Prelude.{◌≡◌, ℕ, ◌-◌, ◌<◌, ◌^◌, Bool, true, false, ◌||◌, not, nat_lt}
+use Rattle.std.specs.List.{list_any, range_with_len}
+use Rattle.rack.specs.Values.{Values}
+use Rattle.rack.specs.Seen.{Image, Held, Seen}
+use Rattle.pool_state.specs.declared.contents.State.{State}
+use Rattle.array_image.specs.Arrays.{Shape, arrays_in, replayed}
+use Rattle.array_image.specs.States.{is_current}
+use Rattle.array_image.specs.Left.{IsInside}
+use Rattle.array_image.specs.Held.{held_by}
+use Rattle.commit_log.specs.Kept.{LogKept}
+use Rattle.array_model.specs.View.{View, shape_of, sectors_of, spent_in}
+use Rattle.array_model.specs.Says.{Holds}
+
+-- what contracts see of it, but for the rack below
+pub record Raid : Type 0 where
+  pub state : State
+  -- by number, those below `made`
+  pub arrays : ℕ → View
+  -- the number of the log
+  pub number : ℕ
+  -- the spent answers of each array so far
+  pub refused : ℕ → ℕ
+  -- the arrays that this run has written to
+  pub written : ℕ → Bool
+
+-- ---- sectors that can't be had
+
+-- Epochs, events and log numbers end at 2^63. Before the last ones every sector is refused, since a change could no more be told
+-- from the one before it. A call uses fewer than these.
+abbrev pub last_number : ℕ
+last_number = 2 ^ 63 - 1024
+
+abbrev pub is_used_up : Raid → Bool
+is_used_up v =
+    nat_lt last_number v.number
+    || (nat_lt last_number v.state.epoch || list_any (λ n. nat_lt last_number (v.arrays n).truth.events) (range_with_len 0 v.state.made))
+
+-- no drive is left: then two members of each array are missing, and nothing can be marked
+abbrev pub is_empty : Raid → Bool
+is_empty v = not (list_any (is_current v.state) (range_with_len 0 16))
+
+abbrev pub is_over : Raid → Bool
+is_over v = is_empty v || is_used_up v
+
+-- the sectors of an array that can't be had any more
+abbrev pub spent_of : Raid → ℕ → ℕ → Bool
+spent_of v n y = is_over v || spent_in (v.arrays n) y
+
+abbrev pub live_of : Raid → ℕ → ℕ → Type 0
+live_of v n y = spent_of v n y ≡ false
+
+-- ---- what is kept
+
+-- what its sectors hold
+abbrev pub held_in : Raid → Seen → Held
+held_in v x n = held_by (shape_of (v.arrays n)) x.held n
+
+-- An array in the middle of a call: images have the state s, and go by `durable`, the array's shape by the marks of s; its sectors
+-- hold `vals`. `gone` are the places that are noted and not yet marked.
+pub record Stood (s : State) (durable : Shape) (vals : ℕ → Values) (spent : ℕ → Bool) (gone : ℕ → Bool) (v : Raid) (x : Seen) (n : ℕ) : Type 0 where
+  pub joined : n < s.joined
+  pub few : s.joined < 17
+  pub number : (v.arrays n).number ≡ n
+  pub log : LogKept s v.number gone x
+  -- a place is left that images have as current
+  pub someone : (place : ℕ) × (is_current s place ≡ true) × (gone place ≡ false)
+  pub holds : Holds s durable (v.arrays n) vals spent x
+
+-- an array between calls, where all marks are durable
+pub record IsTold (v : Raid) (x : Seen) (n : ℕ) : Type 0 where
+  pub joined : n < v.state.joined
+  pub stood : is_over v ≡ false → Stood v.state (shape_of (v.arrays n)) (held_in v x n) (spent_of v n) (λ place. false) v x n
+
+-- ---- as a rack
+
+-- Contents of the arrays that a stop leaves: what the slices that it leaves say once replayed. The run's own sizes and marks are
+-- not in it, so it never changes for a moment that is past.
+abbrev pub Stops : Seen → ℕ → Image → Type 0
+Stops x k c = (below : Image) × x.stops k below × ((n y : ℕ) → c n y ≡ arrays_in (replayed x.sectors below) n y)
+
+-- what stops leave of the slices has nothing where there is no sector
+abbrev pub StopsInside : Seen → Type 0
+StopsInside x = (k : ℕ) (c : Image) → x.stops k c → IsInside x.sectors c
+
+abbrev pub raid_of : Raid → Seen → Seen
+raid_of v x = record {
+  disks = v.state.made;
+  sectors = λ n. sectors_of (v.arrays n);
+  held = held_in v x;
+  clock = x.clock;
+  stops = Stops x;
+  faults = v.refused;
+  spent = spent_of v;
+  lasting = ⊥;
+  steady = Unit {0};
+  fit = x.fit × x.lasting;
+  told = IsTold v x;
+  traced = x.traced;
+}
