@@ -1,0 +1,4 @@
+pub mod Chosen
+mod Decoding
+mod Ranges
+mod Sights

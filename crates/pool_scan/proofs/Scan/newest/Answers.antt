@@ -1,0 +1,22 @@
+use Rattle.std.proofs.Common.{◌∙◌, length, map, ap, sym, option_map}
+use Rattle.std.specs.List.{range_with_len}
+use Rattle.std.specs.Option.{option_copied}
+use Rattle.array_image.specs.Foremost.{foremost}
+use Rattle.array_image.specs.States.{epoch_of}
+use Rattle.pool_scan.specs.Scanning.{copied_at}
+use Rattle.pool_scan.proofs.Chosen.{newest_is}
+use Rattle.pool_scan.proofs.Scan.newest.Goals as goal
+
+pub returns-in-Some : goal.returns-in-Some
+returns-in-Some c = λ disks identities are.
+    ap (λ o. option_map (λ copy. copy.state) (option_copied o)) (sym c.in-Some.is)
+    ∙ ap (option_map (λ copy. copy.state)) c.newest_copy.ensures
+    ∙ ap (λ ks. option_map (λ copy. copy.state) (foremost epoch_of (map (copied_at ks) (range_with_len 0 (length ks))))) c.as_slice.ensures.value
+    ∙ newest_is disks identities c.args.self.now.disks.items are
+
+pub returns-in-None : goal.returns-in-None
+returns-in-None c = λ disks identities are.
+    ap (λ o. option_map (λ copy. copy.state) (option_copied o)) (sym c.in-None.is)
+    ∙ ap (option_map (λ copy. copy.state)) c.newest_copy.ensures
+    ∙ ap (λ ks. option_map (λ copy. copy.state) (foremost epoch_of (map (copied_at ks) (range_with_len 0 (length ks))))) c.as_slice.ensures.value
+    ∙ newest_is disks identities c.args.self.now.disks.items are
