@@ -10,16 +10,20 @@ use std::alloc::Global;
 use std::process::Abort;
 use std::test::Fail;
 
+// A drive of ten units, with an id of these bytes.
+fn drive_of(byte: u8) -> Drive {
+    Drive {
+        id: Id([byte; 16]),
+        units: 10,
+        missing: false,
+    }
+}
+
 // A state of two drives, of this epoch.
 fn state_of(epoch: u64) -> State {
     let mut drives = ArrayVec::new();
-    for place in 0..2 {
-        drives.push(Drive {
-            id: Id([place; 16]),
-            units: 10,
-            missing: false,
-        });
-    }
+    drives.push(drive_of(0));
+    drives.push(drive_of(1));
     State {
         pool: Id([7; 16]),
         epoch,

@@ -11,33 +11,8 @@ use Rattle.layer_plan.specs.Slicing.{height_on}
 use Rattle.layer_plan.specs.Layering.{array_of}
 use Rattle.layer_plan.proofs.Sums.{sum_by-map}
 use Rattle.shr_base.specs.Units.{units_of, reserved_sectors}
-use Rattle.shr_tool.specs.LayoutWords.{size_of, asked}
+use Rattle.shr_words.specs.LayoutWords.{size_of, asked}
 use Rattle.shr_tool.specs.LayoutText.{unused_on, unused_line, unused_lines}
-
-pub asked-empty : {Y : Type 0} (read : Y → List ℕ) (e : ℕ) (ys : List Y) → length ys ≡ 0 → asked (Some e) (map read ys) ≡ None
-asked-empty read e ys none = rw (length-map, none) refl
-
-pub asked-other : {Y : Type 0} (read : Y → List ℕ) (e : ℕ) (ys : List Y) → 0 < length ys →
-    list_all (λ y. is_some (size_of (read y))) ys ≡ false → asked (Some e) (map read ys) ≡ None
-asked-other read e ys some other =
-    let test : nat_lt 0 (length ys) ≡ true = grind (arith, nat_tests) in
-    rw (length-map, test, list_all-map, other) refl
-
-pub asked-sizes : {Y : Type 0} (read : Y → List ℕ) (e : ℕ) (ys : List Y) (items : List ℕ) → 0 < length ys →
-    list_all (λ y. is_some (size_of (read y))) ys ≡ true → items ≡ filter_map size_of (take 17 (map read ys)) →
-    asked (Some e) (map read ys) ≡ Some (record { extent = e; sizes = record { items = items } })
-asked-sizes read e ys items some all is =
-    let test : nat_lt 0 (length ys) ≡ true = grind (arith, nat_tests) in
-    rw (is, length-map, test, list_all-map, all) refl
-
--- the next word may add a size
-pub sizes_more : {Y : Type 0} (read : Y → List ℕ) (ys : List Y) (i : ℕ) (y : Y) → i < length ys → y ≡ get_or ys i y →
-    filter_map size_of (map read (take (i + 1) ys)) ≡ filter_map size_of (map read (take i ys)) ++ cons_option (size_of (read y)) []
-sizes_more read ys i y inside is =
-    ap (λ t. filter_map size_of (map read t)) (take_more ys i y inside)
-    ∙ ap (filter_map size_of) (map-append read (take i ys) (get_or ys i y ∷ []))
-    ∙ filter_map-append size_of (map read (take i ys)) (read (get_or ys i y) ∷ [])
-    ∙ ap (λ v. filter_map size_of (map read (take i ys)) ++ cons_option (size_of (read v)) []) (sym is)
 
 -- the places from one on
 pub range_from : (a n : ℕ) → a < n → range_with_len a (n - a) ≡ a ∷ range_with_len (a + 1) (n - (a + 1))
@@ -72,10 +47,6 @@ small_choice false sectors extent small least =
 pub units_small : (sectors extent : ℕ) → sectors < 2 ^ 48 → 128 ≤ extent → units_of sectors extent < 2 ^ 41
 units_small sectors extent small least =
     small_choice (nat_lt sectors reserved_sectors) (sectors - reserved_sectors) extent (omega arith) least
-
--- one size more
-pub small_more : (sizes : List ℕ) (size : ℕ) → All (λ s. s < 2 ^ 48) sizes → size < 2 ^ 48 → All (λ s. s < 2 ^ 48) (sizes ++ size ∷ [])
-small_more sizes size all small = All-append (λ s. s < 2 ^ 48) sizes (size ∷ []) all (search (rules, small))
 
 -- a list that isn't empty
 pub not_empty : (n : ℕ) (empty : Bool) → empty ≡ (n == 0) → empty ≡ false → 0 < n

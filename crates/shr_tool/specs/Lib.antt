@@ -12,6 +12,5 @@ pub mod Refusing
 pub mod Run
 pub mod Opened
 pub mod Making
-pub mod LayoutWords
 pub mod LayoutText
 pub mod Examining

@@ -140,10 +140,10 @@ SaysGone Sink d out out' = AddsPrefix out out' (drive_line d)
 SaysGone Refused d out out' = out' ≡ out ++ drive_line d
 SaysGone Memory d out out' = ⊥
 
--- a fault is answered only where its count rose
+-- a fault is answered only where its count rose, and words are refused before anything is done
 abbrev pub HasStatusCause : Status → ℕ → ℕ → ℕ → ℕ → Type 0
 HasStatusCause Done source source' sink sink' = Unit {0}
-HasStatusCause Words source source' sink sink' = Unit {0}
+HasStatusCause Words source source' sink sink' = ⊥
 HasStatusCause Limit source source' sink sink' = Unit {0}
 HasStatusCause Source source source' sink sink' = Rose source source'
 HasStatusCause Sink source source' sink sink' = Rose sink sink'

@@ -41,10 +41,10 @@ Ended code P = (status : Status) × (code ≡ code_of status) × P status
 pub record Says (wanted : Status) (line : List ℕ) (out out' : List ℕ) (status : Status) : Type 0 where
   pub said : ((status ≡ wanted) × (out' ≡ out ++ line)) ⊎ ((status ≡ Sink) × AddsPrefix out out' line)
 
--- a status that ends a run with a line of its own
+-- a status that ends a run with a line of its own, but for words that are refused
 abbrev pub IsSaid : Status → Type 0
 IsSaid Done = Unit {0}
-IsSaid Words = Unit {0}
+IsSaid Words = ⊥
 IsSaid Limit = ⊥
 IsSaid Source = ⊥
 IsSaid Sink = ⊥

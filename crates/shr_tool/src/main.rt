@@ -15,7 +15,6 @@ mod run;
 mod saying;
 mod serve;
 mod status;
-mod words;
 
 use io_ends::{StdSink, StdSource};
 use pool::Birth;

@@ -1,27 +1,28 @@
 //! All that the program does, over any bay, source and sink.
 
-ghost use Rattle.std.specs.Prelude.{◌≡◌, ◌≢◌, ◌≤◌, ◌^◌, ℕ, List, [], ◌∷◌, true, false, length, drop, map, codes, string_bytes};
+ghost use Rattle.std.specs.Prelude.{◌≡◌, ◌≢◌, ◌⊎◌, ◌<◌, ◌≤◌, ◌^◌, ℕ, List, true, false, length, drop, map, codes, string_bytes, Some, None};
 ghost use Rattle.rack.specs.Seen.{Rose};
-ghost use Rattle.shr_tool.specs.declared.words.Form.TheVariants.{Wrong, Unbuilt, Serve};
-ghost use Rattle.shr_tool.specs.declared.status.Status.TheVariants.{Words, Refused};
-ghost use Rattle.shr_tool.specs.LayoutWords.{layout_request as request_in, units_asked, extent_of};
+ghost use Rattle.shr_tool.specs.declared.status.Status.TheVariants.{Words, Refused, Memory};
+ghost use Rattle.shr_words.specs.declared.forms.Form.TheVariants.{Layout, Create, Serve, Examine};
+ghost use Rattle.shr_words.specs.LayoutWords.{units_asked};
+ghost use Rattle.shr_words.specs.Forms.{form_of as form_in};
 ghost use Rattle.shr_tool.specs.LayoutText.{Prints};
-ghost use Rattle.shr_tool.specs.Forms.{is_name, are_names, uses_disks, form_of as form_in};
+ghost use Rattle.shr_tool.specs.Forms.{is_built, uses_disks};
 ghost use Rattle.shr_script.specs.Reply.{refused_line};
 ghost use Rattle.shr_tool.specs.Limits.{KeepsLimit};
 ghost use Rattle.shr_tool.specs.Run.{Ended, Says, ServeOutcome, CreateOutcome};
 ghost use Rattle.shr_tool.specs.Examining.{ExamineOutcome};
 
 use crate::examining::examine_image;
-use crate::layout::{layout_request, print_layout};
+use crate::layout::print_layout;
 use crate::making::create;
 use crate::opening::serve;
-use crate::saying::refuse;
+use crate::saying::{refuse, refuse_words};
 use crate::status::Status;
-use crate::words::{Form, form_of};
 use io_ends::{Sink, Source};
 use pool::Birth;
 use rack::{Bay, Rack};
+use shr_words::{Form, WordsFault, form_of};
 use std::alloc::Global;
 
 /// Does what the words ask for, and answers the status that the program ends with.
@@ -36,43 +37,36 @@ pub fn run<B: Bay, I: Source, O: Sink>(
     // At entry nothing is attached.
     requires { (B.seen bay.old).disks ≡ 0 }
 
-    ensures serve { (names : List (List ℕ))
-        → map string_bytes words.now ≡ codes "serve" ∷ names
-        → are_names names ≡ true
-        → I.told input.old → O.told out.old
+    // The form of the words decides what is done. Want of memory to parse them is said, and nothing else is done.
+    ensures serve { form_in (map string_bytes words.now) ≡ Some Serve → I.told input.old → O.told out.old
         → Ended result (ServeOutcome (B.seen bay.old) (B.shelf bay.old) (B.seen bay.new) (B.shelf bay.new)
-        names (I.left input.old) (I.left input.new) (O.taken out.old) (O.taken out.new)) }
+        (map string_bytes (drop 1 words.now)) (I.left input.old) (I.left input.new) (O.taken out.old) (O.taken out.new)) }
 
-    ensures create { (word : List ℕ) (names : List (List ℕ)) (extent : ℕ)
-        → map string_bytes words.now ≡ codes "create" ∷ word ∷ names
-        → extent_of word ≡ Some extent
-        → are_names names ≡ true
-        → length names ≤ 2
-        → O.told out.old
+    ensures create { (extent : ℕ) → form_in (map string_bytes words.now) ≡ Some (Create extent) → length words.now ≤ 4 → O.told out.old
         → Ended result (CreateOutcome (B.seen bay.old) (B.shelf bay.old) (B.seen bay.new) (B.shelf bay.new)
-        names extent birth.now (O.taken out.old) (O.taken out.new)) }
+        (map string_bytes (drop 2 words.now)) extent birth.now (O.taken out.old) (O.taken out.new)) }
 
-    ensures layout { (arguments : List (List ℕ)) (request : _)
-        → map string_bytes words.now ≡ codes "layout" ∷ arguments
-        → request_in arguments ≡ Some request
-        → O.told out.old
-        → Ended result (λ status. Prints (O.told out.old) status (units_asked request) (O.taken out.old) (O.taken out.new)) }
+    ensures layout { (request : _) → form_in (map string_bytes words.now) ≡ Some (Layout request) → O.told out.old
+        → Ended result (λ status. Prints (O.told out.old) status (units_asked request) (O.taken out.old) (O.taken out.new)
+        ⊎ Says Memory (refused_line (codes "memory")) (O.taken out.old) (O.taken out.new) status) }
 
-    ensures examine { (name : List ℕ)
-        → map string_bytes words.now ≡ codes "examine" ∷ name ∷ []
-        → is_name name ≡ true
-        → O.told out.old
+    ensures examine { form_in (map string_bytes words.now) ≡ Some Examine → O.told out.old
         → Ended result (ExamineOutcome (B.seen bay.old) (B.shelf bay.old) (B.seen bay.new) (B.shelf bay.new)
-        (name ∷ []) (O.taken out.old) (O.taken out.new)) }
+        (map string_bytes (drop 1 words.now)) (O.taken out.old) (O.taken out.new)) }
 
-    ensures wrong { form_in (map string_bytes words.now) ≡ Wrong → O.told out.old
-        → Ended result (Says Words (refused_line (codes "words")) (O.taken out.old) (O.taken out.new)) }
-    ensures unbuilt { form_in (map string_bytes words.now) ≡ Unbuilt → O.told out.old
-        → Ended result (Says Refused (refused_line (codes "unbuilt")) (O.taken out.old) (O.taken out.new)) }
+    ensures wrong { form_in (map string_bytes words.now) ≡ None → O.told out.old
+        → Ended result (λ status. Says Words (refused_line (codes "words")) (O.taken out.old) (O.taken out.new) status
+        ⊎ Says Memory (refused_line (codes "memory")) (O.taken out.old) (O.taken out.new) status) }
+    ensures unbuilt { (form : _) → form_in (map string_bytes words.now) ≡ Some form → is_built form (length words.now) ≡ false → O.told out.old
+        → Ended result (λ status. Says Refused (refused_line (codes "unbuilt")) (O.taken out.old) (O.taken out.new) status
+        ⊎ Says Memory (refused_line (codes "memory")) (O.taken out.old) (O.taken out.new) status) }
+
+    // The program says that the words are wrong exactly where they are, unless there is no memory to parse them or no output.
+    ensures words { result ≡ 2 → form_in (map string_bytes words.now) ≡ None }
 
     // Only `serve`, `create` and `examine` touch the bay, and only `serve` the input.
-    ensures untouched { uses_disks (form_in (map string_bytes words.now)) ≡ false → bay.new ≡ bay.old }
-    ensures unread { form_in (map string_bytes words.now) ≢ Serve → input.new ≡ input.old }
+    ensures untouched { uses_disks (form_in (map string_bytes words.now)) (length words.now) ≡ false → bay.new ≡ bay.old }
+    ensures unread { form_in (map string_bytes words.now) ≢ Some Serve → input.new ≡ input.old }
 
     // The limit of a script is answered exactly where more bytes were taken and no `quit` line ends before it.
     ensures limit { I.told input.old → KeepsLimit (result ≡ 3) (2 ^ 32) (I.left input.old) (I.left input.new) }
@@ -81,23 +75,28 @@ pub fn run<B: Bay, I: Source, O: Sink>(
     ensures source { result ≡ 4 → Rose (I.faults input.old) (I.faults input.new) }
     ensures sink { result ≡ 5 → Rose (O.faults out.old) (O.faults out.new) }
 {
-    match form_of(words) {
-        Form::Wrong => refuse(out, b"words", Status::Words).code(),
-        Form::Unbuilt => refuse(out, b"unbuilt", Status::Refused).code(),
-        Form::Examine => examine_image(alloc, bay, &words[1..], out).code(),
-        Form::Layout => match layout_request(&words[1..]) {
-            Some(request) => print_layout(&request, out).code(),
-            None => unreachable!(),
-        },
-        Form::Create { extent } => create(bay, names_after(words), extent, birth, out).code(),
-        Form::Serve => serve(alloc, bay, &words[1..], birth.seconds, input, out).code(),
+    let form = match form_of(alloc, words) {
+        Ok(form) => form,
+        Err(WordsFault::Wrong) => return refuse_words(out).code(),
+        Err(WordsFault::Memory) => return refuse(out, b"memory", Status::Memory).code(),
+    };
+    match form {
+        Form::Layout { request } => print_layout(&request, out).code(),
+        Form::Serve => serve(alloc, bay, behind(words, 1), birth.seconds, input, out).code(),
+        Form::Examine => examine_image(alloc, bay, behind(words, 1), out).code(),
+        Form::Create { extent } if words.len() <= 4 => {
+            create(bay, behind(words, 2), extent, birth, out).code()
+        }
+        Form::Create { .. } | Form::Import | Form::Export | Form::Status | Form::Trial { .. } => {
+            refuse(out, b"unbuilt", Status::Refused).code()
+        }
     }
 }
 
-// The words after a form's name and an extent.
-fn names_after(words: &[String]) -> &[String]
-    requires { 2 ≤ length words.now }
-    ensures { result.now ≡ drop 2 words.now }
+// The words behind the first ones.
+fn behind(words: &[String], first: usize) -> &[String]
+    requires { first ≤ length words.now }
+    ensures { result.now ≡ drop first words.now }
 {
-    &words[2..]
+    &words[first..]
 }

@@ -1,6 +1,7 @@
 //! Lines that end a run.
 
-ghost use Rattle.std.specs.Prelude.{◌≡◌, ◌≢◌, ◌≤◌, length};
+ghost use Rattle.std.specs.Prelude.{◌≡◌, ◌≢◌, ◌⊎◌, ◌≤◌, codes, length};
+ghost use Rattle.rack.specs.Seen.{Rose};
 ghost use Rattle.shr_script.specs.Reply.{refused_line};
 ghost use Rattle.shr_tool.specs.Outcome.{HasStatusCause};
 ghost use Rattle.shr_tool.specs.Run.{IsSaid, Says};
@@ -33,6 +34,20 @@ pub fn say<O: Sink>(out: &mut O, text: &ReplyText, status: Status) -> Status
 {
     match out.put(text.as_slice()) {
         Ok(()) => status,
+        Err(_) => Status::Sink,
+    }
+}
+
+/// Puts `refused words`.
+pub fn refuse_words<O: Sink>(out: &mut O) -> Status
+    ensures sink { O.faults out.old ≤ O.faults out.new }
+    ensures status { (result ≡ Status.Words) ⊎ ((result ≡ Status.Sink) × Rose (O.faults out.old) (O.faults out.new)) }
+    ensures says { O.told out.old → Says Status.Words (refused_line (codes "words")) (O.taken out.old) (O.taken out.new) result }
+{
+    let mut text = ReplyText::new();
+    refused_reply(&mut text, b"words");
+    match out.put(text.as_slice()) {
+        Ok(()) => Status::Words,
         Err(_) => Status::Sink,
     }
 }

@@ -7,19 +7,19 @@ ghost use Rattle.layer_plan.specs.Slicing.{IsSlicing};
 ghost use Rattle.layer_plan.specs.Layering.{array_of};
 ghost use Rattle.shr_base.specs.Units.{units_of};
 ghost use Rattle.shr_tool.specs.Outcome.{HasStatusCause};
-ghost use Rattle.shr_tool.specs.LayoutWords.{IsSound, units_asked};
+ghost use Rattle.shr_words.specs.LayoutWords.{IsSound, units_asked};
 ghost use Rattle.shr_tool.specs.LayoutText.{Puts, Prints, ended as ended_by, plan_text, layer_lines, unused_line, unused_lines, capacity_line, bound_line};
 
 use crate::layout::lines::{
     bound_text, capacity_text, layer_text, refusal_text, unused_text, used,
 };
-use crate::layout::request::{LayoutRequest, MOST_SIZES};
 use crate::status::Status;
 use arrayvec::ArrayVec;
 use io_ends::{Failed, Sink};
 use layer_plan::{Layer, Layers, layout};
 use shr_base::units;
 use shr_script::ReplyText;
+use shr_words::{LayoutRequest, MOST_SIZES};
 
 /// Plans the layers and puts them, or why there are none, one line a call of the sink. It takes no
 /// memory.

@@ -1,11 +1,12 @@
 //! The printed texts of ordinary drives and of each refusal.
 
 ghost use Rattle.std.specs.Prelude.{IfOk, IfSome};
-ghost use Rattle.shr_tool.specs.LayoutWords.{IsSound};
+ghost use Rattle.shr_words.specs.LayoutWords.{IsSound};
 
-use crate::layout::{LayoutRequest, layout_request, print_layout};
+use crate::layout::print_layout;
 use crate::status::Status;
 use io_ends::MemSink;
+use shr_words::{Form, LayoutRequest, form_of};
 use std::alloc::Global;
 use std::test::Fail;
 
@@ -13,11 +14,15 @@ use std::test::Fail;
 fn asked(alloc: Global, words: &[&str]) -> Result<Option<LayoutRequest>, Fail>
     ensures { IfOk result (λ request. IfSome request IsSound) }
 {
-    let mut arguments = Vec::new(alloc);
+    let mut all = Vec::new(alloc);
+    all.push(String::from_str(alloc, "layout")?)?;
     for word in words {
-        arguments.push(String::from_str(alloc, word)?)?;
+        all.push(String::from_str(alloc, word)?)?;
     }
-    Ok(layout_request(&arguments))
+    match form_of(alloc, &all) {
+        Ok(Form::Layout { request }) => Ok(Some(request)),
+        _ => Ok(None),
+    }
 }
 
 // Whether `layout` with these words prints this text and ends with this status.
@@ -71,18 +76,5 @@ fn refusals(rt: HostRuntime) -> Result<(), Fail> {
     ] {
         assert!(rt; prints(rt.alloc(), words, want, Status::Refused)?);
     }
-    Ok(())
-}
-
-#[test]
-fn words_of_no_form(rt: HostRuntime) -> Result<(), Fail> {
-    let alloc = rt.alloc();
-    assert!(rt; asked(alloc, &["100", "79104", "79104"])?.is_none());
-    assert!(rt; asked(alloc, &["64", "79104", "79104"])?.is_none());
-    assert!(rt; asked(alloc, &["131072", "79104", "79104"])?.is_none());
-    assert!(rt; asked(alloc, &["128", "281474976710656", "79104"])?.is_none());
-    assert!(rt; asked(alloc, &["128", "18446744073709551616"])?.is_none());
-    assert!(rt; asked(alloc, &["128", "79104", "-1"])?.is_none());
-    assert!(rt; asked(alloc, &["128"])?.is_none());
     Ok(())
 }

@@ -44,7 +44,7 @@ fn check(
 
 #[test]
 fn words_that_are_no_form_are_refused(rt: HostRuntime) -> Result<(), Fail> {
-    let rows: [&[&str]; 21] = [
+    let rows: [&[&str]; 23] = [
         &[],
         &["bogus"],
         &["Serve", "M", "N"],
@@ -65,6 +65,8 @@ fn words_that_are_no_form_are_refused(rt: HostRuntime) -> Result<(), Fail> {
         &["examine", "-M"],
         &["examine", "M", "N"],
         &["help"],
+        &["import"],
+        &["trial", "x", "M"],
         &["serve", "--x", "M"],
     ];
     check(&rt, rt.alloc(), &rows, "refused words\n", 2)
@@ -77,7 +79,7 @@ fn forms_that_are_not_built_are_refused(rt: HostRuntime) -> Result<(), Fail> {
         &["import", "M"],
         &["export", "M"],
         &["status", "M"],
-        &["trial", "-x", ""],
+        &["trial", "7", "M"],
     ];
     check(&rt, rt.alloc(), &rows, "refused unbuilt\n", 6)
 }
@@ -121,7 +123,7 @@ fn disks_that_are_no_pool_are_refused(rt: HostRuntime) -> Result<(), Fail> {
 fn a_refusal_that_cannot_be_put_has_the_status_of_the_sink(rt: HostRuntime) -> Result<(), Fail> {
     let rows: [&[&str]; 6] = [
         &["bogus"],
-        &["import"],
+        &["import", "M"],
         &["serve", "X", "M"],
         &["serve", "M", "M"],
         &["serve", "M", "N"],

@@ -1,5 +1,5 @@
 use Rattle.std.proofs.Common.{◌≡◌, ◌∙◌, sym, subst, List, ℕ, Ok, Err}
-use Rattle.shr_tool.specs.LayoutWords.{units_asked}
+use Rattle.shr_words.specs.LayoutWords.{units_asked}
 use Rattle.shr_tool.specs.LayoutText.{Prints}
 use Rattle.shr_tool.proofs.Putting.{printed}
 use Rattle.shr_tool.proofs.layout.print.print_layout.Goals as goal

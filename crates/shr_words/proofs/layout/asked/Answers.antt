@@ -1,8 +1,8 @@
 use Rattle.std.proofs.Common.{◌≡◌, ◌∙◌, sym, ap, length, string_bytes, filter_map, map, take}
 use Rattle.std.proofs.lemmas.List.{take-map, take_min}
-use Rattle.shr_tool.specs.LayoutWords.{size_of}
-use Rattle.shr_tool.proofs.LayoutLemmas.{asked-other, asked-sizes, not_empty}
-use Rattle.shr_tool.proofs.layout.request.asked.Goals as goal
+use Rattle.shr_words.specs.LayoutWords.{size_of}
+use Rattle.shr_words.proofs.Sizes.{asked-other, asked-sizes, not_empty}
+use Rattle.shr_words.proofs.layout.asked.Goals as goal
 
 pub returns-then-not-are_sizes-clause-value : goal.returns-then-not-are_sizes-clause-value
 returns-then-not-are_sizes-clause-value c =

@@ -1,10 +1,10 @@
 use Rattle.std.proofs.Common.{◌≡◌, ◌∙◌, ◌++◌, sym, ap, arith, length, ℕ, [], ◌∷◌, string_bytes, append-nil, filter_map, map, take}
 use Rattle.std.specs.List.{cons_option}
 use Rattle.arrayvec.specs.ArrayVec.{ArrayVec}
-use Rattle.shr_tool.specs.LayoutWords.{size_of}
-use Rattle.shr_tool.proofs.LayoutLemmas.{sizes_more, small_more}
-use Rattle.shr_tool.proofs.layout.request.sizes_of.Goals as goal
-use Rattle.shr_tool.proofs.layout.request.sizes_of.Goals.{in-Some, in-None}
+use Rattle.shr_words.specs.LayoutWords.{size_of}
+use Rattle.shr_words.proofs.Sizes.{sizes_more, small_more}
+use Rattle.shr_words.proofs.layout.sizes_of.Goals as goal
+use Rattle.shr_words.proofs.layout.sizes_of.Goals.{in-Some, in-None}
 
 pub loop-word-preserved : goal.loop-word-preserved
 loop-word-preserved c =

@@ -1,7 +1,7 @@
 -- The sizes so far are those of the words so far.
 use Rattle.std.proofs.Common.{◌≡◌, ◌≤◌, ◌<◌, ◌^◌, take, map, length, filter_map, string_bytes, All}
-use Rattle.shr_tool.specs.LayoutWords.{size_of}
-use Rattle.shr_tool.proofs.layout.request.sizes_of.Given as goal
+use Rattle.shr_words.specs.LayoutWords.{size_of}
+use Rattle.shr_words.proofs.layout.sizes_of.Given as goal
 
 abbrev pub invariant-loop-word : goal.invariant-loop-word
 invariant-loop-word l = record {

@@ -1,8 +1,8 @@
 //! The words after `layout`.
 
-ghost use Rattle.std.specs.Prelude.{◌≡◌, ◌≤◌, ◌<◌, ◌^◌, All, length, map, string_bytes, IfSome, filter_map, is_some};
+ghost use Rattle.std.specs.Prelude.{◌≡◌, ◌≤◌, ◌<◌, ◌^◌, All, length, map, string_bytes, IfSome, filter_map, is_some, true};
 ghost use Rattle.std.specs.List.{list_all};
-ghost use Rattle.shr_tool.specs.LayoutWords.{IsSound, extent_of as extent_in, asked as asked_in, size_of as size_in, layout_request as request_in};
+ghost use Rattle.shr_words.specs.LayoutWords.{IsSound, is_extent, extent_of as extent_in, asked as asked_in, size_of as size_in, layout_request as request_in};
 
 use arrayvec::ArrayVec;
 use shr_script::number_of;
@@ -55,6 +55,7 @@ fn asked(extent: Option<u32>, words: &[String]) -> Option<LayoutRequest>
 pub fn extent_of(word: &[u8]) -> Option<u32>
     ensures value { result ≡ extent_in word.now }
     ensures least { IfSome result (λ sectors. 128 ≤ sectors) }
+    ensures bounds { IfSome result (λ sectors. is_extent sectors ≡ true) }
 {
     match number_of(word) {
         Some(number) if number >= 128 && number <= 65536 && number.is_power_of_two() => {

@@ -4,7 +4,7 @@ use Rattle.std.specs.List.{list_all}
 use Rattle.std.specs.Int.{is_power_of_two}
 use Rattle.shr_script.specs.Line.{number_of}
 use Rattle.shr_base.specs.Units.{units_of}
-use Rattle.shr_tool.specs.declared.layout.request.LayoutRequest.{LayoutRequest}
+use Rattle.shr_words.specs.declared.layout.LayoutRequest.{LayoutRequest}
 
 -- a number that passes a test
 abbrev pub if_passes : (ℕ → Bool) → Option ℕ → Option ℕ

@@ -1,0 +1,5 @@
+mod Levels
+mod Named
+mod Parsed
+mod Sizes
+mod Walks
