@@ -36,6 +36,14 @@ fn state_of(epoch: u64) -> State {
     }
 }
 
+// Lays the copy of a place and an epoch on a disk.
+fn lay_copy(rt: &impl Abort, bay: &mut MemBay, disk: u32, at: (u32, u64)) -> Result<(), Fail> {
+    let copy = encode_state(&state_of(at.1), at.0);
+    assert!(rt; disk < bay.disks() && 2048 < bay.sectors(disk));
+    assert_eq!(rt; bay.write(disk, 2048, &copy), Ok(()));
+    Ok(())
+}
+
 // Three disks: the first has no copy, the others one of these places and epochs.
 fn scan_of(
     rt: &impl Abort,
@@ -56,17 +64,8 @@ fn scan_of(
     for name in ["A", "B", "C"] {
         assert!(rt; bay.attach(name).is_ok());
     }
-    for (disk, (place, epoch)) in [(1, second), (2, third)] {
-        assert!(rt;
-            place < 2
-                && 0 < epoch
-                && epoch < 1 << 63
-                && disk < bay.disks()
-                && 2048 < bay.sectors(disk)
-        );
-        let copy = encode_state(&state_of(epoch), place);
-        assert_eq!(rt; bay.write(disk, 2048, &copy), Ok(()));
-    }
+    lay_copy(rt, &mut bay, 1, second)?;
+    lay_copy(rt, &mut bay, 2, third)?;
     Ok(scan_disks(alloc, &mut bay)?)
 }
 
