@@ -14,6 +14,8 @@
 
 mod choosing;
 mod reading;
+#[cfg(test)]
+mod tests;
 
 use pool_state::Copied;
 pub use reading::scan_disks;
