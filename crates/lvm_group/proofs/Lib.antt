@@ -27,3 +27,4 @@ pub mod LabelRead
 pub mod Named
 pub mod OwnGroup
 pub mod AllSynced
+pub mod Answered

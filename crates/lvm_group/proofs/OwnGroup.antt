@@ -242,3 +242,34 @@ own_inside pool extent joined g a own arrays small =
           subst (λ size. data_start + (place_of (runs_in g.lvs) e).extent * size + size ≤ a.sectors (place_of (runs_in g.lvs) e).array) (sym is.sized)
           (extent_inside extent joined a.sectors (runs_in g.lvs) e is.placed within).1;
     }
+
+-- its extents have the pool's size
+pub own_sized : (pool : List ℕ) (extent joined : ℕ) (sectors : ℕ → ℕ) (g : Group) → is_own_group pool extent sectors joined g ≡ true → g.extent_size ≡ extent
+own_sized pool extent joined sectors g own = (own_placed pool extent joined sectors g own).sized
+
+-- it has few runs
+few_by : (o : Option Run) (runs : List Run) → length (with_run o runs) ≤ 1 + length runs
+few_by None runs = omega arith
+few_by (Some run) runs = omega arith
+
+few_runs : (segments : List Segment) → length (runs_from segments) ≤ length segments
+unfolding runs_from
+few_runs [] = omega arith
+few_runs (segment ∷ others) = let rest = few_runs others in let one = few_by (run_in segment) (runs_from others) in omega arith
+
+few_lvs : (pool : List ℕ) (pvs : List Pv) (lvs : List Lv) → is_only_lv pool pvs lvs ≡ true → length (runs_in lvs) ≤ 1024
+few_lvs pool pvs [] is = cc
+few_lvs pool pvs (lv ∷ []) is =
+    let name = both (has_own_name pool lv) _ is in
+    let few = both (nat_le (length lv.segments) most_segments) _ name.1 in
+    let most = leb-true (length lv.segments) 1024 few.0 in
+    let runs = few_runs lv.segments in
+    omega arith
+few_lvs pool pvs (lv ∷ other ∷ others) is = cc
+
+pub own_few : (pool : List ℕ) (extent joined : ℕ) (sectors : ℕ → ℕ) (g : Group) → is_own_group pool extent sectors joined g ≡ true → length (runs_in g.lvs) ≤ 1024
+own_few pool extent joined sectors g own =
+    let head = both (has_own_head pool extent g) _ own in
+    let pvs = both (list_all (is_pv pool extent sectors joined) g.pvs) _ head.1 in
+    let lvs = both (differ g.pvs) (is_only_lv pool g.pvs g.lvs) pvs.1 in
+    few_lvs pool g.pvs g.lvs lvs.1

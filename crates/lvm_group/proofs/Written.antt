@@ -75,7 +75,7 @@ highest_same group (o ∷ []) some all = rw (all 0 o refl) refl
 highest_same group (o ∷ p ∷ others) some all =
     rw (all 0 o refl, highest_same group (p ∷ others) (omega arith) (λ i q at. all (suc i) q at)) (not_ahead group)
 
-mapped_at : {X Y : Type 0} (f : X → Y) (xs : List X) (i : ℕ) (y : Y) → slice_get (map f xs) i ≡ Some y → (x : X) × (slice_get xs i ≡ Some x) × (y ≡ f x)
+pub mapped_at : {X Y : Type 0} (f : X → Y) (xs : List X) (i : ℕ) (y : Y) → slice_get (map f xs) i ≡ Some y → (x : X) × (slice_get xs i ≡ Some x) × (y ≡ f x)
 mapped_at f [] i y at = cc
 mapped_at f (x ∷ xs) zero y at = (x, refl, cc)
 mapped_at f (x ∷ xs) (suc i) y at = mapped_at f xs i y at

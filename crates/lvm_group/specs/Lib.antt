@@ -12,3 +12,4 @@ pub mod Reading
 pub mod Found
 pub mod Group
 pub mod Made
+pub mod Opening

@@ -49,7 +49,7 @@ fn area_of(sectors: u64, label: &Label) -> Option<Area>
 }
 
 /// The first location of a header.
-fn location_in(header: &Header) -> Option<Location>
+pub(crate) fn location_in(header: &Header) -> Option<Location>
     ensures { result ≡ location_in header.now }
 {
     header.locations.as_slice().first().copied()

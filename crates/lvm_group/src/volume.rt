@@ -7,6 +7,7 @@ ghost use Rattle.lvm_group.specs.Laws.{is_sound};
 
 use crate::growth::fits;
 use crate::making::{extents_in, make, take_room};
+use crate::opening::find_runs;
 use crate::runs::{Run, Spot, spot_with};
 use crate::syncing::sync_first;
 use rack::{Back, Gone, Rack};
@@ -95,6 +96,8 @@ impl<R: Rack> Volume<R> {
     ghost use Rattle.lvm_group.specs.Growth.{AreBelow, fits};
     ghost use Rattle.lvm_group.specs.Made.{IsUnmade, Makes, made_targets, new_volume};
     ghost use Rattle.lvm_group.specs.Own.{HoldAll};
+    ghost use Rattle.lvm_group.specs.Opening.{IsUnopened, Opens};
+    ghost use Rattle.rack.specs.Sequences.{OnlyReads};
     ghost use Rattle.lvm_group.specs.Shown.{total, volume_of};
     ghost use Rattle.lvm_group.specs.Writing.{Puts};
     ghost use Rattle.std.specs.Borrow.{sem, Lends};
@@ -154,6 +157,55 @@ impl<R: Rack> Volume<R> {
             extents: count,
             runs: room.runs,
         })
+    }
+
+    /// Opens the volume of the group that stands in the first arrays of a rack, so many.
+    ///
+    /// The group is the one of highest seqno that they say, of equal ones the lowest array's. The fault names the
+    /// lowest array that is bad: its header has a location that gives no group, or the group names it and it has no
+    /// label with its id and no header, or it is the first one and the group isn't the pool's. A sector that is
+    /// refused has no bytes.
+    pub fn open(
+        alloc: Global,
+        rack: R,
+        pool: &Id,
+        extent: u32,
+        joined: u32,
+    ) -> Result<Volume<R>, Back<R, VolumeFault>>
+        requires fit { (R.seen rack).fit }
+        requires small { total (R.seen rack).sectors (R.seen rack).disks < 2 ^ 52 }
+        requires sized { 0 < extent }
+        requires some { 0 < joined }
+        requires arrays { joined ≤ (R.seen rack).disks }
+        ensures opens { IfOk result (λ volume. Opens pool.now.0 extent joined (R.seen rack) (R.seen volume.rack) (linear volume)) }
+        ensures fit { IfOk result (λ volume. (volume_of (linear volume) (R.seen volume.rack)).fit) }
+        ensures looks { IfOk result (λ volume. OnlyReads (R.seen rack) (R.seen volume.rack)) }
+        ensures refused { IfErr result (λ back. IsUnopened pool.now.0 extent joined (R.seen rack) (R.seen back.rack) back.why) }
+        ensures looked { IfErr result (λ back. OnlyReads (R.seen rack) (R.seen back.rack)) }
+        ensures kept { IfOk result (λ volume. R.runs rack volume.rack) }
+        ensures returned { IfErr result (λ back. R.runs rack back.rack) }
+    {
+        let Ok(room) = take_room(alloc) else {
+            return Err(Back {
+                rack,
+                why: VolumeFault::Memory,
+            });
+        };
+        let mut room = room;
+        let mut rack = rack;
+        match find_runs(alloc, &mut rack, pool, extent, joined, &mut room.text) {
+            Ok(runs) => {
+                let count = extents_in(runs.as_slice());
+                Ok(Volume {
+                    rack,
+                    extent: u64::from(extent),
+                    arrays: joined,
+                    extents: count,
+                    runs,
+                })
+            }
+            Err(why) => Err(Back { rack, why }),
+        }
     }
 
     /// Whether the volume can be extended to these numbers of extents of its arrays: each of its segments has
