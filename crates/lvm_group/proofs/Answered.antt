@@ -13,14 +13,15 @@ use Rattle.lvm_text.specs.declared.group.Group.{Group}
 use Rattle.lvm_group.specs.declared.parts.Part.{Part}
 use Rattle.lvm_group.specs.declared.runs.Run.{Run}
 use Rattle.lvm_group.specs.Runs.{IsOrderly, Linear, data_start, extents_of}
+use Rattle.lvm_group.specs.Own.{in_row}
 use Rattle.lvm_group.specs.Shown.{IsInside, total}
 use Rattle.lvm_group.proofs.Counted.{no_more_sectors}
-use Rattle.lvm_group.proofs.OwnGroup.{own_few, own_inside, own_orderly}
+use Rattle.lvm_group.proofs.OwnGroup.{own_apart, own_few, own_inside, own_numbered, own_orderly, own_row}
 use Rattle.lvm_group.specs.Ids.{array_named, pv_id, text_id}
 use Rattle.lvm_group.specs.Parts.{Array, has_bad_text, part_from, part_of}
 use Rattle.lvm_group.specs.Reading.{AreRead, IsNow, IsRead, held_on}
 use Rattle.lvm_group.specs.Found.{AreParts, IsPart}
-use Rattle.lvm_group.specs.Group.{ahead, first_bad, group_in, has_own_head, has_own_label, highest, names_array, pv_of, is_bad, is_bad_by, is_only_lv, is_own_group, is_pv, is_pv_of, differ, linear_in, parts_in, runs_in}
+use Rattle.lvm_group.specs.Group.{ahead, all_apart, first_bad, group_in, has_own_head, has_own_label, highest, names_array, pv_of, is_bad, is_bad_by, is_only_lv, is_own_group, is_pv, is_pv_of, differ, linear_in, parts_in, runs_in}
 use Rattle.lvm_group.specs.declared.volume.VolumeFault.{VolumeFault}
 use Rattle.lvm_group.specs.declared.volume.VolumeFault.TheVariants as fault
 use Rattle.lvm_group.specs.Opening.{AreNow, AreServed, HasFault, HasRuns, IsUnopened, Opens, WereRead, first_bad_among, first_bad_with, group_by, is_bad_with, within_sectors}
@@ -117,13 +118,14 @@ bad_same pool extent f h parts same =
     || ((option_map_or (λ g. names_array g array) (group_by parts) false && not (has_own_label pool array part)) || ((array == 0) && not (option_map_or test (group_by parts) false))))
     (slice_get parts array) false) (range_with_len 0 (length parts))) each
 
-pub runs_same : (pool : List ℕ) (extent : ℕ) (f h : ℕ → ℕ) (parts : List Part) (l : Linear) → ((i : ℕ) → i < length parts → f i ≡ h i) → HasRuns pool extent f parts l → HasRuns pool extent h parts l
-runs_same pool extent f h parts l same has = record {
+pub runs_same : (pool : List ℕ) (extent : ℕ) (f h : ℕ → ℕ) (parts : List Part) (l : Linear) (seqno : ℕ) → ((i : ℕ) → i < length parts → f i ≡ h i) → HasRuns pool extent f parts l seqno → HasRuns pool extent h parts l seqno
+runs_same pool extent f h parts l seqno same has = record {
   group = has.group;
   found = has.found;
   own = sym (own_same pool extent (length parts) f h has.group same) ∙ has.own;
   sound = sym (bad_same pool extent f h parts same) ∙ has.sound;
   volume = has.volume;
+  numbered = has.numbered;
 }
 
 -- ---- lists
@@ -202,11 +204,11 @@ pub bad_by_contents : {a b : Seen} (pool : List ℕ) (extent joined : ℕ) (part
 bad_by_contents {a} {b} pool extent joined parts c served now read =
     sym (bad_of_parts pool extent a.sectors joined (within_sectors a c)) ∙ ap (first_bad_among pool extent a.sectors) (sym (parts_are joined parts c served now read))
 
-pub opens_by : {a b : Seen} (pool : List ℕ) (extent joined : ℕ) (sizes : List ℕ) (parts : List Part) (l : Linear) → sizes ≡ map a.sectors (range_with_len 0 joined) → WereRead a b joined parts
-    → HasRuns pool extent (slice_index sizes) parts l → Opens pool extent joined a b l
-opens_by {a} {b} pool extent joined sizes parts l sizes_are read has =
+pub opens_by : {a b : Seen} (pool : List ℕ) (extent joined : ℕ) (sizes : List ℕ) (parts : List Part) (l : Linear) (seqno : ℕ) → sizes ≡ map a.sectors (range_with_len 0 joined) → WereRead a b joined parts
+    → HasRuns pool extent (slice_index sizes) parts l seqno → Opens pool extent joined a b l seqno
+opens_by {a} {b} pool extent joined sizes parts l seqno sizes_are read has =
     let count = read.count in
-    let runs = runs_same pool extent (slice_index sizes) a.sectors parts l (λ i below. ap (λ (xs : List ℕ). slice_index xs i) sizes_are ∙ get_or-map-range_with_len a.sectors 0 joined i i 0 (omega arith) (omega arith)) has in
+    let runs = runs_same pool extent (slice_index sizes) a.sectors parts l seqno (λ i below. ap (λ (xs : List ℕ). slice_index xs i) sizes_are ∙ get_or-map-range_with_len a.sectors 0 joined i i 0 (omega arith) (omega arith)) has in
     record {
       parts = parts;
       read = read;
@@ -217,6 +219,7 @@ opens_by {a} {b} pool extent joined sizes parts l sizes_are read has =
         own = subst (λ n. is_own_group pool extent a.sectors n runs.group ≡ true) count runs.own;
         sound = bad_by_contents pool extent joined parts c served now read ∙ runs.sound;
         volume = runs.volume ∙ ap (λ n. linear_in n runs.group) count;
+        numbered = runs.numbered;
       };
     }
 
@@ -228,13 +231,13 @@ refused_by {a} {b} pool extent joined sizes parts (fault.BadVolume array) sizes_
     let bad = sym (bad_same pool extent (slice_index sizes) a.sectors parts (λ i below. ap (λ (xs : List ℕ). slice_index xs i) sizes_are ∙ get_or-map-range_with_len a.sectors 0 joined i i 0 (omega arith) (omega arith))) ∙ has in
     record { parts = parts; read = read; bad = bad; bad_in = λ c served now. bad_by_contents pool extent joined parts c served now read ∙ bad }
 
-pub opens_result : {a b : Seen} {V : Type 0} (pool : List ℕ) (extent joined : ℕ) (sizes : List ℕ) (parts : List Part) (items : V → List Run) (result : Result V VolumeFault) → sizes ≡ map a.sectors (range_with_len 0 joined)
-    → WereRead a b joined parts → IfOk result (λ (v : V). HasRuns pool extent (slice_index sizes) parts (record { extent = extent; arrays = length parts; runs = items v }))
-    → IfOk result (λ (v : V). Opens pool extent joined a b (record { extent = extent; arrays = joined; runs = items v }))
-opens_result {a} {b} pool extent joined sizes parts items (Ok v) sizes_are read has =
-    opens_by pool extent joined sizes parts (record { extent = extent; arrays = joined; runs = items v }) sizes_are read
-    (subst (λ n. HasRuns pool extent (slice_index sizes) parts (record { extent = extent; arrays = n; runs = items v })) read.count has)
-opens_result pool extent joined sizes parts items (Err why) sizes_are read has = tt
+pub opens_result : {a b : Seen} {V : Type 0} (pool : List ℕ) (extent joined : ℕ) (sizes : List ℕ) (parts : List Part) (items : V → List Run) (number : V → ℕ) (result : Result V VolumeFault) → sizes ≡ map a.sectors (range_with_len 0 joined)
+    → WereRead a b joined parts → IfOk result (λ (v : V). HasRuns pool extent (slice_index sizes) parts (record { extent = extent; arrays = length parts; runs = items v }) (number v))
+    → IfOk result (λ (v : V). Opens pool extent joined a b (record { extent = extent; arrays = joined; runs = items v }) (number v))
+opens_result {a} {b} pool extent joined sizes parts items number (Ok v) sizes_are read has =
+    opens_by pool extent joined sizes parts (record { extent = extent; arrays = joined; runs = items v }) (number v) sizes_are read
+    (subst (λ n. HasRuns pool extent (slice_index sizes) parts (record { extent = extent; arrays = n; runs = items v }) (number v)) read.count has)
+opens_result pool extent joined sizes parts items number (Err why) sizes_are read has = tt
 
 pub refused_result : {a b : Seen} {V : Type 0} (pool : List ℕ) (extent joined : ℕ) (sizes : List ℕ) (parts : List Part) (result : Result V VolumeFault) → sizes ≡ map a.sectors (range_with_len 0 joined)
     → WereRead a b joined parts → IfErr result (HasFault pool extent (slice_index sizes) parts) → IfErr result (IsUnopened pool extent joined a b)
@@ -243,23 +246,32 @@ refused_result pool extent joined sizes parts (Err why) sizes_are read has = ref
 
 -- ---- the volume
 
-pub opened_orderly : {a b : Seen} (pool : List ℕ) (extent joined : ℕ) (l : Linear) → 0 < extent → Opens pool extent joined a b l → IsOrderly l
-opened_orderly {a} {b} pool extent joined l some is =
+pub opened_orderly : {a b : Seen} (pool : List ℕ) (extent joined : ℕ) (l : Linear) (seqno : ℕ) → 0 < extent → Opens pool extent joined a b l seqno → IsOrderly l
+opened_orderly {a} {b} pool extent joined l seqno some is =
     subst IsOrderly (sym is.runs.volume) (own_orderly pool extent (length is.parts) a.sectors is.runs.group some is.runs.own)
 
-pub opened_inside : {a b : Seen} (pool : List ℕ) (extent joined : ℕ) (l : Linear) → joined ≤ a.disks → total a.sectors a.disks < 2 ^ 52 → Opens pool extent joined a b l → IsInside l a
-opened_inside {a} {b} pool extent joined l arrays small is =
+pub opened_inside : {a b : Seen} (pool : List ℕ) (extent joined : ℕ) (l : Linear) (seqno : ℕ) → joined ≤ a.disks → total a.sectors a.disks < 2 ^ 52 → Opens pool extent joined a b l seqno → IsInside l a
+opened_inside {a} {b} pool extent joined l seqno arrays small is =
     let count = is.read.count in
     subst (λ (l : Linear). IsInside l a) (sym is.runs.volume) (own_inside pool extent (length is.parts) is.runs.group a is.runs.own (omega arith) small)
 
-pub opened_few : {a b : Seen} (pool : List ℕ) (extent joined : ℕ) (l : Linear) → Opens pool extent joined a b l → length l.runs ≤ 1024
-opened_few {a} {b} pool extent joined l is =
+pub opened_few : {a b : Seen} (pool : List ℕ) (extent joined : ℕ) (l : Linear) (seqno : ℕ) → Opens pool extent joined a b l seqno → length l.runs ≤ 1024
+opened_few {a} {b} pool extent joined l seqno is =
     subst (λ (l : Linear). length l.runs ≤ 1024) (sym is.runs.volume) (own_few pool extent (length is.parts) a.sectors is.runs.group is.runs.own)
 
-pub opened_small : {a b : Seen} (pool : List ℕ) (extent joined : ℕ) (l : Linear) → 0 < extent → joined ≤ a.disks → total a.sectors a.disks < 2 ^ 52 → Opens pool extent joined a b l → extents_of l.runs < 2 ^ 52
-opened_small {a} {b} pool extent joined l some arrays small is =
-    let orderly = opened_orderly pool extent joined l some is in
-    let most = no_more_sectors l a orderly (opened_inside pool extent joined l arrays small is) in
+pub opened_small : {a b : Seen} (pool : List ℕ) (extent joined : ℕ) (l : Linear) (seqno : ℕ) → 0 < extent → joined ≤ a.disks → total a.sectors a.disks < 2 ^ 52 → Opens pool extent joined a b l seqno → extents_of l.runs < 2 ^ 52
+opened_small {a} {b} pool extent joined l seqno some arrays small is =
+    let orderly = opened_orderly pool extent joined l seqno some is in
+    let most = no_more_sectors l a orderly (opened_inside pool extent joined l seqno arrays small is) in
     let sized = orderly.sized in
     let grows = mul-le (extents_of l.runs) 1 (extents_of l.runs) l.extent (omega arith) (omega arith) in
     omega arith
+
+pub opened_row : {a b : Seen} (pool : List ℕ) (extent joined : ℕ) (l : Linear) (seqno : ℕ) → Opens pool extent joined a b l seqno → in_row 0 l.runs ≡ true
+opened_row {a} {b} pool extent joined l seqno is = subst (λ (l : Linear). in_row 0 l.runs ≡ true) (sym is.runs.volume) (own_row pool extent (length is.parts) a.sectors is.runs.group is.runs.own)
+
+pub opened_apart : {a b : Seen} (pool : List ℕ) (extent joined : ℕ) (l : Linear) (seqno : ℕ) → Opens pool extent joined a b l seqno → all_apart l.runs ≡ true
+opened_apart {a} {b} pool extent joined l seqno is = subst (λ (l : Linear). all_apart l.runs ≡ true) (sym is.runs.volume) (own_apart pool extent (length is.parts) a.sectors is.runs.group is.runs.own)
+
+pub opened_numbered : {a b : Seen} (pool : List ℕ) (extent joined : ℕ) (l : Linear) (seqno : ℕ) → Opens pool extent joined a b l seqno → seqno < 2 ^ 63
+opened_numbered {a} {b} pool extent joined l seqno is = rw is.runs.numbered (own_numbered pool extent (length is.parts) a.sectors is.runs.group is.runs.own)

@@ -28,3 +28,6 @@ pub mod Named
 pub mod OwnGroup
 pub mod AllSynced
 pub mod Answered
+pub mod Turns
+pub mod TextStarts
+pub mod Extended

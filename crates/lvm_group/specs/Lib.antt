@@ -13,3 +13,5 @@ pub mod Found
 pub mod Group
 pub mod Made
 pub mod Opening
+pub mod Changing
+pub mod Extending

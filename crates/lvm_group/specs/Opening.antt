@@ -38,12 +38,13 @@ abbrev pub first_bad_with : List ℕ → List Pv → List Part → Option ℕ
 first_bad_with pool pvs parts = find (λ array. option_map_or (is_bad_with pool pvs array) (slice_get parts array) false) (range_with_len 0 (length parts))
 
 -- the runs of the volume, where no array is bad
-pub record HasRuns (pool : List ℕ) (extent : ℕ) (sectors : ℕ → ℕ) (parts : List Part) (l : Linear) : Type 0 where
+pub record HasRuns (pool : List ℕ) (extent : ℕ) (sectors : ℕ → ℕ) (parts : List Part) (l : Linear) (seqno : ℕ) : Type 0 where
   pub group : Group
   pub found : group_by parts ≡ Some group
   pub own : is_own_group pool extent sectors (length parts) group ≡ true
   pub sound : first_bad_among pool extent sectors parts ≡ None
   pub volume : l ≡ linear_in (length parts) group
+  pub numbered : seqno ≡ group.seqno
 
 -- the fault where one is
 abbrev pub HasFault : List ℕ → ℕ → (ℕ → ℕ) → List Part → VolumeFault → Type 0
@@ -69,21 +70,22 @@ AreNow a joined c = (array : ℕ) → array < joined → IsNow a array (c array)
 abbrev pub within_sectors : Seen → Image → Image
 within_sectors a c = λ array. held_on a array (c array)
 
--- contents whose group is the pool's, without a bad array, and with this volume
-pub record Means (pool : List ℕ) (extent joined : ℕ) (sectors : ℕ → ℕ) (l : Linear) (c : Image) : Type 0 where
+-- contents whose group is the pool's, without a bad array, with this volume and seqno
+pub record Means (pool : List ℕ) (extent joined : ℕ) (sectors : ℕ → ℕ) (l : Linear) (seqno : ℕ) (c : Image) : Type 0 where
   pub group : Group
   pub found : group_in c sectors joined ≡ Some group
   pub own : is_own_group pool extent sectors joined group ≡ true
   pub sound : first_bad pool extent sectors joined c ≡ None
   pub volume : l ≡ linear_in joined group
+  pub numbered : seqno ≡ group.seqno
 
 -- A volume that was opened: that of the group that was read, with no bad array. Where no sector was refused, it is the volume of
 -- the contents.
-pub record Opens (pool : List ℕ) (extent joined : ℕ) (a b : Seen) (l : Linear) : Type 0 where
+pub record Opens (pool : List ℕ) (extent joined : ℕ) (a b : Seen) (l : Linear) (seqno : ℕ) : Type 0 where
   pub parts : List Part
   pub read : WereRead a b joined parts
-  pub runs : HasRuns pool extent a.sectors parts l
-  pub means : (c : Image) → AreServed a b joined → AreNow a joined c → Means pool extent joined a.sectors l (within_sectors a c)
+  pub runs : HasRuns pool extent a.sectors parts l seqno
+  pub means : (c : Image) → AreServed a b joined → AreNow a joined c → Means pool extent joined a.sectors l seqno (within_sectors a c)
 
 -- An array for which none was opened: the lowest bad one by what was read, and where no sector was refused, by the contents.
 pub record IsBadVolume (pool : List ℕ) (extent joined : ℕ) (a b : Seen) (array : ℕ) : Type 0 where

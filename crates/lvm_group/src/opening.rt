@@ -17,6 +17,14 @@ use rack::{NoMemory, Rack};
 use shr_base::{Id, child_id, lvm_id};
 use std::alloc::Global;
 
+/// The volume that stands in arrays.
+#[derive(Debug, Drop)]
+pub(crate) struct Opened {
+    pub runs: Vec<Run>,
+    /// The seqno of the group's text.
+    pub seqno: u64,
+}
+
 /// The sectors of the first arrays, so many.
 fn sectors_of<R: Rack>(alloc: Global, rack: &R, arrays: u32) -> Result<Vec<u64>, NoMemory>
     requires fit { (R.seen rack.now).fit }
@@ -99,19 +107,19 @@ fn first_bad(pool: &Id, pvs: &[Pv], parts: &[Part]) -> Option<u32>
     None
 }
 
-/// The runs of the volume that stands in arrays of these sectors, by their parts.
+/// The volume that stands in arrays of these sectors, by their parts.
 fn runs_by(
     alloc: Global,
     pool: &Id,
     extent: u32,
     sectors: &[u64],
     parts: &[Part],
-) -> Result<Vec<Run>, VolumeFault>
+) -> Result<Opened, VolumeFault>
     requires some { 0 < length parts.now }
     requires few { length parts.now < 2 ^ 32 }
     requires same { length sectors.now ≡ length parts.now }
-    ensures runs { IfOk result (λ runs. HasRuns pool.now.0 extent (slice_index sectors.now) parts.now
-        (record { extent = extent; arrays = length parts.now; runs = runs.items })) }
+    ensures runs { IfOk result (λ opened. HasRuns pool.now.0 extent (slice_index sectors.now) parts.now
+        (record { extent = extent; arrays = length parts.now; runs = opened.runs.items }) opened.seqno) }
     ensures fault { IfErr result (HasFault pool.now.0 extent (slice_index sectors.now) parts.now) }
 {
     let Some(group) = highest(parts) else {
@@ -125,11 +133,14 @@ fn runs_by(
     };
     match first_bad(pool, group.pvs.as_slice(), parts) {
         Some(array) => Err(VolumeFault::BadVolume { array }),
-        None => Ok(runs),
+        None => Ok(Opened {
+            runs,
+            seqno: group.seqno,
+        }),
     }
 }
 
-/// Reads the joined arrays, so many, for the runs of their volume, by a buffer with room for the longest text.
+/// Reads the joined arrays, so many, for their volume, by a buffer with room for the longest text.
 pub(crate) fn find_runs<R: Rack>(
     alloc: Global,
     rack: &mut R,
@@ -137,15 +148,16 @@ pub(crate) fn find_runs<R: Rack>(
     extent: u32,
     joined: u32,
     into: &mut Text,
-) -> Result<Vec<Run>, VolumeFault>
+) -> Result<Opened, VolumeFault>
     requires fit { (R.seen rack.old).fit }
     requires some { 0 < joined }
     requires joined { joined ≤ (R.seen rack.old).disks }
     requires room { 262144 ≤ length into.old.bytes + into.old.spare }
     ensures looks { OnlyReads (R.seen rack.old) (R.seen rack.new) }
     ensures kept { R.runs rack.old rack.new }
-    ensures opens { IfOk result (λ runs. Opens pool.now.0 extent joined (R.seen rack.old) (R.seen rack.new)
-        (record { extent = extent; arrays = joined; runs = runs.items })) }
+    ensures opens { IfOk result (λ opened. Opens pool.now.0 extent joined (R.seen rack.old) (R.seen rack.new)
+        (record { extent = extent; arrays = joined; runs = opened.runs.items }) opened.seqno) }
+    ensures room { IfOk result (λ opened. length into.old.bytes + into.old.spare ≤ length into.new.bytes + into.new.spare) }
     ensures refused { IfErr result (IsUnopened pool.now.0 extent joined (R.seen rack.old) (R.seen rack.new)) }
 {
     let Ok(sectors) = sectors_of(alloc, rack, joined) else {

@@ -151,6 +151,7 @@ pub(crate) fn read_parts<R: Rack>(
     ensures looks { OnlyReads (R.seen rack.old) (R.seen rack.new) }
     ensures runs { R.runs rack.old rack.new }
     ensures count { IfOk result (λ parts. length parts.items ≡ joined) }
+    ensures room { IfOk result (λ parts. length into.old.bytes + into.old.spare ≤ length into.new.bytes + into.new.spare) }
     ensures parts { IfOk result (λ parts. AreParts (R.seen rack.old) (R.seen rack.new) joined parts.items) }
 {
     let mut parts = Vec::new(alloc);

@@ -15,7 +15,7 @@ runs_by-requires-clause-same g c =
 
 pub returns-clause-opens : goal.returns-clause-opens
 returns-clause-opens g c =
-    opens_result c.args.pool.now.0 c.args.extent c.args.joined c.as_slice.result.now c.as_slice-2.result.now (λ runs. runs.items) c.runs_by.result (c.as_slice.ensures.value ∙ c.in-Ok.ensures)
+    opens_result c.args.pool.now.0 c.args.extent c.args.joined c.as_slice.result.now c.as_slice-2.result.now (λ opened. opened.runs.items) (λ opened. opened.seqno) c.runs_by.result (c.as_slice.ensures.value ∙ c.in-Ok.ensures)
     (subst (λ (parts : List Part). WereRead (g.R.Rack.seen c.args.rack.now) (g.R.Rack.seen c.read_parts.new.rack) c.args.joined parts) (sym c.as_slice-2.ensures.value)
     (record { count = c.in-Ok-read_parts.ensures.count; are = c.in-Ok-read_parts.ensures.parts }))
     c.runs_by.ensures.runs

@@ -1,4 +1,4 @@
-use Rattle.std.proofs.Common.{◌≡◌, ◌∙◌, ℕ, List, Option, Some, None, true, false, sym, ap, subst, length, Vec, Global}
+use Rattle.std.proofs.Common.{◌≡◌, ◌∙◌, ℕ, List, Option, Some, None, true, false, sym, ap, subst, refl, length, Vec, Global}
 use Rattle.std.specs.Prelude.{slice_index, is_some, IfSome}
 use Rattle.std.specs.Option.{option_map_or, option_copied}
 use Rattle.lvm_text.specs.declared.group.Group.{Group}
@@ -40,4 +40,5 @@ returns-in-None-clause-runs c =
         arrays = length c.args.parts.now;
         runs = runs_are i;
       });
+      numbered = refl;
     }
