@@ -11,7 +11,7 @@ use crate::growth::fits;
 use crate::naming::{array_named, pv_name, text_id};
 use crate::parts::{Part, read_part};
 use crate::runs::Run;
-use crate::volume::Volume;
+use crate::volume::{Volume, VolumeFault};
 use arrayvec::ArrayVec;
 use lvm_label::{Area, Header, Label, Location, encode_header, encode_label};
 use lvm_text::Text;
@@ -256,5 +256,54 @@ fn an_extended_group_is_opened(rt: HostRuntime) -> Result<(), Fail> {
         .ok()
         .expect(&rt, "a volume");
     assert_eq!(rt; opened.extents(), 46);
+    Ok(())
+}
+
+// The answer of opening a group whose arrays were extended once, with one sector of an array replaced.
+fn answer(
+    rt: &impl Abort,
+    alloc: Global,
+    disk: u32,
+    sector: u64,
+    bytes: &[u8; 512],
+) -> Result<Option<VolumeFault>, Fail> {
+    let mut volume = two_runs(rt, alloc)?;
+    extend_to(rt, &mut volume, &[30, 10]);
+    let mut bay = volume.into_inner();
+    assert!(rt; bay.disks() == 2 && disk < 2);
+    assert!(rt; sector < bay.sectors(disk));
+    assert_eq!(rt; bay.write(disk, sector, bytes), Ok(()));
+    match Volume::open(alloc, bay, &Id([7; 16]), 128, 2) {
+        Ok(volume) => {
+            assert_eq!(rt; volume.extents(), 40);
+            Ok(None)
+        }
+        Err(back) => Ok(Some(back.why)),
+    }
+}
+
+// The header of the first text that the group had.
+fn old_header(rt: &impl Abort, alloc: Global) -> Result<[u8; 512], Fail> {
+    let volume = two_runs(rt, alloc)?;
+    assert!(rt; volume.below().disks() == 2);
+    assert!(rt; volume.below().sectors(1) == 3328);
+    Ok(volume.below().sector_now(1, 8))
+}
+
+#[test]
+fn what_array_is_bad(rt: HostRuntime) -> Result<(), Fail> {
+    let zeros = [0; 512];
+    let old = old_header(&rt, rt.alloc())?;
+    let outside = header_sector(1 << 20);
+    let torn = header_sector(512);
+    let bad = |array| Some(VolumeFault::BadVolume { array });
+    // an array with an older text, and a sector that no text has any longer
+    assert_eq!(rt; answer(&rt, rt.alloc(), 1, 8, &old)?, None);
+    assert_eq!(rt; answer(&rt, rt.alloc(), 0, 9, &zeros)?, None);
+    // no header, a location outside, a torn text
+    assert_eq!(rt; answer(&rt, rt.alloc(), 1, 8, &zeros)?, bad(1));
+    assert_eq!(rt; answer(&rt, rt.alloc(), 1, 8, &outside)?, bad(1));
+    assert_eq!(rt; answer(&rt, rt.alloc(), 0, 8, &torn)?, bad(0));
+    assert_eq!(rt; answer(&rt, rt.alloc(), 0, 1, &zeros)?, bad(0));
     Ok(())
 }
