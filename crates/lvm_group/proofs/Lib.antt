@@ -27,3 +27,7 @@ pub mod LabelRead
 pub mod Named
 pub mod OwnGroup
 pub mod AllSynced
+pub mod Answered
+pub mod Turns
+pub mod TextStarts
+pub mod Extended

@@ -21,7 +21,7 @@ use Rattle.lvm_group.specs.Growth.{AreBelow, behind_runs, fits, grown, is_within
 use Rattle.lvm_group.specs.Own.{HoldAll, in_row, own_group, own_lv, own_pv, own_pvs}
 use Rattle.lvm_group.specs.Ids.{group_id, group_name, text_id}
 use Rattle.lvm_group.specs.Made.{AreFree, ArePicks, AreTold, Makes, Means, new_group, new_volume}
-use Rattle.lvm_group.specs.Writing.{Puts, new_targets, own_label, own_location}
+use Rattle.lvm_group.specs.Writing.{AreStarts, Puts, new_targets, own_label, own_location, start_at}
 use Rattle.lvm_group.proofs.Grown.{pieces_few, pieces_small, started_count}
 use Rattle.lvm_group.proofs.GrownRuns.{grown_apart, grown_row, grown_within}
 use Rattle.lvm_group.proofs.OwnText.{IsWritable, own_is_own, runs_back, small_array}
@@ -81,17 +81,20 @@ new_inside pool extent a numbers few holds arrays small =
     subst (λ (l : Linear). IsInside l a) (new_runs pool extent a.sectors numbers few)
     (own_inside pool extent (length numbers) (new_group pool extent a.sectors numbers) a (own_is_own pool extent (length numbers) a.sectors 1 numbers (grown [] numbers) (new_writable extent a.sectors numbers few holds)) arrays small)
 
+pub fresh_starts : AreStarts []
+fresh_starts array = (omega arith, omega arith)
+
 pub new_means : (pool : List ℕ) (extent : ℕ) (a b : Seen) (numbers text : List ℕ) (c : Image) → HaveLabelsDecoded → HaveHeadersDecoded → 0 < length numbers → length numbers ≤ 16 → HoldAll extent a.sectors 0 numbers
-    → length text ≤ 262144 → group_of text ≡ Ok (new_group pool extent a.sectors numbers) → Puts a b (new_targets pool a.sectors text (length numbers)) {X = Unit {0}} (Ok tt) → AreSingle a b (length numbers)
-    → ((array : ℕ) → array < length numbers → IsLabel (own_label pool array (a.sectors array))) → IsLocation (own_location 512 text) → AreTold a b (length numbers) → AreFree a (length numbers) → ArePicks b (length numbers) c
+    → length text ≤ 262144 → group_of text ≡ Ok (new_group pool extent a.sectors numbers) → Puts a b (new_targets pool a.sectors [] text (length numbers)) {X = Unit {0}} (Ok tt) → AreSingle a b (length numbers)
+    → ((array : ℕ) → array < length numbers → IsLabel (own_label pool array (a.sectors array))) → ((array : ℕ) → array < length numbers → IsLocation (own_location (512 * (start_at [] array).sector) text)) → AreTold a b (length numbers) → AreFree a (length numbers) → ArePicks b (length numbers) c
     → Means pool extent a.sectors numbers c
 new_means pool extent a b numbers text c labels headers some few holds short read puts single are_labels location told free picks =
-    let are = new_written a b pool text (length numbers) c short puts single are_labels location told picks free in
-    let group = group_written pool a.sectors (length numbers) text c (new_group pool extent a.sectors numbers) labels headers some short read are in
+    let are = new_written a b pool [] text (length numbers) c fresh_starts short puts single are_labels location told picks free in
+    let group = group_written pool a.sectors [] (length numbers) text c (new_group pool extent a.sectors numbers) labels headers fresh_starts some short read are in
     record {
       group = group;
       volume = ap (option_map (λ (g : Group). contents_of (linear_in (length numbers) g) c)) group ∙ ap (λ (l : Linear). Some (contents_of l c)) (new_runs pool extent a.sectors numbers few);
-      sound = none_bad pool extent a.sectors (length numbers) text c (new_group pool extent a.sectors numbers) labels headers some short read
+      sound = none_bad pool extent a.sectors [] (length numbers) text c (new_group pool extent a.sectors numbers) labels headers fresh_starts some short read
           (own_is_own pool extent (length numbers) a.sectors 1 numbers (grown [] numbers) (new_writable extent a.sectors numbers few holds)) are;
     }
 
@@ -103,12 +106,12 @@ own_pvs_same pool f g array [] same = refl
 own_pvs_same pool f g array (number ∷ others) same =
     rw (same array (omega arith)) (ap (λ (rest : List Pv). own_pv pool (g array) array number ∷ rest) (own_pvs_same pool f g (array + 1) others (λ i below. same i (omega arith))))
 
--- the group that is printed is the new one
-pub group_is : (pool : List ℕ) (extent : ℕ) (sectors : ℕ → ℕ) (numbers sizes : List ℕ) (runs : List Run) → sizes ≡ map sectors (range_with_len 0 (length numbers)) → runs ≡ grown [] numbers
-    → own_group pool extent (slice_index sizes) 1 numbers runs ≡ new_group pool extent sectors numbers
-group_is pool extent sectors numbers sizes runs sizes_are runs_are =
-    rw (sizes_are, runs_are)
-    (ap (λ (pvs : List Pv). record { name = group_name; id = text_id (group_id pool); seqno = 1; extent_size = extent; pvs = pvs; lvs = own_lv pool (grown [] numbers) ∷ [] })
+-- the group that is printed is the one of the arrays' sectors
+pub group_is : (pool : List ℕ) (extent : ℕ) (sectors : ℕ → ℕ) (seqno : ℕ) (numbers sizes : List ℕ) (runs : List Run) → sizes ≡ map sectors (range_with_len 0 (length numbers))
+    → own_group pool extent (slice_index sizes) seqno numbers runs ≡ own_group pool extent sectors seqno numbers runs
+group_is pool extent sectors seqno numbers sizes runs sizes_are =
+    rw sizes_are
+    (ap (λ (pvs : List Pv). record { name = group_name; id = text_id (group_id pool); seqno = seqno; extent_size = extent; pvs = pvs; lvs = own_lv pool runs ∷ [] })
     (own_pvs_same pool (slice_index (map sectors (range_with_len 0 (length numbers)))) sectors 0 numbers
     (λ i below. get_or-map-range_with_len sectors 0 (length numbers) i i 0 (omega arith) (omega arith))))
 
@@ -133,8 +136,8 @@ holds_metadata extent sectors numbers holds array below =
     omega arith
 
 pub makes_by : (a b : Seen) (pool : List ℕ) (extent : ℕ) (numbers text : List ℕ) (result : Result (Unit {0}) Gone) → HaveLabelsDecoded → HaveHeadersDecoded → 0 < length numbers → length numbers ≤ 16
-    → HoldAll extent a.sectors 0 numbers → length text ≤ 262144 → group_of text ≡ Ok (new_group pool extent a.sectors numbers) → Puts a b (new_targets pool a.sectors text (length numbers)) result
-    → OnOk result (AreSingle a b (length numbers)) → OnOk result ((array : ℕ) → array < length numbers → IsLabel (own_label pool array (a.sectors array))) → OnOk result (IsLocation (own_location 512 text))
+    → HoldAll extent a.sectors 0 numbers → length text ≤ 262144 → group_of text ≡ Ok (new_group pool extent a.sectors numbers) → Puts a b (new_targets pool a.sectors [] text (length numbers)) result
+    → OnOk result (AreSingle a b (length numbers)) → OnOk result ((array : ℕ) → array < length numbers → IsLabel (own_label pool array (a.sectors array))) → OnOk result (((array : ℕ) → array < length numbers → IsLocation (own_location (512 * (start_at [] array).sector) text)))
     → OnOk result (Makes pool extent numbers a b)
 makes_by a b pool extent numbers text (Ok done) labels headers some few holds short read puts single are_labels location = record {
   single = single;

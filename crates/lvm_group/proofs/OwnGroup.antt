@@ -16,6 +16,7 @@ use Rattle.lvm_group.specs.Ids.{array_named, group_id, pv_id, text_id, group_nam
 use Rattle.rack.specs.Seen.{Seen}
 use Rattle.lvm_group.specs.Shown.{IsInside, total}
 use Rattle.lvm_group.specs.Runs.{Place, AreInOrder, AreApart, IsOrderly, place_of, place_in, data_start, extents_of, run_of}
+use Rattle.lvm_group.specs.Own.{in_row}
 use Rattle.lvm_group.specs.Group.{run_by, run_in, with_run, runs_from, runs_in, linear_in, names, pv_of, is_pv_of, is_pv, follow, lies_in, are_apart, all_apart, differ, most_segments, has_own_name, has_own_head, is_only_lv, is_own_group}
 use Rattle.lvm_group.proofs.Passed.{both, found_passes, found_all, all_at, some_passes, is_there}
 use Rattle.lvm_group.proofs.Found.{has_it, lacks_it}
@@ -242,3 +243,82 @@ own_inside pool extent joined g a own arrays small =
           subst (λ size. data_start + (place_of (runs_in g.lvs) e).extent * size + size ≤ a.sectors (place_of (runs_in g.lvs) e).array) (sym is.sized)
           (extent_inside extent joined a.sectors (runs_in g.lvs) e is.placed within).1;
     }
+
+-- its extents have the pool's size
+pub own_sized : (pool : List ℕ) (extent joined : ℕ) (sectors : ℕ → ℕ) (g : Group) → is_own_group pool extent sectors joined g ≡ true → g.extent_size ≡ extent
+own_sized pool extent joined sectors g own = (own_placed pool extent joined sectors g own).sized
+
+-- it has few runs
+few_by : (o : Option Run) (runs : List Run) → length (with_run o runs) ≤ 1 + length runs
+few_by None runs = omega arith
+few_by (Some run) runs = omega arith
+
+few_runs : (segments : List Segment) → length (runs_from segments) ≤ length segments
+unfolding runs_from
+few_runs [] = omega arith
+few_runs (segment ∷ others) = let rest = few_runs others in let one = few_by (run_in segment) (runs_from others) in omega arith
+
+few_lvs : (pool : List ℕ) (pvs : List Pv) (lvs : List Lv) → is_only_lv pool pvs lvs ≡ true → length (runs_in lvs) ≤ 1024
+few_lvs pool pvs [] is = cc
+few_lvs pool pvs (lv ∷ []) is =
+    let name = both (has_own_name pool lv) _ is in
+    let few = both (nat_le (length lv.segments) most_segments) _ name.1 in
+    let most = leb-true (length lv.segments) 1024 few.0 in
+    let runs = few_runs lv.segments in
+    omega arith
+few_lvs pool pvs (lv ∷ other ∷ others) is = cc
+
+pub own_few : (pool : List ℕ) (extent joined : ℕ) (sectors : ℕ → ℕ) (g : Group) → is_own_group pool extent sectors joined g ≡ true → length (runs_in g.lvs) ≤ 1024
+own_few pool extent joined sectors g own =
+    let head = both (has_own_head pool extent g) _ own in
+    let pvs = both (list_all (is_pv pool extent sectors joined) g.pvs) _ head.1 in
+    let lvs = both (differ g.pvs) (is_only_lv pool g.pvs g.lvs) pvs.1 in
+    few_lvs pool g.pvs g.lvs lvs.1
+
+-- its runs follow each other
+row_by : (segment : Segment) (o : Option Run) (runs : List Run) (start : ℕ) → run_in segment ≡ o → is_some o ≡ true → segment.start ≡ start → in_row (start + segment.count) runs ≡ true → in_row start (with_run o runs) ≡ true
+unfolding in_row
+row_by segment None runs start is some here rest = cc
+row_by segment (Some run) runs start is some here rest =
+    let same = run_of_kind segment.start segment.count segment.kind run is in
+    rw (eq-eqb run.start start (same.0 ∙ here), same.1) rest
+
+rows : (segments : List Segment) (start : ℕ) → follow start segments ≡ true → in_row start (runs_from segments) ≡ true
+unfolding follow runs_from in_row
+rows [] start follows = refl
+rows (segment ∷ others) start follows =
+    let first = both (segment.start == start) (is_some (run_in segment) && follow (start + segment.count) others) follows in
+    let rest = both (is_some (run_in segment)) (follow (start + segment.count) others) first.1 in
+    row_by segment (run_in segment) (runs_from others) start refl rest.0 (eqb-true segment.start start first.0) (rows others (start + segment.count) rest.1)
+
+-- and are apart
+lvs_row : (pool : List ℕ) (pvs : List Pv) (lvs : List Lv) → is_only_lv pool pvs lvs ≡ true → (in_row 0 (runs_in lvs) ≡ true) × (all_apart (runs_in lvs) ≡ true)
+lvs_row pool pvs [] is = cc
+lvs_row pool pvs (lv ∷ []) is =
+    let name = both (has_own_name pool lv) _ is in
+    let few = both (nat_le (length lv.segments) most_segments) _ name.1 in
+    let follows = both (follow 0 lv.segments) _ few.1 in
+    let lie = both (list_all (lies_in pvs) (runs_from lv.segments)) (all_apart (runs_from lv.segments)) follows.1 in
+    (rows lv.segments 0 follows.0, lie.1)
+lvs_row pool pvs (lv ∷ other ∷ others) is = cc
+
+own_lvs : (pool : List ℕ) (extent joined : ℕ) (sectors : ℕ → ℕ) (g : Group) → is_own_group pool extent sectors joined g ≡ true → is_only_lv pool g.pvs g.lvs ≡ true
+own_lvs pool extent joined sectors g own =
+    let head = both (has_own_head pool extent g) _ own in
+    let pvs = both (list_all (is_pv pool extent sectors joined) g.pvs) _ head.1 in
+    (both (differ g.pvs) (is_only_lv pool g.pvs g.lvs) pvs.1).1
+
+pub own_row : (pool : List ℕ) (extent joined : ℕ) (sectors : ℕ → ℕ) (g : Group) → is_own_group pool extent sectors joined g ≡ true → in_row 0 (runs_in g.lvs) ≡ true
+own_row pool extent joined sectors g own = (lvs_row pool g.pvs g.lvs (own_lvs pool extent joined sectors g own)).0
+
+pub own_apart : (pool : List ℕ) (extent joined : ℕ) (sectors : ℕ → ℕ) (g : Group) → is_own_group pool extent sectors joined g ≡ true → all_apart (runs_in g.lvs) ≡ true
+own_apart pool extent joined sectors g own = (lvs_row pool g.pvs g.lvs (own_lvs pool extent joined sectors g own)).1
+
+-- its seqno isn't the last one
+pub own_numbered : (pool : List ℕ) (extent joined : ℕ) (sectors : ℕ → ℕ) (g : Group) → is_own_group pool extent sectors joined g ≡ true → g.seqno < 2 ^ 63
+own_numbered pool extent joined sectors g own =
+    let head = both (has_own_head pool extent g) _ own in
+    let name = both (bytes_eq g.name group_name) _ head.0 in
+    let id = both (bytes_eq g.id (text_id (group_id pool))) _ name.1 in
+    let size = both (g.extent_size == extent) (nat_lt g.seqno (2 ^ 63)) id.1 in
+    ltb-true g.seqno (2 ^ 63) size.1

@@ -29,7 +29,7 @@ get_old [] y k below = absurd (omega arith)
 get_old (x ∷ xs) y zero below = refl
 get_old (x ∷ xs) y (suc k) below = get_old xs y k (omega arith)
 
-get_new : {X : Type 0} (xs : List X) (y : X) → slice_get (xs ++ y ∷ []) (length xs) ≡ Some y
+pub get_new : {X : Type 0} (xs : List X) (y : X) → slice_get (xs ++ y ∷ []) (length xs) ≡ Some y
 get_new [] y = refl
 get_new (x ∷ xs) y = get_new xs y
 

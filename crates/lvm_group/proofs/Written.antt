@@ -13,7 +13,8 @@ use Rattle.lvm_group.specs.declared.parts.Part.{Part}
 use Rattle.lvm_group.specs.Ids.{label_id, pv_id}
 use Rattle.lvm_group.specs.Parts.{Array, group_at, header_at, label_on, part_by, part_of}
 use Rattle.lvm_group.specs.Group.{ahead, first_bad, group_in, highest, is_bad, is_own_group, names_array, parts_in}
-use Rattle.lvm_group.specs.Writing.{area_size, own_area, own_header, own_label, own_location}
+use Rattle.lvm_group.specs.declared.starts.TextStart.{TextStart}
+use Rattle.lvm_group.specs.Writing.{AreStarts, area_size, own_area, own_header, own_label, own_location, start_at}
 use Rattle.lvm_group.proofs.OwnText.{length_map, same_bytes}
 use Rattle.lvm_group.proofs.TextStands.{Stands, whole_text}
 
@@ -75,7 +76,7 @@ highest_same group (o ∷ []) some all = rw (all 0 o refl) refl
 highest_same group (o ∷ p ∷ others) some all =
     rw (all 0 o refl, highest_same group (p ∷ others) (omega arith) (λ i q at. all (suc i) q at)) (not_ahead group)
 
-mapped_at : {X Y : Type 0} (f : X → Y) (xs : List X) (i : ℕ) (y : Y) → slice_get (map f xs) i ≡ Some y → (x : X) × (slice_get xs i ≡ Some x) × (y ≡ f x)
+pub mapped_at : {X Y : Type 0} (f : X → Y) (xs : List X) (i : ℕ) (y : Y) → slice_get (map f xs) i ≡ Some y → (x : X) × (slice_get xs i ≡ Some x) × (y ≡ f x)
 mapped_at f [] i y at = cc
 mapped_at f (x ∷ xs) zero y at = (x, refl, cc)
 mapped_at f (x ∷ xs) (suc i) y at = mapped_at f xs i y at
@@ -98,13 +99,13 @@ range_long from zero = refl
 range_long from (suc count) = ap suc (range_long (from + 1) count)
 
 -- the parts of arrays that were written on
-abbrev pub AreWritten : List ℕ → (ℕ → ℕ) → ℕ → List ℕ → Image → Type 0
-AreWritten pool sectors joined text c = (array : ℕ) → array < joined → IsWritten pool array (sectors array) 1 text (c array)
+abbrev pub AreWritten : List ℕ → (ℕ → ℕ) → List TextStart → ℕ → List ℕ → Image → Type 0
+AreWritten pool sectors starts joined text c = (array : ℕ) → array < joined → IsWritten pool array (sectors array) (start_at starts array).sector text (c array)
 
 -- they are of this group
-pub group_written : (pool : List ℕ) (sectors : ℕ → ℕ) (joined : ℕ) (text : List ℕ) (c : Image) (group : Group) → HaveLabelsDecoded → HaveHeadersDecoded → 0 < joined → length text ≤ 262144
-    → group_of text ≡ Ok group → AreWritten pool sectors joined text c → group_in c sectors joined ≡ Some group
-group_written pool sectors joined text c group labels headers some short read are =
+pub group_written : (pool : List ℕ) (sectors : ℕ → ℕ) (starts : List TextStart) (joined : ℕ) (text : List ℕ) (c : Image) (group : Group) → HaveLabelsDecoded → HaveHeadersDecoded → AreStarts starts → 0 < joined
+    → length text ≤ 262144 → group_of text ≡ Ok group → AreWritten pool sectors starts joined text c → group_in c sectors joined ≡ Some group
+group_written pool sectors starts joined text c group labels headers inside some short read are =
     let arrays = range_with_len 0 joined in
     let long = length_map (λ (part : Part). part.group) (parts_in c sectors joined) ∙ length_map (λ array. part_of (c array) (sectors array)) arrays ∙ range_long 0 joined in
     highest_same group (map (λ (part : Part). part.group) (parts_in c sectors joined)) (omega arith)
@@ -112,17 +113,17 @@ group_written pool sectors joined text c group labels headers some short read ar
     let part = mapped_at (λ (part : Part). part.group) (parts_in c sectors joined) i o at in
     let array = mapped_at (λ array. part_of (c array) (sectors array)) arrays i part.0 part.1 in
     let below = (range_below 0 joined i array.0 array.1).1 in
-    let there = part_there pool array.0 (sectors array.0) 1 text (c array.0) group labels headers (omega arith) (omega arith) short read (are array.0 (omega arith)) in
+    let there = part_there pool array.0 (sectors array.0) (start_at starts array.0).sector text (c array.0) group labels headers (inside array.0).1 (inside array.0).0 short read (are array.0 (omega arith)) in
     part.2 ∙ ap (λ (part : Part). part.group) (array.2 ∙ there))
 
 -- and none of them is bad
-pub none_bad : (pool : List ℕ) (extent : ℕ) (sectors : ℕ → ℕ) (joined : ℕ) (text : List ℕ) (c : Image) (group : Group) → HaveLabelsDecoded → HaveHeadersDecoded → 0 < joined → length text ≤ 262144
-    → group_of text ≡ Ok group → is_own_group pool extent sectors joined group ≡ true → AreWritten pool sectors joined text c → first_bad pool extent sectors joined c ≡ None
+pub none_bad : (pool : List ℕ) (extent : ℕ) (sectors : ℕ → ℕ) (starts : List TextStart) (joined : ℕ) (text : List ℕ) (c : Image) (group : Group) → HaveLabelsDecoded → HaveHeadersDecoded → AreStarts starts → 0 < joined
+    → length text ≤ 262144 → group_of text ≡ Ok group → is_own_group pool extent sectors joined group ≡ true → AreWritten pool sectors starts joined text c → first_bad pool extent sectors joined c ≡ None
 unfolding first_bad
-none_bad pool extent sectors joined text c group labels headers some short read own are =
+none_bad pool extent sectors starts joined text c group labels headers inside some short read own are =
     find_none (is_bad pool extent sectors joined c) (range_with_len 0 joined)
     (λ i array at.
     let below = (range_below 0 joined i array at).1 in
-    let there = part_there pool array (sectors array) 1 text (c array) group labels headers (omega arith) (omega arith) short read (are array (omega arith)) in
-    let same = group_written pool sectors joined text c group labels headers some short read are in
+    let there = part_there pool array (sectors array) (start_at starts array).sector text (c array) group labels headers (inside array).1 (inside array).0 short read (are array (omega arith)) in
+    let same = group_written pool sectors starts joined text c group labels headers inside some short read are in
     rw (there, same, same_bytes (label_id (pv_id pool array)), own, and_false (names_array group array), and_false (array == 0)) refl)

@@ -12,3 +12,6 @@ pub mod Reading
 pub mod Found
 pub mod Group
 pub mod Made
+pub mod Opening
+pub mod Changing
+pub mod Extending

@@ -49,7 +49,7 @@ pub record Makes (pool : List ℕ) (extent : ℕ) (numbers : List ℕ) (a b : Se
 
 -- what making a volume writes
 abbrev pub made_targets : List ℕ → ℕ → (ℕ → ℕ) → List ℕ → List Target
-made_targets pool extent sectors numbers = new_targets pool sectors (printed (new_group pool extent sectors numbers)) (length numbers)
+made_targets pool extent sectors numbers = new_targets pool sectors [] (printed (new_group pool extent sectors numbers)) (length numbers)
 
 -- a volume that wasn't made: without memory the rack is as it was; else an array refused a call, and some of the writes were made
 abbrev pub IsUnmade : {R : Type 0} → (R → Seen) → R → List Target → R → VolumeFault → Type 0

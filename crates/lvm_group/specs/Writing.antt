@@ -1,5 +1,5 @@
 -- What a change writes on the arrays: labels, headers and the new text.
-use Rattle.std.specs.Prelude.{◌≡◌, ℕ, zero, suc, ◌+◌, ◌-◌, ◌*◌, ◌/◌, ◌<◌, List, [], ◌∷◌, ◌++◌, nat_lt, if◌then◌else◌, true, length, take, drop, Some, Result, OnOk, IfErr}
+use Rattle.std.specs.Prelude.{◌≡◌, ℕ, zero, suc, ◌+◌, ◌-◌, ◌*◌, ◌/◌, ◌<◌, ◌≤◌, Bool, List, [], ◌∷◌, ◌++◌, nat_lt, if◌then◌else◌, true, false, slice_get, unwrap_or, length, take, drop, Some, Result, OnOk, IfErr}
 use Rattle.lvm_label.specs.declared.label.Area.{Area}
 use Rattle.lvm_label.specs.declared.label.Label.{Label}
 use Rattle.lvm_label.specs.declared.header.Location.{Location}
@@ -12,6 +12,7 @@ use Rattle.rack.specs.declared.Gone.{Gone}
 use Rattle.rack.specs.Seen.{Seen, IsLive, Rose}
 use Rattle.rack.specs.Sequences.{IsPayload, WritesOnly}
 use Rattle.rack.specs.Targets.{Target, target, look}
+use Rattle.lvm_group.specs.declared.starts.TextStart.{TextStart}
 use Rattle.lvm_group.specs.Ids.{label_id, pv_id}
 
 -- ---- what is written
@@ -64,18 +65,38 @@ targets_to f (suc n) = targets_to f n ++ f n
 abbrev pub text_targets : ℕ → ℕ → List ℕ → List Target
 text_targets array first text = targets_to (λ k. target array (place_at first k) (piece text k) ∷ []) (text_sectors text)
 
+-- an array that has no header is written from the first sector behind it on
+abbrev pub fresh : TextStart
+fresh = record { sector = 1; blank = true }
+
+-- where an array's text is to begin
+abbrev pub start_at : List TextStart → ℕ → TextStart
+start_at starts array = unwrap_or (slice_get starts array) fresh
+
+-- where each begins in the area, behind the header
+abbrev pub AreStarts : List TextStart → Type 0
+AreStarts starts = (array : ℕ) → (1 ≤ (start_at starts array).sector) × ((start_at starts array).sector < 2040)
+
+-- an empty header, where there is none
+abbrev pub blank_targets : ℕ → Bool → List Target
+blank_targets array true = target array 8 (header_bytes (own_header [])) ∷ []
+blank_targets array false = []
+
 -- label, empty header and text
-abbrev pub first_targets : List ℕ → (ℕ → ℕ) → List ℕ → ℕ → List Target
-first_targets pool sectors text array =
-    (target array 1 (label_bytes (own_label pool array (sectors array))) ∷ target array 8 (header_bytes (own_header [])) ∷ []) ++ text_targets array 1 text
+abbrev pub label_targets : List ℕ → ℕ → ℕ → List Target
+label_targets pool array sectors = target array 1 (label_bytes (own_label pool array sectors)) ∷ []
+
+abbrev pub first_targets : List ℕ → (ℕ → ℕ) → List TextStart → List ℕ → ℕ → List Target
+first_targets pool sectors starts text array =
+    (label_targets pool array (sectors array) ++ blank_targets array (start_at starts array).blank) ++ text_targets array (start_at starts array).sector text
 
 -- the header that has the text
-abbrev pub header_target : ℕ → List ℕ → ℕ → List Target
-header_target offset text array = target array 8 (header_bytes (own_header (own_location offset text ∷ []))) ∷ []
+abbrev pub header_target : List TextStart → List ℕ → ℕ → List Target
+header_target starts text array = target array 8 (header_bytes (own_header (own_location (512 * (start_at starts array).sector) text ∷ []))) ∷ []
 
--- what is written on the first arrays of a new group, so many: the headers with the text come last
-abbrev pub new_targets : List ℕ → (ℕ → ℕ) → List ℕ → ℕ → List Target
-new_targets pool sectors text n = targets_to (first_targets pool sectors text) n ++ targets_to (header_target 512 text) n
+-- what is written on the first arrays, so many, for a new text: the headers with the text come last
+abbrev pub new_targets : List ℕ → (ℕ → ℕ) → List TextStart → List ℕ → ℕ → List Target
+new_targets pool sectors starts text n = targets_to (first_targets pool sectors starts text) n ++ targets_to (header_target starts text) n
 
 -- ---- calls in a row that may be cut off
 

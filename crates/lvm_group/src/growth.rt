@@ -147,7 +147,7 @@ fn add(into: &mut Vec<Run>, run: Run)
 }
 
 /// Has some runs alone, that there is room for.
-fn copy(into: &mut Vec<Run>, runs: &[Run])
+pub(crate) fn copy(into: &mut Vec<Run>, runs: &[Run])
     requires room { length runs.now ≤ vec_capacity into.old }
     ensures items { into.new.items ≡ runs.now }
     ensures room { vec_capacity into.old ≤ vec_capacity into.new }

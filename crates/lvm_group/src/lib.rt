@@ -20,17 +20,28 @@
 //! **Making.** [`Volume::create`] writes labels, headers and the group's text on the arrays; each is durable
 //! before a header has the text. Whatever a stop leaves after it means that group and that volume, and no
 //! array is bad (specs/Made.antt). Whether a volume can be extended and the runs that it then has are told by
-//! specs/Growth.antt. Opening a volume and writing an extended one stand on this, and aren't built yet.
+//! specs/Growth.antt.
+//!
+//! **Extending.** [`Volume::extend`] writes a new text behind the last one of each array, and once all is durable
+//! the headers with it: a stop at any moment leaves some of the first writes, or all of them and some of the
+//! headers (specs/Changing.antt).
+//!
+//! **Opening.** [`Volume::open`] answers by what was read of the joined arrays: the volume of the group that
+//! counts, or the lowest bad array (specs/Opening.antt). Where no sector was refused, these are the group and the
+//! array that the contents determine.
 #![tactic(auto)]
 
+mod changing;
 mod growth;
 mod making;
 mod naming;
+mod opening;
 mod parts;
 mod printing;
 mod profile;
 mod reading;
 mod runs;
+mod starts;
 mod syncing;
 mod volume;
 mod writing;

@@ -25,23 +25,28 @@ use std::alloc::Global;
 /// Bytes of the longest text.
 const MOST_TEXT: usize = 262144;
 
-/// The room of a volume: for the runs of as many segments as a text may have, and for a text.
+/// The room of a volume: twice for the runs of as many segments as a text may have, and for a text.
 #[derive(Debug, Drop)]
 pub(crate) struct Room {
     pub runs: Vec<Run>,
+    pub spare: Vec<Run>,
     pub text: Text,
 }
 
 /// Takes the room of a volume.
 pub(crate) fn take_room(alloc: Global) -> Result<Room, NoMemory>
     ensures runs { IfOk result (λ room. 1024 ≤ vec_capacity room.runs) }
+    ensures spare { IfOk result (λ room. 1024 ≤ vec_capacity room.spare) }
     ensures text { IfOk result (λ room. 262144 ≤ room.text.spare) }
 {
     let Ok(runs) = Vec::with_capacity(alloc, MOST_SEGMENTS) else {
         return Err(NoMemory);
     };
+    let Ok(spare) = Vec::with_capacity(alloc, MOST_SEGMENTS) else {
+        return Err(NoMemory);
+    };
     let text = Text::with_room(alloc, MOST_TEXT)?;
-    Ok(Room { runs, text })
+    Ok(Room { runs, spare, text })
 }
 
 /// How many extents runs have.
@@ -59,7 +64,7 @@ pub(crate) fn extents_in(runs: &[Run]) -> u64
 }
 
 /// The sectors of the first arrays, so many.
-fn sizes<R: Rack>(rack: &R, arrays: u32) -> ArrayVec<u64, 16>
+pub(crate) fn sizes<R: Rack>(rack: &R, arrays: u32) -> ArrayVec<u64, 16>
     requires fit { (R.seen rack.now).fit }
     requires arrays { arrays ≤ (R.seen rack.now).disks }
     requires few { arrays ≤ 16 }
@@ -90,8 +95,11 @@ pub(crate) fn make<R: Rack>(
     requires room_of_runs { 1024 ≤ vec_capacity room.old.runs }
     requires room_of_text { 262144 ≤ length room.old.text.bytes + room.old.text.spare }
     ensures runs_are { room.new.runs.items ≡ grown [] numbers.now }
+    ensures runs_room { 1024 ≤ vec_capacity room.new.runs }
+    ensures spare_room { vec_capacity room.old.spare ≤ vec_capacity room.new.spare }
+    ensures text_room { 262144 ≤ length room.new.text.bytes + room.new.text.spare }
     ensures puts { Puts (R.seen rack.old) (R.seen rack.new)
-        (new_targets pool.now.0 (R.seen rack.old).sectors (printed (new_group pool.now.0 extent (R.seen rack.old).sectors numbers.now)) (length numbers.now)) result }
+        (new_targets pool.now.0 (R.seen rack.old).sectors [] (printed (new_group pool.now.0 extent (R.seen rack.old).sectors numbers.now)) (length numbers.now)) result }
     ensures makes { OnOk result (Makes pool.now.0 extent numbers.now (R.seen rack.old) (R.seen rack.new)) }
     ensures runs { R.runs rack.old rack.new }
 {
@@ -110,5 +118,5 @@ pub(crate) fn make<R: Rack>(
         room.runs.as_slice(),
         &mut room.text,
     );
-    put_new(rack, pool, arrays, room.text.as_slice())
+    put_new(rack, pool, arrays, &[], room.text.as_slice())
 }

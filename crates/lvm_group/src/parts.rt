@@ -49,7 +49,7 @@ fn area_of(sectors: u64, label: &Label) -> Option<Area>
 }
 
 /// The first location of a header.
-fn location_in(header: &Header) -> Option<Location>
+pub(crate) fn location_in(header: &Header) -> Option<Location>
     ensures { result ≡ location_in header.now }
 {
     header.locations.as_slice().first().copied()
@@ -151,6 +151,7 @@ pub(crate) fn read_parts<R: Rack>(
     ensures looks { OnlyReads (R.seen rack.old) (R.seen rack.new) }
     ensures runs { R.runs rack.old rack.new }
     ensures count { IfOk result (λ parts. length parts.items ≡ joined) }
+    ensures room { IfOk result (λ parts. length into.old.bytes + into.old.spare ≤ length into.new.bytes + into.new.spare) }
     ensures parts { IfOk result (λ parts. AreParts (R.seen rack.old) (R.seen rack.new) joined parts.items) }
 {
     let mut parts = Vec::new(alloc);

@@ -95,7 +95,7 @@ fn names(array: u32, pv: &Pv) -> bool
 }
 
 /// The extents of an array's physical volume, where the group has it.
-fn extents_of(pvs: &[Pv], array: u32) -> Option<u64>
+pub(crate) fn extents_of(pvs: &[Pv], array: u32) -> Option<u64>
     ensures { result ≡ option_map (λ pv. pv.pe_count) (pv_of pvs.now array) }
 {
     let mut rest = pvs;

@@ -149,7 +149,7 @@ fn read_text<R: Rack>(
 }
 
 /// Whether a location lies inside an area, with a text that isn't too long.
-fn is_inside(area: &Area, location: &Location) -> bool
+pub(crate) fn is_inside(area: &Area, location: &Location) -> bool
     ensures { result ≡ is_inside area.now location.now }
 {
     location.offset >= 512

@@ -1,13 +1,17 @@
 //! Tests of what no clause says: that the bytes which lvm2 2.03.16 wrote are read, also where a text goes
 //! on behind its header, that faults are no part of a group, and that a volume is made where there is memory.
 
-ghost use Rattle.std.specs.Prelude.{◌<◌};
+ghost use Rattle.std.specs.Prelude.{◌≡◌, ◌<◌, IfOk};
+ghost use Rattle.rack_mem.specs.MemBay.{memory};
+ghost use Rattle.rack_mem.specs.Memory.{seen_of};
+ghost use Rattle.lvm_group.specs.Shown.{volume_of};
+ghost use Rattle.lvm_group.specs.Volume.{below_of, linear};
 
 use crate::growth::fits;
 use crate::naming::{array_named, pv_name, text_id};
 use crate::parts::{Part, read_part};
 use crate::runs::Run;
-use crate::volume::Volume;
+use crate::volume::{Volume, VolumeFault};
 use arrayvec::ArrayVec;
 use lvm_label::{Area, Header, Label, Location, encode_header, encode_label};
 use lvm_text::Text;
@@ -194,16 +198,18 @@ fn two_arrays(rt: &impl Abort, alloc: Global) -> Result<MemBay, Fail> {
 }
 
 // A volume of 20 extents of one array and 10 of another.
-fn two_runs(rt: &impl Abort, alloc: Global) -> Result<Volume<MemBay>, Fail> {
+fn two_runs(rt: &impl Abort, alloc: Global) -> Result<Volume<MemBay>, Fail>
+    ensures fit { IfOk result (λ volume. (volume_of (linear volume) (seen_of (memory (below_of volume)))).fit) }
+    ensures sized { IfOk result (λ volume. (linear volume).extent ≡ 128) }
+{
     let bay = two_arrays(rt, alloc)?;
     assert!(rt; bay.disks() == 2);
     assert!(rt; bay.sectors(0) == 6656);
     assert!(rt; bay.sectors(1) == 3328);
-    Ok(
-        Volume::create(alloc, bay, &Id([7; 16]), 128, &[20, 10])
-            .ok()
-            .expect(rt, "a volume"),
-    )
+    match Volume::create(alloc, bay, &Id([7; 16]), 128, &[20, 10]) {
+        Ok(volume) => Ok(volume),
+        Err(_) => panic!(rt; "no volume"),
+    }
 }
 
 #[test]
@@ -220,5 +226,84 @@ fn a_made_group_is_read(rt: HostRuntime) -> Result<(), Fail> {
     assert_eq!(rt; group.seqno, 1);
     assert_eq!(rt; group.pvs.as_slice().len(), 2);
     assert_eq!(rt; group.lvs.as_slice().len(), 1);
+    Ok(())
+}
+
+// Extends the volume to these numbers of extents of its two arrays.
+fn extend_to(rt: &impl Abort, volume: &mut Volume<MemBay>, numbers: &[u64])
+    requires fit { (volume_of (linear volume.old) (seen_of (memory (below_of volume.old)))).fit }
+    requires sized { (linear volume.old).extent ≡ 128 }
+    ensures fit { (volume_of (linear volume.new) (seen_of (memory (below_of volume.new)))).fit }
+    ensures sized { (linear volume.new).extent ≡ 128 }
+{
+    assert!(rt; volume.below().disks() == 2);
+    assert!(rt; volume.below().sectors(0) == 6656);
+    assert!(rt; volume.below().sectors(1) == 3328);
+    assert!(rt; numbers.len() == 2 && numbers[0] <= 36 && numbers[1] <= 10);
+    assert!(rt; volume.fits(numbers));
+    assert_eq!(rt; volume.extend(numbers), Ok(()));
+}
+
+#[test]
+fn an_extended_group_is_opened(rt: HostRuntime) -> Result<(), Fail> {
+    let mut volume = two_runs(&rt, rt.alloc())?;
+    extend_to(&rt, &mut volume, &[30, 10]);
+    extend_to(&rt, &mut volume, &[36, 10]);
+    assert_eq!(rt; volume.extents(), 46);
+    let bay = volume.into_inner();
+    assert!(rt; bay.disks() == 2);
+    let opened = Volume::open(rt.alloc(), bay, &Id([7; 16]), 128, 2)
+        .ok()
+        .expect(&rt, "a volume");
+    assert_eq!(rt; opened.extents(), 46);
+    Ok(())
+}
+
+// The answer of opening a group whose arrays were extended once, with one sector of an array replaced.
+fn answer(
+    rt: &impl Abort,
+    alloc: Global,
+    disk: u32,
+    sector: u64,
+    bytes: &[u8; 512],
+) -> Result<Option<VolumeFault>, Fail> {
+    let mut volume = two_runs(rt, alloc)?;
+    extend_to(rt, &mut volume, &[30, 10]);
+    let mut bay = volume.into_inner();
+    assert!(rt; bay.disks() == 2 && disk < 2);
+    assert!(rt; sector < bay.sectors(disk));
+    assert_eq!(rt; bay.write(disk, sector, bytes), Ok(()));
+    match Volume::open(alloc, bay, &Id([7; 16]), 128, 2) {
+        Ok(volume) => {
+            assert_eq!(rt; volume.extents(), 40);
+            Ok(None)
+        }
+        Err(back) => Ok(Some(back.why)),
+    }
+}
+
+// The header of the first text that the group had.
+fn old_header(rt: &impl Abort, alloc: Global) -> Result<[u8; 512], Fail> {
+    let volume = two_runs(rt, alloc)?;
+    assert!(rt; volume.below().disks() == 2);
+    assert!(rt; volume.below().sectors(1) == 3328);
+    Ok(volume.below().sector_now(1, 8))
+}
+
+#[test]
+fn what_array_is_bad(rt: HostRuntime) -> Result<(), Fail> {
+    let zeros = [0; 512];
+    let old = old_header(&rt, rt.alloc())?;
+    let outside = header_sector(1 << 20);
+    let torn = header_sector(512);
+    let bad = |array| Some(VolumeFault::BadVolume { array });
+    // an array with an older text, and a sector that no text has any longer
+    assert_eq!(rt; answer(&rt, rt.alloc(), 1, 8, &old)?, None);
+    assert_eq!(rt; answer(&rt, rt.alloc(), 0, 9, &zeros)?, None);
+    // no header, a location outside, a torn text
+    assert_eq!(rt; answer(&rt, rt.alloc(), 1, 8, &zeros)?, bad(1));
+    assert_eq!(rt; answer(&rt, rt.alloc(), 1, 8, &outside)?, bad(1));
+    assert_eq!(rt; answer(&rt, rt.alloc(), 0, 8, &torn)?, bad(0));
+    assert_eq!(rt; answer(&rt, rt.alloc(), 0, 1, &zeros)?, bad(0));
     Ok(())
 }

@@ -1,17 +1,23 @@
 //! The volume.
 
-ghost use Rattle.std.specs.Prelude.{◌≡◌, ◌≤◌, length};
+ghost use Rattle.std.specs.Prelude.{◌≡◌, ◌<◌, ◌≤◌, ◌+◌, ◌^◌, length, true, vec_capacity};
+ghost use Rattle.lvm_group.specs.Group.{all_apart};
+ghost use Rattle.lvm_group.specs.Own.{in_row};
 ghost use Rattle.lvm_group.specs.Runs.{IsOrderly, extents_of};
 ghost use Rattle.lvm_group.specs.Shown.{IsInside, volume_of};
 ghost use Rattle.lvm_group.specs.Laws.{is_sound};
 
-use crate::growth::fits;
+use crate::changing::{next_seqno, put_grown};
+use crate::growth::{copy, fits, grow};
 use crate::making::{extents_in, make, take_room};
+use crate::opening::find_runs;
 use crate::runs::{Run, Spot, spot_with};
 use crate::syncing::sync_first;
+use lvm_text::Text;
 use rack::{Back, Gone, Rack};
 use shr_base::Id;
 use std::alloc::Global;
+use std::mem::swap;
 
 /// Why a volume can't be made or opened.
 #[derive(Clone, Copy, Debug, PartialEq, Eq)]
@@ -29,16 +35,30 @@ pub enum VolumeFault {
 #[derive(Drop)]
 pub struct Volume<R> {
     rack: R,
+    /// The id of the pool.
+    pool: Id,
     /// The sectors of an extent.
     extent: u64,
     /// How many arrays the volume is over, the lowest ones of the rack.
     arrays: u32,
     /// Its extents.
     extents: u64,
+    /// The seqno of the group's text.
+    seqno: u64,
     runs: Vec<Run>,
+    /// Room for the runs of an extended volume.
+    spare: Vec<Run>,
+    /// Room for its text.
+    text: Text,
     ghost orderly: { IsOrderly (record { extent = extent; arrays = arrays; runs = runs.items }) },
+    ghost row: { in_row 0 runs.items ≡ true },
+    ghost apart: { all_apart runs.items ≡ true },
     ghost counted: { extents ≡ extents_of runs.items },
     ghost few: { length runs.items ≤ 1024 },
+    ghost numbered: { seqno < 2 ^ 63 },
+    ghost runs_room: { 1024 ≤ vec_capacity runs },
+    ghost spare_room: { 1024 ≤ vec_capacity spare },
+    ghost text_room: { 262144 ≤ length text.bytes + text.spare },
 }
 
 impl<R: Rack> Rack for Volume<R> {
@@ -91,16 +111,21 @@ impl<R: Rack> Rack for Volume<R> {
 }
 
 impl<R: Rack> Volume<R> {
-    ghost use Rattle.std.specs.Prelude.{◌<◌, ◌≤◌, ◌^◌, IfErr, IfOk, Ok, length};
+    ghost use Rattle.std.specs.Prelude.{◌<◌, ◌≤◌, ◌^◌, IfErr, IfOk, IsTrue, Ok, OnErr, OnOk, length};
+    ghost use Rattle.lvm_text.specs.Printed.{printed};
+    ghost use Rattle.lvm_group.specs.Changing.{Changes};
+    ghost use Rattle.lvm_group.specs.Extending.{extended, next_group, next_seqno};
     ghost use Rattle.lvm_group.specs.Growth.{AreBelow, fits};
     ghost use Rattle.lvm_group.specs.Made.{IsUnmade, Makes, made_targets, new_volume};
     ghost use Rattle.lvm_group.specs.Own.{HoldAll};
+    ghost use Rattle.lvm_group.specs.Opening.{IsUnopened, Opens};
+    ghost use Rattle.rack.specs.Sequences.{OnlyReads};
     ghost use Rattle.lvm_group.specs.Shown.{total, volume_of};
     ghost use Rattle.lvm_group.specs.Writing.{Puts};
     ghost use Rattle.std.specs.Borrow.{sem, Lends};
     ghost use Rattle.lvm_group.specs.contracts.volume.Volume.{the_row};
     ghost use Rattle.lvm_group.specs.Runs.{array_of, sector_of, sectors_in};
-    ghost use Rattle.lvm_group.specs.Volume.{below_of, linear};
+    ghost use Rattle.lvm_group.specs.Volume.{below_of, linear, pool_of, seqno_of};
 
     /// Makes a volume group on the first arrays of a rack, as many as there are numbers, and the volume of their
     /// first extents: as many of each array as its number says, array by array. An extent has so many sectors.
@@ -123,6 +148,7 @@ impl<R: Rack> Volume<R> {
         requires arrays { length extents.now ≤ (R.seen rack).disks }
         requires holds { HoldAll extent (R.seen rack).sectors 0 extents.now }
         ensures volume { IfOk result (λ volume. linear volume ≡ new_volume extent extents.now) }
+        ensures numbered { IfOk result (λ volume. (pool_of volume ≡ pool.now.0) × (seqno_of volume ≡ 1)) }
         ensures fit { IfOk result (λ volume. (volume_of (linear volume) (R.seen volume.rack)).fit) }
         ensures wrote { IfOk result (λ volume. Puts (R.seen rack) (R.seen volume.rack)
             (made_targets pool.now.0 extent (R.seen rack).sectors extents.now) {X = Unit {0}} (Ok tt)) }
@@ -149,11 +175,70 @@ impl<R: Rack> Volume<R> {
         let count = extents_in(room.runs.as_slice());
         Ok(Volume {
             rack,
+            pool: *pool,
             extent: sectors,
             arrays: extents.len() as u32,
             extents: count,
+            seqno: 1,
             runs: room.runs,
+            spare: room.spare,
+            text: room.text,
         })
+    }
+
+    /// Opens the volume of the group that stands in the first arrays of a rack, so many.
+    ///
+    /// The group is the one of highest seqno that they say, of equal ones the lowest array's. The fault names the
+    /// lowest array that is bad: its header has a location that gives no group, or the group names it and it has no
+    /// label with its id and no header, or it is the first one and the group isn't the pool's. A sector that is
+    /// refused has no bytes.
+    pub fn open(
+        alloc: Global,
+        rack: R,
+        pool: &Id,
+        extent: u32,
+        joined: u32,
+    ) -> Result<Volume<R>, Back<R, VolumeFault>>
+        requires fit { (R.seen rack).fit }
+        requires small { total (R.seen rack).sectors (R.seen rack).disks < 2 ^ 52 }
+        requires sized { 0 < extent }
+        requires some { 0 < joined }
+        requires arrays { joined ≤ (R.seen rack).disks }
+        ensures opens { IfOk result (λ volume. Opens pool.now.0 extent joined (R.seen rack) (R.seen volume.rack) (linear volume) (seqno_of volume)) }
+        ensures pool { IfOk result (λ volume. pool_of volume ≡ pool.now.0) }
+        ensures fit { IfOk result (λ volume. (volume_of (linear volume) (R.seen volume.rack)).fit) }
+        ensures looks { IfOk result (λ volume. OnlyReads (R.seen rack) (R.seen volume.rack)) }
+        ensures refused { IfErr result (λ back. IsUnopened pool.now.0 extent joined (R.seen rack) (R.seen back.rack) back.why) }
+        ensures looked { IfErr result (λ back. OnlyReads (R.seen rack) (R.seen back.rack)) }
+        ensures kept { IfOk result (λ volume. R.runs rack volume.rack) }
+        ensures returned { IfErr result (λ back. R.runs rack back.rack) }
+    {
+        let Ok(room) = take_room(alloc) else {
+            return Err(Back {
+                rack,
+                why: VolumeFault::Memory,
+            });
+        };
+        let mut room = room;
+        let mut rack = rack;
+        match find_runs(alloc, &mut rack, pool, extent, joined, &mut room.text) {
+            Ok(opened) => {
+                copy(&mut room.runs, opened.runs.as_slice());
+                let count = extents_in(opened.runs.as_slice());
+                Ok(Volume {
+                    rack,
+                    pool: *pool,
+                    extent: u64::from(extent),
+                    arrays: joined,
+                    extents: count,
+                    seqno: opened.seqno,
+                    runs: room.runs,
+                    spare: room.spare,
+                    text: room.text,
+                })
+            }
+            Err(why) => Err(Back { rack, why }),
+        }
     }
 
     /// Whether the volume can be extended to these numbers of extents of its arrays: each of its segments has
@@ -163,6 +248,47 @@ impl<R: Rack> Volume<R> {
         ensures { result ≡ fits (linear self.now).runs extents.now }
     {
         fits(self.runs.as_slice(), extents)
+    }
+
+    /// Extends the volume to these numbers of extents of its arrays: what is new comes behind what it has, array by
+    /// array. The group has a new text then, on as many arrays as there are numbers. No memory is taken.
+    ///
+    /// Labels, empty headers where there are none, and the new text behind the last one are written and made durable
+    /// before a header has the text. Where an array refuses a call, the volume stays what it was.
+    pub fn extend(&mut self, extents: &[u64]) -> Result<(), Gone>
+        requires fit { (volume_of (linear self.old) (R.seen (below_of self.old))).fit }
+        requires some { 0 < length extents.now }
+        requires few { length extents.now ≤ 16 }
+        requires below { AreBelow extents.now }
+        requires arrays { length extents.now ≤ (R.seen (below_of self.old)).disks }
+        requires holds { HoldAll (linear self.old).extent (R.seen (below_of self.old)).sectors 0 extents.now }
+        requires fits { IsTrue (fits (linear self.old).runs extents.now) }
+        ensures changes { Changes (pool_of self.old) (printed (next_group (pool_of self.old) (linear self.old) (R.seen (below_of self.old)).sectors (seqno_of self.old) extents.now))
+            (length extents.now) (R.seen (below_of self.old)) (R.seen (below_of self.new)) result }
+        ensures volume { OnOk result (linear self.new ≡ extended (linear self.old) extents.now) }
+        ensures seqno { OnOk result (seqno_of self.new ≡ next_seqno (seqno_of self.old)) }
+        ensures same { OnErr result ((linear self.new ≡ linear self.old) × (seqno_of self.new ≡ seqno_of self.old)) }
+        ensures pool { pool_of self.new ≡ pool_of self.old }
+        ensures fit { (volume_of (linear self.new) (R.seen (below_of self.new))).fit }
+        ensures kept { R.runs (below_of self.old) (below_of self.new) }
+    {
+        let arrays = extents.len() as u32;
+        let seqno = next_seqno(self.seqno);
+        grow(self.runs.as_slice(), self.extents, extents, &mut self.spare);
+        put_grown(
+            &mut self.rack,
+            &self.pool,
+            self.extent,
+            seqno,
+            extents,
+            self.spare.as_slice(),
+            &mut self.text,
+        )?;
+        swap(&mut self.runs, &mut self.spare);
+        self.extents = extents_in(self.runs.as_slice());
+        self.arrays = self.arrays.max(arrays);
+        self.seqno = seqno;
+        Ok(())
     }
 
     /// How many extents the volume has.

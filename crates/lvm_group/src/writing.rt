@@ -6,8 +6,12 @@ ghost use Rattle.lvm_label.specs.Header.{IsLocation, header_bytes};
 ghost use Rattle.lvm_label.specs.Label.{IsLabel, label_bytes};
 ghost use Rattle.rack.specs.Targets.{target};
 ghost use Rattle.lvm_group.specs.Sequences.{AreSingle};
+ghost use Rattle.rack.specs.Moments.{Leaves};
+ghost use Rattle.lvm_group.specs.Changing.{IsInTurn};
 ghost use Rattle.lvm_group.specs.Writing.{
+  AreStarts,
   Puts,
+  blank_targets,
   first_targets,
   header_target,
   label_with,
@@ -16,11 +20,13 @@ ghost use Rattle.lvm_group.specs.Writing.{
   own_location,
   piece,
   place_at,
+  start_at,
   targets_to,
   text_targets,
 };
 ghost use Rattle.std.specs.Prelude.{◌∷◌, []};
 
+use crate::starts::{TextStart, start_at};
 use crate::syncing::sync_first;
 use arrayvec::ArrayVec;
 use lvm_label::{Area, Header, Label, Location, encode_header, encode_label};
@@ -169,56 +175,91 @@ fn text_header(offset: u64, text: &[u8]) -> [u8; 512]
     })
 }
 
+/// Writes an empty header, where there is none.
+fn put_blank<R: Rack>(rack: &mut R, array: u32, blank: bool) -> Result<(), Gone>
+    requires fit { (R.seen rack.old).fit }
+    requires array { array < (R.seen rack.old).disks }
+    requires sectors { 8 < (R.seen rack.old).sectors array }
+    ensures puts { Puts (R.seen rack.old) (R.seen rack.new) (blank_targets array blank) result }
+    ensures runs { R.runs rack.old rack.new }
+{
+    if !blank {
+        return Ok(());
+    }
+    put(rack, array, 8, &empty_header())
+}
+
 /// Writes label, empty header and text on an array, in this order.
-fn put_first<R: Rack>(rack: &mut R, pool: &Id, array: u32, text: &[u8]) -> Result<(), Gone>
+fn put_first<R: Rack>(
+    rack: &mut R,
+    pool: &Id,
+    array: u32,
+    starts: &[TextStart],
+    text: &[u8],
+) -> Result<(), Gone>
     requires fit { (R.seen rack.old).fit }
     requires array { array < (R.seen rack.old).disks }
     requires sectors { 2048 ≤ (R.seen rack.old).sectors array }
+    requires starts { AreStarts starts.now }
     requires short { length text.now ≤ 262144 }
-    ensures puts { Puts (R.seen rack.old) (R.seen rack.new) (first_targets pool.now.0 (R.seen rack.old).sectors text.now array) result }
+    ensures puts { Puts (R.seen rack.old) (R.seen rack.new) (first_targets pool.now.0 (R.seen rack.old).sectors starts.now text.now array) result }
     ensures is_label { OnOk result (IsLabel (own_label pool.now.0 array ((R.seen rack.old).sectors array))) }
     ensures runs { R.runs rack.old rack.new }
 {
     let sectors = rack.sectors(array);
+    let start = start_at(starts, array);
     if let Err(gone) = put(rack, array, 1, &label_sector(pool, array, sectors)) {
         return Err(gone);
     }
-    if let Err(gone) = put(rack, array, 8, &empty_header()) {
+    if let Err(gone) = put_blank(rack, array, start.blank) {
         return Err(gone);
     }
-    put_text(rack, array, 1, text)
+    put_text(rack, array, start.sector, text)
 }
 
-/// Writes label, empty header and text on the first arrays, so many.
-fn put_firsts<R: Rack>(rack: &mut R, pool: &Id, arrays: u32, text: &[u8]) -> Result<(), Gone>
+/// Does so on the first arrays, so many.
+fn put_firsts<R: Rack>(
+    rack: &mut R,
+    pool: &Id,
+    arrays: u32,
+    starts: &[TextStart],
+    text: &[u8],
+) -> Result<(), Gone>
     requires fit { (R.seen rack.old).fit }
     requires arrays { arrays ≤ (R.seen rack.old).disks }
     requires sectors { (array : ℕ) → array < arrays → 2048 ≤ (R.seen rack.old).sectors array }
+    requires starts { AreStarts starts.now }
     requires short { length text.now ≤ 262144 }
-    ensures puts { Puts (R.seen rack.old) (R.seen rack.new) (targets_to (first_targets pool.now.0 (R.seen rack.old).sectors text.now) arrays) result }
+    ensures puts { Puts (R.seen rack.old) (R.seen rack.new) (targets_to (first_targets pool.now.0 (R.seen rack.old).sectors starts.now text.now) arrays) result }
     ensures labels { OnOk result ((array : ℕ) → array < arrays → IsLabel (own_label pool.now.0 array ((R.seen rack.old).sectors array))) }
     ensures runs { R.runs rack.old rack.new }
 {
     for array in 0..arrays {
-        if let Err(gone) = put_first(rack, pool, array, text) {
+        if let Err(gone) = put_first(rack, pool, array, starts, text) {
             return Err(gone);
         }
     }
     Ok(())
 }
 
-/// Writes the header of a text at an offset on the first arrays, so many.
-fn put_headers<R: Rack>(rack: &mut R, arrays: u32, offset: u64, text: &[u8]) -> Result<(), Gone>
+/// Writes the headers of a text on the first arrays, so many.
+fn put_headers<R: Rack>(
+    rack: &mut R,
+    arrays: u32,
+    starts: &[TextStart],
+    text: &[u8],
+) -> Result<(), Gone>
     requires fit { (R.seen rack.old).fit }
     requires arrays { arrays ≤ (R.seen rack.old).disks }
     requires sectors { (array : ℕ) → array < arrays → 2048 ≤ (R.seen rack.old).sectors array }
-    requires offset { 0 < offset }
-    ensures puts { Puts (R.seen rack.old) (R.seen rack.new) (targets_to (header_target offset text.now) arrays) result }
-    ensures is_location { IsLocation (own_location offset text.now) }
+    requires starts { AreStarts starts.now }
+    ensures puts { Puts (R.seen rack.old) (R.seen rack.new) (targets_to (header_target starts.now text.now) arrays) result }
+    ensures locations { OnOk result ((array : ℕ) → array < arrays → IsLocation (own_location (512 * (start_at starts.now array).sector) text.now)) }
     ensures runs { R.runs rack.old rack.new }
 {
-    let header = text_header(offset, text);
     for array in 0..arrays {
+        let start = start_at(starts, array);
+        let header = text_header(512 * start.sector, text);
         if let Err(gone) = put(rack, array, 8, &header) {
             return Err(gone);
         }
@@ -226,32 +267,36 @@ fn put_headers<R: Rack>(rack: &mut R, arrays: u32, offset: u64, text: &[u8]) -> 
     Ok(())
 }
 
-/// Writes labels, headers and a first text on the first arrays, so many: the headers have the text once
-/// all else is durable.
+/// Writes labels, headers and a new text on the first arrays, so many: the headers have the text once all else
+/// is durable.
 pub(crate) fn put_new<R: Rack>(
     rack: &mut R,
     pool: &Id,
     arrays: u32,
+    starts: &[TextStart],
     text: &[u8],
 ) -> Result<(), Gone>
     requires fit { (R.seen rack.old).fit }
     requires arrays { arrays ≤ (R.seen rack.old).disks }
     requires sectors { (array : ℕ) → array < arrays → 2048 ≤ (R.seen rack.old).sectors array }
+    requires starts { AreStarts starts.now }
     requires short { length text.now ≤ 262144 }
-    ensures puts { Puts (R.seen rack.old) (R.seen rack.new) (targets_to (first_targets pool.now.0 (R.seen rack.old).sectors text.now) arrays
-        ++ targets_to (header_target 512 text.now) arrays) result }
+    ensures puts { Puts (R.seen rack.old) (R.seen rack.new) (targets_to (first_targets pool.now.0 (R.seen rack.old).sectors starts.now text.now) arrays
+        ++ targets_to (header_target starts.now text.now) arrays) result }
+    ensures stops { (R.seen rack.old).traced → Leaves (R.seen rack.old) (R.seen rack.new) (IsInTurn (R.seen rack.old) (R.seen rack.new)
+        (targets_to (first_targets pool.now.0 (R.seen rack.old).sectors starts.now text.now) arrays) (targets_to (header_target starts.now text.now) arrays) arrays) }
     ensures labels { OnOk result ((array : ℕ) → array < arrays → IsLabel (own_label pool.now.0 array ((R.seen rack.old).sectors array))) }
-    ensures location { OnOk result (IsLocation (own_location 512 text.now)) }
+    ensures locations { OnOk result ((array : ℕ) → array < arrays → IsLocation (own_location (512 * (start_at starts.now array).sector) text.now)) }
     ensures single { OnOk result (AreSingle (R.seen rack.old) (R.seen rack.new) arrays) }
     ensures runs { R.runs rack.old rack.new }
 {
-    if let Err(gone) = put_firsts(rack, pool, arrays, text) {
+    if let Err(gone) = put_firsts(rack, pool, arrays, starts, text) {
         return Err(gone);
     }
     if let Err(gone) = sync_first(rack, arrays) {
         return Err(gone);
     }
-    if let Err(gone) = put_headers(rack, arrays, 512, text) {
+    if let Err(gone) = put_headers(rack, arrays, starts, text) {
         return Err(gone);
     }
     sync_first(rack, arrays)

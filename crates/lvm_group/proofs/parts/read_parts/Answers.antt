@@ -21,6 +21,7 @@ loop-array-preserved g c =
       looks = looks_then looks c.in_ok-part.ensures.looks;
       runs = g.met.R.Rack.runs_then _ _ _ c.loop-array.invariant.runs c.in_ok-part.ensures.runs;
       room = omega arith;
+      kept = let before = c.loop-array.invariant.kept in omega arith;
       count = ap length appended ∙ length-append c.loop-array.parts.items (c.in_ok-part.part ∷ []) ∙ ap (λ n. n + 1) count;
       parts = subst (λ (parts : List Part). AreParts a b (array + 1) parts) (sym appended)
           (parts_more c.loop-array.parts.items c.in_ok-part.part array c.requires.fit count (omega arith) looks c.in_ok-part.ensures.looks c.loop-array.invariant.parts c.in_ok-part.ensures.part);

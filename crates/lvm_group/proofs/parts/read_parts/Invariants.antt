@@ -8,6 +8,7 @@ invariant-loop-array g l = record {
   looks : OnlyReads (g.R.Rack.seen l.fn.rack) (g.R.Rack.seen l.rack);
   runs : g.R.Rack.runs l.fn.rack l.rack;
   room : 262144 ≤ length l.into.bytes + l.into.spare;
+  kept : length l.fn.into.bytes + l.fn.into.spare ≤ length l.into.bytes + l.into.spare;
   count : length l.parts.items ≡ l.array;
   parts : AreParts (g.R.Rack.seen l.fn.rack) (g.R.Rack.seen l.rack) l.array l.parts.items;
 }

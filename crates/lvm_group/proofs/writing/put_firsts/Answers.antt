@@ -3,13 +3,15 @@ use Rattle.std.proofs.lemmas.Bool.{cases_lt}
 use Rattle.lvm_label.specs.Label.{IsLabel}
 use Rattle.rack.specs.Seen.{Seen}
 use Rattle.rack.specs.Targets.{Target}
+use Rattle.lvm_group.specs.declared.starts.TextStart.{TextStart}
 use Rattle.lvm_group.specs.Writing.{Puts, first_targets, own_label, targets_to}
 use Rattle.lvm_group.proofs.Putting.{puts_start, puts_more, puts_refused, puts_all}
 use Rattle.lvm_group.proofs.writing.put_firsts.Goals as goal
 
 -- the arrays' sectors stay
-same_targets : {a b : Seen} (pool text : List ℕ) (n array : ℕ) → Puts a b (targets_to (first_targets pool a.sectors text) n) {X = Unit {0}} (Ok tt) → first_targets pool b.sectors text array ≡ first_targets pool a.sectors text array
-same_targets {a} {b} pool text n array puts = rw (puts.only.stays.sectors array) refl
+same_targets : {a b : Seen} (pool : List ℕ) (starts : List TextStart) (text : List ℕ) (n array : ℕ) → Puts a b (targets_to (first_targets pool a.sectors starts text) n) {X = Unit {0}} (Ok tt)
+    → first_targets pool b.sectors starts text array ≡ first_targets pool a.sectors starts text array
+same_targets {a} {b} pool starts text n array puts = rw (puts.only.stays.sectors array) refl
 
 one_label : {a b : Seen} (pool : List ℕ) (n array : ℕ) (xs : List Target) → Puts a b xs {X = Unit {0}} (Ok tt) → ((k : ℕ) → k < n → IsLabel (own_label pool k (a.sectors k))) → IsLabel (own_label pool n (b.sectors n)) → array < n + 1
     → IsLabel (own_label pool array (a.sectors array))
@@ -22,27 +24,27 @@ one_label {a} {b} pool n array xs puts before here below = elim (cases_lt array 
 
 pub loop-array-init : goal.loop-array-init
 loop-array-init g c = record {
-  puts = puts_start (g.R.Rack.seen c.args.rack.now) (first_targets c.args.pool.now.0 (g.R.Rack.seen c.args.rack.now).sectors c.args.text.now) c.requires.fit;
+  puts = puts_start (g.R.Rack.seen c.args.rack.now) (first_targets c.args.pool.now.0 (g.R.Rack.seen c.args.rack.now).sectors c.args.starts.now c.args.text.now) c.requires.fit;
   labels = λ array below. absurd (omega arith);
   runs = g.met.R.Rack.runs_same c.args.rack.now;
 }
 
 pub returns-in-Err-clause-puts : goal.returns-in-Err-clause-puts
 returns-in-Err-clause-puts g c =
-    puts_refused (first_targets c.args.pool.now.0 (g.R.Rack.seen c.args.rack.now).sectors c.args.text.now) (first_targets c.args.pool.now.0 (g.R.Rack.seen c.loop-array.rack).sectors c.args.text.now c.loop-array.array)
-    c.loop-array.array c.args.arrays c.in-Err.gone c.loop-array-test.true (same_targets c.args.pool.now.0 c.args.text.now c.loop-array.array c.loop-array.array c.loop-array.invariant.puts) c.loop-array.invariant.puts
+    puts_refused (first_targets c.args.pool.now.0 (g.R.Rack.seen c.args.rack.now).sectors c.args.starts.now c.args.text.now) (first_targets c.args.pool.now.0 (g.R.Rack.seen c.loop-array.rack).sectors c.args.starts.now c.args.text.now c.loop-array.array)
+    c.loop-array.array c.args.arrays c.in-Err.gone c.loop-array-test.true (same_targets c.args.pool.now.0 c.args.starts.now c.args.text.now c.loop-array.array c.loop-array.array c.loop-array.invariant.puts) c.loop-array.invariant.puts
     c.in-Err.ensures.puts
 
 pub loop-array-preserved : goal.loop-array-preserved
 loop-array-preserved g c = record {
-  puts = puts_more (first_targets c.args.pool.now.0 (g.R.Rack.seen c.args.rack.now).sectors c.args.text.now) (first_targets c.args.pool.now.0 (g.R.Rack.seen c.loop-array.rack).sectors c.args.text.now c.loop-array.array)
-      c.loop-array.array (c.loop-array.array + 1) (omega arith) (same_targets c.args.pool.now.0 c.args.text.now c.loop-array.array c.loop-array.array c.loop-array.invariant.puts) c.loop-array.invariant.puts
+  puts = puts_more (first_targets c.args.pool.now.0 (g.R.Rack.seen c.args.rack.now).sectors c.args.starts.now c.args.text.now) (first_targets c.args.pool.now.0 (g.R.Rack.seen c.loop-array.rack).sectors c.args.starts.now c.args.text.now c.loop-array.array)
+      c.loop-array.array (c.loop-array.array + 1) (omega arith) (same_targets c.args.pool.now.0 c.args.starts.now c.args.text.now c.loop-array.array c.loop-array.array c.loop-array.invariant.puts) c.loop-array.invariant.puts
       c.in_default.ensures.puts;
-  labels = λ array below. one_label c.args.pool.now.0 c.loop-array.array array (targets_to (first_targets c.args.pool.now.0 (g.R.Rack.seen c.args.rack.now).sectors c.args.text.now) c.loop-array.array) c.loop-array.invariant.puts
+  labels = λ array below. one_label c.args.pool.now.0 c.loop-array.array array (targets_to (first_targets c.args.pool.now.0 (g.R.Rack.seen c.args.rack.now).sectors c.args.starts.now c.args.text.now) c.loop-array.array) c.loop-array.invariant.puts
       c.loop-array.invariant.labels c.in_default.ensures.is_label below;
   runs = g.met.R.Rack.runs_then _ _ _ c.loop-array.invariant.runs c.in_default.ensures.runs;
 }
 
 pub returns-clause-puts : goal.returns-clause-puts
 returns-clause-puts g c =
-    puts_all (first_targets c.args.pool.now.0 (g.R.Rack.seen c.args.rack.now).sectors c.args.text.now) c.loop-array.array c.args.arrays (let b = c.loop-array-test.false in omega arith) c.loop-array.invariant.puts
+    puts_all (first_targets c.args.pool.now.0 (g.R.Rack.seen c.args.rack.now).sectors c.args.starts.now c.args.text.now) c.loop-array.array c.args.arrays (let b = c.loop-array-test.false in omega arith) c.loop-array.invariant.puts

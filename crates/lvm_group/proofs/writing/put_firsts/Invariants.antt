@@ -5,7 +5,7 @@ use Rattle.lvm_group.proofs.writing.put_firsts.Given as goal
 
 abbrev pub invariant-loop-array : goal.invariant-loop-array
 invariant-loop-array g l = record {
-  puts : Puts (g.R.Rack.seen l.fn.rack) (g.R.Rack.seen l.rack) (targets_to (first_targets l.pool.0 (g.R.Rack.seen l.fn.rack).sectors l.text) l.array) {X = Unit {0}} (Ok tt);
+  puts : Puts (g.R.Rack.seen l.fn.rack) (g.R.Rack.seen l.rack) (targets_to (first_targets l.pool.0 (g.R.Rack.seen l.fn.rack).sectors l.starts l.text) l.array) {X = Unit {0}} (Ok tt);
   labels : (array : ℕ) → array < l.array → IsLabel (own_label l.pool.0 array ((g.R.Rack.seen l.fn.rack).sectors array));
   runs : g.R.Rack.runs l.fn.rack l.rack;
 }

@@ -1,0 +1,75 @@
+//! Changing the group that stands in the arrays.
+
+ghost use Rattle.std.specs.Prelude.{◌≡◌, ◌<◌, ◌≤◌, ◌+◌, ℕ, length};
+ghost use Rattle.std.specs.List.{AllByRecursion};
+ghost use Rattle.lvm_text.specs.Printed.{printed};
+ghost use Rattle.lvm_group.specs.Changing.{Changes};
+ghost use Rattle.lvm_group.specs.Extending.{next_seqno};
+ghost use Rattle.lvm_group.specs.Own.{HoldAll, own_group};
+
+use crate::making::sizes;
+use crate::printing::print_own;
+use crate::runs::Run;
+use crate::starts::read_starts;
+use crate::writing::put_new;
+use lvm_text::Text;
+use rack::{Gone, Rack};
+use shr_base::Id;
+
+/// The seqno of the next text.
+pub(crate) fn next_seqno(seqno: u64) -> u64
+    ensures { result ≡ next_seqno seqno }
+{
+    seqno.saturating_add(1).min((1 << 63) - 1)
+}
+
+/// Writes a new text of the group on the first arrays, so many: labels, empty headers where there are none, and the
+/// text behind the last one, and once these are durable the headers with it.
+pub(crate) fn put_change<R: Rack>(
+    rack: &mut R,
+    pool: &Id,
+    arrays: u32,
+    text: &[u8],
+) -> Result<(), Gone>
+    requires fit { (R.seen rack.old).fit }
+    requires arrays { arrays ≤ (R.seen rack.old).disks }
+    requires few { arrays ≤ 16 }
+    requires sectors { (array : ℕ) → array < arrays → 2048 ≤ (R.seen rack.old).sectors array }
+    requires short { length text.now ≤ 262144 }
+    ensures changes { Changes pool.now.0 text.now arrays (R.seen rack.old) (R.seen rack.new) result }
+    ensures runs { R.runs rack.old rack.new }
+{
+    let starts = match read_starts(rack, arrays) {
+        Ok(starts) => starts,
+        Err(gone) => return Err(gone),
+    };
+    put_new(rack, pool, arrays, starts.as_slice(), text)
+}
+
+/// Writes the group of a volume with these runs on as many arrays as there are numbers of extents.
+pub(crate) fn put_grown<R: Rack>(
+    rack: &mut R,
+    pool: &Id,
+    extent: u64,
+    seqno: u64,
+    numbers: &[u64],
+    runs: &[Run],
+    text: &mut Text,
+) -> Result<(), Gone>
+    requires fit { (R.seen rack.old).fit }
+    requires few { length numbers.now ≤ 16 }
+    requires arrays { length numbers.now ≤ (R.seen rack.old).disks }
+    requires holds { HoldAll extent (R.seen rack.old).sectors 0 numbers.now }
+    requires runs { AllByRecursion (λ run. run.array < 16) runs.now }
+    requires short { length runs.now ≤ 1024 }
+    requires room { 262144 ≤ length text.old.bytes + text.old.spare }
+    ensures changes { Changes pool.now.0 (printed (own_group pool.now.0 extent (R.seen rack.old).sectors seqno numbers.now runs.now)) (length numbers.now) (R.seen rack.old) (R.seen rack.new) result }
+    ensures room { length text.old.bytes + text.old.spare ≤ length text.new.bytes + text.new.spare }
+    ensures runs { R.runs rack.old rack.new }
+{
+    let arrays = numbers.len() as u32;
+    let sectors = sizes(rack, arrays);
+    text.clear();
+    print_own(pool, extent, sectors.as_slice(), seqno, numbers, runs, text);
+    put_change(rack, pool, arrays, text.as_slice())
+}
