@@ -4,3 +4,4 @@ pub mod Missing
 pub mod Acts
 pub mod Marking
 pub mod Losses
+pub mod RaidRack

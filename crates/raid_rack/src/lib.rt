@@ -26,6 +26,8 @@
 
 mod losses;
 mod marks;
+mod arrays;
 
 pub use losses::{add_copies, newly_gone, note_gone};
+pub use arrays::RaidRack;
 pub use marks::{current_places, mark_missing};
