@@ -1,11 +1,13 @@
 -- A rack of arrays, as contracts see it.
-use Rattle.std.specs.Prelude.{ℕ, pos, Bool, false, List, [], get_or, slice_get, unwrap_or}
+use Rattle.std.specs.Prelude.{◌≡◌, pos, false, List, [], length, get_or, slice_get, unwrap_or}
+use Rattle.rack.specs.Seen.{Seen}
 use Rattle.slice_rack.specs.declared.SliceRack.{SliceRack}
 use Rattle.md_super.specs.declared.superblock.Super.{Super}
 use Rattle.array_model.specs.View.{View}
 use Rattle.raid_rack.specs.declared.arrays.RaidRack.{RaidRack}
 use Rattle.raid_rack.specs.declared.arrays.Arrays.{Arrays}
 use Rattle.raid_rack.specs.Raid.{Raid}
+use Rattle.raid_rack.specs.Moves.{IsSet}
 
 -- a number without an array: nothing is said of it
 abbrev pub no_super : Super
@@ -59,3 +61,8 @@ arrays_of rack = rack.arrays.all.items
 -- the slices below
 abbrev pub slices_in : {R : Type 0} → RaidRack R → SliceRack R
 slices_in rack = rack.slices
+
+-- The arrays of a pool over its slices: those below `made`, each one of the pool.
+pub record IsRunning (a : Arrays) (x : Seen) : Type 0 where
+  pub count : length a.all.items ≡ a.state.made
+  pub set : IsSet (raid_by a) x

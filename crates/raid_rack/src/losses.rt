@@ -32,12 +32,20 @@ fn has_gone(arrays: &[Array], place: u32) -> bool
     arrays.iter().any(|array| array.went().contains(&place))
 }
 
-/// The members at these places are missing in each array. Afterwards no array has places that went and weren't heeded.
+/// The members at these places are missing in each array, and the places went in each.
 pub fn note_gone(arrays: &mut [Array], lost: &Places)
-    ensures { (n : ℕ) → slice_get arrays.new n ≡ option_map (λ v. heeded (gone lost.now.items v)) (slice_get arrays.old n) }
+    ensures { (n : ℕ) → slice_get arrays.new n ≡ option_map (gone lost.now.items) (slice_get arrays.old n) }
 {
     for array in arrays.iter_mut() {
         array.gone(lost);
+    }
+}
+
+/// Nobody went in any array from then on.
+pub fn heed_all(arrays: &mut [Array])
+    ensures { (n : ℕ) → slice_get arrays.new n ≡ option_map heeded (slice_get arrays.old n) }
+{
+    for array in arrays.iter_mut() {
         array.heed();
     }
 }
