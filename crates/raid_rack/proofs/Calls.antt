@@ -12,6 +12,8 @@ use Rattle.pool_state.specs.declared.contents.State.{State}
 use Rattle.array_image.specs.Places.{log_slice, member_slice, data_sector}
 use Rattle.array_image.specs.States.{is_current}
 use Rattle.array_image.specs.Arrays.{Member, Shape, first_layout}
+use Rattle.array_image.specs.Held.{Among}
+use Rattle.array_image.proofs.Marked.{among_lowered}
 use Rattle.array_image.specs.Marks.{lower, lowered}
 use Rattle.array_image.specs.Supers.{is_unclean}
 use Rattle.array_model.specs.declared.Seat.{Seat}
@@ -107,6 +109,7 @@ pub record ReadsOne (v : Raid) (f : ℕ → View) (m : ℕ) (a b : Seen) : Type 
   pub sectors : sectors_of (f m) ≡ sectors_of (v.arrays m)
   pub events : (v.arrays m).truth.events ≤ (f m).truth.events
   pub seats : present (f m).seats ≤ present (v.arrays m).seats
+  pub lowered_is : shape_of (f m) ≡ lowered lost (shape_of (v.arrays m))
   pub shape : ((k : ℕ) → k < (v.arrays m).truth.raid_disks → lost (place_at (v.arrays m) k) ≡ true → is_current v.state (place_at (v.arrays m) k) ≡ false)
       → shape_of (v.arrays m) ≡ shape_of (f m)
 
@@ -270,6 +273,14 @@ module _ (v : Raid) (f : ℕ → View) (m : ℕ) (a b : Seen) (set : IsSet v a) 
         still = λ n low goes. over_still v (with_arrays v f) read_further n low goes;
         spent = λ n y low. by_number (λ k. spent_in (f k) y ≡ false → spent_in (v.arrays k) y ≡ false) m n (call.spent y)
             (λ apart alive. sym (ap (λ (u : View). spent_in u y) (call.others n apart)) ∙ alive);
+        counted = λ n k sector low among counts.
+            elim (cases_eq n m) [
+              | inl same ↦
+                  subst (λ j. Among k (shape_of (v.arrays j)).members) (sym same)
+                  (among_lowered call.lost sector (shape_of (v.arrays m)).members k
+                  (subst (λ (shape : Shape). Among k shape.members) (ap (λ j. shape_of (f j)) same ∙ call.lowered_is) among) counts)
+              | inr apart ↦ subst (λ (u : View). Among k (shape_of u).members) (call.others n apart) among
+            ];
         kept = λ d t live apart other. call.reads.keeps.held d t live;
         parts = λ n vals spent joined low goes covers. read_part n vals spent low goes covers;
       }
@@ -330,6 +341,7 @@ reads_notes v f m a b set low reads others notes keeps =
       sectors = ap (λ (t : Super). capacity (first_layout t) t.size) notes.same.truth;
       events = subst (λ (t : Super). u.truth.events ≤ t.events) (sym notes.same.truth) (omega arith);
       seats = fewer_left u w notes.lost notes.loses;
+      lowered_is = shape_then u w notes.lost notes.same.truth notes.loses;
       shape = λ marked. shape_still u w notes.lost seated.is_array notes.same.truth notes.loses
           (λ k few lost. missing_of (slice_get u.seats k) (is_current v.state (place_at u k)) (has_gone u (place_at u k)) (marked k few lost) (seated.marks k few));
     }
@@ -466,6 +478,7 @@ reads_settled v f m a b set low reads others settles keeps =
           (let more = (raised_low z.truth.events synced.is_of_pool.events synced.is_of_pool.events_end).0 in
           let same : z.truth.events ≡ u.truth.events = ap (λ (t : Super). t.events) notes.same.truth in omega (arith, more, same));
       seats = subst (λ (k : View). present k.seats ≤ present u.seats) is (fewer_left u z notes.lost notes.loses);
+      lowered_is = ap shape_of (sym is) ∙ settled_shape z ∙ shape_then u z notes.lost notes.same.truth notes.loses;
       shape = λ marked.
           shape_still u z notes.lost seated.is_array notes.same.truth notes.loses
           (λ k few lost. missing_of (slice_get u.seats k) (is_current v.state (place_at u k)) (has_gone u (place_at u k)) (marked k few lost) (seated.marks k few))

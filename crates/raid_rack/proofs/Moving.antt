@@ -77,6 +77,7 @@ moves_same v x set =
       cause = λ place was now. absurd (both_ways (is_left v place) now was);
       still = λ n made over. over;
       spent = λ n y made alive. alive;
+      counted = λ n m sector made among counts. among;
       kept = λ d t live apart other. keeps_same (x.held d t);
       parts = λ n vals spent joined made goes covers. part_still v v x n vals spent (λ amid. amid);
     }
@@ -95,6 +96,8 @@ moves_then v w z a b c one two =
       cause = λ place was now. caused place was now;
       still = λ n made over. one.still n made (two.still n (still_made n made) over);
       spent = λ n y made alive. one.spent n y made (two.spent n y (still_made n made) alive);
+      counted = λ n m sector made among counts.
+          one.counted n m sector made (two.counted n m sector (still_made n made) among counts) counts;
       kept = λ d t live apart other.
           keeps_then (a.held d t) (b.held d t) (c.held d t) (one.kept d t (live_first two.stays live) apart other) (two.kept d t (live_second one.stays live) apart other);
       parts = λ n vals spent joined made goes covers.

@@ -13,9 +13,10 @@ use Rattle.rack.specs.Targets.{Target, look}
 use Rattle.pool_state.specs.declared.contents.State.{State}
 use Rattle.array_image.specs.Places.{log_slice, member_slice, super_sector}
 use Rattle.array_image.specs.States.{is_current}
-use Rattle.array_image.specs.Arrays.{layout_at, replayed}
+use Rattle.array_image.specs.Arrays.{Shape, layout_at, replayed}
 use Rattle.array_image.specs.Marks.{lower}
-use Rattle.array_image.specs.Held.{current_in}
+use Rattle.array_image.specs.Held.{Among, current_in}
+use Rattle.array_image.proofs.Marked.{among_lowered}
 use Rattle.array_image.specs.Left.{PicksLogs}
 use Rattle.array_image.proofs.Replays.{replayed_as_is}
 use Rattle.commit_log.specs.Kept.{LogKept}
@@ -220,6 +221,9 @@ moves_noted lost v f x set noting =
       still = λ n low goes. over_still v (with_arrays v f) (noted_further lost v f x set noting) n low goes;
       spent = λ n y low alive.
           losing_spent (v.arrays n) (f n) (names lost) (set.arrays n low).is_array (noted_losing lost v f n noting low (set.arrays n low).is_array) y alive;
+      counted = λ n m sector low among counts.
+          among_lowered (names lost) sector (shape_of (v.arrays n)).members m
+          (subst (λ (shape : Shape). Among m shape.members) (noted_losing lost v f n noting low (set.arrays n low).is_array).shape among) counts;
       kept = λ d t live apart other. keeps_same (x.held d t);
       parts = λ n vals spent joined low goes covers. part_still v (with_arrays v f) x n vals spent (noted_amid lost v f x n vals spent set noting low goes covers);
     }
@@ -337,6 +341,8 @@ moves_heeded v f x set arrays sectors are =
         seats = λ m below. subst (λ (u : View). present u.seats ≤ present (v.arrays m).seats) (sym (arrays m below)) (omega arith);
       }) n low goes;
       spent = λ n y low alive. sym (ap (λ (u : View). spent_in u y) (arrays n low) ∙ heeded_spent (v.arrays n) y) ∙ alive;
+      counted = λ n m sector low among counts.
+          subst (λ (shape : Shape). Among m shape.members) (ap shape_of (arrays n low) ∙ heeded_shape (v.arrays n)) among;
       kept = λ d t live apart other. keeps_same (x.held d t);
       parts = λ n vals spent joined low goes covers. part_still v (with_arrays v f) x n vals spent (heeded_amid v f x n vals spent set arrays are low);
     }

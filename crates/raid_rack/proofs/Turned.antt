@@ -170,6 +170,7 @@ moves_emptied v lost x set lost_is noted nobody =
           (current_marked lost v.state p ∙ and_from (is_current v.state p) (not (names lost p)) both.0 (ap not unlisted)));
       still = λ n low goes. absurd (over n goes);
       spent = λ n y low alive. alive;
+      counted = λ n m sector low among counts. among;
       kept = λ d t live apart other. keeps_same (x.held d t);
       parts = λ n vals spent joined low goes covers. absurd (over n goes);
     }

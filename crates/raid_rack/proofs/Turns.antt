@@ -7,11 +7,13 @@ use Rattle.rack.specs.Moments.{Leaves}
 use Rattle.rack.specs.Joins.{stays_then, leaves_then, leaves_weaker, keeps_then, live_first, live_second, rose_later, rose_early}
 use Rattle.rack.specs.Targets.{Target}
 use Rattle.array_image.specs.States.{is_current}
-use Rattle.array_image.specs.Arrays.{replayed}
+use Rattle.array_image.specs.Arrays.{Shape, replayed}
 use Rattle.array_image.specs.Left.{IsInside}
 use Rattle.commit_log.specs.View.{LogView, names, next_number}
 use Rattle.commit_log.proofs.Deciding.{names_first}
-use Rattle.array_model.specs.View.{View}
+use Rattle.array_model.specs.View.{View, shape_of}
+use Rattle.array_image.specs.Held.{Among}
+use Rattle.array_image.proofs.Marked.{among_lowered}
 use Rattle.array_model.specs.ArrayCalls.{Covers}
 use Rattle.raid_rack.specs.Raid.{Raid, gone_in, is_left}
 use Rattle.raid_rack.specs.Book.{IsAfter}
@@ -87,6 +89,11 @@ moves_commit u v lost on gone l xs f a b c settles commit =
           one.spent n y made
           (losing_spent (v.arrays n) (f n) (names gone) (commit.marking.set.arrays n (made_still n made)).is_array
           (commit_losing v lost on gone l xs f b c commit n (made_still n made)) y alive);
+      counted = λ n m sector made among counts.
+          one.counted n m sector made
+          (among_lowered (names gone) sector (shape_of (v.arrays n)).members m
+          (subst (λ (shape : Shape). Among m shape.members) (commit_losing v lost on gone l xs f b c commit n (made_still n made)).shape among) counts)
+          counts;
       kept = λ d t live apart other.
           keeps_then (a.held d t) (b.held d t) (c.held d t) (one.kept d t (live_first call.stays live) apart other)
           (call.apart d t (live_second one.stays live) (λ part. apart part.0)

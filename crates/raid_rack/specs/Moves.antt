@@ -11,7 +11,8 @@ use Rattle.array_image.specs.Places.{log_slice, log_sectors, slice_of, super_sec
 use Rattle.array_image.specs.States.{is_current}
 use Rattle.array_image.specs.Supers.{has_roles, has_whole_row}
 use Rattle.array_image.specs.SoundArray.{IsWrittenSuper, first_unsynced}
-use Rattle.array_image.specs.Arrays.{Shape, replayed}
+use Rattle.array_image.specs.Arrays.{Member, Shape, replayed}
+use Rattle.array_image.specs.Held.{Among, IsSettled}
 use Rattle.array_image.specs.Left.{IsInside}
 use Rattle.array_model.specs.View.{View, IsArray, HasFault, has_gone, is_missing_seat, place_at, sectors_of, shape_of, spent_in}
 use Rattle.array_model.specs.declared.Seat.TheVariants.{Missing}
@@ -98,6 +99,9 @@ pub record Moves (v w : Raid) (a b : Seen) : Type 0 where
   pub cause : (place : ℕ) → is_left v place ≡ true → is_left w place ≡ false → HasFault a b place
   pub still : (n : ℕ) → n < v.state.made → is_over w n ≡ false → is_over v n ≡ false
   pub spent : (n y : ℕ) → n < v.state.made → spent_in (w.arrays n) y ≡ false → spent_in (v.arrays n) y ≡ false
+  -- a member counts where it counted
+  pub counted :
+      (n : ℕ) (m : Member) (sector : ℕ) → n < v.state.made → Among m (shape_of (w.arrays n)).members → sector < m.reach → Among m (shape_of (v.arrays n)).members
   -- members' data stays as it is
   pub kept : (d t : ℕ) → IsLive a b d t → (slice_of d ≡ 0 → ⊥) → (t ≡ super_sector → ⊥) → Keeps (a.held d t) (b.held d t)
   pub parts :
@@ -109,3 +113,11 @@ pub record Mends (v w : Raid) (a b : Seen) : Type 0 where
   pub moves : Moves v w a b
   pub heeded : (n : ℕ) → n < w.state.made → (w.arrays n).went ≡ []
   pub marked : (place : ℕ) → gone_in v place ≡ true → is_current w.state place ≡ false
+
+-- A call of array n that syncs it: losses are mended, and its members have one value a sector.
+pub record SyncsOne (v w : Raid) (a b : Seen) (n : ℕ) : Type 0 where
+  pub moves : Moves v w a b
+  pub heeded : (m : ℕ) → m < w.state.made → (w.arrays m).went ≡ []
+  pub settled :
+      (vals : ℕ → Values) (spent : ℕ → Bool) → n < v.state.joined → is_over w n ≡ false → Covers (w.arrays n) spent
+      → IsAmid v a n vals spent → IsSettled (shape_of (w.arrays n)) n b.held

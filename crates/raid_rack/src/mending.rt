@@ -2,7 +2,7 @@
 
 ghost use Rattle.std.specs.Prelude.{◌≡◌, ◌⊎◌, ℕ, ◌<◌, true, false, [], length};
 ghost use Rattle.raid_rack.specs.Raid.{is_left};
-ghost use Rattle.raid_rack.specs.Moves.{AreMarked, Moves, Mends};
+ghost use Rattle.raid_rack.specs.Moves.{AreMarked, Mends, Moves, SyncsOne};
 ghost use Rattle.raid_rack.specs.Settling.{SettlesTo};
 ghost use Rattle.raid_rack.specs.RaidRack.{IsRunning, raid_by};
 ghost use Rattle.raid_rack.specs.Losses as spec;
@@ -88,5 +88,17 @@ impl Arrays {
     {
         self.mark_all(rack);
         heed_all(self.all.as_mut_slice());
+    }
+
+    /// Syncs an array. Whoever goes is marked, and whoever is left has one value in each sector.
+    pub(crate) fn sync_array<S: Rack>(&mut self, rack: &mut S, number: u32)
+        requires running { IsRunning self.old (S.seen rack.old) }
+        requires number { number < self.old.state.made }
+        ensures syncs { SyncsOne (raid_by self.old) (raid_by self.new) (S.seen rack.old) (S.seen rack.new) number }
+        ensures running { IsRunning self.new (S.seen rack.new) }
+        ensures runs { S.runs rack.old rack.new }
+    {
+        self.all[number as usize].sync(rack);
+        self.mend(rack);
     }
 }
