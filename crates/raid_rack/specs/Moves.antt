@@ -1,6 +1,6 @@
 -- Parts of a call of a rack of arrays: what they keep and change, whatever the rack below tells, and what they do to each array
 -- that stands.
-use Rattle.std.specs.Prelude.{◌≡◌, ℕ, ◌<◌, ◌≤◌, ◌^◌, [], Bool, true, false, ◌&&◌, not, is_ok, length, slice_get, Some, option_map}
+use Rattle.std.specs.Prelude.{◌≡◌, ℕ, ◌<◌, ◌≤◌, ◌^◌, [], Bool, true, false, ◌&&◌, not, is_ok, List, length, slice_get, Some, option_map}
 use Rattle.rack.specs.Values.{Values, Keeps}
 use Rattle.rack.specs.Seen.{Seen, IsLive, Stays}
 use Rattle.rack.specs.Moments.{Leaves}
@@ -121,3 +121,13 @@ pub record SyncsOne (v w : Raid) (a b : Seen) (n : ℕ) : Type 0 where
   pub settled :
       (vals : ℕ → Values) (spent : ℕ → Bool) → n < v.state.joined → is_over w n ≡ false → Covers (w.arrays n) spent
       → IsAmid v a n vals spent → IsSettled (shape_of (w.arrays n)) n b.held
+
+-- A call of array n that reads a sector: losses are mended. Where the sector isn't spent after that, its current value was read;
+-- it was refused only where it is.
+pub record ReadsValue (v w : Raid) (a b : Seen) (n sector : ℕ) (into : List ℕ) (found : Bool) : Type 0 where
+  pub moves : Moves v w a b
+  pub heeded : (m : ℕ) → m < w.state.made → (w.arrays m).went ≡ []
+  pub value :
+      (vals : ℕ → Values) (spent : ℕ → Bool) → n < v.state.joined → is_over w n ≡ false → Covers (w.arrays n) spent → spent sector ≡ false
+      → IsAmid v a n vals spent → into ≡ (vals sector).current
+  pub refused : found ≡ false → spent_in (w.arrays n) sector ≡ true

@@ -2,7 +2,8 @@
 
 ghost use Rattle.std.specs.Prelude.{◌≡◌, ◌⊎◌, ℕ, ◌<◌, true, false, [], length};
 ghost use Rattle.raid_rack.specs.Raid.{is_left};
-ghost use Rattle.raid_rack.specs.Moves.{AreMarked, Mends, Moves, SyncsOne};
+ghost use Rattle.raid_rack.specs.Moves.{AreMarked, Mends, Moves, ReadsValue, SyncsOne};
+ghost use Rattle.array_model.specs.View.{sectors_of};
 ghost use Rattle.raid_rack.specs.Settling.{SettlesTo};
 ghost use Rattle.raid_rack.specs.RaidRack.{IsRunning, raid_by};
 ghost use Rattle.raid_rack.specs.Losses as spec;
@@ -100,5 +101,25 @@ impl Arrays {
     {
         self.all[number as usize].sync(rack);
         self.mend(rack);
+    }
+
+    /// Reads a sector of an array. Whoever goes is marked. The answer is false where the sector was spent already when it was read.
+    pub(crate) fn read_array<S: Rack>(
+        &mut self,
+        rack: &mut S,
+        number: u32,
+        sector: u64,
+        into: &mut [u8; 512],
+    ) -> bool
+        requires running { IsRunning self.old (S.seen rack.old) }
+        requires number { number < self.old.state.made }
+        requires sector { sector < sectors_of ((raid_by self.old).arrays number) }
+        ensures reads { ReadsValue (raid_by self.old) (raid_by self.new) (S.seen rack.old) (S.seen rack.new) number sector into.new result }
+        ensures running { IsRunning self.new (S.seen rack.new) }
+        ensures runs { S.runs rack.old rack.new }
+    {
+        let found = self.all[number as usize].read(rack, sector, into).is_ok();
+        self.mend(rack);
+        found
     }
 }

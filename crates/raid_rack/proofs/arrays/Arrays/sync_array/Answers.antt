@@ -1,8 +1,8 @@
-use Rattle.std.proofs.Common.{ℕ, ◌<◌, length, subst, sym, ap, refl, ◌∙◌, slice_set, arith}
+use Rattle.std.proofs.Common.{refl, slice_set, arith}
 use Rattle.arrayvec.specs.ArrayVec.{with_items}
 use Rattle.raid_rack.specs.RaidRack.{no_array}
 use Rattle.raid_rack.proofs.Steps.{same_element, items_set}
-use Rattle.raid_rack.proofs.Synced.{own_slices, has_synced, syncs_one}
+use Rattle.raid_rack.proofs.Synced.{has_synced, syncs_one}
 use Rattle.raid_rack.proofs.arrays.Arrays.sync_array.Goals as goal
 
 pub mend-requires : goal.mend-requires
@@ -13,10 +13,10 @@ mend-requires g c =
     let low = c.requires.number in
     record {
       running = (has_synced a (with_items a.all (slice_set c.deref_mut.result.now n c.sync.new.self)) (g.S.Rack.seen c.args.rack.now) (g.S.Rack.seen c.sync.new.rack) n _ c.sync.new.self
-      c.requires.running low
-      (same_element c.deref_mut.result.now a.all.items n _ no_array c.deref_mut.ensures.value (omega (arith, count, low)))
-      (items_set a.all c.deref_mut.result.now n c.sync.new.self c.deref_mut.ensures.value)
-      c.sync.ensures.syncs c.sync.ensures.reads c.sync.ensures.notes).running;
+          c.requires.running low
+          (same_element c.deref_mut.result.now a.all.items n _ no_array c.deref_mut.ensures.value (omega (arith, count, low)))
+          (items_set a.all c.deref_mut.result.now n c.sync.new.self c.deref_mut.ensures.value)
+          c.sync.ensures.syncs c.sync.ensures.reads c.sync.ensures.notes).running;
     }
 
 pub returns-clause-syncs : goal.returns-clause-syncs
