@@ -3,6 +3,7 @@ pub mod Raid
 pub mod SoundRaid
 mod Books
 mod Ranges
+pub mod Dropped
 pub mod Synced
 pub mod Rounds
 pub mod Mended

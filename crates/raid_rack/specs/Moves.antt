@@ -1,6 +1,6 @@
 -- Parts of a call of a rack of arrays: what they keep and change, whatever the rack below tells, and what they do to each array
 -- that stands.
-use Rattle.std.specs.Prelude.{◌≡◌, ℕ, ◌<◌, ◌≤◌, ◌^◌, [], Bool, true, false, ◌&&◌, not, is_ok, List, length, slice_get, Some, option_map}
+use Rattle.std.specs.Prelude.{◌≡◌, ℕ, ◌<◌, ◌≤◌, ◌^◌, [], Bool, true, false, ◌&&◌, not, nat_lt, if◌then◌else◌, is_ok, List, length, slice_get, Some, option_map}
 use Rattle.rack.specs.Values.{Values, Keeps}
 use Rattle.rack.specs.Seen.{Seen, IsLive, Stays}
 use Rattle.rack.specs.Moments.{Leaves}
@@ -19,6 +19,7 @@ use Rattle.array_model.specs.declared.Seat.TheVariants.{Missing}
 use Rattle.array_model.specs.Members.{HasSlices, slice_on}
 use Rattle.array_model.specs.ArrayCalls.{Covers}
 use Rattle.array_core.specs.Staging.{HasRowRebuilds}
+use Rattle.array_core.specs.Seats.{gone}
 use Rattle.raid_rack.specs.Raid.{Raid, gone_in, is_left, is_over, Stood}
 use Rattle.raid_rack.specs.Book.{IsAfter}
 use Rattle.raid_rack.specs.Marking.{SaysBetween}
@@ -131,3 +132,7 @@ pub record ReadsValue (v w : Raid) (a b : Seen) (n sector : ℕ) (into : List �
       (vals : ℕ → Values) (spent : ℕ → Bool) → n < v.state.joined → is_over w n ≡ false → Covers (w.arrays n) spent → spent sector ≡ false
       → IsAmid v a n vals spent → into ≡ (vals sector).current
   pub refused : found ≡ false → spent_in (w.arrays n) sector ≡ true
+
+-- places are noted as lost in each array
+abbrev pub noted_at : List ℕ → Raid → Raid
+noted_at places v = record v { arrays = λ n. if nat_lt n v.state.made then gone places (v.arrays n) else v.arrays n }

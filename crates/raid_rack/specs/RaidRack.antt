@@ -2,6 +2,8 @@
 use Rattle.std.specs.Prelude.{◌≡◌, pos, false, List, [], length, get_or, slice_get, unwrap_or}
 use Rattle.rack.specs.Seen.{Seen}
 use Rattle.slice_rack.specs.declared.SliceRack.{SliceRack}
+use Rattle.slice_rack.specs.SliceRack.{tables, below_of}
+use Rattle.slice_rack.specs.Sliced.{slices_of}
 use Rattle.md_super.specs.declared.superblock.Super.{Super}
 use Rattle.array_model.specs.View.{View}
 use Rattle.raid_rack.specs.declared.arrays.RaidRack.{RaidRack}
@@ -66,3 +68,11 @@ slices_in rack = rack.slices
 pub record IsRunning (a : Arrays) (x : Seen) : Type 0 where
   pub count : length a.all.items ≡ a.state.made
   pub set : IsSet (raid_by a) x
+
+-- the arrays of a rack of arrays, with their state and log
+abbrev pub arrays_in : {R : Type 0} → RaidRack R → Arrays
+arrays_in rack = rack.arrays
+
+-- what its slices show
+abbrev pub slices_seen : {R : Type 0} → (R → Seen) → RaidRack R → Seen
+slices_seen seen rack = slices_of (tables (slices_in rack)) (seen (below_of (slices_in rack)))

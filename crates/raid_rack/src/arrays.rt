@@ -1,7 +1,8 @@
 //! The arrays of a pool, over slices of its drives.
 
-ghost use Rattle.std.specs.Prelude.{◌≡◌, ℕ, false, slice_get, MatchOption, Some, None};
+ghost use Rattle.std.specs.Prelude.{◌≡◌, ℕ, true, false, [], ◌∷◌, slice_get, MatchOption, Some, None, OnOk, OnErr};
 
+use crate::losses::has_other;
 use array_core::Array;
 use arrayvec::ArrayVec;
 use commit_log::Log;
@@ -31,11 +32,19 @@ pub struct RaidRack<R> {
     seconds: u64,
 }
 
+/// The drive to be lost is the only one that is left.
+#[derive(Clone, Copy, Debug, PartialEq, Eq)]
+pub struct LastDrive;
+
 impl<R: Rack> RaidRack<R> {
     ghost use Rattle.std.specs.Borrow.{sem, Lends};
     ghost use Rattle.slice_rack.specs.contracts.SliceRack as sliced;
     ghost use Rattle.raid_rack.specs.contracts.arrays.RaidRack.{the_row};
-    ghost use Rattle.raid_rack.specs.RaidRack.{arrays_of, raid_in, slices_in};
+    ghost use Rattle.slice_rack.specs.SliceRack.{below_of};
+    ghost use Rattle.array_image.specs.States.{is_current};
+    ghost use Rattle.raid_rack.specs.Losses.{has_other};
+    ghost use Rattle.raid_rack.specs.Moves.{Mends, noted_at};
+    ghost use Rattle.raid_rack.specs.RaidRack.{IsRunning, arrays_in, arrays_of, raid_in, slices_in, slices_seen};
 
     /// The rack of these arrays, which are those below the state's `made`, by number, over these slices. Nothing is added to the
     /// log, and nothing is pending in it.
@@ -78,6 +87,25 @@ impl<R: Rack> RaidRack<R> {
         ensures { MatchOption result (slice_get (arrays_of self.now) number ≡ None) (λ a. slice_get (arrays_of self.now) number ≡ Some a.now) }
     {
         self.arrays.all.get(number as usize)
+    }
+
+    /// Loses the drive of a place, which isn't marked missing: its mark is durable when this returns. Refused exactly where no other
+    /// drive is left, and then nothing changes.
+    pub fn lose(&mut self, place: u32) -> Result<(), LastDrive>
+        requires running { IsRunning (arrays_in self.old) (slices_seen R.seen self.old) }
+        requires place { is_current (raid_in self.old).state place ≡ true }
+        ensures served { OnOk result (has_other (raid_in self.old).state place ≡ true) }
+        ensures refused { OnErr result (has_other (raid_in self.old).state place ≡ false) }
+        ensures kept { OnErr result (self.new ≡ self.old) }
+        ensures mends { OnOk result (Mends (noted_at (place ∷ []) (raid_in self.old)) (raid_in self.new) (slices_seen R.seen self.old) (slices_seen R.seen self.new)) }
+        ensures running { IsRunning (arrays_in self.new) (slices_seen R.seen self.new) }
+        ensures runs { R.runs (below_of (slices_in self.old)) (below_of (slices_in self.new)) }
+    {
+        if !has_other(&self.arrays.state, place) {
+            return Err(LastDrive);
+        }
+        self.arrays.lose_place(&mut self.slices, place);
+        Ok(())
     }
 
     /// The rack of slices, lent. The arrays, their state and their log stay as they are.

@@ -2,8 +2,9 @@
 //!
 //! The arrays of a pool share its drives, its state and its commit log. A drive that answers `Gone` in a call of one array is gone
 //! for all of them: the loss is noted in each array, all arrays are settled on the drives that are left, and one commit has its
-//! mark and their superblocks. A [`RaidRack`] holds the arrays with their state, their log and the slices below; the mending of
-//! losses stands in it for the calls of its arrays. It isn't a rack yet: reads, writes and syncs of its arrays don't exist.
+//! mark and their superblocks. A [`RaidRack`] holds the arrays with their state, their log and the slices below. It loses a drive
+//! ([`RaidRack::lose`]); inside the crate one array is read or synced, and whoever goes in that is marked before the call returns.
+//! It isn't a rack yet: its impl, writes and the clean mark don't exist.
 //!
 //! **Its model.** `Raid` is what contracts see of it: the state, each array's `View`, the number of the log, the answers `Spent`
 //! so far. `raid_of` is the rack that it is to show: disk n is array n, a sector is held where no loss spent it, and what a stop
@@ -36,6 +37,6 @@ mod losses;
 mod marks;
 mod mending;
 
-pub use arrays::RaidRack;
+pub use arrays::{LastDrive, RaidRack};
 pub use losses::{add_copies, heed_all, newly_gone, note_gone};
 pub use marks::{current_places, mark_missing};

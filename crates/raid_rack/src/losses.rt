@@ -25,6 +25,14 @@ pub fn newly_gone(state: &State, arrays: &[Array]) -> Places
     places
 }
 
+/// Whether another drive than that of a place is current.
+pub(crate) fn has_other(state: &State, place: u32) -> bool
+    ensures { result ≡ spec.has_other state.now place }
+{
+    let current = current_places(state);
+    current.as_slice().iter().any(|other| *other != place)
+}
+
 /// Whether a place went in an array.
 fn has_gone(arrays: &[Array], place: u32) -> bool
     ensures { result ≡ spec.has_gone arrays.now place }

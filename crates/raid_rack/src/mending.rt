@@ -1,8 +1,8 @@
 //! Losses that calls met are marked: all arrays are settled, and one commit writes the marks.
 
-ghost use Rattle.std.specs.Prelude.{◌≡◌, ◌⊎◌, ℕ, ◌<◌, true, false, [], length};
+ghost use Rattle.std.specs.Prelude.{◌≡◌, ◌⊎◌, ℕ, ◌<◌, true, false, [], ◌∷◌, length};
 ghost use Rattle.raid_rack.specs.Raid.{is_left};
-ghost use Rattle.raid_rack.specs.Moves.{AreMarked, Mends, Moves, ReadsValue, SyncsOne};
+ghost use Rattle.raid_rack.specs.Moves.{AreMarked, Mends, Moves, ReadsValue, SyncsOne, noted_at};
 ghost use Rattle.array_model.specs.View.{sectors_of};
 ghost use Rattle.raid_rack.specs.Settling.{SettlesTo};
 ghost use Rattle.raid_rack.specs.RaidRack.{IsRunning, raid_by};
@@ -122,4 +122,24 @@ impl Arrays {
         self.mend(rack);
         found
     }
+
+    /// Loses the drive of a place, whose member is missing in each array from then on, and marks it.
+    pub(crate) fn lose_place<S: Rack>(&mut self, rack: &mut S, place: u32)
+        requires running { IsRunning self.old (S.seen rack.old) }
+        ensures mends { Mends (noted_at (place ∷ []) (raid_by self.old)) (raid_by self.new) (S.seen rack.old) (S.seen rack.new) }
+        ensures running { IsRunning self.new (S.seen rack.new) }
+        ensures runs { S.runs rack.old rack.new }
+    {
+        note_gone(self.all.as_mut_slice(), &one_place(place));
+        self.mend(rack);
+    }
+}
+
+/// A list of one place.
+fn one_place(place: u32) -> Places
+    ensures { result.items ≡ place ∷ [] }
+{
+    let mut places = Places::new();
+    places.push(place);
+    places
 }
