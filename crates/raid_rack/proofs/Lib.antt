@@ -2,6 +2,24 @@ mod Own
 pub mod Raid
 pub mod SoundRaid
 mod Books
+mod Ranges
+pub mod Dropped
+pub mod Synced
+pub mod Rounds
+pub mod Mended
+pub mod Turned
+pub mod Steps
+pub mod Turns
+pub mod Carried
+pub mod Committed
+pub mod Adding
+pub mod Settling
+pub mod Elements
+pub mod Calls
+pub mod Noted
+pub mod Seated
+pub mod Over
+pub mod Moving
 mod Each
 mod Missing
 pub mod Marking

@@ -37,8 +37,8 @@ says_value s array shape vals spent c y state says alive =
     subst (MayLeave (vals y)) (sym (array_value s array shape c y state says.shape_is)) (says.value y alive)
 
 -- a sector that isn't spent is of a pool that isn't at its end, and has redundancy
-pub live_parts : (v : Raid) (n y : ℕ) → live_of v n y → (is_over v ≡ false) × (spent_in (v.arrays n) y ≡ false)
-live_parts v n y alive = parts (is_over v) (spent_in (v.arrays n) y) alive
+pub live_parts : (v : Raid) (n y : ℕ) → live_of v n y → (is_over v n ≡ false) × (spent_in (v.arrays n) y ≡ false)
+live_parts v n y alive = parts (is_over v n) (spent_in (v.arrays n) y) alive
   where
     parts : (b c : Bool) → (b || c) ≡ false → (b ≡ false) × (c ≡ false)
     parts true c is = absurd (both_ways true is refl)

@@ -17,20 +17,20 @@ use Rattle.raid_rack.proofs.Told.{IsSourced, own_holds, own_keeps, fewer_stood}
 pub record IsWholeCall (v w : Raid) (a b : Seen) (vals : Held) : Type 0 where
   pub stays : RaidStays v w a b
   pub leaves : a.traced → Leaves a b (λ c. Unit {0})
-  pub still : is_over w ≡ false → is_over v ≡ false
+  pub still : (n : ℕ) → is_over w n ≡ false → is_over v n ≡ false
   pub joined : w.state.joined ≡ v.state.joined
   pub parts :
-      (n : ℕ) → n < v.state.joined → is_over w ≡ false
+      (n : ℕ) → n < v.state.joined → is_over w n ≡ false
       → Part v.state w.state (shape_of (v.arrays n)) (shape_of (w.arrays n)) (held_in v a n) (vals n) (spent_of w n) (λ place. false) (λ place. false) v w a b n
-  pub sourced : (n : ℕ) → n < v.state.joined → is_over w ≡ false → IsSourced (w.arrays n) (spent_of w n) b
+  pub sourced : (n : ℕ) → n < v.state.joined → is_over w n ≡ false → IsSourced (w.arrays n) (spent_of w n) b
 
 -- what an array that was told stands for after it
-after_stood : (v w : Raid) (a b : Seen) (vals : Held) (n : ℕ) → IsWholeCall v w a b vals → IsTold v a n → is_over w ≡ false
+after_stood : (v w : Raid) (a b : Seen) (vals : Held) (n : ℕ) → IsWholeCall v w a b vals → IsTold v a n → is_over w n ≡ false
     → Stood w.state (shape_of (w.arrays n)) (vals n) (spent_of w n) (λ place. false) w b n
 after_stood v w a b vals n call told goes =
     (call.parts n told.joined goes).holds
     (fewer_stood v.state (shape_of (v.arrays n)) (held_in v a n) (spent_of v n) (spent_of w n) (λ place. false) v a n
-    (λ y alive. call.stays.spent n y alive) (told.stood (call.still goes)))
+    (λ y alive. call.stays.spent n y alive) (told.stood (call.still n goes)))
 
 -- the same, with what its sectors hold
 own_stood : (w : Raid) (b : Seen) (vals : ℕ → Values) (n : ℕ) → IsSourced (w.arrays n) (spent_of w n) b
@@ -69,7 +69,7 @@ raid_acts v w a b vals call =
                 ((part.leaves traced).new k c after until stopped
                 (λ d t out. call.stays.inside k c stopped d t (subst (λ i. i ≤ t) (sym (call.stays.below.sectors d)) out))
                 (fewer_stood v.state (shape_of (v.arrays n)) (held_in v a n) (spent_of v n) (spent_of w n) (λ place. false) v a n
-                (λ z unspent. call.stays.spent n z unspent) (told.stood (call.still goes))))
+                (λ z unspent. call.stays.spent n z unspent) (told.stood (call.still n goes))))
                 alive;
           };
       held = λ n y told alive.

@@ -4,3 +4,6 @@ pub mod Missing
 pub mod Acts
 pub mod Marking
 pub mod Losses
+pub mod Moves
+pub mod Settling
+pub mod RaidRack

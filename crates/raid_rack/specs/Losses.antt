@@ -1,5 +1,5 @@
 -- Losses of a call: which places went, and copies of a state in the log.
-use Rattle.std.specs.Prelude.{◌≡◌, ℕ, Bool, List, [], ◌∷◌, ◌++◌, filter, Ok}
+use Rattle.std.specs.Prelude.{◌≡◌, ◌==◌, not, ℕ, Bool, List, [], ◌∷◌, ◌++◌, filter, Ok}
 use Rattle.std.specs.List.{list_any}
 use Rattle.rack.specs.Targets.{Target}
 use Rattle.pool_state.specs.declared.contents.State.{State}
@@ -35,3 +35,7 @@ pub record AddsCopies (s : State) (places : List ℕ) (before added : List Targe
   pub targets : List Target
   pub appended : added ≡ before ++ targets
   pub copies : AreCopiesOn s places targets
+
+-- another drive than that of a place is current
+abbrev pub has_other : State → ℕ → Bool
+has_other s place = list_any (λ p. not (p == place)) (current_places s)

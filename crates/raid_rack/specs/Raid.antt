@@ -1,5 +1,5 @@
 -- What contracts see of a rack of arrays, and what it shows as a rack.
-use Rattle.std.specs.Prelude.{◌≡◌, ℕ, ◌-◌, ◌<◌, ◌^◌, Bool, true, false, ◌||◌, not, nat_lt}
+use Rattle.std.specs.Prelude.{◌≡◌, ℕ, ◌-◌, ◌<◌, ◌^◌, Bool, true, false, ◌==◌, ◌&&◌, ◌||◌, not, nat_lt}
 use Rattle.std.specs.List.{list_any, range_with_len}
 use Rattle.rack.specs.Values.{Values}
 use Rattle.rack.specs.Seen.{Image, Held, Seen}
@@ -9,7 +9,7 @@ use Rattle.array_image.specs.States.{is_current}
 use Rattle.array_image.specs.Left.{IsInside}
 use Rattle.array_image.specs.Held.{held_by}
 use Rattle.commit_log.specs.Kept.{LogKept}
-use Rattle.array_model.specs.View.{View, shape_of, sectors_of, spent_in}
+use Rattle.array_model.specs.View.{View, shape_of, sectors_of, spent_in, present, has_gone}
 use Rattle.array_model.specs.Says.{Holds}
 
 -- what contracts see of it, but for the rack below
@@ -36,16 +36,25 @@ is_used_up v =
     nat_lt last_number v.number
     || (nat_lt last_number v.state.epoch || list_any (λ n. nat_lt last_number (v.arrays n).truth.events) (range_with_len 0 v.state.made))
 
+-- whether a place has gone in a call of one of the arrays, and isn't heeded yet
+abbrev pub gone_in : Raid → ℕ → Bool
+gone_in v place = nat_lt place 16 && list_any (λ n. has_gone (v.arrays n) place) (range_with_len 0 v.state.made)
+
+-- whether the drive of a place is left
+abbrev pub is_left : Raid → ℕ → Bool
+is_left v place = is_current v.state place && not (gone_in v place)
+
 -- no drive is left: then two members of each array are missing, and nothing can be marked
 abbrev pub is_empty : Raid → Bool
-is_empty v = not (list_any (is_current v.state) (range_with_len 0 16))
+is_empty v = not (list_any (is_left v) (range_with_len 0 16))
 
-abbrev pub is_over : Raid → Bool
-is_over v = is_empty v || is_used_up v
+-- an array of which nothing is left, or of a pool at its end
+abbrev pub is_over : Raid → ℕ → Bool
+is_over v n = is_empty v || (is_used_up v || (present (v.arrays n).seats == 0))
 
 -- the sectors of an array that can't be had any more
 abbrev pub spent_of : Raid → ℕ → ℕ → Bool
-spent_of v n y = is_over v || spent_in (v.arrays n) y
+spent_of v n y = is_over v n || spent_in (v.arrays n) y
 
 abbrev pub live_of : Raid → ℕ → ℕ → Type 0
 live_of v n y = spent_of v n y ≡ false
@@ -70,7 +79,7 @@ pub record Stood (s : State) (durable : Shape) (vals : ℕ → Values) (spent : 
 -- an array between calls, where all marks are durable
 pub record IsTold (v : Raid) (x : Seen) (n : ℕ) : Type 0 where
   pub joined : n < v.state.joined
-  pub stood : is_over v ≡ false → Stood v.state (shape_of (v.arrays n)) (held_in v x n) (spent_of v n) (λ place. false) v x n
+  pub stood : is_over v n ≡ false → Stood v.state (shape_of (v.arrays n)) (held_in v x n) (spent_of v n) (λ place. false) v x n
 
 -- ---- as a rack
 

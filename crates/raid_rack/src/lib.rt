@@ -1,13 +1,14 @@
-//! What the arrays of a pool keep together through the loss of a drive.
+//! All arrays of a pool over the slices of its drives.
 //!
-//! The arrays of a pool share its drives, its state and its commit log, and are to be a rack in which each array is a disk. A drive
-//! that answers `Gone` in a call of one array is gone for all: its mark goes into the state by one commit, with new superblocks of
-//! every array. This crate has the definitions and lemmas of that, and of code the parts that move no data: which places went,
-//! what is noted of them, the marks of a state, and its copies in the log. The rack's own calls don't exist yet.
+//! The arrays of a pool share its drives, its state and its commit log. A drive that answers `Gone` in a call of one array is gone
+//! for all of them: the loss is noted in each array, all arrays are settled on the drives that are left, and one commit has its
+//! mark and their superblocks. A [`RaidRack`] holds the arrays with their state, their log and the slices below. It loses a drive
+//! ([`RaidRack::lose`]); inside the crate one array is read or synced, and whoever goes in that is marked before the call returns.
+//! It isn't a rack yet: its impl, writes and the clean mark don't exist.
 //!
 //! **Its model.** `Raid` is what contracts see of it: the state, each array's `View`, the number of the log, the answers `Spent`
-//! so far. `raid_of` is the rack that it shows: disk n is array n, a sector is held where no loss spent it, and what a stop leaves
-//! is what the slices say once their log is replayed.
+//! so far. `raid_of` is the rack that it is to show: disk n is array n, a sector is held where no loss spent it, and what a stop
+//! leaves is what the slices say once their log is replayed.
 //!
 //! | Module of specs/ | What it defines |
 //! |---|---|
@@ -16,16 +17,26 @@
 //! | `Losses` | the places that went, and the copies of a state in a log |
 //! | `Missing` | the state that marks some places missing |
 //! | `Marking` | a part of a call, seen from one array; superblocks that restate an array under a new state |
+//! | `Moves` | a part of a call that moves no value, for all arrays: what it keeps whatever the rack below tells, what each array that stands gives at each moment and after it; losses that are mended |
+//! | `Settling` | all arrays settled, and the commit that marks losses |
+//! | `RaidRack` | the model of the struct |
 //! | `Acts` | what a whole call does |
 //!
-//! **For the layer above.** In proofs/: the commit that marks losses is a part of a call for each array that its targets restate
-//! (`marks_part`); superblocks that are made anew do restate (`restates_staged`), and the copies of a marked state behind them
-//! bring that state (`marks_bring`); parts in a row are a part (`part_then`), and parts of all arrays are a call of the rack
-//! (`raid_acts`). Values of arrays that are told are those of a rack (`raid_sound`).
+//! **The contract of the mending** is one record, `Mends`, over any rack of slices that spends no sector. Whoever went in a call of
+//! an array, or goes meanwhile, is marked when it returns, each with its cause, and nobody else is; down to the last drive. At each
+//! moment stops leave a state with marks between those before and those after it, and by it each array gives its values; afterwards
+//! images go by the shape that the run goes by. No value moves.
+//!
+//! **For a whole call.** Parts of a call in a row are one (`moves_then`); a read, a sync or a settling of one array is a part for all
+//! (`moves_read`); so are losses that are noted and heeded, and the commit that marks them (`moves_noted`, `moves_heeded`,
+//! `moves_commit`). Parts of all arrays are a call of the rack (`raid_acts`), whose values are those of a rack (`raid_sound`).
 #![tactic(auto)]
 
+mod arrays;
 mod losses;
 mod marks;
+mod mending;
 
-pub use losses::{add_copies, newly_gone, note_gone};
+pub use arrays::{LastDrive, RaidRack};
+pub use losses::{add_copies, heed_all, newly_gone, note_gone};
 pub use marks::{current_places, mark_missing};

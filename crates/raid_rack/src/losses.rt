@@ -25,6 +25,14 @@ pub fn newly_gone(state: &State, arrays: &[Array]) -> Places
     places
 }
 
+/// Whether another drive than that of a place is current.
+pub(crate) fn has_other(state: &State, place: u32) -> bool
+    ensures { result ≡ spec.has_other state.now place }
+{
+    let current = current_places(state);
+    current.as_slice().iter().any(|other| *other != place)
+}
+
 /// Whether a place went in an array.
 fn has_gone(arrays: &[Array], place: u32) -> bool
     ensures { result ≡ spec.has_gone arrays.now place }
@@ -32,12 +40,20 @@ fn has_gone(arrays: &[Array], place: u32) -> bool
     arrays.iter().any(|array| array.went().contains(&place))
 }
 
-/// The members at these places are missing in each array. Afterwards no array has places that went and weren't heeded.
+/// The members at these places are missing in each array, and the places went in each.
 pub fn note_gone(arrays: &mut [Array], lost: &Places)
-    ensures { (n : ℕ) → slice_get arrays.new n ≡ option_map (λ v. heeded (gone lost.now.items v)) (slice_get arrays.old n) }
+    ensures { (n : ℕ) → slice_get arrays.new n ≡ option_map (gone lost.now.items) (slice_get arrays.old n) }
 {
     for array in arrays.iter_mut() {
         array.gone(lost);
+    }
+}
+
+/// Nobody went in any array from then on.
+pub fn heed_all(arrays: &mut [Array])
+    ensures { (n : ℕ) → slice_get arrays.new n ≡ option_map heeded (slice_get arrays.old n) }
+{
+    for array in arrays.iter_mut() {
         array.heed();
     }
 }

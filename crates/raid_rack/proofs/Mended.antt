@@ -1,0 +1,293 @@
+-- The code that marks losses, step by step.
+use Rattle.std.proofs.Common.{◌≡◌, ◌⊎◌, ℕ, zero, suc, ◌+◌, ◌<◌, ◌≤◌, Bool, true, false, ◌==◌, ◌&&◌, ◌||◌, not, List, [], ◌∷◌, length, get_or, slice_get, Some, None, option_map, unwrap_or, refl, sym, ap, subst, ◌∙◌, inl, inr, eq-eqb, arith}
+use Rattle.std.proofs.lemmas.Bool.{cases_Bool, cases_lt, both_ways, and_parts, and_from}
+use Rattle.std.proofs.lemmas.Option.{slice_get-get_or, slice_get_past}
+use Rattle.std.specs.List.{list_any}
+use Rattle.std.specs.Option.{option_map_or}
+use Rattle.std.proofs.lemmas.List.{length-append}
+use Rattle.arrayvec.specs.ArrayVec.{ArrayVec, with_items}
+use Rattle.arrayvec.proofs.ArrayVecLemmas.{items-with_items}
+use Rattle.rack.specs.Seen.{Seen}
+use Rattle.rack.specs.Targets.{Target}
+use Rattle.pool_state.specs.Valid.{is_valid}
+use Rattle.pool_state.specs.declared.contents.State.{State}
+use Rattle.array_image.specs.Places.{log_slice, log_sectors}
+use Rattle.array_image.specs.States.{is_current, current_places}
+use Rattle.commit_log.specs.View.{LogView, names, next_number}
+use Rattle.commit_log.specs.Commits.{CommitCall}
+use Rattle.array_model.specs.View.{View, sectors_of, has_gone}
+use Rattle.array_core.specs.Seats.{gone as without}
+use Rattle.raid_rack.specs.declared.arrays.Arrays.{Arrays}
+use Rattle.raid_rack.specs.Raid.{Raid, gone_in, is_left}
+use Rattle.raid_rack.specs.Missing.{marked}
+use Rattle.raid_rack.specs.Losses.{newly_gone, AreCopiesOn, AddsCopies}
+use Rattle.raid_rack.specs.Moves.{IsSet, AreMarked, Moves}
+use Rattle.raid_rack.specs.Settling.{SettlesTo, HasStaged, IsMarking, state_after}
+use Rattle.raid_rack.specs.RaidRack.{IsRunning, raid_by, no_array}
+use Rattle.raid_rack.proofs.Missing.{current_marked}
+use Rattle.raid_rack.proofs.Added.{names_current}
+use Rattle.raid_rack.proofs.Moving.{moves_then}
+use Rattle.raid_rack.proofs.Noted.{IsNoting, with_arrays, moves_noted, current_few, gone_some}
+use Rattle.raid_rack.proofs.Seated.{names_joined}
+use Rattle.raid_rack.proofs.Committed.{IsCommit, raid_after, valid_marked}
+use Rattle.raid_rack.proofs.Turns.{moves_commit, commit_progress}
+use Rattle.raid_rack.proofs.Turned.{newly_named, newly_other, moves_emptied}
+
+-- ---- lists of which each element is changed
+
+each_length : {X : Type 0} (g : X → X) (xs ys : List X) → ((n : ℕ) → slice_get ys n ≡ option_map g (slice_get xs n)) → length ys ≡ length xs
+each_length g [] [] same = refl
+each_length g [] (y ∷ ys) same = absurd (let bad : Some y ≡ None = same 0 in cc)
+each_length g (x ∷ xs) [] same = absurd (let bad : None ≡ Some (g x) = same 0 in cc)
+each_length g (x ∷ xs) (y ∷ ys) same = ap suc (each_length g xs ys (λ n. same (suc n)))
+
+pub each_items : (all : ArrayVec View) (before after : List View) (g : View → View) → before ≡ all.items
+    → ((n : ℕ) → slice_get after n ≡ option_map g (slice_get before n))
+    → ((n : ℕ) → slice_get (with_items all after).items n ≡ option_map g (slice_get all.items n)) × (length (with_items all after).items ≡ length all.items)
+each_items all before after g same each =
+    let count : length after ≡ length all.items = each_length g before after each ∙ ap length same in
+    let items = items-with_items all after count in
+    (λ n. ap (λ xs. slice_get xs n) items ∙ each n ∙ ap (λ xs. option_map g (slice_get xs n)) same, ap length items ∙ count)
+
+pub each_get : (g : View → View) (xs ys : List View) (n : ℕ) → ((k : ℕ) → slice_get ys k ≡ option_map g (slice_get xs k)) → n < length xs
+    → get_or ys n no_array ≡ g (get_or xs n no_array)
+each_get g xs ys n each low =
+    ap (λ o. unwrap_or o no_array)
+    (sym (slice_get-get_or ys n no_array (let same = each_length g xs ys each in omega (arith, low, same))) ∙ each n ∙ ap (option_map g) (slice_get-get_or xs n no_array low))
+
+get_past : (xs : List View) (n : ℕ) → length xs ≤ n → get_or xs n no_array ≡ no_array
+get_past [] n past = refl
+get_past (x ∷ xs) zero past = absurd (omega (arith, past))
+get_past (x ∷ xs) (suc n) past = get_past xs n (omega (arith, past))
+
+pub each_sectors : (g : View → View) (xs ys : List View) (n : ℕ) → ((u : View) → sectors_of (g u) ≡ sectors_of u)
+    → ((k : ℕ) → slice_get ys k ≡ option_map g (slice_get xs k))
+    → sectors_of (get_or ys n no_array) ≡ sectors_of (get_or xs n no_array)
+each_sectors g xs ys n kept each =
+    elim (cases_lt n (length xs)) [
+      | inl low ↦ ap sectors_of (each_get g xs ys n each low) ∙ kept (get_or xs n no_array)
+      | inr past ↦
+          ap sectors_of (get_past ys n (let same = each_length g xs ys each in omega (arith, past, same)) ∙ sym (get_past xs n past))
+    ]
+
+-- ---- the places are noted
+
+pub record IsTurn (a : Arrays) (lost : List ℕ) (x : Seen) : Type 0 where
+  pub running : IsRunning a x
+  pub lost_are : lost ≡ newly_gone a.state a.all.items
+  pub some : 0 < length lost
+
+pub first_named : (xs : List ℕ) → 0 < length xs → (p : ℕ) × (names xs p ≡ true)
+first_named [] some = absurd (omega (arith, some))
+first_named (p ∷ xs) some = (p, ap (λ b. b || list_any (λ q. q == p) xs) (eq-eqb p p refl))
+
+-- what is known once they are
+pub record HasNoted (a b : Arrays) (lost : List ℕ) (x : Seen) : Type 0 where
+  pub moves : Moves (raid_by a) (raid_by b) x x
+  pub running : IsRunning b x
+  pub same : b.state ≡ a.state
+  pub noted : (n p : ℕ) → n < a.state.made → names lost p ≡ true → has_gone ((raid_by b).arrays n) p ≡ true
+  pub one : ℕ
+  pub named : names lost one ≡ true
+
+or_last : (b c : Bool) → c ≡ true → (b || c) ≡ true
+or_last true c is = refl
+or_last false c is = is
+
+pub has_noted : (a : Arrays) (all : ArrayVec View) (log : LogView) (lost : List ℕ) (x : Seen) → IsTurn a lost x
+    → ((n : ℕ) → slice_get all.items n ≡ option_map (without lost) (slice_get a.all.items n)) → length all.items ≡ length a.all.items
+    → log.number ≡ a.log.number
+    → HasNoted a (record a { all = all; log = log }) lost x
+has_noted a all log lost x turn each count number =
+    let f : ℕ → View = λ n. get_or all.items n no_array in
+    let named : (p : ℕ) → names lost p ≡ (is_current a.state p && gone_in (raid_by a) p) =
+    λ p. ap (λ ps. names ps p) turn.lost_are ∙ newly_named a p turn.running.count turn.running.set.few in
+    let one = first_named lost turn.some in
+    let noting : IsNoting lost (raid_by a) f = record {
+      arrays = λ n low. each_get (without lost) a.all.items all.items n each (let same = turn.running.count in omega (arith, low, same));
+      sectors = λ n. each_sectors (without lost) a.all.items all.items n (λ u. refl) each;
+      went = λ p is. (and_parts (is_current a.state p) (gone_in (raid_by a) p) (sym (named p) ∙ is)).1;
+      one = one.0;
+      named = one.1;
+      current = (and_parts (is_current a.state one.0) (gone_in (raid_by a) one.0) (sym (named one.0) ∙ one.1)).0;
+    } in
+    let step = moves_noted lost (raid_by a) f x turn.running.set noting in
+    let number_back = sym number in
+    let whole : with_arrays (raid_by a) f ≡ raid_by (record a { all = all; log = log }) =
+    λ i. record { state = a.state; arrays = f; number = number_back i; refused = (raid_by a).refused; written = (raid_by a).written } in
+    record {
+      moves = subst (λ (w : Raid). Moves (raid_by a) w x x) whole step;
+      running = record { count = count ∙ turn.running.count; set = subst (λ (w : Raid). IsSet w x) whole step.set };
+      same = refl;
+      noted = λ n p low is.
+          let few = (gone_some (raid_by a) p (noting.went p is)).0 in
+          ap (λ (u : View). has_gone u p) (noting.arrays n low) ∙ names_joined ((raid_by a).arrays n).went lost p few ∙ or_last (has_gone ((raid_by a).arrays n) p) (names lost p) is;
+      one = one.0;
+      named = one.1;
+    }
+
+-- ---- what is to be committed
+
+pub marking_of : (a b c : Arrays) (lost on : List ℕ) (l : LogView) (t : State) (x y : Seen) → HasNoted a b lost x
+    → SettlesTo (raid_by b) (raid_by c) x y b.state.made c.log.added → IsRunning c y
+    → newly_gone c.state c.all.items ≡ lost → t ≡ marked lost c.state → on ≡ current_places t
+    → AddsCopies t on c.log.added l.added → l.number ≡ c.log.number
+    → IsMarking (raid_by c) lost on l c.log.added y
+marking_of a b c lost on l t x y noted settles running same t_is on_is copies number =
+    record {
+      set = running.set;
+      staged = subst (λ k. HasStaged (raid_by c) k c.log.added) (sym (ap (λ (s : State). s.made) settles.same)) settles.staged;
+      copies = subst (λ (s : State). AddsCopies s on c.log.added l.added) t_is copies;
+      number = number;
+      lost_is = λ p. ap (λ ps. names ps p) (sym same) ∙ newly_named c p running.count running.set.few;
+      one = noted.one;
+      named = noted.named;
+      noted = λ n p low is.
+          let made : n < b.state.made = subst (λ (s : State). n < s.made) settles.same low in
+          settles.went n p made (noted.noted n p (subst (λ (s : State). n < s.made) noted.same made) is);
+      on_is = on_is ∙ ap current_places t_is;
+    }
+
+-- ---- what the code asks on the way
+
+pub on_named : (t : State) (on : List ℕ) (j p : ℕ) → on ≡ current_places t → slice_get on j ≡ Some p → is_current t p ≡ true
+on_named t on j p on_is at = sym (names_current t p) ∙ ap (λ ps. names ps p) (sym on_is) ∙ named on j at
+  where
+    named : (xs : List ℕ) (j : ℕ) → slice_get xs j ≡ Some p → names xs p ≡ true
+    named [] j at = absurd (let bad : None ≡ Some p = at in cc)
+    named (q ∷ xs) zero at = ap (λ b. b || names xs p) (eq-eqb q p (ap (λ o. unwrap_or o p) at))
+    named (q ∷ xs) (suc j) at = or_last (q == p) (names xs p) (named xs j at)
+
+pub on_few : (lost : List ℕ) (s t : State) (p : ℕ) → t ≡ marked lost s → length s.drives.items ≤ 16 → is_current t p ≡ true → (is_current s p ≡ true) × (p < 16)
+on_few lost s t p t_is few current =
+    let was = (and_parts (is_current s p) (not (names lost p)) (sym (current_marked lost s p) ∙ ap (λ (u : State). is_current u p) (sym t_is) ∙ current)).0 in
+    (was, current_few s p few was)
+
+-- ---- all of a turn
+
+pub record EndsTurn (a e : Arrays) (x z : Seen) : Type 0 where
+  pub moves : Moves (raid_by a) (raid_by e) x z
+  pub progress : AreMarked (raid_by e) ⊎ ((p : ℕ) × (is_left (raid_by a) p ≡ true) × (is_left (raid_by e) p ≡ false))
+  pub running : IsRunning e z
+
+pub ends_turn : (a b c : Arrays) (all : ArrayVec View) (log l : LogView) (t : State) (lost on gone : List ℕ) (x y z : Seen)
+    → HasNoted a b lost x → SettlesTo (raid_by b) (raid_by c) x y b.state.made c.log.added → IsRunning c y
+    → t ≡ marked lost c.state → IsMarking (raid_by c) lost on l c.log.added y → CommitCall l on gone y z
+    → ((n : ℕ) → slice_get all.items n ≡ option_map (without gone) (slice_get c.all.items n)) → length all.items ≡ length c.all.items
+    → log.number ≡ next_number l.number
+    → EndsTurn a (record c { state = t; all = all; log = log }) x z
+ends_turn a b c all log l t lost on gone x y z noted settles running t_is marking call each count number =
+    let f : ℕ → View = λ n. get_or all.items n no_array in
+    let v = raid_by c in
+    let commit : IsCommit v lost on gone l c.log.added f y z = record {
+      marking = marking;
+      call = call;
+      arrays = λ n low. each_get (without gone) c.all.items all.items n each (let same = running.count in omega (arith, low, same));
+      sectors = λ n. each_sectors (without gone) c.all.items all.items n (λ u. refl) each;
+    } in
+    let settled : SettlesTo (raid_by b) v x y v.state.made c.log.added =
+    subst (λ k. SettlesTo (raid_by b) v x y k c.log.added) (sym (ap (λ (s : State). s.made) settles.same)) settles in
+    let back = sym t_is in
+    let same_number = sym number in
+    let whole : raid_after v lost (next_number l.number) f ≡ raid_by (record c { state = t; all = all; log = log }) =
+    λ i. record { state = back i; arrays = f; number = same_number i; refused = v.refused; written = v.written } in
+    let step = moves_then (raid_by a) (raid_by b) (raid_after v lost (next_number l.number) f) x x z noted.moves (moves_commit (raid_by b) v lost on gone l c.log.added f x y z settled commit) in
+    record {
+      moves = subst (λ (w : Raid). Moves (raid_by a) w x z) whole step;
+      progress =
+          subst (λ (w : Raid). AreMarked w ⊎ ((p : ℕ) × (is_left (raid_by a) p ≡ true) × (is_left w p ≡ false))) whole
+          (elim (commit_progress v lost on gone l c.log.added f y z commit) [
+            | inl are ↦ inl are
+            | inr some ↦ inr (some.0, noted.moves.left some.0 (settled.moves.left some.0 some.1), some.2)
+          ]);
+      running = record {
+        count = count ∙ running.count ∙ sym (ap (λ (s : State). s.made) t_is);
+        set = subst (λ (w : Raid). IsSet w z) whole step.set;
+      };
+    }
+
+-- nobody is left: the marks are in this run alone
+pub ends_empty : (a b c : Arrays) (t : State) (lost on : List ℕ) (x y : Seen)
+    → HasNoted a b lost x → SettlesTo (raid_by b) (raid_by c) x y b.state.made c.log.added → IsRunning c y
+    → newly_gone c.state c.all.items ≡ lost → t ≡ marked lost c.state → on ≡ current_places t → length on ≡ 0
+    → EndsTurn a (record c { state = t }) x y
+ends_empty a b c t lost on x y noted settles running same t_is on_is empty =
+    let v = raid_by c in
+    let none : on ≡ [] = nothing on empty in
+    let nobody : (p : ℕ) → is_current (state_after v lost) p ≡ false =
+    λ p. ap (λ (s : State). is_current s p) (sym t_is) ∙ sym (names_current t p) ∙ ap (λ ps. names ps p) (sym on_is ∙ none) in
+    let step = moves_emptied v lost y running.set
+    (λ p. ap (λ ps. names ps p) (sym same) ∙ newly_named c p running.count running.set.few)
+    (λ n p low is.
+    let made : n < b.state.made = subst (λ (s : State). n < s.made) settles.same low in
+    settles.went n p made (noted.noted n p (subst (λ (s : State). n < s.made) noted.same made) is))
+    nobody in
+    let back = sym t_is in
+    let whole : record v { state = state_after v lost } ≡ raid_by (record c { state = t }) =
+    λ i. record { state = back i; arrays = v.arrays; number = v.number; refused = v.refused; written = v.written } in
+    let joined = moves_then (raid_by a) v (record v { state = state_after v lost }) x y y (moves_then (raid_by a) (raid_by b) v x x y noted.moves settles.moves) step in
+    record {
+      moves = subst (λ (w : Raid). Moves (raid_by a) w x y) whole joined;
+      progress = inl (λ p current.
+          absurd (both_ways (is_current t p) (sym (names_current t p) ∙ ap (λ ps. names ps p) (sym on_is ∙ none)) current));
+      running = record { count = running.count ∙ sym (ap (λ (s : State). s.made) t_is); set = subst (λ (w : Raid). IsSet w y) whole joined.set };
+    }
+  where
+    nothing : (xs : List ℕ) → length xs ≡ 0 → xs ≡ []
+    nothing [] is = refl
+    nothing (x ∷ xs) is = absurd (omega (arith, is))
+
+-- somebody else went while the arrays were settled
+pub ends_early : (a b c : Arrays) (lost : List ℕ) (x y : Seen) → IsTurn a lost x
+    → HasNoted a b lost x → SettlesTo (raid_by b) (raid_by c) x y b.state.made c.log.added → IsRunning c y
+    → (newly_gone c.state c.all.items ≡ lost → ⊥) → EndsTurn a c x y
+ends_early a b c lost x y turn noted settles running other =
+    let joined = moves_then (raid_by a) (raid_by b) (raid_by c) x x y noted.moves settles.moves in
+    record {
+      moves = joined;
+      progress = inr (newly_other a c (sym (settles.same ∙ noted.same)) turn.running.count running.count turn.running.set.few
+          (λ p was current.
+          elim (cases_Bool (gone_in (raid_by c) p)) [
+            | inl is ↦ is
+            | inr not_yet ↦
+                let before = joined.left p (and_from (is_current c.state p) (not (gone_in (raid_by c) p)) current (ap not not_yet)) in
+                absurd (both_ways true (sym (and_parts (is_current a.state p) (not (gone_in (raid_by a) p)) before).1 ∙ ap not was) refl)
+          ])
+          (λ same. other (same ∙ sym turn.lost_are)));
+      running = running;
+    }
+
+-- a state that marks losses is valid on the places that are left, whose log slices are there
+pub on_valid : (lost : List ℕ) (c : Arrays) (t : State) (on : List ℕ) (j p : ℕ) (y : Seen) → IsRunning c y → t ≡ marked lost c.state → on ≡ current_places t
+    → slice_get on j ≡ Some p → (is_valid t p ≡ true) × (p < 16) × (y.sectors (log_slice p) ≡ log_sectors)
+on_valid lost c t on j p y running t_is on_is at =
+    let current = on_named t on j p on_is at in
+    let was = on_few lost c.state t p t_is running.set.few current in
+    (ap (λ (s : State). is_valid s p) t_is ∙ valid_marked lost c.state p (running.set.valid p (current_low c.state p was.0)), was.1, running.set.logs p was.0)
+  where
+    current_low : (s : State) (q : ℕ) → is_current s q ≡ true → q < length s.drives.items
+    current_low s q current =
+        elim (cases_lt q (length s.drives.items)) [
+          | inl below ↦ below
+          | inr past ↦ absurd (both_ways (is_current s q) (ap (λ o. option_map_or (λ drive. not drive.missing) o false) (slice_get_past s.drives.items q past)) current)
+        ]
+
+-- copies on some place are some
+pub some_copies : (t : State) (on : List ℕ) (before added : List Target) → AddsCopies t on before added → (length on ≡ 0 → ⊥) → 0 < length added
+some_copies t on before added copies some =
+    let sum : length added ≡ length before + length copies.targets = ap length copies.appended ∙ length-append before copies.targets in
+    let more = count on copies.targets copies.copies some in
+    omega (arith, sum, more)
+  where
+    count : (ps : List ℕ) (xs : List Target) → AreCopiesOn t ps xs → (length ps ≡ 0 → ⊥) → 0 < length xs
+    count [] xs are some = absurd (some refl)
+    count (p ∷ ps) [] are some = absurd are
+    count (p ∷ ps) (x ∷ xs) are some = omega arith
+
+pub not_of_true : (b : Bool) → not b ≡ true → b ≡ false
+not_of_true true is = absurd (both_ways false refl is)
+not_of_true false is = refl
+
+pub not_of_false : (b : Bool) → not b ≡ false → b ≡ true
+not_of_false true is = refl
+not_of_false false is = sym is

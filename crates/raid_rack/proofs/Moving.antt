@@ -1,0 +1,123 @@
+-- Parts of a call in a row.
+use Rattle.std.proofs.Common.{◌≡◌, ℕ, ◌<◌, ◌≤◌, Bool, true, false, refl, sym, subst, ◌∙◌, inl, inr, arith}
+use Rattle.std.proofs.lemmas.Bool.{cases_Bool, both_ways}
+use Rattle.rack.specs.Values.{Values}
+use Rattle.rack.specs.Seen.{Image, Seen, Stays}
+use Rattle.rack.specs.Joins.{stays_same, stays_then, leaves_same, leaves_then, leaves_weaker, keeps_same, keeps_then, live_first, live_second, rose_later, rose_early}
+use Rattle.pool_state.specs.declared.contents.State.{State}
+use Rattle.array_image.specs.Arrays.{replayed}
+use Rattle.array_image.specs.Left.{IsInside}
+use Rattle.array_model.specs.View.{HasFault}
+use Rattle.raid_rack.specs.Raid.{Raid, is_left}
+use Rattle.raid_rack.specs.Marking.{SaysBetween}
+use Rattle.raid_rack.specs.Moves.{IsSet, IsAmid, PartOf, Moves}
+use Rattle.raid_rack.proofs.Books.{after_same, after_then}
+
+-- ---- one array
+
+-- where nothing is called, an array that stands after it is all that is owed
+pub part_still : (v w : Raid) (x : Seen) (n : ℕ) (vals : ℕ → Values) (spent : ℕ → Bool)
+    → (IsAmid v x n vals spent → IsAmid w x n vals spent) → PartOf v w x x n vals vals spent
+part_still v w x n vals spent holds =
+    record {
+      leaves = λ traced. leaves_same x (λ c. IsInside x.sectors c → IsAmid v x n vals spent → SaysBetween v.state w.state n vals spent (replayed x.sectors c));
+      holds = holds;
+    }
+
+pub parts_then : (v w z : Raid) (a b c : Seen) (n : ℕ) (vals now late : ℕ → Values) (spent : ℕ → Bool)
+    → Stays a b → Moves w z b c
+    → ((i : Image) → SaysBetween v.state w.state n now spent (replayed a.sectors i) → SaysBetween v.state z.state n late spent (replayed a.sectors i))
+    → ((i : Image) → SaysBetween w.state z.state n late spent (replayed a.sectors i) → SaysBetween v.state z.state n late spent (replayed a.sectors i))
+    → PartOf v w a b n vals now spent → PartOf w z b c n now late spent → PartOf v z a c n vals late spent
+parts_then v w z a b c n vals now late spent stays moves early late_says one two =
+    record {
+      leaves = λ traced.
+          leaves_then
+          (λ i. IsInside a.sectors i → IsAmid v a n vals spent → SaysBetween v.state z.state n late spent (replayed a.sectors i))
+          (leaves_weaker
+          (λ i. IsInside a.sectors i → IsAmid v a n vals spent → SaysBetween v.state w.state n now spent (replayed a.sectors i))
+          (λ i. IsInside a.sectors i → IsAmid v a n vals spent → SaysBetween v.state z.state n late spent (replayed a.sectors i))
+          (λ i says inside amid. early i (says inside amid))
+          (one.leaves traced))
+          (leaves_weaker
+          (λ i. IsInside b.sectors i → IsAmid w b n now spent → SaysBetween w.state z.state n late spent (replayed b.sectors i))
+          (λ i. IsInside a.sectors i → IsAmid v a n vals spent → SaysBetween v.state z.state n late spent (replayed a.sectors i))
+          (λ i says inside amid.
+          late_says i
+          (subst (λ (sectors : ℕ → ℕ). SaysBetween w.state z.state n late spent (replayed sectors i)) (λ k d. stays.sectors d k)
+          (says (λ d t out. inside d t (subst (λ k. k ≤ t) (stays.sectors d) out)) (one.holds amid))))
+          (two.leaves (stays.traced traced)));
+      holds = λ amid. two.holds (one.holds amid);
+    }
+
+-- contents that say an array by a state between two, say it by one between more
+pub says_sooner : (s t u : State) (n : ℕ) (vals : ℕ → Values) (spent : ℕ → Bool) (r : Image) → Rattle.raid_rack.specs.Book.IsAfter t u
+    → SaysBetween s t n vals spent r → SaysBetween s u n vals spent r
+says_sooner s t u n vals spent r after at =
+    record { state = at.state; is_state = at.is_state; later = at.later; sooner = after_then at.state t u at.sooner after; shape = at.shape; says = at.says }
+
+pub says_later : (s t u : State) (n : ℕ) (vals : ℕ → Values) (spent : ℕ → Bool) (r : Image) → Rattle.raid_rack.specs.Book.IsAfter s t
+    → SaysBetween t u n vals spent r → SaysBetween s u n vals spent r
+says_later s t u n vals spent r after at =
+    record { state = at.state; is_state = at.is_state; later = after_then s t at.state after at.later; sooner = at.sooner; shape = at.shape; says = at.says }
+
+-- ---- all of them
+
+pub moves_same : (v : Raid) (x : Seen) → IsSet v x → Moves v v x x
+moves_same v x set =
+    record {
+      stays = stays_same x set.fit;
+      set = set;
+      book = after_same v.state;
+      leaves = λ traced. leaves_same x (λ c. Unit {0});
+      number = omega arith;
+      refused = λ n. refl;
+      sectors = λ n. refl;
+      left = λ place is. is;
+      cause = λ place was now. absurd (both_ways (is_left v place) now was);
+      still = λ n made over. over;
+      spent = λ n y made alive. alive;
+      counted = λ n m sector made among counts. among;
+      kept = λ d t live apart other. keeps_same (x.held d t);
+      parts = λ n vals spent joined made goes covers. part_still v v x n vals spent (λ amid. amid);
+    }
+
+pub moves_then : (v w z : Raid) (a b c : Seen) → Moves v w a b → Moves w z b c → Moves v z a c
+moves_then v w z a b c one two =
+    record {
+      stays = stays_then one.stays two.stays;
+      set = two.set;
+      book = after_then v.state w.state z.state one.book two.book;
+      leaves = λ traced. leaves_then (λ c. Unit {0}) (one.leaves traced) (two.leaves (one.stays.traced traced));
+      number = (let first = one.number in let second = two.number in omega (arith, first, second));
+      refused = λ n. two.refused n ∙ one.refused n;
+      sectors = λ n. two.sectors n ∙ one.sectors n;
+      left = λ place is. one.left place (two.left place is);
+      cause = λ place was now. caused place was now;
+      still = λ n made over. one.still n made (two.still n (still_made n made) over);
+      spent = λ n y made alive. one.spent n y made (two.spent n y (still_made n made) alive);
+      counted = λ n m sector made among counts.
+          one.counted n m sector made (two.counted n m sector (still_made n made) among counts) counts;
+      kept = λ d t live apart other.
+          keeps_then (a.held d t) (b.held d t) (c.held d t) (one.kept d t (live_first two.stays live) apart other) (two.kept d t (live_second one.stays live) apart other);
+      parts = λ n vals spent joined made goes covers.
+          parts_then v w z a b c n vals vals vals spent one.stays two
+          (λ i says. says_sooner v.state w.state z.state n vals spent (replayed a.sectors i) two.book says)
+          (λ i says. says_later v.state w.state z.state n vals spent (replayed a.sectors i) one.book says)
+          (one.parts n vals spent joined made (two.still n (still_made n made) goes) (λ y alive. two.spent n y (still_made n made) (covers y alive)))
+          (two.parts n vals spent (subst (λ k. n < k) (sym one.book.same.joined) joined) (still_made n made) goes covers);
+    }
+  where
+    still_made : (n : ℕ) → n < v.state.made → n < w.state.made
+    still_made n made = subst (λ k. n < k) (sym one.book.same.made) made
+
+    caused : (place : ℕ) → is_left v place ≡ true → is_left z place ≡ false → HasFault a c place
+    caused place was now =
+        elim (cases_Bool (is_left w place)) [
+          | inl mid ↦
+              let fault = two.cause place mid now in
+              (fault.0, fault.1, rose_later a b c fault.0 one.stays fault.2)
+          | inr gone ↦
+              let fault = one.cause place was gone in
+              (fault.0, fault.1, rose_early a b c fault.0 two.stays fault.2)
+        ]

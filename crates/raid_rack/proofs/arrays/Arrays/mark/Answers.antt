@@ -1,0 +1,285 @@
+use Rattle.std.proofs.Common.{◌≡◌, ◌==◌, length, get_or, ap, sym, ◌∙◌, eqb-true}
+use Rattle.std.proofs.lemmas.Bool.{both_ways, eq-eqb}
+use Rattle.std.proofs.lemmas.Option.{slice_get-get_or}
+use Rattle.std.specs.Cmp.Lexicographic.{same_text, other_text}
+use Rattle.arrayvec.specs.ArrayVec.{with_items}
+use Rattle.commit_log.specs.View.{LogView}
+use Rattle.array_core.specs.Seats.{gone as without}
+use Rattle.raid_rack.specs.Losses.{newly_gone}
+use Rattle.raid_rack.proofs.Adding.{are_valid, all_apart, all_had}
+use Rattle.raid_rack.proofs.Mended.{IsTurn, each_items, has_noted, marking_of, ends_turn, ends_empty, ends_early, on_valid, some_copies, not_of_true, not_of_false}
+use Rattle.raid_rack.specs.RaidRack.{raid_by}
+use Rattle.raid_rack.proofs.arrays.Arrays.mark.Goals as goal
+
+pub settle_all-requires-clause-running : goal.settle_all-requires-clause-running
+settle_all-requires-clause-running g c =
+    let a = c.args.self.now in
+    let lost = c.args.lost.now.items in
+    let x = g.S.Rack.seen c.args.rack.now in
+    let each = each_items a.all c.as_mut_slice.result.now c.note_gone.new.arrays (without lost) c.as_mut_slice.ensures.value c.note_gone.ensures in
+    let turn : IsTurn a lost x = record { running = c.requires.running; lost_are = c.requires.lost; some = c.requires.some } in
+    let noted = has_noted a (with_items a.all c.note_gone.new.arrays) c.clear.new.self lost x turn each.0 each.1 (ap (λ (l : LogView). l.number) c.clear.ensures) in
+    noted.running
+
+pub returns-then-ne-clause-moves : goal.returns-then-ne-clause-moves
+returns-then-ne-clause-moves g c =
+    let a = c.args.self.now in
+    let lost = c.args.lost.now.items in
+    let x = g.S.Rack.seen c.args.rack.now in
+    let each = each_items a.all c.as_mut_slice.result.now c.note_gone.new.arrays (without lost) c.as_mut_slice.ensures.value c.note_gone.ensures in
+    let turn : IsTurn a lost x = record { running = c.requires.running; lost_are = c.requires.lost; some = c.requires.some } in
+    let noted = has_noted a (with_items a.all c.note_gone.new.arrays) c.clear.new.self lost x turn each.0 each.1 (ap (λ (l : LogView). l.number) c.clear.ensures) in
+    let s = c.settle_all.new.self in
+    let y = g.S.Rack.seen c.settle_all.new.rack in
+    let gone_is : c.newly_gone-gone.result.items ≡ newly_gone s.state s.all.items = c.newly_gone-gone.ensures ∙ ap (newly_gone s.state) c.as_slice.ensures.value in
+    let ends = ends_early a _ s lost x y turn noted c.settle_all.ensures.settles c.settle_all.ensures.running
+    (λ same.
+    other_text c.as_slice-2.result.now c.as_slice-3.result.now (sym (not_of_true _ (sym c.ne.ensures ∙ c.if-ne.true)))
+    (c.as_slice-2.ensures.value ∙ gone_is ∙ same ∙ sym c.as_slice-3.ensures.value)) in
+    ends.moves
+
+pub returns-then-ne-clause-progress : goal.returns-then-ne-clause-progress
+returns-then-ne-clause-progress g c =
+    let a = c.args.self.now in
+    let lost = c.args.lost.now.items in
+    let x = g.S.Rack.seen c.args.rack.now in
+    let each = each_items a.all c.as_mut_slice.result.now c.note_gone.new.arrays (without lost) c.as_mut_slice.ensures.value c.note_gone.ensures in
+    let turn : IsTurn a lost x = record { running = c.requires.running; lost_are = c.requires.lost; some = c.requires.some } in
+    let noted = has_noted a (with_items a.all c.note_gone.new.arrays) c.clear.new.self lost x turn each.0 each.1 (ap (λ (l : LogView). l.number) c.clear.ensures) in
+    let s = c.settle_all.new.self in
+    let y = g.S.Rack.seen c.settle_all.new.rack in
+    let gone_is : c.newly_gone-gone.result.items ≡ newly_gone s.state s.all.items = c.newly_gone-gone.ensures ∙ ap (newly_gone s.state) c.as_slice.ensures.value in
+    let ends = ends_early a _ s lost x y turn noted c.settle_all.ensures.settles c.settle_all.ensures.running
+    (λ same.
+    other_text c.as_slice-2.result.now c.as_slice-3.result.now (sym (not_of_true _ (sym c.ne.ensures ∙ c.if-ne.true)))
+    (c.as_slice-2.ensures.value ∙ gone_is ∙ same ∙ sym c.as_slice-3.ensures.value)) in
+    ends.progress
+
+pub returns-then-is_empty-clause-moves : goal.returns-then-is_empty-clause-moves
+returns-then-is_empty-clause-moves g c =
+    let a = c.args.self.now in
+    let lost = c.args.lost.now.items in
+    let x = g.S.Rack.seen c.args.rack.now in
+    let each = each_items a.all c.as_mut_slice.result.now c.note_gone.new.arrays (without lost) c.as_mut_slice.ensures.value c.note_gone.ensures in
+    let turn : IsTurn a lost x = record { running = c.requires.running; lost_are = c.requires.lost; some = c.requires.some } in
+    let noted = has_noted a (with_items a.all c.note_gone.new.arrays) c.clear.new.self lost x turn each.0 each.1 (ap (λ (l : LogView). l.number) c.clear.ensures) in
+    let s = c.settle_all.new.self in
+    let y = g.S.Rack.seen c.settle_all.new.rack in
+    let gone_is : c.newly_gone-gone.result.items ≡ newly_gone s.state s.all.items = c.newly_gone-gone.ensures ∙ ap (newly_gone s.state) c.as_slice.ensures.value in
+    let same : newly_gone s.state s.all.items ≡ lost =
+    sym gone_is ∙ sym c.as_slice-2.ensures.value
+    ∙ same_text c.as_slice-2.result.now c.as_slice-3.result.now (sym (not_of_false _ (sym c.ne.ensures ∙ c.if-ne.false)))
+    ∙ c.as_slice-3.ensures.value in
+    let t = c.mark_missing.new.state in
+    let on = c.current_places-on.result.items in
+    let ends = ends_empty a _ s t lost on x y noted c.settle_all.ensures.settles c.settle_all.ensures.running same c.mark_missing.ensures c.current_places-on.ensures
+    (eqb-true (length on) 0 (sym c.if-is_empty.ensures)) in
+    ends.moves
+
+pub returns-then-is_empty-clause-progress : goal.returns-then-is_empty-clause-progress
+returns-then-is_empty-clause-progress g c =
+    let a = c.args.self.now in
+    let lost = c.args.lost.now.items in
+    let x = g.S.Rack.seen c.args.rack.now in
+    let each = each_items a.all c.as_mut_slice.result.now c.note_gone.new.arrays (without lost) c.as_mut_slice.ensures.value c.note_gone.ensures in
+    let turn : IsTurn a lost x = record { running = c.requires.running; lost_are = c.requires.lost; some = c.requires.some } in
+    let noted = has_noted a (with_items a.all c.note_gone.new.arrays) c.clear.new.self lost x turn each.0 each.1 (ap (λ (l : LogView). l.number) c.clear.ensures) in
+    let s = c.settle_all.new.self in
+    let y = g.S.Rack.seen c.settle_all.new.rack in
+    let gone_is : c.newly_gone-gone.result.items ≡ newly_gone s.state s.all.items = c.newly_gone-gone.ensures ∙ ap (newly_gone s.state) c.as_slice.ensures.value in
+    let same : newly_gone s.state s.all.items ≡ lost =
+    sym gone_is ∙ sym c.as_slice-2.ensures.value
+    ∙ same_text c.as_slice-2.result.now c.as_slice-3.result.now (sym (not_of_false _ (sym c.ne.ensures ∙ c.if-ne.false)))
+    ∙ c.as_slice-3.ensures.value in
+    let t = c.mark_missing.new.state in
+    let on = c.current_places-on.result.items in
+    let ends = ends_empty a _ s t lost on x y noted c.settle_all.ensures.settles c.settle_all.ensures.running same c.mark_missing.ensures c.current_places-on.ensures
+    (eqb-true (length on) 0 (sym c.if-is_empty.ensures)) in
+    ends.progress
+
+pub returns-then-is_empty-clause-running : goal.returns-then-is_empty-clause-running
+returns-then-is_empty-clause-running g c =
+    let a = c.args.self.now in
+    let lost = c.args.lost.now.items in
+    let x = g.S.Rack.seen c.args.rack.now in
+    let each = each_items a.all c.as_mut_slice.result.now c.note_gone.new.arrays (without lost) c.as_mut_slice.ensures.value c.note_gone.ensures in
+    let turn : IsTurn a lost x = record { running = c.requires.running; lost_are = c.requires.lost; some = c.requires.some } in
+    let noted = has_noted a (with_items a.all c.note_gone.new.arrays) c.clear.new.self lost x turn each.0 each.1 (ap (λ (l : LogView). l.number) c.clear.ensures) in
+    let s = c.settle_all.new.self in
+    let y = g.S.Rack.seen c.settle_all.new.rack in
+    let gone_is : c.newly_gone-gone.result.items ≡ newly_gone s.state s.all.items = c.newly_gone-gone.ensures ∙ ap (newly_gone s.state) c.as_slice.ensures.value in
+    let same : newly_gone s.state s.all.items ≡ lost =
+    sym gone_is ∙ sym c.as_slice-2.ensures.value
+    ∙ same_text c.as_slice-2.result.now c.as_slice-3.result.now (sym (not_of_false _ (sym c.ne.ensures ∙ c.if-ne.false)))
+    ∙ c.as_slice-3.ensures.value in
+    let t = c.mark_missing.new.state in
+    let on = c.current_places-on.result.items in
+    let ends = ends_empty a _ s t lost on x y noted c.settle_all.ensures.settles c.settle_all.ensures.running same c.mark_missing.ensures c.current_places-on.ensures
+    (eqb-true (length on) 0 (sym c.if-is_empty.ensures)) in
+    ends.running
+
+pub add_copies-requires-clause-valid : goal.add_copies-requires-clause-valid
+add_copies-requires-clause-valid g c n place at =
+    (on_valid c.args.lost.now.items c.settle_all.new.self c.mark_missing.new.state c.current_places-on.result.items n place (g.S.Rack.seen c.settle_all.new.rack)
+    c.settle_all.ensures.running c.mark_missing.ensures c.current_places-on.ensures at).0
+
+pub add_copies-requires-clause-places : goal.add_copies-requires-clause-places
+add_copies-requires-clause-places g c n place at =
+    (on_valid c.args.lost.now.items c.settle_all.new.self c.mark_missing.new.state c.current_places-on.result.items n place (g.S.Rack.seen c.settle_all.new.rack)
+    c.settle_all.ensures.running c.mark_missing.ensures c.current_places-on.ensures at).1
+
+pub commit-gone-requires-clause-logs : goal.commit-gone-requires-clause-logs
+commit-gone-requires-clause-logs g c j low =
+    let on = c.current_places-on.result.items in
+    let at = on_valid c.args.lost.now.items c.settle_all.new.self c.mark_missing.new.state on j (get_or on j 0) (g.S.Rack.seen c.settle_all.new.rack)
+    c.settle_all.ensures.running c.mark_missing.ensures c.current_places-on.ensures (slice_get-get_or on j 0 low) in
+    (at.1, at.2)
+
+pub commit-gone-requires-clause-some : goal.commit-gone-requires-clause-some
+commit-gone-requires-clause-some g c =
+    some_copies c.mark_missing.new.state c.current_places-on.result.items c.settle_all.new.self.log.added c.add_copies.new.log.added c.add_copies.ensures.added
+    (λ none. both_ways (length c.current_places-on.result.items == 0) (sym c.if-is_empty.ensures) (eq-eqb (length c.current_places-on.result.items) 0 none))
+
+pub commit-gone-requires-clause-valid : goal.commit-gone-requires-clause-valid
+commit-gone-requires-clause-valid g c =
+    let a = c.args.self.now in
+    let lost = c.args.lost.now.items in
+    let x = g.S.Rack.seen c.args.rack.now in
+    let each = each_items a.all c.as_mut_slice.result.now c.note_gone.new.arrays (without lost) c.as_mut_slice.ensures.value c.note_gone.ensures in
+    let turn : IsTurn a lost x = record { running = c.requires.running; lost_are = c.requires.lost; some = c.requires.some } in
+    let noted = has_noted a (with_items a.all c.note_gone.new.arrays) c.clear.new.self lost x turn each.0 each.1 (ap (λ (l : LogView). l.number) c.clear.ensures) in
+    let s = c.settle_all.new.self in
+    let y = g.S.Rack.seen c.settle_all.new.rack in
+    let gone_is : c.newly_gone-gone.result.items ≡ newly_gone s.state s.all.items = c.newly_gone-gone.ensures ∙ ap (newly_gone s.state) c.as_slice.ensures.value in
+    let same : newly_gone s.state s.all.items ≡ lost =
+    sym gone_is ∙ sym c.as_slice-2.ensures.value
+    ∙ same_text c.as_slice-2.result.now c.as_slice-3.result.now (sym (not_of_false _ (sym c.ne.ensures ∙ c.if-ne.false)))
+    ∙ c.as_slice-3.ensures.value in
+    let t = c.mark_missing.new.state in
+    let on = c.current_places-on.result.items in
+    let l = c.add_copies.new.log in
+    let marking = marking_of a _ s lost on l t x y noted c.settle_all.ensures.settles c.settle_all.ensures.running same c.mark_missing.ensures c.current_places-on.ensures
+    c.add_copies.ensures.added (ap (λ (m : LogView). m.number) c.add_copies.ensures.log) in
+    are_valid (raid_by s) lost on l s.log.added y marking
+
+pub commit-gone-requires-clause-apart : goal.commit-gone-requires-clause-apart
+commit-gone-requires-clause-apart g c =
+    let a = c.args.self.now in
+    let lost = c.args.lost.now.items in
+    let x = g.S.Rack.seen c.args.rack.now in
+    let each = each_items a.all c.as_mut_slice.result.now c.note_gone.new.arrays (without lost) c.as_mut_slice.ensures.value c.note_gone.ensures in
+    let turn : IsTurn a lost x = record { running = c.requires.running; lost_are = c.requires.lost; some = c.requires.some } in
+    let noted = has_noted a (with_items a.all c.note_gone.new.arrays) c.clear.new.self lost x turn each.0 each.1 (ap (λ (l : LogView). l.number) c.clear.ensures) in
+    let s = c.settle_all.new.self in
+    let y = g.S.Rack.seen c.settle_all.new.rack in
+    let gone_is : c.newly_gone-gone.result.items ≡ newly_gone s.state s.all.items = c.newly_gone-gone.ensures ∙ ap (newly_gone s.state) c.as_slice.ensures.value in
+    let same : newly_gone s.state s.all.items ≡ lost =
+    sym gone_is ∙ sym c.as_slice-2.ensures.value
+    ∙ same_text c.as_slice-2.result.now c.as_slice-3.result.now (sym (not_of_false _ (sym c.ne.ensures ∙ c.if-ne.false)))
+    ∙ c.as_slice-3.ensures.value in
+    let t = c.mark_missing.new.state in
+    let on = c.current_places-on.result.items in
+    let l = c.add_copies.new.log in
+    let marking = marking_of a _ s lost on l t x y noted c.settle_all.ensures.settles c.settle_all.ensures.running same c.mark_missing.ensures c.current_places-on.ensures
+    c.add_copies.ensures.added (ap (λ (m : LogView). m.number) c.add_copies.ensures.log) in
+    all_apart (raid_by s) lost on l s.log.added y marking
+
+pub commit-gone-requires-clause-had : goal.commit-gone-requires-clause-had
+commit-gone-requires-clause-had g c =
+    let a = c.args.self.now in
+    let lost = c.args.lost.now.items in
+    let x = g.S.Rack.seen c.args.rack.now in
+    let each = each_items a.all c.as_mut_slice.result.now c.note_gone.new.arrays (without lost) c.as_mut_slice.ensures.value c.note_gone.ensures in
+    let turn : IsTurn a lost x = record { running = c.requires.running; lost_are = c.requires.lost; some = c.requires.some } in
+    let noted = has_noted a (with_items a.all c.note_gone.new.arrays) c.clear.new.self lost x turn each.0 each.1 (ap (λ (l : LogView). l.number) c.clear.ensures) in
+    let s = c.settle_all.new.self in
+    let y = g.S.Rack.seen c.settle_all.new.rack in
+    let gone_is : c.newly_gone-gone.result.items ≡ newly_gone s.state s.all.items = c.newly_gone-gone.ensures ∙ ap (newly_gone s.state) c.as_slice.ensures.value in
+    let same : newly_gone s.state s.all.items ≡ lost =
+    sym gone_is ∙ sym c.as_slice-2.ensures.value
+    ∙ same_text c.as_slice-2.result.now c.as_slice-3.result.now (sym (not_of_false _ (sym c.ne.ensures ∙ c.if-ne.false)))
+    ∙ c.as_slice-3.ensures.value in
+    let t = c.mark_missing.new.state in
+    let on = c.current_places-on.result.items in
+    let l = c.add_copies.new.log in
+    let marking = marking_of a _ s lost on l t x y noted c.settle_all.ensures.settles c.settle_all.ensures.running same c.mark_missing.ensures c.current_places-on.ensures
+    c.add_copies.ensures.added (ap (λ (m : LogView). m.number) c.add_copies.ensures.log) in
+    all_had (raid_by s) lost on l s.log.added y marking
+
+pub returns-clause-moves : goal.returns-clause-moves
+returns-clause-moves g c =
+    let a = c.args.self.now in
+    let lost = c.args.lost.now.items in
+    let x = g.S.Rack.seen c.args.rack.now in
+    let each = each_items a.all c.as_mut_slice.result.now c.note_gone.new.arrays (without lost) c.as_mut_slice.ensures.value c.note_gone.ensures in
+    let turn : IsTurn a lost x = record { running = c.requires.running; lost_are = c.requires.lost; some = c.requires.some } in
+    let noted = has_noted a (with_items a.all c.note_gone.new.arrays) c.clear.new.self lost x turn each.0 each.1 (ap (λ (l : LogView). l.number) c.clear.ensures) in
+    let s = c.settle_all.new.self in
+    let y = g.S.Rack.seen c.settle_all.new.rack in
+    let gone_is : c.newly_gone-gone.result.items ≡ newly_gone s.state s.all.items = c.newly_gone-gone.ensures ∙ ap (newly_gone s.state) c.as_slice.ensures.value in
+    let same : newly_gone s.state s.all.items ≡ lost =
+    sym gone_is ∙ sym c.as_slice-2.ensures.value
+    ∙ same_text c.as_slice-2.result.now c.as_slice-3.result.now (sym (not_of_false _ (sym c.ne.ensures ∙ c.if-ne.false)))
+    ∙ c.as_slice-3.ensures.value in
+    let t = c.mark_missing.new.state in
+    let on = c.current_places-on.result.items in
+    let l = c.add_copies.new.log in
+    let marking = marking_of a _ s lost on l t x y noted c.settle_all.ensures.settles c.settle_all.ensures.running same c.mark_missing.ensures c.current_places-on.ensures
+    c.add_copies.ensures.added (ap (λ (m : LogView). m.number) c.add_copies.ensures.log) in
+    let after = each_items s.all c.as_mut_slice-2.result.now c.note_gone-2.new.arrays (without c.commit-gone.result.items) c.as_mut_slice-2.ensures.value c.note_gone-2.ensures in
+    let ends = ends_turn a _ s (with_items s.all c.note_gone-2.new.arrays) c.commit-gone.new.self l t lost on c.commit-gone.result.items x y (g.S.Rack.seen c.commit-gone.new.rack)
+    noted c.settle_all.ensures.settles c.settle_all.ensures.running c.mark_missing.ensures marking c.commit-gone.ensures.commits after.0 after.1
+    (ap (λ (m : LogView). m.number) c.commit-gone.ensures.log) in
+    ends.moves
+
+pub returns-clause-progress : goal.returns-clause-progress
+returns-clause-progress g c =
+    let a = c.args.self.now in
+    let lost = c.args.lost.now.items in
+    let x = g.S.Rack.seen c.args.rack.now in
+    let each = each_items a.all c.as_mut_slice.result.now c.note_gone.new.arrays (without lost) c.as_mut_slice.ensures.value c.note_gone.ensures in
+    let turn : IsTurn a lost x = record { running = c.requires.running; lost_are = c.requires.lost; some = c.requires.some } in
+    let noted = has_noted a (with_items a.all c.note_gone.new.arrays) c.clear.new.self lost x turn each.0 each.1 (ap (λ (l : LogView). l.number) c.clear.ensures) in
+    let s = c.settle_all.new.self in
+    let y = g.S.Rack.seen c.settle_all.new.rack in
+    let gone_is : c.newly_gone-gone.result.items ≡ newly_gone s.state s.all.items = c.newly_gone-gone.ensures ∙ ap (newly_gone s.state) c.as_slice.ensures.value in
+    let same : newly_gone s.state s.all.items ≡ lost =
+    sym gone_is ∙ sym c.as_slice-2.ensures.value
+    ∙ same_text c.as_slice-2.result.now c.as_slice-3.result.now (sym (not_of_false _ (sym c.ne.ensures ∙ c.if-ne.false)))
+    ∙ c.as_slice-3.ensures.value in
+    let t = c.mark_missing.new.state in
+    let on = c.current_places-on.result.items in
+    let l = c.add_copies.new.log in
+    let marking = marking_of a _ s lost on l t x y noted c.settle_all.ensures.settles c.settle_all.ensures.running same c.mark_missing.ensures c.current_places-on.ensures
+    c.add_copies.ensures.added (ap (λ (m : LogView). m.number) c.add_copies.ensures.log) in
+    let after = each_items s.all c.as_mut_slice-2.result.now c.note_gone-2.new.arrays (without c.commit-gone.result.items) c.as_mut_slice-2.ensures.value c.note_gone-2.ensures in
+    let ends = ends_turn a _ s (with_items s.all c.note_gone-2.new.arrays) c.commit-gone.new.self l t lost on c.commit-gone.result.items x y (g.S.Rack.seen c.commit-gone.new.rack)
+    noted c.settle_all.ensures.settles c.settle_all.ensures.running c.mark_missing.ensures marking c.commit-gone.ensures.commits after.0 after.1
+    (ap (λ (m : LogView). m.number) c.commit-gone.ensures.log) in
+    ends.progress
+
+pub returns-clause-running : goal.returns-clause-running
+returns-clause-running g c =
+    let a = c.args.self.now in
+    let lost = c.args.lost.now.items in
+    let x = g.S.Rack.seen c.args.rack.now in
+    let each = each_items a.all c.as_mut_slice.result.now c.note_gone.new.arrays (without lost) c.as_mut_slice.ensures.value c.note_gone.ensures in
+    let turn : IsTurn a lost x = record { running = c.requires.running; lost_are = c.requires.lost; some = c.requires.some } in
+    let noted = has_noted a (with_items a.all c.note_gone.new.arrays) c.clear.new.self lost x turn each.0 each.1 (ap (λ (l : LogView). l.number) c.clear.ensures) in
+    let s = c.settle_all.new.self in
+    let y = g.S.Rack.seen c.settle_all.new.rack in
+    let gone_is : c.newly_gone-gone.result.items ≡ newly_gone s.state s.all.items = c.newly_gone-gone.ensures ∙ ap (newly_gone s.state) c.as_slice.ensures.value in
+    let same : newly_gone s.state s.all.items ≡ lost =
+    sym gone_is ∙ sym c.as_slice-2.ensures.value
+    ∙ same_text c.as_slice-2.result.now c.as_slice-3.result.now (sym (not_of_false _ (sym c.ne.ensures ∙ c.if-ne.false)))
+    ∙ c.as_slice-3.ensures.value in
+    let t = c.mark_missing.new.state in
+    let on = c.current_places-on.result.items in
+    let l = c.add_copies.new.log in
+    let marking = marking_of a _ s lost on l t x y noted c.settle_all.ensures.settles c.settle_all.ensures.running same c.mark_missing.ensures c.current_places-on.ensures
+    c.add_copies.ensures.added (ap (λ (m : LogView). m.number) c.add_copies.ensures.log) in
+    let after = each_items s.all c.as_mut_slice-2.result.now c.note_gone-2.new.arrays (without c.commit-gone.result.items) c.as_mut_slice-2.ensures.value c.note_gone-2.ensures in
+    let ends = ends_turn a _ s (with_items s.all c.note_gone-2.new.arrays) c.commit-gone.new.self l t lost on c.commit-gone.result.items x y (g.S.Rack.seen c.commit-gone.new.rack)
+    noted c.settle_all.ensures.settles c.settle_all.ensures.running c.mark_missing.ensures marking c.commit-gone.ensures.commits after.0 after.1
+    (ap (λ (m : LogView). m.number) c.commit-gone.ensures.log) in
+    ends.running

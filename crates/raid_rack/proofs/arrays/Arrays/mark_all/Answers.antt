@@ -1,0 +1,67 @@
+use Rattle.std.proofs.Common.{ap, sym, ◌∙◌}
+use Rattle.raid_rack.specs.Losses.{newly_gone}
+use Rattle.raid_rack.specs.RaidRack.{raid_by}
+use Rattle.raid_rack.proofs.Moving.{moves_same, moves_then}
+use Rattle.raid_rack.proofs.Turned.{none_newly}
+use Rattle.raid_rack.proofs.Rounds.{turns_first, turns_next, turns_done, no_length, some_length}
+use Rattle.raid_rack.proofs.arrays.Arrays.mark_all.Goals as goal
+
+pub loop-turn-init : goal.loop-turn-init
+loop-turn-init g c = record {
+  moves = moves_same (raid_by c.args.self.now) (g.S.Rack.seen c.args.rack.now) c.requires.running.set;
+  running = c.requires.running;
+  turns = turns_first (raid_by c.args.self.now);
+  runs = g.met.S.Rack.runs_same c.args.rack.now;
+}
+
+pub returns-then-is_empty-clause-moves : goal.returns-then-is_empty-clause-moves
+returns-then-is_empty-clause-moves g c = c.loop-turn.invariant.moves
+
+pub returns-then-is_empty-clause-marked : goal.returns-then-is_empty-clause-marked
+returns-then-is_empty-clause-marked g c =
+    let s = c.loop-turn.self in
+    let running = c.loop-turn.invariant.running in
+    none_newly s running.count running.set.few
+    (sym (c.newly_gone-lost.ensures ∙ ap (newly_gone s.state) c.as_slice.ensures.value) ∙ no_length c.newly_gone-lost.result.items (sym c.if-is_empty.ensures))
+
+pub returns-then-is_empty-clause-running : goal.returns-then-is_empty-clause-running
+returns-then-is_empty-clause-running g c = c.loop-turn.invariant.running
+
+pub returns-then-is_empty-clause-runs : goal.returns-then-is_empty-clause-runs
+returns-then-is_empty-clause-runs g c = c.loop-turn.invariant.runs
+
+pub mark-requires-clause-running : goal.mark-requires-clause-running
+mark-requires-clause-running g c = c.loop-turn.invariant.running
+
+pub mark-requires-clause-lost : goal.mark-requires-clause-lost
+mark-requires-clause-lost g c = c.newly_gone-lost.ensures ∙ ap (newly_gone c.loop-turn.self.state) c.as_slice.ensures.value
+
+pub mark-requires-clause-some : goal.mark-requires-clause-some
+mark-requires-clause-some g c = some_length c.newly_gone-lost.result.items (sym c.if-is_empty.ensures)
+
+pub loop-turn-preserved : goal.loop-turn-preserved
+loop-turn-preserved g c =
+    let inv = c.loop-turn.invariant in
+    let s = c.loop-turn.self in
+    record {
+      moves = moves_then (raid_by c.args.self.now) (raid_by s) (raid_by c.mark.new.self) (g.S.Rack.seen c.args.rack.now) (g.S.Rack.seen c.loop-turn.rack) (g.S.Rack.seen c.mark.new.rack)
+          inv.moves c.mark.ensures.moves;
+      running = c.mark.ensures.running;
+      turns = turns_next s c.mark.new.self c.newly_gone-lost.result.items c.loop-turn._turn (g.S.Rack.seen c.loop-turn.rack) (g.S.Rack.seen c.mark.new.rack) inv.running
+          (c.newly_gone-lost.ensures ∙ ap (newly_gone s.state) c.as_slice.ensures.value)
+          (some_length c.newly_gone-lost.result.items (sym c.if-is_empty.ensures))
+          c.mark.ensures.moves c.mark.ensures.progress inv.turns;
+      runs = g.met.S.Rack.runs_then _ _ _ inv.runs c.mark.ensures.runs;
+    }
+
+pub returns-clause-moves : goal.returns-clause-moves
+returns-clause-moves g c = c.loop-turn.invariant.moves
+
+pub returns-clause-marked : goal.returns-clause-marked
+returns-clause-marked g c = turns_done (raid_by c.loop-turn.self) c.loop-turn._turn c.loop-turn-test.false c.loop-turn.invariant.turns
+
+pub returns-clause-running : goal.returns-clause-running
+returns-clause-running g c = c.loop-turn.invariant.running
+
+pub returns-clause-runs : goal.returns-clause-runs
+returns-clause-runs g c = c.loop-turn.invariant.runs

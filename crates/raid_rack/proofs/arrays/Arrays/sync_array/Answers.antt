@@ -1,0 +1,34 @@
+use Rattle.std.proofs.Common.{refl, slice_set, arith}
+use Rattle.arrayvec.specs.ArrayVec.{with_items}
+use Rattle.raid_rack.specs.RaidRack.{no_array}
+use Rattle.raid_rack.proofs.Steps.{same_element, items_set}
+use Rattle.raid_rack.proofs.Synced.{has_synced, syncs_one}
+use Rattle.raid_rack.proofs.arrays.Arrays.sync_array.Goals as goal
+
+pub mend-requires : goal.mend-requires
+mend-requires g c =
+    let a = c.args.self.now in
+    let n = c.args.number in
+    let count = c.requires.running.count in
+    let low = c.requires.number in
+    record {
+      running = (has_synced a (with_items a.all (slice_set c.deref_mut.result.now n c.sync.new.self)) (g.S.Rack.seen c.args.rack.now) (g.S.Rack.seen c.sync.new.rack) n _ c.sync.new.self
+          c.requires.running low
+          (same_element c.deref_mut.result.now a.all.items n _ no_array c.deref_mut.ensures.value (omega (arith, count, low)))
+          (items_set a.all c.deref_mut.result.now n c.sync.new.self c.deref_mut.ensures.value)
+          c.sync.ensures.syncs c.sync.ensures.reads c.sync.ensures.notes).running;
+    }
+
+pub returns-clause-syncs : goal.returns-clause-syncs
+returns-clause-syncs g c =
+    let a = c.args.self.now in
+    let n = c.args.number in
+    let count = c.requires.running.count in
+    let low = c.requires.number in
+    syncs_one a _ c.mend.new.self (g.S.Rack.seen c.args.rack.now) (g.S.Rack.seen c.sync.new.rack) (g.S.Rack.seen c.mend.new.rack) n low
+    (has_synced a (with_items a.all (slice_set c.deref_mut.result.now n c.sync.new.self)) (g.S.Rack.seen c.args.rack.now) (g.S.Rack.seen c.sync.new.rack) n _ c.sync.new.self
+    c.requires.running low
+    (same_element c.deref_mut.result.now a.all.items n _ no_array c.deref_mut.ensures.value (omega (arith, count, low)))
+    (items_set a.all c.deref_mut.result.now n c.sync.new.self c.deref_mut.ensures.value)
+    c.sync.ensures.syncs c.sync.ensures.reads c.sync.ensures.notes)
+    refl c.mend.ensures.mends

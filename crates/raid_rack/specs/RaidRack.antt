@@ -1,0 +1,78 @@
+-- A rack of arrays, as contracts see it.
+use Rattle.std.specs.Prelude.{◌≡◌, pos, false, List, [], length, get_or, slice_get, unwrap_or}
+use Rattle.rack.specs.Seen.{Seen}
+use Rattle.slice_rack.specs.declared.SliceRack.{SliceRack}
+use Rattle.slice_rack.specs.SliceRack.{tables, below_of}
+use Rattle.slice_rack.specs.Sliced.{slices_of}
+use Rattle.md_super.specs.declared.superblock.Super.{Super}
+use Rattle.array_model.specs.View.{View}
+use Rattle.raid_rack.specs.declared.arrays.RaidRack.{RaidRack}
+use Rattle.raid_rack.specs.declared.arrays.Arrays.{Arrays}
+use Rattle.raid_rack.specs.Raid.{Raid}
+use Rattle.raid_rack.specs.Moves.{IsSet}
+
+-- a number without an array: nothing is said of it
+abbrev pub no_super : Super
+no_super = record {
+  feature_map = 0;
+  set_id = record { 0 = [] };
+  set_name = [];
+  ctime = 0;
+  level = pos 0;
+  layout = 0;
+  size = 0;
+  chunk = 0;
+  raid_disks = 0;
+  new_level = pos 0;
+  reshape_position = 0;
+  delta_disks = pos 0;
+  new_layout = 0;
+  new_chunk = 0;
+  data_offset = 0;
+  data_size = 0;
+  super_offset = 0;
+  recovery_offset = 0;
+  dev_number = 0;
+  device_id = record { 0 = [] };
+  utime = 0;
+  events = 0;
+  resync_offset = 0;
+  roles = record { items = [] };
+}
+
+abbrev pub no_array : View
+no_array = record { number = 0; truth = no_super; seats = []; devices = []; went = []; resync = 0; young = false; marked = false }
+
+-- the arrays with their state and log
+abbrev pub raid_by : Arrays → Raid
+raid_by a = record {
+  state = a.state;
+  arrays = λ n. get_or a.all.items n no_array;
+  number = a.log.number;
+  refused = λ n. unwrap_or (slice_get a.refused n) 0;
+  written = λ n. unwrap_or (slice_get a.written n) false;
+}
+
+abbrev pub raid_in : {R : Type 0} → RaidRack R → Raid
+raid_in rack = raid_by rack.arrays
+
+-- the arrays, by number
+abbrev pub arrays_of : {R : Type 0} → RaidRack R → List View
+arrays_of rack = rack.arrays.all.items
+
+-- the slices below
+abbrev pub slices_in : {R : Type 0} → RaidRack R → SliceRack R
+slices_in rack = rack.slices
+
+-- The arrays of a pool over its slices: those below `made`, each one of the pool.
+pub record IsRunning (a : Arrays) (x : Seen) : Type 0 where
+  pub count : length a.all.items ≡ a.state.made
+  pub set : IsSet (raid_by a) x
+
+-- the arrays of a rack of arrays, with their state and log
+abbrev pub arrays_in : {R : Type 0} → RaidRack R → Arrays
+arrays_in rack = rack.arrays
+
+-- what its slices show
+abbrev pub slices_seen : {R : Type 0} → (R → Seen) → RaidRack R → Seen
+slices_seen seen rack = slices_of (tables (slices_in rack)) (seen (below_of (slices_in rack)))

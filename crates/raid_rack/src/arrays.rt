@@ -1,0 +1,126 @@
+//! The arrays of a pool, over slices of its drives.
+
+ghost use Rattle.std.specs.Prelude.{◌≡◌, ℕ, true, false, [], ◌∷◌, slice_get, MatchOption, Some, None, OnOk, OnErr};
+
+use crate::losses::has_other;
+use array_core::Array;
+use arrayvec::ArrayVec;
+use commit_log::Log;
+use pool_state::State;
+use rack::Rack;
+use slice_rack::SliceRack;
+
+/// The arrays of a pool, with its state and its log.
+#[derive(Drop)]
+pub(crate) struct Arrays {
+    pub(crate) state: State,
+    /// By number.
+    pub(crate) all: ArrayVec<Array, 16>,
+    pub(crate) log: Log,
+    /// The spent answers of each array so far.
+    pub(crate) refused: [u64; 16],
+    /// Which arrays this run has written to.
+    pub(crate) written: [bool; 16],
+}
+
+/// A rack of all arrays of a pool: disk `n` is array `n`.
+#[derive(Drop)]
+pub struct RaidRack<R> {
+    slices: SliceRack<R>,
+    arrays: Arrays,
+    /// When the pool was opened, in seconds since 1970: the times in superblocks of new arrays.
+    seconds: u64,
+}
+
+/// The drive to be lost is the only one that is left.
+#[derive(Clone, Copy, Debug, PartialEq, Eq)]
+pub struct LastDrive;
+
+impl<R: Rack> RaidRack<R> {
+    ghost use Rattle.std.specs.Borrow.{sem, Lends};
+    ghost use Rattle.slice_rack.specs.contracts.SliceRack as sliced;
+    ghost use Rattle.raid_rack.specs.contracts.arrays.RaidRack.{the_row};
+    ghost use Rattle.slice_rack.specs.SliceRack.{below_of};
+    ghost use Rattle.array_image.specs.States.{is_current};
+    ghost use Rattle.raid_rack.specs.Losses.{has_other};
+    ghost use Rattle.raid_rack.specs.Moves.{Mends, noted_at};
+    ghost use Rattle.raid_rack.specs.RaidRack.{IsRunning, arrays_in, arrays_of, raid_in, slices_in, slices_seen};
+
+    /// The rack of these arrays, which are those below the state's `made`, by number, over these slices. Nothing is added to the
+    /// log, and nothing is pending in it.
+    pub fn new(
+        slices: SliceRack<R>,
+        state: State,
+        arrays: ArrayVec<Array, 16>,
+        log: Log,
+        seconds: u64,
+    ) -> RaidRack<R>
+        ensures slices { slices_in result ≡ slices }
+        ensures state { (raid_in result).state ≡ state }
+        ensures arrays { arrays_of result ≡ arrays.items }
+        ensures number { (raid_in result).number ≡ log.number }
+        ensures refused { (n : ℕ) → (raid_in result).refused n ≡ 0 }
+        ensures written { (n : ℕ) → (raid_in result).written n ≡ false }
+    {
+        RaidRack {
+            slices,
+            arrays: Arrays {
+                state,
+                all: arrays,
+                log,
+                refused: [0; 16],
+                written: [false; 16],
+            },
+            seconds,
+        }
+    }
+
+    /// The state of the pool, with the marks of the drives that were lost.
+    pub fn state(&self) -> &State
+        ensures { result.now ≡ (raid_in self.now).state }
+    {
+        &self.arrays.state
+    }
+
+    /// The array of a number, if there is one.
+    pub fn array(&self, number: u32) -> Option<&Array>
+        ensures { MatchOption result (slice_get (arrays_of self.now) number ≡ None) (λ a. slice_get (arrays_of self.now) number ≡ Some a.now) }
+    {
+        self.arrays.all.get(number as usize)
+    }
+
+    /// Loses the drive of a place, which isn't marked missing: its mark is durable when this returns. Refused exactly where no other
+    /// drive is left, and then nothing changes.
+    pub fn lose(&mut self, place: u32) -> Result<(), LastDrive>
+        requires running { IsRunning (arrays_in self.old) (slices_seen R.seen self.old) }
+        requires place { is_current (raid_in self.old).state place ≡ true }
+        ensures served { OnOk result (has_other (raid_in self.old).state place ≡ true) }
+        ensures refused { OnErr result (has_other (raid_in self.old).state place ≡ false) }
+        ensures kept { OnErr result (self.new ≡ self.old) }
+        ensures mends { OnOk result (Mends (noted_at (place ∷ []) (raid_in self.old)) (raid_in self.new) (slices_seen R.seen self.old) (slices_seen R.seen self.new)) }
+        ensures running { IsRunning (arrays_in self.new) (slices_seen R.seen self.new) }
+        ensures runs { R.runs (below_of (slices_in self.old)) (below_of (slices_in self.new)) }
+    {
+        if !has_other(&self.arrays.state, place) {
+            return Err(LastDrive);
+        }
+        self.arrays.lose_place(&mut self.slices, place);
+        Ok(())
+    }
+
+    /// The rack of slices, lent. The arrays, their state and their log stay as they are.
+    pub fn slices(&mut self) -> &mut SliceRack<R>
+        ensures* writes_back { sem 𝓛 (
+            Lends (the_row R.row) (sliced.the_row R.row) self.entry result (λ w. record self.old { slices = w })) }
+        ensures value { result.now ≡ slices_in self.old }
+    {
+        &mut self.slices
+    }
+
+    /// The rack of slices, as it is.
+    pub fn into_inner(self) -> SliceRack<R>
+        ensures { result ≡ slices_in self }
+    {
+        self.slices
+    }
+}

@@ -1,0 +1,145 @@
+//! Losses that calls met are marked: all arrays are settled, and one commit writes the marks.
+
+ghost use Rattle.std.specs.Prelude.{◌≡◌, ◌⊎◌, ℕ, ◌<◌, true, false, [], ◌∷◌, length};
+ghost use Rattle.raid_rack.specs.Raid.{is_left};
+ghost use Rattle.raid_rack.specs.Moves.{AreMarked, Mends, Moves, ReadsValue, SyncsOne, noted_at};
+ghost use Rattle.array_model.specs.View.{sectors_of};
+ghost use Rattle.raid_rack.specs.Settling.{SettlesTo};
+ghost use Rattle.raid_rack.specs.RaidRack.{IsRunning, raid_by};
+ghost use Rattle.raid_rack.specs.Losses as spec;
+
+use crate::arrays::Arrays;
+use crate::losses::{add_copies, heed_all, newly_gone, note_gone};
+use crate::marks::{current_places, mark_missing};
+use rack::{Places, Rack};
+
+/// Each of 16 places goes once, and the last turn finds nobody.
+const MOST_TURNS: u32 = 17;
+
+impl Arrays {
+    /// Settles all arrays: their members are synced, and their superblocks added to the log.
+    fn settle_all<S: Rack>(&mut self, rack: &mut S)
+        requires running { IsRunning self.old (S.seen rack.old) }
+        requires empty { self.old.log.added ≡ [] }
+        ensures settles { SettlesTo (raid_by self.old) (raid_by self.new) (S.seen rack.old) (S.seen rack.new) self.old.state.made self.new.log.added }
+        ensures log { self.new.log ≡ record self.old.log { added = self.new.log.added } }
+        ensures same { self.new ≡ record self.old { all = self.new.all; log = self.new.log } }
+        ensures running { IsRunning self.new (S.seen rack.new) }
+        ensures runs { S.runs rack.old rack.new }
+    {
+        for n in 0..self.all.len() {
+            self.all[n].settle(rack, &mut self.log);
+        }
+    }
+
+    /// Marks these places, which went and aren't marked. All arrays are settled without them, and one commit on the places that
+    /// are left has the marks and the superblocks. Where somebody else goes meanwhile, nothing is committed or he isn't marked yet.
+    /// Where nobody is left, the marks are in this run alone.
+    fn mark<S: Rack>(&mut self, rack: &mut S, lost: &Places)
+        requires running { IsRunning self.old (S.seen rack.old) }
+        requires lost { lost.now.items ≡ spec.newly_gone self.old.state self.old.all.items }
+        requires some { 0 < length lost.now.items }
+        ensures moves { Moves (raid_by self.old) (raid_by self.new) (S.seen rack.old) (S.seen rack.new) }
+        ensures progress { AreMarked (raid_by self.new)
+            ⊎ ((p : ℕ) × (is_left (raid_by self.old) p ≡ true) × (is_left (raid_by self.new) p ≡ false)) }
+        ensures running { IsRunning self.new (S.seen rack.new) }
+        ensures runs { S.runs rack.old rack.new }
+    {
+        note_gone(self.all.as_mut_slice(), lost);
+        self.log.clear();
+        self.settle_all(rack);
+        let gone = newly_gone(&self.state, self.all.as_slice());
+        if gone.as_slice() != lost.as_slice() {
+            return;
+        }
+        mark_missing(&mut self.state, lost);
+        let on = current_places(&self.state);
+        if on.is_empty() {
+            return;
+        }
+        add_copies(&self.state, &on, &mut self.log);
+        let gone = self.log.commit(rack, &on);
+        note_gone(self.all.as_mut_slice(), &gone);
+    }
+
+    /// Marks whoever went, and whoever goes meanwhile: each turn but one finds another place gone.
+    fn mark_all<S: Rack>(&mut self, rack: &mut S)
+        requires running { IsRunning self.old (S.seen rack.old) }
+        ensures moves { Moves (raid_by self.old) (raid_by self.new) (S.seen rack.old) (S.seen rack.new) }
+        ensures marked { AreMarked (raid_by self.new) }
+        ensures running { IsRunning self.new (S.seen rack.new) }
+        ensures runs { S.runs rack.old rack.new }
+    {
+        for _turn in 0..MOST_TURNS {
+            let lost = newly_gone(&self.state, self.all.as_slice());
+            if lost.is_empty() {
+                return;
+            }
+            self.mark(rack, &lost);
+        }
+    }
+
+    /// Mends the losses that calls of the arrays met: whoever went is marked, in the images too where a drive is left, and nobody
+    /// went from then on.
+    pub(crate) fn mend<S: Rack>(&mut self, rack: &mut S)
+        requires running { IsRunning self.old (S.seen rack.old) }
+        ensures mends { Mends (raid_by self.old) (raid_by self.new) (S.seen rack.old) (S.seen rack.new) }
+        ensures running { IsRunning self.new (S.seen rack.new) }
+        ensures runs { S.runs rack.old rack.new }
+    {
+        self.mark_all(rack);
+        heed_all(self.all.as_mut_slice());
+    }
+
+    /// Syncs an array. Whoever goes is marked, and whoever is left has one value in each sector.
+    pub(crate) fn sync_array<S: Rack>(&mut self, rack: &mut S, number: u32)
+        requires running { IsRunning self.old (S.seen rack.old) }
+        requires number { number < self.old.state.made }
+        ensures syncs { SyncsOne (raid_by self.old) (raid_by self.new) (S.seen rack.old) (S.seen rack.new) number }
+        ensures running { IsRunning self.new (S.seen rack.new) }
+        ensures runs { S.runs rack.old rack.new }
+    {
+        self.all[number as usize].sync(rack);
+        self.mend(rack);
+    }
+
+    /// Reads a sector of an array. Whoever goes is marked. The answer is false where the sector was spent already when it was read.
+    pub(crate) fn read_array<S: Rack>(
+        &mut self,
+        rack: &mut S,
+        number: u32,
+        sector: u64,
+        into: &mut [u8; 512],
+    ) -> bool
+        requires running { IsRunning self.old (S.seen rack.old) }
+        requires number { number < self.old.state.made }
+        requires sector { sector < sectors_of ((raid_by self.old).arrays number) }
+        ensures reads { ReadsValue (raid_by self.old) (raid_by self.new) (S.seen rack.old) (S.seen rack.new) number sector into.new result }
+        ensures running { IsRunning self.new (S.seen rack.new) }
+        ensures runs { S.runs rack.old rack.new }
+    {
+        let found = self.all[number as usize].read(rack, sector, into).is_ok();
+        self.mend(rack);
+        found
+    }
+
+    /// Loses the drive of a place, whose member is missing in each array from then on, and marks it.
+    pub(crate) fn lose_place<S: Rack>(&mut self, rack: &mut S, place: u32)
+        requires running { IsRunning self.old (S.seen rack.old) }
+        ensures mends { Mends (noted_at (place ∷ []) (raid_by self.old)) (raid_by self.new) (S.seen rack.old) (S.seen rack.new) }
+        ensures running { IsRunning self.new (S.seen rack.new) }
+        ensures runs { S.runs rack.old rack.new }
+    {
+        note_gone(self.all.as_mut_slice(), &one_place(place));
+        self.mend(rack);
+    }
+}
+
+/// A list of one place.
+fn one_place(place: u32) -> Places
+    ensures { result.items ≡ place ∷ [] }
+{
+    let mut places = Places::new();
+    places.push(place);
+    places
+}
