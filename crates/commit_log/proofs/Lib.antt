@@ -24,3 +24,5 @@ pub mod Since
 pub mod Ended
 pub mod Told
 pub mod Committing
+pub mod Replaying
+pub mod ReplayCalls
