@@ -26,3 +26,5 @@ pub mod Told
 pub mod Committing
 pub mod Replaying
 pub mod ReplayCalls
+pub mod Scanning
+pub mod Finding

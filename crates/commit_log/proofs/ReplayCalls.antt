@@ -1,25 +1,21 @@
 -- A replay from its two parts: the targets are written, and then the gates closed.
-use Rattle.std.proofs.Common.{◌≡◌, ◌≢◌, ◌⊎◌, ℕ, ◌<◌, ◌≤◌, ◌==◌, ◌||◌, not, Bool, true, false, List, [], ◌∷◌, length, Some, refl, sym, ap, subst, ◌∙◌, inl, inr, arith}
-use Rattle.std.specs.List.{list_any}
-use Rattle.std.proofs.lemmas.Bool.{cases_Bool, both_ways}
-use Rattle.std.proofs.lemmas.Option.{none-some}
+use Rattle.std.proofs.Common.{◌≡◌, ◌⊎◌, ℕ, ◌<◌, ◌≤◌, Bool, true, false, List, [], length, Some, refl, sym, ap, subst, ◌∙◌, inl, inr, arith}
 use Rattle.rack.specs.Values.{MayLeave}
 use Rattle.rack.specs.Seen.{Image, Seen, IsLive, IsPick, Stays}
 use Rattle.rack.specs.Moments.{Leaves}
-use Rattle.rack.specs.Calls.{KeepsAll}
-use Rattle.rack.specs.Targets.{Target, look}
-use Rattle.rack.specs.Joins.{stays_same, stays_then, live_first, live_second, leaves_weaker, leaves_then}
-use Rattle.rack.specs.Sequences.{IsPayload, IsMix}
+use Rattle.rack.specs.Targets.{Target}
+use Rattle.rack.specs.Joins.{stays_same, live_first, live_second, leaves_weaker, leaves_then}
+use Rattle.rack.specs.Sequences.{IsPayload}
 use Rattle.rack.proofs.Phases.{payload_none}
-use Rattle.array_image.specs.Places.{slice_of, place_of, log_slice, log_sectors}
+use Rattle.array_image.specs.Places.{place_of, log_slice, log_sectors}
 use Rattle.array_image.specs.Record.{gate_sector, gate_of}
 use Rattle.commit_log.specs.View.{LogView, names, in_order}
-use Rattle.commit_log.specs.Standing.{IsLogPart, IsInside, LogsStand, SomeoneDecides, IsNumbered}
+use Rattle.commit_log.specs.Standing.{IsLogPart, IsInside, LogsStand, SomeoneDecides}
 use Rattle.commit_log.specs.Commits.{Stands, Rests}
-use Rattle.commit_log.specs.Phases.{Calls, Settles, IsLogOf, IsOnEach, IsWanted, IsTargeted, AllLeft, IsClosing}
+use Rattle.commit_log.specs.Phases.{Calls, Settles, IsLogOf, IsWanted, IsTargeted, AllLeft, IsClosing}
 use Rattle.commit_log.specs.Opening.{CanReplay, Replays, HasWork, IsShut, IsShutting, ReplayCall}
 use Rattle.commit_log.proofs.Calling.{calls_weaker, calls_then, calls_none}
-use Rattle.commit_log.proofs.Amid.{place_of_log, slice_of_log, log_of_place}
+use Rattle.commit_log.proofs.Amid.{slice_of_log, log_of_place}
 use Rattle.commit_log.proofs.Story.{log_named, named_log, log_is_slice, payload_is, payload_look, valid_apart, each_no_other}
 use Rattle.commit_log.proofs.Since.{live_to, live_between}
 use Rattle.commit_log.proofs.Committing.{off_log, rests_by_logs, off_log_pick, on_log, has_of_place}

@@ -14,7 +14,7 @@ use Rattle.array_image.specs.Places.{slice_of, place_of, log_slice}
 use Rattle.array_image.specs.Record.{Gate, GateAt, gate_sector, gate_of, gate_in, half_of, log_bytes, target_at, is_bad_gate, is_target, are_apart, record_of, record_in, is_open_if_of, pending_at, pending}
 use Rattle.array_image.specs.States.{current_places}
 use Rattle.array_image.proofs.Frames.{state_same}
-use Rattle.commit_log.specs.View.{LogView, names, is_left}
+use Rattle.commit_log.specs.View.{LogView, names}
 use Rattle.commit_log.specs.Standing.{IsLogPart, IsInside, StatesStand, deciding, Decides, SomeoneDecides}
 use Rattle.commit_log.specs.Commits.{Stands, Rests}
 use Rattle.commit_log.specs.Opening.{StandsAmid, CanReplay, Replays, HasWork}

@@ -8,11 +8,12 @@ ghost use Rattle.commit_log.specs.View.{LogView, new_log, emptied, committed, se
 ghost use Rattle.commit_log.specs.Bytes.{targets_in};
 ghost use Rattle.commit_log.specs.Phases.{AreLogs, IsHad, Settles, IsLogOf, went};
 ghost use Rattle.commit_log.specs.Commits.{CommitCall};
-ghost use Rattle.commit_log.specs.Opening.{ReplayCall, HasWork, IsShut};
+ghost use Rattle.commit_log.specs.Opening.{PendingCall, ReplayCall, HasWork, IsShut};
 
 use crate::gates::Gate;
 use crate::lost::Lost;
 use crate::record::{MOST, Record};
+use crate::scan::Scan;
 use crate::writing::{close_gates, settle_each, settle_record, settle_targets};
 use rack::{NoMemory, Places, Rack};
 use std::alloc::Global;
@@ -31,6 +32,16 @@ pub struct Target {
     pub disk: u32,
     /// Its sector.
     pub sector: u64,
+}
+
+/// What looking for a pending record found.
+pub struct Looked {
+    /// Whether a record is pending.
+    pub pending: bool,
+    /// The lowest place whose gate isn't well formed, or whose record isn't where it is read from there.
+    pub damaged: Option<u32>,
+    /// The places that went.
+    pub gone: Places,
 }
 
 /// The commit log of a pool: room for a record to be committed, and for one that is pending.
@@ -123,6 +134,29 @@ impl Log {
         self.number = number;
         self.forget();
         lost.list()
+    }
+
+    /// Looks for the pending record among the gates of some places, and loads it. It writes nothing. Places that go
+    /// are passed over.
+    pub fn pending<R: Rack>(&mut self, rack: &mut R, on: &Places) -> Looked
+        requires fit { (R.seen rack.old).fit }
+        requires disks { (R.seen rack.old).disks ≡ 272 }
+        requires logs { AreLogs (R.seen rack.old).sectors on.now.items }
+        ensures looks { PendingCall self.old self.new on.now.items result.gone.items result.pending result.damaged (R.seen rack.old) (R.seen rack.new) }
+        ensures runs { R.runs rack.old rack.new }
+    {
+        let mut scan = Scan::of(rack, on.as_slice());
+        self.number = scan.greatest();
+        self.opened = scan.is_open();
+        let broken = scan.load(rack, &mut self.pending);
+        let damaged = scan.first_damaged(broken);
+        self.pending.keep_if(damaged.is_none());
+        self.lent = true;
+        Looked {
+            pending: scan.pending().is_some(),
+            damaged,
+            gone: scan.lost.list(),
+        }
     }
 
     /// The bytes that were added for a target, or else those that the pending record has for it, since the last

@@ -1,9 +1,9 @@
-use Rattle.std.proofs.Common.{◌≡◌, ℕ, true, false, Some, List, filter, length, sym, ap, subst, ◌∙◌}
+use Rattle.std.proofs.Common.{◌≡◌, ℕ, true, false, Some, List, filter, sym, ap, subst, ◌∙◌}
 use Rattle.std.specs.List.{range_with_len}
 use Rattle.rack.specs.Targets.{Target}
 use Rattle.rack.specs.Sequences.{IsPayload}
 use Rattle.commit_log.specs.View.{LogView, names, in_order}
-use Rattle.commit_log.specs.Phases.{Settles, IsLogOf, IsTargeted, IsWanted, went}
+use Rattle.commit_log.specs.Phases.{Settles, IsTargeted, IsWanted, went}
 use Rattle.commit_log.specs.Opening.{ReplayCall}
 use Rattle.commit_log.proofs.Naming.{names_listed, listed_in_order}
 use Rattle.commit_log.proofs.Story.{logs_named}
