@@ -35,6 +35,7 @@ pub struct Target {
 }
 
 /// What looking for a pending record found.
+#[derive(Drop)]
 pub struct Looked {
     /// Whether a record is pending.
     pub pending: bool,
