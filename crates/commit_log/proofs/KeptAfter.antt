@@ -20,7 +20,7 @@ use Rattle.commit_log.specs.Kept.{IsCopyOf, IsNoLater, CopiesStand, LogKept, Are
 use Rattle.commit_log.proofs.Kept.{live_on, live_after, LogsLive, place_of_log, epoch_up, later_yet, copy_state}
 
 -- what stood before a call of the log may be called after it
-logs_after : {a b : Seen} → a.lasting → Stays a b → LogsLive a → (p t : ℕ) → p < 16 → t < b.sectors (log_slice p) → IsLive b b (log_slice p) t
+pub logs_after : {a b : Seen} → a.lasting → Stays a b → LogsLive a → (p t : ℕ) → p < 16 → t < b.sectors (log_slice p) → IsLive b b (log_slice p) t
 logs_after {a} {b} lasting stays logs p t few inside =
     live_after stays (live_on lasting stays (logs p t few (subst (λ n. t < n) (stays.sectors (log_slice p)) inside)))
 

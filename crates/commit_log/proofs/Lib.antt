@@ -1,6 +1,7 @@
 mod Copies
 pub mod Kept
 pub mod KeptAfter
+pub mod KeptReplayed
 pub mod Calling
 pub mod Each
 pub mod Naming
