@@ -147,7 +147,7 @@ stops_of l on lost number opened closed bytes count a r g t b w0 w1 w2 w3 w4 don
     let to_g : Stays a g = stays_then to_r told.opens.calls.only.stays in
     let to_t : Stays a t = stays_then to_g told.writes.calls.only.stays in
     let P : Image → Type 0 = λ c. IsInside a.sectors c → Commits l.added a c in
-    let whole : (c : Image) → Committed l.added a c → Commits l.added a c = λ c all. record { before = all.before; stands = all.stands; either = inr all.all } in
+    let whole : (c : Image) → Committed l.added a c → Commits l.added a c = λ c all. record { before = all.before; stands = all.stands; either = inr all.all; whole = λ before. all.whole } in
     leaves_then P
     (leaves_weaker _ P
     (λ c mix inside. early_commits l on number opened closed a c ready told.begun.terms

@@ -1,5 +1,5 @@
 -- A replay in which nobody went leaves what the next commit needs.
-use Rattle.std.proofs.Common.{◌≡◌, ◌≢◌, ℕ, ◌<◌, Bool, true, false, [], List, Ok, refl, sym, subst, ◌∙◌, inl, inr}
+use Rattle.std.proofs.Common.{◌≡◌, ℕ, ◌<◌, Bool, true, false, [], List, Ok, refl, sym, subst, ◌∙◌, inl, inr}
 use Rattle.rack.specs.Seen.{Image, Seen}
 use Rattle.rack.specs.Targets.{look}
 use Rattle.pool_state.specs.declared.contents.State.{State}
@@ -53,6 +53,7 @@ kept_opened s gone l on a b replay can someone few there numbers copies =
       numbers = λ p current within.
           replay.numbers can p (live_on can.lasting replay.stays (can.logs p gate_sector (few p current) (had p gate_sector within)))
           (numbers p current (had p gate_sector within));
+      whole = λ c stand. (replay.after can c stand).whole;
       halves = λ c stand g is. (replay.rests can someone c stand).numbers g is;
       idle = λ c stand. inl (replayed_idle l on a b c replay can someone stand);
       quiet = λ c stand d t left. replayed_same l on a b c d t replay can someone (logs_of b c stand);

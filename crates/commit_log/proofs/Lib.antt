@@ -15,6 +15,7 @@ pub mod Closing
 pub mod GateRead
 pub mod Deciding
 pub mod Restored
+pub mod Undamaged
 pub mod Counting
 pub mod Amid
 pub mod Late

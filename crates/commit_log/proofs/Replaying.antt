@@ -1,5 +1,5 @@
 -- Contents in the midst of a replay: the log's record is still pending, or nothing is and all targets are written.
-use Rattle.std.proofs.Common.{◌≡◌, ◌≢◌, ◌⊎◌, ℕ, ◌+◌, ◌<◌, ◌≤◌, ◌==◌, ◌&&◌, ◌||◌, not, Bool, true, false, nat_lt, nat_le, bytes_eq, codes, replicate, if◌then◌else◌, is_some, List, [], ◌∷◌, map, Option, Some, None, option_map, unwrap_or, refl, sym, ap, subst, ◌∙◌, inl, inr, arith, eq-eqb, lt-ltb, le-ltb}
+use Rattle.std.proofs.Common.{◌≡◌, ◌≢◌, ◌⊎◌, ℕ, ◌+◌, ◌<◌, ◌≤◌, ◌==◌, ◌&&◌, ◌||◌, not, Bool, true, false, nat_lt, nat_le, bytes_eq, codes, replicate, if◌then◌else◌, is_some, is_none, List, [], ◌∷◌, map, Option, Some, None, option_map, unwrap_or, refl, sym, ap, subst, ◌∙◌, inl, inr, arith, eq-eqb, lt-ltb, le-ltb}
 use Rattle.std.specs.Option.{option_map_or, option_and_then}
 use Rattle.std.specs.List.{list_all, list_any, range_with_len}
 use Rattle.std.proofs.lemmas.Bool.{cases_Bool, cases_eq, cases_lt, both_ways, and_from, and_parts, or_parts, ne_eqb, cond-true}
@@ -11,15 +11,16 @@ use Rattle.shr_base.specs.Blocks.{bytes_at, number_at, put_at}
 use Rattle.shr_base.specs.Crc.{crc32_of}
 use Rattle.pool_state.specs.declared.contents.State.{State}
 use Rattle.array_image.specs.Places.{slice_of, place_of, log_slice}
-use Rattle.array_image.specs.Record.{Gate, GateAt, gate_sector, gate_of, gate_in, half_of, log_bytes, target_at, is_bad_gate, is_target, are_apart, record_of, record_in, is_open_if_of, pending_at, pending}
+use Rattle.array_image.specs.Record.{Gate, GateAt, gate_sector, gate_of, gate_in, half_of, log_bytes, target_at, is_there, is_bad_gate, is_target, are_apart, record_of, record_in, is_open_if_of, pending_at, pending, damaged_log}
 use Rattle.array_image.specs.States.{current_places}
 use Rattle.array_image.proofs.Frames.{state_same}
 use Rattle.commit_log.specs.View.{LogView, names}
-use Rattle.commit_log.specs.Standing.{IsLogPart, IsInside, StatesStand, deciding, Decides, SomeoneDecides}
+use Rattle.commit_log.specs.Standing.{IsLogPart, IsInside, StatesStand, deciding, IsWhole, Decides, SomeoneDecides}
 use Rattle.commit_log.specs.Commits.{Stands, Rests}
 use Rattle.commit_log.specs.Opening.{StandsAmid, CanReplay, Replays, HasWork}
 use Rattle.commit_log.proofs.Deciding.{IsTop, top, gate_at, gate_at_is, all_at, nothing_pending, none_of_top}
 use Rattle.commit_log.proofs.Restored.{restored, restored_there, restored_picks, restored_inside, pending_at_by, pending_by}
+use Rattle.commit_log.proofs.Undamaged.{whole_from, whole_by}
 use Rattle.commit_log.proofs.Counting.{decides_small, named_decides, decides_named}
 use Rattle.commit_log.proofs.Halves.{record_same}
 use Rattle.commit_log.proofs.Amid.{slice_of_log, place_of_log, log_of_place, not_state, half_least, replayed_as, no_gate_in_nothing, each_or}
@@ -117,10 +118,12 @@ amid_states l closed a c amid = record {
 -- what is pending
 pub record IsStill (l : LogView) (c : Image) : Type 0 where
   pub same : pending (deciding c) c ≡ l.pending
+  pub whole : IsWhole c
   pub number : (g : GateAt) → pending_at (deciding c) c ≡ Some g → g.gate.number ≡ l.number
 
 pub record IsDone (l : LogView) (a : Seen) (c : Image) : Type 0 where
   pub none : pending_at (deciding c) c ≡ None
+  pub whole : IsWhole c
   pub written : AreWritten a l.pending c
 
 -- ---- all gates that decide are as they were
@@ -195,15 +198,15 @@ still_pending l closed a c can amid olds =
     let places : ps ≡ deciding e = ap (λ (s : Option State). option_map_or current_places s []) (state_same c e (λ p. refl)) in
     let gates : (p : ℕ) → names ps p ≡ true → c (log_slice p) gate_sector ≡ e (log_slice p) gate_sector =
     λ p named. there (log_slice p) gate_sector (not_chosen ps a p named) in
+    let records : (g : GateAt) → pending_at ps e ≡ Some g → record_in c g.place g.gate.number ≡ record_in e g.place g.gate.number =
+    λ g is.
+    record_same g.gate.number (c (log_slice g.place)) (e (log_slice g.place))
+    (λ k below.
+    there (log_slice g.place) (half_of g.gate.number + k)
+    (no_gate ps a (log_slice g.place) (half_of g.gate.number + k) (λ one. absurd (omega (arith, one, half_least g.gate.number))))) in
     record {
-      same =
-          pending_by c e ps gates
-          (λ g is.
-          record_same g.gate.number (c (log_slice g.place)) (e (log_slice g.place))
-          (λ k below.
-          there (log_slice g.place) (half_of g.gate.number + k)
-          (no_gate ps a (log_slice g.place) (half_of g.gate.number + k) (λ one. absurd (omega (arith, one, half_least g.gate.number))))))
-          ∙ ap (λ qs. pending qs e) places ∙ can.same e stands;
+      same = pending_by c e ps gates records ∙ ap (λ qs. pending qs e) places ∙ can.same e stands;
+      whole = whole_by c e ps gates records (ap (λ qs. damaged_log qs e) places ∙ can.whole e stands);
       number = λ g is.
           can.number e stands g (sym (ap (λ qs. pending_at qs e) places) ∙ sym (pending_at_by c e ps gates) ∙ is);
     }
@@ -232,6 +235,23 @@ number_low l closed a c p g can amid closed_is decides is =
           ]
     ]
 
+-- each is well formed
+not_bad : (l : LogView) (closed : List ℕ) (a : Seen) (c : Image) (p : ℕ) → CanReplay l a → IsAmid l closed a c
+    → gate_of closed ≡ Some (record { is_open = false; number = l.number })
+    → Decides c p → is_bad_gate c p ≡ false
+not_bad l closed a c p can amid closed_is decides =
+    elim (cases_lt gate_sector (a.sectors (log_slice p))) [
+      | inr none ↦ ap (λ (block : List ℕ). is_there block && is_none (gate_of block)) (amid.inside p gate_sector none)
+      | inl there ↦
+          elim (amid.gates p (can.logs p gate_sector (decides_small c p decides) there)) [
+            | inl old ↦
+                let low = can.numbers c (amid_states l closed a c amid) p decides there (c (log_slice p) gate_sector) old in
+                and_off (is_there (c (log_slice p) gate_sector)) _ (ap (λ (o : Option Gate). is_none o) low.1)
+            | inr shut ↦
+                and_off (is_there (c (log_slice p) gate_sector)) _ (ap (λ (o : Option Gate). is_none o) (ap gate_of shut.gate ∙ closed_is))
+          ]
+    ]
+
 pub done_by : (l : LogView) (closed : List ℕ) (a : Seen) (c : Image) (p : ℕ) → CanReplay l a → IsAmid l closed a c
     → gate_of closed ≡ Some (record { is_open = false; number = l.number })
     → Decides c p → IsClosed l closed a c p → IsDone l a c
@@ -244,12 +264,16 @@ done_by l closed a c p can amid closed_is decides shut =
     (λ q h among at. let gate = gate_at_is c q h at in number_low l closed a c q h.gate can amid closed_is (named_decides c q among) gate.1)
     (decides_named c p decides) has refl in
     let is_shut : is_open_if_of l.number (gate_at c p) ≡ false = ap (is_open_if_of l.number) has ∙ ap (λ b. not b || false) (eq-eqb l.number l.number refl) in
+    let none : pending_at ps c ≡ None =
+    elim (cases_Bool (list_all (is_open_if_of l.number) (map (gate_at c) ps))) [
+      | inl all ↦ absurd (both_ways (is_open_if_of l.number (gate_at c p)) is_shut (all_at (is_open_if_of l.number) (gate_at c) ps p all (decides_named c p decides)))
+      | inr some ↦ none_of_top c ps l.number t some
+    ] in
     record {
-      none =
-          elim (cases_Bool (list_all (is_open_if_of l.number) (map (gate_at c) ps))) [
-            | inl all ↦ absurd (both_ways (is_open_if_of l.number (gate_at c p)) is_shut (all_at (is_open_if_of l.number) (gate_at c) ps p all (decides_named c p decides)))
-            | inr some ↦ none_of_top c ps l.number t some
-          ];
+      none = none;
+      whole =
+          whole_from c ps (λ q among. not_bad l closed a c q can amid closed_is (named_decides c q among))
+          (λ x is. absurd (none-some x (sym none ∙ is)));
       written = shut.written;
     }
 
@@ -348,6 +372,7 @@ replays_of l closed a c can amid closed_is =
     record {
       before = before;
       stands = stands;
+      whole = elim (still_or_done l closed a c can amid closed_is) [ inl still ↦ still.whole | inr done ↦ done.whole ];
       same = λ d t other.
           let gate : ((slice_of d == 0) && (t == 1)) ≡ false =
           elim (cases_Bool ((slice_of d == 0) && (t == 1))) [

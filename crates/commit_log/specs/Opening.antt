@@ -11,7 +11,7 @@ use Rattle.array_image.specs.Record.{Gate, GateAt, gate_sector, gate_of, gate_in
 use Rattle.array_image.specs.Arrays.{replayed}
 use Rattle.array_image.specs.Held.{current_in}
 use Rattle.commit_log.specs.View.{LogView, names, left_of, in_order}
-use Rattle.commit_log.specs.Standing.{IsLogPart, IsAlike, IsInside, StatesStand, LogsStand, Decides, deciding, IsNumbered, SomeoneDecides}
+use Rattle.commit_log.specs.Standing.{IsLogPart, IsAlike, IsInside, StatesStand, LogsStand, Decides, deciding, IsWhole, IsNumbered, SomeoneDecides}
 use Rattle.commit_log.specs.Commits.{Stands, HasGone, Rests}
 use Rattle.commit_log.specs.Phases.{IsClosing}
 
@@ -46,7 +46,8 @@ pub record StandsAmid (xs : List Target) (x : Seen) (c : Image) : Type 0 where
   pub inside : IsInside x.sectors c
 
 -- What the clauses on stops need of the slices before a replay: whatever copies of the state a stop in it leaves, the log's
--- pending record is the one that these contents have, none where it has none, and no gate that decides has a greater number.
+-- pending record is the one that these contents have, none where it has none, it is well formed as all gates are that decide, and
+-- none of these has a greater number.
 pub record CanReplay (l : LogView) (x : Seen) : Type 0 where
   pub lasting : x.lasting
   pub logs : (p t : ℕ) → p < 16 → t < x.sectors (log_slice p) → IsLive x x (log_slice p) t
@@ -54,13 +55,15 @@ pub record CanReplay (l : LogView) (x : Seen) : Type 0 where
   pub numbers :
       (c : Image) → StatesStand l.pending x c → (p : ℕ) → Decides c p → gate_sector < x.sectors (log_slice p) → IsNumbered l.number x p
   pub same : (c : Image) → StandsAmid l.pending x c → pending (deciding c) c ≡ l.pending
+  pub whole : (c : Image) → StandsAmid l.pending x c → IsWhole c
   pub number : (c : Image) → StandsAmid l.pending x c → (g : GateAt) → pending_at (deciding c) c ≡ Some g → g.gate.number ≡ l.number
 
--- replayed, contents are as some that a stop before the call might leave, replayed too
+-- replayed, contents are as some that a stop before the call might leave, replayed too, and no log is damaged
 pub record Replays (a : Seen) (c : Image) : Type 0 where
   pub before : Image
   pub stands : Stands a before
   pub same : IsAlike (replayed a.sectors c) (replayed a.sectors before)
+  pub whole : IsWhole c
 
 -- the log has something to write: a record is pending, or a gate that it read is open
 abbrev pub HasWork : LogView → Type 0
