@@ -21,3 +21,4 @@ pub mod Writing
 pub mod RowWrites
 pub mod Changing
 pub mod Renewed
+pub mod Moves
