@@ -15,3 +15,4 @@ pub mod StagedTargets
 pub mod Rewriting
 pub mod Settled
 pub mod Renewing
+pub mod Direct

@@ -8,3 +8,4 @@ pub mod Contents
 pub mod Staging
 pub mod Parities
 pub mod Settling
+pub mod Pool
