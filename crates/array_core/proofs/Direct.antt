@@ -453,12 +453,12 @@ module _ (s : State) (v : View) (e o : ℕ) (m : Bool) (a b : Seen)
     pub inside : super_sector < a.sectors (slice_on v k)
     pub written : IsLive a b (slice_on v k) super_sector → (x : List ℕ) → MayLeave (b.held (slice_on v k) super_sector) x → IsOwnSector u k x
 
-  module _ (H : Type 0) (vals : ℕ → Values) (spent : ℕ → Bool) (fresh : v.went ≡ [])
+  module _ (mark : Bool) (H : Type 0) (vals : ℕ → Values) (spent : ℕ → Bool) (fresh : v.went ≡ [])
       (begins : H → Holds s (shape_of v) v vals spent a)
       (even : H → (c : Image) → IsInside a.sectors c → IsMix a b (IsNewSuper u) c → AreEven (shape_of v) v.number (first_unsynced u.truth) (replayed a.sectors c))
-      (settles : H → may_vary u ≡ false → IsSettled (shape_of v) v.number a.held)
-      (zero_offset : m ≡ true → o ≡ 0)
-      (durable : m ≡ true → (k : ℕ) × IsDurable k) where
+      (settles : H → may_vary (restated e o mark v) ≡ false → IsSettled (shape_of v) v.number a.held)
+      (zero_offset : mark ≡ true → o ≡ 0)
+      (durable : mark ≡ true → (k : ℕ) × IsDurable k) where
     n : ℕ
     n = v.number
 
@@ -479,7 +479,7 @@ module _ (s : State) (v : View) (e o : ℕ) (m : Bool) (a b : Seen)
     at_left : (P : Image → Type 0) (x : Image) (l : IsLeft b x) → P (replayed a.sectors l.0) → P x
     at_left P x l = subst P (λ i d t. sym (l.2 d t ∙ ap (λ (sectors : ℕ → ℕ). replayed sectors l.0 d t) (λ j k. only.stays.sectors k j)) i)
 
-    holds_now : H → Holds s (shape_of v) u vals spent b
+    holds_now : H → Holds s (shape_of v) (restated e o mark v) vals spent b
     unfolding shape_of
     holds_now h =
         let holds = begins h in
@@ -535,7 +535,7 @@ module _ (s : State) (v : View) (e o : ℕ) (m : Bool) (a b : Seen)
             by (Some (Rebuilding to)) is other = sym (some_same true (is_current s (place_at v k)) is)
             by (Some Missing) is other = absurd (other refl)
 
-    pub renew_moves : Moves v.number a b H (Says s v.number (shape_of v) vals spent) (Holds s (shape_of v) u vals spent b)
+    pub renew_moves : Moves v.number a b H (Says s v.number (shape_of v) vals spent) (Holds s (shape_of v) (restated e o mark v) vals spent b)
     renew_moves = record {
       stays = only.stays;
       leaves = λ traced.

@@ -16,3 +16,5 @@ pub mod Rewriting
 pub mod Settled
 pub mod Renewing
 pub mod Direct
+pub mod LogFrames
+pub mod Cleaning

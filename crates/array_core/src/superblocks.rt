@@ -1,6 +1,7 @@
 //! The superblocks of an array's members, and how the array changes with them.
 
-ghost use Rattle.std.specs.Prelude.{◌≡◌, ◌≤◌, ◌==◌, ◌&&◌, map, length, true};
+ghost use Rattle.std.specs.Prelude.{◌≡◌, ◌≢◌, ◌≤◌, ◌==◌, ◌&&◌, [], map, length, true, false};
+ghost use Rattle.array_image.specs.SoundArray.{first_unsynced};
 ghost use Rattle.array_core.specs.Model.{is_truth};
 ghost use Rattle.array_core.specs.Slots.{places_by};
 ghost use Rattle.array_core.specs.Superblocks as spec;
@@ -55,6 +56,21 @@ impl Array {
         ensures { result ≡ spec.is_settled self.now }
     {
         self.truth.resync_offset == self.left_from()
+    }
+
+    /// Whether a place has gone.
+    pub(crate) fn has_lost(&self) -> bool
+        ensures some { result ≡ true → self.now.went ≢ [] }
+        ensures none { result ≡ false → self.now.went ≡ [] }
+    {
+        !self.went.is_empty()
+    }
+
+    /// Each row that its truth leaves to resync is left.
+    pub(crate) fn unsynced_rows(&self)
+        ensures { first_unsynced self.now.truth ≤ self.now.resync }
+    {
+        let _number = self.number;
     }
 
     /// The truth says so, with one more event. A mark that this run made is taken back.
