@@ -18,3 +18,4 @@ pub mod Renewing
 pub mod Direct
 pub mod LogFrames
 pub mod Cleaning
+pub mod Marking

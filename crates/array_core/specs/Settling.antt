@@ -1,11 +1,11 @@
 -- What settling makes of an array.
-use Rattle.std.specs.Prelude.{◌≡◌, ◌≢◌, ◌⊎◌, ◌<◌, ℕ, true, false, List, [], Some, slice_get}
+use Rattle.std.specs.Prelude.{◌≡◌, ◌≢◌, ◌⊎◌, ◌<◌, ℕ, Bool, true, false, List, [], Some, slice_get}
 use Rattle.rack.specs.Seen.{Seen, IsLive}
-use Rattle.array_model.specs.View.{View}
+use Rattle.array_model.specs.View.{View, is_whole_array}
 use Rattle.array_model.specs.Members.{Notes, slice_on}
 use Rattle.array_core.specs.Superblocks.{settled, is_settled, IsSectorOf, member_super, raised}
 use Rattle.rack.specs.Values.{MayLeave}
-use Rattle.rack.specs.Sequences.{WritesOnly}
+use Rattle.rack.specs.Sequences.{OnlyReads, WritesOnly}
 use Rattle.array_image.specs.Places.{super_sector}
 use Rattle.array_model.specs.declared.Seat.TheVariants.{Missing}
 use Rattle.array_core.specs.declared.slots.Slot.{Slot}
@@ -79,3 +79,11 @@ pub record Marks (v w : View) (a b : Seen) : Type 0 where
   pub written : View
   pub writes : WritesSupers (unsynced v) written a b v.truth.raid_disks
   pub either : ((written.went ≡ []) × (w ≡ record written { marked = true })) ⊎ ((written.went ≢ []) × (w ≡ written))
+
+-- Whether rows may be written past the log: they may where a whole array is marked, or has just been marked. Else it was marked on
+-- those that are left, or nothing was done.
+pub data Readies (v w : View) (a b : Seen) : Bool → Type 0 where
+  was_marked : is_whole_array v ≡ true → v.went ≡ [] → v.marked ≡ true → w ≡ v → OnlyReads a b → Readies v w a b true
+  now_marked : is_whole_array v ≡ true → v.went ≡ [] → v.marked ≡ false → w.marked ≡ true → Marks v w a b → Readies v w a b true
+  lost_one : is_whole_array v ≡ true → v.went ≡ [] → v.marked ≡ false → w.marked ≡ false → Marks v w a b → Readies v w a b false
+  not_whole : w ≡ v → OnlyReads a b → (is_whole_array v ≡ false) ⊎ (v.went ≢ []) → Readies v w a b false

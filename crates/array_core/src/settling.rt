@@ -97,7 +97,7 @@ impl Array {
     }
 
     /// Writes the superblocks of the members and syncs them, one after the other.
-    fn renew_supers<R: Rack>(&mut self, rack: &mut R)
+    pub(crate) fn renew_supers<R: Rack>(&mut self, rack: &mut R)
         requires slices { HasSlices self.old (R.seen rack.old) }
         ensures writes { WritesSupers self.old self.new (R.seen rack.old) (R.seen rack.new) self.old.truth.raid_disks }
         ensures runs { R.runs rack.old rack.new }
