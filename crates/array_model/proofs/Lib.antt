@@ -22,3 +22,4 @@ pub mod RowWrites
 pub mod Changing
 pub mod Renewed
 pub mod Moves
+pub mod Opening
