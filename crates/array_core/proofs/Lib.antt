@@ -19,3 +19,4 @@ pub mod Direct
 pub mod LogFrames
 pub mod Cleaning
 pub mod Marking
+pub mod Logged

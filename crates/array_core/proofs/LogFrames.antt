@@ -15,7 +15,7 @@ use Rattle.commit_log.specs.Commits.{Stands}
 use Rattle.commit_log.specs.Kept.{LogKept}
 use Rattle.array_model.proofs.Keeping.{live_on, live_after, logs_before}
 
-look_nothing : (d t : ℕ) → look [] d t ≡ None
+pub look_nothing : (d t : ℕ) → look [] d t ≡ None
 unfolding look
 look_nothing d t = refl
 

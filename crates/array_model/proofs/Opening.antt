@@ -25,7 +25,7 @@ use Rattle.array_model.proofs.Keeping.{reading_live, reading_outside, logs_of}
 use Rattle.array_model.proofs.Renewed.{Renews, AreNewer, NewTruth, old, renewed, new_truth, shape_kept, sound_renewed}
 
 -- rows that agree in contents agree in others with the same data where members count
-even_counted : (shape : Shape) (n resync : ℕ) (c e : Image)
+pub even_counted : (shape : Shape) (n resync : ℕ) (c e : Image)
     → ((m : Member) (t : ℕ) → Among m shape.members → t < m.reach → c (member_slice m.place n) (data_sector + t) ≡ e (member_slice m.place n) (data_sector + t))
     → AreEven shape n resync e → AreEven shape n resync c
 even_counted shape n resync c e same even x inside synced counts =
