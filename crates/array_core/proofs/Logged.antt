@@ -32,7 +32,7 @@ use Rattle.commit_log.proofs.Kept.{stands_of, before_inside}
 use Rattle.array_model.specs.View.{View, IsArray, shape_of, spent_in, may_vary, is_alone}
 use Rattle.array_model.specs.Says.{Says, HoldsShape, Holds, IsEarlier, HasNoOthers}
 use Rattle.array_model.specs.ArrayCalls.{Turns, Covers, appended_at}
-use Rattle.array_model.specs.Rows.{written, source_at, sector_at}
+use Rattle.array_model.specs.Rows.{RowChange, written, source_at, sector_at}
 use Rattle.array_model.proofs.DataFrames.{SameSectors, super_at, truth_at, shape_at, columns_same}
 use Rattle.array_model.proofs.Keeping.{live_on, live_after, open_after, inside_before, logs_of}
 use Rattle.array_model.proofs.Losses.{IsLosing, even_noted}
@@ -45,16 +45,7 @@ use Rattle.array_model.proofs.WholeWrites.{own_held}
 use Rattle.array_image.proofs.SoundFrames.{sound_same}
 use Rattle.array_core.proofs.LogFrames.{look_nothing}
 
--- What the targets of a row's change owe, by what the members hold before it.
-pub record RowChange (shape : Shape) (n resync x : ℕ) (from : List ℕ) (cur : Image) (xs : List Target) : Type 0 where
-  -- of the sectors that are an array's sector they change x alone
-  pub alone :
-      (y : ℕ) (m : Member) (u : List ℕ) → source_at shape y ≡ Some m → look xs (member_slice m.place n) (data_sector + sector_at shape y) ≡ Some u
-      → (y ≡ x) × (u ≡ from)
-  pub value : (y : ℕ) → spent_by shape resync y ≡ false → value_by shape (written xs cur) n y ≡ (if y == x then from else value_by shape cur n y)
-  pub even : (rows : ℕ) → AreEven shape n rows cur → AreEven shape n rows (written xs cur)
-
--- they are whole sectors of the array's own data
+-- targets are whole sectors of the array's own data
 pub record IsOwnData (n : ℕ) (xs : List Target) : Type 0 where
   pub own : (d t : ℕ) (u : List ℕ) → look xs d t ≡ Some u → (slice_of d ≡ n + 1) × (data_sector ≤ t)
   pub sized : (d t : ℕ) (u : List ℕ) → look xs d t ≡ Some u → length u ≡ 512

@@ -23,3 +23,4 @@ pub mod Changing
 pub mod Renewed
 pub mod Moves
 pub mod Opening
+pub mod Degraded
