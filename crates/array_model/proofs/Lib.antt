@@ -24,3 +24,4 @@ pub mod Renewed
 pub mod Moves
 pub mod Opening
 pub mod Degraded
+pub mod Copies
