@@ -19,4 +19,6 @@ pub mod Direct
 pub mod LogFrames
 pub mod Cleaning
 pub mod Marking
-pub mod Logged
+pub mod RowTargets
+pub mod RowCommits
+pub mod RowLists

@@ -9,3 +9,4 @@ pub mod Staging
 pub mod Parities
 pub mod Settling
 pub mod Pool
+pub mod Logging
