@@ -22,3 +22,4 @@ pub mod Marking
 pub mod RowTargets
 pub mod RowCommits
 pub mod RowLists
+pub mod RowOwed

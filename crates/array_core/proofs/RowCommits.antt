@@ -108,7 +108,7 @@ module _ (s : State) (v w : View) (a b : Seen) (l : LogView) (on lost : List ℕ
     (own : IsOwnData v.number l.added)
     (losing : IsLosing v w gone) (left_too : (place : ℕ) → gone place ≡ false → names lost place ≡ false) (nobody : w.went ≡ [] → lost ≡ [])
     (vals : ℕ → Values) (spent : ℕ → Bool) (covers : Covers w spent) (x : ℕ) (from : List ℕ)
-    (change : Holds s (shape_of v) v vals spent a → RowChange (shape_of v) v.number v.resync x from (current_in a.held) l.added) where
+    (H : Type 0) (begins : H → Holds s (shape_of v) v vals spent a) (change : H → RowChange (shape_of v) v.number v.resync x from (current_in a.held) l.added) where
   abbrev n : ℕ
   n = v.number
 
@@ -149,7 +149,10 @@ module _ (s : State) (v w : View) (a b : Seen) (l : LogView) (on lost : List ℕ
   written_is : (d t : ℕ) (o : Option (List ℕ)) → look l.added d t ≡ o → written l.added (current_in a.held) d t ≡ unwrap_or o (current_in a.held d t)
   written_is d t o is = ap (λ (p : Option (List ℕ)). unwrap_or p (current_in a.held d t)) is
 
-  module _ (holds : Holds s (shape_of v) v vals spent a) where
+  module _ (h : H) where
+    holds : Holds s (shape_of v) v vals spent a
+    holds = begins h
+
     data_put : (before : Image) → Picks a before → (m : Member) (t : ℕ) → Among m (shape_of v).members → t < m.reach
         → put a.sectors l.added before (member_slice m.place v.number) (data_sector + t) ≡ written l.added (current_in a.held) (member_slice m.place v.number) (data_sector + t)
     data_put before picks m t among counts =
@@ -162,7 +165,7 @@ module _ (s : State) (v w : View) (a b : Seen) (l : LogView) (on lost : List ℕ
 
     value_now : (y : ℕ) → spent y ≡ false → value_by (shape_of v) (written l.added (current_in a.held)) v.number y ≡ (appended_at x from vals y).current
     value_now y alive =
-        (change holds).value y (unspent y alive)
+        (change h).value y (unspent y alive)
         ∙ ap (λ (u : List ℕ). if y == x then from else u) (holds.shape.current y alive)
         ∙ by (y == x) (vals y)
       where
@@ -218,7 +221,7 @@ module _ (s : State) (v w : View) (a b : Seen) (l : LogView) (on lost : List ℕ
                       let f_is : shape ≡ f = ap (λ o. unwrap_or o f) (sym (shape_at s r e n supers ∙ old.shape_is) ∙ at) in
                       subst (λ (g : Shape). AreEven g n (first_unsynced t) r) f_is
                       (even_counted shape n (first_unsynced t) r now counted
-                      ((change holds).even (first_unsynced t)
+                      ((change h).even (first_unsynced t)
                       (even_counted shape n (first_unsynced t) (current_in a.held) e old_counted (sound.even joined shape old.shape_is))));
                 };
           }
@@ -320,7 +323,7 @@ module _ (s : State) (v w : View) (a b : Seen) (l : LogView) (on lost : List ℕ
               let i = data_sector + sector_at shape y in
               elim (commit.within d i u (live_on lasting commit.stays (holds.shape.open_slices m (sector_at shape y) found.among found.counts)) (not_log m.place i) now) [
                 | inl old ↦ old_may (y == x) (vals y) u (holds.shape.within y alive u (subst (λ h. MayLeave h u) (sym (own_held shape n y a.held m is)) old))
-                | inr new ↦ let alone = (change holds).alone y m u is new in new_may (y == x) (eq-eqb y x alone.0) (vals y) u alone.1
+                | inr new ↦ let alone = (change h).alone y m u is new in new_may (y == x) (eq-eqb y x alone.0) (vals y) u alone.1
               ]
         ] in
         goal refl may
@@ -354,7 +357,7 @@ module _ (s : State) (v w : View) (a b : Seen) (l : LogView) (on lost : List ℕ
 
     shape_now : HoldsShape s v.number (shape_of v) (lowered gone (shape_of v)) v.resync (may_vary w) (appended_at x from vals) spent b
     shape_now =
-        let even_now = (change holds).even v.resync holds.shape.even in
+        let even_now = (change h).even v.resync holds.shape.even in
         let left_now : (m : Member) (t : ℕ) → Among m (lowered gone shape).members → t < m.reach → current_in b.held (member_slice m.place n) (data_sector + t) ≡ now (member_slice m.place n) (data_sector + t) =
         λ m t among counts. kept_now m t (among_lowered gone t shape.members m among counts) counts (among_kept gone t shape.members m among counts) in
         record {
@@ -405,12 +408,12 @@ module _ (s : State) (v w : View) (a b : Seen) (l : LogView) (on lost : List ℕ
   no_log : (d t : ℕ) → IsApart v.number d t → IsLogPart d t → ⊥
   no_log d t apart part = elim apart.1 [ inl other ↦ other part.0 | inr first ↦ (let later = part.1 in absurd (omega (arith, first, later))) ]
 
-  pub logged_moves : Moves v.number a b (Holds s (shape_of v) v vals spent a) (Says s v.number (shape_of v) (appended_at x from vals) spent) (Holds s (shape_of v) w (appended_at x from vals) spent b)
+  pub logged_moves : Moves v.number a b H (Says s v.number (shape_of v) (appended_at x from vals) spent) (Holds s (shape_of v) w (appended_at x from vals) spent b)
   logged_moves = record {
     stays = commit.stays;
     leaves = λ traced.
         leaves_weaker (λ c. LogsInside a.sectors c → Commits l.added a c)
-        (λ c. IsInside a.sectors c → Turns v.number a b (λ r. Holds s (shape_of v) v vals spent a → Says s v.number (shape_of v) (appended_at x from vals) spent r) c)
+        (λ c. IsInside a.sectors c → Turns v.number a b (λ r. H → Says s v.number (shape_of v) (appended_at x from vals) spent r) c)
         (λ c found inside.
         let commits = found (λ place i out. inside (log_slice place) i out) in
         let before = commits.before in

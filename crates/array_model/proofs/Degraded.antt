@@ -124,7 +124,7 @@ one_wants s zero (m ∷ others) low none = subst (λ b. 0 < (if b then wanting s
 one_wants s (suc i) (m ∷ others) low none = some_want (nat_lt s m.reach) (wanting s others) (one_wants s i others (omega (arith, low)) none)
 
 -- two members that don't count are two that are wanting
-two_want : (s i j : ℕ) (ms : List Member) → i < length ms → j < length ms → (i ≡ j → ⊥) → nat_lt s (part_at i ms).reach ≡ false → nat_lt s (part_at j ms).reach ≡ false → 1 < wanting s ms
+pub two_want : (s i j : ℕ) (ms : List Member) → i < length ms → j < length ms → (i ≡ j → ⊥) → nat_lt s (part_at i ms).reach ≡ false → nat_lt s (part_at j ms).reach ≡ false → 1 < wanting s ms
 two_want s i j [] low_i low_j other none_i none_j = absurd (omega (arith, low_i))
 two_want s zero zero (m ∷ others) low_i low_j other none_i none_j = absurd (other refl)
 two_want s zero (suc j) (m ∷ others) low_i low_j other none_i none_j =
