@@ -78,7 +78,7 @@ copies_on all v t from (suc n) low =
     (λ j u at. (let less = at.0 in (omega (arith, less), at.1, at.2))) (copies_on all v t from n (omega (arith, low))))
     (one_on v t n P (is_due all v n t) from (omega (arith, low)) (λ due. (omega arith, due, refl)))
 
-one_has : (due : Bool) (x : Target) → due ≡ true → IsPayload (one_if due x) x.disk x.sector x.bytes
+pub one_has : (due : Bool) (x : Target) → due ≡ true → IsPayload (one_if due x) x.disk x.sector x.bytes
 one_has true x is = inl (is_at_own x, refl)
 one_has false x is = absurd (both_ways false refl is)
 

@@ -10,9 +10,9 @@ use Rattle.raid_map.specs.LeftSymmetric.{IsMemberCount, member_of, sector_of, pa
 use Rattle.raid_map.proofs.Rows.{row_members_differ, apart_from_parity}
 use Rattle.array_image.specs.Places.{member_slice, data_sector}
 use Rattle.array_image.specs.Record.{is_target, are_apart}
-use Rattle.array_image.specs.Stripes.{Layout, mirror, parity, width, position_in, sector_in}
+use Rattle.array_image.specs.Stripes.{Layout, mirror, parity, width, capacity, given, position_in, sector_in}
 use Rattle.array_image.specs.Supers.{is_reshaping}
-use Rattle.array_image.specs.Arrays.{Member, Shape, layout_at, final_layout, value_by}
+use Rattle.array_image.specs.Arrays.{Member, Shape, column, first_layout, layout_at, value_by}
 use Rattle.array_image.specs.Even.{AreEven}
 use Rattle.array_image.specs.Held.{Among, current_in}
 use Rattle.array_image.specs.Marks.{lower, lowered}
@@ -23,13 +23,14 @@ use Rattle.array_model.specs.ArrayCalls.{Covers}
 use Rattle.array_model.specs.Members.{IsSameButSeats, Notes, members_of, slice_on}
 use Rattle.array_model.specs.Rows.{RowChange, part_at, data_at, parity_part, IsPlain}
 use Rattle.array_model.proofs.Copies.{copies_change}
-use Rattle.array_model.proofs.Degraded.{parity_change, side_value, two_want}
+use Rattle.array_model.proofs.Degraded.{parity_change, side_value, two_want, long_zeros}
 use Rattle.array_model.proofs.Firsts.{position_of, firsts}
 use Rattle.array_model.proofs.Layouts.{members_count, sector_inside}
 use Rattle.array_model.proofs.Looking.{look_payload}
 use Rattle.array_model.proofs.Losses.{IsLosing}
 use Rattle.array_model.proofs.Noting.{layout_is, laid_out, length_members, unspent_then, covers_before}
-use Rattle.array_model.proofs.Parts.{look_one}
+use Rattle.array_model.proofs.Parts.{at_is, look_one}
+use Rattle.array_model.proofs.ParityRow.{data_inside, parity_inside, same_place}
 use Rattle.array_model.proofs.Reading.{layout_same, open_then, slice_same, spent_given}
 use Rattle.array_model.proofs.RowWrites.{part_on, plain_shape}
 use Rattle.array_model.proofs.Spared.{at_most_one, lost_value}
@@ -39,7 +40,7 @@ use Rattle.array_core.specs.Stands.{IsStand, given_at, layout_of}
 use Rattle.array_core.specs.Logging.{is_due, one_if, sector_target, due_copies, MakesParity, IsChange, data_alone, with_parity, IsRowAt, StagedRow, staged_copies, staged_change}
 use Rattle.array_core.proofs.Gathering.{spent_after, value_after}
 use Rattle.array_core.proofs.RowCommits.{IsOwnData}
-use Rattle.array_core.proofs.RowLists.{AllOn, IsOn, one_on, join_on, weaker_on, copies_on, copies_has, valid_on, copies_apart, change_apart, own_on, copies_same, some_payload, payload_left, payload_right}
+use Rattle.array_core.proofs.RowLists.{AllOn, IsOn, one_on, join_on, weaker_on, copies_on, copies_has, valid_on, copies_apart, change_apart, own_on, copies_same, some_payload, payload_or, payload_left, payload_right, one_has}
 
 -- ---- a list that a commit can have
 
@@ -62,6 +63,11 @@ one_some false x is = absurd (both_ways false refl is)
 longer : (xs : List Target) (y : Target) → 0 < length (xs ++ y ∷ [])
 longer [] y = omega arith
 longer (x ∷ xs) y = omega arith
+
+if_which : (due : Bool) (d0 s0 : ℕ) (bytes : List ℕ) (d s : ℕ) (v : List ℕ) → IsPayload (one_if due (target d0 s0 bytes)) d s v → (d ≡ d0) × (s ≡ s0) × (v ≡ bytes)
+if_which true d0 s0 bytes d s v (inl here) = let at = at_is d s (target d0 s0 bytes) here.0 in (at.0, at.1, here.1)
+if_which true d0 s0 bytes d s v (inr none) = absurd none
+if_which false d0 s0 bytes d s v is = absurd is
 
 -- of two members of an array that isn't spent one is due
 due_or : (all : Bool) (u : View) (i j t : ℕ) → IsArray u → i < u.truth.raid_disks → j < u.truth.raid_disks → (i ≡ j → ⊥) → wanting t (members_of u) ≤ 1
@@ -199,7 +205,7 @@ module _ (all : Bool) (b0 u w : View) (a : Seen) (x : ℕ) (from : List ℕ) (ba
   layout_of_base = layout_same b0 u x base.same.truth
 
   low_base : x < sectors_of b0
-  low_base = subst (λ (t : _). x < Rattle.array_image.specs.Stripes.capacity (Rattle.array_image.specs.Arrays.first_layout t) t.size) base.same.truth low
+  low_base = subst (λ (t : _). x < capacity (first_layout t) t.size) base.same.truth low
 
   plain_by : (l : Layout) → layout_at (shape_of u) x ≡ l → IsPlain (shape_of b0) l
   plain_by l is =
@@ -237,3 +243,149 @@ module _ (all : Bool) (b0 u w : View) (a : Seen) (x : ℕ) (from : List ℕ) (ba
       (subst (λ (o : Member). IsPayload xs (member_slice o.place b0.number) (data_sector + x) from) (sym found.2) (copies_has false b0 x from n found.0 (omega (arith, small, count, members)) due))
       (λ v is_v. (on _ _ v is_v).own.2))
       (λ d i v is_v. let one = on d i v (look_payload xs d i v is_v) in (one.sector, one.own.2)))
+
+  module _ (k : ℕ) (at side : Stand) (row : IsRowAt u x k at side) where
+    plain : IsPlain (shape_of b0) (parity k)
+    plain = plain_by (parity k) row.layout
+
+    count : IsMemberCount k
+    count = subst (λ (l : Layout). IsMemberCount (width l)) (sym layout_of_base ∙ row.layout) (members_count b0 x base.is_array)
+
+    t_is : at.sector ≡ sector_of k x
+    t_is = row.sector ∙ ap (λ (l : Layout). sector_in l x) row.layout
+
+    p_is : at.position ≡ member_of k x
+    p_is = row.position ∙ ap (λ (l : Layout). position_in l x) row.layout
+
+    q_is : side.position ≡ parity_at k (sector_of k x)
+    q_is = row.side_position ∙ ap (parity_at k) (row.side_sector ∙ t_is)
+
+    low_p : at.position < b0.truth.raid_disks
+    low_p = let inside = row.stand.position in let most = row.stand.members in let same = disks in omega (arith, inside, most, same)
+
+    low_q : side.position < b0.truth.raid_disks
+    low_q = let inside = row.side_stand.position in let most = row.side_stand.members in let same = disks in omega (arith, inside, most, same)
+
+    in_size : at.sector < b0.truth.size
+    in_size = subst (λ (t : _). at.sector < t.size) base.same.truth row.stand.sector
+
+    part_p : data_at (shape_of b0) k x ≡ member_on b0 at.position
+    part_p = ap (λ j. part_at j (shape_of b0).members) (sym p_is) ∙ part_on b0 at.position low_p
+
+    part_q : parity_part (shape_of b0) k x ≡ member_on b0 side.position
+    part_q = ap (λ j. part_at j (shape_of b0).members) (sym q_is) ∙ part_on b0 side.position low_q
+
+    d_p : slice_on u at.position ≡ member_slice (data_at (shape_of b0) k x).place b0.number
+    d_p = slice_same b0 u at.position base.same ∙ ap (λ (m : Member). member_slice m.place b0.number) (sym part_p)
+
+    d_q : slice_on u side.position ≡ member_slice (parity_part (shape_of b0) k x).place b0.number
+    d_q = slice_same b0 u side.position base.same ∙ ap (λ (m : Member). member_slice m.place b0.number) (sym part_q)
+
+    differ : member_slice (data_at (shape_of b0) k x).place b0.number ≡ member_slice (parity_part (shape_of b0) k x).place b0.number → ⊥
+    differ same =
+        apart_from_parity k x count.least
+        (plain.apart (member_of k x) (parity_at k (sector_of k x)) (data_inside (shape_of b0) k x plain count) (parity_inside (shape_of b0) k (sector_of k x) plain count)
+        (same_place (data_at (shape_of b0) k x).place (parity_part (shape_of b0) k x).place b0.number same))
+
+    due_p : sector_of k x < (data_at (shape_of b0) k x).reach → is_due all u at.position at.sector ≡ true
+    due_p counts =
+        base.due at.position at.sector low_p in_size
+        ∙ ap₂ (λ (m : Member) s. nat_lt s m.reach) (sym part_p) t_is ∙ lt-ltb (sector_of k x) (data_at (shape_of b0) k x).reach counts
+
+    due_q : sector_of k x < (parity_part (shape_of b0) k x).reach → is_due all u side.position at.sector ≡ true
+    due_q counts =
+        base.due side.position at.sector low_q in_size
+        ∙ ap₂ (λ (m : Member) s. nat_lt s m.reach) (sym part_q) t_is ∙ lt-ltb (sector_of k x) (parity_part (shape_of b0) k x).reach counts
+
+    abbrev IsOne : List ℕ → ℕ → ℕ → List ℕ → Type 0
+    IsOne new d s v = ((d ≡ slice_on u at.position) × (s ≡ data_sector + at.sector) × (v ≡ from)) ⊎ ((d ≡ slice_on u side.position) × (s ≡ data_sector + at.sector) × (v ≡ new))
+
+    by_targets : (new : List ℕ) (xs : List Target) → length new ≡ 512
+        → ((d s : ℕ) (v : List ℕ) → IsPayload xs d s v → IsOne new d s v)
+        → (is_due all u at.position at.sector ≡ true → IsPayload xs (slice_on u at.position) (data_sector + at.sector) from)
+        → (is_due all u side.position at.sector ≡ true → IsPayload xs (slice_on u side.position) (data_sector + at.sector) new)
+        → (sector_of k x < (parity_part (shape_of b0) k x).reach
+        → new ≡ xor (xor (current_in a.held (member_slice (parity_part (shape_of b0) k x).place b0.number) (data_sector + sector_of k x)) (value_by (shape_of b0) (current_in a.held) b0.number x)) from)
+        → RowChange (shape_of b0) b0.number b0.resync x from (current_in a.held) xs
+    by_targets new xs long which has_p has_q next =
+        let n = b0.number in
+        let dp = member_slice (data_at (shape_of b0) k x).place n in
+        let dq = member_slice (parity_part (shape_of b0) k x).place n in
+        let here : (d s : ℕ) (v : List ℕ) → IsPayload xs d s v → ((d ≡ dp) × (s ≡ data_sector + sector_of k x) × (v ≡ from)) ⊎ ((d ≡ dq) × (s ≡ data_sector + sector_of k x) × (v ≡ new)) =
+        λ d s v is. elim (which d s v is) [
+          | inl one ↦ inl (one.0 ∙ d_p, one.1 ∙ ap (λ i. data_sector + i) t_is, one.2)
+          | inr two ↦ inr (two.0 ∙ d_q, two.1 ∙ ap (λ i. data_sector + i) t_is, two.2)
+        ] in
+        parity_change (shape_of b0) k n b0.resync x from new (current_in a.held) xs plain count wide long is_read.sized
+        (λ counts.
+        look_one xs dp (data_sector + sector_of k x) from
+        (subst (λ d. IsPayload xs d (data_sector + sector_of k x) from) d_p (subst (λ i. IsPayload xs (slice_on u at.position) (data_sector + i) from) t_is (has_p (due_p counts))))
+        (λ v is. elim (here dp _ v is) [ inl one ↦ one.2 | inr two ↦ absurd (differ two.0) ]))
+        (λ counts.
+        look_one xs dq (data_sector + sector_of k x) new
+        (subst (λ d. IsPayload xs d (data_sector + sector_of k x) new) d_q (subst (λ i. IsPayload xs (slice_on u side.position) (data_sector + i) new) t_is (has_q (due_q counts))))
+        (λ v is. elim (here dq _ v is) [ inl one ↦ absurd (differ (sym one.0)) | inr two ↦ two.2 ]))
+        (λ d i v is. here d i v (look_payload xs d i v is))
+        unspent_b next
+
+    opened_u : IsOpen (shape_of u) u.number a
+    opened_u = open_then b0 u a a base.same base.lost base.loses a is_read.opened
+
+    old_is : (new : List ℕ) (makes : MakesParity u w a at side from new) → makes.old ≡ value_by (shape_of b0) (current_in a.held) b0.number x
+    old_is new makes =
+        let spread = row.spread ∙ sym row.layout in
+        let same = same_view_then b0 u makes.found base.same makes.same in
+        let lost : ℕ → Bool = λ place. makes.lost place || base.lost place in
+        let loses = loses_then b0 u makes.found base.lost makes.lost base.same.truth base.loses makes.loses in
+        value_after u makes.found x at a makes.old makes.same spread row.position row.sector (makes.old_is opened_u)
+        ∙ ap₂ (λ (g : Shape) n. value_by g (current_in a.held) n x) (shape_then b0 makes.found lost same.truth loses) base.same.number
+        ∙ lost_value lost (shape_of b0) b0.number b0.resync (current_in a.held) x (laid_out b0 base.is_array) is_read.even is_read.sized
+        (unspent_then b0 makes.found lost (losing_of b0 makes.found lost same loses) x (spent_after u makes.found x at false makes.same spread row.position row.sector makes.unspent))
+
+    size_is : (v : View) → (shape_of v).size ≡ v.truth.size
+    unfolding shape_of
+    size_is v = refl
+
+    parity_is : (new : List ℕ) (makes : MakesParity u w a at side from new) → sector_of k x < (parity_part (shape_of b0) k x).reach
+        → makes.side_old ≡ current_in a.held (member_slice (parity_part (shape_of b0) k x).place b0.number) (data_sector + sector_of k x)
+    parity_is new makes counts =
+        let same = same_view_then b0 u w base.same same_w in
+        let lost : ℕ → Bool = λ place. lost_w place || base.lost place in
+        let loses = loses_then b0 u w base.lost lost_w base.same.truth base.loses loses_w in
+        let members : members_of w ≡ map (lower lost) (shape_of b0).members = members_then b0 w lost same.truth loses ∙ ap (map (lower lost)) (sym (shape_members b0)) in
+        let s_is : side.sector ≡ sector_of k x = row.side_sector ∙ t_is in
+        let Row : Layout → List Member → ℕ → ℕ → ℕ → List ℕ = λ l ms n i j. given l (map (column (current_in a.held) n i) (take (width l) ms)) j in
+        let still : spent_with (wanting (sector_of k x) (map (lower lost) (shape_of b0).members)) (nat_lt (row_at (sector_of k x)) b0.resync) ≡ false =
+        sym (λ i. spent_with (wanting (s_is i) (members i)) (nat_lt (row_at (s_is i)) (same.resync i))) ∙ makes.still in
+        makes.side_is opened_u
+        ∙ (λ i. Row (row.side_spread i) (members i) (same.number i) (s_is i) ((row.side_position ∙ ap (parity_at k) s_is) i))
+        ∙ side_value (shape_of b0) k b0.number b0.resync x (current_in a.held) lost plain count is_read.sized is_read.even
+        (subst (λ n. sector_of k x < n) (sym (size_is b0)) (subst (λ s. s < b0.truth.size) t_is in_size)) still counts
+
+    change_owes : (xs : List Target) → IsChange all u w a at side from xs → RowChange (shape_of b0) b0.number b0.resync x from (current_in a.held) xs
+    change_owes xs (data_alone none) =
+        let own = one_if (is_due all u at.position at.sector) (sector_target u at.position at.sector from) in
+        by_targets (zeros 512) own long_zeros
+        (λ d s v is. inl (one_which d s v is))
+        (λ due. one_has (is_due all u at.position at.sector) (sector_target u at.position at.sector from) due)
+        (λ due. absurd (both_ways (is_due all u side.position at.sector) none due))
+        (λ counts. absurd (both_ways (is_due all u side.position at.sector) none (due_q counts)))
+      where
+        one_which : (d s : ℕ) (v : List ℕ) → IsPayload (one_if (is_due all u at.position at.sector) (sector_target u at.position at.sector from)) d s v
+            → (d ≡ slice_on u at.position) × (s ≡ data_sector + at.sector) × (v ≡ from)
+        one_which d s v is = if_which (is_due all u at.position at.sector) (slice_on u at.position) (data_sector + at.sector) from d s v is
+    change_owes xs (with_parity new due long makes) =
+        let own = one_if (is_due all u at.position at.sector) (sector_target u at.position at.sector from) in
+        let second = sector_target u side.position at.sector new ∷ [] in
+        by_targets new (own ++ second) long
+        (λ d s v is. elim (payload_or own second d s v is) [
+          | inl one ↦ inl (if_which (is_due all u at.position at.sector) (slice_on u at.position) (data_sector + at.sector) from d s v one)
+          | inr two ↦ inr (if_which true (slice_on u side.position) (data_sector + at.sector) new d s v two)
+        ])
+        (λ is_due_p. payload_left own second _ _ from (one_has (is_due all u at.position at.sector) (sector_target u at.position at.sector from) is_due_p))
+        (λ is_due_q. payload_right own second _ _ new (one_has true (sector_target u side.position at.sector new) refl))
+        (λ counts. makes.new_is ∙ ap₂ (λ p q. xor (xor p q) from) (parity_is new makes counts) (old_is new makes))
+
+  pub row_owes : (xs : List Target) → StagedRow all u w a x from xs → RowChange (shape_of b0) b0.number b0.resync x from (current_in a.held) xs
+  row_owes xs (staged_copies n layout) = copies_owe n layout
+  row_owes xs (staged_change k at side targets row change) = change_owes k at side row targets change

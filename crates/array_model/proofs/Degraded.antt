@@ -54,7 +54,7 @@ xor_new t q f long_t long_q long_f =
     ∙ ap (λ v. xor v s) (xor_is_a_group.commutes s f)
     ∙ xor_is_a_group.undone f s (long_f ∙ sym (long_xor t q long_t long_q))
 
-long_zeros : length (zeros 512) ≡ 512
+pub long_zeros : length (zeros 512) ≡ 512
 long_zeros = length-replicate {A = ℕ} 512 0
 
 xor_zeros : (t : List ℕ) → length t ≡ 512 → xor t (zeros 512) ≡ t
