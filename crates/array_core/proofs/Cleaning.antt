@@ -1,12 +1,12 @@
 -- A cleaning, from the sync and the superblocks in it.
-use Rattle.std.proofs.Common.{◌≡◌, ◌≢◌, ◌⊎◌, ℕ, ◌+◌, ◌-◌, ◌*◌, ◌%◌, ◌<◌, ◌≤◌, ◌^◌, Bool, true, false, ◌==◌, ◌||◌, nat_lt, if◌then◌else◌, List, [], map, take, length, slice_get, not, is_ok, unwrap_or, ap₂, Option, Some, None, option_map, refl, sym, ap, subst, ◌∙◌, inl, inr, eq-eqb, lt-ltb, arith}
+use Rattle.std.proofs.Common.{◌≡◌, ◌⊎◌, ℕ, ◌+◌, ◌-◌, ◌*◌, ◌%◌, ◌<◌, ◌≤◌, ◌^◌, Bool, true, false, ◌==◌, ◌||◌, nat_lt, if◌then◌else◌, [], map, take, length, slice_get, not, is_ok, unwrap_or, ap₂, Option, Some, None, option_map, refl, sym, ap, subst, ◌∙◌, inl, inr, eq-eqb, lt-ltb, arith}
 use Rattle.std.proofs.lemmas.Bool.{both_ways}
-use Rattle.rack.specs.Values.{Values, MayLeave, Keeps}
+use Rattle.rack.specs.Values.{Values}
 use Rattle.rack.specs.Seen.{Image, Seen, IsLive, Stays}
-use Rattle.rack.specs.Joins.{stays_then, stays_same, live_second}
-use Rattle.rack.specs.Sequences.{OnlyReads, WritesOnly, IsMix}
+use Rattle.rack.specs.Joins.{stays_same, live_second}
+use Rattle.rack.specs.Sequences.{OnlyReads, IsMix}
 use Rattle.pool_state.specs.declared.contents.State.{State}
-use Rattle.array_image.specs.Places.{slice_of, log_slice, member_slice, super_sector, data_sector}
+use Rattle.array_image.specs.Places.{log_slice, member_slice, super_sector, data_sector}
 use Rattle.array_image.specs.Stripes.{width, sector_in, there, AgreeIn}
 use Rattle.array_image.specs.Supers.{is_unclean}
 use Rattle.array_image.specs.SoundArray.{first_unsynced}
@@ -16,20 +16,18 @@ use Rattle.array_image.specs.Held.{Among, IsSettled, current_in}
 use Rattle.array_image.specs.Left.{IsInside, PicksLogs}
 use Rattle.array_image.proofs.Settled.{among_take}
 use Rattle.array_model.specs.declared.Seat.{Seat}
-use Rattle.array_model.specs.View.{View, IsArray, IsNoted, LosesPlaces, seat_unless, shape_of, has_gone, place_at, rows_of, may_vary}
+use Rattle.array_model.specs.View.{View, IsArray, IsNoted, LosesPlaces, shape_of, has_gone, place_at, rows_of}
 use Rattle.array_model.specs.Says.{Says, Holds}
-use Rattle.array_model.specs.Stages.{IsStateOf}
 use Rattle.array_model.specs.ArrayCalls.{Covers, Keeping, SyncsArray}
 use Rattle.array_model.specs.Members.{Notes}
 use Rattle.array_model.proofs.DataFrames.{columns_same}
 use Rattle.array_model.proofs.Keeping.{live_on, live_after}
-use Rattle.array_model.proofs.Moves.{Moves, KeepsOthers, moves_then, moves_by, moves_of, acts_of}
+use Rattle.array_model.proofs.Moves.{Moves, moves_then, moves_by, acts_of}
 use Rattle.array_model.proofs.Noting.{losing_by, covers_before, holds_noted}
-use Rattle.array_model.proofs.Views.{loses_then, fresh_then, fault_early, fault_later, same_geometry, either_of}
+use Rattle.array_model.proofs.Views.{loses_then, fault_early, fault_later, either_of}
 use Rattle.array_model.proofs.RowWrites.{gone_none}
 use Rattle.array_core.specs.Superblocks.{settled, settled_truth, left_offset, is_settled, raised}
 use Rattle.array_core.specs.Settling.{Cleans, IsNewSuper, WritesSupers}
-use Rattle.array_core.specs.Staging.{HasRowRebuilds}
 use Rattle.array_core.specs.Pool.{MayRenew}
 use Rattle.array_core.proofs.Direct.{restated, renew_moves}
 use Rattle.array_core.proofs.Settled.{spent_same}
@@ -45,7 +43,7 @@ use Rattle.md_super.specs.declared.superblock.Super.{Super}
 use Rattle.md_super.specs.Profile.{profiled}
 use Rattle.std.specs.Option.{option_map_or}
 use Rattle.std.specs.List.{range_with_len}
-use Rattle.array_model.specs.declared.Seat.TheVariants.{Missing, Rebuilding}
+use Rattle.array_model.specs.declared.Seat.TheVariants.{Missing}
 use Rattle.array_model.specs.View.{HasGeometry, member_on, seat_reach, is_whole_seat, is_missing_seat}
 use Rattle.array_model.proofs.Views.{shape_is, shape_with}
 

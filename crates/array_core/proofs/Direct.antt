@@ -1,9 +1,8 @@
 -- Superblocks that are written directly, one by one: at each moment images say the array by the old truth or by the new one, and
 -- its shape and values stay.
-use Rattle.std.proofs.Common.{◌≡◌, ◌≢◌, ◌⊎◌, ℕ, pos, ◌+◌, ◌-◌, ◌%◌, ◌<◌, ◌≤◌, ◌^◌, Bool, true, false, ◌==◌, ◌&&◌, not, nat_lt, bit_and, if◌then◌else◌, List, [], map, take, length, slice_get, Option, Some, None, option_map, unwrap_or, refl, sym, ap, ap₂, subst, ◌∙◌, inl, inr, eq-eqb, eqb-true, lt-ltb, ltb-true, arith}
+use Rattle.std.proofs.Common.{◌≡◌, ◌≢◌, ◌⊎◌, ℕ, pos, ◌+◌, ◌-◌, ◌%◌, ◌<◌, ◌≤◌, ◌^◌, Bool, true, false, ◌==◌, ◌&&◌, not, nat_lt, if◌then◌else◌, List, [], map, take, length, slice_get, Option, Some, None, option_map, unwrap_or, refl, sym, ap, ap₂, subst, ◌∙◌, inl, inr, eq-eqb, eqb-true, lt-ltb, ltb-true, arith}
 use Rattle.std.proofs.lemmas.Bool.{and_parts, and_from, both_ways}
 use Rattle.std.proofs.lemmas.Nat.{and_assoc}
-use Rattle.std.specs.Option.{option_map_or}
 use Rattle.std.specs.List.{range_with_len}
 use Rattle.rack.specs.Values.{Values, MayLeave, Keeps}
 use Rattle.rack.specs.Seen.{Image, Seen, IsLive, Stays}
@@ -17,13 +16,12 @@ use Rattle.array_image.specs.Stripes.{width, sector_in, there, AgreeIn}
 use Rattle.array_image.specs.States.{is_current}
 use Rattle.array_image.specs.Supers.{is_rebuilding, is_reshaping, super_in, truth_in}
 use Rattle.array_image.specs.SoundArray.{IsWrittenSuper, IsSoundArray, array_fields, first_unsynced}
-use Rattle.array_image.specs.Arrays.{Member, Shape, layout_at, member_by, member_in, place_with, shape_by, shape_in, value_by, replayed}
+use Rattle.array_image.specs.Arrays.{Member, Shape, layout_at, member_by, member_in, place_with, shape_by, shape_in, replayed}
 use Rattle.array_image.specs.Even.{AreEven}
-use Rattle.array_image.specs.Held.{Among, IsSettled, current_in}
-use Rattle.array_image.specs.Left.{reading, IsInside, Picks, PicksLogs, IsLeft, IsApart, IsCalm}
+use Rattle.array_image.specs.Held.{IsSettled}
+use Rattle.array_image.specs.Left.{reading, IsInside, Picks, PicksLogs, IsLeft}
 use Rattle.array_image.proofs.Frames.{super_of_sector, value_by_data}
 use Rattle.array_image.proofs.Replays.{SameLogs, replayed_same}
-use Rattle.array_image.proofs.Settled.{among_take}
 use Rattle.array_model.specs.declared.Seat.{Seat}
 use Rattle.array_model.specs.declared.Seat.TheVariants.{Whole, Missing, Rebuilding}
 use Rattle.array_model.specs.View.{View, IsArray, shape_of, place_at, member_on, may_vary, is_missing_seat}
@@ -33,8 +31,8 @@ use Rattle.array_model.specs.Stages.{IsStateOf}
 use Rattle.array_model.specs.Members.{slice_on}
 use Rattle.array_model.proofs.DataFrames.{columns_same}
 use Rattle.array_model.proofs.Keeping.{reading_live, reading_outside, inside_before, logs_of, live_on, live_after, open_after, logs_before, closed_after, KeepsData, same_value, held_kept, even_kept, settled_kept}
-use Rattle.array_model.proofs.Moves.{Moves, KeepsOthers}
-use Rattle.array_model.proofs.Renewed.{Renews, SameLayout, AreNewer, NewTruth, old, renewed, new_truth, shape_kept, sound_renewed, leads, in_current}
+use Rattle.array_model.proofs.Moves.{Moves}
+use Rattle.array_model.proofs.Renewed.{Renews, AreNewer, NewTruth, old, renewed, new_truth, shape_kept, sound_renewed, leads, in_current}
 use Rattle.array_core.specs.declared.slots.Slot.{Slot}
 use Rattle.array_core.specs.Superblocks.{member_super, rebuilt_to, IsSectorOf}
 use Rattle.array_core.specs.Stands.{IsSlot}
@@ -290,7 +288,7 @@ module _ (s : State) (v : View) (e o : ℕ) (m : Bool) (a b : Seen)
               truth = refl;
             },
             ap (super_in s r v.number) (sym place)
-            ∙ own_there u s r slot state_now own.is.few (subst (λ (x : List ℕ). IsSectorOf (member_super u.truth slot) x) here own.bytes),
+                ∙ own_there u s r slot state_now own.is.few (subst (λ (x : List ℕ). IsSectorOf (member_super u.truth slot) x) here own.bytes),
           )
 
       -- the superblock of a place is the one from before, or a new one

@@ -1,5 +1,5 @@
 -- Calls that write no log slice keep what a log finds of them.
-use Rattle.std.proofs.Common.{◌≡◌, ℕ, ◌<◌, true, false, List, [], None, Ok, refl, sym, ap, subst, ◌∙◌, inl, inr}
+use Rattle.std.proofs.Common.{◌≡◌, ℕ, ◌<◌, false, List, [], None, Ok, refl, sym, ap, subst, ◌∙◌, inl, inr}
 use Rattle.std.proofs.lemmas.Bool.{both_ways}
 use Rattle.rack.specs.Values.{MayLeave, Keeps}
 use Rattle.rack.specs.Seen.{Image, Seen, IsLive, Stays}

@@ -1,5 +1,5 @@
 -- The mark: superblocks that leave all rows to resync, written before rows are written past the log.
-use Rattle.std.proofs.Common.{◌≡◌, ◌≢◌, ◌⊎◌, ℕ, ◌+◌, ◌-◌, ◌/◌, ◌%◌, ◌<◌, ◌≤◌, ◌^◌, Bool, true, false, ◌==◌, ◌&&◌, ◌||◌, not, nat_lt, if◌then◌else◌, List, [], ◌∷◌, map, slice_get, Option, Some, None, suc, unwrap_or, refl, sym, ap, ap₂, subst, ◌∙◌, inl, inr, ltb-false, arith}
+use Rattle.std.proofs.Common.{◌≡◌, ℕ, ◌/◌, ◌<◌, ◌≤◌, Bool, true, false, ◌==◌, ◌&&◌, ◌||◌, not, if◌then◌else◌, List, [], ◌∷◌, map, slice_get, Some, None, suc, unwrap_or, refl, sym, ap, ap₂, subst, ◌∙◌, inl, inr, ltb-false, arith}
 use Rattle.std.specs.List.{list_all}
 use Rattle.std.proofs.lemmas.Bool.{both_ways}
 use Rattle.array_image.specs.Supers.{is_reshaping, is_unclean}
@@ -117,13 +117,15 @@ mark_moves s v w a b is_array slices whole unmarked marks may vals spent =
     (λ h steady. h.shape.settled (steady_before v w unmarked steady))
     (λ is. refl)
     (λ is.
-    let nobody = mark_written v w a b marks is in
-    (0, record {
-      low = first;
-      present = λ gone. whole_there (sym there ∙ gone);
-      inside = let size = slices.sectors 0 first (λ gone. whole_there (sym there ∙ gone)) in omega (arith, size);
-      written = λ live x held. marks.writes.durable 0 first (λ gone. whole_there (sym there ∙ sym (seats_kept (unsynced v) marks.written marks.writes.notes.lost marks.writes.notes.loses nobody 0) ∙ gone)) live x held;
-    }))
+    let nobody = mark_written v w a b marks is in (
+      0,
+      record {
+        low = first;
+        present = λ gone. whole_there (sym there ∙ gone);
+        inside = let size = slices.sectors 0 first (λ gone. whole_there (sym there ∙ gone)) in omega (arith, size);
+        written = λ live x held. marks.writes.durable 0 first (λ gone. whole_there (sym there ∙ sym (seats_kept (unsynced v) marks.written marks.writes.notes.lost marks.writes.notes.loses nobody 0) ∙ gone)) live x held;
+      },
+    ))
   where
     whole_there : Some Whole ≡ Some Missing → ⊥
     whole_there same = cc

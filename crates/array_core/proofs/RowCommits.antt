@@ -1,44 +1,42 @@
 -- A row that is changed by one commit: at each moment and after it each sector holds what it held, and the written one the value too.
-use Rattle.std.proofs.Common.{◌≡◌, ◌⊎◌, ℕ, zero, suc, ◌+◌, ◌<◌, ◌≤◌, Bool, true, false, ◌==◌, ◌||◌, nat_lt, if◌then◌else◌, List, [], ◌∷◌, map, take, length, Option, Some, None, option_map, unwrap_or, refl, sym, ap, ap₂, subst, ◌∙◌, inl, inr, eq-eqb, eqb-true, lt-ltb, arith}
+use Rattle.std.proofs.Common.{◌≡◌, ℕ, zero, suc, ◌+◌, ◌<◌, ◌≤◌, Bool, true, false, ◌==◌, ◌||◌, nat_lt, if◌then◌else◌, List, [], ◌∷◌, map, take, length, Option, Some, None, unwrap_or, refl, sym, ap, subst, ◌∙◌, inl, inr, eq-eqb, lt-ltb, arith}
 use Rattle.std.proofs.lemmas.Bool.{both_ways}
 use Rattle.std.specs.Option.{option_map_or}
-use Rattle.rack.specs.Values.{Values, MayLeave, Keeps, append, only}
-use Rattle.rack.specs.Seen.{Image, Seen, IsLive, Stays}
+use Rattle.rack.specs.Values.{Values, MayLeave, append, only}
+use Rattle.rack.specs.Seen.{Image, Seen}
 use Rattle.rack.specs.Joins.{leaves_weaker, may_leave-append}
 use Rattle.rack.specs.Targets.{Target, look, put}
 use Rattle.md_super.specs.declared.superblock.Super.{Super}
 use Rattle.pool_state.specs.declared.contents.State.{State}
 use Rattle.array_image.specs.Places.{slice_of, place_of, log_slice, member_slice, super_sector, data_sector}
-use Rattle.array_image.specs.Record.{pending}
-use Rattle.array_image.specs.Stripes.{Layout, mirror, parity, width, position_in, sector_in, there, AgreeIn}
+use Rattle.array_image.specs.Stripes.{Layout, mirror, parity, width, position_in, sector_in}
 use Rattle.array_image.specs.Supers.{super_in, truth_in}
-use Rattle.array_image.specs.SoundArray.{IsSoundArray, first_unsynced}
-use Rattle.array_image.specs.Arrays.{Member, Shape, layout_at, shape_in, value_by, place_with, replayed}
+use Rattle.array_image.specs.SoundArray.{first_unsynced}
+use Rattle.array_image.specs.Arrays.{Member, Shape, layout_at, value_by, place_with, replayed}
 use Rattle.array_image.specs.Even.{AreEven}
 use Rattle.array_image.specs.Held.{Among, IsSettled, current_in, held_of, held_by, first_counting, member_at, source_in}
 use Rattle.array_image.specs.Marks.{lower, lowered}
-use Rattle.array_image.specs.Spent.{wanting, spent_with, spent_by}
-use Rattle.array_image.specs.Left.{LogsInside, IsInside, Picks, PicksLogs, IsLeft, IsApart, IsCalm, IsClosed}
-use Rattle.array_image.proofs.Frames.{super_of_sector, value_by_data}
+use Rattle.array_image.specs.Spent.{wanting}
+use Rattle.array_image.specs.Left.{LogsInside, IsInside, Picks, PicksLogs, IsLeft, IsApart, IsClosed}
+use Rattle.array_image.proofs.Frames.{value_by_data}
 use Rattle.array_image.proofs.Marked.{among_lowered}
 use Rattle.array_image.proofs.Replays.{replayed_as_is}
-use Rattle.array_image.proofs.Settled.{among_take}
 use Rattle.array_image.proofs.Sources.{source_counts}
 use Rattle.commit_log.specs.View.{LogView, names, next_number}
-use Rattle.commit_log.specs.Standing.{IsLogPart, IsAlike, LogsStand, IsReady, SomeoneDecides, deciding}
-use Rattle.commit_log.specs.Commits.{Stands, Commits, CommitCall}
+use Rattle.commit_log.specs.Standing.{IsLogPart, IsAlike, IsReady, SomeoneDecides}
+use Rattle.commit_log.specs.Commits.{Commits, CommitCall}
 use Rattle.commit_log.specs.Kept.{LogKept, gone_with}
 use Rattle.commit_log.proofs.Kept.{stands_of, before_inside}
 use Rattle.array_model.specs.View.{View, IsArray, shape_of, spent_in, may_vary, is_alone}
 use Rattle.array_model.specs.Says.{Says, HoldsShape, Holds, IsEarlier, HasNoOthers}
 use Rattle.array_model.specs.ArrayCalls.{Turns, Covers, appended_at}
 use Rattle.array_model.specs.Rows.{RowChange, written, source_at, sector_at}
-use Rattle.array_model.proofs.DataFrames.{SameSectors, super_at, truth_at, shape_at, columns_same}
-use Rattle.array_model.proofs.Keeping.{live_on, live_after, open_after, inside_before, logs_of}
+use Rattle.array_model.proofs.DataFrames.{SameSectors, super_at, truth_at, shape_at}
+use Rattle.array_model.proofs.Keeping.{live_on, open_after, inside_before, logs_of}
 use Rattle.array_model.proofs.Losses.{IsLosing, even_noted}
 use Rattle.array_model.proofs.Moves.{Moves}
 use Rattle.array_model.proofs.Noting.{laid_out, unspent_then, covers_before}
-use Rattle.array_model.proofs.Spared.{lost_value, at_most_one, wanting_lost, wanting_take, wanting_more}
+use Rattle.array_model.proofs.Spared.{lost_value, at_most_one, wanting_lost, wanting_take}
 use Rattle.array_model.proofs.Opening.{even_counted}
 use Rattle.array_model.proofs.Whole.{among_kept}
 use Rattle.array_model.proofs.WholeWrites.{own_held}

@@ -1,19 +1,18 @@
 -- The targets of a row as a list: whose they are, that a commit can have them, and that there are some.
-use Rattle.std.proofs.Common.{◌≡◌, ◌⊎◌, ℕ, zero, suc, ◌+◌, ◌<◌, ◌≤◌, Bool, true, false, ◌==◌, ◌&&◌, ◌||◌, not, nat_lt, if◌then◌else◌, List, [], ◌∷◌, ◌++◌, length, Option, Some, None, unwrap_or, refl, sym, ap, ap₂, subst, ◌∙◌, inl, inr, eq-eqb, eqb-true, lt-ltb, arith}
+use Rattle.std.proofs.Common.{◌≡◌, ◌⊎◌, ℕ, zero, suc, ◌+◌, ◌<◌, ◌≤◌, Bool, true, false, ◌==◌, ◌||◌, not, List, [], ◌∷◌, ◌++◌, length, unwrap_or, refl, sym, ap, ap₂, subst, ◌∙◌, inl, inr, lt-ltb, arith}
 use Rattle.std.specs.List.{list_all, list_any}
 use Rattle.std.proofs.lemmas.Bool.{both_ways, and_from, and_parts, ne_eqb, cases_lt}
-use Rattle.rack.specs.Seen.{Seen}
-use Rattle.rack.specs.Targets.{Target, target, is_at, look}
+use Rattle.rack.specs.Targets.{Target, target, is_at}
 use Rattle.rack.specs.Sequences.{IsPayload}
 use Rattle.array_image.specs.Places.{slice_of, data_sector}
 use Rattle.array_image.specs.Record.{is_target, are_apart}
-use Rattle.array_model.specs.View.{View, IsArray, member_on, place_at}
+use Rattle.array_model.specs.View.{View, IsArray, place_at}
 use Rattle.array_model.specs.Members.{IsSameButSeats, slice_on}
 use Rattle.array_model.proofs.Looking.{look_payload}
-use Rattle.array_model.proofs.Parts.{at_is, is_at_own, look_one}
+use Rattle.array_model.proofs.Parts.{at_is, is_at_own}
 use Rattle.array_model.proofs.Reading.{slice_same}
 use Rattle.array_model.proofs.RowWrites.{places_apart}
-use Rattle.array_core.specs.Logging.{is_due, one_if, sector_target, due_copies, HasAll}
+use Rattle.array_core.specs.Logging.{is_due, one_if, sector_target, due_copies}
 use Rattle.array_core.proofs.RowCommits.{IsOwnData}
 
 -- ---- payloads

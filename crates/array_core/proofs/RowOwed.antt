@@ -1,13 +1,13 @@
 -- What the targets of a row owe, and that a commit can have them.
-use Rattle.std.proofs.Common.{◌≡◌, ◌≢◌, ◌⊎◌, ℕ, zero, suc, ◌+◌, ◌-◌, ◌<◌, ◌≤◌, Bool, true, false, ◌==◌, ◌||◌, nat_lt, if◌then◌else◌, List, [], ◌∷◌, ◌++◌, map, take, length, slice_get, Option, Some, None, option_map, unwrap_or, refl, sym, ap, ap₂, subst, ◌∙◌, inl, inr, ltb-true, lt-ltb, arith}
+use Rattle.std.proofs.Common.{◌≡◌, ◌⊎◌, ℕ, ◌+◌, ◌<◌, ◌≤◌, Bool, true, false, ◌||◌, nat_lt, List, [], ◌∷◌, ◌++◌, map, take, length, refl, sym, ap, ap₂, subst, ◌∙◌, inl, inr, lt-ltb, arith}
 use Rattle.std.proofs.lemmas.Bool.{both_ways}
 use Rattle.std.specs.List.{list_all}
 use Rattle.rack.specs.Seen.{Seen}
-use Rattle.rack.specs.Targets.{Target, target, look}
+use Rattle.rack.specs.Targets.{Target, target}
 use Rattle.rack.specs.Sequences.{IsPayload}
 use Rattle.parity.specs.Xor.{xor, zeros}
 use Rattle.raid_map.specs.LeftSymmetric.{IsMemberCount, member_of, sector_of, parity_at, row_at}
-use Rattle.raid_map.proofs.Rows.{row_members_differ, apart_from_parity}
+use Rattle.raid_map.proofs.Rows.{apart_from_parity}
 use Rattle.array_image.specs.Places.{member_slice, data_sector}
 use Rattle.array_image.specs.Record.{is_target, are_apart}
 use Rattle.array_image.specs.Stripes.{Layout, mirror, parity, width, capacity, given, position_in, sector_in}
@@ -15,16 +15,15 @@ use Rattle.array_image.specs.Supers.{is_reshaping}
 use Rattle.array_image.specs.Arrays.{Member, Shape, column, first_layout, layout_at, value_by}
 use Rattle.array_image.specs.Even.{AreEven}
 use Rattle.array_image.specs.Held.{Among, current_in}
-use Rattle.array_image.specs.Marks.{lower, lowered}
+use Rattle.array_image.specs.Marks.{lower}
 use Rattle.array_image.specs.Spent.{wanting, spent_with, spent_by}
-use Rattle.array_model.specs.View.{View, IsArray, LosesPlaces, shape_of, spent_in, sectors_of, member_on, place_at, may_vary}
+use Rattle.array_model.specs.View.{View, IsArray, LosesPlaces, shape_of, spent_in, sectors_of, member_on, may_vary}
 use Rattle.array_model.specs.Says.{IsOpen}
-use Rattle.array_model.specs.ArrayCalls.{Covers}
-use Rattle.array_model.specs.Members.{IsSameButSeats, Notes, members_of, slice_on}
+use Rattle.array_model.specs.Members.{IsSameButSeats, members_of, slice_on}
 use Rattle.array_model.specs.Rows.{RowChange, part_at, data_at, parity_part, IsPlain}
 use Rattle.array_model.proofs.Copies.{copies_change}
 use Rattle.array_model.proofs.Degraded.{parity_change, side_value, two_want, long_zeros}
-use Rattle.array_model.proofs.Firsts.{position_of, firsts}
+use Rattle.array_model.proofs.Firsts.{position_of}
 use Rattle.array_model.proofs.Layouts.{members_count, sector_inside}
 use Rattle.array_model.proofs.Looking.{look_payload}
 use Rattle.array_model.proofs.Losses.{IsLosing}
@@ -36,11 +35,9 @@ use Rattle.array_model.proofs.RowWrites.{part_on, plain_shape}
 use Rattle.array_model.proofs.Spared.{at_most_one, lost_value}
 use Rattle.array_model.proofs.Views.{shape_members, shape_then, members_then, vary_then, fresh_then, loses_then, same_view_then}
 use Rattle.array_core.specs.declared.members.Stand.{Stand}
-use Rattle.array_core.specs.Stands.{IsStand, given_at, layout_of}
 use Rattle.array_core.specs.Logging.{is_due, one_if, sector_target, due_copies, MakesParity, IsChange, data_alone, with_parity, IsRowAt, StagedRow, staged_copies, staged_change}
 use Rattle.array_core.proofs.Gathering.{spent_after, value_after}
-use Rattle.array_core.proofs.RowCommits.{IsOwnData}
-use Rattle.array_core.proofs.RowLists.{AllOn, IsOn, one_on, join_on, weaker_on, copies_on, copies_has, valid_on, copies_apart, change_apart, own_on, copies_same, some_payload, payload_or, payload_left, payload_right, one_has}
+use Rattle.array_core.proofs.RowLists.{AllOn, one_on, join_on, weaker_on, copies_on, copies_has, valid_on, copies_apart, change_apart, copies_same, some_payload, payload_or, payload_left, payload_right, one_has}
 
 -- ---- a list that a commit can have
 

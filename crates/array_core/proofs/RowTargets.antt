@@ -1,5 +1,5 @@
 -- The targets of a row, one after the other.
-use Rattle.std.proofs.Common.{◌≡◌, ℕ, suc, ◌+◌, ◌<◌, ◌≤◌, inl, inr, ap₂, Bool, true, false, if◌then◌else◌, List, [], ◌∷◌, ◌++◌, length, refl, sym, ap, subst, ◌∙◌, arith}
+use Rattle.std.proofs.Common.{◌≡◌, ℕ, suc, ◌+◌, ◌<◌, ◌≤◌, inl, inr, ap₂, Bool, true, false, List, [], ◌∷◌, ◌++◌, length, refl, sym, ap, subst, ◌∙◌, arith}
 use Rattle.std.proofs.lemmas.List.{length-append}
 use Rattle.rack.specs.Seen.{Seen}
 use Rattle.rack.specs.Sequences.{OnlyReads}
@@ -44,8 +44,8 @@ copies_step all v sector k from fn before after due is so_far next =
     let low = so_far.1 in
     let long : length after.added ≡ length before.added + length (one_if due (sector_target v k sector from)) = ap length added ∙ length-append before.added (one_if due (sector_target v k sector from)) in (
       next ∙ ap (λ (l : LogView). record l { added = l.added ++ one_if due (sector_target v k sector from) }) so_far.0
-      ∙ ap (λ (b : Bool). record fn { added = due_copies all v sector from k ++ one_if b (sector_target v k sector from) }) is
-      ∙ ap (λ (j : ℕ). record fn { added = due_copies all v sector from j }) (one_more k),
+          ∙ ap (λ (b : Bool). record fn { added = due_copies all v sector from k ++ one_if b (sector_target v k sector from) }) is
+          ∙ ap (λ (j : ℕ). record fn { added = due_copies all v sector from j }) (one_more k),
       omega (arith, long, few, low),
     )
 

@@ -4,9 +4,9 @@ use Rattle.rack.specs.Seen.{Seen}
 use Rattle.rack.specs.Targets.{Target, target}
 use Rattle.rack.specs.Sequences.{OnlyReads}
 use Rattle.parity.specs.Xor.{xor}
-use Rattle.raid_map.specs.LeftSymmetric.{row_at, sector_of, parity_at}
+use Rattle.raid_map.specs.LeftSymmetric.{row_at, parity_at}
 use Rattle.array_image.specs.Places.{data_sector}
-use Rattle.array_image.specs.Stripes.{Layout, mirror, parity, position_in, sector_in}
+use Rattle.array_image.specs.Stripes.{mirror, parity, position_in, sector_in}
 use Rattle.array_image.specs.Arrays.{layout_at}
 use Rattle.array_image.specs.Held.{current_in}
 use Rattle.array_image.specs.Spent.{wanting, spent_with}

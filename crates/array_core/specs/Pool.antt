@@ -1,6 +1,6 @@
 -- What calls that write need of the pool.
-use Rattle.std.specs.Prelude.{◌≡◌, ℕ, ◌-◌, ◌<◌, ◌^◌, Bool, true, false, List, []}
-use Rattle.rack.specs.Seen.{Image, Seen, Stays, IsLive}
+use Rattle.std.specs.Prelude.{◌≡◌, ℕ, ◌-◌, ◌<◌, ◌^◌, true, false, List, []}
+use Rattle.rack.specs.Seen.{Seen, Stays, IsLive}
 use Rattle.rack.specs.Moments.{Leaves}
 use Rattle.pool_state.specs.declared.contents.State.{State}
 use Rattle.array_image.specs.Places.{member_slice, super_sector}

@@ -5,7 +5,7 @@ use Rattle.std.proofs.lemmas.Simd.{length-replicate}
 use Rattle.std.specs.Option.{option_map_or}
 use Rattle.rack.specs.Seen.{Image}
 use Rattle.rack.specs.Targets.{Target, look}
-use Rattle.parity.specs.Xor.{xor, xor_all, zeros, HasLength}
+use Rattle.parity.specs.Xor.{xor, xor_all, zeros}
 use Rattle.parity.proofs.Laws.{xor_is_a_group, parity_restores}
 use Rattle.raid_map.specs.LeftSymmetric.{IsMemberCount, member_of, sector_of, parity_at, row_at}
 use Rattle.raid_map.proofs.Rows.{stands_once, apart_from_parity}
@@ -20,10 +20,8 @@ use Rattle.array_image.proofs.Marked.{among_lowered}
 use Rattle.array_image.proofs.Losing.{length_map}
 use Rattle.array_image.proofs.Frames.{value_by_data}
 use Rattle.array_image.proofs.Sources.{source_counts, source_value}
-use Rattle.array_image.proofs.Settled.{among_take}
 use Rattle.array_model.specs.Members.{gathered}
-use Rattle.array_model.specs.Rows.{RowChange, data_at, parity_part, written, source_at, sector_at, part_at, IsPlain, target_on}
-use Rattle.array_model.proofs.Looking.{no_target}
+use Rattle.array_model.specs.Rows.{RowChange, data_at, parity_part, written, source_at, sector_at, part_at, IsPlain}
 use Rattle.array_model.proofs.DataFrames.{columns_same}
 use Rattle.array_model.proofs.Firsts.{none_given}
 use Rattle.array_model.proofs.ParityRow.{AreSized, one_new, lengths, same_place, long_xor, data_inside, parity_inside, parity_source}

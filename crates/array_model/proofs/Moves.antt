@@ -1,12 +1,12 @@
 -- The parts of a call of one array, one after the other.
-use Rattle.std.proofs.Common.{◌≡◌, ℕ, ◌+◌, ◌≤◌, Bool, true, false, ◌==◌, if◌then◌else◌, List, [], refl, sym, ap, subst, ◌∙◌, inl, inr, eq-eqb, eqb-true, arith}
-use Rattle.std.proofs.lemmas.Bool.{both_ways, cases_eq}
+use Rattle.std.proofs.Common.{◌≡◌, ℕ, ◌+◌, ◌≤◌, Bool, true, false, ◌==◌, if◌then◌else◌, [], refl, sym, ap, subst, ◌∙◌, inl, eq-eqb}
+use Rattle.std.proofs.lemmas.Bool.{both_ways}
 use Rattle.rack.specs.Values.{Values, MayLeave, Keeps}
 use Rattle.rack.specs.Seen.{Image, Seen, IsLive, Stays}
 use Rattle.rack.specs.Moments.{Leaves}
 use Rattle.rack.specs.Joins.{keeps_then, leaves_weaker, leaves_then, stays_then, live_first, live_second}
 use Rattle.pool_state.specs.declared.contents.State.{State}
-use Rattle.array_image.specs.Places.{slice_of, log_slice, place_of}
+use Rattle.array_image.specs.Places.{slice_of, log_slice}
 use Rattle.array_image.specs.Arrays.{Shape, replayed}
 use Rattle.array_image.proofs.Replays.{replayed_same}
 use Rattle.array_image.specs.Left.{reading, IsInside, Picks, IsApart, IsCalm}

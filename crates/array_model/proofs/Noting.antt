@@ -1,5 +1,5 @@
 -- Calls of members that bring no value, in which places may go.
-use Rattle.std.proofs.Common.{◌≡◌, ℕ, zero, suc, ◌+◌, ◌-◌, ◌<◌, ◌≤◌, Bool, true, false, ◌&&◌, ◌||◌, not, nat_lt, if◌then◌else◌, List, [], ◌∷◌, take, length, refl, sym, ap, subst, ◌∙◌, arith, unwrap_or}
+use Rattle.std.proofs.Common.{◌≡◌, ℕ, zero, suc, ◌+◌, ◌-◌, ◌<◌, ◌≤◌, Bool, true, false, ◌&&◌, ◌||◌, not, nat_lt, if◌then◌else◌, List, [], ◌∷◌, take, length, refl, sym, ap, subst, ◌∙◌, arith}
 use Rattle.std.specs.List.{range_with_len}
 use Rattle.rack.specs.Values.{Values}
 use Rattle.rack.specs.Seen.{Seen}
@@ -11,7 +11,7 @@ use Rattle.raid_map.proofs.Rows.{row_members_differ}
 use Rattle.raid_map.specs.LeftSymmetric.{row_at}
 use Rattle.array_image.specs.Stripes.{Layout, mirror, parity, width, position_in, sector_in}
 use Rattle.array_image.specs.Supers.{is_reshaping}
-use Rattle.array_image.specs.Arrays.{Member, Shape, layout_at, final_layout, first_layout, value_by, place_with}
+use Rattle.array_image.specs.Arrays.{Member, Shape, layout_at, final_layout, first_layout, value_by}
 use Rattle.array_image.specs.Held.{current_in}
 use Rattle.array_image.specs.Marks.{lowered}
 use Rattle.array_image.specs.Spent.{spent_by, spent_with}

@@ -1,7 +1,7 @@
 -- An array that is opened on slices at rest holds what they say.
-use Rattle.std.proofs.Common.{◌≡◌, ◌⊎◌, ℕ, suc, ◌+◌, ◌<◌, ◌≤◌, Bool, true, false, nat_lt, if◌then◌else◌, List, [], map, take, Option, Some, None, unwrap_or, refl, sym, ap, subst, ◌∙◌, inl, inr, arith}
+use Rattle.std.proofs.Common.{◌≡◌, ℕ, suc, ◌+◌, ◌<◌, Bool, true, take, Some, unwrap_or, refl, sym, ap, subst, ◌∙◌, inl, inr, arith}
 use Rattle.std.proofs.lemmas.Bool.{both_ways, cases_lt}
-use Rattle.rack.specs.Values.{Values, MayLeave}
+use Rattle.rack.specs.Values.{MayLeave}
 use Rattle.rack.specs.Seen.{Image, Seen, IsLive}
 use Rattle.md_super.specs.declared.superblock.Super.{Super}
 use Rattle.pool_state.specs.declared.contents.State.{State}
@@ -10,19 +10,19 @@ use Rattle.array_image.specs.Stripes.{width, sector_in, there, AgreeIn}
 use Rattle.array_image.specs.States.{is_current}
 use Rattle.array_image.specs.Supers.{super_in, truth_in}
 use Rattle.array_image.specs.SoundArray.{IsSoundArray, first_unsynced}
-use Rattle.array_image.specs.Arrays.{Member, Shape, layout_at, shape_in, value_by, replayed}
+use Rattle.array_image.specs.Arrays.{Member, Shape, layout_at}
 use Rattle.array_image.specs.Even.{AreEven}
 use Rattle.array_image.specs.Held.{Among, IsSettled, PicksData, current_in, held_by}
-use Rattle.array_image.specs.Left.{reading, Picks, IsLeft}
+use Rattle.array_image.specs.Left.{reading, IsLeft}
 use Rattle.array_image.proofs.Frames.{super_of_sector}
 use Rattle.array_image.proofs.Settled.{among_take, settled_value}
 use Rattle.array_image.proofs.Sources.{held_current}
-use Rattle.array_model.specs.View.{View, shape_of, may_vary}
-use Rattle.array_model.specs.Says.{Says, Holds, IsEarlier, HasNoOthers}
+use Rattle.array_model.specs.View.{View, shape_of}
+use Rattle.array_model.specs.Says.{Says, Holds, IsEarlier}
 use Rattle.array_model.specs.Opened.{OpensOn}
 use Rattle.array_model.proofs.DataFrames.{columns_same}
 use Rattle.array_model.proofs.Keeping.{reading_live, reading_outside, logs_of}
-use Rattle.array_model.proofs.Renewed.{Renews, AreNewer, NewTruth, old, renewed, new_truth, shape_kept, sound_renewed}
+use Rattle.array_model.proofs.Renewed.{Renews, AreNewer, old, renewed, new_truth, shape_kept, sound_renewed}
 
 -- rows that agree in contents agree in others with the same data where members count
 pub even_counted : (shape : Shape) (n resync : ℕ) (c e : Image)

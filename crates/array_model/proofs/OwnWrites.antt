@@ -6,7 +6,6 @@ use Rattle.rack.specs.Seen.{Image, Seen, Stays}
 use Rattle.array_image.specs.Places.{slice_of, log_slice}
 use Rattle.rack.specs.Targets.{Target}
 use Rattle.array_image.specs.Arrays.{replayed}
-use Rattle.array_image.specs.Held.{current_in}
 use Rattle.array_image.proofs.Replays.{replayed_same}
 use Rattle.array_image.specs.Left.{reading, IsInside, Picks}
 use Rattle.array_model.specs.ArrayCalls.{Turns}

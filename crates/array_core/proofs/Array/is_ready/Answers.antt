@@ -1,6 +1,6 @@
-use Rattle.std.proofs.Common.{◌∙◌, refl, sym, subst, true, inl, inr}
+use Rattle.std.proofs.Common.{◌∙◌, refl, sym, inl, inr}
 use Rattle.rack.proofs.Reading.{only_reads_start}
-use Rattle.array_core.specs.Settling.{Readies, was_marked, not_whole}
+use Rattle.array_core.specs.Settling.{was_marked, not_whole}
 use Rattle.array_core.proofs.Marking.{readied}
 use Rattle.array_core.proofs.Array.is_ready.Goals.{then-not-is_whole-via-then-not-is_whole, then-not-is_whole-via-else-not-is_whole+then-has_lost}
 use Rattle.array_core.proofs.Array.is_ready.Goals as goal

@@ -1,6 +1,5 @@
-use Rattle.std.proofs.Common.{ℕ, ◌≤◌, List, length, sym, ap, subst, ◌∙◌, arith}
+use Rattle.std.proofs.Common.{◌≤◌, List, length, sym, ap, subst, arith}
 use Rattle.rack.specs.Targets.{Target}
-use Rattle.commit_log.specs.View.{LogView}
 use Rattle.array_core.specs.Logging.{due_copies}
 use Rattle.array_core.proofs.RowTargets.{copies_step}
 use Rattle.array_core.proofs.Array.stage_copies.Goals as goal

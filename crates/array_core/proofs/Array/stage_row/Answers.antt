@@ -15,10 +15,10 @@ returns-in-Mirror-clause-staged g c =
       reads = only_reads_start a c.requires.slices.fit;
       notes = notes_none v a a;
       either = inr (
-          refl,
-          subst (StagedRow c.args.all v v a c.args.x c.args.from.now) (sym (ap (λ (l : LogView). l.added) c.stage_copies.ensures))
-              (staged_copies c.in-Mirror.members (sym c.stand-at.ensures.spread ∙ ap layout_of c.in-Mirror.is)),
-        );
+        refl,
+        subst (StagedRow c.args.all v v a c.args.x c.args.from.now) (sym (ap (λ (l : LogView). l.added) c.stage_copies.ensures))
+            (staged_copies c.in-Mirror.members (sym c.stand-at.ensures.spread ∙ ap layout_of c.in-Mirror.is)),
+      );
     }
 
 pub returns-in-Parity-clause-staged : goal.returns-in-Parity-clause-staged
