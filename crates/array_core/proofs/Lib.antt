@@ -23,3 +23,4 @@ pub mod RowTargets
 pub mod RowCommits
 pub mod RowLists
 pub mod RowOwed
+pub mod RowLogged

@@ -6,7 +6,8 @@ use Rattle.pool_state.specs.declared.contents.State.{State}
 use Rattle.array_image.specs.Places.{member_slice, super_sector}
 use Rattle.array_image.specs.States.{is_current}
 use Rattle.commit_log.specs.Kept.{LogKept, AreLeft}
-use Rattle.array_model.specs.View.{View, has_gone}
+use Rattle.array_model.specs.View.{View, has_gone, shape_of}
+use Rattle.array_model.specs.Says.{IsOpen}
 use Rattle.array_model.specs.Stages.{IsStateOf}
 use Rattle.array_core.specs.Staging.{HasRowRebuilds}
 
@@ -32,3 +33,12 @@ pub record MayCommit (s : State) (v w : View) (number : ℕ) (on : List ℕ) (a 
 pub record Goes (a b : Seen) : Type 0 where
   pub stays : Stays a b
   pub leaves : a.traced → Leaves a b (λ c. Unit {0})
+
+-- What one commit of a row needs of the pool, where v and w are the array before it and after it.
+pub record MayLog (s : State) (v w : View) (number : ℕ) (on : List ℕ) (a : Seen) : Type 0 where
+  pub state : IsStateOf v s
+  pub opened : IsOpen (shape_of v) v.number a
+  pub log : LogKept s number (λ place. false) a
+  pub room : number < 2 ^ 63 - 1
+  pub places : AreLeft s (λ place. false) on
+  pub someone : (place : ℕ) × (is_current s place ≡ true) × (has_gone w place ≡ false)
