@@ -1,24 +1,16 @@
 -- What stands on the slices in the midst of a commit, and what it leaves pending.
-use Rattle.std.proofs.Common.{◌≡◌, ◌≢◌, ◌⊎◌, ℕ, ◌+◌, ◌-◌, ◌*◌, ◌/◌, ◌%◌, ◌<◌, ◌≤◌, ◌^◌, ◌==◌, ◌&&◌, ◌||◌, not, Bool, true, false, nat_lt, nat_le, bytes_eq, if◌then◌else◌, is_some, List, [], ◌∷◌, map, Option, Some, None, unwrap_or, option_map, refl, sym, ap, ap₂, subst, ◌∙◌, inl, inr, arith, eqb-true, eq-eqb, ltb-true, lt-ltb}
-use Rattle.std.specs.Option.{option_map_or}
-use Rattle.std.specs.List.{list_all}
-use Rattle.std.proofs.lemmas.Bool.{cases_Bool, cases_eq, cases_lt, both_ways, and_from, and_parts, or_parts, leb-true, le-leb, ne_eqb, cond-true, cond-false}
-use Rattle.std.proofs.lemmas.Option.{none-some}
+use Rattle.std.proofs.Common.{◌≡◌, ◌≢◌, ◌⊎◌, ℕ, ◌+◌, ◌%◌, ◌<◌, ◌≤◌, ◌==◌, ◌&&◌, Bool, true, false, nat_lt, nat_le, if◌then◌else◌, List, [], ◌∷◌, Some, None, unwrap_or, refl, ap, subst, ◌∙◌, inl, inr, arith, eqb-true, eq-eqb, ltb-true}
+use Rattle.std.proofs.lemmas.Bool.{cases_Bool, both_ways, and_parts, leb-true, ne_eqb, cond-true, cond-false}
 use Rattle.rack.specs.Values.{MayLeave}
 use Rattle.rack.specs.Seen.{Image, Seen, IsLive}
 use Rattle.rack.specs.Targets.{Target, look, put}
 use Rattle.shr_base.specs.Blocks.{bytes_at}
 use Rattle.array_image.specs.Places.{slice_of, place_of, log_slice, log_sectors}
-use Rattle.array_image.specs.Record.{Gate, GateAt, gate_sector, gate_of, gate_in, half_of, is_bad_gate, record_of, record_in, is_open_if_of, pending_at, pending}
+use Rattle.array_image.specs.Record.{Gate, gate_sector, gate_of, half_of, record_in, pending}
 use Rattle.array_image.specs.Arrays.{replayed}
-use Rattle.array_image.proofs.Frames.{state_same}
 use Rattle.commit_log.specs.View.{LogView, names, is_left}
-use Rattle.commit_log.specs.Standing.{IsLogPart, IsAlike, IsInside, LogsStand, StatesStand, deciding, Decides, IsNumbered, IsReady, SomeoneDecides}
-use Rattle.commit_log.specs.Commits.{Stands, Commits, Committed, Rests}
-use Rattle.commit_log.proofs.Deciding.{NoneAbove, IsTop, IsOf, top, number_of, gate_at, gate_at_is, all_or, all_at, NoneBad, nothing_pending, record_pending, pending_of_top, none_of_top, pending_is_decisive, names_first, names_later, names_either}
-use Rattle.commit_log.proofs.Restored.{restored, restored_there, restored_picks, restored_inside, pending_at_by, pending_by, put_there, put_same}
-use Rattle.commit_log.proofs.Counting.{decides_small, named_decides, decides_named}
-use Rattle.commit_log.proofs.Halves.{record_same}
+use Rattle.commit_log.specs.Standing.{IsLogPart, IsInside, deciding}
+use Rattle.commit_log.proofs.Deciding.{names_first, names_later, names_either}
 
 -- ---- the terms of a commit
 

@@ -147,7 +147,7 @@ stops_of l on lost number opened closed bytes count a r g t b w0 w1 w2 w3 w4 don
     let to_g : Stays a g = stays_then to_r told.opens.calls.only.stays in
     let to_t : Stays a t = stays_then to_g told.writes.calls.only.stays in
     let P : Image → Type 0 = λ c. IsInside a.sectors c → Commits l.added a c in
-    let whole : (c : Image) → Committed l.added a c → Commits l.added a c = λ c all. record { before = all.before; stands = all.stands; either = inr all.all } in
+    let whole : (c : Image) → Committed l.added a c → Commits l.added a c = λ c all. record { before = all.before; stands = all.stands; either = inr all.all; whole = λ before. all.whole } in
     leaves_then P
     (leaves_weaker _ P
     (λ c mix inside. early_commits l on number opened closed a c ready told.begun.terms
@@ -173,7 +173,7 @@ stops_of l on lost number opened closed bytes count a r g t b w0 w1 w2 w3 w4 don
 logs_deciding : (c e : Image) → SameLogs c e → deciding c ≡ deciding e
 logs_deciding c e same = ap (λ (s : Option State). option_map_or current_places s []) (state_same c e (λ p. same p 0))
 
-rests_by_logs : (number : ℕ) (xs : List Target) (lost : List ℕ) (c e : Image) → SameLogs c e → Rests number xs lost e → Rests number xs lost c
+pub rests_by_logs : (number : ℕ) (xs : List Target) (lost : List ℕ) (c e : Image) → SameLogs c e → Rests number xs lost e → Rests number xs lost c
 rests_by_logs number xs lost c e same rests =
     let places : deciding c ≡ deciding e = logs_deciding c e same in
     let targets : pending (deciding c) c ≡ pending (deciding e) e = pending_same c e same (deciding c) ∙ ap (λ ps. pending ps e) places in
@@ -183,11 +183,26 @@ rests_by_logs number xs lost c e same rests =
     }
 
 -- contents with a stop's log slices, and elsewhere as they read
-abbrev off_log : ℕ → ℕ → Bool
+abbrev pub off_log : ℕ → ℕ → Bool
 off_log d s = not (slice_of d == 0)
 
-on_log : (p s : ℕ) → off_log (log_slice p) s ≡ false
+pub on_log : (p s : ℕ) → off_log (log_slice p) s ≡ false
 on_log p s = ap not (eq-eqb (slice_of (log_slice p)) 0 (slice_of_log p))
+
+pub off_log_pick : {a b : Seen} → Stays a b → a.lasting → (c : Image) → LogsStand b c → (d s : ℕ) → IsLive a a d s → MayLeave (b.held d s) (restored off_log b c d s)
+off_log_pick {a} {b} stays lasting c stands d s live =
+    elim (cases_Bool (off_log d s)) [
+      | inl other ↦ inl (cond-true (off_log d s) (b.held d s).current (c d s) other)
+      | inr here ↦
+          let slice : slice_of d ≡ 0 = eqb-true (slice_of d) 0 (not_false (slice_of d == 0) here) in
+          subst (MayLeave (b.held d s)) (sym (restored_there off_log b c d s here))
+          (subst (λ k. MayLeave (b.held k s) (c k s)) (log_of_place d slice)
+          (stands.picks (place_of d) s (subst (λ k. IsLive b b k s) (sym (log_of_place d slice)) (live_between d s stays (stays_same b stays.fit) lasting live))))
+    ]
+  where
+    not_false : (x : Bool) → not x ≡ false → x ≡ true
+    not_false true is = refl
+    not_false false is = absurd (both_ways true is refl)
 
 rests_of : (l : LogView) (on lost : List ℕ) (number : ℕ) (opened closed bytes : List ℕ) (count : ℕ) (a r g t b : Seen) (w0 w1 w2 w3 w4 : ℕ → Bool) (c : Image)
     → Done l on lost number opened closed bytes count a r g t b w0 w1 w2 w3 w4 → Stays a b → IsReady l on a → SomeoneDecides l.added on lost a
@@ -196,7 +211,7 @@ rests_of l on lost number opened closed bytes count a r g t b w0 w1 w2 w3 w4 c d
     let told : Told l on lost number opened closed bytes count a r g t b w0 w1 w2 w3 w4 = told_of l on lost number opened closed bytes count a r g t b w0 w1 w2 w3 w4 done ready in
     let e : Image = restored off_log b c in
     let same : SameLogs c e = λ p s. sym (restored_there off_log b c (log_slice p) s (on_log p s)) in
-    let picks : (d s : ℕ) → IsLive a a d s → MayLeave (b.held d s) (e d s) = λ d s live. pick d s live in
+    let picks : (d s : ℕ) → IsLive a a d s → MayLeave (b.held d s) (e d s) = λ d s live. off_log_pick stays ready.lasting c stands d s live in
     let inside : IsInside a.sectors e =
     λ p s past. sym (same p s) ∙ stands.inside p s (subst (λ n. n ≤ s) (sym (stays.sectors (log_slice p))) past) in
     rests_by_logs number l.added lost c e same
@@ -204,21 +219,6 @@ rests_of l on lost number opened closed bytes count a r g t b w0 w1 w2 w3 w4 c d
     (late_at_end l on lost number opened closed bytes count a r g t b w0 w1 w2 w3 w4 e told inside
     (ending_after l on lost number opened closed bytes count a r g t b w0 w1 w2 w3 w4 e told picks))
     (shut_after l on lost number opened closed bytes count a r g t b w0 w1 w2 w3 w4 e told picks))
-  where
-    not_false : (x : Bool) → not x ≡ false → x ≡ true
-    not_false true is = refl
-    not_false false is = absurd (both_ways true is refl)
-
-    pick : (d s : ℕ) → IsLive a a d s → MayLeave (b.held d s) (restored off_log b c d s)
-    pick d s live =
-        elim (cases_Bool (off_log d s)) [
-          | inl other ↦ inl (cond-true (off_log d s) (b.held d s).current (c d s) other)
-          | inr here ↦
-              let slice : slice_of d ≡ 0 = eqb-true (slice_of d) 0 (not_false (slice_of d == 0) here) in
-              subst (MayLeave (b.held d s)) (sym (restored_there off_log b c d s here))
-              (subst (λ k. MayLeave (b.held k s) (c k s)) (log_of_place d slice)
-              (stands.picks (place_of d) s (subst (λ k. IsLive b b k s) (sym (log_of_place d slice)) (live_between d s stays (stays_same b stays.fit) ready.lasting live))))
-        ]
 
 after_of : (l : LogView) (on lost : List ℕ) (number : ℕ) (opened closed bytes : List ℕ) (count : ℕ) (a r g t b : Seen) (w0 w1 w2 w3 w4 : ℕ → Bool) (c : Image)
     → Done l on lost number opened closed bytes count a r g t b w0 w1 w2 w3 w4 → Stays a b → IsReady l on a → SomeoneDecides l.added on lost a
@@ -237,7 +237,7 @@ or_true true y is = refl
 or_true false y is = is
 
 -- a slice that has a target is of its place
-has_of_place : (xs : List Target) (d p : ℕ) → place_of d ≡ p → has_target xs d ≡ true → list_any (λ (x : Target). place_of x.disk == p) xs ≡ true
+pub has_of_place : (xs : List Target) (d p : ℕ) → place_of d ≡ p → has_target xs d ≡ true → list_any (λ (x : Target). place_of x.disk == p) xs ≡ true
 has_of_place [] d p is has = absurd (both_ways false refl has)
 has_of_place (x ∷ xs) d p is has =
     elim (cases_eq x.disk d) [

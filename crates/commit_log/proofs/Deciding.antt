@@ -9,6 +9,7 @@ use Rattle.rack.specs.Targets.{Target}
 use Rattle.array_image.specs.Foremost.{ahead, foremost}
 use Rattle.array_image.specs.Record.{Gate, GateAt, gate_in, is_bad_gate, record_in, gates_in, is_open_if_of, pending_at, pending_record, pending}
 use Rattle.commit_log.specs.View.{names}
+use Rattle.commit_log.specs.Scans.{number_of}
 
 -- ---- the foremost of what places have
 
@@ -38,9 +39,6 @@ names_either q ps p is =
 
 is_later : {h : ℕ → Option GateAt} {ps : List ℕ} {a : GateAt} (q : ℕ) → IsOf h ps a → IsOf h (q ∷ ps) a
 is_later {ps = ps} q is = record { place = is.place; is_among = names_later q ps is.place is.is_among; gives = is.gives }
-
-abbrev pub number_of : GateAt → ℕ
-number_of a = a.gate.number
 
 -- of one more and the foremost of others
 among_two : (h : ℕ → Option GateAt) (q : ℕ) (ps : List ℕ) (a x : GateAt) (o : Option GateAt)

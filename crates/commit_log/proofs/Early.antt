@@ -1,19 +1,20 @@
 -- Before a target is written, contents are replayed as before the commit, or with all targets.
-use Rattle.std.proofs.Common.{◌≡◌, ◌⊎◌, ℕ, ◌+◌, ◌<◌, ◌≤◌, ◌==◌, ◌&&◌, ◌||◌, Bool, true, false, List, [], Option, refl, sym, ap, ap₂, subst, ◌∙◌, inl, inr, arith, eq-eqb}
+use Rattle.std.proofs.Common.{◌≡◌, ◌⊎◌, ℕ, ◌+◌, ◌<◌, ◌≤◌, ◌==◌, ◌&&◌, ◌||◌, Bool, true, false, List, [], Option, Some, refl, sym, ap, ap₂, subst, ◌∙◌, inl, inr, arith, eq-eqb}
 use Rattle.std.specs.Option.{option_map_or}
 use Rattle.std.proofs.lemmas.Bool.{cases_Bool, cases_eq, cases_lt, both_ways, or_parts, ne_eqb}
 use Rattle.rack.specs.Values.{MayLeave}
 use Rattle.rack.specs.Seen.{Image, Seen, IsLive}
 use Rattle.array_image.specs.Places.{slice_of, place_of, log_slice, log_sectors}
-use Rattle.array_image.specs.Record.{Gate, gate_sector, gate_of, half_of, pending}
+use Rattle.array_image.specs.Record.{Gate, GateAt, gate_sector, gate_of, half_of, record_in, pending_at, pending, damaged_log}
 use Rattle.array_image.proofs.Frames.{state_same}
 use Rattle.commit_log.specs.View.{LogView, names}
-use Rattle.commit_log.specs.Standing.{IsLogPart, StatesStand, deciding, Decides, IsReady}
+use Rattle.commit_log.specs.Standing.{IsLogPart, StatesStand, deciding, IsWhole, Decides, IsReady}
 use Rattle.commit_log.specs.Commits.{Stands, Commits, Committed}
 use Rattle.commit_log.proofs.Restored.{restored, restored_there, restored_picks, restored_inside, pending_by}
+use Rattle.commit_log.proofs.Undamaged.{whole_by}
 use Rattle.commit_log.proofs.Counting.{decides_small, named_decides}
 use Rattle.commit_log.proofs.Halves.{record_same}
-use Rattle.commit_log.proofs.Late.{is_old, is_new, Deciders, late_pending}
+use Rattle.commit_log.proofs.Late.{is_old, is_new, Deciders, late_pending, late_whole}
 use Rattle.commit_log.proofs.Whole.{all_committed}
 use Rattle.pool_state.specs.declared.contents.State.{State}
 use Rattle.array_image.specs.States.{current_places}
@@ -184,34 +185,47 @@ log_deciding number on a c =
     (state_same c (restored (of_log number on c) a c)
     (λ p. sym (restored_there (of_log number on c) a c (log_slice p) 0 (not_of_log-other number on c (log_slice p) 0 (not_state p)))))
 
--- where all gates that decide are old, the same is pending there
-log_pending : (l : LogView) (on : List ℕ) (number : ℕ) (opened closed : List ℕ) (a : Seen) (c : Image) → IsReady l on a → Terms l on number opened closed a
+-- where all gates that decide are old, they stand there, and so does the record that is pending
+record SameLog (c e : Image) : Type 0 where
+  places : deciding c ≡ deciding e
+  gates : (p : ℕ) → names (deciding e) p ≡ true → c (log_slice p) gate_sector ≡ e (log_slice p) gate_sector
+  records : (g : GateAt) → pending_at (deciding e) e ≡ Some g → record_in c g.place g.gate.number ≡ record_in e g.place g.gate.number
+
+log_same : (l : LogView) (on : List ℕ) (number : ℕ) (opened closed : List ℕ) (a : Seen) (c : Image) → IsReady l on a → Terms l on number opened closed a
     → IsEarly l on number opened a c → ((p : ℕ) → names (deciding c) p ≡ true → IsOld l a c p)
-    → pending (deciding c) c ≡ pending (deciding (log_restored number on a c)) (log_restored number on a c)
+    → SameLog c (log_restored number on a c)
 unfolding log_restored
-log_pending l on number opened closed a c ready terms early olds =
+log_same l on number opened closed a c ready terms early olds =
     let before : Image = restored (of_log number on c) a c in
     let stands : Stands a before = log_stands l on number opened closed a c terms early in
     let same : deciding c ≡ deciding before = log_deciding number on a c in
-    ap (λ ps. pending ps c) same
-    ∙ pending_by c before (deciding before)
-    (λ p among.
-    let old : IsOld l a c p = olds p (subst (λ ps. names ps p ≡ true) (sym same) among) in
-    sym (restored_there (of_log number on c) a c (log_slice p) gate_sector
-    (not_of_log number on c p gate_sector (not_in_half number 1 (inl (omega (arith, half_least number)))) (old_number l number a c p terms.number_is old))))
-    (λ g is.
-    record_same g.gate.number (c (log_slice g.place)) (before (log_slice g.place))
-    (λ k below.
-    sym (restored_there (of_log number on c) a c (log_slice g.place) (half_of g.gate.number + k)
-    (elim (cases_Bool (names on g.place)) [
-      | inr other ↦ not_on number on c g.place (half_of g.gate.number + k) other
-      | inl here ↦
-          let is_last : g.gate.number ≡ l.number =
-          ready.halves before (record { picks = λ p t live. stands.picks (log_slice p) t live; inside = stands.inside }) g is here in
-          not_of_log number on c g.place (half_of g.gate.number + k)
-          (other_half number g.gate.number k (omega (arith, terms.number_is, is_last)) below)
-          (ap (λ b. b && has_number number (c (log_slice g.place) (half_of g.gate.number + k))) (ne_eqb (half_of g.gate.number + k) 1 (λ one. absurd (omega (arith, one, half_least g.gate.number)))))
-    ]))))
+    record {
+      places = same;
+      gates = λ p among.
+          let old : IsOld l a c p = olds p (subst (λ ps. names ps p ≡ true) (sym same) among) in
+          sym (restored_there (of_log number on c) a c (log_slice p) gate_sector
+          (not_of_log number on c p gate_sector (not_in_half number 1 (inl (omega (arith, half_least number)))) (old_number l number a c p terms.number_is old)));
+      records = λ g is.
+          record_same g.gate.number (c (log_slice g.place)) (before (log_slice g.place))
+          (λ k below.
+          sym (restored_there (of_log number on c) a c (log_slice g.place) (half_of g.gate.number + k)
+          (elim (cases_Bool (names on g.place)) [
+            | inr other ↦ not_on number on c g.place (half_of g.gate.number + k) other
+            | inl here ↦
+                let is_last : g.gate.number ≡ l.number =
+                ready.halves before (record { picks = λ p t live. stands.picks (log_slice p) t live; inside = stands.inside }) g is here in
+                not_of_log number on c g.place (half_of g.gate.number + k)
+                (other_half number g.gate.number k (omega (arith, terms.number_is, is_last)) below)
+                (ap (λ b. b && has_number number (c (log_slice g.place) (half_of g.gate.number + k))) (ne_eqb (half_of g.gate.number + k) 1 (λ one. absurd (omega (arith, one, half_least g.gate.number)))))
+          ])));
+    }
+
+-- so the same is pending there, and the log isn't damaged unless it is there
+log_pending : (c e : Image) → SameLog c e → pending (deciding c) c ≡ pending (deciding e) e
+log_pending c e same = ap (λ ps. pending ps c) same.places ∙ pending_by c e (deciding e) same.gates same.records
+
+log_whole : (c e : Image) → SameLog c e → IsWhole e → IsWhole c
+log_whole c e same whole = ap (λ ps. damaged_log ps c) same.places ∙ whole_by c e (deciding e) same.gates same.records whole
 
 -- ---- the two cases
 
@@ -236,8 +250,9 @@ early_commits l on number opened closed a c ready terms early =
         stands = log_stands l on number opened closed a c terms early;
         either =
             inl (λ d t other.
-            same_replayed a c (log_restored number on a c) d t (log_pending l on number opened closed a c ready terms early olds)
+            same_replayed a c (log_restored number on a c) d t (log_pending c (log_restored number on a c) (log_same l on number opened closed a c ready terms early olds))
             (sym (restored_there (of_log number on c) a c d t (not_of_log-other number on c d t other))));
+        whole = log_whole c (log_restored number on a c) (log_same l on number opened closed a c ready terms early olds);
       }
       | inr someone ↦
           let deciders : Deciders l number opened closed a c =
@@ -255,6 +270,7 @@ early_commits l on number opened closed a c ready terms early =
           all_committed l on number opened closed a c terms early.around
           (λ p live. elim (early.gates p live) [ inl old ↦ inl old | inr new ↦ inr new.0 ])
           (λ d t live other. inl (early.others d t live other))
-          (late_pending l on number opened closed a c terms deciders) in
-          record { before = committed.before; stands = committed.stands; either = inr committed.all }
+          (late_pending l on number opened closed a c terms deciders)
+          (late_whole l on number opened closed a c terms deciders) in
+          record { before = committed.before; stands = committed.stands; either = inr committed.all; whole = λ before. committed.whole }
     ]

@@ -9,7 +9,7 @@ use Rattle.commit_log.specs.Standing.{StatesStand, deciding, Decides, IsReady, S
 use Rattle.commit_log.specs.Commits.{Committed, Rests}
 use Rattle.commit_log.proofs.Counting.{decides_small}
 use Rattle.commit_log.proofs.Amid.{Terms, IsShut, IsLate, absent, lower, not_state}
-use Rattle.commit_log.proofs.Late.{Decider, is_old, is_new, is_shut, Deciders, late_pending, shut_pending, pending_number}
+use Rattle.commit_log.proofs.Late.{Decider, is_old, is_new, is_shut, Deciders, late_pending, late_whole, shut_pending, pending_number}
 use Rattle.commit_log.proofs.Whole.{all_committed}
 
 late_states : (l : LogView) (on lost : List ℕ) (number : ℕ) (opened closed : List ℕ) (a : Seen) (c : Image)
@@ -53,6 +53,7 @@ late_committed l on lost number opened closed a c ready terms someone late =
     (λ p live. elim (late.gates p live) [ inl old ↦ inl old | inr new ↦ inr new.0 ])
     late.others
     (late_pending l on number opened closed a c terms (late_deciders l on lost number opened closed a c ready someone late))
+    (late_whole l on number opened closed a c terms (late_deciders l on lost number opened closed a c ready someone late))
 
 -- nothing but they is pending, and nothing where nobody went
 pub late_rests : (l : LogView) (on lost : List ℕ) (number : ℕ) (opened closed : List ℕ) (a : Seen) (c : Image) → IsReady l on a

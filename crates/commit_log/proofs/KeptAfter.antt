@@ -20,7 +20,7 @@ use Rattle.commit_log.specs.Kept.{IsCopyOf, IsNoLater, CopiesStand, LogKept, Are
 use Rattle.commit_log.proofs.Kept.{live_on, live_after, LogsLive, place_of_log, epoch_up, later_yet, copy_state}
 
 -- what stood before a call of the log may be called after it
-logs_after : {a b : Seen} → a.lasting → Stays a b → LogsLive a → (p t : ℕ) → p < 16 → t < b.sectors (log_slice p) → IsLive b b (log_slice p) t
+pub logs_after : {a b : Seen} → a.lasting → Stays a b → LogsLive a → (p t : ℕ) → p < 16 → t < b.sectors (log_slice p) → IsLive b b (log_slice p) t
 logs_after {a} {b} lasting stays logs p t few inside =
     live_after stays (live_on lasting stays (logs p t few (subst (λ n. t < n) (stays.sectors (log_slice p)) inside)))
 
@@ -187,6 +187,7 @@ kept_after s t gone l on lost a b commit kept brings are_left ready someone =
           let before = subst (λ n. 1 < n) (commit.stays.sectors (log_slice p)) there in
           commit.numbers p (live_on ready.lasting commit.stays (kept.logs p 1 (kept.few p (brings.current p current)) before)) (kept.numbers p (brings.current p current) before);
       halves = λ c stand a is. (commit.rests ready someone c stand).numbers a is;
+      whole = λ c stand. (commit.after ready someone c stand).whole;
       idle = λ c stand.
           elim (commit.rests ready someone c stand).targets [
             | inl none ↦ inl none
@@ -246,6 +247,7 @@ kept_keeps s number gone a b lasting stays keeps kept =
           let before = subst (λ n. 1 < n) (stays.sectors (log_slice p)) there in
           kept.numbers p current before v (held_before lasting stays keeps kept.logs p 1 v (kept.few p current) before now);
       halves = λ c stand. kept.halves c (logs_before lasting stays keeps c stand);
+      whole = λ c stand. kept.whole c (stands_before lasting stays keeps c stand);
       idle = λ c stand. kept.idle c (logs_before lasting stays keeps c stand);
       quiet = λ c stand d t left.
           ap (λ (n : ℕ → ℕ). replayed n c d t) sectors ∙ kept.quiet c (stands_before lasting stays keeps c stand) d t left;
@@ -268,6 +270,7 @@ kept_more s number gone now x more kept =
       };
       numbers = kept.numbers;
       halves = kept.halves;
+      whole = kept.whole;
       idle = λ c stand. elim (kept.idle c stand) [ inl none ↦ inl none | inr one ↦ inr (one.0, one.1, more one.0 one.2) ];
       quiet = λ c stand d t left. kept.quiet c stand d t (was_left (place_of d) left);
       brought = kept.brought;

@@ -6,9 +6,11 @@ use Rattle.std.proofs.lemmas.Option.{none-some}
 use Rattle.rack.specs.Seen.{Image, Seen}
 use Rattle.array_image.specs.Places.{log_slice}
 use Rattle.array_image.specs.Record.{Gate, GateAt, gate_sector, gate_of, gate_in, is_there, is_bad_gate, record_in, is_open_if_of, pending_at, pending}
+use Rattle.commit_log.specs.Scans.{number_of}
 use Rattle.commit_log.specs.View.{LogView, names}
-use Rattle.commit_log.specs.Standing.{deciding, Decides}
-use Rattle.commit_log.proofs.Deciding.{IsTop, top, number_of, gate_at, gate_at_is, all_or, all_at, nothing_pending, record_pending, pending_of_top, none_of_top, pending_is_decisive}
+use Rattle.commit_log.specs.Standing.{deciding, IsWhole, Decides}
+use Rattle.commit_log.proofs.Deciding.{IsTop, top, gate_at, gate_at_is, all_or, all_at, nothing_pending, record_pending, pending_of_top, none_of_top, pending_is_decisive}
+use Rattle.commit_log.proofs.Undamaged.{whole_from}
 use Rattle.commit_log.proofs.Counting.{named_decides, decides_named}
 use Rattle.commit_log.proofs.Amid.{Terms, IsNew, IsWritten, IsShut, IsOld, absent, lower, no_gate_in_nothing}
 
@@ -146,7 +148,29 @@ late_pending l on number opened closed a c terms deciders =
           ]
     ]
 
--- and nothing is where one that decides is closed
+-- no log is damaged
+pub late_whole : (l : LogView) (on : List ℕ) (number : ℕ) (opened closed : List ℕ) (a : Seen) (c : Image)
+    → Terms l on number opened closed a → Deciders l number opened closed a c → IsWhole c
+late_whole l on number opened closed a c terms deciders =
+    let ps : List ℕ = deciding c in
+    let t : IsTop (gate_at c) ps number = number_top l on number opened closed a c terms deciders in
+    whole_from c ps (λ p among. not_bad l on number opened closed a c p terms (deciders.each p (named_decides c p among)))
+    (λ x is.
+    elim (cases_Bool (list_all (is_open_if_of number) (map (gate_at c) ps))) [
+      | inr some ↦ absurd (none-some x (sym (none_of_top c ps number t some) ∙ is))
+      | inl all ↦
+          let same : t.gate ≡ x = some_gate_at t.gate x (sym (pending_of_top c ps number t all) ∙ is) in (
+            l.added,
+            ap (λ (y : GateAt). record_in c y.place y.gate.number) (sym same)
+                ∙ top_record l on number opened closed a c t.gate t.is_of.place terms (deciders.each t.is_of.place (named_decides c t.is_of.place t.is_of.is_among))
+                t.is_of.gives t.number_is (all_at (is_open_if_of number) (gate_at c) ps t.is_of.place all t.is_of.is_among),
+          )
+    ])
+  where
+    some_gate_at : (x y : GateAt) → Some x ≡ Some y → x ≡ y
+    some_gate_at x y is = (cc)
+
+-- and nothing is pending where one that decides is closed
 pub shut_pending : (l : LogView) (on : List ℕ) (number : ℕ) (opened closed : List ℕ) (a : Seen) (c : Image) (p : ℕ)
     → Terms l on number opened closed a → Deciders l number opened closed a c → Decides c p → IsShut l.added closed c p
     → pending (deciding c) c ≡ []

@@ -1,6 +1,7 @@
 mod Copies
 pub mod Kept
 pub mod KeptAfter
+pub mod KeptReplayed
 pub mod Calling
 pub mod Each
 pub mod Naming
@@ -14,6 +15,7 @@ pub mod Closing
 pub mod GateRead
 pub mod Deciding
 pub mod Restored
+pub mod Undamaged
 pub mod Counting
 pub mod Amid
 pub mod Late
@@ -24,3 +26,7 @@ pub mod Since
 pub mod Ended
 pub mod Told
 pub mod Committing
+pub mod Replaying
+pub mod ReplayCalls
+pub mod Scanning
+pub mod Finding

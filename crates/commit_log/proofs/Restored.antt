@@ -8,8 +8,7 @@ use Rattle.rack.specs.Seen.{Image, Seen, IsLive}
 use Rattle.rack.specs.Targets.{Target, look, put}
 use Rattle.array_image.specs.Foremost.{foremost}
 use Rattle.array_image.specs.Places.{log_slice}
-use Rattle.array_image.specs.Record.{GateAt, gate_sector, gate_of, is_there, is_bad_gate, record_in, gates_in, is_open_if_of, pending_at, pending_record, pending}
-use Rattle.array_image.specs.Left.{Picks}
+use Rattle.array_image.specs.Record.{GateAt, gate_sector, gate_of, is_there, is_bad_gate, record_in, is_open_if_of, pending_at, pending}
 use Rattle.commit_log.specs.View.{names}
 use Rattle.commit_log.specs.Standing.{IsInside}
 use Rattle.commit_log.proofs.Deciding.{gate_at, names_first as here_first, names_later as later_first}

@@ -54,7 +54,7 @@ log_named on i d within is =
     ap (names on) (ap place_of is.slice ∙ place_of_log (slice_index on is.at))
     ∙ list_any_at (λ q. q == slice_index on is.at) on is.at 0 (omega (arith, is.below, within)) (eq-eqb (slice_index on is.at) (slice_index on is.at) refl)
 
-log_is_slice : (on : List ℕ) (i d : ℕ) → IsLogOf on i d → slice_of d ≡ 0
+pub log_is_slice : (on : List ℕ) (i d : ℕ) → IsLogOf on i d → slice_of d ≡ 0
 log_is_slice on i d is = ap slice_of is.slice ∙ slice_of_log (slice_index on is.at)
 
 log_next : (q : ℕ) (on : List ℕ) (p : ℕ) → IsLogOf on (length on) (log_slice p) → IsLogOf (q ∷ on) (length (q ∷ on)) (log_slice p)

@@ -8,7 +8,7 @@ use Rattle.rack.specs.Targets.{Target, look, put}
 use Rattle.array_image.specs.Places.{slice_of, place_of, log_slice, log_sectors}
 use Rattle.array_image.specs.Record.{gate_sector, pending}
 use Rattle.commit_log.specs.View.{LogView, names}
-use Rattle.commit_log.specs.Standing.{IsLogPart, deciding}
+use Rattle.commit_log.specs.Standing.{IsLogPart, deciding, IsWhole}
 use Rattle.commit_log.specs.Commits.{Committed}
 use Rattle.commit_log.proofs.Restored.{restored, restored_there, restored_picks, restored_inside, put_there, put_same}
 use Rattle.commit_log.proofs.Amid.{in_half, Terms, IsWritten, IsAround, slice_of_log, place_of_log, log_of_place, half_least, half_most, not_in_half, replayed_as}
@@ -89,9 +89,10 @@ pub all_committed : (l : LogView) (on : List ℕ) (number : ℕ) (opened closed 
     → ((p : ℕ) → IsLive a a (log_slice p) gate_sector → MayLeave (a.held (log_slice p) gate_sector) (c (log_slice p) gate_sector) ⊎ (names on p ≡ true))
     → ((d t : ℕ) → IsLive a a d t → (IsLogPart d t → ⊥) → MayLeave (a.held d t) (c d t) ⊎ (look l.added d t ≡ Some (c d t)))
     → (pending (deciding c) c ≡ l.added) ⊎ ((pending (deciding c) c ≡ []) × IsWritten l.added c)
+    → IsWhole c
     → Committed l.added a c
 unfolding look
-all_committed l on number opened closed a c terms around gates others pends =
+all_committed l on number opened closed a c terms around gates others pends whole =
     let chosen : ℕ → ℕ → Bool = of_commit number on l.added in
     let before : Image = restored chosen a c in
     record {
@@ -100,6 +101,7 @@ all_committed l on number opened closed a c terms around gates others pends =
         picks = restored_picks chosen a c (λ d t live free. pick d t live free);
         inside = restored_inside chosen a c (λ p t past. past_free l on number opened closed a p t terms past) around.inside;
       };
+      whole = whole;
       all = λ d t other.
           let puts : put a.sectors l.added c d t ≡ put a.sectors l.added before d t =
           put_same a.sectors l.added c before d t

@@ -9,7 +9,7 @@ use Rattle.array_image.specs.Places.{log_slice, place_of}
 use Rattle.array_image.specs.Record.{GateAt, gate_sector, half_of, pending_at, pending}
 use Rattle.array_image.specs.Arrays.{replayed}
 use Rattle.commit_log.specs.View.{LogView, next_number, names, in_order}
-use Rattle.commit_log.specs.Standing.{IsLogPart, IsAlike, IsInside, deciding, LogsStand, IsNumbered, IsReady, SomeoneDecides}
+use Rattle.commit_log.specs.Standing.{IsLogPart, IsAlike, IsInside, deciding, IsWhole, LogsStand, IsNumbered, IsReady, SomeoneDecides}
 
 -- contents that a stop now may leave
 pub record Stands (x : Seen) (c : Image) : Type 0 where
@@ -24,12 +24,15 @@ pub record Commits (xs : List Target) (a : Seen) (c : Image) : Type 0 where
   pub stands : Stands a before
   pub either :
       IsAlike (replayed a.sectors c) (replayed a.sectors before) ⊎ IsAlike (replayed a.sectors c) (put a.sectors xs before)
+  -- nor is a log damaged by it
+  pub whole : IsWhole before → IsWhole c
 
 -- all
 pub record Committed (xs : List Target) (a : Seen) (c : Image) : Type 0 where
   pub before : Image
   pub stands : Stands a before
   pub all : IsAlike (replayed a.sectors c) (put a.sectors xs before)
+  pub whole : IsWhole c
 
 -- what log slices leave pending after a commit: its own targets at most, and these only where somebody went
 pub record Rests (number : ℕ) (xs : List Target) (lost : List ℕ) (c : Image) : Type 0 where

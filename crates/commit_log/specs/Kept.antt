@@ -12,7 +12,7 @@ use Rattle.array_image.specs.Record.{GateAt, gate_sector, pending_at, pending}
 use Rattle.array_image.specs.States.{is_current}
 use Rattle.array_image.specs.Arrays.{replayed}
 use Rattle.commit_log.specs.View.{names}
-use Rattle.commit_log.specs.Standing.{LogsStand, deciding, IsNumbered}
+use Rattle.commit_log.specs.Standing.{LogsStand, deciding, IsWhole, IsNumbered}
 use Rattle.commit_log.specs.Commits.{Stands}
 
 -- a sector is a copy of a state
@@ -41,6 +41,8 @@ pub record LogKept (s : State) (number : ℕ) (gone : ℕ → Bool) (x : Seen) :
   pub copies : CopiesStand s gone x
   pub numbers : (p : ℕ) → is_current s p ≡ true → gate_sector < x.sectors (log_slice p) → IsNumbered number x p
   pub halves : (c : Image) → LogsStand x c → (a : GateAt) → pending_at (deciding c) c ≡ Some a → a.gate.number ≡ number
+  -- no log is damaged
+  pub whole : (c : Image) → Stands x c → IsWhole c
   -- nothing is pending, or a current place has gone and isn't marked
   pub idle : (c : Image) → LogsStand x c → (pending (deciding c) c ≡ []) ⊎ ((p : ℕ) × (is_current s p ≡ true) × (gone p ≡ true))
   -- replaying changes nothing on the places that are left

@@ -10,10 +10,10 @@
 //!
 //! **The contract.** `CommitCall` (specs/Commits.antt), over any rack of slices: all or nothing at each
 //! moment, whoever goes in which phase; all at the return, but on the places that it answers; each of these
-//! has its cause; and what the next commit needs. Once it is made, a log takes no memory.
-//!
-//! Looking for a pending record and replaying it aren't built yet; specs/Opening.antt has their clauses, which
-//! nothing proves so far.
+//! has its cause; and what the next commit needs. After a stop, `PendingCall` (specs/Opening.antt) says which
+//! record is pending and which place's log isn't well formed, and `ReplayCall` that a replay leaves contents
+//! that are replayed as before at each moment, with nothing pending at its end where nobody went. Once it is
+//! made, a log takes no memory.
 #![tactic(auto)]
 
 mod gates;
@@ -21,8 +21,9 @@ mod loading;
 mod log;
 mod lost;
 mod record;
+mod scan;
 #[cfg(test)]
 mod tests;
 mod writing;
 
-pub use log::{Log, Target};
+pub use log::{Log, Looked, Target};

@@ -28,7 +28,8 @@ pub(crate) fn read_record<R: Rack>(
     ensures reads { OnlyReads (R.seen rack.old) (R.seen rack.new) }
     ensures gone { IfErr result (λ e. Rose ((R.seen rack.old).faults disk) ((R.seen rack.new).faults disk)) }
     ensures head { OnOk result ((R.seen rack.old).told disk → (k : ℕ) → k < 96 → sector_in bytes.new k ≡ ((R.seen rack.old).held disk (first + k)).current) }
-    ensures all { IfOk result (λ count. MatchOption count (number_at 12 4 bytes.new ≡ 0 ⊎ 3996 < number_at 12 4 bytes.new) (λ n. (n ≡ number_at 12 4 bytes.new) × (1 ≤ n) × (n ≤ 3996) × ((R.seen rack.old).told disk → (k : ℕ) → k < 96 + n → sector_in bytes.new k ≡ ((R.seen rack.old).held disk (first + k)).current))) }
+    ensures unspent { OnOk result ((k : ℕ) → k < 96 → (R.seen rack.old).spent disk (first + k) ≡ false) }
+    ensures all { IfOk result (λ count. MatchOption count (number_at 12 4 bytes.new ≡ 0 ⊎ 3996 < number_at 12 4 bytes.new) (λ n. (n ≡ number_at 12 4 bytes.new) × (1 ≤ n) × (n ≤ 3996) × ((R.seen rack.old).told disk → (k : ℕ) → k < 96 + n → sector_in bytes.new k ≡ ((R.seen rack.old).held disk (first + k)).current) × ((k : ℕ) → k < 96 + n → (R.seen rack.old).spent disk (first + k) ≡ false))) }
     ensures runs { R.runs rack.old rack.new }
 {
     if let Err(gone) = read_sectors(rack, disk, first, bytes, 0, HEAD) {

@@ -4,14 +4,16 @@ ghost use Rattle.std.specs.Prelude.{◌≡◌, ◌<◌, ◌-◌, ◌++◌, ◌�
 ghost use Rattle.std.specs.List.{list_all};
 ghost use Rattle.rack.specs.Targets.{target, look};
 ghost use Rattle.array_image.specs.Record.{is_target, are_apart, half_of};
-ghost use Rattle.commit_log.specs.View.{LogView, new_log, emptied, committed, next_number, most_sectors, payload_of};
+ghost use Rattle.commit_log.specs.View.{LogView, new_log, emptied, committed, settled, next_number, most_sectors, payload_of};
 ghost use Rattle.commit_log.specs.Bytes.{targets_in};
-ghost use Rattle.commit_log.specs.Phases.{AreLogs, IsHad};
+ghost use Rattle.commit_log.specs.Phases.{AreLogs, IsHad, Settles, IsLogOf, went};
 ghost use Rattle.commit_log.specs.Commits.{CommitCall};
+ghost use Rattle.commit_log.specs.Opening.{PendingCall, ReplayCall, HasWork, IsShut};
 
 use crate::gates::Gate;
 use crate::lost::Lost;
 use crate::record::{MOST, Record};
+use crate::scan::Scan;
 use crate::writing::{close_gates, settle_each, settle_record, settle_targets};
 use rack::{NoMemory, Places, Rack};
 use std::alloc::Global;
@@ -30,6 +32,17 @@ pub struct Target {
     pub disk: u32,
     /// Its sector.
     pub sector: u64,
+}
+
+/// What looking for a pending record found.
+#[derive(Drop)]
+pub struct Looked {
+    /// Whether a record is pending.
+    pub pending: bool,
+    /// The lowest place whose gate isn't well formed, or whose record isn't where it is read from there.
+    pub damaged: Option<u32>,
+    /// The places that went.
+    pub gone: Places,
 }
 
 /// The commit log of a pool: room for a record to be committed, and for one that is pending.
@@ -124,6 +137,29 @@ impl Log {
         lost.list()
     }
 
+    /// Looks for the pending record among the gates of some places, and loads it. It writes nothing. Places that go
+    /// are passed over.
+    pub fn pending<R: Rack>(&mut self, rack: &mut R, on: &Places) -> Looked
+        requires fit { (R.seen rack.old).fit }
+        requires disks { (R.seen rack.old).disks ≡ 272 }
+        requires logs { AreLogs (R.seen rack.old).sectors on.now.items }
+        ensures looks { PendingCall self.old self.new on.now.items result.gone.items result.pending result.damaged (R.seen rack.old) (R.seen rack.new) }
+        ensures runs { R.runs rack.old rack.new }
+    {
+        let mut scan = Scan::of(rack, on.as_slice());
+        self.number = scan.greatest();
+        self.opened = scan.is_open();
+        let broken = scan.load(rack, &mut self.pending);
+        let damaged = scan.first_damaged(broken);
+        self.pending.keep_if(damaged.is_none());
+        self.lent = true;
+        Looked {
+            pending: scan.pending().is_some(),
+            damaged,
+            gone: scan.lost.list(),
+        }
+    }
+
     /// The bytes that were added for a target, or else those that the pending record has for it, since the last
     /// `clear`, `commit` or `replay`.
     pub fn payload(&self, at: &Target) -> Option<&[u8; 512]>
@@ -137,6 +173,50 @@ impl Log {
         } else {
             None
         }
+    }
+
+    /// Writes the pending record's targets that the rack has, as the commit would have, and closes the gates
+    /// unless a place went. Where no record is pending it only closes gates, if one was open. Answers the places
+    /// that went.
+    pub fn replay<R: Rack>(&mut self, rack: &mut R, on: &Places) -> Places
+        requires fit { (R.seen rack.old).fit }
+        requires disks { (R.seen rack.old).disks ≡ 272 }
+        requires logs { AreLogs (R.seen rack.old).sectors on.now.items }
+        ensures replays { ReplayCall self.old on.now.items result.items (R.seen rack.old) (R.seen rack.new) }
+        ensures log { self.new ≡ settled self.old }
+        ensures runs { R.runs rack.old rack.new }
+    {
+        let on = on.as_slice();
+        let closed = Gate {
+            open: false,
+            number: self.number,
+        };
+        let mut lost = Lost::none();
+        settle_targets(rack, &mut lost, &self.pending);
+        self.close(rack, &mut lost, on, &closed.encode());
+        self.forget();
+        lost.list()
+    }
+
+    // Closes gates where there is work, unless a place has gone.
+    fn close<R: Rack>(&self, rack: &mut R, lost: &mut Lost, on: &[u32], block: &[u8; 512])
+        requires fit { (R.seen rack.old).fit }
+        requires disks { (R.seen rack.old).disks ≡ 272 }
+        requires logs { AreLogs (R.seen rack.old).sectors on.now }
+        ensures settles { Settles (R.seen rack.old) (R.seen rack.new) (IsLogOf on.now (length on.now)) (IsShut self.now (went lost.old.places) on.now block.now) (IsShut self.now (went lost.old.places) on.now block.now) (went lost.old.places) (went lost.new.places) }
+        ensures runs { R.runs rack.old rack.new }
+    {
+        if self.has_work() {
+            close_gates(rack, lost, on, block);
+        }
+    }
+
+    // Whether a record is pending or a gate is open.
+    fn has_work(&self) -> bool
+        ensures work { result ≡ true → HasWork self.now }
+        ensures idle { result ≡ false → HasWork self.now → ⊥ }
+    {
+        self.opened || self.pending.count() > 0
     }
 
     // Neither a record nor an open gate is left to replay.

@@ -1,6 +1,6 @@
 //! The places that have answered `Gone`.
 
-ghost use Rattle.std.specs.Prelude.{◌≡◌, ◌<◌, ◌≤◌, ◌==◌, ◌||◌, ℕ, true, false, filter, IsTrue, ◌↔◌};
+ghost use Rattle.std.specs.Prelude.{◌≡◌, ◌<◌, ◌≤◌, ◌==◌, ◌||◌, ℕ, true, false, filter, find, IsTrue, ◌↔◌};
 ghost use Rattle.std.specs.List.{range_with_len};
 ghost use Rattle.commit_log.specs.Phases.{went};
 
@@ -44,6 +44,19 @@ impl Lost {
         ensures some { result ≡ false → (p : ℕ) × (went self.now.places p ≡ true) }
     {
         !self.places.contains(&true)
+    }
+
+    /// The lowest of them.
+    pub(crate) fn first(&self) -> Option<u32>
+        ensures { result ≡ find (went self.now.places) (range_with_len 0 16) }
+    {
+        let mut first = None;
+        for place in (0..16u32).rev() {
+            if self.has(place) {
+                first = Some(place);
+            }
+        }
+        first
     }
 
     /// The places that have gone, the lowest first.

@@ -1,6 +1,6 @@
 //! A record: the targets of a commit and their payloads, as the bytes of its sectors.
 
-ghost use Rattle.std.specs.Prelude.{◌≡◌, ◌<◌, ◌≤◌, ◌+◌, ◌*◌, ◌^◌, ◌++◌, ◌∷◌, [], length, IfOk, MatchOption, Some, None, take, replicate, nat_lt, not, ◌==◌, ◌&&◌, ◌||◌, true, false, if◌then◌else◌, codes, bytes_eq, IfErr, OnErr};
+ghost use Rattle.std.specs.Prelude.{◌≡◌, ◌<◌, ◌≤◌, ◌+◌, ◌*◌, ◌^◌, ◌++◌, ◌∷◌, [], length, IfOk, MatchOption, Some, None, take, replicate, nat_lt, not, ◌==◌, ◌&&◌, ◌||◌, true, false, if◌then◌else◌, codes, bytes_eq, IfErr, OnErr, ℕ, List};
 ghost use Rattle.std.specs.List.{list_all, list_any};
 ghost use Rattle.rack.specs.Seen.{Rose};
 ghost use Rattle.rack.specs.Sequences.{OnlyReads};
@@ -10,6 +10,7 @@ ghost use Rattle.shr_base.specs.Blocks.{put_at, bytes_at, number_at};
 ghost use Rattle.rack.specs.Targets.{target, look, is_at};
 ghost use Rattle.commit_log.specs.Bytes.{targets_in, target_in, sector_in, IsSealed, record_bytes, passes};
 ghost use Rattle.commit_log.specs.Phases.{has_target};
+ghost use Rattle.commit_log.specs.Scans.{Agrees};
 
 use crate::gates::begins_with;
 use crate::loading::{read_record, take_sum};
@@ -73,6 +74,15 @@ impl Record {
         put_zeros(self.bytes.as_mut_slice());
     }
 
+    /// No targets any more, unless it is whole.
+    pub(crate) fn keep_if(&mut self, whole: bool)
+        ensures { targets_in self.new.bytes.items self.new.count ≡ (if whole then targets_in self.old.bytes.items self.old.count else []) }
+    {
+        if !whole {
+            self.clear();
+        }
+    }
+
     /// Adds a target and its payload.
     #[tactic(auto, using(crate::proofs::Targets::length_targets))]
     pub(crate) fn add(&mut self, disk: u32, sector: u64, from: &[u8; 512])
@@ -109,7 +119,7 @@ impl Record {
         requires slice { (R.seen rack.old).sectors disk ≡ log_sectors }
         ensures reads { OnlyReads (R.seen rack.old) (R.seen rack.new) }
         ensures gone { IfErr result (λ e. Rose ((R.seen rack.old).faults disk) ((R.seen rack.new).faults disk)) }
-        ensures ok { IfOk result (λ whole. (R.seen rack.old).told disk → record_of number (λ s. ((R.seen rack.old).held disk s).current) ≡ (if whole then Some (targets_in self.new.bytes.items self.new.count) else None)) }
+        ensures ok { IfOk result (λ whole. (R.seen rack.old).told disk → (slice : ℕ → List ℕ) → Agrees (R.seen rack.old) disk slice → record_of number slice ≡ (if whole then Some (targets_in self.new.bytes.items self.new.count) else None)) }
         ensures none { IfOk result (λ whole. whole ≡ false → targets_in self.new.bytes.items self.new.count ≡ []) }
         ensures empty { OnErr result (targets_in self.new.bytes.items self.new.count ≡ []) }
         ensures runs { R.runs rack.old rack.new }

@@ -1,16 +1,19 @@
-//! Tests of what no clause says: that calls succeed, the bytes of the format, which calls a commit makes, and who
-//! is answered when a place goes at each of them.
+//! Tests of what no clause says: that calls succeed, the bytes of the format, which calls a commit and a replay make,
+//! who is answered when a place goes at each of them, and that logs are looked at and replayed after any stop.
 
 ghost use Rattle.std.specs.Prelude.{◌≡◌, ◌<◌, ◌≤◌, ℕ, List, Some, true, length};
 ghost use Rattle.rack.specs.Targets.{look};
 ghost use Rattle.commit_log.specs.Bytes.{targets_in};
 ghost use Rattle.commit_log.specs.Phases.{AreLogs, IsHad};
 
+use crate::gates::Gate;
 use crate::record::Record;
-use crate::{Log, Target};
+use crate::{Log, Looked, Target};
 use hex::decode_to_slice;
 use rack::{Bay, Name, Places, Rack};
-use rack_mem::{DiskSpec, MemBay};
+use rack_mem::{DiskSpec, MemBay, Pick};
+use shr_base::crc32;
+use shr_base::fields::put_u32;
 use std::alloc::Global;
 use std::process::Abort;
 use std::test::Fail;
@@ -75,6 +78,23 @@ fn commit(rt: &impl Abort, log: &mut Log, bay: &mut MemBay, on: &Places) -> Plac
     assert!(rt; are_logs(bay, on.as_slice()));
     assert!(rt; log.fits(bay));
     log.commit(bay, on)
+}
+
+fn look(rt: &impl Abort, log: &mut Log, bay: &mut MemBay, on: &Places) -> Looked {
+    assert!(rt; bay.disks() == 272);
+    assert!(rt; are_logs(bay, on.as_slice()));
+    log.pending(bay, on)
+}
+
+fn replay(rt: &impl Abort, log: &mut Log, bay: &mut MemBay, on: &Places) -> Places {
+    assert!(rt; bay.disks() == 272);
+    assert!(rt; are_logs(bay, on.as_slice()));
+    log.replay(bay, on)
+}
+
+fn write(rt: &impl Abort, bay: &mut MemBay, disk: u32, sector: u64, block: &[u8; 512]) {
+    assert!(rt; disk < bay.disks() && sector < bay.sectors(disk));
+    assert!(rt; bay.write(disk, sector, block).is_ok());
 }
 
 fn add(rt: &impl Abort, log: &mut Log, disk: u32, sector: u64, byte: u8) {
@@ -196,5 +216,259 @@ fn a_place_that_goes_is_answered(rt: HostRuntime) -> Result<(), Fail> {
         assert!(rt; lost.len() == 1 && went < 2, "at {call}");
         assert!(rt; if went == 0 { second } else { first }, "at {call}");
     }
+    Ok(())
+}
+
+// Fields of a block, which begins with a word of eight bytes and has its sum behind it. They are changed before the
+// sum is taken, or after it.
+fn sealed(block: &mut [u8], fields: [(usize, u32); 8], changes: [(usize, u32); 2], after: bool) {
+    for (at, value) in fields {
+        put(block, at, value);
+    }
+    for change in changes {
+        if !after {
+            put(block, change.0, change.1);
+        }
+    }
+    let sum = crc32(block);
+    put(block, 8, sum);
+    for change in changes {
+        if after {
+            put(block, change.0, change.1);
+        }
+    }
+}
+
+fn put(block: &mut [u8], at: usize, value: u32) {
+    if at <= 508 && block.len() >= 512 {
+        put_u32(block, at, value);
+    }
+}
+
+// The word of a gate, which is open and has number 7.
+const GATE: [(usize, u32); 8] = [
+    (0, 0x4752_4853),
+    (4, 0x3145_5441),
+    (12, 1),
+    (16, 7),
+    (20, 0),
+    (20, 0),
+    (20, 0),
+    (20, 0),
+];
+
+// The word of a record with number 7 and two targets, sector 5 of slice 18 and sector 6 of slice 35.
+const RECORD: [(usize, u32); 8] = [
+    (0, 0x4252_4853),
+    (4, 0x3159_444f),
+    (12, 2),
+    (16, 7),
+    (64, 18),
+    (68, 5),
+    (76, 35),
+    (80, 6),
+];
+
+// No change.
+const WHOLE: [(usize, u32); 2] = [(20, 0); 2];
+
+// Writes the 98 sectors of a record to the second half of a log slice.
+fn write_half(rt: &impl Abort, bay: &mut MemBay, disk: u32, bytes: &[u8]) {
+    let (sectors, _) = bytes.as_chunks::<512>();
+    for at in 0..98 {
+        if at < sectors.len() {
+            write(rt, bay, disk, 4100 + at as u64, &sectors[at]);
+        }
+    }
+}
+
+// Writes the open gate and the record to a place, with changes of either.
+fn write_log(
+    rt: &impl Abort,
+    alloc: Global,
+    bay: &mut MemBay,
+    place: u32,
+    gate: [(usize, u32); 2],
+    record: [(usize, u32); 2],
+    after: bool,
+) -> Result<(), Fail> {
+    assert!(rt; place < 16);
+    let mut block = [0; 512];
+    sealed(&mut block, GATE, gate, after);
+    write(rt, bay, 17 * place, 1, &block);
+    let mut bytes = vec![in alloc; 0u8; 98 * 512]?;
+    sealed(bytes.as_mut_slice(), RECORD, record, after);
+    write_half(rt, bay, 17 * place, bytes.as_slice());
+    Ok(())
+}
+
+#[test]
+fn each_damage_is_told(rt: HostRuntime) -> Result<(), Fail> {
+    let rows = [
+        ("nothing", 0, WHOLE, WHOLE, true, None),
+        ("a gate's word", 0, [(0, 0); 2], WHOLE, false, Some(0)),
+        ("a gate's sum", 1, [(8, 0); 2], WHOLE, true, Some(1)),
+        (
+            "a gate's last bytes",
+            1,
+            [(508, 1); 2],
+            WHOLE,
+            true,
+            Some(1),
+        ),
+        ("a record's word", 0, WHOLE, [(0, 0); 2], false, Some(0)),
+        ("its number", 0, WHOLE, [(16, 9); 2], false, Some(0)),
+        ("its sum", 0, WHOLE, [(8, 0); 2], true, Some(0)),
+        ("no target", 0, WHOLE, [(12, 0); 2], false, Some(0)),
+        ("too many", 0, WHOLE, [(12, 3997); 2], false, Some(0)),
+        ("one twice", 0, WHOLE, [(76, 18), (80, 5)], false, Some(0)),
+        ("no disk", 0, WHOLE, [(76, 272); 2], false, Some(0)),
+        ("a part of a log", 0, WHOLE, [(76, 34); 2], false, Some(0)),
+        ("a state", 0, WHOLE, [(76, 34), (80, 0)], false, None),
+        ("one not read", 1, WHOLE, [(0, 0); 2], false, None),
+        ("both", 1, [(0, 0); 2], [(0, 0); 2], false, Some(1)),
+    ];
+    for (name, place, gate, record, after, damaged) in rows {
+        let mut bay = bay(&rt, rt.alloc(), &[], 400)?;
+        attach_all(&rt, rt.alloc(), &mut bay)?;
+        for other in 0..2 {
+            let (gate, record) = if other == place {
+                (gate, record)
+            } else {
+                (WHOLE, WHOLE)
+            };
+            write_log(&rt, rt.alloc(), &mut bay, other, gate, record, after)?;
+        }
+        let mut log = Log::make(rt.alloc())?;
+        let looked = look(&rt, &mut log, &mut bay, &first_places(2));
+        assert_eq!(rt; looked.damaged, damaged, "{name}");
+        assert!(rt; looked.gone.is_empty(), "{name}");
+        let first = Target {
+            disk: 18,
+            sector: 5,
+        };
+        assert_eq!(rt; log.payload(&first).is_some(), damaged.is_none(), "{name}");
+    }
+    Ok(())
+}
+
+// Writes the closed gate of a new pool to some places.
+fn write_gates(rt: &impl Abort, bay: &mut MemBay, count: u32) {
+    let closed = Gate {
+        open: false,
+        number: 0,
+    };
+    for place in 0..count {
+        if place < 16 {
+            write(rt, bay, 17 * place, 1, &closed.encode());
+            assert!(rt; 17 * place < bay.disks());
+            assert!(rt; bay.sync(17 * place).is_ok());
+        }
+    }
+}
+
+// Replays three places by a fresh log, and answers what their targets hold then.
+fn replayed(rt: &impl Abort, alloc: Global, bay: &mut MemBay) -> Result<[u8; 3], Fail> {
+    attach_all(rt, alloc, bay)?;
+    let on = first_places(3);
+    let mut log = Log::make(alloc)?;
+    let looked = look(rt, &mut log, bay, &on);
+    assert!(rt; looked.damaged.is_none() && looked.gone.is_empty());
+    assert!(rt; replay(rt, &mut log, bay, &on).is_empty());
+    assert!(rt; !look(rt, &mut log, bay, &on).pending);
+    Ok([
+        bay.sector_now(1, 7)[511],
+        bay.sector_now(18, 7)[511],
+        bay.sector_now(35, 7)[511],
+    ])
+}
+
+#[test]
+fn a_stop_leaves_all_or_nothing(rt: HostRuntime) -> Result<(), Fail> {
+    let mut bay = bay(&rt, rt.alloc(), &[], 800)?;
+    attach_all(&rt, rt.alloc(), &mut bay)?;
+    write_gates(&rt, &mut bay, 3);
+    let first = bay.calls();
+    let mut log = Log::make(rt.alloc())?;
+    for byte in 1..3 {
+        for disk in [1, 18, 35] {
+            add(&rt, &mut log, disk, 7, byte);
+        }
+        assert!(rt; commit(&rt, &mut log, &mut bay, &first_places(3)).is_empty());
+    }
+    let mut last = 0;
+    for moment in first..bay.calls() + 1 {
+        for pick in [Pick::Oldest, Pick::Newest, Pick::Seeded { seed: moment }] {
+            assert!(rt; moment <= bay.calls());
+            let mut image = bay.image_at(rt.alloc(), moment, pick)?;
+            let values = replayed(&rt, rt.alloc(), &mut image)?;
+            assert!(rt; values == [values[0]; 3] && values[0] < 3, "at {moment}");
+            last = values[0];
+        }
+    }
+    assert_eq!(rt; last, 2);
+    Ok(())
+}
+
+// Two places are looked at and replayed, where a call fails: those that went in each.
+fn reopened_failing_at(
+    rt: &impl Abort,
+    alloc: Global,
+    call: u64,
+) -> Result<(Looked, Places, bool, bool), Fail> {
+    let mut bay = bay(rt, alloc, &[call], 999)?;
+    attach_all(rt, alloc, &mut bay)?;
+    for place in 0..2 {
+        write_log(rt, alloc, &mut bay, place, WHOLE, WHOLE, true)?;
+    }
+    let mut log = Log::make(alloc)?;
+    let on = first_places(2);
+    let looked = look(rt, &mut log, &mut bay, &on);
+    let lost = replay(rt, &mut log, &mut bay, &on);
+    let closed = Gate {
+        open: false,
+        number: 7,
+    };
+    let first = bay.sector_now(0, 1) == closed.encode();
+    let second = bay.sector_now(17, 1) == closed.encode();
+    Ok((looked, lost, first, second))
+}
+
+#[test]
+fn a_place_that_goes_is_passed_over(rt: HostRuntime) -> Result<(), Fail> {
+    // The gates and the record are written by 198 calls and read by 100, and then are the targets' calls and the gates'.
+    for call in 198..306 {
+        let (looked, lost, first, second) = reopened_failing_at(&rt, rt.alloc(), call)?;
+        assert!(rt; looked.pending && looked.damaged.is_none(), "at {call}");
+        assert_eq!(rt; looked.gone.len() + lost.len(), 1, "at {call}");
+        assert_eq!(rt; lost.is_empty(), call < 298, "at {call}");
+        let closed = call < 298 || call >= 302;
+        assert_eq!(rt; first, closed && call != 302, "at {call}");
+        assert_eq!(rt; second, closed && call != 303, "at {call}");
+    }
+    Ok(())
+}
+
+#[test]
+fn an_open_gate_alone_is_closed(rt: HostRuntime) -> Result<(), Fail> {
+    let mut bay = bay(&rt, rt.alloc(), &[], 400)?;
+    attach_all(&rt, rt.alloc(), &mut bay)?;
+    write_log(&rt, rt.alloc(), &mut bay, 0, [(12, 0); 2], WHOLE, false)?;
+    write_log(&rt, rt.alloc(), &mut bay, 1, WHOLE, WHOLE, false)?;
+    let mut log = Log::make(rt.alloc())?;
+    let on = first_places(2);
+    for (reads, calls) in [(2, 6), (2, 2)] {
+        let before = bay.calls();
+        let looked = look(&rt, &mut log, &mut bay, &on);
+        assert!(rt; !looked.pending && looked.damaged.is_none());
+        assert_eq!(rt; bay.calls().wrapping_sub(before), reads);
+        assert!(rt; replay(&rt, &mut log, &mut bay, &on).is_empty());
+        assert_eq!(rt; bay.calls().wrapping_sub(before), calls);
+    }
+    let closed = Gate {
+        open: false,
+        number: 7,
+    };
+    assert_eq!(rt; bay.sector_now(17, 1), closed.encode());
     Ok(())
 }

@@ -19,4 +19,9 @@ returns-in-Ok-clause-all g c =
                 c.in-Ok.ensures.read (c.in_default.ensures.reads.stays.told disk told) k rest below
                 ∙ same_after disk (first + k) c.in_default.ensures.reads c.requires.disk (omega (arith, c.requires.half, below, c.if-count-gt-MOST.false)) told (c.in-Ok.ensures.unspent k rest below)
           ],
+      λ k below.
+          elim (cases_lt k 96) [
+            | inl head ↦ c.in_default.ensures.unspent k (omega arith) head
+            | inr rest ↦ c.in_default.ensures.reads.stays.spent disk (first + k) (c.in-Ok.ensures.unspent k rest below)
+          ],
     )
