@@ -15,3 +15,12 @@ pub mod StagedTargets
 pub mod Rewriting
 pub mod Settled
 pub mod Renewing
+pub mod Direct
+pub mod LogFrames
+pub mod Cleaning
+pub mod Marking
+pub mod RowTargets
+pub mod RowCommits
+pub mod RowLists
+pub mod RowOwed
+pub mod RowLogged

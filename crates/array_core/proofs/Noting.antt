@@ -136,3 +136,45 @@ noted_one a place made low = record {
 
 pub kept_one : (v : View) (places : List ℕ) → IsSameButSeats v (gone places v)
 kept_one v places = record { number = refl; truth = refl; devices = refl; resync = refl; young = refl; marked = refl }
+
+-- ---- several places at once
+
+went_all : (wents places : List ℕ) (p : ℕ) → list_all (λ q. nat_lt q 16) wents ≡ true → list_all (λ q. nat_lt q 16) places ≡ true
+    → names (joined wents places) p ≡ (names places p || names wents p)
+went_all wents places p few low =
+    elim (cases_lt p 16) [
+      | inl here ↦ one_of (λ q. names wents q || names places q) p 0 16 (omega arith) (omega (arith, here)) ∙ or_swap (names wents p) (names places p)
+      | inr high ↦
+          none_late (λ q. names wents q || names places q) p 0 16 (omega (arith, high))
+          ∙ sym (ap₂ (λ (b c : Bool). b || c) (none_above places p high low) (none_above wents p high few))
+    ]
+
+seats_all : (a : Inside) (places : List ℕ) (n : ℕ) → IsMade a
+    → slice_get (losing places (view_of a)).seats n ≡ option_map (seat_unless (names places) (place_at (view_of a) n)) (slice_get (view_of a).seats n)
+seats_all a places n made =
+    let f : Slot → Seat = λ s. seat_unless (names places) s.place s.seat in
+    ap (λ (slots : List Slot). slice_get (map f slots) n) (slots_viewed a made.slots)
+    ∙ get_map f a.slots.items n
+    ∙ at (slice_get a.slots.items n) refl
+    ∙ ap (option_map (seat_unless (names places) (place_at (view_of a) n))) (sym (get_map (λ (s : Slot). s.seat) a.slots.items n))
+  where
+    inside : (slots : List Slot) (k : ℕ) (s : Slot) → slice_get slots k ≡ Some s → k < length slots
+    inside [] k s is = absurd (cc)
+    inside (x ∷ xs) zero s is = omega arith
+    inside (x ∷ xs) (suc k) s is = let low = inside xs k s is in omega (arith, low)
+
+    at : (o : Option Slot) → slice_get a.slots.items n ≡ o
+        → option_map (λ (s : Slot). seat_unless (names places) s.place s.seat) o
+        ≡ option_map (seat_unless (names places) (place_at (view_of a) n)) (option_map (λ (s : Slot). s.seat) o)
+    at None is = refl
+    at (Some s) is =
+        let low = inside a.slots.items n s is in
+        let count = slot_count a made in
+        let slot = slot_is a n s made (omega (arith, low, count)) is in
+        ap (λ (p : ℕ). Some (if names places p then Missing else s.seat)) slot.place
+
+pub noted_all : (a : Inside) (places : List ℕ) → IsMade a → list_all (λ q. nat_lt q 16) places ≡ true → LosesPlaces (view_of a) (gone places (view_of a)) (names places)
+noted_all a places made low = record {
+  seats = λ n. seats_all a places n made;
+  went = λ p. went_all a.went.items places p made.went low;
+}

@@ -43,7 +43,7 @@ get_map f [] k = refl
 get_map f (x ∷ xs) zero = refl
 get_map f (x ∷ xs) (suc k) = get_map f xs k
 
-get_range : (a n k : ℕ) → k < n → slice_get (range_with_len a n) k ≡ Some (a + k)
+pub get_range : (a n k : ℕ) → k < n → slice_get (range_with_len a n) k ≡ Some (a + k)
 get_range a zero k low = absurd (omega (arith, low))
 get_range a (suc n) zero low = ap Some (omega arith)
 get_range a (suc n) (suc k) low = get_range (a + 1) n k (omega (arith, low)) ∙ ap Some (omega arith)
@@ -106,7 +106,7 @@ placed t n roles low =
       omega (arith, early.0, few),
     )
 
-zero_more : (k : ℕ) → 0 + k ≡ k
+pub zero_more : (k : ℕ) → 0 + k ≡ k
 zero_more k = omega arith
 
 pub slot_is : (a : Inside) (k : ℕ) (s : Slot) → IsMade a → k < a.truth.raid_disks → slice_get a.slots.items k ≡ Some s → IsSlot (view_of a) k s

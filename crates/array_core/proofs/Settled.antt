@@ -52,7 +52,7 @@ settled_holds s durable u vals spent x single holds =
       truth = λ r left t is. settled_later t u (holds.truth r left t is);
     }
 
-spent_same : (u : View) (x : ℕ) → spent_in (settled u) x ≡ spent_in u x
+pub spent_same : (u : View) (x : ℕ) → spent_in (settled u) x ≡ spent_in u x
 unfolding shape_of
 spent_same u x = refl
 

@@ -8,3 +8,5 @@ pub mod Contents
 pub mod Staging
 pub mod Parities
 pub mod Settling
+pub mod Pool
+pub mod Logging

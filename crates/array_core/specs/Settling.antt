@@ -1,11 +1,11 @@
 -- What settling makes of an array.
-use Rattle.std.specs.Prelude.{◌≡◌, ◌≢◌, ◌<◌, ℕ, List, Some, slice_get}
+use Rattle.std.specs.Prelude.{◌≡◌, ◌≢◌, ◌⊎◌, ◌<◌, ℕ, Bool, true, false, List, [], Some, slice_get}
 use Rattle.rack.specs.Seen.{Seen, IsLive}
-use Rattle.array_model.specs.View.{View}
+use Rattle.array_model.specs.View.{View, is_whole_array}
 use Rattle.array_model.specs.Members.{Notes, slice_on}
-use Rattle.array_core.specs.Superblocks.{settled, IsSectorOf, member_super}
+use Rattle.array_core.specs.Superblocks.{settled, is_settled, IsSectorOf, member_super, raised}
 use Rattle.rack.specs.Values.{MayLeave}
-use Rattle.rack.specs.Sequences.{WritesOnly}
+use Rattle.rack.specs.Sequences.{OnlyReads, WritesOnly}
 use Rattle.array_image.specs.Places.{super_sector}
 use Rattle.array_model.specs.declared.Seat.TheVariants.{Missing}
 use Rattle.array_core.specs.declared.slots.Slot.{Slot}
@@ -47,3 +47,43 @@ pub record WritesSupers (v w : View) (a b : Seen) (many : ℕ) : Type 0 where
   pub durable :
       (n : ℕ) → n < many → slice_get w.seats n ≢ Some Missing → IsLive a b (slice_on v n) super_sector
       → (x : List ℕ) → MayLeave (b.held (slice_on v n) super_sector) x → IsOwnSector v n x
+
+-- nothing else was to be done
+pub record IsSynced (synced w : View) : Type 0 where
+  pub same : w ≡ synced
+  pub why : (synced.went ≢ []) ⊎ (is_settled synced ≡ true)
+
+-- superblocks were written
+pub record IsCleaned (synced w : View) (a b : Seen) : Type 0 where
+  pub fresh : synced.went ≡ []
+  pub open_rows : is_settled synced ≡ false
+  pub notes : Notes (settled synced) w a b
+  -- those of the members that are left are durable
+  pub durable :
+      (n : ℕ) → n < synced.truth.raid_disks → slice_get w.seats n ≢ Some Missing → IsLive a b (slice_on synced n) super_sector
+      → (x : List ℕ) → MayLeave (b.held (slice_on synced n) super_sector) x → IsOwnSector (settled synced) n x
+
+-- Members were synced. Where a place had gone by then, or the truth says already what settling would, that is all. Else their
+-- superblocks were written, with one more event and the rows that are left.
+pub record Cleans (v w : View) (a b : Seen) : Type 0 where
+  pub synced : View
+  pub notes : Notes v synced a b
+  pub either : IsSynced synced w ⊎ IsCleaned synced w a b
+
+-- the array with a truth that leaves all rows to resync, of one more event
+abbrev pub unsynced : View → View
+unsynced v = record v { truth = record v.truth { events = raised v.truth.events; resync_offset = 0 }; marked = false }
+
+-- That superblock was written for each member. The array is marked where each one has it durably.
+pub record Marks (v w : View) (a b : Seen) : Type 0 where
+  pub written : View
+  pub writes : WritesSupers (unsynced v) written a b v.truth.raid_disks
+  pub either : ((written.went ≡ []) × (w ≡ record written { marked = true })) ⊎ ((written.went ≢ []) × (w ≡ written))
+
+-- Whether rows may be written past the log: they may where a whole array is marked, or has just been marked. Else it was marked on
+-- those that are left, or nothing was done.
+pub data Readies (v w : View) (a b : Seen) : Bool → Type 0 where
+  was_marked : is_whole_array v ≡ true → v.went ≡ [] → v.marked ≡ true → w ≡ v → OnlyReads a b → Readies v w a b true
+  now_marked : is_whole_array v ≡ true → v.went ≡ [] → v.marked ≡ false → w.marked ≡ true → Marks v w a b → Readies v w a b true
+  lost_one : is_whole_array v ≡ true → v.went ≡ [] → v.marked ≡ false → w.marked ≡ false → Marks v w a b → Readies v w a b false
+  not_whole : w ≡ v → OnlyReads a b → (is_whole_array v ≡ false) ⊎ (v.went ≢ []) → Readies v w a b false

@@ -22,6 +22,7 @@
 //! members, so an array that is being reshaped is read by two layouts and a border, and a member that is being rebuilt by its reach.
 #![tactic(auto)]
 
+mod logged;
 mod members;
 mod opening;
 mod reading;

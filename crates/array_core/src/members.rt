@@ -1,6 +1,7 @@
 //! The members of an array: who counts where, and where a sector stands.
 
-ghost use Rattle.std.specs.Prelude.{◌≢◌, false, slice_get, ◌≡◌, ◌<◌, ◌≤◌, ◌^◌, ℕ, Some, None, nat_lt, true, IfSome, IfNone};
+ghost use Rattle.std.specs.Prelude.{◌≢◌, ◌==◌, ◌&&◌, false, slice_get, ◌≡◌, ◌<◌, ◌≤◌, ◌^◌, ℕ, Some, None, nat_lt, true, IfSome, IfNone};
+ghost use Rattle.std.specs.List.{list_all};
 ghost use Rattle.raid_map.specs.LeftSymmetric.{parity_at, row_at, sector_of};
 ghost use Rattle.array_image.specs.Stripes.{mirror, parity, width, position_in, sector_in};
 ghost use Rattle.array_image.specs.Supers.{is_reshaping};
@@ -9,7 +10,7 @@ ghost use Rattle.array_image.specs.Arrays.{final_layout, layout_at};
 ghost use Rattle.array_image.specs.Held.{source_in, first_counting};
 ghost use Rattle.array_image.specs.Spent.{wanting, spent_with};
 ghost use Rattle.array_model.specs.declared.Seat.TheVariants.{Missing};
-ghost use Rattle.array_model.specs.View.{IsArray, place_at, member_on, shape_of, sectors_of, spent_in};
+ghost use Rattle.array_model.specs.View.{IsArray, is_whole_array, is_whole_seat, rows_of, place_at, member_on, shape_of, sectors_of, spent_in};
 ghost use Rattle.array_model.specs.Members.{members_of, row_layout, slice_on};
 ghost use Rattle.array_model.proofs.Firsts.{firsts};
 ghost use Rattle.array_core.specs.Stands.{IsSlot, IsStand, layout_of};
@@ -34,6 +35,31 @@ fn is_mirror(truth: &Super) -> bool
     ensures { result ≡ is_mirror truth.now }
 {
     truth.level == 1
+}
+
+/// Whether four things hold.
+fn are_all(first: bool, second: bool, third: bool, fourth: bool) -> bool
+    ensures { result ≡ (first && (second && (third && fourth))) }
+{
+    first && second && third && fourth
+}
+
+/// Whether all data of each member counts.
+fn are_whole(slots: &[Slot]) -> bool
+    ensures { result ≡ list_all (λ s. is_whole_seat s.seat) slots.now }
+{
+    slots.iter().all(|slot| is_whole_seat(slot.seat))
+}
+
+/// Whether all data of a member counts.
+fn is_whole_seat(seat: Seat) -> bool
+    ensures { result ≡ is_whole_seat seat }
+{
+    match seat {
+        Seat::Whole => true,
+        Seat::Missing => false,
+        Seat::Rebuilding { .. } => false,
+    }
 }
 
 /// How a sector's row is spread over the members.
@@ -110,6 +136,25 @@ impl Array {
             Seat::Missing => true,
             Seat::Rebuilding { .. } => false,
         }
+    }
+
+    /// Whether each member counts in all rows, none is left to resync, and the array is neither young nor reshaping.
+    pub(crate) fn is_whole(&self) -> bool
+        ensures { result ≡ is_whole_array self.now }
+    {
+        are_all(
+            are_whole(self.slots.as_slice()),
+            self.is_resynced(),
+            !self.young,
+            !is_reshaping(&self.truth),
+        )
+    }
+
+    /// Whether no row is left to resync.
+    fn is_resynced(&self) -> bool
+        ensures { result ≡ (self.now.resync == rows_of self.now) }
+    {
+        self.resync == self.truth.size / CHUNK_SECTORS
     }
 
     /// The sectors of a member's data.

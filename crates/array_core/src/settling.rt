@@ -1,14 +1,17 @@
 //! Superblocks that say how the array stands once its members are synced.
 
-ghost use Rattle.std.specs.Prelude.{◌≡◌, ◌≤◌, ◌+◌, ◌<◌, ℕ, Bool, length};
+ghost use Rattle.std.specs.Prelude.{◌≡◌, ◌≤◌, ◌+◌, ◌<◌, ℕ, Bool, false, length};
 ghost use Rattle.rack.specs.Values.{Values};
 ghost use Rattle.rack.specs.Sequences.{OnlyReads};
 ghost use Rattle.pool_state.specs.declared.contents.State.{State};
 ghost use Rattle.array_image.specs.Arrays.{Shape};
-ghost use Rattle.array_model.specs.ArrayCalls.{Covers, SyncsArray};
+ghost use Rattle.commit_log.specs.Kept.{LogKept};
+ghost use Rattle.array_model.specs.View.{IsNoted, shape_of};
+ghost use Rattle.array_model.specs.ArrayCalls.{Covers, Keeping, SyncsArray};
 ghost use Rattle.array_model.specs.Members.{HasSlices};
 ghost use Rattle.commit_log.specs.View.{most_sectors};
-ghost use Rattle.array_core.specs.Settling.{IsOwnSector, Settles, WritesSuper, WritesSupers};
+ghost use Rattle.array_core.specs.Settling.{Cleans, IsOwnSector, Settles, WritesSuper, WritesSupers};
+ghost use Rattle.array_core.specs.Pool.{Goes, MayRenew};
 ghost use Rattle.array_core.specs.Staging.{AddsSupersOf};
 
 use crate::Array;
@@ -35,6 +38,31 @@ impl Array {
         self.sync(rack);
         self.settle_truth();
         self.stage_own(log);
+    }
+
+    /// Syncs the members and writes their superblocks directly, one after the other, with one more event and the rows to resync
+    /// that are left in this run. Where a place has gone by then no superblock is written, nor where the truth says already what
+    /// they would. No value changes, and a mark that this run made is taken back.
+    pub fn clean<R: Rack>(&mut self, rack: &mut R)
+        requires slices { HasSlices self.old (R.seen rack.old) }
+        ensures cleans { (s : State) (vals : ℕ → Values) (spent : ℕ → Bool) → Covers self.new spent → MayRenew s self.old (R.seen rack.old)
+            → Keeping s self.old self.new spent (R.seen rack.old) (R.seen rack.new) (shape_of self.old) vals }
+        ensures view { Cleans self.old self.new (R.seen rack.old) (R.seen rack.new) }
+        ensures noted { IsNoted self.old self.new (R.seen rack.old) (R.seen rack.new) }
+        ensures goes { Goes (R.seen rack.old) (R.seen rack.new) }
+        ensures kept { (s : State) (number : ℕ) → LogKept s number (λ place. false) (R.seen rack.old) → LogKept s number (λ place. false) (R.seen rack.new) }
+        ensures runs { R.runs rack.old rack.new }
+    {
+        self.rules();
+        self.sync(rack);
+        self.rules();
+        if self.has_lost() || self.is_settled() {
+            return;
+        }
+        self.settle_truth();
+        self.unsynced_rows();
+        self.rules();
+        self.renew_supers(rack);
     }
 
     /// The sector of a member's superblock.
@@ -69,7 +97,7 @@ impl Array {
     }
 
     /// Writes the superblocks of the members and syncs them, one after the other.
-    fn renew_supers<R: Rack>(&mut self, rack: &mut R)
+    pub(crate) fn renew_supers<R: Rack>(&mut self, rack: &mut R)
         requires slices { HasSlices self.old (R.seen rack.old) }
         ensures writes { WritesSupers self.old self.new (R.seen rack.old) (R.seen rack.new) self.old.truth.raid_disks }
         ensures runs { R.runs rack.old rack.new }

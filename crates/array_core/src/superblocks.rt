@@ -1,9 +1,11 @@
 //! The superblocks of an array's members, and how the array changes with them.
 
-ghost use Rattle.std.specs.Prelude.{◌≡◌, ◌≤◌, ◌==◌, ◌&&◌, map, length, true};
+ghost use Rattle.std.specs.Prelude.{◌≡◌, ◌≢◌, ◌⊎◌, ◌≤◌, ◌==◌, ◌&&◌, [], map, length, true, false};
+ghost use Rattle.array_image.specs.SoundArray.{first_unsynced};
 ghost use Rattle.array_core.specs.Model.{is_truth};
 ghost use Rattle.array_core.specs.Slots.{places_by};
 ghost use Rattle.array_core.specs.Superblocks as spec;
+ghost use Rattle.array_core.specs.Settling.{unsynced};
 
 use crate::opening::{CHUNK, REBUILDING, copied, is_unclean, place_by, resync_by};
 use crate::seats::{RESHAPING, slot_at};
@@ -57,13 +59,60 @@ impl Array {
         self.truth.resync_offset == self.left_from()
     }
 
+    /// Whether a place has gone.
+    pub(crate) fn has_lost(&self) -> bool
+        ensures some { result ≡ true → self.now.went ≢ [] }
+        ensures none { result ≡ false → self.now.went ≡ [] }
+    {
+        !self.went.is_empty()
+    }
+
+    /// The truth has one more event.
+    fn count_event(&mut self)
+        ensures { self.new ≡ record self.old { truth = record self.old.truth { events = spec.raised self.old.truth.events } } }
+    {
+        self.truth.events = raised(self.truth.events);
+    }
+
+    /// The truth leaves all rows to resync, with one more event.
+    pub(crate) fn unsync_truth(&mut self)
+        ensures { self.new ≡ unsynced self.old }
+    {
+        self.count_event();
+        self.truth.resync_offset = 0;
+        self.marked = false;
+    }
+
+    /// The array is marked where nobody went.
+    pub(crate) fn mark_if_all(&mut self)
+        ensures { ((self.old.went ≡ []) × (self.new ≡ record self.old { marked = true })) ⊎ ((self.old.went ≢ []) × (self.new ≡ self.old)) }
+    {
+        if !self.has_lost() {
+            self.marked = true;
+        }
+    }
+
+    /// Whether its `resync_offset` was made 0 durably by a write of this run.
+    pub(crate) fn is_marked(&self) -> bool
+        ensures { result ≡ self.now.marked }
+    {
+        self.marked
+    }
+
+    /// Each row that its truth leaves to resync is left.
+    pub(crate) fn unsynced_rows(&self)
+        ensures { first_unsynced self.now.truth ≤ self.now.resync }
+    {
+        let _number = self.number;
+    }
+
     /// The truth says so, with one more event. A mark that this run made is taken back.
     pub(crate) fn settle_truth(&mut self)
         ensures { self.new ≡ spec.settled self.old }
     {
         let left = self.left_from();
+        self.count_event();
         self.truth.resync_offset = left;
-        self.truth.events = raised(self.truth.events);
         self.marked = false;
     }
 }

@@ -16,6 +16,7 @@ ghost use Rattle.array_model.specs.Members.{HasSlices, IsKept, Notes, Works, mem
 ghost use Rattle.array_model.specs.Rows.{Wrote, copies};
 ghost use Rattle.array_core.specs.Stands.{IsStand};
 ghost use Rattle.array_core.specs.Parities.{FoundParity};
+ghost use Rattle.array_core.specs.Settling.{Marks, Readies};
 
 use crate::members::{Spread, Stand};
 use crate::reading::DATA_SECTOR;
@@ -172,5 +173,33 @@ impl Array {
         } else {
             Ok(())
         }
+    }
+
+    /// Makes it durable on all members that each row is left to resync, with one more event, so that rows may be written past the
+    /// log. The array is marked where nobody went.
+    fn mark<R: Rack>(&mut self, rack: &mut R)
+        requires slices { HasSlices self.old (R.seen rack.old) }
+        ensures marks { Marks self.old self.new (R.seen rack.old) (R.seen rack.new) }
+        ensures runs { R.runs rack.old rack.new }
+    {
+        self.unsync_truth();
+        self.renew_supers(rack);
+        self.mark_if_all();
+    }
+
+    /// Whether rows may be written past the log: the array is whole, nobody has gone, and it is marked, if need be now.
+    fn is_ready<R: Rack>(&mut self, rack: &mut R) -> bool
+        requires slices { HasSlices self.old (R.seen rack.old) }
+        ensures ready { Readies self.old self.new (R.seen rack.old) (R.seen rack.new) result }
+        ensures runs { R.runs rack.old rack.new }
+    {
+        if !self.is_whole() || self.has_lost() {
+            return false;
+        }
+        if self.is_marked() {
+            return true;
+        }
+        self.mark(rack);
+        self.is_marked()
     }
 }

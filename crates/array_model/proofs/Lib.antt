@@ -21,3 +21,7 @@ pub mod Writing
 pub mod RowWrites
 pub mod Changing
 pub mod Renewed
+pub mod Moves
+pub mod Opening
+pub mod Degraded
+pub mod Copies

@@ -11,7 +11,7 @@ use Rattle.array_image.specs.Supers.{super_in, truth_in}
 use Rattle.raid_map.specs.LeftSymmetric.{row_at}
 use Rattle.array_image.specs.Held.{Among, current_in, held_of, PicksData, IsSettled}
 use Rattle.array_image.specs.Even.{AreEven}
-use Rattle.array_image.specs.SoundArray.{array_fields, IsSoundArray}
+use Rattle.array_image.specs.SoundArray.{IsSoundArray}
 use Rattle.array_image.specs.Marks.{unless_gone, lower, lowered}
 use Rattle.array_image.proofs.Settled.{settled_value, among_take}
 use Rattle.array_image.proofs.Sources.{held_single, held_current}

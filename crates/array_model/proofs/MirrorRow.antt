@@ -43,7 +43,7 @@ all_one : (v : List ℕ) (array sector : ℕ) (c : Image) (members : List Member
 all_one v array sector c [] same = tt
 all_one v array sector c (m ∷ others) same = (same m (inl refl), all_one v array sector c others (λ o among. same o (inr among)))
 
-agree_one : (v : List ℕ) (array sector k : ℕ) (c : Image) (members : List Member) → ((m : Member) → Among m members → data_of c array sector m ≡ v)
+pub agree_one : (v : List ℕ) (array sector k : ℕ) (c : Image) (members : List Member) → ((m : Member) → Among m members → data_of c array sector m ≡ v)
     → AgreeIn (mirror k) (map (data_of c array sector) members)
 agree_one v array sector k c [] same = tt
 agree_one v array sector k c (m ∷ others) same =

@@ -1,5 +1,5 @@
 -- Calls of members that bring no value, in which places may go.
-use Rattle.std.proofs.Common.{◌≡◌, ℕ, zero, suc, ◌+◌, ◌-◌, ◌<◌, ◌≤◌, Bool, true, false, if◌then◌else◌, List, [], ◌∷◌, take, length, refl, sym, ap, subst, ◌∙◌, arith, unwrap_or}
+use Rattle.std.proofs.Common.{◌≡◌, ℕ, zero, suc, ◌+◌, ◌-◌, ◌<◌, ◌≤◌, Bool, true, false, ◌&&◌, ◌||◌, not, nat_lt, if◌then◌else◌, List, [], ◌∷◌, take, length, refl, sym, ap, subst, ◌∙◌, arith}
 use Rattle.std.specs.List.{range_with_len}
 use Rattle.rack.specs.Values.{Values}
 use Rattle.rack.specs.Seen.{Seen}
@@ -8,12 +8,13 @@ use Rattle.md_super.specs.declared.superblock.Super.{Super}
 use Rattle.md_super.specs.Profile.{is_mirror}
 use Rattle.pool_state.specs.declared.contents.State.{State}
 use Rattle.raid_map.proofs.Rows.{row_members_differ}
-use Rattle.array_image.specs.Stripes.{Layout, mirror, parity, width, position_in}
+use Rattle.raid_map.specs.LeftSymmetric.{row_at}
+use Rattle.array_image.specs.Stripes.{Layout, mirror, parity, width, position_in, sector_in}
 use Rattle.array_image.specs.Supers.{is_reshaping}
-use Rattle.array_image.specs.Arrays.{Member, Shape, layout_at, final_layout, first_layout, value_by, place_with}
+use Rattle.array_image.specs.Arrays.{Member, Shape, layout_at, final_layout, first_layout, value_by}
 use Rattle.array_image.specs.Held.{current_in}
 use Rattle.array_image.specs.Marks.{lowered}
-use Rattle.array_image.specs.Spent.{spent_by}
+use Rattle.array_image.specs.Spent.{spent_by, spent_with}
 use Rattle.array_image.proofs.Losing.{length_map}
 use Rattle.array_model.specs.View.{View, IsArray, IsNoted, HasGeometry, shape_of, spent_in}
 use Rattle.array_model.specs.Says.{Holds}
@@ -21,8 +22,8 @@ use Rattle.array_model.specs.ArrayCalls.{Keeping, Covers}
 use Rattle.array_model.specs.Members.{members_of, Notes}
 use Rattle.array_model.proofs.Views.{same_geometry, shape_then, vary_then, fresh_then}
 use Rattle.array_model.proofs.Keeping.{keeping_calls}
-use Rattle.array_model.proofs.Losses.{IsLosing, losing_calls}
-use Rattle.array_model.proofs.Spared.{IsLaidOut, lost_value}
+use Rattle.array_model.proofs.Losses.{IsLosing, losing_calls, losing_holds}
+use Rattle.array_model.proofs.Spared.{IsLaidOut, lost_value, at_most_one, synced_row, wanting_more}
 
 pub shape_noted : (v w : View) (a b : Seen) (notes : Notes v w a b) → shape_of w ≡ lowered notes.lost (shape_of v)
 shape_noted v w a b notes = shape_then v w notes.lost notes.same.truth notes.loses
@@ -136,3 +137,28 @@ read_acts a b v w lasting reads is_array notes s durable vals spent covers =
     (λ holds y alive.
     lost_value notes.lost (shape_of v) v.number v.resync (current_in b.held) y (laid_out v is_array) holds.shape.even holds.shape.sized
     (unspent_then v w notes.lost (losing_by v w a b notes) y (covers y alive)))
+
+-- ---- what holds before and after a loss is noted
+
+spent_fewer : (m n : ℕ) (synced : Bool) → m ≤ n → spent_with n synced ≡ false → spent_with m synced ≡ false
+spent_fewer zero n synced low unspent = refl
+spent_fewer (suc zero) n synced low unspent = ap (λ b. nat_lt 1 1 || (nat_lt 0 1 && not b)) (synced_row n synced (omega (arith, low)) unspent)
+spent_fewer (suc (suc m)) n synced low unspent = let one = at_most_one n synced unspent in absurd (omega (arith, one, low))
+
+-- a map that has each sector that is spent after a loss has each that was spent before it
+pub covers_before : (v w : View) (lost : ℕ → Bool) → IsLosing v w lost → (spent : ℕ → Bool) → Covers w spent → Covers v spent
+covers_before v w lost losing spent covers y alive =
+    spent_fewer _ _ (nat_lt (row_at (sector_in (layout_at (shape_of v) y) y)) v.resync)
+    (wanting_more lost (sector_in (layout_at (shape_of v) y) y) (shape_of v).members)
+    (unspent_then v w lost losing y (covers y alive))
+
+-- what an array holds, it holds once the places that went are noted
+pub holds_noted : (v w : View) (a b x : Seen) → IsArray v → Notes v w a b
+    → (s : State) (durable : Shape) (vals : ℕ → Values) (spent : ℕ → Bool) → Covers w spent
+    → Holds s durable v vals spent x → Holds s durable w vals spent x
+holds_noted v w a b x is_array notes s durable vals spent covers holds =
+    losing_holds s durable v w vals spent x notes.lost (losing_by v w a b notes)
+    (λ y alive.
+    lost_value notes.lost (shape_of v) v.number v.resync (current_in x.held) y (laid_out v is_array) holds.shape.even holds.shape.sized
+    (unspent_then v w notes.lost (losing_by v w a b notes) y (covers y alive)))
+    holds

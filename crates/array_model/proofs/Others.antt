@@ -7,7 +7,6 @@ use Rattle.pool_state.specs.declared.contents.State.{State}
 use Rattle.array_image.specs.Places.{slice_of, log_slice, member_slice, data_sector}
 use Rattle.array_image.specs.Arrays.{Shape, replayed}
 use Rattle.array_image.specs.States.{state_in}
-use Rattle.array_image.specs.Held.{current_in}
 use Rattle.array_image.proofs.Frames.{Agree, supers_same, truth_by_supers, state_same, shape_same, value_same}
 use Rattle.array_image.proofs.SoundFrames.{sound_same}
 use Rattle.array_model.specs.View.{View, shape_of, may_vary}

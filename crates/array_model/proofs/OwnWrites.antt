@@ -6,7 +6,6 @@ use Rattle.rack.specs.Seen.{Image, Seen, Stays}
 use Rattle.array_image.specs.Places.{slice_of, log_slice}
 use Rattle.rack.specs.Targets.{Target}
 use Rattle.array_image.specs.Arrays.{replayed}
-use Rattle.array_image.specs.Held.{current_in}
 use Rattle.array_image.proofs.Replays.{replayed_same}
 use Rattle.array_image.specs.Left.{reading, IsInside, Picks}
 use Rattle.array_model.specs.ArrayCalls.{Turns}
@@ -18,10 +17,10 @@ abbrev pub OnlyOwn : List Target → ℕ → Type 0
 OnlyOwn xs array = (d t : ℕ) (v : List ℕ) → IsPayload xs d t v → slice_of d ≡ array + 1
 
 -- contents with an array's slices as they read before
-abbrev without_own : ℕ → Seen → Image → Image
+abbrev pub without_own : ℕ → Seen → Image → Image
 without_own array a c d t = if slice_of d == array + 1 then reading a d t else c d t
 
-kept_other : (array : ℕ) (a : Seen) (c : Image) (d t : ℕ) → slice_of d ≢ array + 1 → c d t ≡ without_own array a c d t
+pub kept_other : (array : ℕ) (a : Seen) (c : Image) (d t : ℕ) → slice_of d ≢ array + 1 → c d t ≡ without_own array a c d t
 kept_other array a c d t other =
     let Goal : Bool → Type 0 = λ b. (slice_of d == array + 1) ≡ b → c d t ≡ (if b then reading a d t else c d t) in
     let goal : Goal (slice_of d == array + 1) =
@@ -51,7 +50,7 @@ own_picks array a b xs c lasting stays own inside mix =
           ];
     }
 
-log_other : (place array : ℕ) → slice_of (log_slice place) ≢ array + 1
+pub log_other : (place array : ℕ) → slice_of (log_slice place) ≢ array + 1
 log_other place array same = absurd (omega (arith, same))
 
 -- whatever has P in its own slices turns there alone

@@ -28,14 +28,14 @@ same_maps g h [] same = refl
 same_maps g h (m ∷ others) same = ap₂ (λ v vs. v ∷ vs) (same zero (omega arith)) (same_maps g h others (λ j inside. same (suc j) (omega (arith, inside))))
 
 -- each of the members' sectors is a whole one
-abbrev AreSized : (Member → List ℕ) → List Member → Type 0
+abbrev pub AreSized : (Member → List ℕ) → List Member → Type 0
 AreSized g members = (m : Member) → Among m members → length (g m) ≡ 512
 
-lengths : (g : Member → List ℕ) (members : List Member) → AreSized g members → HasLength 512 (map g members)
+pub lengths : (g : Member → List ℕ) (members : List Member) → AreSized g members → HasLength 512 (map g members)
 lengths g [] sized = tt
 lengths g (m ∷ others) sized = (sized m (inl refl), lengths g others (λ o among. sized o (inr among)))
 
-one_new : (g h : Member → List ℕ) (k : ℕ) (members : List Member) → k < length members → AreSized g members
+pub one_new : (g h : Member → List ℕ) (k : ℕ) (members : List Member) → k < length members → AreSized g members
     → ((j : ℕ) → j < length members → (j ≡ k → ⊥) → h (part_at j members) ≡ g (part_at j members))
     → xor_all 512 (map h members) ≡ xor (xor (xor_all 512 (map g members)) (g (part_at k members))) (h (part_at k members))
 unfolding xor_all
@@ -122,7 +122,7 @@ data_inside shape k x plain count = let low = (row_members_differ k count).is_me
 pub parity_inside : (shape : Shape) (k s : ℕ) → IsPlain shape (parity k) → IsMemberCount k → parity_at k s < length shape.members
 parity_inside shape k s plain count = let low = (row_members_differ k count).parity_is_member s in omega (arith, low, plain.count)
 
-same_place : (p q n : ℕ) → member_slice p n ≡ member_slice q n → p ≡ q
+pub same_place : (p q n : ℕ) → member_slice p n ≡ member_slice q n → p ≡ q
 same_place p q n same = omega (arith, same)
 
 -- the source of a sector is the member at its position

@@ -17,12 +17,12 @@ use Rattle.array_image.specs.Arrays.{Member, Shape, value_by, final_layout, plac
 use Rattle.array_image.proofs.Losing.{map_join}
 use Rattle.array_model.specs.declared.Seat.{Seat}
 use Rattle.array_model.specs.declared.Seat.TheVariants.{Whole, Missing, Rebuilding}
-use Rattle.array_model.specs.View.{View, IsArray, LosesPlaces, shape_of, spent_in, is_whole_seat, is_whole_array, seat_unless, seat_reach, has_gone, place_at, member_on, rows_of}
+use Rattle.array_model.specs.View.{View, IsArray, shape_of, spent_in, is_whole_seat, is_whole_array, seat_unless, seat_reach, has_gone, place_at, member_on, rows_of}
 use Rattle.array_image.specs.Left.{IsInside}
-use Rattle.array_model.specs.Says.{Says, Holds, HoldsShape, IsOpen}
-use Rattle.array_model.specs.ArrayCalls.{Acts, Turns, Keeping, WritesArray, Covers, appended_at}
-use Rattle.array_model.specs.Members.{members_of, slice_on, gone_slices, IsSameButSeats, Notes, Works, IsKept}
-use Rattle.array_model.specs.Rows.{IsPlain, IsRow, part_at, target_on, copies, written, Owes, Wrote, row, refused}
+use Rattle.array_model.specs.Says.{Says, Holds}
+use Rattle.array_model.specs.ArrayCalls.{Turns, Keeping, WritesArray, Covers, appended_at}
+use Rattle.array_model.specs.Members.{slice_on, gone_slices, Notes, Works, IsKept}
+use Rattle.array_model.specs.Rows.{IsPlain, part_at, target_on, copies, Owes, Wrote, row, refused}
 use Rattle.array_model.proofs.Views.{shape_members}
 use Rattle.array_model.proofs.Noting.{losing_by, noted_by, laid_out, length_members, read_acts}
 use Rattle.array_model.proofs.Layouts.{layout_by}

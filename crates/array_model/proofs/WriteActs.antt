@@ -9,8 +9,8 @@ use Rattle.md_super.specs.declared.superblock.Super.{Super}
 use Rattle.pool_state.specs.declared.contents.State.{State}
 use Rattle.array_image.specs.Places.{log_slice, member_slice, super_sector, data_sector}
 use Rattle.rack.specs.Targets.{Target, look}
-use Rattle.array_image.specs.Stripes.{width, sector_in, position_in, there, given, AgreeIn}
-use Rattle.array_image.specs.Arrays.{Member, Shape, place_with, column, layout_at, value_by, shape_in, replayed}
+use Rattle.array_image.specs.Stripes.{width, position_in, there, given, AgreeIn}
+use Rattle.array_image.specs.Arrays.{Member, Shape, place_with, layout_at, value_by, replayed}
 use Rattle.array_image.specs.Supers.{super_in, truth_in}
 use Rattle.array_image.proofs.Frames.{super_of_sector}
 use Rattle.rack.proofs.Phases.{payload_none}
@@ -22,7 +22,7 @@ use Rattle.array_image.proofs.Marked.{among_lowered}
 use Rattle.array_image.proofs.Replays.{SameLogs, replayed_same}
 use Rattle.array_image.proofs.Sources.{source_value, source_counts}
 use Rattle.array_model.specs.View.{View, shape_of, spent_in, may_vary, is_alone, IsNoted}
-use Rattle.array_image.specs.Left.{reading, IsInside, Picks, PicksLogs, IsLeft, IsApart, IsCalm, IsClosed}
+use Rattle.array_image.specs.Left.{reading, IsInside, Picks, PicksLogs, IsLeft, IsApart, IsClosed}
 use Rattle.array_model.specs.Says.{Says, HoldsShape, Holds, IsEarlier}
 use Rattle.array_model.specs.ArrayCalls.{Acts, Turns, appended_at}
 use Rattle.rack.specs.Sequences.{IsPayload, IsMix}

@@ -4,3 +4,4 @@ pub mod ArrayCalls
 pub mod Stages
 pub mod Members
 pub mod Rows
+pub mod Opened

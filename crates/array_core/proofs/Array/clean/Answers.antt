@@ -1,0 +1,43 @@
+use Rattle.std.proofs.Common.{◌≤◌, ◌∙◌, sym, subst}
+use Rattle.array_image.specs.SoundArray.{first_unsynced}
+use Rattle.array_model.specs.View.{View, IsArray}
+use Rattle.array_core.specs.Settling.{WritesSupers}
+use Rattle.array_core.proofs.LogFrames.{kept_logs}
+use Rattle.array_core.proofs.Cleaning.{clean_acts, clean_logs, cleans_view}
+use Rattle.array_core.proofs.Array.clean.Goals as goal
+
+pub returns-then-has_lost-clause-cleans : goal.returns-then-has_lost-clause-cleans
+returns-then-has_lost-clause-cleans g c = λ s vals spent covers may. (c.sync.ensures.syncs s _ vals spent covers).acts
+
+pub returns-then-has_lost-clause-kept : goal.returns-then-has_lost-clause-kept
+returns-then-has_lost-clause-kept g c = λ s number kept.
+    kept_logs s number (g.R.Rack.seen c.args.rack.now) (g.R.Rack.seen c.sync.new.rack) c.requires.slices.lasting c.sync.ensures.reads.stays
+    (λ place t live. c.sync.ensures.reads.keeps.held _ t live) kept
+
+pub returns-clause-cleans : goal.returns-clause-cleans
+returns-clause-cleans g c =
+    let b = g.R.Rack.seen c.sync.new.rack in
+    let d = g.R.Rack.seen c.renew_supers.new.rack in
+    let at = c.settle_truth.ensures in
+    clean_acts c.args.self.now c.sync.new.self c.renew_supers.new.self (g.R.Rack.seen c.args.rack.now) b d c.requires.slices.lasting
+    c.rules.ensures c.rules-2.ensures (subst IsArray at c.rules-3.ensures) c.sync.ensures.reads c.sync.ensures.notes c.sync.ensures.syncs
+    (c.has_lost.ensures.none c.if-has_lost.false) (sym c.is_settled.ensures ∙ c.if-is_settled.false)
+    (subst (λ (w : View). first_unsynced w.truth ≤ w.resync) at c.unsynced_rows.ensures) c.settle_truth.new.self.truth.raid_disks
+    (subst (λ (w : View). WritesSupers w c.renew_supers.new.self b d c.settle_truth.new.self.truth.raid_disks) at c.renew_supers.ensures.writes)
+
+pub returns-clause-view : goal.returns-clause-view
+returns-clause-view g c =
+    let b = g.R.Rack.seen c.sync.new.rack in
+    let d = g.R.Rack.seen c.renew_supers.new.rack in
+    cleans_view c.args.self.now c.sync.new.self c.renew_supers.new.self (g.R.Rack.seen c.args.rack.now) b d c.requires.slices.fit c.sync.ensures.reads c.sync.ensures.notes
+    (c.has_lost.ensures.none c.if-has_lost.false) (sym c.is_settled.ensures ∙ c.if-is_settled.false)
+    (subst (λ (w : View). WritesSupers w c.renew_supers.new.self b d w.truth.raid_disks) c.settle_truth.ensures c.renew_supers.ensures.writes)
+
+pub returns-clause-kept : goal.returns-clause-kept
+returns-clause-kept g c =
+    let b = g.R.Rack.seen c.sync.new.rack in
+    let d = g.R.Rack.seen c.renew_supers.new.rack in
+    λ s number kept.
+    clean_logs s number c.sync.new.self c.renew_supers.new.self (g.R.Rack.seen c.args.rack.now) b d c.settle_truth.new.self.truth.raid_disks c.requires.slices.lasting
+    c.rules-2.ensures.few c.sync.ensures.reads
+    (subst (λ (w : View). WritesSupers w c.renew_supers.new.self b d c.settle_truth.new.self.truth.raid_disks) c.settle_truth.ensures c.renew_supers.ensures.writes) kept
