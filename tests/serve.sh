@@ -118,9 +118,11 @@ check 'create of nothing' 2 'refused words\n' create
 check 'create of no names' 2 'refused words\n' create 128
 check 'create with an extent of 64 sectors' 2 'refused words\n' create 64 first second
 check 'create of three names' 6 'refused unbuilt\n' create 128 first second third
-for form in import export status trial; do
-  check "a form that is not built: $form" 6 'refused unbuilt\n' "$form" first second
+for form in import export status 'trial 7'; do
+  check "a form that is not built: $form" 6 'refused unbuilt\n' $form first second
 done
+check 'import of nothing' 2 'refused words\n' import
+check 'a seed that is no number' 2 'refused words\n' trial +7 first second
 
 # A sink that fails.
 if [ -e /dev/full ]; then
