@@ -13,6 +13,7 @@ use Rattle.array_image.proofs.Replays.{replayed_as_is}
 use Rattle.commit_log.specs.Standing.{LogsStand, deciding}
 use Rattle.commit_log.specs.Commits.{Stands}
 use Rattle.commit_log.specs.Kept.{LogKept}
+use Rattle.commit_log.proofs.WholeLogs.{whole_logs}
 use Rattle.array_model.proofs.Keeping.{live_on, live_after, logs_before}
 
 pub look_nothing : (d t : ℕ) → look [] d t ≡ None
@@ -45,6 +46,7 @@ kept_logs s number a b lasting stays keeps kept =
           let inside = subst (λ n. 1 < n) (stays.sectors (log_slice p)) there in
           kept.numbers p current inside v (before p 1 v (kept.few p current) inside now);
       halves = λ c stand. kept.halves c (logs c stand);
+      whole = λ c stand. whole_logs a kept.whole c (logs c (of c stand));
       idle = λ c stand. kept.idle c (logs c stand);
       quiet = λ c stand d t left. same c stand d t;
       brought = λ c p copy stand few there is.

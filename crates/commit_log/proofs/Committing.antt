@@ -170,7 +170,7 @@ stops_of l on lost number opened closed bytes count a r g t b w0 w1 w2 w3 w4 don
     (told.closes.calls.only.stops (to_t.traced traced)))))
 
 -- contents that agree on the log slices leave the same pending
-logs_deciding : (c e : Image) → SameLogs c e → deciding c ≡ deciding e
+pub logs_deciding : (c e : Image) → SameLogs c e → deciding c ≡ deciding e
 logs_deciding c e same = ap (λ (s : Option State). option_map_or current_places s []) (state_same c e (λ p. same p 0))
 
 pub rests_by_logs : (number : ℕ) (xs : List Target) (lost : List ℕ) (c e : Image) → SameLogs c e → Rests number xs lost e → Rests number xs lost c

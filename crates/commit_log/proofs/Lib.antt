@@ -26,6 +26,7 @@ pub mod Since
 pub mod Ended
 pub mod Told
 pub mod Committing
+pub mod WholeLogs
 pub mod Replaying
 pub mod ReplayCalls
 pub mod Scanning

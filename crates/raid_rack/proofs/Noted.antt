@@ -251,6 +251,7 @@ kept_marked s number gone now x all kept =
       copies = record { own = λ p u current left may. kept.copies.own p u current (all p current) may; others = kept.copies.others };
       numbers = kept.numbers;
       halves = kept.halves;
+      whole = kept.whole;
       idle = λ c stand. inl (kept_idle s number gone x c kept stand all);
       quiet = λ c stands d t left. idle_now s number gone x kept all c (logs_stand c stands) d t;
       brought = λ c p copy stands few there is. kept.brought c p copy stands few there is;

@@ -1,0 +1,39 @@
+-- Whether a log is damaged goes by the log slices alone.
+use Rattle.std.proofs.Common.{◌≡◌, ℕ, Bool, true, false, not, ◌==◌, [], Option, None, Some, refl, sym, ap, subst, ◌∙◌}
+use Rattle.std.specs.Option.{option_map_or}
+use Rattle.std.proofs.lemmas.Bool.{both_ways, eqb-true}
+use Rattle.rack.specs.Values.{MayLeave}
+use Rattle.rack.specs.Seen.{Image, Seen, IsLive}
+use Rattle.array_image.specs.Places.{log_slice, place_of, slice_of}
+use Rattle.array_image.specs.Record.{damaged_log, gate_sector, record_of}
+use Rattle.array_image.proofs.Replays.{SameLogs}
+use Rattle.commit_log.specs.Standing.{IsWhole, LogsStand, deciding}
+use Rattle.commit_log.specs.Commits.{Stands}
+use Rattle.commit_log.proofs.Amid.{log_of_place}
+use Rattle.commit_log.proofs.Committing.{logs_deciding, off_log, on_log}
+use Rattle.commit_log.proofs.Restored.{restored, restored_inside, restored_picks, restored_there}
+use Rattle.commit_log.proofs.Undamaged.{whole_by}
+
+-- contents that agree on the log slices
+pub whole_same : (c e : Image) → SameLogs c e → IsWhole e → IsWhole c
+whole_same c e same whole =
+    ap (λ ps. damaged_log ps c) (logs_deciding c e same)
+    ∙ whole_by c e (deciding e) (λ p among. same p gate_sector)
+    (λ x is. ap (record_of x.gate.number) (λ i t. same x.place t i)) whole
+
+-- contents of which the log slices are as a stop may leave them, whatever stands elsewhere
+pub whole_logs : (x : Seen) → ((c : Image) → Stands x c → IsWhole c) → (c : Image) → LogsStand x c → IsWhole c
+whole_logs x whole c stand =
+    let e : Image = restored off_log x c in
+    whole_same c e (λ p t. sym (restored_there off_log x c (log_slice p) t (on_log p t)))
+    (whole e (record {
+      picks = restored_picks off_log x c (λ d t live here.
+          let slice : slice_of d ≡ 0 = eqb-true (slice_of d) 0 (not_false (slice_of d == 0) here) in
+          subst (λ k. MayLeave (x.held k t) (c k t)) (log_of_place d slice)
+          (stand.picks (place_of d) t (subst (λ k. IsLive x x k t) (sym (log_of_place d slice)) live)));
+      inside = restored_inside off_log x c (λ p t past. on_log p t) stand.inside;
+    }))
+  where
+    not_false : (b : Bool) → not b ≡ false → b ≡ true
+    not_false true is = refl
+    not_false false is = absurd (both_ways true is refl)
