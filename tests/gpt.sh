@@ -1,11 +1,11 @@
 #!/usr/bin/env bash
-# Our partition tables, as sgdisk of Debian's gdisk reads them. The bytes are those that a test of gpt_table finds
+# Our partition tables, as sgdisk of Debian's gdisk reads them. The bytes are those that a test finds
 # sector by sector where `write_whole` wrote a table.
 . "$(dirname "$(readlink -f "${BASH_SOURCE[0]}")")/lib/checks.sh"
 
 have sgdisk gdisk || { echo "skipped: sgdisk isn't here, and gdisk can't be installed"; exit 0; }
 
-vectors=$top/crates/gpt_table/src/tests/sgdisk.rt
+vectors=$top/crates/format_tests/src/partition_tables.rt
 sectors=98304
 
 # put AT NAME: writes the bytes of one constant of the test into the image.

@@ -31,8 +31,6 @@ mod settling;
 mod slots;
 mod staging;
 mod superblocks;
-#[cfg(test)]
-mod tests;
 mod writing;
 
 pub use array_model::Seat;

@@ -1,7 +1,9 @@
--- The flat run: what each command replies and leaves.
-use Rattle.std.specs.Prelude.{ℕ, ◌+◌, ◌==◌, nat_le, nat_lt, if◌then◌else◌, List, [], ◌∷◌, ◌++◌, replicate, codes, decimal}
-use Rattle.shr_script.specs.declared.Command.{Command}
-use Rattle.shr_script.specs.declared.Command.TheVariants.{Read, Write, Fill, Flush, Size, Quit, Unbuilt, Syntax}
+-- The flat run: what each line replies and leaves.
+use Rattle.std.specs.Prelude.{ℕ, ◌+◌, ◌==◌, nat_le, nat_lt, if◌then◌else◌, List, [], ◌∷◌, ◌++◌, replicate, codes, decimal, Ok, Err}
+use Rattle.shr_script.specs.declared.Command.TheVariants.{Read, Write, Fill, Flush, Size, Quit, Unbuilt}
+use Rattle.shr_script.specs.declared.LineFault.{LineFault}
+use Rattle.shr_script.specs.declared.LineFault.TheVariants.{Syntax, Memory}
+use Rattle.shr_script.specs.Line.{Line}
 use Rattle.shr_script.specs.Reply.{as_line, data_line, refused_line}
 use Rattle.flat_array.specs.Array.{FlatArray, written, filled, flushed}
 
@@ -9,38 +11,43 @@ use Rattle.flat_array.specs.Array.{FlatArray, written, filled, flushed}
 abbrev pub uniform_sector : ℕ → List ℕ
 uniform_sector byte = replicate 512 byte
 
--- the reply to a command
-abbrev pub reply : FlatArray → Command → List ℕ
-reply a (Read sector) =
+-- the word of a line that is no command
+abbrev pub fault_word : LineFault → List ℕ
+fault_word Syntax = codes "syntax"
+fault_word Memory = codes "memory"
+
+-- the reply to a line
+abbrev pub reply : FlatArray → Line → List ℕ
+reply a (Ok (Read sector)) =
     if nat_lt sector a.size then data_line (a.values sector).current else refused_line (codes "range")
-reply a (Write sector bytes) =
+reply a (Ok (Write sector bytes)) =
     if nat_lt sector a.size then as_line (codes "ok") else refused_line (codes "range")
-reply a (Fill sector count byte) =
+reply a (Ok (Fill sector count byte)) =
     if nat_le (sector + count) a.size then as_line (codes "ok") else refused_line (codes "range")
-reply a Flush = as_line (codes "ok")
-reply a Size = as_line (codes "size " ++ decimal a.size)
-reply a Quit = []
-reply a Unbuilt = refused_line (codes "unbuilt")
-reply a Syntax = refused_line (codes "syntax")
+reply a (Ok Flush) = as_line (codes "ok")
+reply a (Ok Size) = as_line (codes "size " ++ decimal a.size)
+reply a (Ok Quit) = []
+reply a (Ok Unbuilt) = refused_line (codes "unbuilt")
+reply a (Err fault) = refused_line (fault_word fault)
 
--- the array after a command
-abbrev pub after : FlatArray → Command → FlatArray
-after a (Read sector) = a
-after a (Write sector bytes) = if nat_lt sector a.size then written a sector bytes else a
-after a (Fill sector count byte) =
+-- the array after a line
+abbrev pub after : FlatArray → Line → FlatArray
+after a (Ok (Read sector)) = a
+after a (Ok (Write sector bytes)) = if nat_lt sector a.size then written a sector bytes else a
+after a (Ok (Fill sector count byte)) =
     if nat_le (sector + count) a.size then filled a sector count (uniform_sector byte) else a
-after a Flush = flushed a
-after a Size = a
-after a Quit = a
-after a Unbuilt = a
-after a Syntax = a
+after a (Ok Flush) = flushed a
+after a (Ok Size) = a
+after a (Ok Quit) = a
+after a (Ok Unbuilt) = a
+after a (Err fault) = a
 
--- the replies to commands in a row
-abbrev pub replies : FlatArray → List Command → List ℕ
+-- the replies to lines in a row
+abbrev pub replies : FlatArray → List Line → List ℕ
 replies a [] = []
-replies a (command ∷ commands) = reply a command ++ replies (after a command) commands
+replies a (line ∷ lines) = reply a line ++ replies (after a line) lines
 
--- the array after commands in a row
-abbrev pub array_after : FlatArray → List Command → FlatArray
+-- the array after lines in a row
+abbrev pub array_after : FlatArray → List Line → FlatArray
 array_after a [] = a
-array_after a (command ∷ commands) = array_after (after a command) commands
+array_after a (line ∷ lines) = array_after (after a line) lines

@@ -1,13 +1,13 @@
 //! The flat array in memory.
 
-ghost use Rattle.std.specs.Prelude.{◌≡◌, ℕ, ◌+◌, ◌-◌, ◌<◌, ◌≤◌, ◌==◌, nat_le, nat_lt, if◌then◌else◌, List, [], ◌∷◌, ◌++◌, length, take, replicate, codes, decimal, Some, None, IfOk, OnOk, OnErr};
+ghost use Rattle.std.specs.Prelude.{◌≡◌, ℕ, ◌+◌, ◌-◌, ◌<◌, ◌≤◌, ◌==◌, nat_le, nat_lt, if◌then◌else◌, List, [], ◌∷◌, ◌++◌, length, take, replicate, codes, decimal, Some, None, Ok, IfOk, OnOk, OnErr};
 ghost use Rattle.rack.specs.Values.{all_of};
 ghost use Rattle.flat_array.specs.Array.{FlatArray, fresh, written, filled, flushed};
 ghost use Rattle.shr_script.specs.Reply.{without_zeros as trimmed, digits_or_dash, data_line, as_line, refused_line};
 ghost use Rattle.flat_array.specs.Reply.{reply, after};
 ghost use Rattle.flat_array.specs.Disk.{zero_sector as zeros, size_of, kept_at, last_alone, Holds};
 
-use shr_script::Command;
+use shr_script::{Command, LineFault};
 use std::alloc::{AllocError, Global};
 
 /// A flat array of 512-byte sectors in memory.
@@ -46,20 +46,31 @@ impl FlatDisk {
         }
     }
 
-    /// Does a command: appends its reply to `out`, and makes the array that of after it.
+    /// Answers a line: appends its reply to `out`, and makes the array that of after it.
     ///
     /// Without memory the array stays as it was, and `out` may have a part of the reply.
     pub fn answer(
         &mut self,
         alloc: Global,
-        command: &Command,
+        line: &Result<Command, LineFault>,
         out: &mut Vec<u8>,
     ) -> Result<(), AllocError>
-        ensures replied { OnOk result ((a : FlatArray) → Holds self.old a → out.new.items ≡ out.old.items ++ reply a command.now) }
-        ensures becomes { OnOk result ((a : FlatArray) → Holds self.old a → Holds self.new (after a command.now)) }
+        ensures replied { OnOk result ((a : FlatArray) → Holds self.old a → out.new.items ≡ out.old.items ++ reply a line.now) }
+        ensures becomes { OnOk result ((a : FlatArray) → Holds self.old a → Holds self.new (after a line.now)) }
         ensures stays { OnErr result ((a : FlatArray) → Holds self.old a → Holds self.new a) }
     {
-        self.put_reply(alloc, command, out)?;
+        self.put_reply(alloc, line, out)?;
+        match line {
+            Ok(command) => self.apply(command),
+            Err(_) => Ok(()),
+        }
+    }
+
+    // Makes the array that of after a command.
+    fn apply(&mut self, command: &Command) -> Result<(), AllocError>
+        ensures becomes { OnOk result ((a : FlatArray) → Holds self.old a → Holds self.new (after a (Ok command.now))) }
+        ensures stays { OnErr result ((a : FlatArray) → Holds self.old a → Holds self.new a) }
+    {
         match command {
             Command::Write { sector, bytes } => self.write(*sector, bytes),
             Command::Fill {
@@ -75,39 +86,40 @@ impl FlatDisk {
         }
     }
 
-    // Appends the reply to a command.
+    // Appends the reply to a line.
     fn put_reply(
         &self,
         alloc: Global,
-        command: &Command,
+        line: &Result<Command, LineFault>,
         out: &mut Vec<u8>,
     ) -> Result<(), AllocError>
-        ensures { OnOk result ((a : FlatArray) → Holds self.now a → out.new.items ≡ out.old.items ++ reply a command.now) }
+        ensures { OnOk result ((a : FlatArray) → Holds self.now a → out.new.items ≡ out.old.items ++ reply a line.now) }
     {
-        match command {
-            Command::Read { sector } => match self.current(*sector) {
+        match line {
+            Ok(Command::Read { sector }) => match self.current(*sector) {
                 Some(bytes) => put_data(alloc, &bytes, out),
                 None => put_refused(b"range", out),
             },
-            Command::Write { sector, .. } => {
+            Ok(Command::Write { sector, .. }) => {
                 if *sector < self.size() {
                     put_line(b"ok", out)
                 } else {
                     put_refused(b"range", out)
                 }
             }
-            Command::Fill { sector, count, .. } => {
+            Ok(Command::Fill { sector, count, .. }) => {
                 if self.has(*sector, *count) {
                     put_line(b"ok", out)
                 } else {
                     put_refused(b"range", out)
                 }
             }
-            Command::Flush => put_line(b"ok", out),
-            Command::Size => put_size(alloc, self.size(), out),
-            Command::Quit => Ok(()),
-            Command::Unbuilt => put_refused(b"unbuilt", out),
-            Command::Syntax => put_refused(b"syntax", out),
+            Ok(Command::Flush) => put_line(b"ok", out),
+            Ok(Command::Size) => put_size(alloc, self.size(), out),
+            Ok(Command::Quit) => Ok(()),
+            Ok(Command::Unbuilt) => put_refused(b"unbuilt", out),
+            Err(LineFault::Syntax) => put_refused(b"syntax", out),
+            Err(LineFault::Memory) => put_refused(b"memory", out),
         }
     }
 

@@ -244,32 +244,6 @@ all_steps a m n b disk copy table header bytes result written first second third
     (changes_join a m n disk of P (first_step a m disk copy table (Ok tt) first) (second_step a m n disk copy table bytes (Ok tt) written.room first second))
     (third_step a m n b disk copy table header bytes result written first second third))
 
--- the header couldn't be written
-pub replaced_gone_third : (a m n b : Seen) (disk : ℕ) (copy : TableCopy) (table : Table) (header bytes : List ℕ) (gone : Gone) →
-    Written copy header bytes table →
-    WritesSectors a m disk (sector_plan (header_sector copy table.sectors) (replicate 512 0)) {X = Unit {0}} (Ok tt) →
-    WritesSectors m n disk (entries_plan (entries_sector copy table.sectors) bytes) {X = Unit {0}} (Ok tt) →
-    WritesSectors n b disk (sector_plan (header_sector copy table.sectors) header) {X = Unit {0}} (Err gone) →
-    ReplacesCopy a b disk copy table {X = Unit {0}} {E = Gone} (Err gone)
-replaced_gone_third a m n b disk copy table header bytes gone written first second third = record {
-  changes = all_steps a m n b disk copy table header bytes (Err gone) written first second third;
-  says = tt;
-  gone = rose_later a n b disk (stays_then first.follows.stays second.follows.stays) third.gone.1;
-}
-
--- the copy was replaced
-pub replaced : (a m n b : Seen) (disk : ℕ) (copy : TableCopy) (table : Table) (header bytes : List ℕ) →
-    Written copy header bytes table →
-    WritesSectors a m disk (sector_plan (header_sector copy table.sectors) (replicate 512 0)) {X = Unit {0}} (Ok tt) →
-    WritesSectors m n disk (entries_plan (entries_sector copy table.sectors) bytes) {X = Unit {0}} (Ok tt) →
-    WritesSectors n b disk (sector_plan (header_sector copy table.sectors) header) {X = Unit {0}} (Ok tt) →
-    ReplacesCopy a b disk copy table {X = Unit {0}} {E = Gone} (Ok tt)
-replaced a m n b disk copy table header bytes written first second third = record {
-  changes = all_steps a m n b disk copy table header bytes (Ok tt) written first second third;
-  says = finished a m n b disk copy table header bytes written first.follows.stays second third;
-  gone = tt;
-}
-
 -- the copy was replaced, or the last step refused
 pub replaced_by : (a m n b : Seen) (disk : ℕ) (copy : TableCopy) (table : Table) (header bytes : List ℕ) (result : Result (Unit {0}) Gone) →
     Written copy header bytes table →
@@ -277,7 +251,13 @@ pub replaced_by : (a m n b : Seen) (disk : ℕ) (copy : TableCopy) (table : Tabl
     WritesSectors m n disk (entries_plan (entries_sector copy table.sectors) bytes) {X = Unit {0}} (Ok tt) →
     WritesSectors n b disk (sector_plan (header_sector copy table.sectors) header) result →
     ReplacesCopy a b disk copy table {X = Unit {0}} {E = Gone} result
-replaced_by a m n b disk copy table header bytes (Ok tt) written first second third =
-    replaced a m n b disk copy table header bytes written first second third
-replaced_by a m n b disk copy table header bytes (Err gone) written first second third =
-    replaced_gone_third a m n b disk copy table header bytes gone written first second third
+replaced_by a m n b disk copy table header bytes (Ok tt) written first second third = record {
+  changes = all_steps a m n b disk copy table header bytes (Ok tt) written first second third;
+  says = finished a m n b disk copy table header bytes written first.follows.stays second third;
+  gone = tt;
+}
+replaced_by a m n b disk copy table header bytes (Err gone) written first second third = record {
+  changes = all_steps a m n b disk copy table header bytes (Err gone) written first second third;
+  says = tt;
+  gone = rose_later a n b disk (stays_then first.follows.stays second.follows.stays) third.gone.1;
+}

@@ -68,25 +68,27 @@ source_says a m b disk sectors source contents reads stays told single live pick
 -- the backup is replaced
 backup_settles : (a m b : Seen) (disk : ℕ) (table : Table) (backup : Option Table) (result : Result (Unit {0}) TableFault) → 67 ≤ table.sectors →
     Read a m disk table.sectors (Some table) backup → ReplacesCopy m b disk Backup table result →
-    Changes m b disk (IsOfCopies table.sectors) (Settling a disk table.sectors)
+    Changes a b disk (IsOfCopies table.sectors) (Settling a disk table.sectors)
 backup_settles a m b disk table backup result room read replaced =
     let sectors = table.sectors in
-    changes_wider m b disk (IsOfCopy Backup sectors) (IsOfCopies sectors) (Passes m disk Backup table) (Settling a disk sectors) replaced.changes
+    changes_join a m b disk (IsOfCopies sectors) (Settling a disk sectors) (reads_settle a m disk sectors read.only)
+    (changes_wider m b disk (IsOfCopy Backup sectors) (IsOfCopies sectors) (Passes m disk Backup table) (Settling a disk sectors) replaced.changes
     (λ s among. inr among)
     (λ live contents elsewhere passing told single.
     let is : table_at Primary sectors contents ≡ Some table =
     source_says a m b disk sectors Primary contents read.only replaced.changes.stays told single (λ s among. live s (inl among))
     (λ s among. elsewhere s (inl among) (λ both. copies_apart sectors s room among both))
     ∙ sym (read.first told) in
-    first_says sectors contents table is ∙ sym (first_says sectors (now_on a disk) table (sym (read.first told))))
+    first_says sectors contents table is ∙ sym (first_says sectors (now_on a disk) table (sym (read.first told)))))
 
 -- the primary is replaced
 primary_settles : (a m b : Seen) (disk : ℕ) (table : Table) (result : Result (Unit {0}) TableFault) → 67 ≤ table.sectors →
     Read a m disk table.sectors None (Some table) → ReplacesCopy m b disk Primary table result →
-    Changes m b disk (IsOfCopies table.sectors) (Settling a disk table.sectors)
+    Changes a b disk (IsOfCopies table.sectors) (Settling a disk table.sectors)
 primary_settles a m b disk table result room read replaced =
     let sectors = table.sectors in
-    changes_wider m b disk (IsOfCopy Primary sectors) (IsOfCopies sectors) (Passes m disk Primary table) (Settling a disk sectors) replaced.changes
+    changes_join a m b disk (IsOfCopies sectors) (Settling a disk sectors) (reads_settle a m disk sectors read.only)
+    (changes_wider m b disk (IsOfCopy Primary sectors) (IsOfCopies sectors) (Passes m disk Primary table) (Settling a disk sectors) replaced.changes
     (λ s among. inl among)
     (λ live contents elsewhere passing told single.
     let was : the_table sectors (now_on a disk) ≡ Some table =
@@ -105,7 +107,7 @@ primary_settles a m b disk table result room read replaced =
     (λ (none : table_at Primary sectors contents ≡ None). else_says sectors contents (Some table) none rest ∙ sym was)
     (λ (is : table_at Primary sectors contents ≡ Some table). first_says sectors contents table is ∙ sym was)
     other)
-    passing)
+    passing))
 
 -- what was shown holds, as the copies' sectors are told
 settling_told : (a b : Seen) (disk sectors : ℕ) → Changes a b disk (IsOfCopies sectors) (Settling a disk sectors) →
@@ -115,97 +117,70 @@ settling_told a b disk sectors changes =
     (λ contents. AreSingle a disk sectors → the_table sectors contents ≡ the_table sectors (now_on a disk)) changes
     (λ s among. among) (λ live contents elsewhere settling single. settling (live 1 (inl (inl refl))).is_told single)
 
--- both copies say the table, once the backup was replaced
-backup_both : (a m b : Seen) (disk : ℕ) (table : Table) (backup : Option Table) (contents : Contents) →
-    Read a m disk table.sectors (Some table) backup → ReplacesCopy m b disk Backup table {X = Unit {0}} {E = TableFault} (Ok tt) → BothLive a b disk table.sectors →
-    ((s : ℕ) → IsOfCopy Primary table.sectors s → contents s ≡ now_on a disk s) → IsPickOf b disk Backup table.sectors contents →
+-- the copy beside one
+abbrev other_copy : TableCopy → TableCopy
+other_copy Primary = Backup
+other_copy Backup = Primary
+
+-- what holds for a copy and for the other one holds for each
+for_both : (target : TableCopy) (P : TableCopy → Type 0) → P target → P (other_copy target) → (copy : TableCopy) → P copy
+for_both Primary P own other Primary = own
+for_both Primary P own other Backup = other
+for_both Backup P own other Primary = other
+for_both Backup P own other Backup = own
+
+apart_from : (target : TableCopy) (sectors s : ℕ) → 67 ≤ sectors → IsOfCopy (other_copy target) sectors s → IsOfCopy target sectors s → ⊥
+apart_from Primary sectors s room other own = copies_apart sectors s room own other
+apart_from Backup sectors s room other own = copies_apart sectors s room other own
+
+-- the disk has this table, and the copy beside the one that is to be replaced says it
+record Source (a m : Seen) (disk : ℕ) (table : Table) (target : TableCopy) : Type 0 where
+  only : OnlyReads a m
+  first : a.told disk → the_table table.sectors (now_on a disk) ≡ Some table
+  says : a.told disk → table_at (other_copy target) table.sectors (now_on a disk) ≡ Some table
+
+-- both copies say the table, once the other one was replaced
+both_say : (a m b : Seen) (disk : ℕ) (table : Table) (target : TableCopy) (contents : Contents) → Source a m disk table target →
+    ReplacesCopy m b disk target table {X = Unit {0}} {E = TableFault} (Ok tt) → BothLive a b disk table.sectors →
+    ((s : ℕ) → IsOfCopy (other_copy target) table.sectors s → contents s ≡ now_on a disk s) → IsPickOf b disk target table.sectors contents →
     BothSay a disk table.sectors contents
-backup_both a m b disk table backup contents read replaced live same pick =
-    (table, first_says table.sectors (now_on a disk) table (sym (read.first told)), says) where
-      told : a.told disk
-      told = (live Primary 1 (inl refl)).is_told
+both_say a m b disk table target contents source replaced live same pick =
+    let told : a.told disk = (live Primary 1 (inl refl)).is_told in (
+      table,
+      source.first told,
+      for_both target (λ copy. table_at copy table.sectors contents ≡ Some table)
+          (replaced.says (λ s among. live_second source.only.stays (live target s among)) contents pick).says
+          (table_at_agrees (other_copy target) table.sectors contents (now_on a disk) same ∙ source.says told),
+    )
 
-      says : (copy : TableCopy) → table_at copy table.sectors contents ≡ Some table
-      says Primary = table_at_agrees Primary table.sectors contents (now_on a disk) same ∙ sym (read.first told)
-      says Backup = (replaced.says (λ s among. live_second read.only.stays (live Backup s among)) contents pick).says
-
--- or the primary
-primary_both : (a m b : Seen) (disk : ℕ) (table : Table) (contents : Contents) →
-    Read a m disk table.sectors None (Some table) → ReplacesCopy m b disk Primary table {X = Unit {0}} {E = TableFault} (Ok tt) → BothLive a b disk table.sectors →
-    ((s : ℕ) → IsOfCopy Backup table.sectors s → contents s ≡ now_on a disk s) → IsPickOf b disk Primary table.sectors contents →
-    BothSay a disk table.sectors contents
-primary_both a m b disk table contents read replaced live same pick =
-    (table, else_says table.sectors (now_on a disk) (Some table) (sym (read.first told)) (sym (read.second told)), says) where
-      told : a.told disk
-      told = (live Primary 1 (inl refl)).is_told
-
-      says : (copy : TableCopy) → table_at copy table.sectors contents ≡ Some table
-      says Primary = (replaced.says (λ s among. live_second read.only.stays (live Primary s among)) contents pick).says
-      says Backup = table_at_agrees Backup table.sectors contents (now_on a disk) same ∙ sym (read.second told)
-
-settled_backup : (a m b : Seen) (disk : ℕ) (table : Table) (backup : Option Table) (result : Result (Unit {0}) TableFault) → 67 ≤ table.sectors →
-    Read a m disk table.sectors (Some table) backup → ReplacesCopy m b disk Backup table result → SettlesTable a b disk table.sectors result
-settled_backup a m b disk table backup (Err e) room read replaced = record {
-  changes = settling_told a b disk table.sectors
-      (changes_join a m b disk (IsOfCopies table.sectors) (Settling a disk table.sectors) (reads_settle a m disk table.sectors read.only)
-      (backup_settles a m b disk table backup (Err e) room read replaced));
+-- a copy was replaced by what the other one says
+settled_copy : (a m b : Seen) (disk : ℕ) (table : Table) (target : TableCopy) (result : Result (Unit {0}) TableFault) → 67 ≤ table.sectors →
+    Source a m disk table target → Changes a b disk (IsOfCopies table.sectors) (Settling a disk table.sectors) →
+    ReplacesCopy m b disk target table result → SettlesTable a b disk table.sectors result
+settled_copy a m b disk table target (Err e) room source settles replaced = record {
+  changes = settling_told a b disk table.sectors settles;
   both = tt;
   written = tt;
   durable = tt;
 }
-settled_backup a m b disk table backup (Ok tt) room read replaced = record {
-  changes = settling_told a b disk table.sectors
-      (changes_join a m b disk (IsOfCopies table.sectors) (Settling a disk table.sectors) (reads_settle a m disk table.sectors read.only)
-      (backup_settles a m b disk table backup (Ok tt) room read replaced));
+settled_copy a m b disk table target (Ok tt) room source settles replaced = record {
+  changes = settling_told a b disk table.sectors settles;
   both = λ live.
-      backup_both a m b disk table backup (now_on b disk) read replaced live (λ s among. (kept live s among).current) (λ s among. inl refl);
+      both_say a m b disk table target (now_on b disk) source replaced live (λ s among. (kept live s among).current) (λ s among. inl refl);
   durable = λ live single contents pick.
-      backup_both a m b disk table backup contents read replaced live
-      (λ s among. single Primary s among (contents s) ((kept live s among).within (contents s) (pick Primary s among))) (pick Backup);
-  written = made;
+      both_say a m b disk table target contents source replaced live
+      (λ s among. single (other_copy target) s among (contents s) ((kept live s among).within (contents s) (pick (other_copy target) s among)))
+      (pick target);
+  written = λ live.
+      for_both target
+      (λ copy. (contents : Contents) → IsPickOf b disk copy table.sectors contents → IsKeptOrWritten a disk table.sectors copy contents)
+      (λ contents pick. inr (table, refl, replaced.says (λ s among. live_second source.only.stays (live target s among)) contents pick))
+      (λ contents pick. inl (λ s among. (kept live s among).within (contents s) (pick s among)));
 } where
-  kept : BothLive a b disk table.sectors → (s : ℕ) → IsOfCopy Primary table.sectors s → Keeps (a.held disk s) (b.held disk s)
+  kept : BothLive a b disk table.sectors → (s : ℕ) → IsOfCopy (other_copy target) table.sectors s → Keeps (a.held disk s) (b.held disk s)
   kept live =
-      unwritten a m b disk table.sectors Primary Backup (Passes m disk Backup table) read.only replaced.changes
-      (λ s one other. copies_apart table.sectors s room one other) (live Primary)
-
-  made : BothLive a b disk table.sectors → (copy : TableCopy) (contents : Contents) → IsPickOf b disk copy table.sectors contents →
-      IsKeptOrWritten a disk table.sectors copy contents
-  made live Primary contents pick = inl (λ s among. (kept live s among).within (contents s) (pick s among))
-  made live Backup contents pick =
-      inr (table, refl, replaced.says (λ s among. live_second read.only.stays (live Backup s among)) contents pick)
-
-settled_primary : (a m b : Seen) (disk : ℕ) (table : Table) (result : Result (Unit {0}) TableFault) → 67 ≤ table.sectors →
-    Read a m disk table.sectors None (Some table) → ReplacesCopy m b disk Primary table result → SettlesTable a b disk table.sectors result
-settled_primary a m b disk table (Err e) room read replaced = record {
-  changes = settling_told a b disk table.sectors
-      (changes_join a m b disk (IsOfCopies table.sectors) (Settling a disk table.sectors) (reads_settle a m disk table.sectors read.only)
-      (primary_settles a m b disk table (Err e) room read replaced));
-  both = tt;
-  written = tt;
-  durable = tt;
-}
-settled_primary a m b disk table (Ok tt) room read replaced = record {
-  changes = settling_told a b disk table.sectors
-      (changes_join a m b disk (IsOfCopies table.sectors) (Settling a disk table.sectors) (reads_settle a m disk table.sectors read.only)
-      (primary_settles a m b disk table (Ok tt) room read replaced));
-  both = λ live.
-      primary_both a m b disk table (now_on b disk) read replaced live (λ s among. (kept live s among).current) (λ s among. inl refl);
-  durable = λ live single contents pick.
-      primary_both a m b disk table contents read replaced live
-      (λ s among. single Backup s among (contents s) ((kept live s among).within (contents s) (pick Backup s among))) (pick Primary);
-  written = made;
-} where
-  kept : BothLive a b disk table.sectors → (s : ℕ) → IsOfCopy Backup table.sectors s → Keeps (a.held disk s) (b.held disk s)
-  kept live =
-      unwritten a m b disk table.sectors Backup Primary (Passes m disk Primary table) read.only replaced.changes
-      (λ s one other. copies_apart table.sectors s room other one) (live Backup)
-
-  made : BothLive a b disk table.sectors → (copy : TableCopy) (contents : Contents) → IsPickOf b disk copy table.sectors contents →
-      IsKeptOrWritten a disk table.sectors copy contents
-  made live Backup contents pick = inl (λ s among. (kept live s among).within (contents s) (pick s among))
-  made live Primary contents pick =
-      inr (table, refl, replaced.says (λ s among. live_second read.only.stays (live Primary s among)) contents pick)
+      unwritten a m b disk table.sectors (other_copy target) target (Passes m disk target table) source.only replaced.changes
+      (λ s other own. apart_from target table.sectors s room other own) (live (other_copy target))
 
 -- nothing had to be written
 settled_same : (a m b : Seen) (disk sectors : ℕ) (table : Table) → Read a m disk sectors (Some table) (Some table) → OnlyReads m b →
@@ -255,12 +230,26 @@ settled_by a m b disk sectors (Some table) backup result room read fits rest set
     (settled_same a m b disk table.sectors table
     (record { only = found.only; first = found.first; second = λ told. sym same.1 ∙ found.second told }) same.0))
     (λ (replaced : ReplacesCopy m b disk Backup table result × (result ≢ Err NoTable)).
-    settled_backup a m b disk table backup result roomy found replaced.0)
+    settled_copy a m b disk table Backup result roomy
+    (record {
+      only = found.only;
+      first = λ told. first_says table.sectors (now_on a disk) table (sym (found.first told));
+      says = λ told. sym (found.first told);
+    })
+    (backup_settles a m b disk table backup result roomy found replaced.0) replaced.0)
     settles)
     room read
 settled_by a m b disk sectors None (Some table) result room read rest fits settles =
     subst (λ (n : ℕ). 67 ≤ n → Read a m disk n None (Some table) → SettlesTable a b disk n result) fits.size
-    (λ roomy found. settled_primary a m b disk table result roomy found settles.0) room read
+    (λ roomy found.
+    settled_copy a m b disk table Primary result roomy
+    (record {
+      only = found.only;
+      first = λ told. else_says table.sectors (now_on a disk) (Some table) (sym (found.first told)) (sym (found.second told));
+      says = λ told. sym (found.second told);
+    })
+    (primary_settles a m b disk table result roomy found settles.0) settles.0)
+    room read
 settled_by a m b disk sectors None None result room read one other settles =
     subst (λ (r : Result (Unit {0}) TableFault). SettlesTable a b disk sectors r) (sym settles.1)
     (settled_none a b disk sectors NoTable (only_reads_join read.only settles.0))

@@ -110,6 +110,3 @@ pub enum TableFault {
     /// The disk refused a call.
     Gone,
 }
-
-#[cfg(test)]
-mod tests;

@@ -25,8 +25,6 @@ ghost use Rattle.growth_plan.specs.Admission.{add_refusals, replace_refusals, fi
 mod admission;
 mod layers;
 mod tally;
-#[cfg(test)]
-mod tests;
 mod works;
 
 use admission::{is_fitting, makes_17th};

@@ -31,6 +31,3 @@ pub enum Stop {
     /// There was no memory for a text or its group.
     Memory,
 }
-
-#[cfg(test)]
-mod tests;

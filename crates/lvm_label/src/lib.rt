@@ -25,6 +25,3 @@ pub enum LabelFault {
     /// A fixed field has another value, or a list has too many entries or no end.
     BadHeader,
 }
-
-#[cfg(test)]
-mod tests;

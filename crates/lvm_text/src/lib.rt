@@ -28,6 +28,3 @@ pub use group::{Group, Key, Lv, Lvs, Pv, Pvs, Segment, SegmentKind, Segments, Te
 pub use printer::{print, print_group_head, print_lv_head, print_pv, print_segment};
 pub use text::Text;
 pub use walk::parse;
-
-#[cfg(test)]
-mod tests;

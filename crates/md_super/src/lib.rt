@@ -18,6 +18,3 @@ pub use pool_profile::profile;
 pub use reading::decode;
 pub use superblock::{Field, Super, SuperFault, Unsupported};
 pub use writing::encode;
-
-#[cfg(test)]
-mod tests;

@@ -255,6 +255,3 @@ impl<R: Bay> Pool<R> {
         self.mark_members(ALL_ROWS)
     }
 }
-
-#[cfg(test)]
-mod tests;

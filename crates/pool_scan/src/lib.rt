@@ -14,8 +14,6 @@
 
 mod choosing;
 mod reading;
-#[cfg(test)]
-mod tests;
 
 use pool_state::Copied;
 pub use reading::scan_disks;

@@ -18,6 +18,3 @@ pub use contents::{Copied, Drive, Plan, State, StateFault, Work};
 pub use reading::decode_state;
 pub use rules::is_state_of;
 pub use writing::encode_state;
-
-#[cfg(test)]
-mod tests;

@@ -46,6 +46,3 @@ pub enum Pick {
         seed: u64,
     },
 }
-
-#[cfg(test)]
-mod tests;

@@ -18,6 +18,3 @@ pub use crc::{crc32, lvm_crc};
 pub use extents::units;
 pub use ids::{Id, child_id, guid_bytes, guid_id, lvm_id};
 pub use sum::md_sum;
-
-#[cfg(test)]
-mod tests;

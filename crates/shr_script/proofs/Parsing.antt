@@ -12,8 +12,7 @@ use Rattle.std.specs.Str.Parse.{digits_value}
 use Rattle.hex.specs.Hex.{decode_of}
 use Rattle.std.specs.List.{list_all, slice_split, onto_first, position_or_len}
 use Rattle.shr_script.specs.declared.Command.{Command}
-use Rattle.shr_script.specs.declared.Command.TheVariants.{Syntax}
-use Rattle.shr_script.specs.Line.{is_space, alone, read_words, write_words, fill_words, sector_of, byte_if, byte_of}
+use Rattle.shr_script.specs.Line.{wrong, is_space, alone, read_words, write_words, fill_words, sector_of, byte_if, byte_of}
 
 -- where a place is found, it is the first one that passes
 pub position-found :
@@ -82,22 +81,22 @@ split-begins p (x ∷ xs) =
     (onto_first-begins x (slice_split p xs))
 
 -- a number with another word after it is no line
-pub read_words-more : (w xs : List ℕ) → read_words (w ∷ slice_split is_space xs) ≡ Syntax
+pub read_words-more : (w xs : List ℕ) → read_words (w ∷ slice_split is_space xs) ≡ wrong
 read_words-more w xs =
     let begins = split-begins is_space xs in
-    subst (λ ws. read_words (w ∷ ws) ≡ Syntax) (sym begins.2) refl
+    subst (λ ws. read_words (w ∷ ws) ≡ wrong) (sym begins.2) refl
 
 -- a number and digits with another word after them are no line
-pub write_words-more : (v w xs : List ℕ) → write_words (v ∷ w ∷ slice_split is_space xs) ≡ Syntax
+pub write_words-more : (v w xs : List ℕ) → write_words (v ∷ w ∷ slice_split is_space xs) ≡ wrong
 write_words-more v w xs =
     let begins = split-begins is_space xs in
-    subst (λ ws. write_words (v ∷ w ∷ ws) ≡ Syntax) (sym begins.2) refl
+    subst (λ ws. write_words (v ∷ w ∷ ws) ≡ wrong) (sym begins.2) refl
 
 -- and so are two numbers and digits
-pub fill_words-more : (u v w xs : List ℕ) → fill_words (u ∷ v ∷ w ∷ slice_split is_space xs) ≡ Syntax
+pub fill_words-more : (u v w xs : List ℕ) → fill_words (u ∷ v ∷ w ∷ slice_split is_space xs) ≡ wrong
 fill_words-more u v w xs =
     let begins = split-begins is_space xs in
-    subst (λ ws. fill_words (u ∷ v ∷ w ∷ ws) ≡ Syntax) (sym begins.2) refl
+    subst (λ ws. fill_words (u ∷ v ∷ w ∷ ws) ≡ wrong) (sym begins.2) refl
 
 -- the code of a digit is 48 above its value
 pub digit_value-digit : (c : ℕ) → is_ascii_digit c ≡ true → digit_value c ≡ c - 48
@@ -152,8 +151,8 @@ sector_of-decoded digits sector bytes least most decoded is =
     rw (room, decoded, is, drop-replicate {X = ℕ} (length bytes) 512 0) refl
 
 -- a word with another one after it doesn't stand alone
-pub alone-more : (c : Command) (xs : List ℕ) → alone c (slice_split is_space xs) ≡ Syntax
-alone-more c xs = let begins = split-begins is_space xs in subst (λ ws. alone c ws ≡ Syntax) (sym begins.2) refl
+pub alone-more : (c : Command) (xs : List ℕ) → alone c (slice_split is_space xs) ≡ wrong
+alone-more c xs = let begins = split-begins is_space xs in subst (λ ws. alone c ws ≡ wrong) (sym begins.2) refl
 
 -- two digits that are decoded to one byte
 pub byte_of-decoded :

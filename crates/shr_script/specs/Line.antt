@@ -6,7 +6,17 @@ use Rattle.std.specs.Str.{bytes_eq}
 use Rattle.std.specs.Str.Parse.{digits_value}
 use Rattle.hex.specs.Hex.{decode_of}
 use Rattle.shr_script.specs.declared.Command.{Command}
-use Rattle.shr_script.specs.declared.Command.TheVariants.{Read, Write, Fill, Flush, Size, Quit, Unbuilt, Syntax}
+use Rattle.shr_script.specs.declared.Command.TheVariants.{Read, Write, Fill, Flush, Size, Quit, Unbuilt}
+use Rattle.shr_script.specs.declared.LineFault.{LineFault}
+use Rattle.shr_script.specs.declared.LineFault.TheVariants.{Syntax}
+
+-- what a line says: a command, or why it is none
+abbrev pub Line : Type 0
+Line = Result Command LineFault
+
+-- a line that is none of the commands
+abbrev pub wrong : Line
+wrong = Err Syntax
 
 -- one to twenty decimal digits with a value below 2^64
 abbrev pub number_of : List ℕ → Option ℕ
@@ -33,26 +43,26 @@ sector_of digits =
     if nat_le 2 (length digits) && nat_le (length digits) 1024 then padded_if (decode_of digits) else None
 
 -- `read S`
-abbrev pub read_of : Option ℕ → Command
-read_of (Some sector) = Read sector
-read_of None = Syntax
+abbrev pub read_of : Option ℕ → Line
+read_of (Some sector) = Ok (Read sector)
+read_of None = wrong
 
-abbrev pub read_words : List (List ℕ) → Command
-read_words [] = Syntax
+abbrev pub read_words : List (List ℕ) → Line
+read_words [] = wrong
 read_words (sector ∷ []) = read_of (number_of sector)
-read_words (sector ∷ more ∷ words) = Syntax
+read_words (sector ∷ more ∷ words) = wrong
 
 -- `write S HEX`
-abbrev pub write_of : Option ℕ → Option (List ℕ) → Command
-write_of (Some sector) (Some bytes) = Write sector bytes
-write_of (Some sector) None = Syntax
-write_of None bytes = Syntax
+abbrev pub write_of : Option ℕ → Option (List ℕ) → Line
+write_of (Some sector) (Some bytes) = Ok (Write sector bytes)
+write_of (Some sector) None = wrong
+write_of None bytes = wrong
 
-abbrev pub write_words : List (List ℕ) → Command
-write_words [] = Syntax
-write_words (sector ∷ []) = Syntax
+abbrev pub write_words : List (List ℕ) → Line
+write_words [] = wrong
+write_words (sector ∷ []) = wrong
 write_words (sector ∷ digits ∷ []) = write_of (number_of sector) (sector_of digits)
-write_words (sector ∷ digits ∷ more ∷ words) = Syntax
+write_words (sector ∷ digits ∷ more ∷ words) = wrong
 
 -- the byte that decoded digits write
 abbrev pub byte_if : {E : Type 0} → Result (List ℕ) E → Option ℕ
@@ -65,23 +75,23 @@ abbrev pub byte_of : List ℕ → Option ℕ
 byte_of digits = if length digits == 2 then byte_if (decode_of digits) else None
 
 -- `fill S N XX`
-abbrev pub fill_of : Option ℕ → Option ℕ → Option ℕ → Command
-fill_of (Some sector) (Some count) (Some byte) = Fill sector count byte
-fill_of (Some sector) (Some count) None = Syntax
-fill_of (Some sector) None byte = Syntax
-fill_of None count byte = Syntax
+abbrev pub fill_of : Option ℕ → Option ℕ → Option ℕ → Line
+fill_of (Some sector) (Some count) (Some byte) = Ok (Fill sector count byte)
+fill_of (Some sector) (Some count) None = wrong
+fill_of (Some sector) None byte = wrong
+fill_of None count byte = wrong
 
-abbrev pub fill_words : List (List ℕ) → Command
-fill_words [] = Syntax
-fill_words (sector ∷ []) = Syntax
-fill_words (sector ∷ count ∷ []) = Syntax
+abbrev pub fill_words : List (List ℕ) → Line
+fill_words [] = wrong
+fill_words (sector ∷ []) = wrong
+fill_words (sector ∷ count ∷ []) = wrong
 fill_words (sector ∷ count ∷ digits ∷ []) = fill_of (number_of sector) (number_of count) (byte_of digits)
-fill_words (sector ∷ count ∷ digits ∷ more ∷ words) = Syntax
+fill_words (sector ∷ count ∷ digits ∷ more ∷ words) = wrong
 
 -- a word that stands alone
-abbrev pub alone : Command → List (List ℕ) → Command
-alone command [] = command
-alone command (more ∷ words) = Syntax
+abbrev pub alone : Command → List (List ℕ) → Line
+alone command [] = Ok command
+alone command (more ∷ words) = wrong
 
 -- the first words of lines that aren't built yet
 abbrev pub is_unbuilt : List ℕ → Bool
@@ -92,8 +102,8 @@ is_unbuilt word =
     || bytes_eq word (codes "lose")
     || bytes_eq word (codes "status")
 
--- the command of a line of at most 1100 bytes, by its first word
-abbrev pub built_of : List ℕ → List (List ℕ) → Command
+-- what a line of at most 1100 bytes says, by its first word
+abbrev pub built_of : List ℕ → List (List ℕ) → Line
 built_of first words =
     if bytes_eq first (codes "read")
     then read_words words
@@ -107,28 +117,28 @@ built_of first words =
     then alone Size words
     else if bytes_eq first (codes "quit")
     then alone Quit words
-    else Syntax
+    else wrong
 
 -- the longest line that is read as a command
 abbrev pub longest : ℕ
 longest = 1100
 
--- the command of the words of a line
-abbrev pub words_command : ℕ → List (List ℕ) → Command
-words_command bytes [] = Syntax
-words_command bytes (first ∷ words) =
+-- what the words of a line say
+abbrev pub words_line : ℕ → List (List ℕ) → Line
+words_line bytes [] = wrong
+words_line bytes (first ∷ words) =
     if is_unbuilt first
-    then Unbuilt
+    then Ok Unbuilt
     else if nat_le bytes longest
     then built_of first words
-    else Syntax
+    else wrong
 
 -- a space parts words
 abbrev pub is_space : ℕ → Bool
 is_space b = b == 32
 
--- the command of a line; an empty line has none
-abbrev pub command_of : List ℕ → Option Command
-command_of [] = None
-command_of (b ∷ bytes) =
-    Some (words_command (length (b ∷ bytes)) (slice_split is_space (b ∷ bytes)))
+-- what a line says; an empty line says nothing
+abbrev pub line_of : List ℕ → Option Line
+line_of [] = None
+line_of (b ∷ bytes) =
+    Some (words_line (length (b ∷ bytes)) (slice_split is_space (b ∷ bytes)))

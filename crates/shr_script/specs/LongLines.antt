@@ -1,13 +1,12 @@
--- The first 1102 bytes of a line tell its command.
-use Rattle.std.proofs.Common.{◌≡◌, ℕ, zero, suc, ◌<◌, ◌≤◌, nat_le, lit<, lit≤, Bool, true, false, cond, ◌==◌, ◌&&◌, List, [], ◌∷◌, ◌++◌, length, take, codes, Some, refl, sym, ◌∙◌, ap, subst, inl, inr, arith, length-append, length-take, take-take}
+-- The first 1102 bytes of a line tell what it says.
+use Rattle.std.proofs.Common.{◌≡◌, ℕ, zero, suc, ◌<◌, ◌≤◌, nat_le, lit<, lit≤, Bool, true, false, cond, ◌==◌, ◌&&◌, List, [], ◌∷◌, ◌++◌, length, take, codes, Some, Ok, refl, sym, ◌∙◌, ap, subst, inl, inr, arith, length-append, length-take, take-take}
 use Rattle.std.proofs.lemmas.Bool.{cases_lt}
 use Rattle.std.proofs.lemmas.Bool.Decides.{nat_tests}
 use Rattle.std.proofs.lemmas.List.{take_all}
 use Rattle.std.specs.List.{slice_split, onto_first}
 use Rattle.std.specs.Str.{bytes_eq}
-use Rattle.shr_script.specs.declared.Command.{Command}
-use Rattle.shr_script.specs.declared.Command.TheVariants.{Unbuilt, Syntax}
-use Rattle.shr_script.specs.Line.{is_space, is_unbuilt, words_command, built_of, command_of, longest}
+use Rattle.shr_script.specs.declared.Command.TheVariants.{Unbuilt}
+use Rattle.shr_script.specs.Line.{Line, wrong, is_space, is_unbuilt, words_line, built_of, line_of, longest}
 use Rattle.shr_script.specs.Script.{without_return}
 use Rattle.shr_script.specs.Reading.{kept_of}
 
@@ -79,56 +78,56 @@ is_unbuilt-take word =
     let status = bytes_eq-take 8 word (codes "status") (lit< tt) in
     cc
 
--- the command of a line that is too long
-long_command : Bool → Command
-long_command true = Unbuilt
-long_command false = Syntax
+-- what a line says that is too long
+long_line : Bool → Line
+long_line true = Ok Unbuilt
+long_line false = wrong
 
-words_command-long :
-    (q : Bool) (n : ℕ) (c : Command)
+words_line-long :
+    (q : Bool) (n : ℕ) (c : Line)
     → longest < n
-    → cond q Unbuilt (cond (nat_le n longest) c Syntax) ≡ long_command q
-unfolding long_command
-words_command-long true n c long = refl
-words_command-long false n c long =
+    → cond q (Ok Unbuilt) (cond (nat_le n longest) c wrong) ≡ long_line q
+unfolding long_line
+words_line-long true n c long = refl
+words_line-long false n c long =
     let above : nat_le n longest ≡ false = grind (arith, nat_tests) in
     rw above refl
 
-words_command-begins :
+words_line-begins :
     (n : ℕ) (word : List ℕ) (parts : List (List ℕ))
     → longest < n
     → SplitBegins word parts
-    → words_command n parts ≡ long_command (is_unbuilt word)
+    → words_line n parts ≡ long_line (is_unbuilt word)
 unfolding SplitBegins
-words_command-begins n word parts long begins =
+words_line-begins n word parts long begins =
     subst
-    (λ words. words_command n words ≡ long_command (is_unbuilt word))
+    (λ words. words_line n words ≡ long_line (is_unbuilt word))
     (sym begins.1)
-    (words_command-long (is_unbuilt word) n (built_of word begins.0) long)
+    (words_line-long (is_unbuilt word) n (built_of word begins.0) long)
 
-command_of-long :
+line_of-long :
     (bytes : List ℕ)
     → longest < length bytes
-    → command_of bytes ≡ Some (long_command (is_unbuilt (first_word bytes)))
-command_of-long [] long = absurd (omega arith)
-command_of-long (b ∷ bytes) long =
+    → line_of bytes ≡ Some (long_line (is_unbuilt (first_word bytes)))
+line_of-long [] long = absurd (omega arith)
+line_of-long (b ∷ bytes) long =
     ap Some
-    (words_command-begins (length (b ∷ bytes)) (first_word (b ∷ bytes)) (slice_split is_space (b ∷ bytes)) long
+    (words_line-begins (length (b ∷ bytes)) (first_word (b ∷ bytes)) (slice_split is_space (b ∷ bytes)) long
     (split-first_word (b ∷ bytes)))
 
 -- two lines that are too long and begin alike
-command_of-alike :
+line_of-alike :
     (front xs ys : List ℕ)
     → longest < length front
-    → command_of (front ++ xs) ≡ command_of (front ++ ys)
-command_of-alike front xs ys long =
-    let left = command_of-long (front ++ xs) (simp length-append (omega arith)) in
-    let right = command_of-long (front ++ ys) (simp length-append (omega arith)) in
+    → line_of (front ++ xs) ≡ line_of (front ++ ys)
+line_of-alike front xs ys long =
+    let left = line_of-long (front ++ xs) (simp length-append (omega arith)) in
+    let right = line_of-long (front ++ ys) (simp length-append (omega arith)) in
     let words = take-first_word 8 front xs ys (omega arith) in
     let same : is_unbuilt (first_word (front ++ xs)) ≡ is_unbuilt (first_word (front ++ ys)) =
     is_unbuilt-take (first_word (front ++ xs))
     ∙ (ap is_unbuilt words ∙ sym (is_unbuilt-take (first_word (front ++ ys)))) in
-    left ∙ (ap (λ q. Some (long_command q)) same ∙ sym right)
+    left ∙ (ap (λ q. Some (long_line q)) same ∙ sym right)
 
 -- a line without its carriage return begins as the line does
 without_return-begins :
@@ -143,24 +142,24 @@ without_return-begins (suc n) (b ∷ c ∷ bytes) inside =
     (rest.0, ap (λ xs. b ∷ xs) rest.1)
 
 -- of a line that is too long too
-command_of-cut :
+line_of-cut :
     (bytes : List ℕ)
     → 1102 < length bytes
-    → command_of (without_return (take 1102 bytes)) ≡ command_of (without_return bytes)
-command_of-cut bytes long =
+    → line_of (without_return (take 1102 bytes)) ≡ line_of (without_return bytes)
+line_of-cut bytes long =
     let kept_long : length (take 1102 bytes) ≡ 1102 = rw length-take (omega arith) in
     let kept = without_return-begins 1101 (take 1102 bytes) (omega arith) in
     let whole = without_return-begins 1101 bytes (omega arith) in
     let front_long : length (take 1101 bytes) ≡ 1101 = rw length-take (omega arith) in
     let fronts : take 1101 (take 1102 bytes) ≡ take 1101 bytes = take-take 1101 1102 bytes (lit≤ tt) in
-    ap command_of (kept.1 ∙ ap (λ xs. xs ++ kept.0) fronts)
-    ∙ (command_of-alike (take 1101 bytes) kept.0 whole.0 (omega arith)
-    ∙ ap command_of (sym whole.1))
+    ap line_of (kept.1 ∙ ap (λ xs. xs ++ kept.0) fronts)
+    ∙ (line_of-alike (take 1101 bytes) kept.0 whole.0 (omega arith)
+    ∙ ap line_of (sym whole.1))
 
--- the bytes of a line that are kept tell its command
-pub command_of-kept : (bytes : List ℕ) → command_of (without_return (kept_of bytes)) ≡ command_of (without_return bytes)
-command_of-kept bytes =
+-- the bytes of a line that are kept tell what it says
+pub line_of-kept : (bytes : List ℕ) → line_of (without_return (kept_of bytes)) ≡ line_of (without_return bytes)
+line_of-kept bytes =
     elim (cases_lt 1102 (length bytes)) [
-      | inl long ↦ command_of-cut bytes long
-      | inr short ↦ ap (λ xs. command_of (without_return xs)) (take_all 1102 bytes short)
+      | inl long ↦ line_of-cut bytes long
+      | inr short ↦ ap (λ xs. line_of (without_return xs)) (take_all 1102 bytes short)
     ]

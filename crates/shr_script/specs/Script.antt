@@ -1,9 +1,8 @@
--- A script: the commands that its bytes spell, up to the first `quit`.
-use Rattle.std.specs.Prelude.{ℕ, ◌-◌, ◌==◌, Bool, if◌then◌else◌, List, [], ◌∷◌, length, map, take}
+-- A script: what its lines say, up to the first `quit`.
+use Rattle.std.specs.Prelude.{ℕ, ◌-◌, ◌==◌, Bool, if◌then◌else◌, List, [], ◌∷◌, length, map, take, Ok, Err}
 use Rattle.std.specs.List.{slice_split, filter_map}
-use Rattle.shr_script.specs.declared.Command.{Command}
-use Rattle.shr_script.specs.declared.Command.TheVariants.{Read, Write, Fill, Flush, Size, Quit, Unbuilt, Syntax}
-use Rattle.shr_script.specs.Line.{command_of}
+use Rattle.shr_script.specs.declared.Command.TheVariants.{Read, Write, Fill, Flush, Size, Quit, Unbuilt}
+use Rattle.shr_script.specs.Line.{Line, line_of}
 
 -- a line feed ends a line
 abbrev pub is_line_feed : ℕ → Bool
@@ -23,22 +22,22 @@ lines_of text = map without_return (slice_split is_line_feed text)
 abbrev pub ended_lines_of : List ℕ → List (List ℕ)
 ended_lines_of text = take (length (slice_split is_line_feed text) - 1) (lines_of text)
 
--- the commands before the first `quit`
-abbrev pub until_quit : List Command → List Command
+-- what lines say before the first `quit`
+abbrev pub until_quit : List Line → List Line
 until_quit [] = []
-until_quit (Read sector ∷ commands) = Read sector ∷ until_quit commands
-until_quit (Write sector bytes ∷ commands) = Write sector bytes ∷ until_quit commands
-until_quit (Fill sector count byte ∷ commands) = Fill sector count byte ∷ until_quit commands
-until_quit (Flush ∷ commands) = Flush ∷ until_quit commands
-until_quit (Size ∷ commands) = Size ∷ until_quit commands
-until_quit (Quit ∷ commands) = []
-until_quit (Unbuilt ∷ commands) = Unbuilt ∷ until_quit commands
-until_quit (Syntax ∷ commands) = Syntax ∷ until_quit commands
+until_quit (Ok (Read sector) ∷ lines) = Ok (Read sector) ∷ until_quit lines
+until_quit (Ok (Write sector bytes) ∷ lines) = Ok (Write sector bytes) ∷ until_quit lines
+until_quit (Ok (Fill sector count byte) ∷ lines) = Ok (Fill sector count byte) ∷ until_quit lines
+until_quit (Ok Flush ∷ lines) = Ok Flush ∷ until_quit lines
+until_quit (Ok Size ∷ lines) = Ok Size ∷ until_quit lines
+until_quit (Ok Quit ∷ lines) = []
+until_quit (Ok Unbuilt ∷ lines) = Ok Unbuilt ∷ until_quit lines
+until_quit (Err fault ∷ lines) = Err fault ∷ until_quit lines
 
--- the commands of a whole text
-abbrev pub script_of : List ℕ → List Command
-script_of text = until_quit (filter_map command_of (lines_of text))
+-- what the lines of a whole text say
+abbrev pub script_of : List ℕ → List Line
+script_of text = until_quit (filter_map line_of (lines_of text))
 
--- the commands of a text that was cut off: a line without a line feed is dropped
-abbrev pub cut_script_of : List ℕ → List Command
-cut_script_of text = until_quit (filter_map command_of (ended_lines_of text))
+-- what those of a text say that was cut off: a line without a line feed is dropped
+abbrev pub cut_script_of : List ℕ → List Line
+cut_script_of text = until_quit (filter_map line_of (ended_lines_of text))

@@ -1,49 +1,48 @@
--- The commands of a text, line by line.
-use Rattle.std.proofs.Common.{◌≡◌, ℕ, suc, ◌-◌, ◌<◌, Bool, true, false, if◌then◌else◌, ◌≢◌, get_or, ◌==◌, List, [], ◌∷◌, ◌++◌, length, map, take, Option, Some, None, refl, sym, ◌∙◌, ap, subst, arith}
+-- What a text says, line by line.
+use Rattle.std.proofs.Common.{◌≡◌, ℕ, suc, ◌-◌, ◌<◌, Bool, true, false, if◌then◌else◌, ◌≢◌, get_or, ◌==◌, List, [], ◌∷◌, ◌++◌, length, map, take, Option, Some, None, Ok, Err, refl, sym, ◌∙◌, ap, subst, arith}
 use Rattle.std.proofs.lemmas.List.Splits.{slice_split_at, slice_split_none, length-slice_split}
 use Rattle.std.proofs.lemmas.Bool.Decides.{nat_tests}
 use Rattle.std.proofs.lemmas.List.{take_all}
 use Rattle.shr_script.specs.Trimming.{take-last}
 use Rattle.std.specs.List.{All, slice_split, filter_map, cons_option}
-use Rattle.shr_script.specs.declared.Command.{Command}
-use Rattle.shr_script.specs.declared.Command.TheVariants.{Read, Write, Fill, Flush, Size, Quit, Unbuilt, Syntax}
-use Rattle.shr_script.specs.Line.{command_of}
+use Rattle.shr_script.specs.declared.Command.TheVariants.{Read, Write, Fill, Flush, Size, Quit, Unbuilt}
+use Rattle.shr_script.specs.Line.{Line, line_of}
 use Rattle.shr_script.specs.Script.{is_line_feed, without_return, lines_of, ended_lines_of, until_quit, script_of, cut_script_of}
 
--- a line's command before those of the lines after it
-abbrev pub prepend : Option Command → List Command → List Command
-prepend None commands = commands
-prepend (Some (Read sector)) commands = Read sector ∷ commands
-prepend (Some (Write sector bytes)) commands = Write sector bytes ∷ commands
-prepend (Some (Fill sector count byte)) commands = Fill sector count byte ∷ commands
-prepend (Some Flush) commands = Flush ∷ commands
-prepend (Some Size) commands = Size ∷ commands
-prepend (Some Quit) commands = []
-prepend (Some Unbuilt) commands = Unbuilt ∷ commands
-prepend (Some Syntax) commands = Syntax ∷ commands
+-- what a line says before what the lines after it say
+abbrev pub prepend : Option Line → List Line → List Line
+prepend None lines = lines
+prepend (Some (Ok (Read sector))) lines = Ok (Read sector) ∷ lines
+prepend (Some (Ok (Write sector bytes))) lines = Ok (Write sector bytes) ∷ lines
+prepend (Some (Ok (Fill sector count byte))) lines = Ok (Fill sector count byte) ∷ lines
+prepend (Some (Ok Flush)) lines = Ok Flush ∷ lines
+prepend (Some (Ok Size)) lines = Ok Size ∷ lines
+prepend (Some (Ok Quit)) lines = []
+prepend (Some (Ok Unbuilt)) lines = Ok Unbuilt ∷ lines
+prepend (Some (Err fault)) lines = Err fault ∷ lines
 
 until_quit-cons :
-    (command : Option Command) (commands : List Command)
-    → until_quit (cons_option command commands) ≡ prepend command (until_quit commands)
-until_quit-cons None commands = refl
-until_quit-cons (Some (Read sector)) commands = refl
-until_quit-cons (Some (Write sector bytes)) commands = refl
-until_quit-cons (Some (Fill sector count byte)) commands = refl
-until_quit-cons (Some Flush) commands = refl
-until_quit-cons (Some Size) commands = refl
-until_quit-cons (Some Quit) commands = refl
-until_quit-cons (Some Unbuilt) commands = refl
-until_quit-cons (Some Syntax) commands = refl
+    (line : Option Line) (lines : List Line)
+    → until_quit (cons_option line lines) ≡ prepend line (until_quit lines)
+until_quit-cons None lines = refl
+until_quit-cons (Some (Ok (Read sector))) lines = refl
+until_quit-cons (Some (Ok (Write sector bytes))) lines = refl
+until_quit-cons (Some (Ok (Fill sector count byte))) lines = refl
+until_quit-cons (Some (Ok Flush)) lines = refl
+until_quit-cons (Some (Ok Size)) lines = refl
+until_quit-cons (Some (Ok Quit)) lines = refl
+until_quit-cons (Some (Ok Unbuilt)) lines = refl
+until_quit-cons (Some (Err fault)) lines = refl
 
--- the commands of parts of a text
-commands_of : List (List ℕ) → List Command
-commands_of lines = until_quit (filter_map command_of lines)
+-- what parts of a text say
+said_by : List (List ℕ) → List Line
+said_by lines = until_quit (filter_map line_of lines)
 
-commands_of-cons :
+said_by-cons :
     (line : List ℕ) (lines : List (List ℕ))
-    → commands_of (line ∷ lines) ≡ prepend (command_of line) (commands_of lines)
-unfolding commands_of
-commands_of-cons line lines = until_quit-cons (command_of line) (filter_map command_of lines)
+    → said_by (line ∷ lines) ≡ prepend (line_of line) (said_by lines)
+unfolding said_by
+said_by-cons line lines = until_quit-cons (line_of line) (filter_map line_of lines)
 
 -- no line feed stands in these bytes
 abbrev pub NoFeed : List ℕ → Type 0
@@ -53,19 +52,19 @@ NoFeed bytes = All (λ b. is_line_feed b ≡ false) bytes
 pub script_of-line :
     (bytes rest : List ℕ)
     → NoFeed bytes
-    → script_of (bytes ++ 10 ∷ rest) ≡ prepend (command_of (without_return bytes)) (script_of rest)
-unfolding commands_of
+    → script_of (bytes ++ 10 ∷ rest) ≡ prepend (line_of (without_return bytes)) (script_of rest)
+unfolding said_by
 script_of-line bytes rest no_feed =
-    ap (λ parts. commands_of (map without_return parts)) (slice_split_at is_line_feed bytes 10 rest no_feed refl)
-    ∙ commands_of-cons (without_return bytes) (lines_of rest)
+    ap (λ parts. said_by (map without_return parts)) (slice_split_at is_line_feed bytes 10 rest no_feed refl)
+    ∙ said_by-cons (without_return bytes) (lines_of rest)
 
 -- a line at the end of the text is the last one
 pub script_of-last :
-    (bytes : List ℕ) → NoFeed bytes → script_of bytes ≡ prepend (command_of (without_return bytes)) []
-unfolding commands_of
+    (bytes : List ℕ) → NoFeed bytes → script_of bytes ≡ prepend (line_of (without_return bytes)) []
+unfolding said_by
 script_of-last bytes no_feed =
-    ap (λ parts. commands_of (map without_return parts)) (slice_split_none is_line_feed bytes no_feed)
-    ∙ commands_of-cons (without_return bytes) []
+    ap (λ parts. said_by (map without_return parts)) (slice_split_none is_line_feed bytes no_feed)
+    ∙ said_by-cons (without_return bytes) []
 
 -- all lines but the last one
 ended : List (List ℕ) → List (List ℕ)
@@ -89,12 +88,12 @@ split-some bytes = rw length-slice_split (omega arith)
 pub cut_script_of-line :
     (bytes rest : List ℕ)
     → NoFeed bytes
-    → cut_script_of (bytes ++ 10 ∷ rest) ≡ prepend (command_of (without_return bytes)) (cut_script_of rest)
-unfolding commands_of ended
+    → cut_script_of (bytes ++ 10 ∷ rest) ≡ prepend (line_of (without_return bytes)) (cut_script_of rest)
+unfolding said_by ended
 cut_script_of-line bytes rest no_feed =
-    ap (λ parts. commands_of (ended parts)) (slice_split_at is_line_feed bytes 10 rest no_feed refl)
-    ∙ (ap commands_of (ended-cons bytes (slice_split is_line_feed rest) (split-some rest))
-    ∙ commands_of-cons (without_return bytes) (ended (slice_split is_line_feed rest)))
+    ap (λ parts. said_by (ended parts)) (slice_split_at is_line_feed bytes 10 rest no_feed refl)
+    ∙ (ap said_by (ended-cons bytes (slice_split is_line_feed rest) (split-some rest))
+    ∙ said_by-cons (without_return bytes) (ended (slice_split is_line_feed rest)))
 
 -- the lines that ended, when one more ended before them
 pub ended_lines_of-line :
@@ -113,9 +112,9 @@ ended_lines_of-last bytes no_feed = ap ended (slice_split_none is_line_feed byte
 
 -- and one that did not is dropped
 pub cut_script_of-last : (bytes : List ℕ) → NoFeed bytes → cut_script_of bytes ≡ []
-unfolding commands_of ended
+unfolding said_by ended
 cut_script_of-last bytes no_feed =
-    ap (λ parts. commands_of (ended parts)) (slice_split_none is_line_feed bytes no_feed)
+    ap (λ parts. said_by (ended parts)) (slice_split_none is_line_feed bytes no_feed)
 
 -- a choice after a first byte
 return-choice :

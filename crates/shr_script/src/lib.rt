@@ -1,11 +1,11 @@
 //! The lines of a script: read from a source, parsed into commands, and the texts of their replies.
 //!
-//! **The model.** A script is bytes: lines of words parted by one space, each line a [`Command`]
-//! (specs/Line.antt). Its commands are those of its lines up to the first `quit`; a line without a
-//! line feed is dropped where the text was cut off (specs/Script.antt). A reply is one line
+//! **The model.** A script is bytes: lines of words parted by one space, each line a [`Command`], or
+//! none by a [`LineFault`] (`Line` in specs/Line.antt). A script is what its lines say up to the first
+//! `quit`; a line without a line feed is dropped where the text was cut off (specs/Script.antt). A reply is one line
 //! (specs/Reply.antt).
 //!
-//! **The contract for the layer above.** [`next_line`] gives the command of a line. A
+//! **The contract for the layer above.** [`next_line`] gives the command of a line, or why it is none. A
 //! [`LineReader`] gives the lines of a source in their order, with constant memory: of a line that
 //! is too long it keeps as many bytes as tell its command (specs/LongLines.antt). What a row of
 //! lines says of a whole script stands in specs/ScriptLaws.antt.
@@ -55,6 +55,13 @@ pub enum Command {
     Quit,
     /// A line whose first word is one of the commands that aren't built yet.
     Unbuilt,
-    /// A line that is none of these, or too long.
+}
+
+/// Why a line is no command.
+#[derive(Clone, Copy, Debug, PartialEq, Eq)]
+pub enum LineFault {
+    /// It is none of the commands, or too long.
     Syntax,
+    /// There was no memory for a name in it. No line that is built has a name.
+    Memory,
 }

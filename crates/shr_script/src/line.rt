@@ -7,23 +7,24 @@ ghost use Rattle.std.specs.List.{slice_split, list_all};
 ghost use Rattle.std.specs.Str.Parse.{digits_value};
 ghost use Rattle.hex.specs.Hex.{decode_of};
 ghost use Rattle.std.specs.Option.{option_copied};
-ghost use Rattle.shr_script.specs.Line.{is_space, is_unbuilt as is_unbuilt_word, built_of, read_words, write_words, fill_words, fill_of, alone as stands_alone, words_command, command_of, number_of as number_in, sector_of as sector_in, byte_of as byte_in};
+ghost use Rattle.std.specs.Result.{result_transpose};
+ghost use Rattle.shr_script.specs.Line.{is_space, is_unbuilt as is_unbuilt_word, built_of, read_words, write_words, fill_words, fill_of, alone as stands_alone, words_line, line_of, number_of as number_in, sector_of as sector_in, byte_of as byte_in};
 ghost use Rattle.shr_script.specs.Script.{without_return as line_without_return};
 ghost use Rattle.shr_script.specs.Words.{words_after};
 
-use crate::Command;
+use crate::{Command, LineFault};
 
 /// The longest line that is read as a command, in bytes.
 pub const LONGEST: usize = 1100;
 
-/// The command of a line without its line end; an empty line has none.
-pub fn next_line(line: &[u8]) -> Option<Command>
-    ensures { result ≡ command_of line.now }
+/// The command of a line without its line end, or why it is none; an empty line says nothing.
+pub fn next_line(line: &[u8]) -> Result<Option<Command>, LineFault>
+    ensures { result_transpose result ≡ line_of line.now }
 {
     if line.is_empty() {
-        return None;
+        return Ok(None);
     }
-    Some(command_in(line))
+    command_in(line).map(Some)
 }
 
 /// A line without the carriage return at its end.
@@ -41,16 +42,16 @@ pub fn without_return(line: &[u8]) -> &[u8]
 }
 
 // The command of a line that isn't empty.
-fn command_in(line: &[u8]) -> Command
-    ensures { result ≡ words_command (length line.now) (slice_split is_space line.now) }
+fn command_in(line: &[u8]) -> Result<Command, LineFault>
+    ensures { result ≡ words_line (length line.now) (slice_split is_space line.now) }
 {
     let (first, rest) = cut_word(line);
     if is_unbuilt(first) {
-        Command::Unbuilt
+        Ok(Command::Unbuilt)
     } else if line.len() <= LONGEST {
         built_command(first, rest)
     } else {
-        Command::Syntax
+        Err(LineFault::Syntax)
     }
 }
 
@@ -83,7 +84,7 @@ fn is_unbuilt(word: &[u8]) -> bool
 }
 
 // The command of a line that isn't too long, by its first word.
-fn built_command(first: &[u8], rest: Option<&[u8]>) -> Command
+fn built_command(first: &[u8], rest: Option<&[u8]>) -> Result<Command, LineFault>
     ensures { result ≡ built_of first.now (words_after (option_copied rest.entry)) }
 {
     if first == b"read".as_slice() {
@@ -99,88 +100,88 @@ fn built_command(first: &[u8], rest: Option<&[u8]>) -> Command
     } else if first == b"quit".as_slice() {
         alone(Command::Quit, rest)
     } else {
-        Command::Syntax
+        Err(LineFault::Syntax)
     }
 }
 
 // The command of a word that stands alone.
-fn alone(command: Command, rest: Option<&[u8]>) -> Command
+fn alone(command: Command, rest: Option<&[u8]>) -> Result<Command, LineFault>
     ensures { result ≡ stands_alone command (words_after (option_copied rest.entry)) }
 {
     match rest {
-        None => command,
-        Some(_) => Command::Syntax,
+        None => Ok(command),
+        Some(_) => Err(LineFault::Syntax),
     }
 }
 
 // `read S`
-fn read_command(rest: Option<&[u8]>) -> Command
+fn read_command(rest: Option<&[u8]>) -> Result<Command, LineFault>
     ensures { result ≡ read_words (words_after (option_copied rest.entry)) }
 {
     let Some(words) = rest else {
-        return Command::Syntax;
+        return Err(LineFault::Syntax);
     };
     let (word, more) = cut_word(words);
     match (more, number_of(word)) {
-        (Some(_), _) => Command::Syntax,
-        (None, None) => Command::Syntax,
-        (None, Some(sector)) => Command::Read { sector },
+        (Some(_), _) => Err(LineFault::Syntax),
+        (None, None) => Err(LineFault::Syntax),
+        (None, Some(sector)) => Ok(Command::Read { sector }),
     }
 }
 
 // `write S HEX`
-fn write_command(rest: Option<&[u8]>) -> Command
+fn write_command(rest: Option<&[u8]>) -> Result<Command, LineFault>
     ensures { result ≡ write_words (words_after (option_copied rest.entry)) }
 {
     let Some(words) = rest else {
-        return Command::Syntax;
+        return Err(LineFault::Syntax);
     };
     let (word, rest) = cut_word(words);
     let Some(words) = rest else {
-        return Command::Syntax;
+        return Err(LineFault::Syntax);
     };
     let (digits, more) = cut_word(words);
     match (more, number_of(word), sector_of(digits)) {
-        (Some(_), _, _) => Command::Syntax,
-        (None, None, _) => Command::Syntax,
-        (None, Some(_), None) => Command::Syntax,
-        (None, Some(sector), Some(bytes)) => Command::Write { sector, bytes },
+        (Some(_), _, _) => Err(LineFault::Syntax),
+        (None, None, _) => Err(LineFault::Syntax),
+        (None, Some(_), None) => Err(LineFault::Syntax),
+        (None, Some(sector), Some(bytes)) => Ok(Command::Write { sector, bytes }),
     }
 }
 
 // `fill S N XX`
-fn fill_command(rest: Option<&[u8]>) -> Command
+fn fill_command(rest: Option<&[u8]>) -> Result<Command, LineFault>
     ensures { result ≡ fill_words (words_after (option_copied rest.entry)) }
 {
     let Some(words) = rest else {
-        return Command::Syntax;
+        return Err(LineFault::Syntax);
     };
     let (sector, rest) = cut_word(words);
     let Some(words) = rest else {
-        return Command::Syntax;
+        return Err(LineFault::Syntax);
     };
     let (count, rest) = cut_word(words);
     let Some(words) = rest else {
-        return Command::Syntax;
+        return Err(LineFault::Syntax);
     };
     let (digits, more) = cut_word(words);
     match more {
-        Some(_) => Command::Syntax,
+        Some(_) => Err(LineFault::Syntax),
         None => filling(number_of(sector), number_of(count), byte_of(digits)),
     }
 }
 
 // The command of the parts of `fill S N XX`, where each of them is one.
-fn filling(sector: Option<u64>, count: Option<u64>, byte: Option<u8>) -> Command
+fn filling(sector: Option<u64>, count: Option<u64>, byte: Option<u8>) -> Result<Command, LineFault>
     ensures { result ≡ fill_of sector count byte }
 {
     match (sector, count, byte) {
-        (Some(sector), Some(count), Some(byte)) => Command::Fill {
+        (Some(sector), Some(count), Some(byte)) => Ok(Command::Fill {
             sector,
             count,
             byte,
-        },
-        _ => Command::Syntax,
+        }),
+        _ => Err(LineFault::Syntax),
     }
 }
 

@@ -2,7 +2,7 @@
 use Rattle.std.proofs.Common.{◌≡◌, ℕ, ◌+◌, ◌<◌, ◌≤◌, List, [], ◌∷◌, ◌++◌, sym, ◌∙◌, subst, inl, inr}
 use Rattle.rack.specs.Values.{IsSingle}
 use Rattle.rack.specs.Seen.{Image, Rose}
-use Rattle.shr_script.specs.declared.Command.{Command}
+use Rattle.shr_script.specs.Line.{Line}
 use Rattle.flat_array.specs.Array.{FlatArray, flushed}
 use Rattle.flat_array.specs.Reply.{after, array_after}
 use Rattle.pool.specs.DriveMap.{volume_first}
@@ -52,7 +52,7 @@ happens_as y z M N a b from to same weaker happens =
     }
 
 timeline_as :
-    (y z : View) (M N : Meaning) (a : FlatArray) (from : ℕ) (commands : List Command) (to : ℕ)
+    (y z : View) (M N : Meaning) (a : FlatArray) (from : ℕ) (commands : List Line) (to : ℕ)
     → IsShownAs y z
     → Weaker M N
     → Timeline M y.seen.stops a from commands to
@@ -65,7 +65,7 @@ timeline_as y z M N a from (command ∷ commands) to same weaker timeline = (
 )
 
 lasts_as :
-    (y z : View) (M N : Meaning) (from : ℕ) (a : FlatArray) (commands broken : List Command)
+    (y z : View) (M N : Meaning) (from : ℕ) (a : FlatArray) (commands broken : List Line)
     → IsShownAs y z
     → Weaker M N
     → Lasts y.seen M from a commands broken
@@ -91,7 +91,7 @@ went_as y z counts d same went =
     }
 
 durable_as :
-    (y z : View) (T U : Type 0) (M N : Meaning) (a : FlatArray) (commands : List Command)
+    (y z : View) (T U : Type 0) (M N : Meaning) (a : FlatArray) (commands : List Line)
     → IsShownAs y z
     → (U → T)
     → Weaker M N
@@ -109,7 +109,7 @@ durable_as y z T U M N a commands same traced weaker durable =
     }
 
 ended_as :
-    (y z : View) (T U : Type 0) (M N : Meaning) (counts : ℕ → ℕ) (a : FlatArray) (commands : List Command)
+    (y z : View) (T U : Type 0) (M N : Meaning) (counts : ℕ → ℕ) (a : FlatArray) (commands : List Line)
     → IsShownAs y z
     → (U → T)
     → Weaker M N
@@ -121,7 +121,7 @@ ended_as y z T U M N counts a commands same traced weaker (inr gone) =
     inr (gone.0, went_as y z counts gone.0 same gone.1)
 
 drive_as :
-    (y z : View) (T U : Type 0) (M N : Meaning) (counts : ℕ → ℕ) (from : ℕ) (a : FlatArray) (text : List ℕ) (d : ℕ) (commands : List Command)
+    (y z : View) (T U : Type 0) (M N : Meaning) (counts : ℕ → ℕ) (from : ℕ) (a : FlatArray) (text : List ℕ) (d : ℕ) (commands : List Line)
     → IsShownAs y z
     → (U → T)
     → Weaker M N

@@ -4,7 +4,7 @@ use Rattle.std.proofs.lemmas.Bool.{eqb-true}
 use Rattle.std.proofs.lemmas.List.{append-nil}
 use Rattle.rack.specs.declared.Gone.{Gone}
 use Rattle.rack.specs.Moments.{Leaves}
-use Rattle.shr_script.specs.declared.Command.{Command}
+use Rattle.shr_script.specs.Line.{Line}
 use Rattle.flat_array.specs.Array.{FlatArray, flushed}
 use Rattle.flat_array.specs.Reply.{replies, array_after}
 use Rattle.pool.specs.declared.members.Members.{Members}
@@ -22,7 +22,7 @@ use Rattle.shr_tool.proofs.History.{runs_later, passes_later}
 
 -- after commands in a row, a call that changes no value
 pub lasts_quiet :
-    (x m y : View) (commands : List Command)
+    (x m y : View) (commands : List Line)
     → IsSamePool x m
     → Served x m commands
     → LeavesMeanings m y unchanged
@@ -42,7 +42,7 @@ lasts_quiet x m y commands same served leaves traced a holds =
 
 -- the past after commands and a call that changes no value
 pub passes_quiet :
-    (x m y : View) (commands : List Command)
+    (x m y : View) (commands : List Line)
     → IsSamePool x m
     → Served x m commands
     → LeavesMeanings m y unchanged
@@ -56,7 +56,7 @@ passes_quiet x m y commands same served leaves traced a holds =
 
 -- and after the end of the pool
 pub passes_end :
-    (status : Status) (x m y : View) (commands : List Command) (out out' : List ℕ)
+    (status : Status) (x m y : View) (commands : List Line) (out out' : List ℕ)
     → IsSamePool x m
     → Served x m commands
     → EndsOutcome status m y out out'
@@ -106,7 +106,7 @@ ends_done m y out out' ends put =
 
 -- what commands left is durable
 durable_after :
-    (x m y : View) (commands : List Command) (out out' : List ℕ)
+    (x m y : View) (commands : List Line) (out out' : List ℕ)
     → IsSamePool x m
     → Served x m commands
     → EndsDone m y out out'
@@ -134,7 +134,7 @@ drive_went x m y d same ended went =
 
 -- the pool was ended after its status was known
 ended_after :
-    (x m y : View) (commands : List Command) (r : Result (Unit {0}) Gone)
+    (x m y : View) (commands : List Line) (r : Result (Unit {0}) Gone)
     → IsSamePool x m
     → Served x m commands
     → Ends m y r
@@ -148,7 +148,7 @@ ended_after x m y commands (Err e) same served ends a holds =
 
 -- a command broke off
 lasts_broken :
-    (x y : View) (a : FlatArray) (commands : List Command) (last : Command)
+    (x y : View) (a : FlatArray) (commands : List Line) (last : Line)
     → RunsInto x y a commands last
     → Lasts y.seen (meaning_in x) x.seen.clock a commands (last ∷ [])
 lasts_broken x y a commands last runs =
@@ -162,7 +162,7 @@ lasts_broken x y a commands last runs =
 -- what was said of a drive that is gone
 says_outcome :
     (status : Status) (y : View) (Traced : Type 0) (means : Meaning) (counts : ℕ → ℕ) (from : ℕ) (a : FlatArray)
-    (text rest out out' out'' : List ℕ) (d : ℕ) (commands : List Command)
+    (text rest out out' out'' : List ℕ) (d : ℕ) (commands : List Line)
     → DriveOutcome y Traced means counts from a text d commands
     → out' ≡ out ++ replies a commands
     → SaysGone status d out' out''

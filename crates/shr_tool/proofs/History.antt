@@ -4,7 +4,7 @@ use Rattle.std.proofs.lemmas.List.{append-nil}
 use Rattle.rack.specs.Seen.{Image, Seen}
 use Rattle.rack.specs.Moments.{Leaves}
 use Rattle.rack.specs.Joins.{leaves_same, leaves_weaker, leaves_then}
-use Rattle.shr_script.specs.declared.Command.{Command}
+use Rattle.shr_script.specs.Line.{Line}
 use Rattle.flat_array.specs.Array.{FlatArray}
 use Rattle.shr_script.specs.Script.{script_of, cut_script_of}
 use Rattle.flat_array.specs.Reply.{reply, replies, after, array_after}
@@ -18,14 +18,14 @@ use Rattle.shr_tool.proofs.Meanings.{means_of, either_of}
 
 -- the array after one command more
 pub array_after-snoc :
-    (a : FlatArray) (commands : List Command) (c : Command)
+    (a : FlatArray) (commands : List Line) (c : Line)
     → array_after a (commands ++ c ∷ []) ≡ after (array_after a commands) c
 array_after-snoc a [] c = refl
 array_after-snoc a (d ∷ commands) c = array_after-snoc (after a d) commands c
 
 -- the replies with one command more
 pub replies-snoc :
-    (a : FlatArray) (commands : List Command) (c : Command)
+    (a : FlatArray) (commands : List Line) (c : Line)
     → replies a (commands ++ c ∷ []) ≡ replies a commands ++ reply (array_after a commands) c
 replies-snoc a [] c = append-nil (reply a c)
 replies-snoc a (d ∷ commands) c =
@@ -34,7 +34,7 @@ replies-snoc a (d ∷ commands) c =
 
 -- moments never fall
 timeline_order :
-    (means : Meaning) (stops : ℕ → Image → Type 0) (a : FlatArray) (from : ℕ) (commands : List Command) (to : ℕ)
+    (means : Meaning) (stops : ℕ → Image → Type 0) (a : FlatArray) (from : ℕ) (commands : List Line) (to : ℕ)
     → Timeline means stops a from commands to
     → from ≤ to
 timeline_order means stops a from [] to same = omega arith
@@ -47,7 +47,7 @@ timeline_order means stops a from (c ∷ commands) to line =
 timeline_kept :
     (means : Meaning) (old new : ℕ → Image → Type 0) (limit : ℕ)
     → ((k : ℕ) (i : Image) → k ≤ limit → new k i → old k i)
-    → (a : FlatArray) (from : ℕ) (commands : List Command) (to : ℕ)
+    → (a : FlatArray) (from : ℕ) (commands : List Line) (to : ℕ)
     → to ≤ limit
     → Timeline means old a from commands to
     → Timeline means new a from commands to
@@ -65,7 +65,7 @@ timeline_kept means old new limit past a from (c ∷ commands) to within line =
 
 -- one event more
 timeline_more :
-    (means : Meaning) (stops : ℕ → Image → Type 0) (a : FlatArray) (from : ℕ) (commands : List Command) (mid : ℕ) (c : Command) (to : ℕ)
+    (means : Meaning) (stops : ℕ → Image → Type 0) (a : FlatArray) (from : ℕ) (commands : List Line) (mid : ℕ) (c : Line) (to : ℕ)
     → Timeline means stops a from commands mid
     → Happens means stops (array_after a commands) (after (array_after a commands) c) mid to
     → Timeline means stops a from (commands ++ c ∷ []) to
@@ -76,7 +76,7 @@ timeline_more means stops a from (d ∷ commands) mid c to line happens =
 
 -- a command that was done is an event
 performed :
-    (x y z : View) (c : Command) (text : List ℕ) (a : FlatArray)
+    (x y z : View) (c : Line) (text : List ℕ) (a : FlatArray)
     → IsSamePool x y
     → Performs y z c text
     → y.seen.traced
@@ -92,7 +92,7 @@ performed x y z c text a same performs traced holds =
 
 -- what was done before, seen after one command more
 pub runs_later :
-    (x y z : View) (a : FlatArray) (commands : List Command) (P : Image → Type 0)
+    (x y z : View) (a : FlatArray) (commands : List Line) (P : Image → Type 0)
     → Runs x y a commands
     → Leaves y.seen z.seen P
     → Timeline (meaning_in x) z.seen.stops a x.seen.clock commands y.seen.clock
@@ -107,7 +107,7 @@ passes_later x y z P first second =
 
 -- one command more is done
 pub served_more :
-    (x y z : View) (commands : List Command) (c : Command) (text : List ℕ)
+    (x y z : View) (commands : List Line) (c : Line) (text : List ℕ)
     → IsSamePool x y
     → Served x y commands
     → Performs y z c text
@@ -135,7 +135,7 @@ served_more x y z commands c text same served performs =
 
 -- one command more is answered
 pub answered_more :
-    (x y z : View) (commands : List Command) (c : Command) (out out' out'' : List ℕ)
+    (x y z : View) (commands : List Line) (c : Line) (out out' out'' : List ℕ)
     → IsSamePool x y
     → Answered x y commands out out'
     → Replies y z c out' out''
@@ -167,7 +167,7 @@ answered_none x out =
 
 -- a command broke off
 pub runs_into :
-    (x y z : View) (commands : List Command) (c : Command) (d : ℕ)
+    (x y z : View) (commands : List Line) (c : Line) (d : ℕ)
     → IsSamePool x y
     → Served x y commands
     → Breaks y z c d
@@ -195,7 +195,7 @@ pub record History (x y : View) (text rest : List ℕ) (count : ℕ) (out out' :
   pub done : List ℕ
   pub text_is : text ≡ done ++ rest
   pub counted : count ≡ length done
-  pub commands : List Command
+  pub commands : List Line
   pub script : (more : List ℕ) → script_of (done ++ more) ≡ commands ++ script_of more
   pub cut : (more : List ℕ) → cut_script_of (done ++ more) ≡ commands ++ cut_script_of more
   pub answered : Answered x y commands out out'

@@ -3,7 +3,7 @@ use Rattle.std.proofs.Common.{◌≡◌, ◌≢◌, ℕ, zero, suc, ◌+◌, ◌
 use Rattle.std.specs.List.{All}
 use Rattle.std.proofs.Math.Seq.{take-append_seam}
 use Rattle.shr_script.specs.declared.Command.TheVariants.{Quit}
-use Rattle.shr_script.specs.Line.{command_of}
+use Rattle.shr_script.specs.Line.{line_of}
 use Rattle.shr_script.specs.Script.{without_return, ended_lines_of}
 use Rattle.shr_tool.specs.Limits.{NoQuit, KeepsLimit}
 use Rattle.shr_script.specs.Reading.{ReadsPart, ReadsLine, ReadsMost}
@@ -20,21 +20,21 @@ All-nil P k default inside = absurd (omega arith)
 no_quit-line :
     (bytes rest : List ℕ)
     → NoFeed bytes
-    → command_of (without_return bytes) ≢ Some Quit
+    → line_of (without_return bytes) ≢ Some (Ok Quit)
     → NoQuit rest
     → NoQuit (bytes ++ 10 ∷ rest)
 no_quit-line bytes rest no_feed other none =
     subst
-    (All (λ line. command_of line ≢ Some Quit))
+    (All (λ line. line_of line ≢ Some (Ok Quit)))
     (sym (ended_lines_of-line bytes rest no_feed))
-    (All-cons (λ line. command_of line ≢ Some Quit) (without_return bytes) (ended_lines_of rest) other none)
+    (All-cons (λ line. line_of line ≢ Some (Ok Quit)) (without_return bytes) (ended_lines_of rest) other none)
 
 no_quit-last : (bytes : List ℕ) → NoFeed bytes → NoQuit bytes
 no_quit-last bytes no_feed =
     subst
-    (All (λ line. command_of line ≢ Some Quit))
+    (All (λ line. line_of line ≢ Some (Ok Quit)))
     (sym (ended_lines_of-last bytes no_feed))
-    (All-nil (λ line. command_of line ≢ Some Quit))
+    (All-nil (λ line. line_of line ≢ Some (Ok Quit)))
 
 -- of a text so many bytes have been read in lines that aren't `quit`, and this is left
 pub record Passed (text rest : List ℕ) (count : ℕ) : Type 0 where
@@ -53,7 +53,7 @@ pub passed_line :
     (text rest rest' line : List ℕ) (count to : ℕ)
     → Passed text rest count
     → (r : ReadsLine rest rest' line count to)
-    → command_of (without_return r.part.bytes) ≢ Some Quit
+    → line_of (without_return r.part.bytes) ≢ Some (Ok Quit)
     → Passed text rest' to
 passed_line text rest rest' line count to p r other =
     let bytes = r.part.bytes in

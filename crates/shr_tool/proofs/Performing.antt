@@ -4,7 +4,7 @@ use Rattle.std.proofs.lemmas.Bool.{cases_lt}
 use Rattle.std.proofs.lemmas.Bool.Decides.{nat_tests}
 use Rattle.rack.specs.declared.Gone.{Gone}
 use Rattle.rack.specs.Joins.{leaves_same, leaves_weaker}
-use Rattle.shr_script.specs.declared.Command.{Command}
+use Rattle.shr_script.specs.Line.{Line}
 use Rattle.shr_script.specs.declared.Command.TheVariants.{Read, Write, Fill, Flush}
 use Rattle.flat_array.specs.Array.{FlatArray, written, filled}
 use Rattle.shr_script.specs.Reply.{data_line, as_line, refused_line}
@@ -61,7 +61,7 @@ inside_array x a sector holds inside = subst (λ n. sector < n) (sym holds.size)
 
 -- a command that calls nothing
 pub still_done :
-    (x : View) (command : Command) (text : List ℕ)
+    (x : View) (command : Line) (text : List ℕ)
     → IsPool x
     → IsDrives x.seen
     → ((a : FlatArray) → Holds x a → after a command ≡ a)
@@ -80,7 +80,7 @@ still_done x command text pool drives same reply =
 
 -- a meaning of the array before is one of either
 either_before :
-    (x y : View) (command : Command) → LeavesMeanings x y unchanged → LeavesEither x y command
+    (x y : View) (command : Line) → LeavesMeanings x y unchanged → LeavesEither x y command
 either_before x y command leaves traced a holds =
     leaves_weaker (meaning_in x a) (λ i. meaning_in x a i ⊎ meaning_in x (after a command) i) (λ i means. inl means)
     (leaves traced a holds)
@@ -91,7 +91,7 @@ pub read_done :
     → r ≡ Ok tt
     → text ≡ data_line into
     → ReadsSector x y sector into r
-    → Performs x y (Read sector) text
+    → Performs x y (Ok (Read sector)) text
 read_done x y sector into text r answered is reads_r =
     let inside = inside_sectors reads_r.fault (answered_inside r answered) in
     let reads : ReadsSector x y sector into {X = Unit {0}} (Ok tt) =
@@ -103,7 +103,7 @@ read_done x y sector into text r answered is reads_r =
           λ a holds.
           let test = below_test sector a.size (inside_array x a sector holds inside) in
           rw test (is ∙ ap data_line (reads.value a holds));
-      leaves = either_before x y (Read sector) reads.leaves;
+      leaves = either_before x y (Ok (Read sector)) reads.leaves;
       ends = reads.ends;
     }
 
@@ -114,35 +114,35 @@ pub read_outside :
     → r ≡ Err Range
     → text ≡ refused_line (codes "range")
     → ReadsSector x y sector into r
-    → Performs x x (Read sector) text
+    → Performs x x (Ok (Read sector)) text
 read_outside x y sector into text r pool drives refused is reads =
     let past = reads.fault.range.0 refused in
-    still_done x (Read sector) text pool drives (λ a holds. refl)
+    still_done x (Ok (Read sector)) text pool drives (λ a holds. refl)
     (λ a holds. rw (past_test sector a.size (subst (λ n. n ≤ sector) (sym holds.size) past)) is)
 
 pub read_broken :
     (x y : View) (sector : ℕ) (into : List ℕ) (r : Result (Unit {0}) BareFault) (d : ℕ)
     → r ≡ Err (DriveGone d)
     → ReadsSector x y sector into r
-    → Breaks x y (Read sector) d
+    → Breaks x y (Ok (Read sector)) d
 read_broken x y sector into r d broken reads =
-    record { pool = reads.pool; went = reads.fault.gone d broken; leaves = either_before x y (Read sector) reads.leaves }
+    record { pool = reads.pool; went = reads.fault.gone d broken; leaves = either_before x y (Ok (Read sector)) reads.leaves }
 
 -- a write of a sector inside
 after_write :
-    (a : FlatArray) (sector : ℕ) (v : List ℕ) → sector < a.size → after a (Write sector v) ≡ written a sector v
+    (a : FlatArray) (sector : ℕ) (v : List ℕ) → sector < a.size → after a (Ok (Write sector v)) ≡ written a sector v
 after_write a sector v inside = rw (below_test sector a.size inside) refl
 
 write_either :
     (x y : View) (sector : ℕ) (v : List ℕ)
     → sector < volume_sectors x.on.state
     → LeavesMeanings x y (λ a. written a sector v)
-    → LeavesEither x y (Write sector v)
+    → LeavesEither x y (Ok (Write sector v))
 write_either x y sector v inside leaves traced a holds =
     let is = after_write a sector v (inside_array x a sector holds inside) in
     leaves_weaker
     (meaning_in x (written a sector v))
-    (λ i. meaning_in x a i ⊎ meaning_in x (after a (Write sector v)) i)
+    (λ i. meaning_in x a i ⊎ meaning_in x (after a (Ok (Write sector v))) i)
     (λ i means. inr (subst (λ b. meaning_in x b i) (sym is) means))
     (leaves traced a holds)
 
@@ -151,7 +151,7 @@ pub write_done :
     → r ≡ Ok tt
     → text ≡ as_line (codes "ok")
     → WritesSector x y sector v r
-    → Performs x y (Write sector v) text
+    → Performs x y (Ok (Write sector v)) text
 write_done x y sector v text r answered is writes_r =
     let inside = inside_sectors writes_r.fault (answered_inside r answered) in
     let writes : WritesSector x y sector v {X = Unit {0}} (Ok tt) =
@@ -179,18 +179,18 @@ pub write_outside :
     → r ≡ Err Range
     → text ≡ refused_line (codes "range")
     → WritesSector x y sector v r
-    → Performs x x (Write sector v) text
+    → Performs x x (Ok (Write sector v)) text
 write_outside x y sector v text r pool drives refused is writes =
     let past = writes.fault.range.0 refused in
     let test : (a : FlatArray) → Holds x a → nat_lt sector a.size ≡ false =
     λ a holds. past_test sector a.size (subst (λ n. n ≤ sector) (sym holds.size) past) in
-    still_done x (Write sector v) text pool drives (λ a holds. rw (test a holds) refl) (λ a holds. rw (test a holds) is)
+    still_done x (Ok (Write sector v)) text pool drives (λ a holds. rw (test a holds) refl) (λ a holds. rw (test a holds) is)
 
 pub write_broken :
     (x y : View) (sector : ℕ) (v : List ℕ) (r : Result (Unit {0}) BareFault) (d : ℕ)
     → r ≡ Err (DriveGone d)
     → WritesSector x y sector v r
-    → Breaks x y (Write sector v) d
+    → Breaks x y (Ok (Write sector v)) d
 write_broken x y sector v r d broken writes =
     record {
       pool = writes.pool;
@@ -203,7 +203,7 @@ after_fill :
     (x : View) (a : FlatArray) (sector count byte : ℕ)
     → Holds x a
     → sector + count ≤ volume_sectors x.on.state
-    → after a (Fill sector count byte) ≡ filled a sector count (uniform_sector byte)
+    → after a (Ok (Fill sector count byte)) ≡ filled a sector count (uniform_sector byte)
 after_fill x a sector count byte holds inside =
     rw (within_test (sector + count) a.size (subst (λ n. sector + count ≤ n) (sym holds.size) inside)) refl
 
@@ -211,12 +211,12 @@ fill_either :
     (x y : View) (sector count byte : ℕ)
     → sector + count ≤ volume_sectors x.on.state
     → LeavesMeanings x y (λ a. filled a sector count (uniform_sector byte))
-    → LeavesEither x y (Fill sector count byte)
+    → LeavesEither x y (Ok (Fill sector count byte))
 fill_either x y sector count byte inside leaves traced a holds =
     let is = after_fill x a sector count byte holds inside in
     leaves_weaker
     (meaning_in x (filled a sector count (uniform_sector byte)))
-    (λ i. meaning_in x a i ⊎ meaning_in x (after a (Fill sector count byte)) i)
+    (λ i. meaning_in x a i ⊎ meaning_in x (after a (Ok (Fill sector count byte))) i)
     (λ i means. inr (subst (λ b. meaning_in x b i) (sym is) means))
     (leaves traced a holds)
 
@@ -226,7 +226,7 @@ pub fill_done :
     → r ≡ Ok tt
     → text ≡ as_line (codes "ok")
     → Fills x y sector count (uniform_sector byte) r
-    → Performs x y (Fill sector count byte) text
+    → Performs x y (Ok (Fill sector count byte)) text
 fill_done x y sector count byte text r inside answered is fills_r =
     let fills : Fills x y sector count (uniform_sector byte) {X = Unit {0}} (Ok tt) =
     subst (λ q. Fills x y sector count (uniform_sector byte) q) answered fills_r in
@@ -251,11 +251,11 @@ pub fill_outside :
     → IsDrives x.seen
     → volume_sectors x.on.state < sector + count
     → text ≡ refused_line (codes "range")
-    → Performs x x (Fill sector count byte) text
+    → Performs x x (Ok (Fill sector count byte)) text
 fill_outside x sector count byte text pool drives past is =
     let test : (a : FlatArray) → Holds x a → nat_le (sector + count) a.size ≡ false =
     λ a holds. beyond_test (sector + count) a.size (subst (λ n. n < sector + count) (sym holds.size) past) in
-    still_done x (Fill sector count byte) text pool drives (λ a holds. rw (test a holds) refl)
+    still_done x (Ok (Fill sector count byte)) text pool drives (λ a holds. rw (test a holds) refl)
     (λ a holds. rw (test a holds) is)
 
 pub fill_broken :
@@ -263,7 +263,7 @@ pub fill_broken :
     → sector + count ≤ volume_sectors x.on.state
     → r ≡ Err e
     → Fills x y sector count (uniform_sector byte) r
-    → Breaks x y (Fill sector count byte) e.disk
+    → Breaks x y (Ok (Fill sector count byte)) e.disk
 fill_broken x y sector count byte r e inside broken fills_r =
     let fills : Fills x y sector count (uniform_sector byte) {X = Unit {0}} (Err e) =
     subst (λ q. Fills x y sector count (uniform_sector byte) q) broken fills_r in
@@ -275,14 +275,14 @@ pub flush_done :
     → r ≡ Ok tt
     → text ≡ as_line (codes "ok")
     → Flushes x y r
-    → Performs x y Flush text
+    → Performs x y (Ok Flush) text
 flush_done x y text r answered is flushes_r =
     let flushes : Flushes x y {X = Unit {0}} (Ok tt) = subst (λ q. Flushes x y q) answered flushes_r in
     record {
       pool = flushes.pool;
       becomes = flushes.becomes;
       reply = λ a holds. is;
-      leaves = either_before x y Flush flushes.leaves;
+      leaves = either_before x y (Ok Flush) flushes.leaves;
       ends = flushes.ends;
     }
 
@@ -290,7 +290,7 @@ pub flush_broken :
     (x y : View) (r : Result (Unit {0}) Gone) (e : Gone)
     → r ≡ Err e
     → Flushes x y r
-    → Breaks x y Flush e.disk
+    → Breaks x y (Ok Flush) e.disk
 flush_broken x y r e broken flushes_r =
     let flushes : Flushes x y {X = Unit {0}} (Err e) = subst (λ q. Flushes x y q) broken flushes_r in
-    record { pool = flushes.pool; went = flushes.gone; leaves = either_before x y Flush flushes.leaves }
+    record { pool = flushes.pool; went = flushes.gone; leaves = either_before x y (Ok Flush) flushes.leaves }

@@ -4,9 +4,8 @@ use Rattle.std.proofs.lemmas.List.{append-nil}
 use Rattle.std.proofs.Math.Seq.{take-append_seam}
 use Rattle.pool.specs.View.{View}
 use Rattle.pool.specs.Calls.{IsSamePool}
-use Rattle.shr_script.specs.declared.Command.{Command}
-use Rattle.shr_script.specs.declared.Command.TheVariants.{Read, Write, Fill, Flush, Size, Quit, Unbuilt, Syntax}
-use Rattle.shr_script.specs.Line.{command_of}
+use Rattle.shr_script.specs.declared.Command.TheVariants.{Read, Write, Fill, Flush, Size, Quit, Unbuilt}
+use Rattle.shr_script.specs.Line.{Line, line_of}
 use Rattle.shr_script.specs.Script.{without_return, script_of, cut_script_of}
 use Rattle.flat_array.specs.Reply.{replies, array_after}
 use Rattle.shr_tool.specs.declared.serve.Stop.{Stop}
@@ -17,19 +16,19 @@ use Rattle.shr_script.specs.ScriptLaws.{prepend, script_of-line, script_of-last,
 use Rattle.shr_tool.proofs.History.{History, served_more, answered_more, runs_into}
 use Rattle.shr_tool.proofs.Filled.{went_since}
 
--- a command with a reply stands before those after it
-prepend-replied : (c : Command) (tail : List Command) → IsReplied c → prepend (Some c) tail ≡ c ∷ tail
-prepend-replied (Read sector) tail replied = refl
-prepend-replied (Write sector bytes) tail replied = refl
-prepend-replied (Fill sector count byte) tail replied = refl
-prepend-replied Flush tail replied = refl
-prepend-replied Size tail replied = refl
-prepend-replied Quit tail replied = absurd replied
-prepend-replied Unbuilt tail replied = refl
-prepend-replied Syntax tail replied = refl
+-- a line with a reply stands before those after it
+prepend-replied : (c : Line) (tail : List Line) → IsReplied c → prepend (Some c) tail ≡ c ∷ tail
+prepend-replied (Ok (Read sector)) tail replied = refl
+prepend-replied (Ok (Write sector bytes)) tail replied = refl
+prepend-replied (Ok (Fill sector count byte)) tail replied = refl
+prepend-replied (Ok Flush) tail replied = refl
+prepend-replied (Ok Size) tail replied = refl
+prepend-replied (Ok Quit) tail replied = absurd replied
+prepend-replied (Ok Unbuilt) tail replied = refl
+prepend-replied (Err fault) tail replied = refl
 
 -- one command moves over the seam
-snoc-append : (commands tail : List Command) (c : Command) → commands ++ c ∷ tail ≡ (commands ++ c ∷ []) ++ tail
+snoc-append : (commands tail : List Line) (c : Line) → commands ++ c ∷ tail ≡ (commands ++ c ∷ []) ++ tail
 snoc-append commands tail c = sym (append_assoc commands (c ∷ []) tail)
 
 -- a line that ended has been read over
@@ -37,9 +36,9 @@ history_next :
     (x y z : View) (text rest rest' line : List ℕ) (count to : ℕ) (out out' out'' : List ℕ)
     (h : History x y text rest count out out')
     (r : ReadsLine rest rest' line count to)
-    (commands : List Command)
-    → ((tail : List Command)
-    → h.commands ++ prepend (command_of (without_return r.part.bytes)) tail ≡ commands ++ tail)
+    (commands : List Line)
+    → ((tail : List Line)
+    → h.commands ++ prepend (line_of (without_return r.part.bytes)) tail ≡ commands ++ tail)
     → Answered x z commands out out''
     → History x z text rest' to out out''
 history_next x y z text rest rest' line count to out out' out'' h r commands moves answered =
@@ -74,11 +73,11 @@ history_next x y z text rest rest' line count to out out' out'' h r commands mov
 -- a line that was answered, of a script that goes on
 pub line_answered :
     {P : Type 0} (shown : P → View) (p q : P) (x : View) (text rest rest' line : List ℕ) (count to : ℕ)
-    (out out' out'' : List ℕ) (command : Option Command)
+    (out out' out'' : List ℕ) (command : Option Line)
     → IsSamePool x (shown p)
     → (h : History x (shown p) text rest count out out')
     → (r : ReadsLine rest rest' line count to)
-    → command ≡ command_of (without_return r.part.bytes)
+    → command ≡ line_of (without_return r.part.bytes)
     → LineAnswers shown (Ok tt) command p q out' out''
     → History x (shown q) text rest' to out out''
 line_answered shown p q x text rest rest' line count to out out' out'' None same h r is answers =
@@ -97,16 +96,16 @@ line_answered shown p q x text rest rest' line count to out out' out'' (Some c) 
 
 -- the commands before a `quit`
 quit_script :
-    (commands whole tail : List Command) (command : Option Command)
+    (commands whole tail : List Line) (command : Option Line)
     → whole ≡ commands ++ prepend command tail
-    → command ≡ Some Quit
+    → command ≡ Some (Ok Quit)
     → whole ≡ commands
 quit_script commands whole tail command script is =
     script ∙ (ap (λ c. commands ++ prepend c tail) is ∙ append-nil commands)
 
 -- the commands with one that has a reply
 replied_script :
-    (commands whole tail : List Command) (command : Option Command) (c : Command)
+    (commands whole tail : List Line) (command : Option Line) (c : Line)
     → whole ≡ commands ++ prepend command tail
     → command ≡ Some c
     → IsReplied c
@@ -117,7 +116,7 @@ replied_script commands whole tail command c script is replied =
 
 -- nothing was called and nothing put
 answered_still :
-    {P : Type 0} (shown : P → View) (p q : P) (x : View) (commands : List Command) (out out' out'' : List ℕ)
+    {P : Type 0} (shown : P → View) (p q : P) (x : View) (commands : List Line) (out out' out'' : List ℕ)
     → Answered x (shown p) commands out out'
     → q ≡ p
     → out'' ≡ out'
@@ -129,7 +128,7 @@ answered_still shown p q x commands out out' out'' answered same put =
 -- a line that was answered, at which a script stops
 pub line_stopped :
     {P : Type 0} (shown : P → View) (p q : P) (x : View) (text rest : List ℕ) (out out' out'' : List ℕ)
-    (commands tail : List Command) (command : Option Command) (stop : Stop)
+    (commands tail : List Line) (command : Option Line) (stop : Stop)
     → IsSamePool x (shown p)
     → Answered x (shown p) commands out out'
     → script_of text ≡ commands ++ prepend command tail
@@ -181,7 +180,7 @@ line_stopped shown p q x text rest out out' out'' commands tail command (DriveGo
 -- the last line was answered
 last_replied :
     {P : Type 0} (shown : P → View) (p q : P) (x : View) (text : List ℕ) (out out' out'' : List ℕ)
-    (commands : List Command) (command : Option Command)
+    (commands : List Line) (command : Option Line)
     → IsSamePool x (shown p)
     → Answered x (shown p) commands out out'
     → script_of text ≡ commands ++ prepend command []
@@ -202,7 +201,7 @@ last_replied shown p q x text out out' out'' commands (Some c) same answered scr
 
 pub last_answered :
     {P : Type 0} (shown : P → View) (p q : P) (x : View) (text rest : List ℕ) (out out' out'' : List ℕ)
-    (commands : List Command) (command : Option Command) (stop : Stop)
+    (commands : List Line) (command : Option Line) (stop : Stop)
     → IsSamePool x (shown p)
     → Answered x (shown p) commands out out'
     → script_of text ≡ commands ++ prepend command []
@@ -227,8 +226,8 @@ pub line_script :
     (x y : View) (text rest rest' line : List ℕ) (count to : ℕ) (out out' : List ℕ)
     (h : History x y text rest count out out')
     (r : ReadsLine rest rest' line count to)
-    (command : Option Command)
-    → command ≡ command_of (without_return r.part.bytes)
+    (command : Option Line)
+    → command ≡ line_of (without_return r.part.bytes)
     → script_of text ≡ h.commands ++ prepend command (script_of rest')
 line_script x y text rest rest' line count to out out' h r command is =
     ap script_of (h.text_is ∙ ap (λ xs. h.done ++ xs) r.part.text)
@@ -241,8 +240,8 @@ pub last_script :
     (x y : View) (text rest rest' line : List ℕ) (count to : ℕ) (out out' : List ℕ)
     (h : History x y text rest count out out')
     (r : ReadsRest rest rest' line count to)
-    (command : Option Command)
-    → command ≡ command_of (without_return r.part.bytes)
+    (command : Option Line)
+    → command ≡ line_of (without_return r.part.bytes)
     → script_of text ≡ h.commands ++ prepend command []
 last_script x y text rest rest' line count to out out' h r command is =
     let bytes = r.part.bytes in

@@ -2,12 +2,12 @@
 use Rattle.std.specs.Prelude.{◌≢◌, ◌↔◌, ℕ, ◌+◌, ◌<◌, ◌≤◌, List, length, take, Some}
 use Rattle.std.specs.List.{All}
 use Rattle.shr_script.specs.declared.Command.TheVariants.{Quit}
-use Rattle.shr_script.specs.Line.{command_of}
+use Rattle.shr_script.specs.Line.{line_of}
 use Rattle.shr_script.specs.Script.{ended_lines_of}
 
 -- no `quit` line ends in these bytes
 abbrev pub NoQuit : List ℕ → Type 0
-NoQuit bytes = All (λ line. command_of line ≢ Some Quit) (ended_lines_of bytes)
+NoQuit bytes = All (λ line. line_of line ≢ Some (Ok Quit)) (ended_lines_of bytes)
 
 -- of a text all but the rest was taken: more than the limit, in which no `quit` line ends
 pub record IsOverlong (limit : ℕ) (text rest : List ℕ) : Type 0 where

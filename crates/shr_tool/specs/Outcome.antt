@@ -2,7 +2,7 @@
 use Rattle.std.specs.Prelude.{◌≡◌, ◌⊎◌, ℕ, ◌+◌, ◌<◌, ◌≤◌, ◌^◌, List, [], ◌∷◌, ◌++◌, length, take, false, codes, decimal}
 use Rattle.rack.specs.Seen.{Image, Seen, Rose}
 use Rattle.io_ends.specs.Sink.{AddsPrefix}
-use Rattle.shr_script.specs.declared.Command.{Command}
+use Rattle.shr_script.specs.Line.{Line}
 use Rattle.flat_array.specs.Array.{FlatArray, flushed}
 use Rattle.shr_script.specs.Script.{script_of, cut_script_of}
 use Rattle.shr_script.specs.Reply.{refused_line}
@@ -16,7 +16,7 @@ use Rattle.shr_tool.specs.declared.status.Status.TheVariants.{Done, Words, Limit
 use Rattle.shr_tool.specs.Timeline.{Timeline}
 
 -- the events of commands in a row, and after them what one that broke off, or the end, may have left
-pub record Lasts (y : Seen) (means : Meaning) (from : ℕ) (a : FlatArray) (commands broken : List Command) : Type 0 where
+pub record Lasts (y : Seen) (means : Meaning) (from : ℕ) (a : FlatArray) (commands broken : List Line) : Type 0 where
   pub last : ℕ
   pub timeline : Timeline means y.stops a from commands last
   pub until : last ≤ y.clock
@@ -33,7 +33,7 @@ pub record DriveWent (y : Seen) (counts : ℕ → ℕ) (d : ℕ) : Type 0 where
   pub rose : Rose (counts d) (y.faults d)
 
 -- the pool was ended after these commands: it holds what they left, durably, and one value in each sector
-pub record Durable (y : View) (Traced : Type 0) (means : Meaning) (a : FlatArray) (commands : List Command) : Type 0 where
+pub record Durable (y : View) (Traced : Type 0) (means : Meaning) (a : FlatArray) (commands : List Line) : Type 0 where
   pub holds : Holds y (flushed (array_after a commands))
   -- on both members
   pub single : AreSingle y (array_after a commands)
@@ -42,14 +42,14 @@ pub record Durable (y : View) (Traced : Type 0) (means : Meaning) (a : FlatArray
   pub ends : Traced → (i : Image) → y.seen.stops y.seen.clock i → means (flushed (array_after a commands)) i
 
 -- the pool was ended, or a drive went
-abbrev pub EndsPool : View → Type 0 → Meaning → (ℕ → ℕ) → FlatArray → List Command → Type 0
+abbrev pub EndsPool : View → Type 0 → Meaning → (ℕ → ℕ) → FlatArray → List Line → Type 0
 EndsPool y Traced means counts a commands =
     Durable y Traced means a commands ⊎ ((d : ℕ) × DriveWent y.seen counts d)
 
 -- all commands of the text were answered, and the pool was ended
 pub record DoneOutcome (y : View) (Traced : Type 0) (means : Meaning) (from : ℕ) (a : FlatArray) (text out out' : List ℕ)
     : Type 0 where
-  pub commands : List Command
+  pub commands : List Line
   pub script : script_of text ≡ commands
   pub put : out' ≡ out ++ replies a commands
   pub durable : Durable y Traced means a commands
@@ -59,7 +59,7 @@ pub record DoneOutcome (y : View) (Traced : Type 0) (means : Meaning) (from : �
 pub record LimitOutcome (y : View) (Traced : Type 0) (means : Meaning) (counts : ℕ → ℕ) (from : ℕ) (a : FlatArray) (text out out' : List ℕ)
     : Type 0 where
   pub longer : 2 ^ 32 < length text
-  pub commands : List Command
+  pub commands : List Line
   pub script : cut_script_of (take (2 ^ 32) text) ≡ commands
   pub put : out' ≡ out ++ replies a commands
   pub lasts : Traced → Lasts y.seen means from a commands []
@@ -70,7 +70,7 @@ pub record SourceOutcome (y : View) (Traced : Type 0) (means : Meaning) (counts 
     : Type 0 where
   pub taken : List ℕ
   pub text_is : text ≡ taken ++ rest
-  pub commands : List Command
+  pub commands : List Line
   pub script : cut_script_of taken ≡ commands
   pub put : out' ≡ out ++ replies a commands
   pub lasts : Traced → Lasts y.seen means from a commands []
@@ -79,9 +79,9 @@ pub record SourceOutcome (y : View) (Traced : Type 0) (means : Meaning) (counts 
 -- the sink refused the reply to the last command
 pub record ReplyOutcome (y : View) (Traced : Type 0) (means : Meaning) (counts : ℕ → ℕ) (from : ℕ) (a : FlatArray) (text out out' : List ℕ)
     : Type 0 where
-  pub before : List Command
-  pub last : Command
-  pub more : List Command
+  pub before : List Line
+  pub last : Line
+  pub more : List Line
   pub script : script_of text ≡ before ++ last ∷ more
   pub put : AddsPrefix (out ++ replies a before) out' (reply (array_after a before) last)
   pub lasts : Traced → Lasts y.seen means from a (before ++ last ∷ []) []
@@ -92,11 +92,11 @@ abbrev pub drive_line : ℕ → List ℕ
 drive_line d = refused_line (codes "drive-gone " ++ decimal d)
 
 -- a drive refused the command after these, or the end
-pub record DriveOutcome (y : View) (Traced : Type 0) (means : Meaning) (counts : ℕ → ℕ) (from : ℕ) (a : FlatArray) (text : List ℕ) (d : ℕ) (commands : List Command)
+pub record DriveOutcome (y : View) (Traced : Type 0) (means : Meaning) (counts : ℕ → ℕ) (from : ℕ) (a : FlatArray) (text : List ℕ) (d : ℕ) (commands : List Line)
     : Type 0 where
   pub went : DriveWent y.seen counts d
-  pub broken : List Command
-  pub more : List Command
+  pub broken : List Line
+  pub more : List Line
   pub script : script_of text ≡ commands ++ broken ++ more
   pub lasts : Traced → Lasts y.seen means from a commands broken
 
@@ -104,7 +104,7 @@ pub record DriveOutcome (y : View) (Traced : Type 0) (means : Meaning) (counts :
 pub record DriveSaid (y : View) (Traced : Type 0) (means : Meaning) (counts : ℕ → ℕ) (from : ℕ) (a : FlatArray) (text out out' : List ℕ)
     : Type 0 where
   pub drive : ℕ
-  pub commands : List Command
+  pub commands : List Line
   pub outcome : DriveOutcome y Traced means counts from a text drive commands
   pub put : out' ≡ (out ++ replies a commands) ++ drive_line drive
 
@@ -112,7 +112,7 @@ pub record DriveSaid (y : View) (Traced : Type 0) (means : Meaning) (counts : �
 pub record DriveUnsaid (y : View) (Traced : Type 0) (means : Meaning) (counts : ℕ → ℕ) (from : ℕ) (a : FlatArray) (text out out' : List ℕ)
     : Type 0 where
   pub drive : ℕ
-  pub commands : List Command
+  pub commands : List Line
   pub outcome : DriveOutcome y Traced means counts from a text drive commands
   pub put : AddsPrefix (out ++ replies a commands) out' (drive_line drive)
 

@@ -1,7 +1,8 @@
-//! A command of a script, done on a pool.
+//! A line of a script, answered on a pool.
 
-ghost use Rattle.std.specs.Prelude.{◌+◌, ◌≤◌, replicate, OnOk, IfErr};
+ghost use Rattle.std.specs.Prelude.{◌≡◌, ◌+◌, ◌≤◌, replicate, Ok, OnOk, IfErr};
 ghost use Rattle.shr_script.specs.declared.Command.TheVariants.{Read, Write, Fill, Flush, Size};
+ghost use Rattle.flat_array.specs.Reply.{fault_word};
 ghost use Rattle.pool.specs.DriveMap.{volume_sectors};
 ghost use Rattle.pool.specs.View.{IsPool};
 ghost use Rattle.shr_tool.specs.Meaning.{view_of};
@@ -10,19 +11,48 @@ ghost use Rattle.shr_tool.specs.Filling.{Fills};
 
 use pool::{BareFault, Pool};
 use rack::{Bay, Gone, Rack};
-use shr_script::{Command, ReplyText, data_reply, line_reply, refused_reply, size_reply};
+use shr_script::{
+    Command, LineFault, ReplyText, data_reply, line_reply, refused_reply, size_reply,
+};
 
-/// Does a command and sets its reply. A drive's refusal leaves no reply.
-pub fn perform<R: Bay>(
+/// Answers a line: does its command, or says why it is none. A drive's refusal leaves no reply.
+pub fn answer_in<R: Bay>(
     pool: &mut Pool<R>,
-    command: &Command,
+    line: &Result<Command, LineFault>,
     text: &mut ReplyText,
 ) -> Result<(), Gone>
     requires { IsPool (view_of R.seen pool.old) }
     ensures pool { IsPool (view_of R.seen pool.new) }
     ensures runs { R.runs pool.old.bay pool.new.bay }
-    ensures done { OnOk result (Performs (view_of R.seen pool.old) (view_of R.seen pool.new) command.now text.new.items) }
-    ensures gone { IfErr result (λ e. Breaks (view_of R.seen pool.old) (view_of R.seen pool.new) command.now e.disk) }
+    ensures done { OnOk result (Performs (view_of R.seen pool.old) (view_of R.seen pool.new) line.now text.new.items) }
+    ensures gone { IfErr result (λ e. Breaks (view_of R.seen pool.old) (view_of R.seen pool.new) line.now e.disk) }
+{
+    match line {
+        Ok(command) => perform(pool, command, text),
+        Err(fault) => {
+            refused_reply(text, word_of(*fault));
+            Ok(())
+        }
+    }
+}
+
+// The word of a refused line.
+fn word_of(fault: LineFault) -> &'static [u8]
+    ensures { result.now ≡ fault_word fault }
+{
+    match fault {
+        LineFault::Syntax => b"syntax",
+        LineFault::Memory => b"memory",
+    }
+}
+
+// Does a command and sets its reply.
+fn perform<R: Bay>(pool: &mut Pool<R>, command: &Command, text: &mut ReplyText) -> Result<(), Gone>
+    requires { IsPool (view_of R.seen pool.old) }
+    ensures pool { IsPool (view_of R.seen pool.new) }
+    ensures runs { R.runs pool.old.bay pool.new.bay }
+    ensures done { OnOk result (Performs (view_of R.seen pool.old) (view_of R.seen pool.new) (Ok command.now) text.new.items) }
+    ensures gone { IfErr result (λ e. Breaks (view_of R.seen pool.old) (view_of R.seen pool.new) (Ok command.now) e.disk) }
 {
     match command {
         Command::Read { sector } => perform_read(pool, *sector, text),
@@ -45,10 +75,6 @@ pub fn perform<R: Bay>(
             refused_reply(text, b"unbuilt");
             Ok(())
         }
-        Command::Syntax => {
-            refused_reply(text, b"syntax");
-            Ok(())
-        }
     }
 }
 
@@ -57,8 +83,8 @@ fn perform_read<R: Bay>(pool: &mut Pool<R>, sector: u64, text: &mut ReplyText) -
     requires { IsPool (view_of R.seen pool.old) }
     ensures pool { IsPool (view_of R.seen pool.new) }
     ensures runs { R.runs pool.old.bay pool.new.bay }
-    ensures done { OnOk result (Performs (view_of R.seen pool.old) (view_of R.seen pool.new) (Read sector) text.new.items) }
-    ensures gone { IfErr result (λ e. Breaks (view_of R.seen pool.old) (view_of R.seen pool.new) (Read sector) e.disk) }
+    ensures done { OnOk result (Performs (view_of R.seen pool.old) (view_of R.seen pool.new) (Ok (Read sector)) text.new.items) }
+    ensures gone { IfErr result (λ e. Breaks (view_of R.seen pool.old) (view_of R.seen pool.new) (Ok (Read sector)) e.disk) }
 {
     let mut bytes = [0; 512];
     match pool.read(sector, &mut bytes) {
@@ -79,8 +105,8 @@ fn perform_write<R: Bay>(
     requires { IsPool (view_of R.seen pool.old) }
     ensures pool { IsPool (view_of R.seen pool.new) }
     ensures runs { R.runs pool.old.bay pool.new.bay }
-    ensures done { OnOk result (Performs (view_of R.seen pool.old) (view_of R.seen pool.new) (Write sector bytes.now) text.new.items) }
-    ensures gone { IfErr result (λ e. Breaks (view_of R.seen pool.old) (view_of R.seen pool.new) (Write sector bytes.now) e.disk) }
+    ensures done { OnOk result (Performs (view_of R.seen pool.old) (view_of R.seen pool.new) (Ok (Write sector bytes.now)) text.new.items) }
+    ensures gone { IfErr result (λ e. Breaks (view_of R.seen pool.old) (view_of R.seen pool.new) (Ok (Write sector bytes.now)) e.disk) }
 {
     match pool.write(sector, bytes) {
         Ok(()) => line_reply(text, b"ok"),
@@ -101,8 +127,8 @@ fn perform_fill<R: Bay>(
     requires { IsPool (view_of R.seen pool.old) }
     ensures pool { IsPool (view_of R.seen pool.new) }
     ensures runs { R.runs pool.old.bay pool.new.bay }
-    ensures done { OnOk result (Performs (view_of R.seen pool.old) (view_of R.seen pool.new) (Fill sector count byte) text.new.items) }
-    ensures gone { IfErr result (λ e. Breaks (view_of R.seen pool.old) (view_of R.seen pool.new) (Fill sector count byte) e.disk) }
+    ensures done { OnOk result (Performs (view_of R.seen pool.old) (view_of R.seen pool.new) (Ok (Fill sector count byte)) text.new.items) }
+    ensures gone { IfErr result (λ e. Breaks (view_of R.seen pool.old) (view_of R.seen pool.new) (Ok (Fill sector count byte)) e.disk) }
 {
     let size = pool.size();
     if count > size || sector > size - count {
@@ -144,8 +170,8 @@ fn perform_flush<R: Bay>(pool: &mut Pool<R>, text: &mut ReplyText) -> Result<(),
     requires { IsPool (view_of R.seen pool.old) }
     ensures pool { IsPool (view_of R.seen pool.new) }
     ensures runs { R.runs pool.old.bay pool.new.bay }
-    ensures done { OnOk result (Performs (view_of R.seen pool.old) (view_of R.seen pool.new) Flush text.new.items) }
-    ensures gone { IfErr result (λ e. Breaks (view_of R.seen pool.old) (view_of R.seen pool.new) Flush e.disk) }
+    ensures done { OnOk result (Performs (view_of R.seen pool.old) (view_of R.seen pool.new) (Ok Flush) text.new.items) }
+    ensures gone { IfErr result (λ e. Breaks (view_of R.seen pool.old) (view_of R.seen pool.new) (Ok Flush) e.disk) }
 {
     match pool.flush() {
         Ok(()) => line_reply(text, b"ok"),

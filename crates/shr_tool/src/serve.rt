@@ -2,9 +2,9 @@
 
 mod finish;
 
-ghost use Rattle.std.specs.Prelude.{◌≡◌, ◌≢◌, ◌<◌, ◌≤◌, ◌^◌, Some, IsOk, IfErr};
+ghost use Rattle.std.specs.Prelude.{◌≡◌, ◌≢◌, ◌<◌, ◌≤◌, ◌^◌, Some, Ok, IsOk, IfErr};
 ghost use Rattle.shr_script.specs.declared.Command.TheVariants.{Quit};
-ghost use Rattle.shr_script.specs.Line.{command_of};
+ghost use Rattle.shr_script.specs.Line.{line_of};
 ghost use Rattle.shr_script.specs.Script.{without_return as line_without_return};
 ghost use Rattle.pool.specs.View.{IsPool};
 ghost use Rattle.pool.specs.Calls.{IsSamePool};
@@ -12,12 +12,14 @@ ghost use Rattle.shr_tool.specs.Meaning.{view_of};
 ghost use Rattle.shr_tool.specs.Limits.{KeepsLimit};
 ghost use Rattle.shr_tool.specs.Serving.{IsReplied, LineAnswers, Serves, HasCause, answer_of};
 
-use crate::perform::perform;
+use crate::perform::answer_in;
 pub use finish::serve_pool;
 use io_ends::{Sink, Source};
 use pool::Pool;
 use rack::{Bay, Gone, Rack};
-use shr_script::{Command, Ended, LineReader, ReplyText, SCRIPT_LIMIT, next_line, without_return};
+use shr_script::{
+    Command, Ended, LineFault, LineReader, ReplyText, SCRIPT_LIMIT, next_line, without_return,
+};
 
 /// Why the answering of a script stopped.
 #[derive(Clone, Copy, Debug, PartialEq, Eq)]
@@ -87,7 +89,7 @@ fn answer_last<R: Bay, O: Sink>(
     ensures cause { HasCause result (view_of R.seen pool.old) (view_of R.seen pool.new) 0 0 (O.faults out.old) (O.faults out.new) }
     ensures told { O.told out.old → O.told out.new }
     ensures other { result ≢ Stop.Limit }
-    ensures answers { O.told out.old → LineAnswers (view_of R.seen) (answer_of result) (command_of (line_without_return line.now)) pool.old pool.new (O.taken out.old) (O.taken out.new) }
+    ensures answers { O.told out.old → LineAnswers (view_of R.seen) (answer_of result) (line_of (line_without_return line.now)) pool.old pool.new (O.taken out.old) (O.taken out.new) }
 {
     match answer_line(pool, line, text, out) {
         Ok(()) => Stop::Input,
@@ -109,26 +111,26 @@ fn answer_line<R: Bay, O: Sink>(
     ensures sink { O.faults out.old ≤ O.faults out.new }
     ensures cause { IfErr result (λ stop. HasCause stop (view_of R.seen pool.old) (view_of R.seen pool.new) 0 0 (O.faults out.old) (O.faults out.new)) }
     ensures told { O.told out.old → O.told out.new }
-    ensures goes_on { IsOk result → command_of (line_without_return line.now) ≢ Some Quit }
+    ensures goes_on { IsOk result → line_of (line_without_return line.now) ≢ Some (Ok Quit) }
     ensures other { IfErr result (λ stop. stop ≢ Stop.Limit) }
-    ensures answers { O.told out.old → LineAnswers (view_of R.seen) result (command_of (line_without_return line.now)) pool.old pool.new (O.taken out.old) (O.taken out.new) }
+    ensures answers { O.told out.old → LineAnswers (view_of R.seen) result (line_of (line_without_return line.now)) pool.old pool.new (O.taken out.old) (O.taken out.new) }
 {
-    match next_line(without_return(line)) {
+    match next_line(without_return(line)).transpose() {
         None => Ok(()),
-        Some(Command::Quit) => Err(Stop::Quit),
-        Some(command) => answer(pool, &command, text, out),
+        Some(Ok(Command::Quit)) => Err(Stop::Quit),
+        Some(said) => answer(pool, &said, text, out),
     }
 }
 
-// Does a command and puts its reply.
+// Answers what a line says and puts the reply.
 fn answer<R: Bay, O: Sink>(
     pool: &mut Pool<R>,
-    command: &Command,
+    said: &Result<Command, LineFault>,
     text: &mut ReplyText,
     out: &mut O,
 ) -> Result<(), Stop>
     requires pool { IsPool (view_of R.seen pool.old) }
-    requires replied { IsReplied command.now }
+    requires replied { IsReplied said.now }
     ensures pool { IsPool (view_of R.seen pool.new) }
     ensures runs { R.runs pool.old.bay pool.new.bay }
     ensures same { IsSamePool (view_of R.seen pool.old) (view_of R.seen pool.new) }
@@ -136,9 +138,9 @@ fn answer<R: Bay, O: Sink>(
     ensures cause { IfErr result (λ stop. HasCause stop (view_of R.seen pool.old) (view_of R.seen pool.new) 0 0 (O.faults out.old) (O.faults out.new)) }
     ensures told { O.told out.old → O.told out.new }
     ensures other { IfErr result (λ stop. stop ≢ Stop.Limit) }
-    ensures answers { O.told out.old → LineAnswers (view_of R.seen) result (Some command.now) pool.old pool.new (O.taken out.old) (O.taken out.new) }
+    ensures answers { O.told out.old → LineAnswers (view_of R.seen) result (Some said.now) pool.old pool.new (O.taken out.old) (O.taken out.new) }
 {
-    match perform(pool, command, text) {
+    match answer_in(pool, said, text) {
         Ok(()) => {}
         Err(gone) => return Err(Stop::DriveGone { disk: gone.disk }),
     }

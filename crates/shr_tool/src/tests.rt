@@ -17,7 +17,7 @@ use io_ends::{MemSink, MemSource, Source};
 use pool::Birth;
 use rack::{Bay, Name, Rack};
 use rack_mem::{DiskSpec, MemBay, Pick};
-use shr_script::{Command, next_line};
+use shr_script::{Command, LineFault, next_line};
 use std::alloc::Global;
 use std::process::Abort;
 use std::test::Fail;
@@ -110,26 +110,26 @@ fn without_return(line: &[u8]) -> &[u8] {
     }
 }
 
-// The commands of a script before its first `quit`.
-fn commands_of(alloc: Global, script: &[u8]) -> Result<Vec<Command>, Fail> {
-    let mut commands = Vec::new(alloc);
+// What the lines of a script say before its first `quit`.
+fn lines_of(alloc: Global, script: &[u8]) -> Result<Vec<Result<Command, LineFault>>, Fail> {
+    let mut lines = Vec::new(alloc);
     for line in script.split(|byte| *byte == b'\n') {
-        match next_line(without_return(line)) {
+        match next_line(without_return(line)).transpose() {
             None => {}
-            Some(Command::Quit) => return Ok(commands),
-            Some(command) => commands.push(command)?,
+            Some(Ok(Command::Quit)) => return Ok(lines),
+            Some(said) => lines.push(said)?,
         }
     }
-    Ok(commands)
+    Ok(lines)
 }
 
 // What a flat array of zeros replies to a script.
 fn flat_replies(alloc: Global, script: &[u8]) -> Result<Vec<u8>, Fail> {
     let mut disk = FlatDisk::zeros(alloc, SECTORS)?;
     let mut replies = Vec::new(alloc);
-    let commands = commands_of(alloc, script)?;
-    for command in commands.iter() {
-        disk.answer(alloc, command, &mut replies)?;
+    let lines = lines_of(alloc, script)?;
+    for line in lines.iter() {
+        disk.answer(alloc, line, &mut replies)?;
     }
     Ok(replies)
 }

@@ -11,8 +11,6 @@
 mod forms;
 mod layout;
 mod parsing;
-#[cfg(test)]
-mod tests;
 
 pub use forms::{Form, WordsFault, form_of};
 pub use layout::{LayoutRequest, MOST_SIZES};

@@ -346,6 +346,3 @@ impl<R: Rack> SliceRack<R> {
         self.seats[disk as usize / 17].unwrap_or(0)
     }
 }
-
-#[cfg(test)]
-mod tests;

@@ -2,12 +2,12 @@
 
 ghost use Rattle.std.specs.Prelude.{◌<◌};
 
-use super::{DISK_SECTORS, Ran, bay_of, commands_of, made, run_over, serve};
+use super::{DISK_SECTORS, Ran, bay_of, lines_of, made, run_over, serve};
 use flat_array::FlatDisk;
 use io_ends::MemSource;
 use rack::Rack;
 use rack_mem::{MemBay, Pick};
-use shr_script::{Command, next_line};
+use shr_script::{Command, LineFault};
 use std::alloc::Global;
 use std::process::Abort;
 use std::test::Fail;
@@ -101,13 +101,13 @@ fn sixty_lines(alloc: Global) -> Result<String, Fail> {
     Ok(script)
 }
 
-// The calls of a command of that script, the mark of a first write left out.
-fn calls_of(command: &Command) -> u64 {
-    match command {
-        Command::Read { .. } => 1,
-        Command::Write { .. } => 2,
-        Command::Fill { .. } => 10,
-        Command::Flush => 2,
+// The calls of a line of that script, the mark of a first write left out.
+fn calls_of(line: &Result<Command, LineFault>) -> u64 {
+    match line {
+        Ok(Command::Read { .. }) => 1,
+        Ok(Command::Write { .. }) => 2,
+        Ok(Command::Fill { .. }) => 10,
+        Ok(Command::Flush) => 2,
         _ => 0,
     }
 }
@@ -174,21 +174,21 @@ fn a_stop_at_any_moment_of_a_run_leaves_values_of_the_array(rt: HostRuntime) -> 
     let mut after = FlatDisk::zeros(alloc, SECTORS)?;
     let mut replies = Vec::new(alloc);
     check_images(&rt, alloc, &bay, moment, [&before, &before])?;
-    let mut commands = commands_of(alloc, script.as_bytes())?;
-    assert_eq!(rt; commands.len(), 60);
-    commands.push(Command::Flush)?;
+    let mut lines = lines_of(alloc, script.as_bytes())?;
+    assert_eq!(rt; lines.len(), 60);
+    lines.push(Ok(Command::Flush))?;
     let mut mark = 4u64;
-    let mut line = 0u64;
-    for command in commands.iter() {
-        line = line.wrapping_add(1);
+    let mut count = 0u64;
+    for line in lines.iter() {
+        count = count.wrapping_add(1);
         replies.clear();
-        after.answer(alloc, command, &mut replies)?;
-        let mut calls = calls_of(command);
-        if let Command::Write { .. } | Command::Fill { .. } = command {
+        after.answer(alloc, line, &mut replies)?;
+        let mut calls = calls_of(line);
+        if let Ok(Command::Write { .. } | Command::Fill { .. }) = line {
             calls = calls.wrapping_add(mark);
             mark = 0;
         }
-        if line == 61 {
+        if count == 61 {
             calls = END;
         }
         for call in 1..calls {
@@ -197,7 +197,7 @@ fn a_stop_at_any_moment_of_a_run_leaves_values_of_the_array(rt: HostRuntime) -> 
         }
         moment = moment.wrapping_add(calls);
         check_images(&rt, alloc, &bay, moment, [&after, &after])?;
-        before.answer(alloc, command, &mut replies)?;
+        before.answer(alloc, line, &mut replies)?;
     }
     assert_eq!(rt; bay.calls(), moment);
     Ok(())

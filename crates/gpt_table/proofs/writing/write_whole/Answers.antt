@@ -8,34 +8,12 @@ returns-in-Err-write-clause-writes g c =
 
 pub returns-in-Ok-clause-writes : goal.returns-in-Ok-clause-writes
 returns-in-Ok-clause-writes g c =
-    whole_written
-    (g.R.Rack.seen c.args.rack.now)
-    (g.R.Rack.seen c.write_copy.new.rack)
-    (g.R.Rack.seen c.write.new.self)
-    (g.R.Rack.seen c.write_copy-2.new.rack)
-    c.args.disk
-    c.args.table.now
-    c.protective_mbr-mbr.result
-    c.requires.writable.room
-    c.requires.disk
-    c.requires.size
-    c.protective_mbr-mbr.ensures
-    c.in_default.ensures.writes
-    c.in_default-write.ensures.writes
-    c.in-Ok.ensures.writes
+    whole_written (g.R.Rack.seen c.args.rack.now) (g.R.Rack.seen c.write_copy.new.rack) (g.R.Rack.seen c.write.new.self)
+    (g.R.Rack.seen c.write_copy-2.new.rack) c.args.disk c.args.table.now c.protective_mbr-mbr.result c.requires.writable.room c.requires.disk
+    c.requires.size c.protective_mbr-mbr.ensures c.in_default.ensures.writes c.in_default-write.ensures.writes c.in-Ok.ensures.writes
 
 pub returns-in-Err-write_copy-clause-writes : goal.returns-in-Err-write_copy-clause-writes
 returns-in-Err-write_copy-clause-writes g c =
-    whole_gone_third
-    (g.R.Rack.seen c.args.rack.now)
-    (g.R.Rack.seen c.write_copy.new.rack)
-    (g.R.Rack.seen c.write.new.self)
-    (g.R.Rack.seen c.write_copy-2.new.rack)
-    c.args.disk
-    c.args.table.now
-    c.protective_mbr-mbr.result
-    c.in-Err-write_copy.gone
-    c.requires.writable.room
-    c.in_default.ensures.writes
-    c.in_default-write.ensures.writes
-    c.in-Err-write_copy.ensures.writes
+    whole_gone_third (g.R.Rack.seen c.args.rack.now) (g.R.Rack.seen c.write_copy.new.rack) (g.R.Rack.seen c.write.new.self)
+    (g.R.Rack.seen c.write_copy-2.new.rack) c.args.disk c.args.table.now c.protective_mbr-mbr.result c.in-Err-write_copy.gone c.requires.writable.room
+    c.in_default.ensures.writes c.in_default-write.ensures.writes c.in-Err-write_copy.ensures.writes

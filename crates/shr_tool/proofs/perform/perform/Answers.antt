@@ -1,7 +1,7 @@
 -- Commands that call nothing.
 use Rattle.std.proofs.Common.{rules, ◌++◌, codes, refl, sym, ◌∙◌, ap}
 use Rattle.std.specs.Prelude.{decimal}
-use Rattle.shr_script.specs.declared.Command.TheVariants.{Size, Quit, Unbuilt, Syntax}
+use Rattle.shr_script.specs.declared.Command.TheVariants.{Size, Quit, Unbuilt}
 use Rattle.shr_script.specs.Reply.{as_line}
 use Rattle.shr_tool.specs.Meaning.{view_of}
 use Rattle.shr_tool.proofs.Performing.{still_done}
@@ -11,7 +11,7 @@ pub returns-in-Size-clause-done : goal.returns-in-Size-clause-done
 returns-in-Size-clause-done g c =
     let pool = c.args.pool.now in
     rw c.in-Size.is
-    (still_done (view_of g.R.Rack.seen pool) Size _ c.requires
+    (still_done (view_of g.R.Rack.seen pool) (Ok Size) _ c.requires
     (record { unspent = g.met.R.Bay.unspent pool.bay; sound = λ traced. g.met.R.Rack.sound pool.bay (g.met.R.Bay.always_fit pool.bay) traced })
     (λ a holds. refl)
     (λ a holds. c.size_reply.ensures ∙ ap (λ n. as_line (codes "size " ++ decimal n)) (c.size.ensures.size ∙ sym holds.size)))
@@ -20,7 +20,7 @@ pub returns-in-Quit-clause-done : goal.returns-in-Quit-clause-done
 returns-in-Quit-clause-done g c =
     let pool = c.args.pool.now in
     rw c.in-Quit.is
-    (still_done (view_of g.R.Rack.seen pool) Quit _ c.requires
+    (still_done (view_of g.R.Rack.seen pool) (Ok Quit) _ c.requires
     (record { unspent = g.met.R.Bay.unspent pool.bay; sound = λ traced. g.met.R.Rack.sound pool.bay (g.met.R.Bay.always_fit pool.bay) traced })
     (λ a holds. refl)
     (λ a holds. search rules))
@@ -29,16 +29,7 @@ pub returns-in-Unbuilt-clause-done : goal.returns-in-Unbuilt-clause-done
 returns-in-Unbuilt-clause-done g c =
     let pool = c.args.pool.now in
     rw c.in-Unbuilt.is
-    (still_done (view_of g.R.Rack.seen pool) Unbuilt _ c.requires
+    (still_done (view_of g.R.Rack.seen pool) (Ok Unbuilt) _ c.requires
     (record { unspent = g.met.R.Bay.unspent pool.bay; sound = λ traced. g.met.R.Rack.sound pool.bay (g.met.R.Bay.always_fit pool.bay) traced })
     (λ a holds. refl)
     (λ a holds. c.refused_reply.ensures))
-
-pub returns-in-Syntax-clause-done : goal.returns-in-Syntax-clause-done
-returns-in-Syntax-clause-done g c =
-    let pool = c.args.pool.now in
-    rw c.in-Syntax.is
-    (still_done (view_of g.R.Rack.seen pool) Syntax _ c.requires
-    (record { unspent = g.met.R.Bay.unspent pool.bay; sound = λ traced. g.met.R.Rack.sound pool.bay (g.met.R.Bay.always_fit pool.bay) traced })
-    (λ a holds. refl)
-    (λ a holds. c.refused_reply-in-Syntax.ensures))

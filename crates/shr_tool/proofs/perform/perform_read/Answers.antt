@@ -11,6 +11,6 @@ returns-in-Ok-clause-done g c = read_done _ _ _ _ _ _ c.in-Ok.is c.data_reply.en
 pub returns-in-Err-Gone-clause-gone : goal.returns-in-Err-Gone-clause-gone
 returns-in-Err-Gone-clause-gone g c =
     let shown = view_of g.R.Rack.seen in
-    subst (λ d. Breaks (shown c.args.pool.now) (shown c.read.new.self) (Read c.args.sector) d)
+    subst (λ d. Breaks (shown c.args.pool.now) (shown c.read.new.self) (Ok (Read c.args.sector)) d)
     (sym c.in-Err-Gone.disk-is)
     (read_broken _ _ _ _ _ _ (c.in-Err-Gone.is ∙ ap Err c.in-Err-Gone.field-0-is) c.read.ensures.read)

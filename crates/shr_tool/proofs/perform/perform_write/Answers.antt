@@ -14,7 +14,7 @@ returns-in-Err-Range-clause-done g c =
     let shown = view_of g.R.Rack.seen in
     let range = c.in-Err-Range.is ∙ ap Err c.in-Err-Range.field-0-is in
     subst
-    (λ p. Performs (shown pool) (shown p) (Write c.args.sector c.args.bytes.now) c.refused_reply.new.text.items)
+    (λ p. Performs (shown pool) (shown p) (Ok (Write c.args.sector c.args.bytes.now)) c.refused_reply.new.text.items)
     (sym (c.write.ensures.outside range))
     (write_outside _ _ _ _ _ _ c.requires
     (record { unspent = g.met.R.Bay.unspent pool.bay; sound = λ traced. g.met.R.Rack.sound pool.bay (g.met.R.Bay.always_fit pool.bay) traced })

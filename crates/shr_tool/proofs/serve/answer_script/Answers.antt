@@ -1,10 +1,10 @@
 -- Each line adds its command to those answered.
 use Rattle.std.proofs.Common.{◌≡◌, ◌++◌, ◌^◌, refl, ◌∙◌, ap, arith}
-use Rattle.shr_script.specs.Line.{command_of}
+use Rattle.shr_script.specs.Line.{line_of}
 use Rattle.shr_script.specs.Script.{without_return}
 use Rattle.shr_tool.specs.Meaning.{view_of}
 use Rattle.shr_tool.proofs.Meanings.{same_pool, pools_then}
-use Rattle.shr_script.specs.LongLines.{command_of-kept}
+use Rattle.shr_script.specs.LongLines.{line_of-kept}
 use Rattle.shr_tool.proofs.History.{history_none}
 use Rattle.shr_tool.proofs.Limits.{passed_none, passed_line, part_within, line_within, most_over}
 use Rattle.shr_tool.proofs.Stopping.{line_answered, line_stopped, last_answered, line_script, last_script, last_length, source_stopped, limit_stopped}
@@ -50,8 +50,8 @@ returns-in-Input-clause-serves g c =
     λ source sink.
     let h = c.lines.invariant.history source sink in
     let r = c.in-Input.ensures.read (c.lines.invariant.source_told source) in
-    let is : command_of (without_return c.line.result.now) ≡ command_of (without_return r.part.bytes) =
-    ap (λ xs. command_of (without_return xs)) (c.line.ensures ∙ r.part.kept) ∙ command_of-kept r.part.bytes in
+    let is : line_of (without_return c.line.result.now) ≡ line_of (without_return r.part.bytes) =
+    ap (λ xs. line_of (without_return xs)) (c.line.ensures ∙ r.part.kept) ∙ line_of-kept r.part.bytes in
     last_answered (view_of g.R.Rack.seen) _ _ _ _ _ _ _ _ h.commands _ _ c.lines.invariant.same h.answered
     (last_script _ _ _ _ _ _ _ _ _ _ h r _ is)
     (last_length _ _ _ _ _ _ _ _ _ _ h r (let within = c.next.ensures.within (λ same. cc) in omega arith))
@@ -72,17 +72,17 @@ lines-preserved g c =
       passed =
           λ source.
           let r = c.in-LineFeed.ensures.read (before.source_told source) in
-          let is : command_of (without_return c.line-in-lines.result.now) ≡ command_of (without_return r.part.bytes) =
-          ap (λ xs. command_of (without_return xs)) (c.line-in-lines.ensures ∙ r.part.kept)
-          ∙ command_of-kept r.part.bytes in
+          let is : line_of (without_return c.line-in-lines.result.now) ≡ line_of (without_return r.part.bytes) =
+          ap (λ xs. line_of (without_return xs)) (c.line-in-lines.ensures ∙ r.part.kept)
+          ∙ line_of-kept r.part.bytes in
           passed_line _ _ _ _ _ _ (before.passed source) r (λ same. c.in-Ok.ensures.goes_on refl (is ∙ same));
       history =
           λ source sink.
           let h = before.history source sink in
           let r = c.in-LineFeed.ensures.read (before.source_told source) in
-          let is : command_of (without_return c.line-in-lines.result.now) ≡ command_of (without_return r.part.bytes) =
-          ap (λ xs. command_of (without_return xs)) (c.line-in-lines.ensures ∙ r.part.kept)
-          ∙ command_of-kept r.part.bytes in
+          let is : line_of (without_return c.line-in-lines.result.now) ≡ line_of (without_return r.part.bytes) =
+          ap (λ xs. line_of (without_return xs)) (c.line-in-lines.ensures ∙ r.part.kept)
+          ∙ line_of-kept r.part.bytes in
           line_answered (view_of g.R.Rack.seen) _ _ _ _ _ _ _ _ _ _ _ _ _ before.same h r is
           (c.in-Ok.ensures.answers (before.sink_told sink));
     }
@@ -92,9 +92,9 @@ returns-in-Err-clause-serves g c =
     λ source sink.
     let h = c.lines.invariant.history source sink in
     let r = c.in-LineFeed.ensures.read (c.lines.invariant.source_told source) in
-    let is : command_of (without_return c.line-in-lines.result.now) ≡ command_of (without_return r.part.bytes) =
-    ap (λ xs. command_of (without_return xs)) (c.line-in-lines.ensures ∙ r.part.kept)
-    ∙ command_of-kept r.part.bytes in
+    let is : line_of (without_return c.line-in-lines.result.now) ≡ line_of (without_return r.part.bytes) =
+    ap (λ xs. line_of (without_return xs)) (c.line-in-lines.ensures ∙ r.part.kept)
+    ∙ line_of-kept r.part.bytes in
     line_stopped (view_of g.R.Rack.seen) _ _ _ _ _ _ _ _ h.commands _ _ c.in-Err.stop c.lines.invariant.same h.answered
     (line_script _ _ _ _ _ _ _ _ _ _ h r _ is)
     (c.in-Err.ensures.answers (c.lines.invariant.sink_told sink))

@@ -1,0 +1,6 @@
+use Rattle.slice_rack.specs.Sliced.{slices_of}
+use Rattle.slice_rack.specs.SliceRack.{tables, below_of}
+use Rattle.engine_tests.proofs.slices.cut.Given as goal
+
+abbrev pub invariant-loop-slice : goal.invariant-loop-slice
+invariant-loop-slice g l = (slices_of (tables l.slices) (g.R.Rack.seen (below_of l.slices))).fit

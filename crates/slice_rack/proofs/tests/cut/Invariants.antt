@@ -1,6 +1,0 @@
-use Rattle.slice_rack.specs.Sliced.{slices_of}
-use Rattle.slice_rack.specs.SliceRack.{tables, below_of}
-use Rattle.slice_rack.proofs.tests.cut.Given as goal
-
-abbrev pub invariant-loop-slice : goal.invariant-loop-slice
-invariant-loop-slice g l = (slices_of (tables l.slices) (g.R.Rack.seen (below_of l.slices))).fit

@@ -1,4 +1,0 @@
-use Rattle.slice_rack.proofs.tests.read_all.Given as goal
-
-abbrev pub invariant-loop-disk : goal.invariant-loop-disk
-invariant-loop-disk g l = (g.R.Rack.seen l.rack).fit
