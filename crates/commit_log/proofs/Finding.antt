@@ -52,6 +52,11 @@ scan_dropped {a} {b} {c} on s t scan drops = record {
             let old = scan.each p below named (sym same.0 ∙ left) told in
             (same.1 ∙ old.0, damaged p ∙ old.1)
       ];
+  either = λ p below named left.
+      elim (drops.each p) [
+        | inr gone ↦ absurd (both_ways (went t.lost.places p) left gone.lost)
+        | inl same ↦ damaged p ∙ scan.either p below named (sym same.0 ∙ left) ∙ ap (λ (o : Option Gate). is_none o) (sym same.1)
+      ];
 }
   where
     damaged : (p : ℕ) → went t.damaged.places p ≡ went s.damaged.places p
@@ -66,17 +71,17 @@ scan_dropped {a} {b} {c} on s t scan drops = record {
 
 -- ---- lists of places, and those of them that are left
 
-filter_in : (f : ℕ → Bool) (k : ℕ) (ks : List ℕ) → f k ≡ true → filter f (k ∷ ks) ≡ k ∷ filter f ks
+pub filter_in : (f : ℕ → Bool) (k : ℕ) (ks : List ℕ) → f k ≡ true → filter f (k ∷ ks) ≡ k ∷ filter f ks
 filter_in f k ks is = cond-true (f k) (k ∷ filter f ks) (filter f ks) is
 
-filter_out : (f : ℕ → Bool) (k : ℕ) (ks : List ℕ) → f k ≡ false → filter f (k ∷ ks) ≡ filter f ks
+pub filter_out : (f : ℕ → Bool) (k : ℕ) (ks : List ℕ) → f k ≡ false → filter f (k ∷ ks) ≡ filter f ks
 filter_out f k ks is = cond-false (f k) (k ∷ filter f ks) (filter f ks) is
 
 -- the others have nothing
-abbrev AreOnly : {X : Type 0} → (ℕ → Bool) → X → (ℕ → X) → (ℕ → X) → Type 0
+abbrev pub AreOnly : {X : Type 0} → (ℕ → Bool) → X → (ℕ → X) → (ℕ → X) → Type 0
 AreOnly f none h e = ((p : ℕ) → f p ≡ true → h p ≡ e p) × ((p : ℕ) → f p ≡ false → e p ≡ none)
 
-foremost_left : (f : ℕ → Bool) (h e : ℕ → Option GateAt) (ks : List ℕ) → AreOnly f None h e
+pub foremost_left : (f : ℕ → Bool) (h e : ℕ → Option GateAt) (ks : List ℕ) → AreOnly f None h e
     → foremost number_of (map h (filter f ks)) ≡ foremost number_of (map e ks)
 unfolding foremost
 foremost_left f h e [] only = refl
@@ -95,7 +100,7 @@ foremost_left f h e (k ∷ ks) only =
     first None same = same
     first (Some x) same = ap (ahead number_of x) same
 
-all_left : (test : Option GateAt → Bool) (f : ℕ → Bool) (h e : ℕ → Option GateAt) (ks : List ℕ) → test None ≡ true → AreOnly f None h e
+pub all_left : (test : Option GateAt → Bool) (f : ℕ → Bool) (h e : ℕ → Option GateAt) (ks : List ℕ) → test None ≡ true → AreOnly f None h e
     → list_all test (map h (filter f ks)) ≡ list_all test (map e ks)
 all_left test f h e [] none only = refl
 all_left test f h e (k ∷ ks) none only =
@@ -106,7 +111,7 @@ all_left test f h e (k ∷ ks) none only =
           ∙ ap (λ b. b && list_all test (map e ks)) (sym (ap test (only.1 k other) ∙ none))
     ]
 
-any_left : (f g e : ℕ → Bool) (ks : List ℕ) → AreOnly f false g e → list_any g (filter f ks) ≡ list_any e ks
+pub any_left : (f g e : ℕ → Bool) (ks : List ℕ) → AreOnly f false g e → list_any g (filter f ks) ≡ list_any e ks
 any_left f g e [] only = refl
 any_left f g e (k ∷ ks) only =
     elim (cases_Bool (f k)) [
@@ -154,7 +159,7 @@ any_one test h (k ∷ ks) is =
     ]
 
 -- none has a greater number than the foremost
-foremost_most : (h : ℕ → Option GateAt) (ks : List ℕ) (p : ℕ) (x : GateAt) → names ks p ≡ true → h p ≡ Some x
+pub foremost_most : (h : ℕ → Option GateAt) (ks : List ℕ) (p : ℕ) (x : GateAt) → names ks p ≡ true → h p ≡ Some x
     → (z : GateAt) × (foremost number_of (map h ks) ≡ Some z) × (number_of x ≤ number_of z)
 unfolding foremost
 foremost_most h [] p x named is = absurd (both_ways false refl named)
@@ -407,6 +412,11 @@ finds_of on gone a r b s t broken xs m looks targets number openness = record {
   damaged_is = sym (find_left (is_left on gone) (is_bad_log (left_of on gone) (current_in a.held)) (is_damaged broken t) (range_with_len 0 16) (damaged_left on gone a r b s t broken xs looks));
   is_pending_is = ap (λ (o : Option GateAt). is_some o) (sym (pending_same on gone a r b s t broken xs looks));
   targets = targets ∙ targets_are on gone a r b s t broken xs looks;
+  each = λ p named.
+      let here = is_here on gone a r b s t broken xs p looks (left p named) in
+      let after = scan_dropped on s t looks.scan looks.drops in
+      let is = after.each p (looks.few p here.0) here.0 here.1 (looks.told p here.0) in
+      sym is.1 ∙ after.either p (looks.few p here.0) here.0 here.1 ∙ ap (λ (o : Option Gate). is_none o) is.0;
   above = λ p g named is.
       let top = foremost_most (at_seen s.gates) (range_with_len 0 16) p (record { place = p; gate = g }) (in_range p named) (seen p g named is) in
       let most : m.number ≡ number_of top.0 = number ∙ ap (λ (o : Option GateAt). option_map_or number_of o 0) top.1 in
