@@ -13,7 +13,6 @@ use Rattle.array_image.specs.Places.{log_slice, log_sectors}
 use Rattle.array_image.specs.Record.{Gate, GateAt, gate_sector, gate_of, gate_in, half_of, is_target, is_there, is_bad_gate, record_in, pending_at, pending, damaged_log}
 use Rattle.array_image.specs.States.{state_in, is_current, current_places}
 use Rattle.array_image.specs.Left.{reading}
-use Rattle.array_image.specs.Held.{current_in}
 use Rattle.commit_log.specs.View.{LogView, names, is_left, left_of}
 use Rattle.commit_log.specs.Standing.{StatesStand, deciding, Decides, IsNumbered, SomeoneDecides}
 use Rattle.commit_log.specs.Opening.{PendingCall, StandsAmid, CanReplay}
@@ -144,24 +143,17 @@ names_left s on x p rest =
 loaded_now : (s t : State) (l : LogView) (on : List ℕ) (x : Seen) → Opened s t l on x → IsLoaded l (current_places s) (reading x)
 loaded_now s t l on x opened =
     let rest : AtRest s on x = opened.rest in
-    let now : Image = current_in x.held in
     let e : Image = reading x in
     let here : ℕ → Bool = λ p. nat_lt 0 (x.sectors (log_slice p)) in
     let all : List ℕ = filter (is_current s) (range_with_len 0 16) in
     let listed : left_of on [] ≡ filter here all =
     sym (filter_both here (is_current s) (is_left on []) (range_with_len 0 16) (λ p. left_is on p ∙ rest.places p)) in
-    let first : IsLoaded l (left_of on []) now =
+    let read : IsLoaded l (left_of on []) e =
     record {
       same = sym opened.finds.targets;
       whole = sym opened.finds.damaged_is;
       number = λ a is. number_is a is opened.finds.number;
     } in
-    let read : IsLoaded l (left_of on []) e =
-    loaded_by l (left_of on []) e now
-    (λ p k named some below.
-    let log = logs_named x.sectors on p rest.slices (sym (names_left s on x p rest) ∙ named) in
-    reads_now x (log_slice p) k (subst (λ n. k < n) (sym log.1) below))
-    first in
     let nothing : (p : ℕ) → here p ≡ false → e (log_slice p) gate_sector ≡ [] =
     λ p out. elim (cases_lt 0 (x.sectors (log_slice p))) [
       | inl some ↦ absurd (both_ways (here p) out (lt-ltb 0 (x.sectors (log_slice p)) some))
@@ -170,16 +162,16 @@ loaded_now s t l on x opened =
     subst (λ ps. IsLoaded l ps e) (sym (current_of_all s (few_in e s rest.state)))
     (loaded_more l here all e nothing (subst (λ ps. IsLoaded l ps e) listed read))
   where
-    number_is : (a : GateAt) → pending_at (left_of on []) (current_in x.held) ≡ Some a
-        → ((l.number ≡ 0) ⊎ ((p : ℕ) × (g : Gate) × (names on p ≡ true) × (gate_in (current_in x.held) p ≡ Some g) × (g.number ≡ l.number)))
+    number_is : (a : GateAt) → pending_at (left_of on []) (reading x) ≡ Some a
+        → ((l.number ≡ 0) ⊎ ((p : ℕ) × (g : Gate) × (names on p ≡ true) × (gate_in (reading x) p ≡ Some g) × (g.number ≡ l.number)))
         → a.gate.number ≡ l.number
     number_is a is (inl nothing) =
-        let at = pending_named (left_of on []) (current_in x.held) a is in
+        let at = pending_named (left_of on []) (reading x) a is in
         omega (arith, opened.finds.above a.place a.gate at.0 at.1, nothing)
     number_is a is (inr some) =
-        let at = pending_named (left_of on []) (current_in x.held) a is in
+        let at = pending_named (left_of on []) (reading x) a is in
         let below = opened.finds.above a.place a.gate at.0 at.1 in
-        let most = pending_most (current_in x.held) (left_of on []) a is some.0 (record { place = some.0; gate = some.1 })
+        let most = pending_most (reading x) (left_of on []) a is some.0 (record { place = some.0; gate = some.1 })
         (names_left s on x some.0 opened.rest ∙ some.2) (ap (λ (o : Option Gate). option_map (λ g. record { place = some.0; gate = g }) o) some.3) in
         omega (arith, below, most, some.4)
 
@@ -298,12 +290,12 @@ gate_then : (s t : State) (l : LogView) (on : List ℕ) (x : Seen) (p : ℕ) →
     → IsNumbered l.number x p
 gate_then s t l on x p opened current there v may =
     let rest : AtRest s on x = opened.rest in
-    let now : Image = current_in x.held in
+    let now : Image = reading x in
     let named : names on p ≡ true = rest.places p ∙ and_from (is_current s p) (nat_lt 0 (x.sectors (log_slice p))) current (lt-ltb 0 (x.sectors (log_slice p)) (omega (arith, there))) in
     let left : names (left_of on []) p ≡ true = names_left s on x p rest ∙ named in
     let free : is_bad_gate now p ≡ false = whole_gates now (left_of on []) p (sym opened.finds.damaged_is) left in
     let has = some_gate (gate_in now p) (sym (opened.finds.each p left) ∙ free) in
-    (has.0, ap gate_of (rest.single p gate_sector (logs_named x.sectors on p rest.slices named).0 there v may) ∙ has.1, opened.finds.above p has.0 left has.1)
+    (has.0, ap gate_of (only_value s on x p gate_sector v rest (logs_named x.sectors on p rest.slices named).0 there may) ∙ has.1, opened.finds.above p has.0 left has.1)
   where
     some_gate : (o : Option Gate) → is_none o ≡ false → (g : Gate) × (o ≡ Some g)
     some_gate None some = absurd (both_ways true some refl)

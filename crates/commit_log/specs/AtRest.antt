@@ -8,7 +8,6 @@ use Rattle.array_image.specs.Places.{log_slice}
 use Rattle.array_image.specs.Record.{GateAt, pending_at}
 use Rattle.array_image.specs.States.{state_in, is_current, current_places}
 use Rattle.array_image.specs.Left.{reading}
-use Rattle.array_image.specs.Held.{current_in}
 use Rattle.commit_log.specs.View.{LogView, names, left_of}
 use Rattle.commit_log.specs.Phases.{AreLogs}
 use Rattle.commit_log.specs.Opening.{Finds}
@@ -39,5 +38,5 @@ pub record BringsCopies (s t : State) (xs : List Target) (c : Image) : Type 0 wh
 pub record Opened (s t : State) (l : LogView) (on : List ℕ) (x : Seen) : Type 0 where
   pub rest : AtRest s on x
   pub is_pending : Bool
-  pub finds : Finds l on (left_of on []) is_pending None (current_in x.held)
+  pub finds : Finds l on (left_of on []) is_pending None (reading x)
   pub brings : BringsCopies s t l.pending (reading x)

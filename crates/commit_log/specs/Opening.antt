@@ -9,7 +9,7 @@ use Rattle.rack.specs.Targets.{Target, look}
 use Rattle.array_image.specs.Places.{log_slice, place_of}
 use Rattle.array_image.specs.Record.{Gate, GateAt, gate_sector, gate_of, gate_in, is_bad_gate, pending_at, pending, damaged_log}
 use Rattle.array_image.specs.Arrays.{replayed}
-use Rattle.array_image.specs.Held.{current_in}
+use Rattle.array_image.specs.Left.{reading}
 use Rattle.commit_log.specs.View.{LogView, names, left_of, in_order}
 use Rattle.commit_log.specs.Standing.{IsLogPart, IsAlike, IsInside, StatesStand, LogsStand, Decides, deciding, IsWhole, IsNumbered, SomeoneDecides}
 use Rattle.commit_log.specs.Commits.{Stands, HasGone, Rests}
@@ -39,7 +39,7 @@ pub record PendingCall (l m : LogView) (on gone : List ℕ) (is_pending : Bool) 
   pub lent : m.is_lent ≡ true
   pub finds :
       ((p : ℕ) → names on p ≡ true → a.told (log_slice p))
-      → Finds m on (left_of on gone) is_pending damaged (current_in a.held)
+      → Finds m on (left_of on gone) is_pending damaged (reading a)
 
 -- slices as a stop in a replay may leave them: gates and halves as before, and each copy of the state too or as a target has it
 pub record StandsAmid (xs : List Target) (x : Seen) (c : Image) : Type 0 where
