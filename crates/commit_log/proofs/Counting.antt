@@ -45,7 +45,7 @@ foremost_keeps measure P h [] z each is = absurd (none-some z is)
 foremost_keeps measure P h (q ∷ ps) z each is = keeps_one measure P h q ps z (h q) each (λ y is. foremost_keeps measure P h ps y each is) refl is
 
 -- a copy has at most 16 drives
-few_drives : (block : List ℕ) (copy : Copied) → result_ok (decoded block) ≡ Some copy → length copy.state.drives.items ≤ 16
+pub few_drives : (block : List ℕ) (copy : Copied) → result_ok (decoded block) ≡ Some copy → length copy.state.drives.items ≤ 16
 few_drives block copy is = by_state (is_state block) (has_right_sum block) (is_well_formed block) refl is
   where
     few : is_well_formed block ≡ true → length (copied_of block).state.drives.items ≤ 16
@@ -64,7 +64,7 @@ few_drives block copy is = by_state (is_state block) (has_right_sum block) (is_w
     by_state true true false well is = absurd (none-some copy is)
     by_state true true true well is = subst (λ (k : Copied). length k.state.drives.items ≤ 16) (some_same (copied_of block) copy is) (few well)
 
-few_in : (c : Image) (s : State) → state_in c ≡ Some s → length s.drives.items ≤ 16
+pub few_in : (c : Image) (s : State) → state_in c ≡ Some s → length s.drives.items ≤ 16
 unfolding state_in
 few_in c s is = of_copy (foremost epoch_of (map (copy_in c) (range_with_len 0 16))) refl is
   where
@@ -78,7 +78,7 @@ few_in c s is = of_copy (foremost epoch_of (map (copy_in c) (range_with_len 0 16
 
 -- ---- the places that decide
 
-is_listed : (s : State) (p : ℕ) → is_current s p ≡ true → p < length s.drives.items
+pub is_listed : (s : State) (p : ℕ) → is_current s p ≡ true → p < length s.drives.items
 is_listed s p is =
     elim (cases_lt p (length s.drives.items)) [
       | inl below ↦ below

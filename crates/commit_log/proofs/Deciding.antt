@@ -79,7 +79,7 @@ none_later : (h : ℕ → Option GateAt) (q : ℕ) (ps : List ℕ) (m : ℕ) →
 none_later h q ps m none p a among is = none p a (names_later q ps p among) is
 
 -- the first has the number
-top_first : (h : ℕ → Option GateAt) (q : ℕ) (ps : List ℕ) (m : ℕ) (x : GateAt) (o : Option GateAt) → NoneAbove h (q ∷ ps) m
+pub top_first : (h : ℕ → Option GateAt) (q : ℕ) (ps : List ℕ) (m : ℕ) (x : GateAt) (o : Option GateAt) → NoneAbove h (q ∷ ps) m
     → h q ≡ Some x → number_of x ≡ m → foremost number_of (map h ps) ≡ o → foremost number_of (Some x ∷ map h ps) ≡ Some x
 unfolding foremost
 top_first h q ps m x None none here number rest = ap (ahead number_of x) rest

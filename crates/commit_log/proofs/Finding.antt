@@ -10,8 +10,8 @@ use Rattle.rack.specs.Targets.{Target}
 use Rattle.rack.proofs.Reading.{only_reads_join}
 use Rattle.array_image.specs.Foremost.{ahead, foremost}
 use Rattle.array_image.specs.Places.{log_slice}
-use Rattle.array_image.specs.Record.{Gate, GateAt, gate_in, is_bad_gate, record_in, gates_in, is_open_if_of, pending_at, pending, is_bad_log}
-use Rattle.array_image.specs.Held.{current_in}
+use Rattle.array_image.specs.Record.{Gate, GateAt, gate_sector, gate_of, gate_in, is_there, is_bad_gate, record_in, gates_in, is_open_if_of, pending_at, pending, is_bad_log}
+use Rattle.array_image.specs.Left.{reading}
 use Rattle.commit_log.specs.declared.gates.Gate as read
 use Rattle.commit_log.specs.declared.scan.Scan.{Scan}
 use Rattle.commit_log.specs.View.{LogView, names, is_left, left_of, in_order}
@@ -52,6 +52,11 @@ scan_dropped {a} {b} {c} on s t scan drops = record {
             let old = scan.each p below named (sym same.0 ∙ left) told in
             (same.1 ∙ old.0, damaged p ∙ old.1)
       ];
+  either = λ p below named left.
+      elim (drops.each p) [
+        | inr gone ↦ absurd (both_ways (went t.lost.places p) left gone.lost)
+        | inl same ↦ damaged p ∙ scan.either p below named (sym same.0 ∙ left) ∙ ap (λ (o : Option Gate). is_none o) (sym same.1)
+      ];
 }
   where
     damaged : (p : ℕ) → went t.damaged.places p ≡ went s.damaged.places p
@@ -66,17 +71,17 @@ scan_dropped {a} {b} {c} on s t scan drops = record {
 
 -- ---- lists of places, and those of them that are left
 
-filter_in : (f : ℕ → Bool) (k : ℕ) (ks : List ℕ) → f k ≡ true → filter f (k ∷ ks) ≡ k ∷ filter f ks
+pub filter_in : (f : ℕ → Bool) (k : ℕ) (ks : List ℕ) → f k ≡ true → filter f (k ∷ ks) ≡ k ∷ filter f ks
 filter_in f k ks is = cond-true (f k) (k ∷ filter f ks) (filter f ks) is
 
-filter_out : (f : ℕ → Bool) (k : ℕ) (ks : List ℕ) → f k ≡ false → filter f (k ∷ ks) ≡ filter f ks
+pub filter_out : (f : ℕ → Bool) (k : ℕ) (ks : List ℕ) → f k ≡ false → filter f (k ∷ ks) ≡ filter f ks
 filter_out f k ks is = cond-false (f k) (k ∷ filter f ks) (filter f ks) is
 
 -- the others have nothing
-abbrev AreOnly : {X : Type 0} → (ℕ → Bool) → X → (ℕ → X) → (ℕ → X) → Type 0
+abbrev pub AreOnly : {X : Type 0} → (ℕ → Bool) → X → (ℕ → X) → (ℕ → X) → Type 0
 AreOnly f none h e = ((p : ℕ) → f p ≡ true → h p ≡ e p) × ((p : ℕ) → f p ≡ false → e p ≡ none)
 
-foremost_left : (f : ℕ → Bool) (h e : ℕ → Option GateAt) (ks : List ℕ) → AreOnly f None h e
+pub foremost_left : (f : ℕ → Bool) (h e : ℕ → Option GateAt) (ks : List ℕ) → AreOnly f None h e
     → foremost number_of (map h (filter f ks)) ≡ foremost number_of (map e ks)
 unfolding foremost
 foremost_left f h e [] only = refl
@@ -95,7 +100,7 @@ foremost_left f h e (k ∷ ks) only =
     first None same = same
     first (Some x) same = ap (ahead number_of x) same
 
-all_left : (test : Option GateAt → Bool) (f : ℕ → Bool) (h e : ℕ → Option GateAt) (ks : List ℕ) → test None ≡ true → AreOnly f None h e
+pub all_left : (test : Option GateAt → Bool) (f : ℕ → Bool) (h e : ℕ → Option GateAt) (ks : List ℕ) → test None ≡ true → AreOnly f None h e
     → list_all test (map h (filter f ks)) ≡ list_all test (map e ks)
 all_left test f h e [] none only = refl
 all_left test f h e (k ∷ ks) none only =
@@ -106,7 +111,7 @@ all_left test f h e (k ∷ ks) none only =
           ∙ ap (λ b. b && list_all test (map e ks)) (sym (ap test (only.1 k other) ∙ none))
     ]
 
-any_left : (f g e : ℕ → Bool) (ks : List ℕ) → AreOnly f false g e → list_any g (filter f ks) ≡ list_any e ks
+pub any_left : (f g e : ℕ → Bool) (ks : List ℕ) → AreOnly f false g e → list_any g (filter f ks) ≡ list_any e ks
 any_left f g e [] only = refl
 any_left f g e (k ∷ ks) only =
     elim (cases_Bool (f k)) [
@@ -154,7 +159,7 @@ any_one test h (k ∷ ks) is =
     ]
 
 -- none has a greater number than the foremost
-foremost_most : (h : ℕ → Option GateAt) (ks : List ℕ) (p : ℕ) (x : GateAt) → names ks p ≡ true → h p ≡ Some x
+pub foremost_most : (h : ℕ → Option GateAt) (ks : List ℕ) (p : ℕ) (x : GateAt) → names ks p ≡ true → h p ≡ Some x
     → (z : GateAt) × (foremost number_of (map h ks) ≡ Some z) × (number_of x ≤ number_of z)
 unfolding foremost
 foremost_most h [] p x named is = absurd (both_ways false refl named)
@@ -196,6 +201,20 @@ pub record Looks (on gone : List ℕ) (a r b : Seen) (s t : Scan) (broken : Opti
   pub disks : a.disks ≡ 272
   pub lost_are : (p : ℕ) → names gone p ≡ went t.lost.places p
   pub told : (p : ℕ) → names on p ≡ true → a.told (log_slice p)
+  pub slices : (p : ℕ) → names on p ≡ true → gate_sector < a.sectors (log_slice p)
+
+-- a gate as it reads now
+reads_gate : (a : Seen) (p : ℕ) → gate_sector < a.sectors (log_slice p) → reading a (log_slice p) gate_sector ≡ (a.held (log_slice p) gate_sector).current
+reads_gate a p there = ap (λ b. if b then (a.held (log_slice p) gate_sector).current else []) (lt-ltb gate_sector (a.sectors (log_slice p)) there)
+
+-- what a scan says of a place that was asked for and is left
+each_reads : {a r : Seen} (on : List ℕ) (s : Scan) (p : ℕ) → IsScan on 16 a r s → p < 16 → names on p ≡ true → went s.lost.places p ≡ false → a.told (log_slice p)
+    → gate_sector < a.sectors (log_slice p)
+    → (gate_seen s.gates p ≡ gate_in (reading a) p) × (went s.damaged.places p ≡ is_bad_gate (reading a) p)
+each_reads {a} on s p scan few named left told there =
+    let is = scan.each p few named left told in
+    let same : (a.held (log_slice p) gate_sector).current ≡ reading a (log_slice p) gate_sector = sym (reads_gate a p there) in
+    (is.0 ∙ ap gate_of same, is.1 ∙ ap (λ (block : List ℕ). is_there block && is_none (gate_of block)) same)
 
 not_true : (b : Bool) → not b ≡ true → b ≡ false
 not_true true is = absurd (both_ways false refl is)
@@ -207,6 +226,12 @@ is_here : (on gone : List ℕ) (a r b : Seen) (s t : Scan) (broken : Option ℕ)
 is_here on gone a r b s t broken xs p looks left =
     let parts = and_parts (names on p) (not (names gone p)) left in
     (parts.0, sym (looks.lost_are p) ∙ not_true (names gone p) parts.1)
+
+each_after : (on gone : List ℕ) (a r b : Seen) (s t : Scan) (broken : Option ℕ) (xs : List Target) (p : ℕ) → Looks on gone a r b s t broken xs
+    → (names on p ≡ true) × (went t.lost.places p ≡ false)
+    → (gate_seen t.gates p ≡ gate_in (reading a) p) × (went t.damaged.places p ≡ is_bad_gate (reading a) p)
+each_after on gone a r b s t broken xs p looks here =
+    each_reads on t p (scan_dropped on s t looks.scan looks.drops) (looks.few p here.0) here.0 here.1 (looks.told p here.0) (looks.slices p here.0)
 
 nothing_else : (on gone : List ℕ) (a r b : Seen) (s t : Scan) (broken : Option ℕ) (xs : List Target) (p : ℕ) → Looks on gone a r b s t broken xs
     → is_left on gone p ≡ false → (gate_seen t.gates p ≡ None) × (went t.damaged.places p ≡ false)
@@ -221,33 +246,33 @@ nothing_else on gone a r b s t broken xs p looks other =
     ])
 
 seen_left : (on gone : List ℕ) (a r b : Seen) (s t : Scan) (broken : Option ℕ) (xs : List Target) → Looks on gone a r b s t broken xs
-    → AreOnly (is_left on gone) None (gate_at (current_in a.held)) (at_seen t.gates)
+    → AreOnly (is_left on gone) None (gate_at (reading a)) (at_seen t.gates)
 seen_left on gone a r b s t broken xs looks = (
   λ p left.
       let here = is_here on gone a r b s t broken xs p looks left in
-      let each = (scan_dropped on s t looks.scan looks.drops).each p (looks.few p here.0) here.0 here.1 (looks.told p here.0) in
+      let each = each_after on gone a r b s t broken xs p looks here in
       ap (λ (o : Option Gate). option_map (λ g. record { place = p; gate = g }) o) (sym each.0),
   λ p other. ap (λ (o : Option Gate). option_map (λ g. record { place = p; gate = g }) o) (nothing_else on gone a r b s t broken xs p looks other).0,
 )
 
 bad_left : (on gone : List ℕ) (a r b : Seen) (s t : Scan) (broken : Option ℕ) (xs : List Target) → Looks on gone a r b s t broken xs
-    → AreOnly (is_left on gone) false (is_bad_gate (current_in a.held)) (went t.damaged.places)
+    → AreOnly (is_left on gone) false (is_bad_gate (reading a)) (went t.damaged.places)
 bad_left on gone a r b s t broken xs looks = (
   λ p left.
       let here = is_here on gone a r b s t broken xs p looks left in
-      sym ((scan_dropped on s t looks.scan looks.drops).each p (looks.few p here.0) here.0 here.1 (looks.told p here.0)).1,
+      sym (each_after on gone a r b s t broken xs p looks here).1,
   λ p other. (nothing_else on gone a r b s t broken xs p looks other).1,
 )
 
 -- a gate that was read, when it was
 read_in : (on gone : List ℕ) (a r b : Seen) (s t : Scan) (broken : Option ℕ) (xs : List Target) (p : ℕ) (g : Gate) → Looks on gone a r b s t broken xs
-    → gate_seen s.gates p ≡ Some g → (names on p ≡ true) × (gate_in (current_in a.held) p ≡ Some g)
+    → gate_seen s.gates p ≡ Some g → (names on p ≡ true) × (gate_in (reading a) p ≡ Some g)
 read_in on gone a r b s t broken xs p g looks has =
     elim (cases_Bool (names on p)) [
       | inr none ↦ absurd (none-some g (sym (looks.scan.out p (inr (inl none))).0 ∙ has))
       | inl named ↦ elim (cases_Bool (went s.lost.places p)) [
         | inl lost ↦ absurd (none-some g (sym (looks.scan.out p (inl lost)).0 ∙ has))
-        | inr stays ↦ (named, sym (looks.scan.each p (looks.few p named) named stays (looks.told p named)).0 ∙ has)
+        | inr stays ↦ (named, sym (each_reads on s p looks.scan (looks.few p named) named stays (looks.told p named) (looks.slices p named)).0 ∙ has)
       ]
     ]
 
@@ -264,18 +289,18 @@ at_gate gates p z is = of_gate (gate_seen gates p) is
 -- ---- the pending record
 
 pending_same : (on gone : List ℕ) (a r b : Seen) (s t : Scan) (broken : Option ℕ) (xs : List Target) → Looks on gone a r b s t broken xs
-    → pending_at (left_of on gone) (current_in a.held) ≡ pending_seen t.gates
+    → pending_at (left_of on gone) (reading a) ≡ pending_seen t.gates
 unfolding pending_at pending_seen
 pending_same on gone a r b s t broken xs looks =
-    let only : AreOnly (is_left on gone) None (gate_at (current_in a.held)) (at_seen t.gates) = seen_left on gone a r b s t broken xs looks in
-    ap (λ (o : Option GateAt). option_and_then (λ x. if list_all (is_open_if_of x.gate.number) (gates_in (left_of on gone) (current_in a.held)) then Some x else None) o)
-    (foremost_left (is_left on gone) (gate_at (current_in a.held)) (at_seen t.gates) (range_with_len 0 16) only)
+    let only : AreOnly (is_left on gone) None (gate_at (reading a)) (at_seen t.gates) = seen_left on gone a r b s t broken xs looks in
+    ap (λ (o : Option GateAt). option_and_then (λ x. if list_all (is_open_if_of x.gate.number) (gates_in (left_of on gone) (reading a)) then Some x else None) o)
+    (foremost_left (is_left on gone) (gate_at (reading a)) (at_seen t.gates) (range_with_len 0 16) only)
     ∙ by_each (decisive_seen t.gates)
-    (λ n. all_left (is_open_if_of n) (is_left on gone) (gate_at (current_in a.held)) (at_seen t.gates) (range_with_len 0 16) refl only)
+    (λ n. all_left (is_open_if_of n) (is_left on gone) (gate_at (reading a)) (at_seen t.gates) (range_with_len 0 16) refl only)
   where
     by_each : (o : Option GateAt)
-        → ((n : ℕ) → list_all (is_open_if_of n) (gates_in (left_of on gone) (current_in a.held)) ≡ list_all (is_open_if_of n) (all_seen t.gates))
-        → option_and_then (λ x. if list_all (is_open_if_of x.gate.number) (gates_in (left_of on gone) (current_in a.held)) then Some x else None) o
+        → ((n : ℕ) → list_all (is_open_if_of n) (gates_in (left_of on gone) (reading a)) ≡ list_all (is_open_if_of n) (all_seen t.gates))
+        → option_and_then (λ x. if list_all (is_open_if_of x.gate.number) (gates_in (left_of on gone) (reading a)) then Some x else None) o
         ≡ option_and_then (λ x. if list_all (is_open_if_of x.gate.number) (all_seen t.gates) then Some x else None) o
     by_each None each = refl
     by_each (Some x) each = ap (λ b. if b then Some x else None) (each x.gate.number)
@@ -290,12 +315,13 @@ pending_left on gone a r b s t broken xs x looks is =
     ]
 
 record_is : (on gone : List ℕ) (a r b : Seen) (s t : Scan) (broken : Option ℕ) (xs : List Target) (x : GateAt) → Looks on gone a r b s t broken xs
-    → pending_seen t.gates ≡ Some x → record_in (current_in a.held) x.place x.gate.number ≡ (if is_none broken then Some xs else None)
+    → pending_seen t.gates ≡ Some x → record_in (reading a) x.place x.gate.number ≡ (if is_none broken then Some xs else None)
 record_is on gone a r b s t broken xs x looks is =
     let here = is_here on gone a r b s t broken xs x.place looks (pending_left on gone a r b s t broken xs x looks is) in
     let told : a.told (log_slice x.place) = looks.told x.place here.0 in
-    looks.loads.loaded x is (looks.scan.reads.stays.told (log_slice x.place) told) (current_in a.held (log_slice x.place))
-    (agrees_later (log_slice x.place) (current_in a.held (log_slice x.place)) looks.scan.reads (omega (arith, looks.disks, looks.few x.place here.0)) told (λ k below unspent. refl))
+    looks.loads.loaded x is (looks.scan.reads.stays.told (log_slice x.place) told) (reading a (log_slice x.place))
+    (agrees_later (log_slice x.place) (reading a (log_slice x.place)) looks.scan.reads (omega (arith, looks.disks, looks.few x.place here.0)) told
+    (λ k below unspent. ap (λ b. if b then (a.held (log_slice x.place) k).current else []) (lt-ltb k (a.sectors (log_slice x.place)) below)))
 
 and_false : (b : Bool) → (b && false) ≡ false
 and_false true = refl
@@ -321,9 +347,9 @@ eq_swap m n =
 -- ---- what is damaged
 
 damaged_left : (on gone : List ℕ) (a r b : Seen) (s t : Scan) (broken : Option ℕ) (xs : List Target) → Looks on gone a r b s t broken xs
-    → AreOnly (is_left on gone) false (is_bad_log (left_of on gone) (current_in a.held)) (is_damaged broken t)
+    → AreOnly (is_left on gone) false (is_bad_log (left_of on gone) (reading a)) (is_damaged broken t)
 damaged_left on gone a r b s t broken xs looks =
-    let c : Image = current_in a.held in
+    let c : Image = reading a in
     let bad : AreOnly (is_left on gone) false (is_bad_gate c) (went t.damaged.places) = bad_left on gone a r b s t broken xs looks in (
       λ p left.
           ap₂ (λ x y. x || y) (bad.0 p left)
@@ -334,7 +360,7 @@ damaged_left on gone a r b s t broken xs looks =
     )
   where
     of_pending : (p : ℕ) (o : Option GateAt) → pending_seen t.gates ≡ o
-        → option_map_or (λ x. (x.place == p) && is_none (record_in (current_in a.held) x.place x.gate.number)) o false ≡ option_map_or (λ q. p == q) broken false
+        → option_map_or (λ x. (x.place == p) && is_none (record_in (reading a) x.place x.gate.number)) o false ≡ option_map_or (λ q. p == q) broken false
     of_pending p None is = sym (ap (λ (o : Option ℕ). option_map_or (λ q. p == q) o false) (looks.loads.none is).1)
     of_pending p (Some x) is =
         ap (λ (o : Option (List Target)). (x.place == p) && is_none o) (record_is on gone a r b s t broken xs x looks is)
@@ -360,13 +386,13 @@ damaged_left on gone a r b s t broken xs looks =
 -- ---- its targets
 
 targets_are : (on gone : List ℕ) (a r b : Seen) (s t : Scan) (broken : Option ℕ) (xs : List Target) → Looks on gone a r b s t broken xs
-    → (if is_none (find (is_damaged broken t) (range_with_len 0 16)) then xs else []) ≡ pending (left_of on gone) (current_in a.held)
+    → (if is_none (find (is_damaged broken t) (range_with_len 0 16)) then xs else []) ≡ pending (left_of on gone) (reading a)
 unfolding pending
 targets_are on gone a r b s t broken xs looks =
     of_pending (pending_seen t.gates) refl
     ∙ sym
-    (ap₂ (λ (bad : Bool) (o : Option GateAt). if bad then [] else unwrap_or (option_and_then (λ x. record_in (current_in a.held) x.place x.gate.number) o) [])
-    (any_left (is_left on gone) (is_bad_gate (current_in a.held)) (went t.damaged.places) (range_with_len 0 16) (bad_left on gone a r b s t broken xs looks))
+    (ap₂ (λ (bad : Bool) (o : Option GateAt). if bad then [] else unwrap_or (option_and_then (λ x. record_in (reading a) x.place x.gate.number) o) [])
+    (any_left (is_left on gone) (is_bad_gate (reading a)) (went t.damaged.places) (range_with_len 0 16) (bad_left on gone a r b s t broken xs looks))
     (pending_same on gone a r b s t broken xs looks))
   where
     same : (b : Bool) (ys : List Target) → (if b then ys else ys) ≡ ys
@@ -379,7 +405,7 @@ targets_are on gone a r b s t broken xs looks =
 
     of_pending : (o : Option GateAt) → pending_seen t.gates ≡ o
         → (if is_none (find (is_damaged broken t) (range_with_len 0 16)) then xs else [])
-        ≡ (if list_any (went t.damaged.places) (range_with_len 0 16) then [] else unwrap_or (option_and_then (λ x. record_in (current_in a.held) x.place x.gate.number) o) [])
+        ≡ (if list_any (went t.damaged.places) (range_with_len 0 16) then [] else unwrap_or (option_and_then (λ x. record_in (reading a) x.place x.gate.number) o) [])
     of_pending None is =
         ap (λ (ys : List Target). if is_none (find (is_damaged broken t) (range_with_len 0 16)) then ys else []) (looks.loads.none is).0
         ∙ same (is_none (find (is_damaged broken t) (range_with_len 0 16))) [] ∙ sym (same (list_any (went t.damaged.places) (range_with_len 0 16)) [])
@@ -402,11 +428,16 @@ targets_are on gone a r b s t broken xs looks =
 pub finds_of : (on gone : List ℕ) (a r b : Seen) (s t : Scan) (broken : Option ℕ) (xs : List Target) (m : LogView) → Looks on gone a r b s t broken xs
     → m.pending ≡ (if is_none (find (is_damaged broken t) (range_with_len 0 16)) then xs else [])
     → m.number ≡ option_map_or number_of (decisive_seen s.gates) 0 → m.is_open ≡ list_any is_open_gate (all_seen s.gates)
-    → Finds m on (left_of on gone) (is_some (pending_seen t.gates)) (find (is_damaged broken t) (range_with_len 0 16)) (current_in a.held)
+    → Finds m on (left_of on gone) (is_some (pending_seen t.gates)) (find (is_damaged broken t) (range_with_len 0 16)) (reading a)
 finds_of on gone a r b s t broken xs m looks targets number openness = record {
-  damaged_is = sym (find_left (is_left on gone) (is_bad_log (left_of on gone) (current_in a.held)) (is_damaged broken t) (range_with_len 0 16) (damaged_left on gone a r b s t broken xs looks));
+  damaged_is = sym (find_left (is_left on gone) (is_bad_log (left_of on gone) (reading a)) (is_damaged broken t) (range_with_len 0 16) (damaged_left on gone a r b s t broken xs looks));
   is_pending_is = ap (λ (o : Option GateAt). is_some o) (sym (pending_same on gone a r b s t broken xs looks));
   targets = targets ∙ targets_are on gone a r b s t broken xs looks;
+  each = λ p named.
+      let here = is_here on gone a r b s t broken xs p looks (left p named) in
+      let after = scan_dropped on s t looks.scan looks.drops in
+      let is = each_after on gone a r b s t broken xs p looks here in
+      sym is.1 ∙ after.either p (looks.few p here.0) here.0 here.1 ∙ ap (λ (o : Option Gate). is_none o) is.0;
   above = λ p g named is.
       let top = foremost_most (at_seen s.gates) (range_with_len 0 16) p (record { place = p; gate = g }) (in_range p named) (seen p g named is) in
       let most : m.number ≡ number_of top.0 = number ∙ ap (λ (o : Option GateAt). option_map_or number_of o 0) top.1 in
@@ -431,14 +462,14 @@ finds_of on gone a r b s t broken xs m looks targets number openness = record {
     in_range : (p : ℕ) → names (left_of on gone) p ≡ true → names (range_with_len 0 16) p ≡ true
     in_range p named = names_range 0 16 p (omega arith) (looks.few p (is_here on gone a r b s t broken xs p looks (left p named)).0)
 
-    seen : (p : ℕ) (g : Gate) → names (left_of on gone) p ≡ true → gate_in (current_in a.held) p ≡ Some g → at_seen s.gates p ≡ Some (record { place = p; gate = g })
+    seen : (p : ℕ) (g : Gate) → names (left_of on gone) p ≡ true → gate_in (reading a) p ≡ Some g → at_seen s.gates p ≡ Some (record { place = p; gate = g })
     seen p g named is =
         let here = is_here on gone a r b s t broken xs p looks (left p named) in
-        let each = (scan_dropped on s t looks.scan looks.drops).each p (looks.few p here.0) here.0 here.1 (looks.told p here.0) in
+        let each = each_after on gone a r b s t broken xs p looks here in
         ap (λ (o : Option Gate). option_map (λ h. record { place = p; gate = h }) o) (drops_had s t p g looks.drops (each.0 ∙ is))
 
     of_decisive : (o : Option GateAt) → decisive_seen s.gates ≡ o
-        → (m.number ≡ 0) ⊎ ((p : ℕ) × (g : Gate) × (names on p ≡ true) × (gate_in (current_in a.held) p ≡ Some g) × (g.number ≡ m.number))
+        → (m.number ≡ 0) ⊎ ((p : ℕ) × (g : Gate) × (names on p ≡ true) × (gate_in (reading a) p ≡ Some g) × (g.number ≡ m.number))
     of_decisive None is = inl (number ∙ ap (λ (o : Option GateAt). option_map_or number_of o 0) is)
     of_decisive (Some z) is =
         let of = foremost_among (at_seen s.gates) (range_with_len 0 16) z is in
@@ -446,7 +477,7 @@ finds_of on gone a r b s t broken xs m looks targets number openness = record {
         inr (of.place, z.gate, has.0, has.1, sym (number ∙ ap (λ (o : Option GateAt). option_map_or number_of o 0) is))
 
     of_open : (p : ℕ) (o : Option Gate) → gate_seen s.gates p ≡ o → is_open_gate (at_seen s.gates p) ≡ true
-        → (p : ℕ) × (g : Gate) × (names on p ≡ true) × (gate_in (current_in a.held) p ≡ Some g) × (g.is_open ≡ true)
+        → (p : ℕ) × (g : Gate) × (names on p ≡ true) × (gate_in (reading a) p ≡ Some g) × (g.is_open ≡ true)
     of_open p None seen is =
         absurd (both_ways false refl (sym (ap (λ (o : Option Gate). is_open_gate (option_map (λ h. record { place = p; gate = h }) o)) seen) ∙ is))
     of_open p (Some g) seen is =
@@ -464,12 +495,12 @@ scan_asked on s p scan has =
 -- looking for the pending record
 pub looks_call : (on gone : List ℕ) (a r b : Seen) (s t : Scan) (broken : Option ℕ) (xs : List Target) (l m : LogView)
     → IsScan on 16 a r s → Drops r b s t → Loads r t.gates broken xs → ((p : ℕ) → names on p ≡ true → p < 16) → a.disks ≡ 272
-    → ((p : ℕ) → names gone p ≡ went t.lost.places p) → gone ≡ in_order gone
+    → ((p : ℕ) → names on p ≡ true → gate_sector < a.sectors (log_slice p)) → ((p : ℕ) → names gone p ≡ went t.lost.places p) → gone ≡ in_order gone
     → m.added ≡ l.added → m.is_lent ≡ true
     → m.pending ≡ (if is_none (find (is_damaged broken t) (range_with_len 0 16)) then xs else [])
     → m.number ≡ option_map_or number_of (decisive_seen s.gates) 0 → m.is_open ≡ list_any is_open_gate (all_seen s.gates)
     → PendingCall l m on gone (is_some (pending_seen t.gates)) (find (is_damaged broken t) (range_with_len 0 16)) a b
-looks_call on gone a r b s t broken xs l m scan drops loads few disks lost_are ordered added lent targets number openness =
+looks_call on gone a r b s t broken xs l m scan drops loads few disks slices lost_are ordered added lent targets number openness =
     let after : IsScan on 16 a b t = scan_dropped on s t scan drops in
     record {
       reads = after.reads;
@@ -479,5 +510,5 @@ looks_call on gone a r b s t broken xs l m scan drops loads few disks lost_are o
       lent = lent;
       finds = λ told.
           finds_of on gone a r b s t broken xs m
-          (record { scan = scan; drops = drops; loads = loads; few = few; disks = disks; lost_are = lost_are; told = told }) targets number openness;
+          (record { scan = scan; drops = drops; loads = loads; few = few; disks = disks; lost_are = lost_are; told = told; slices = slices }) targets number openness;
     }

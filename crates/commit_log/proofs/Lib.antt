@@ -31,3 +31,6 @@ pub mod Replaying
 pub mod ReplayCalls
 pub mod Scanning
 pub mod Finding
+pub mod Fewer
+pub mod Epochs
+pub mod Replayable

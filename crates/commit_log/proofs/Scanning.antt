@@ -31,6 +31,7 @@ scan_start on a s fit gates damaged lost = record {
   out = λ p cause. (gates p, damaged p);
   apart = λ p g is. damaged p;
   each = λ p below named left told. absurd (omega (arith, below));
+  either = λ p below named left. absurd (omega (arith, below));
 }
 
 -- a place that isn't asked for
@@ -44,6 +45,11 @@ scan_over on k s other scan = record {
   each = λ p below named left told.
       elim (cases_lt p k) [
         | inl early ↦ scan.each p early named left told
+        | inr late ↦ let last : p ≡ k = omega (arith, below, late) in absurd (both_ways (names on k) other (ap (names on) (sym last) ∙ named))
+      ];
+  either = λ p below named left.
+      elim (cases_lt p k) [
+        | inl early ↦ scan.either p early named left
         | inr late ↦ let last : p ≡ k = omega (arith, below, late) in absurd (both_ways (names on k) other (ap (names on) (sym last) ∙ named))
       ];
 }
@@ -99,6 +105,15 @@ scan_found {a} {b} {c} on k s t here has within scan reads found = record {
         | inr other ↦
             let old = scan.each p (omega (arith, below, other)) named (sym (found.lost p other) ∙ left) told in
             (found.gates p other ∙ old.0, found.damaged p other ∙ old.1)
+      ];
+  either = λ p below named left.
+      elim (cases_eq p k) [
+        | inl last ↦
+            ap (went t.damaged.places) last ∙ found.either (ap (went t.lost.places) (sym last) ∙ left)
+            ∙ ap (λ q. is_none (gate_seen t.gates q)) (sym last)
+        | inr other ↦
+            found.damaged p other ∙ scan.either p (omega (arith, below, other)) named (sym (found.lost p other) ∙ left)
+            ∙ ap (λ (o : Option Gate). is_none o) (sym (found.gates p other))
       ];
 }
 

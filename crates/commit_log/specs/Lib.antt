@@ -6,3 +6,4 @@ pub mod Commits
 pub mod Scans
 pub mod Opening
 pub mod Kept
+pub mod AtRest

@@ -1,5 +1,5 @@
 -- What looking for a pending record and replaying it do.
-use Rattle.std.specs.Prelude.{◌≡◌, ◌≢◌, ◌⊎◌, ℕ, ◌<◌, ◌≤◌, Bool, true, false, List, [], Option, Some, None, is_some}
+use Rattle.std.specs.Prelude.{◌≡◌, ◌≢◌, ◌⊎◌, ℕ, ◌<◌, ◌≤◌, Bool, true, false, List, [], Option, Some, None, is_some, is_none}
 use Rattle.rack.specs.Values.{MayLeave, Keeps}
 use Rattle.rack.specs.Seen.{Image, Seen, IsLive, Stays, Rose}
 use Rattle.rack.specs.Moments.{Leaves}
@@ -7,9 +7,9 @@ use Rattle.rack.specs.Calls.{KeepsAll}
 use Rattle.rack.specs.Sequences.{OnlyReads, IsPayload}
 use Rattle.rack.specs.Targets.{Target, look}
 use Rattle.array_image.specs.Places.{log_slice, place_of}
-use Rattle.array_image.specs.Record.{Gate, GateAt, gate_sector, gate_of, gate_in, pending_at, pending, damaged_log}
+use Rattle.array_image.specs.Record.{Gate, GateAt, gate_sector, gate_of, gate_in, is_bad_gate, pending_at, pending, damaged_log}
 use Rattle.array_image.specs.Arrays.{replayed}
-use Rattle.array_image.specs.Held.{current_in}
+use Rattle.array_image.specs.Left.{reading}
 use Rattle.commit_log.specs.View.{LogView, names, left_of, in_order}
 use Rattle.commit_log.specs.Standing.{IsLogPart, IsAlike, IsInside, StatesStand, LogsStand, Decides, deciding, IsWhole, IsNumbered, SomeoneDecides}
 use Rattle.commit_log.specs.Commits.{Stands, HasGone, Rests}
@@ -21,6 +21,8 @@ pub record Finds (m : LogView) (on places : List ℕ) (is_pending : Bool) (damag
   pub damaged_is : damaged ≡ damaged_log places c
   pub is_pending_is : is_pending ≡ is_some (pending_at places c)
   pub targets : m.pending ≡ pending places c
+  -- each has a gate, well formed or not
+  pub each : (p : ℕ) → names places p ≡ true → is_bad_gate c p ≡ is_none (gate_in c p)
   -- the number is the greatest of their gates, or that of a place whose gate was read and which went later
   pub above : (p : ℕ) (g : Gate) → names places p ≡ true → gate_in c p ≡ Some g → g.number ≤ m.number
   pub number : (m.number ≡ 0) ⊎ ((p : ℕ) × (g : Gate) × (names on p ≡ true) × (gate_in c p ≡ Some g) × (g.number ≡ m.number))
@@ -37,7 +39,7 @@ pub record PendingCall (l m : LogView) (on gone : List ℕ) (is_pending : Bool) 
   pub lent : m.is_lent ≡ true
   pub finds :
       ((p : ℕ) → names on p ≡ true → a.told (log_slice p))
-      → Finds m on (left_of on gone) is_pending damaged (current_in a.held)
+      → Finds m on (left_of on gone) is_pending damaged (reading a)
 
 -- slices as a stop in a replay may leave them: gates and halves as before, and each copy of the state too or as a target has it
 pub record StandsAmid (xs : List Target) (x : Seen) (c : Image) : Type 0 where

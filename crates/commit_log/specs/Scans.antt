@@ -74,6 +74,7 @@ pub record IsFound (place : ℕ) (a b : Seen) (s t : Scan) : Type 0 where
       went t.lost.places place ≡ true
       → (gate_seen t.gates place ≡ None) × (went t.damaged.places place ≡ false) × Rose (a.faults (log_slice place)) (b.faults (log_slice place))
   pub apart : (g : Gate) → gate_seen t.gates place ≡ Some g → went t.damaged.places place ≡ false
+  pub either : went t.lost.places place ≡ false → went t.damaged.places place ≡ is_none (gate_seen t.gates place)
   pub here :
       went t.lost.places place ≡ false → a.told (log_slice place)
       → (a.spent (log_slice place) gate_sector ≡ false) × (gate_seen t.gates place ≡ gate_in (current_in a.held) place)
@@ -91,6 +92,8 @@ pub record IsScan (on : List ℕ) (many : ℕ) (a b : Seen) (s : Scan) : Type 0 
   pub each :
       (p : ℕ) → p < many → names on p ≡ true → went s.lost.places p ≡ false → a.told (log_slice p)
       → (gate_seen s.gates p ≡ gate_in (current_in a.held) p) × (went s.damaged.places p ≡ is_bad_gate (current_in a.held) p)
+  pub either :
+      (p : ℕ) → p < many → names on p ≡ true → went s.lost.places p ≡ false → went s.damaged.places p ≡ is_none (gate_seen s.gates p)
 
 -- ---- what was loaded
 

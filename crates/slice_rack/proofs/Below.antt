@@ -1,5 +1,5 @@
 -- What a call of the rack below is to the rack of its slices.
-use Rattle.std.proofs.Common.{◌≡◌, ℕ, ◌+◌, ◌≤◌, ◌<◌, ◌^◌, ◌==◌, ◌&&◌, if◌then◌else◌, inl, inr, Bool, true, false, List, Option, Some, None, Ok, Err, refl, sym, ap, subst, ◌∙◌, arith}
+use Rattle.std.proofs.Common.{◌≡◌, ℕ, ◌+◌, ◌<◌, ◌==◌, ◌&&◌, if◌then◌else◌, inl, inr, Bool, true, false, List, Option, Some, None, Ok, Err, refl, sym, ap, subst, ◌∙◌, arith}
 use Rattle.std.specs.Prelude.{unwrap_or}
 use Rattle.std.proofs.lemmas.Bool.{cases_eq, eq-eqb, eqb-true}
 use Rattle.rack.specs.declared.Gone.{Gone}
@@ -10,14 +10,7 @@ use Rattle.rack.specs.Calls.{KeepsAll, Reads, Writes}
 use Rattle.slice_rack.specs.Slices.{Slices, IsOrderly, seat_of, place_of, disk_of, first_of, sectors_of}
 use Rattle.slice_rack.specs.Sliced.{IsInside, Shows, slices_of}
 use Rattle.slice_rack.specs.Laws.{live_below, shows_inside}
-
--- the slices still lie inside
-inside_still : {t : Slices} {a b : Seen} → Stays a b → IsInside t a → IsInside t b
-inside_still {t} {a} {b} stays inside = record {
-  small = λ disk within. subst (λ n. n < 2 ^ 48) (sym (stays.sectors disk)) (inside.small disk (subst (λ n. disk < n) stays.disks within));
-  seats = λ place disk seat. subst (λ n. disk < n) (sym stays.disks) (inside.seats place disk seat);
-  slices = λ d some. subst (λ n. first_of t d + sectors_of t d ≤ n) (sym (stays.sectors (disk_of t d))) (inside.slices d some);
-}
+use Rattle.slice_rack.specs.Runs.{inside_still}
 
 -- what no call changes
 pub stays_sliced : {t : Slices} {a b : Seen} → IsInside t a → Stays a b → Stays (slices_of t a) (slices_of t b)

@@ -1,3 +1,4 @@
 pub mod Below
 pub mod Blank
 pub mod Tables
+pub mod Running

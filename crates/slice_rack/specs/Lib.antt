@@ -3,3 +3,4 @@ pub mod SliceRack
 pub mod Sliced
 pub mod Laws
 pub mod Changes
+pub mod Runs

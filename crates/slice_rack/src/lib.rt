@@ -22,6 +22,7 @@ ghost use Rattle.slice_rack.specs.Slices.{IsOrderly, seat_of, place_of, first_of
 ghost use Rattle.slice_rack.specs.Sliced.{slices_of};
 ghost use Rattle.slice_rack.specs.Changes.{IsEmpty, Seats, Adds, IsPast, IsWithin, Overlaps, IsFree};
 ghost use Rattle.slice_rack.specs.Laws.{is_sound};
+ghost use Rattle.slice_rack.specs.Runs.{Runs, runs_none, runs_join};
 
 use rack::{Gone, Rack};
 
@@ -123,7 +124,7 @@ impl<R: Rack> Rack for SliceRack<R> {
 
     ghost seen = { λ rack. slices_of (tables rack) (R.seen rack.rack) };
 
-    ghost runs = { λ old new. R.runs old.rack new.rack };
+    ghost runs = { λ old new. Runs (tables old) (tables new) (R.seen old.rack) (R.seen new.rack) (R.runs old.rack new.rack) };
 
     ghost lenders = { λ rack. R.lenders rack.rack };
 
@@ -166,11 +167,12 @@ impl<R: Rack> Rack for SliceRack<R> {
 
     ghost sound = { λ rack fit traced. is_sound (tables rack) (R.seen rack.rack) rack.orderly fit.1 (R.sound rack.rack fit.0 traced) };
 
-    ghost runs_same = { λ rack. R.runs_same rack.rack };
+    ghost runs_same = { λ rack. runs_none (tables rack) (R.seen rack.rack) (R.runs rack.rack rack.rack) (R.runs_same rack.rack) };
 
-    ghost runs_then = { λ x y z one two. R.runs_then x.rack y.rack z.rack one two };
+    ghost runs_then = { λ x y z one two. runs_join (tables x) (tables y) (tables z) (R.seen x.rack) (R.seen y.rack) (R.seen z.rack)
+        (R.runs x.rack y.rack) (R.runs y.rack z.rack) (R.runs x.rack z.rack) one two (R.runs_then x.rack y.rack z.rack one.below two.below) };
 
-    ghost runs_lenders = { λ x y runs. R.runs_lenders x.rack y.rack runs };
+    ghost runs_lenders = { λ x y runs. R.runs_lenders x.rack y.rack runs.below };
 }
 
 impl<R: Rack> SliceRack<R> {

@@ -1,4 +1,4 @@
-use Rattle.std.proofs.Common.{◌≡◌, ℕ, Bool, true, false, not, if◌then◌else◌, List, [], Option, Some, None, filter, find, is_some, is_none, option_map, refl, sym, ap, subst, ◌∙◌}
+use Rattle.std.proofs.Common.{◌≡◌, ℕ, Bool, true, false, not, if◌then◌else◌, List, [], Option, Some, None, filter, find, is_some, is_none, option_map, refl, sym, ap, subst, ◌∙◌, arith}
 use Rattle.std.specs.List.{range_with_len}
 use Rattle.std.proofs.lemmas.Bool.{both_ways}
 use Rattle.rack.specs.Targets.{Target}
@@ -60,6 +60,7 @@ returns-clause-looks g c =
     (subst (λ (ys : List ℕ). IsScan ys 16 a r s) c.as_slice.ensures.value c.of-scan.ensures.scan)
     c.load-broken.ensures.drops c.load-broken.ensures.loads
     (λ p named. (logs_named a.sectors on p c.requires.logs named).0) c.requires.disks
+    (λ p named. let log = logs_named a.sectors on p c.requires.logs named in omega (arith, log.1))
     (λ p. ap (λ (ys : List ℕ). names ys p) listed ∙ names_listed (went t.lost.places) c.list.ensures.beyond p)
     (listed ∙ listed_in_order (went t.lost.places) c.list.ensures.beyond ∙ ap in_order (sym listed))
     (ap (λ (l : LogView). l.added) c.self.view_is) refl
