@@ -130,7 +130,7 @@ runs_same pool extent f h parts l seqno same has = record {
 
 -- ---- lists
 
-mapped_to : {X Y : Type 0} (f : X → Y) (xs : List X) (i : ℕ) (x : X) → slice_get xs i ≡ Some x → slice_get (map f xs) i ≡ Some (f x)
+pub mapped_to : {X Y : Type 0} (f : X → Y) (xs : List X) (i : ℕ) (x : X) → slice_get xs i ≡ Some x → slice_get (map f xs) i ≡ Some (f x)
 mapped_to f [] i x at = cc
 mapped_to f (y ∷ ys) zero x at = cc
 mapped_to f (y ∷ ys) (suc i) x at = mapped_to f ys i x at
@@ -163,7 +163,7 @@ same_lists (x ∷ xs) (y ∷ ys) long each =
     let first : x ≡ y = let is : Some x ≡ Some y = each 0 y refl in cc in
     rw (first, same_lists xs ys (omega arith) (λ i z at. each (suc i) z at)) refl
 
-range_place : (from count i x : ℕ) → slice_get (range_with_len from count) i ≡ Some x → (x ≡ from + i) × (x < from + count)
+pub range_place : (from count i x : ℕ) → slice_get (range_with_len from count) i ≡ Some x → (x ≡ from + i) × (x < from + count)
 range_place from zero i x at = cc
 range_place from (suc count) zero x at = let same : from ≡ x = cc in (omega arith, omega arith)
 range_place from (suc count) (suc i) x at = let rest = range_place (from + 1) count i x at in let one = rest.0 in let two = rest.1 in (omega arith, omega arith)

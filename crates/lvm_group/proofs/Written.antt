@@ -32,7 +32,7 @@ abbrev pub written_part : List ℕ → ℕ → ℕ → ℕ → List ℕ → Opti
 written_part pool array sectors first text group =
     record { label = Some (own_label pool array sectors); header = Some (own_header (own_location (512 * first) text ∷ [])); group = group }
 
-label_there : (pool : List ℕ) (array sectors first : ℕ) (text : List ℕ) (a : Array) → HaveLabelsDecoded → IsWritten pool array sectors first text a → label_on a ≡ Some (own_label pool array sectors)
+pub label_there : (pool : List ℕ) (array sectors first : ℕ) (text : List ℕ) (a : Array) → HaveLabelsDecoded → IsWritten pool array sectors first text a → label_on a ≡ Some (own_label pool array sectors)
 label_there pool array sectors first text a labels is =
     rw (is.label, labels (own_label pool array sectors) (a 0) (a 2 ∷ a 3 ∷ []) is.is_label is.free) refl
 
@@ -81,12 +81,12 @@ mapped_at f [] i y at = cc
 mapped_at f (x ∷ xs) zero y at = (x, refl, cc)
 mapped_at f (x ∷ xs) (suc i) y at = mapped_at f xs i y at
 
-range_below : (from count i x : ℕ) → slice_get (range_with_len from count) i ≡ Some x → (from ≤ x) × (x < from + count)
+pub range_below : (from count i x : ℕ) → slice_get (range_with_len from count) i ≡ Some x → (from ≤ x) × (x < from + count)
 range_below from zero i x at = cc
 range_below from (suc count) zero x at = let same : from ≡ x = cc in (omega arith, omega arith)
 range_below from (suc count) (suc i) x at = let rest = range_below (from + 1) count i x at in let one = rest.0 in let two = rest.1 in (omega arith, omega arith)
 
-find_none : (p : ℕ → Bool) (xs : List ℕ) → ((i x : ℕ) → slice_get xs i ≡ Some x → p x ≡ false) → find p xs ≡ None
+pub find_none : (p : ℕ → Bool) (xs : List ℕ) → ((i x : ℕ) → slice_get xs i ≡ Some x → p x ≡ false) → find p xs ≡ None
 find_none p [] fails = refl
 find_none p (x ∷ xs) fails = rw (fails 0 x refl) (find_none p xs (λ i y at. fails (suc i) y at))
 

@@ -1,5 +1,5 @@
 -- The volume group of a pool as its arrays' contents say it, and the volume that it keeps.
-use Rattle.std.specs.Prelude.{ℕ, ◌+◌, ◌*◌, ◌^◌, ◌==◌, ◌&&◌, ◌||◌, Bool, true, false, nat_le, nat_lt, not, is_some, bytes_eq, if◌then◌else◌, List, [], ◌∷◌, length, map, Option, Some, None, option_map}
+use Rattle.std.specs.Prelude.{ℕ, ◌+◌, ◌*◌, ◌^◌, ◌==◌, ◌&&◌, ◌||◌, Bool, true, false, nat_le, nat_lt, not, is_some, bytes_eq, min, max, if◌then◌else◌, List, [], ◌∷◌, length, map, Option, Some, None, option_map}
 use Rattle.std.specs.Option.{option_map_or}
 use Rattle.std.specs.List.{find, list_all, list_any, range_with_len}
 use Rattle.rack.specs.Seen.{Image}
@@ -103,7 +103,7 @@ lies_in pvs run = option_map_or (λ (pv : Pv). nat_le (run.first + run.count) pv
 
 -- two runs share no extent of an array
 abbrev pub are_apart : Run → Run → Bool
-are_apart run other = not (run.array == other.array) || (nat_le (run.first + run.count) other.first || nat_le (other.first + other.count) run.first)
+are_apart run other = not (run.array == other.array) || nat_le (min (run.first + run.count) (other.first + other.count)) (max run.first other.first)
 
 unfoldable pub all_apart : List Run → Bool
 all_apart [] = true

@@ -15,3 +15,4 @@ pub mod Made
 pub mod Opening
 pub mod Changing
 pub mod Extending
+pub mod Images

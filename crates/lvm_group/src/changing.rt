@@ -6,12 +6,14 @@ ghost use Rattle.lvm_text.specs.Printed.{printed};
 ghost use Rattle.lvm_group.specs.Changing.{Changes};
 ghost use Rattle.lvm_group.specs.Extending.{next_seqno};
 ghost use Rattle.lvm_group.specs.Own.{HoldAll, own_group};
+ghost use Rattle.lvm_group.specs.Writing.{IsReadBack};
 
 use crate::making::sizes;
 use crate::printing::print_own;
 use crate::runs::Run;
 use crate::starts::read_starts;
-use crate::writing::put_new;
+use crate::writing::{own_labels_fit, own_locations_fit, put_new};
+use lvm_label::{encoded_headers_decode, encoded_labels_decode};
 use lvm_text::Text;
 use rack::{Gone, Rack};
 use shr_base::Id;
@@ -64,6 +66,8 @@ pub(crate) fn put_grown<R: Rack>(
     requires short { length runs.now ≤ 1024 }
     requires room { 262144 ≤ length text.old.bytes + text.old.spare }
     ensures changes { Changes pool.now.0 (printed (own_group pool.now.0 extent (R.seen rack.old).sectors seqno numbers.now runs.now)) (length numbers.now) (R.seen rack.old) (R.seen rack.new) result }
+    ensures read_back { IsReadBack pool.now.0 (printed (own_group pool.now.0 extent (R.seen rack.old).sectors seqno numbers.now runs.now)) (length numbers.now)
+        (R.seen rack.old).sectors (own_group pool.now.0 extent (R.seen rack.old).sectors seqno numbers.now runs.now) }
     ensures room { length text.old.bytes + text.old.spare ≤ length text.new.bytes + text.new.spare }
     ensures runs { R.runs rack.old rack.new }
 {
@@ -71,5 +75,10 @@ pub(crate) fn put_grown<R: Rack>(
     let sectors = sizes(rack, arrays);
     text.clear();
     print_own(pool, extent, sectors.as_slice(), seqno, numbers, runs, text);
-    put_change(rack, pool, arrays, text.as_slice())
+    encoded_labels_decode();
+    encoded_headers_decode();
+    own_labels_fit(rack, pool, arrays);
+    let printed = text.as_slice();
+    own_locations_fit(printed);
+    put_change(rack, pool, arrays, printed)
 }

@@ -116,6 +116,8 @@ impl<R: Rack> Volume<R> {
     ghost use Rattle.lvm_group.specs.Changing.{Changes};
     ghost use Rattle.lvm_group.specs.Extending.{extended, next_group, next_seqno};
     ghost use Rattle.lvm_group.specs.Growth.{AreBelow, fits};
+    ghost use Rattle.lvm_group.specs.Images.{IsNew, IsOldOrNew};
+    ghost use Rattle.rack.specs.Moments.{Leaves};
     ghost use Rattle.lvm_group.specs.Made.{IsUnmade, Makes, made_targets, new_volume};
     ghost use Rattle.lvm_group.specs.Own.{HoldAll};
     ghost use Rattle.lvm_group.specs.Opening.{IsUnopened, Opens};
@@ -265,6 +267,9 @@ impl<R: Rack> Volume<R> {
         requires fits { IsTrue (fits (linear self.old).runs extents.now) }
         ensures changes { Changes (pool_of self.old) (printed (next_group (pool_of self.old) (linear self.old) (R.seen (below_of self.old)).sectors (seqno_of self.old) extents.now))
             (length extents.now) (R.seen (below_of self.old)) (R.seen (below_of self.new)) result }
+        ensures images { (R.seen (below_of self.old)).traced → Leaves (R.seen (below_of self.old)) (R.seen (below_of self.new))
+            (IsOldOrNew (pool_of self.old) (linear self.old) (seqno_of self.old) extents.now (R.seen (below_of self.old)) (R.seen (below_of self.new))) }
+        ensures renewed { OnOk result (IsNew (pool_of self.old) (linear self.old) (seqno_of self.old) extents.now (R.seen (below_of self.old)) (R.seen (below_of self.new))) }
         ensures volume { OnOk result (linear self.new ≡ extended (linear self.old) extents.now) }
         ensures seqno { OnOk result (seqno_of self.new ≡ next_seqno (seqno_of self.old)) }
         ensures same { OnErr result ((linear self.new ≡ linear self.old) × (seqno_of self.new ≡ seqno_of self.old)) }
