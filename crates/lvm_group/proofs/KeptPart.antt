@@ -1,5 +1,5 @@
 -- An array on which a new text is being written says what it said, as long as its header hasn't the new text.
-use Rattle.std.proofs.Common.{◌≡◌, ◌⊎◌, ℕ, ◌<◌, ◌≤◌, Bool, true, false, not, List, [], ◌∷◌, Option, Some, None, refl, sym, ap, subst, ◌∙◌, inl, inr, arith, length}
+use Rattle.std.proofs.Common.{◌≡◌, ◌⊎◌, ℕ, ◌<◌, ◌≤◌, Bool, true, false, not, List, [], ◌∷◌, Option, Some, None, refl, sym, ap, ◌∙◌, inl, inr, arith, length}
 use Rattle.std.specs.Prelude.{◌&&◌, bytes_eq, is_some, nat_eq, option_map, slice_get}
 use Rattle.std.specs.List.{starts_with}
 use Rattle.std.specs.Option.{option_and_then, option_map_or}
@@ -12,12 +12,11 @@ use Rattle.lvm_label.specs.Label.{HaveLabelsDecoded, IsLabel, label_bytes, label
 use Rattle.lvm_label.specs.Header.{HaveHeadersDecoded, header_bytes, header_of}
 use Rattle.lvm_text.specs.declared.group.Group.{Group}
 use Rattle.lvm_group.specs.declared.parts.Part.{Part}
-use Rattle.lvm_group.specs.declared.starts.TextStart.{TextStart}
 use Rattle.lvm_group.specs.Changing.{next_sector, sector_behind, start_by, start_of}
 use Rattle.lvm_group.specs.Group.{has_own_label}
 use Rattle.lvm_group.specs.Ids.{label_id, pv_id}
 use Rattle.lvm_group.specs.Images.{HasOwnArea}
-use Rattle.lvm_group.specs.Parts.{Array, area_of, group_at, group_in_area, has_bad_text, header_at, is_inside, label_on, location_in, part_by, part_of, whole_area}
+use Rattle.lvm_group.specs.Parts.{Array, group_at, group_in_area, has_bad_text, header_at, is_inside, label_on, location_in, part_by, part_of, whole_area}
 use Rattle.lvm_group.specs.Writing.{own_area, own_header, own_label, place_at, text_sectors}
 use Rattle.lvm_group.proofs.KeptText.{group_kept}
 use Rattle.lvm_group.proofs.NewTargets.{place_bounds}
@@ -164,16 +163,16 @@ said_kept : (pool : List ℕ) (array sectors : ℕ) (text : List ℕ) (a i : Arr
 said_kept pool array sectors text a i is =
     said_by i (header_on i) ∙ ap (option_and_then (group_at i own_area)) (location_kept a i (header_kept pool array sectors text a i is)) ∙ go (first_location (header_on a)) refl
     ∙ sym (said_by a (header_on a)) where
-  at : (l : Location) → first_location (header_on a) ≡ Some l → group_at i own_area l ≡ group_at a own_area l
-  at l found =
-      group_kept a i l text is.short
-      (λ inside s least most apart.
-      let start = start_at_location (header_on a) l found inside in
-      is.kept.others s most (λ e. absurd (omega arith)) (λ e. absurd (omega arith)) (λ k below place. apart k below (ap (λ (first : ℕ). place_at first k) (sym start) ∙ place)))
+      at : (l : Location) → first_location (header_on a) ≡ Some l → group_at i own_area l ≡ group_at a own_area l
+      at l found =
+          group_kept a i l text is.short
+          (λ inside s least most apart.
+          let start = start_at_location (header_on a) l found inside in
+          is.kept.others s most (λ e. absurd (omega arith)) (λ e. absurd (omega arith)) (λ k below place. apart k below (ap (λ (first : ℕ). place_at first k) (sym start) ∙ place)))
 
-  go : (o : Option Location) → first_location (header_on a) ≡ o → option_and_then (group_at i own_area) (first_location (header_on a)) ≡ option_and_then (group_at a own_area) (first_location (header_on a))
-  go None found = ap (option_and_then (group_at i own_area)) found ∙ sym (ap (option_and_then (group_at a own_area)) found)
-  go (Some l) found = ap (option_and_then (group_at i own_area)) found ∙ at l found ∙ sym (ap (option_and_then (group_at a own_area)) found)
+      go : (o : Option Location) → first_location (header_on a) ≡ o → option_and_then (group_at i own_area) (first_location (header_on a)) ≡ option_and_then (group_at a own_area) (first_location (header_on a))
+      go None found = ap (option_and_then (group_at i own_area)) found ∙ sym (ap (option_and_then (group_at a own_area)) found)
+      go (Some l) found = ap (option_and_then (group_at i own_area)) found ∙ at l found ∙ sym (ap (option_and_then (group_at a own_area)) found)
 
 -- ---- what it says
 

@@ -36,3 +36,5 @@ pub mod KeptPart
 pub mod Mixed
 pub mod StopsMean
 pub mod Renewed
+pub mod Newest
+pub mod Brought

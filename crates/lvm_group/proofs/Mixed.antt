@@ -1,6 +1,6 @@
 -- What arrays mean of which each says what it said or a new group.
-use Rattle.std.proofs.Common.{◌≡◌, ◌⊎◌, ℕ, zero, suc, ◌+◌, ◌<◌, ◌≤◌, ◌==◌, ◌&&◌, Bool, true, false, not, List, [], ◌∷◌, Option, Some, None, refl, sym, ap, subst, ◌∙◌, inl, inr, arith, length, map}
-use Rattle.std.specs.Prelude.{◌||◌, cond, is_some, nat_lt, slice_get}
+use Rattle.std.proofs.Common.{◌≡◌, ◌⊎◌, ℕ, zero, suc, ◌<◌, ◌≤◌, ◌==◌, ◌&&◌, Bool, true, false, not, List, [], ◌∷◌, Option, Some, None, refl, sym, ap, ◌∙◌, inl, inr, arith, length, map}
+use Rattle.std.specs.Prelude.{◌||◌, cond, slice_get}
 use Rattle.std.specs.List.{find, range_with_len}
 use Rattle.std.specs.Option.{option_map_or}
 use Rattle.std.proofs.lemmas.Bool.{cases_lt, le-ltb, lt-ltb}
@@ -215,7 +215,7 @@ abbrev pub AreOneOf : List ℕ → (ℕ → ℕ) → ℕ → Group → Image →
 AreOneOf pool sectors joined new before c = (array : ℕ) → array < joined → IsOneOf pool array new (part_of (before array) (sectors array)) (part_of (c array) (sectors array))
 
 -- the group is the old one or the new one
-one_of_groups : (pool : List ℕ) (joined : ℕ) (sectors : ℕ → ℕ) (old new : Group) (before c : Image) → group_in before sectors joined ≡ Some old → old.seqno ≤ new.seqno
+pub one_of_groups : (pool : List ℕ) (joined : ℕ) (sectors : ℕ → ℕ) (old new : Group) (before c : Image) → group_in before sectors joined ≡ Some old → old.seqno ≤ new.seqno
     → AreOneOf pool sectors joined new before c → (group_in c sectors joined ≡ Some old) ⊎ (group_in c sectors joined ≡ Some new)
 one_of_groups pool joined sectors old new before c found later each =
     elim (highest_mixed new (groups_in before sectors joined) (groups_in c sectors joined) (groups_long c sectors joined ∙ sym (groups_long before sectors joined))

@@ -168,7 +168,7 @@ headers_at starts text n d s below =
     (λ j less differ. look_other_disk j 8 d s (header_bytes (own_header (own_location (512 * (start_at starts j).sector) text ∷ []))) differ)
 
 -- a sector that isn't the header's
-new_at : (pool : List ℕ) (sectors : ℕ → ℕ) (starts : List TextStart) (text : List ℕ) (n d s : ℕ) (o : Option (List ℕ)) → d < n → (8 ≡ s → ⊥) → look (first_targets pool sectors starts text d) d s ≡ o
+pub new_at : (pool : List ℕ) (sectors : ℕ → ℕ) (starts : List TextStart) (text : List ℕ) (n d s : ℕ) (o : Option (List ℕ)) → d < n → (8 ≡ s → ⊥) → look (first_targets pool sectors starts text d) d s ≡ o
     → look (new_targets pool sectors starts text n) d s ≡ o
 new_at pool sectors starts text n d s o below other is =
     look-append (targets_to (first_targets pool sectors starts text) n) (targets_to (header_target starts text) n) d s

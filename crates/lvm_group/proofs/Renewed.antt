@@ -1,12 +1,9 @@
 -- Stops in extending a volume leave the old group or the new one, and at its end the new one.
-use Rattle.std.proofs.Common.{◌≡◌, ◌⊎◌, ◌^◌, ℕ, zero, suc, ◌+◌, ◌*◌, ◌<◌, ◌≤◌, ◌==◌, true, false, Bool, List, [], ◌∷◌, Option, Some, Result, Ok, Err, refl, sym, ap, subst, ◌∙◌, inl, inr, arith, length}
-use Rattle.std.specs.Prelude.{OnOk, cond, is_some, nat_eq, slice_get}
-use Rattle.std.specs.List.{find, starts_with}
+use Rattle.std.proofs.Common.{◌≡◌, ◌^◌, ℕ, suc, ◌+◌, ◌*◌, ◌<◌, ◌≤◌, ◌==◌, true, false, Bool, List, [], ◌∷◌, Option, Some, Result, Ok, Err, refl, sym, ap, subst, ◌∙◌, inl, inr, arith, length}
+use Rattle.std.specs.Prelude.{OnOk, cond, is_some, slice_get}
 use Rattle.std.specs.Option.{option_map_or}
 use Rattle.std.proofs.lemmas.Bool.{cases_lt, eqb-true}
 use Rattle.lvm_label.specs.declared.label.Label.{Label}
-use Rattle.lvm_label.specs.Label.{label_word}
-use Rattle.lvm_text.specs.declared.group.Pv.{Pv}
 use Rattle.lvm_text.specs.declared.group.Group.{Group}
 use Rattle.lvm_text.specs.Printed.{printed}
 use Rattle.rack.specs.declared.Gone.{Gone}
@@ -18,21 +15,18 @@ use Rattle.rack.specs.Sequences.{IsMix, IsPayload}
 use Rattle.rack.proofs.Phases.{payload_none}
 use Rattle.lvm_group.specs.declared.parts.Part.{Part}
 use Rattle.lvm_group.specs.declared.runs.Run.{Run}
-use Rattle.lvm_group.specs.declared.starts.TextStart.{TextStart}
 use Rattle.lvm_group.specs.Changing.{Changes, IsInTurn}
 use Rattle.lvm_group.specs.Extending.{extended, next_group, next_seqno}
-use Rattle.lvm_group.specs.Group.{all_apart, has_own_label, is_own_group, linear_in, names, names_array, pv_of}
+use Rattle.lvm_group.specs.Group.{all_apart, has_own_label, is_own_group, linear_in, names, pv_of}
 use Rattle.lvm_group.specs.Growth.{fits, grown}
-use Rattle.lvm_group.specs.Ids.{array_named, pv_name}
-use Rattle.lvm_group.specs.Images.{HasOwnArea, HoldOnly, IsExtended, IsNew, IsOldOrNew, IsSettled, over}
-use Rattle.lvm_group.specs.Made.{AreTold}
+use Rattle.lvm_group.specs.Images.{HasOwnArea, IsNew, IsOldOrNew, IsSettled, over}
 use Rattle.lvm_group.specs.Own.{HoldAll, in_row, own_group, own_pv, own_pvs}
-use Rattle.lvm_group.specs.Parts.{label_on, part_of}
+use Rattle.lvm_group.specs.Parts.{part_of}
 use Rattle.lvm_group.specs.Runs.{Linear}
 use Rattle.lvm_group.specs.Writing.{IsReadBack, first_targets, header_target, new_targets, own_label, start_at, targets_to}
 use Rattle.lvm_group.proofs.Extended.{next_linear, next_writable}
 use Rattle.lvm_group.proofs.KeptPart.{IsKept, IsOneOf, area_kept}
-use Rattle.lvm_group.proofs.Mixed.{AreOneOf, array_sound, means_either, means_new, means_same}
+use Rattle.lvm_group.proofs.Mixed.{array_sound, means_either, means_new, means_same}
 use Rattle.lvm_group.proofs.NewTargets.{new_written}
 use Rattle.lvm_group.proofs.OwnText.{named, own_is_own}
 use Rattle.lvm_group.proofs.StopsMean.{IsChange, all_late, all_mixed, kept_one, now_is, past_none, writing, written_says}
@@ -49,18 +43,18 @@ unfolding own_pvs
 names_below pool sectors from [] array few there = cc
 names_below pool sectors from (number ∷ others) array few there =
     go (names array (own_pv pool (sectors from) from number)) refl there (names_below pool sectors (from + 1) others array (omega arith)) where
-  go : (test : Bool) → names array (own_pv pool (sectors from) from number) ≡ test
-      → is_some (cond test (Some (own_pv pool (sectors from) from number)) (pv_of (own_pvs pool sectors (from + 1) others) array)) ≡ true
-      → (is_some (pv_of (own_pvs pool sectors (from + 1) others) array) ≡ true → array < from + 1 + length others) → array < from + suc (length others)
-  go true is there later = let same = named_first pool sectors from array number (omega arith) is in omega arith
-  go false is there later = let below = later there in omega arith
+      go : (test : Bool) → names array (own_pv pool (sectors from) from number) ≡ test
+          → is_some (cond test (Some (own_pv pool (sectors from) from number)) (pv_of (own_pvs pool sectors (from + 1) others) array)) ≡ true
+          → (is_some (pv_of (own_pvs pool sectors (from + 1) others) array) ≡ true → array < from + 1 + length others) → array < from + suc (length others)
+      go true is there later = let same = named_first pool sectors from array number (omega arith) is in omega arith
+      go false is there later = let below = later there in omega arith
 
 names_first : (pool : List ℕ) (sectors : ℕ → ℕ) (numbers : List ℕ) (array : ℕ) → length numbers ≤ 16 → is_some (pv_of (own_pvs pool sectors 0 numbers) array) ≡ true → array < length numbers
 names_first pool sectors numbers array few there = let below = names_below pool sectors 0 numbers array (omega arith) there in omega arith
 
 -- ---- an extension
 
-leaves_both : {a b : Seen} (P Q : Image → Type 0) → Leaves a b P → Leaves a b Q → Leaves a b (λ c. P c × Q c)
+pub leaves_both : {a b : Seen} (P Q : Image → Type 0) → Leaves a b P → Leaves a b Q → Leaves a b (λ c. P c × Q c)
 leaves_both P Q one two = record {
   later = one.later;
   kept = one.kept;
@@ -135,7 +129,7 @@ old_or_new {a} {b} pool text l seqno numbers result is changes traced =
 abbrev pub at_end : Seen → Image
 at_end b = λ d s. (b.held d s).current
 
-end_only : {a b : Seen} (pool text : List ℕ) (n joined : ℕ) (before : Image) (new : Group) (changes : Changes pool text n a b {X = Unit {0}} (Ok tt)) → IsChange pool text n joined changes.starts new a b before
+pub end_only : {a b : Seen} (pool text : List ℕ) (n joined : ℕ) (before : Image) (new : Group) (changes : Changes pool text n a b {X = Unit {0}} (Ok tt)) → IsChange pool text n joined changes.starts new a b before
     → (d s : ℕ) (v : List ℕ) → n ≤ d → d < joined → s < 2048 → MayLeave (b.held d s) v → v ≡ before d s
 end_only {a} {b} pool text n joined before new changes is d s v past below less may =
     let live = is.told d s below less in
@@ -157,17 +151,17 @@ end_written {a} {b} pool text n joined before new changes is d below =
     (λ array s less inside. is.told array s (omega arith) inside) (λ array s less inside. inl refl)
     (λ array less. rw (now_is pool text n joined changes.starts new is array 0 (omega arith) (omega arith)) ((is.areas array (omega arith)).free)) d below
 
-end_one : {a b : Seen} (pool text : List ℕ) (n joined : ℕ) (before : Image) (new : Group) (changes : Changes pool text n a b {X = Unit {0}} (Ok tt)) → IsChange pool text n joined changes.starts new a b before
+pub end_one : {a b : Seen} (pool text : List ℕ) (n joined : ℕ) (before : Image) (new : Group) (changes : Changes pool text n a b {X = Unit {0}} (Ok tt)) → IsChange pool text n joined changes.starts new a b before
     → (d : ℕ) → d < n
     → IsOneOf pool d new (part_of (before d) (a.sectors d)) (part_of (at_end b d) (a.sectors d)) × (has_own_label pool d (part_of (at_end b d) (a.sectors d)) ≡ true)
-        × ((part_of (at_end b d) (a.sectors d)).group ≡ Some new)
+    × ((part_of (at_end b d) (a.sectors d)).group ≡ Some new)
 end_one {a} {b} pool text n joined before new changes is d below =
     let there = part_there pool d (a.sectors d) (start_at changes.starts d).sector text (at_end b d) new is.back.labels is.back.headers (is.inside d).1 (is.inside d).0 is.back.short is.back.read
     (end_written pool text n joined before new changes is d below) in
     let says = written_says pool d (a.sectors d) (start_at changes.starts d).sector text new (part_of (before d) (a.sectors d)) (part_of (at_end b d) (a.sectors d)) there in
     (says.0, says.1, ap (λ (part : Part). part.group) there)
 
-end_area : {a b : Seen} (pool text : List ℕ) (n joined : ℕ) (before : Image) (new : Group) (changes : Changes pool text n a b {X = Unit {0}} (Ok tt)) → IsChange pool text n joined changes.starts new a b before
+pub end_area : {a b : Seen} (pool text : List ℕ) (n joined : ℕ) (before : Image) (new : Group) (changes : Changes pool text n a b {X = Unit {0}} (Ok tt)) → IsChange pool text n joined changes.starts new a b before
     → (d : ℕ) → d < joined → HasOwnArea (at_end b d)
 end_area {a} {b} pool text n joined before new changes is d below = elim (cases_lt d n) [
   | inl less ↦
@@ -191,8 +185,7 @@ new_at_end {a} {b} pool text l seqno numbers is changes = λ joined before joins
     let within = change pool text l seqno numbers joined before (Ok tt) is changes joins settled in
     let some = is.some in
     let room = is.numbered in
-    let one = λ (d : ℕ) (below : d < n). end_one pool text n joined before new changes within d below in
-    (
+    let one = λ (d : ℕ) (below : d < n). end_one pool text n joined before new changes within d below in (
       at_end b,
       λ d s v below less may. elim (cases_lt d n) [
         | inl first ↦ changes.single d s v first (settled.told d s below less) may

@@ -1,5 +1,5 @@
 -- What a stop in writing a new text leaves on the arrays, and what that means.
-use Rattle.std.proofs.Common.{◌≡◌, ◌⊎◌, ℕ, zero, suc, ◌+◌, ◌*◌, ◌^◌, ◌<◌, ◌≤◌, ◌==◌, ◌&&◌, Bool, true, false, List, [], ◌∷◌, ◌++◌, Option, Some, None, Ok, refl, sym, ap, subst, ◌∙◌, inl, inr, arith, length}
+use Rattle.std.proofs.Common.{◌≡◌, ◌⊎◌, ℕ, zero, suc, ◌*◌, ◌<◌, ◌≤◌, ◌==◌, ◌&&◌, Bool, true, false, List, [], ◌∷◌, ◌++◌, Option, Some, None, refl, sym, ap, ◌∙◌, inl, inr, arith, length}
 use Rattle.std.specs.Prelude.{is_some, unwrap_or}
 use Rattle.std.specs.Result.{result_ok}
 use Rattle.std.proofs.lemmas.Bool.{cases_lt, eq-eqb, eqb-true}
@@ -7,10 +7,10 @@ use Rattle.lvm_label.specs.declared.header.Header.{Header}
 use Rattle.lvm_label.specs.Label.{label_bytes}
 use Rattle.lvm_label.specs.Header.{header_bytes, header_of}
 use Rattle.lvm_text.specs.declared.group.Group.{Group}
-use Rattle.rack.specs.Seen.{Image, Seen, IsLive}
+use Rattle.rack.specs.Seen.{Image, Seen}
 use Rattle.rack.specs.Sequences.{IsMix, IsPayload}
 use Rattle.rack.specs.Targets.{Target, look}
-use Rattle.std.specs.Option.{option_map_or, option_or}
+use Rattle.std.specs.Option.{option_or}
 use Rattle.rack.proofs.Phases.{look-append, payload_none}
 use Rattle.lvm_group.specs.declared.parts.Part.{Part}
 use Rattle.lvm_group.specs.declared.starts.TextStart.{TextStart}
@@ -23,7 +23,7 @@ use Rattle.lvm_group.specs.Parts.{Array, has_bad_text, part_of}
 use Rattle.lvm_group.specs.Writing.{AreStarts, IsReadBack, blank_targets, first_targets, header_target, label_targets, new_targets, own_header, own_label, own_location, piece, place_at, start_at, targets_to, text_sectors, text_targets}
 use Rattle.lvm_group.proofs.KeptPart.{IsKept, IsOneOf, IsWriting, empty_there, header_on, kept_says, labelled_there}
 use Rattle.lvm_group.proofs.Mixed.{AreOneOf}
-use Rattle.lvm_group.proofs.NewTargets.{first_at, first_elsewhere, firsts_at, head_at, head_nowhere, headers_at, look_here, look_nowhere, look_other_disk, look_other_sector, place_bounds, text_behind, text_nowhere, first_text}
+use Rattle.lvm_group.proofs.NewTargets.{first_at, first_elsewhere, firsts_at, head_at, head_nowhere, headers_at, look_nowhere, look_other_disk, look_other_sector, place_bounds, text_behind, text_nowhere, first_text}
 use Rattle.lvm_group.proofs.OwnText.{same_bytes}
 use Rattle.lvm_group.proofs.Written.{part_there, written_part}
 
@@ -297,17 +297,17 @@ unwritten_one {a} {b} {before} {c} pool text n joined starts new is late d below
   says : (c d 8 ≡ before d 8) ⊎ (((start_of (before d 8)).blank ≡ true) × (c d 8 ≡ header_bytes (own_header []))) → is_some (header_on (c d)) ≡ true
       → IsOneOf pool d new (part_of (before d) (a.sectors d)) (part_of (c d) (a.sectors d)) × (has_own_label pool d (part_of (c d) (a.sectors d)) ≡ true)
   says kept some = (
-      kept_one c pool text n joined starts new new is d (omega arith)
-      (record {
-        label = inr (there.label, is.back.label d below);
-        header = kept;
-        others = λ s less label other apart.
-            late_sector pool text n joined starts new is late d s below less (λ same. other (sym same))
-            ∙ ap (λ (o : Option (List ℕ)). unwrap_or o (before d s))
-            (firsts_none pool a.sectors starts text n d s (λ same. label (sym same)) (λ same. other (sym same))
-            (λ k few place. apart k few (ap (λ (t : TextStart). place_at t.sector k) (sym start) ∙ place)));
-      }),
-      labelled_there pool d (a.sectors d) (c d) is.back.labels (is.back.label d below) there.label (rw there.free ((is.areas d (omega arith)).free)) some,
+    kept_one c pool text n joined starts new new is d (omega arith)
+        (record {
+          label = inr (there.label, is.back.label d below);
+          header = kept;
+          others = λ s less label other apart.
+              late_sector pool text n joined starts new is late d s below less (λ same. other (sym same))
+              ∙ ap (λ (o : Option (List ℕ)). unwrap_or o (before d s))
+              (firsts_none pool a.sectors starts text n d s (λ same. label (sym same)) (λ same. other (sym same))
+              (λ k few place. apart k few (ap (λ (t : TextStart). place_at t.sector k) (sym start) ∙ place)));
+        }),
+    labelled_there pool d (a.sectors d) (c d) is.back.labels (is.back.label d below) there.label (rw there.free ((is.areas d (omega arith)).free)) some,
   )
 
   go : (blank : Bool) → (start_at starts d).blank ≡ blank
@@ -339,9 +339,9 @@ pub all_late : {a b : Seen} {before c : Image} (pool text : List ℕ) (n joined 
     → IsLate a b (targets_to (first_targets pool a.sectors starts text) n) (targets_to (header_target starts text) n) n c → IsMix a b (IsPayload (new_targets pool a.sectors starts text n)) c
     → AreOneOf pool a.sectors joined new before c × ((d : ℕ) → d < n → has_own_label pool d (part_of (c d) (a.sectors d)) ≡ true)
 all_late {a} {b} {before} {c} pool text n joined starts new is late all = (
-    λ d inside. elim (cases_lt d n) [
-      | inl below ↦ (late_one pool text n joined starts new is late d below).0
-      | inr past ↦ kept_one c pool text n joined starts new new is d inside (past_array pool text n joined starts new is all d past inside)
-    ],
-    λ d below. (late_one pool text n joined starts new is late d below).1,
+  λ d inside. elim (cases_lt d n) [
+    | inl below ↦ (late_one pool text n joined starts new is late d below).0
+    | inr past ↦ kept_one c pool text n joined starts new new is d inside (past_array pool text n joined starts new is all d past inside)
+  ],
+  λ d below. (late_one pool text n joined starts new is late d below).1,
 )

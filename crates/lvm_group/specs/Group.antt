@@ -30,6 +30,15 @@ highest [] = None
 highest (None ∷ others) = highest others
 highest (Some g ∷ others) = ahead g (highest others)
 
+-- of two groups in a row the one of highest seqno, of equal ones the first
+abbrev pub newer : Option Group → Option Group → Option Group
+newer None o = o
+newer (Some g) None = Some g
+newer (Some g) (Some h) = if nat_lt g.seqno h.seqno then Some h else Some g
+
+abbrev pub seqno_of : Option Group → Option ℕ
+seqno_of o = option_map (λ (g : Group). g.seqno) o
+
 -- the parts of the joined arrays
 abbrev pub parts_in : Image → (ℕ → ℕ) → ℕ → List Part
 parts_in c sectors joined = map (λ array. part_of (c array) (sectors array)) (range_with_len 0 joined)

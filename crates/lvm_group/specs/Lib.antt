@@ -16,3 +16,4 @@ pub mod Opening
 pub mod Changing
 pub mod Extending
 pub mod Images
+pub mod Brought

@@ -1,8 +1,9 @@
 //! Changing the group that stands in the arrays.
 
-ghost use Rattle.std.specs.Prelude.{◌≡◌, ◌<◌, ◌≤◌, ◌+◌, ℕ, length};
+ghost use Rattle.std.specs.Prelude.{◌≡◌, ◌↔◌, ◌<◌, ◌≤◌, ◌+◌, ℕ, IsTrue, length};
 ghost use Rattle.std.specs.List.{AllByRecursion};
 ghost use Rattle.lvm_text.specs.Printed.{printed};
+ghost use Rattle.lvm_group.specs.Brought.{HaveAreas, Rewrites};
 ghost use Rattle.lvm_group.specs.Changing.{Changes};
 ghost use Rattle.lvm_group.specs.Extending.{next_seqno};
 ghost use Rattle.lvm_group.specs.Own.{HoldAll, own_group};
@@ -46,6 +47,39 @@ pub(crate) fn put_change<R: Rack>(
         Err(gone) => return Err(gone),
     };
     put_new(rack, pool, arrays, starts.as_slice(), text)
+}
+
+/// Whether the first arrays, so many, have room for their metadata.
+fn have_areas<R: Rack>(rack: &R, arrays: u32) -> bool
+    requires fit { (R.seen rack.now).fit }
+    requires arrays { arrays ≤ (R.seen rack.now).disks }
+    ensures { IsTrue result ↔ HaveAreas (R.seen rack.now).sectors arrays }
+{
+    for array in 0..arrays {
+        if rack.sectors(array) < 2048 {
+            return false;
+        }
+    }
+    true
+}
+
+/// Writes the newest text on the first arrays, so many, as a change does, unless they are even: where they are at most
+/// 16 and have room for it. An array that refuses a call ends this: each array says the newest text then or what it said.
+pub(crate) fn bring_up<R: Rack>(rack: &mut R, pool: &Id, arrays: u32, even: bool, text: &[u8])
+    requires fit { (R.seen rack.old).fit }
+    requires arrays { arrays ≤ (R.seen rack.old).disks }
+    requires short { length text.now ≤ 262144 }
+    ensures rewrites { Rewrites pool.now.0 text.now arrays even (R.seen rack.old) (R.seen rack.new) }
+    ensures runs { R.runs rack.old rack.new }
+{
+    if even || arrays > 16 || !have_areas(rack, arrays) {
+        return;
+    }
+    encoded_labels_decode();
+    encoded_headers_decode();
+    own_labels_fit(rack, pool, arrays);
+    own_locations_fit(text);
+    let _ = put_change(rack, pool, arrays, text);
 }
 
 /// Writes the group of a volume with these runs on as many arrays as there are numbers of extents.

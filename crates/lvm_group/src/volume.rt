@@ -7,12 +7,13 @@ ghost use Rattle.lvm_group.specs.Runs.{IsOrderly, extents_of};
 ghost use Rattle.lvm_group.specs.Shown.{IsInside, volume_of};
 ghost use Rattle.lvm_group.specs.Laws.{is_sound};
 
-use crate::changing::{next_seqno, put_grown};
+use crate::changing::{bring_up, next_seqno, put_grown};
 use crate::growth::{copy, fits, grow};
-use crate::making::{extents_in, make, take_room};
+use crate::making::{MOST_TEXT, extents_in, make, take_room};
 use crate::opening::find_runs;
 use crate::runs::{Run, Spot, spot_with};
 use crate::syncing::sync_first;
+use lvm_label::{encoded_headers_decode, encoded_labels_decode};
 use lvm_text::Text;
 use rack::{Back, Gone, Rack};
 use shr_base::Id;
@@ -116,6 +117,7 @@ impl<R: Rack> Volume<R> {
     ghost use Rattle.lvm_group.specs.Changing.{Changes};
     ghost use Rattle.lvm_group.specs.Extending.{extended, next_group, next_seqno};
     ghost use Rattle.lvm_group.specs.Growth.{AreBelow, fits};
+    ghost use Rattle.lvm_group.specs.Brought.{BringsUp};
     ghost use Rattle.lvm_group.specs.Images.{IsNew, IsOldOrNew};
     ghost use Rattle.rack.specs.Moments.{Leaves};
     ghost use Rattle.lvm_group.specs.Made.{IsUnmade, Makes, made_targets, new_volume};
@@ -194,6 +196,9 @@ impl<R: Rack> Volume<R> {
     /// lowest array that is bad: its header has a location that gives no group, or the group names it and it has no
     /// label with its id and no header, or it is the first one and the group isn't the pool's. A sector that is
     /// refused has no bytes.
+    ///
+    /// Where a joined array doesn't say a group of this seqno, its text is then written on all of them, as
+    /// [`Volume::extend`] writes one. An array that refuses this keeps what it said: the volume is open all the same.
     pub fn open(
         alloc: Global,
         rack: R,
@@ -206,10 +211,10 @@ impl<R: Rack> Volume<R> {
         requires sized { 0 < extent }
         requires some { 0 < joined }
         requires arrays { joined ≤ (R.seen rack).disks }
-        ensures opens { IfOk result (λ volume. Opens pool.now.0 extent joined (R.seen rack) (R.seen volume.rack) (linear volume) (seqno_of volume)) }
+        ensures opens { IfOk result (λ volume. (opens : Opens pool.now.0 extent joined (R.seen rack) (R.seen volume.rack) (linear volume) (seqno_of volume))
+            × BringsUp pool.now.0 joined (linear volume) (seqno_of volume) opens.runs.group (R.seen rack) (R.seen volume.rack)) }
         ensures pool { IfOk result (λ volume. pool_of volume ≡ pool.now.0) }
         ensures fit { IfOk result (λ volume. (volume_of (linear volume) (R.seen volume.rack)).fit) }
-        ensures looks { IfOk result (λ volume. OnlyReads (R.seen rack) (R.seen volume.rack)) }
         ensures refused { IfErr result (λ back. IsUnopened pool.now.0 extent joined (R.seen rack) (R.seen back.rack) back.why) }
         ensures looked { IfErr result (λ back. OnlyReads (R.seen rack) (R.seen back.rack)) }
         ensures kept { IfOk result (λ volume. R.runs rack volume.rack) }
@@ -221,10 +226,28 @@ impl<R: Rack> Volume<R> {
                 why: VolumeFault::Memory,
             });
         };
+        let Ok(kept) = Text::with_room(alloc, MOST_TEXT) else {
+            return Err(Back {
+                rack,
+                why: VolumeFault::Memory,
+            });
+        };
+        encoded_labels_decode();
+        encoded_headers_decode();
         let mut room = room;
+        let mut kept = kept;
         let mut rack = rack;
-        match find_runs(alloc, &mut rack, pool, extent, joined, &mut room.text) {
+        match find_runs(
+            alloc,
+            &mut rack,
+            pool,
+            extent,
+            joined,
+            &mut room.text,
+            &mut kept,
+        ) {
             Ok(opened) => {
+                bring_up(&mut rack, pool, joined, opened.even, kept.as_slice());
                 copy(&mut room.runs, opened.runs.as_slice());
                 let count = extents_in(opened.runs.as_slice());
                 Ok(Volume {

@@ -1,4 +1,4 @@
-use Rattle.std.proofs.Common.{◌≡◌, ◌<◌, ◌≤◌, ◌+◌, ℕ, max, true, List, Ok, ap, sym, subst, ◌∙◌, arith, length, Vec, Global}
+use Rattle.std.proofs.Common.{◌≡◌, ◌<◌, ◌≤◌, max, true, List, Ok, ap, sym, subst, ◌∙◌, arith, length, Vec, Global}
 use Rattle.std.specs.Prelude.{vec_capacity}
 use Rattle.std.specs.List.{AllByRecursion}
 use Rattle.lvm_group.specs.declared.runs.Run.{Run}
