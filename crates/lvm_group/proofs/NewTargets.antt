@@ -7,10 +7,10 @@ use Rattle.lvm_label.specs.Header.{IsLocation, header_bytes}
 use Rattle.rack.specs.Seen.{Image, Seen}
 use Rattle.rack.specs.Targets.{Target, look, target}
 use Rattle.rack.proofs.Phases.{look-append, payload_none}
-use Rattle.lvm_group.specs.Sequences.{AreSingle}
+use Rattle.lvm_group.specs.Sequences.{AreSingle, AreTold}
 use Rattle.lvm_group.specs.declared.starts.TextStart.{TextStart}
 use Rattle.lvm_group.specs.Writing.{AreStarts, Puts, blank_targets, first_targets, header_target, label_targets, new_targets, own_header, own_label, own_location, piece, place_at, start_at, targets_to, text_sectors, text_targets}
-use Rattle.lvm_group.specs.Made.{AreFree, ArePicks, AreTold}
+use Rattle.lvm_group.specs.Made.{AreFree, ArePicks}
 use Rattle.lvm_group.proofs.Written.{AreWritten}
 
 -- ---- one target

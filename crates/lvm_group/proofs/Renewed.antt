@@ -30,7 +30,7 @@ use Rattle.lvm_group.proofs.Mixed.{array_sound, means_either, means_new, means_s
 use Rattle.lvm_group.proofs.NewTargets.{new_written}
 use Rattle.lvm_group.proofs.OwnText.{named, own_is_own}
 use Rattle.lvm_group.proofs.StopsMean.{IsChange, all_late, all_mixed, kept_one, now_is, past_none, writing, written_says}
-use Rattle.lvm_group.proofs.Written.{IsWritten, label_there, part_there}
+use Rattle.lvm_group.proofs.Written.{IsWritten, area_there, part_there}
 
 -- ---- the arrays of a text
 
@@ -164,13 +164,7 @@ end_one {a} {b} pool text n joined before new changes is d below =
 pub end_area : {a b : Seen} (pool text : List ℕ) (n joined : ℕ) (before : Image) (new : Group) (changes : Changes pool text n a b {X = Unit {0}} (Ok tt)) → IsChange pool text n joined changes.starts new a b before
     → (d : ℕ) → d < joined → HasOwnArea (at_end b d)
 end_area {a} {b} pool text n joined before new changes is d below = elim (cases_lt d n) [
-  | inl less ↦
-      let written = end_written pool text n joined before new changes is d less in
-      let found = label_there pool d (a.sectors d) (start_at changes.starts d).sector text (at_end b d) is.back.labels written in
-      record {
-        free = written.free;
-        area = λ label at. let one : label ≡ own_label pool d (a.sectors d) = let same : Some label ≡ Some (own_label pool d (a.sectors d)) = sym at ∙ found in cc in ap (λ (l : Label). slice_get l.metadata.items 0) one;
-      }
+  | inl less ↦ area_there pool d (a.sectors d) (start_at changes.starts d).sector text (at_end b d) is.back.labels (end_written pool text n joined before new changes is d less)
   | inr past ↦
       area_kept pool d (a.sectors d) text (before d) (at_end b d)
       (writing (at_end b) pool text n joined changes.starts new is d below (end_past pool text n joined before new changes is d past below))

@@ -18,7 +18,7 @@ use Rattle.lvm_group.specs.Changing.{AreBehind, IsLate, start_by, start_of}
 use Rattle.lvm_group.specs.Group.{has_own_label}
 use Rattle.lvm_group.specs.Ids.{label_id, pv_id}
 use Rattle.lvm_group.specs.Images.{HasOwnArea, HoldOnly}
-use Rattle.lvm_group.specs.Made.{AreTold}
+use Rattle.lvm_group.specs.Sequences.{AreTold}
 use Rattle.lvm_group.specs.Parts.{Array, has_bad_text, part_of}
 use Rattle.lvm_group.specs.Writing.{AreStarts, IsReadBack, blank_targets, first_targets, header_target, label_targets, new_targets, own_header, own_label, own_location, piece, place_at, start_at, targets_to, text_sectors, text_targets}
 use Rattle.lvm_group.proofs.KeptPart.{IsKept, IsOneOf, IsWriting, empty_there, header_on, kept_says, labelled_there}

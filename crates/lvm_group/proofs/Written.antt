@@ -1,5 +1,5 @@
 -- What stands in arrays on which label, header and text of the pool's group were written: the group.
-use Rattle.std.proofs.Common.{◌≡◌, ℕ, zero, suc, ◌+◌, ◌-◌, ◌*◌, ◌<◌, ◌≤◌, ◌==◌, ◌&&◌, Bool, true, false, List, [], ◌∷◌, Option, Some, None, Ok, refl, ap, ◌∙◌, arith, length, map}
+use Rattle.std.proofs.Common.{◌≡◌, ℕ, zero, suc, ◌+◌, ◌-◌, ◌*◌, ◌<◌, ◌≤◌, ◌==◌, ◌&&◌, Bool, true, false, List, [], ◌∷◌, Option, Some, None, Ok, refl, sym, ap, ◌∙◌, arith, length, map}
 use Rattle.std.specs.Prelude.{nat_eq, nat_lt, slice_get}
 use Rattle.std.specs.List.{find, range_with_len, starts_with}
 use Rattle.std.proofs.lemmas.Bool.{eq-eqb, le-leb, lt-ltb}
@@ -10,7 +10,9 @@ use Rattle.lvm_text.specs.declared.group.Group.{Group}
 use Rattle.lvm_text.specs.Group.{group_of}
 use Rattle.rack.specs.Seen.{Image}
 use Rattle.lvm_group.specs.declared.parts.Part.{Part}
+use Rattle.lvm_label.specs.declared.label.Label.{Label}
 use Rattle.lvm_group.specs.Ids.{label_id, pv_id}
+use Rattle.lvm_group.specs.Images.{HasOwnArea}
 use Rattle.lvm_group.specs.Parts.{Array, group_at, header_at, label_on, part_by, part_of}
 use Rattle.lvm_group.specs.Group.{ahead, first_bad, group_in, highest, is_bad, is_own_group, names_array, parts_in}
 use Rattle.lvm_group.specs.declared.starts.TextStart.{TextStart}
@@ -32,9 +34,18 @@ abbrev pub written_part : List ℕ → ℕ → ℕ → ℕ → List ℕ → Opti
 written_part pool array sectors first text group =
     record { label = Some (own_label pool array sectors); header = Some (own_header (own_location (512 * first) text ∷ [])); group = group }
 
-pub label_there : (pool : List ℕ) (array sectors first : ℕ) (text : List ℕ) (a : Array) → HaveLabelsDecoded → IsWritten pool array sectors first text a → label_on a ≡ Some (own_label pool array sectors)
+label_there : (pool : List ℕ) (array sectors first : ℕ) (text : List ℕ) (a : Array) → HaveLabelsDecoded → IsWritten pool array sectors first text a → label_on a ≡ Some (own_label pool array sectors)
 label_there pool array sectors first text a labels is =
     rw (is.label, labels (own_label pool array sectors) (a 0) (a 2 ∷ a 3 ∷ []) is.is_label is.free) refl
+
+pub area_there : (pool : List ℕ) (array sectors first : ℕ) (text : List ℕ) (a : Array) → HaveLabelsDecoded → IsWritten pool array sectors first text a → HasOwnArea a
+area_there pool array sectors first text a labels is = record {
+  free = is.free;
+  area = λ label at.
+      let same : Some label ≡ Some (own_label pool array sectors) = sym at ∙ label_there pool array sectors first text a labels is in
+      let one : label ≡ own_label pool array sectors = cc in
+      ap (λ (l : Label). slice_get l.metadata.items 0) one;
+}
 
 header_there : (pool : List ℕ) (array sectors first : ℕ) (text : List ℕ) (a : Array) → HaveHeadersDecoded → IsWritten pool array sectors first text a
     → header_at a own_area ≡ Some (own_header (own_location (512 * first) text ∷ []))

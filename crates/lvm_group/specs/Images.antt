@@ -6,10 +6,10 @@ use Rattle.rack.specs.Seen.{Image, Seen}
 use Rattle.lvm_label.specs.declared.label.Label.{Label}
 use Rattle.lvm_label.specs.Label.{label_word}
 use Rattle.lvm_group.specs.Extending.{extended, next_seqno}
-use Rattle.lvm_group.specs.Made.{AreTold}
 use Rattle.lvm_group.specs.Opening.{Means}
 use Rattle.lvm_group.specs.Parts.{Array, label_on}
 use Rattle.lvm_group.specs.Runs.{Linear, data_start}
+use Rattle.lvm_group.specs.Sequences.{AreTold}
 use Rattle.lvm_group.specs.Writing.{own_area}
 
 -- each sector before the first extents of the first arrays, so many, holds its value of these contents alone
@@ -43,13 +43,17 @@ IsOldOrNew pool l seqno numbers a b c =
     (joined : ℕ) (before : Image) → length numbers ≤ joined → IsSettled pool joined l seqno a b before
     → MeansVolume pool joined a.sectors l seqno c ⊎ MeansVolume pool joined a.sectors (extended l numbers) (next_seqno seqno) c
 
--- contents of the extended volume, from which it can be extended again
-pub record IsExtended (pool : List ℕ) (joined : ℕ) (l : Linear) (seqno : ℕ) (numbers : List ℕ) (sectors : ℕ → ℕ) (c : Image) : Type 0 where
+-- contents from which the volume can be extended again
+pub record IsVolume (pool : List ℕ) (joined : ℕ) (l : Linear) (seqno : ℕ) (sectors : ℕ → ℕ) (c : Image) : Type 0 where
   pub areas : (array : ℕ) → array < joined → HasOwnArea (c array)
-  pub means : MeansVolume pool joined sectors (extended l numbers) (next_seqno seqno) c
+  pub means : MeansVolume pool joined sectors l seqno c
 
--- once it is extended, a stop leaves these alone
+-- a stop leaves such contents alone
+abbrev pub LeavesVolume : List ℕ → ℕ → Linear → ℕ → (ℕ → ℕ) → Seen → Type 0
+LeavesVolume pool joined l seqno sectors b = (after : Image) × HoldOnly b joined after × IsVolume pool joined l seqno sectors after
+
+-- once it is extended, a stop leaves the extended volume
 abbrev pub IsNew : List ℕ → Linear → ℕ → List ℕ → Seen → Seen → Type 0
 IsNew pool l seqno numbers a b =
     (joined : ℕ) (before : Image) → length numbers ≤ joined → IsSettled pool joined l seqno a b before
-    → (after : Image) × HoldOnly b joined after × IsExtended pool joined l seqno numbers a.sectors after
+    → LeavesVolume pool joined (extended l numbers) (next_seqno seqno) a.sectors b

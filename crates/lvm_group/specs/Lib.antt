@@ -17,3 +17,4 @@ pub mod Changing
 pub mod Extending
 pub mod Images
 pub mod Brought
+pub mod Framed

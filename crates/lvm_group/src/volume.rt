@@ -64,10 +64,11 @@ pub struct Volume<R> {
 
 impl<R: Rack> Rack for Volume<R> {
     ghost use Rattle.lvm_group.specs.Volume.{linear};
+    ghost use Rattle.lvm_group.specs.Framed.{Frames, frames_same, frames_then};
 
     ghost seen = { λ volume. volume_of (linear volume) (R.seen volume.rack) };
 
-    ghost runs = { λ old new. R.runs old.rack new.rack };
+    ghost runs = { λ old new. R.runs old.rack new.rack × Frames R.seen old new };
 
     ghost lenders = { λ volume. R.lenders volume.rack };
 
@@ -104,11 +105,11 @@ impl<R: Rack> Rack for Volume<R> {
 
     ghost sound = { λ volume fit traced. is_sound (linear volume) (R.seen volume.rack) volume.orderly fit.1 (R.sound volume.rack fit.0 traced) };
 
-    ghost runs_same = { λ volume. R.runs_same volume.rack };
+    ghost runs_same = { λ volume. (R.runs_same volume.rack, frames_same R.seen volume) };
 
-    ghost runs_then = { λ x y z one two. R.runs_then x.rack y.rack z.rack one two };
+    ghost runs_then = { λ x y z one two. (R.runs_then x.rack y.rack z.rack one.0 two.0, frames_then R.seen x y z one.1 two.1) };
 
-    ghost runs_lenders = { λ x y runs. R.runs_lenders x.rack y.rack runs };
+    ghost runs_lenders = { λ x y runs. R.runs_lenders x.rack y.rack runs.0 };
 }
 
 impl<R: Rack> Volume<R> {
