@@ -1,6 +1,6 @@
 -- The answer of an opening, by the parts of its arrays.
-use Rattle.std.proofs.Common.{◌≡◌, ℕ, zero, suc, ◌+◌, ◌-◌, ◌*◌, ◌<◌, ◌≤◌, ◌^◌, ◌==◌, ◌&&◌, ◌||◌, Bool, true, false, List, [], ◌∷◌, Option, Some, None, Result, Ok, Err, refl, sym, ap, subst, ◌∙◌, inl, inr, arith, length, map, drop}
-use Rattle.std.specs.Prelude.{slice_get, nat_lt, nat_le, slice_index, slice_index_or, bytes_eq, not, is_some, IfOk, IfErr}
+use Rattle.std.proofs.Common.{◌≡◌, ℕ, zero, suc, ◌+◌, ◌<◌, ◌≤◌, ◌^◌, ◌==◌, ◌&&◌, ◌||◌, Bool, true, false, List, [], ◌∷◌, Option, Some, None, Result, Ok, Err, refl, sym, ap, subst, ◌∙◌, inl, inr, arith, length, map, drop}
+use Rattle.std.specs.Prelude.{slice_get, nat_lt, slice_index, slice_index_or, not, is_some, IfOk, IfErr, IfSome}
 use Rattle.std.specs.Option.{option_map_or}
 use Rattle.std.specs.List.{find, list_all, range_with_len}
 use Rattle.std.proofs.lemmas.List.FromFn.{get_or-map-range_with_len}
@@ -12,19 +12,19 @@ use Rattle.lvm_text.specs.declared.group.Pv.{Pv}
 use Rattle.lvm_text.specs.declared.group.Group.{Group}
 use Rattle.lvm_group.specs.declared.parts.Part.{Part}
 use Rattle.lvm_group.specs.declared.runs.Run.{Run}
-use Rattle.lvm_group.specs.Runs.{IsOrderly, Linear, data_start, extents_of}
+use Rattle.lvm_group.specs.Runs.{IsOrderly, Linear, extents_of}
 use Rattle.lvm_group.specs.Own.{in_row}
 use Rattle.lvm_group.specs.Shown.{IsInside, total}
 use Rattle.lvm_group.proofs.Counted.{no_more_sectors}
 use Rattle.lvm_group.proofs.OwnGroup.{own_apart, own_few, own_inside, own_numbered, own_orderly, own_row}
-use Rattle.lvm_group.specs.Ids.{array_named, pv_id, text_id}
+use Rattle.lvm_group.specs.Ids.{array_named}
 use Rattle.lvm_group.specs.Parts.{Array, has_bad_text, part_from, part_of}
-use Rattle.lvm_group.specs.Reading.{AreRead, IsNow, IsRead, held_on}
-use Rattle.lvm_group.specs.Found.{AreParts, IsPart}
-use Rattle.lvm_group.specs.Group.{ahead, all_apart, first_bad, group_in, has_own_head, has_own_label, highest, names_array, pv_of, is_bad, is_bad_by, is_only_lv, is_own_group, is_pv, is_pv_of, differ, linear_in, parts_in, runs_in}
+use Rattle.lvm_group.specs.Reading.{IsRead, IsTextOf, held_on}
+use Rattle.lvm_group.specs.Found.{IsPart}
+use Rattle.lvm_group.specs.Group.{ahead, all_apart, first_bad, group_in, has_own_head, has_own_label, highest, names_array, pv_of, is_bad, is_bad_by, is_only_lv, is_own_group, is_pv, is_pv_of, differ, linear_in, parts_in}
 use Rattle.lvm_group.specs.declared.volume.VolumeFault.{VolumeFault}
 use Rattle.lvm_group.specs.declared.volume.VolumeFault.TheVariants as fault
-use Rattle.lvm_group.specs.Opening.{AreNow, AreServed, HasFault, HasRuns, IsUnopened, Opens, WereRead, first_bad_among, first_bad_with, group_by, is_bad_with, within_sectors}
+use Rattle.lvm_group.specs.Opening.{AreNow, AreServed, Finds, HasFault, HasRuns, IsUnopened, Opens, WereRead, first_bad_among, first_bad_with, group_by, is_bad_with, says, within_sectors}
 use Rattle.lvm_group.proofs.OwnText.{length_map, range_at}
 use Rattle.lvm_group.proofs.Written.{mapped_at, range_long}
 
@@ -130,7 +130,7 @@ runs_same pool extent f h parts l seqno same has = record {
 
 -- ---- lists
 
-mapped_to : {X Y : Type 0} (f : X → Y) (xs : List X) (i : ℕ) (x : X) → slice_get xs i ≡ Some x → slice_get (map f xs) i ≡ Some (f x)
+pub mapped_to : {X Y : Type 0} (f : X → Y) (xs : List X) (i : ℕ) (x : X) → slice_get xs i ≡ Some x → slice_get (map f xs) i ≡ Some (f x)
 mapped_to f [] i x at = cc
 mapped_to f (y ∷ ys) zero x at = cc
 mapped_to f (y ∷ ys) (suc i) x at = mapped_to f ys i x at
@@ -163,7 +163,7 @@ same_lists (x ∷ xs) (y ∷ ys) long each =
     let first : x ≡ y = let is : Some x ≡ Some y = each 0 y refl in cc in
     rw (first, same_lists xs ys (omega arith) (λ i z at. each (suc i) z at)) refl
 
-range_place : (from count i x : ℕ) → slice_get (range_with_len from count) i ≡ Some x → (x ≡ from + i) × (x < from + count)
+pub range_place : (from count i x : ℕ) → slice_get (range_with_len from count) i ≡ Some x → (x ≡ from + i) × (x < from + count)
 range_place from zero i x at = cc
 range_place from (suc count) zero x at = let same : from ≡ x = cc in (omega arith, omega arith)
 range_place from (suc count) (suc i) x at = let rest = range_place (from + 1) count i x at in let one = rest.0 in let two = rest.1 in (omega arith, omega arith)
@@ -185,7 +185,7 @@ parts_are {a} {b} joined parts c served now read =
 
 -- ---- an opening
 
-part_at_place : (c : Image) (sectors : ℕ → ℕ) (joined array : ℕ) → array < joined → slice_get (parts_in c sectors joined) array ≡ Some (part_of (c array) (sectors array))
+pub part_at_place : (c : Image) (sectors : ℕ → ℕ) (joined array : ℕ) → array < joined → slice_get (parts_in c sectors joined) array ≡ Some (part_of (c array) (sectors array))
 part_at_place c sectors joined array below = mapped_to (λ n. part_of (c n) (sectors n)) (range_with_len 0 joined) array array (range_at joined array below)
 
 bad_of_parts : (pool : List ℕ) (extent : ℕ) (sectors : ℕ → ℕ) (joined : ℕ) (c : Image) → first_bad_among pool extent sectors (parts_in c sectors joined) ≡ first_bad pool extent sectors joined c
@@ -231,13 +231,18 @@ refused_by {a} {b} pool extent joined sizes parts (fault.BadVolume array) sizes_
     let bad = sym (bad_same pool extent (slice_index sizes) a.sectors parts (λ i below. ap (λ (xs : List ℕ). slice_index xs i) sizes_are ∙ get_or-map-range_with_len a.sectors 0 joined i i 0 (omega arith) (omega arith))) ∙ has in
     record { parts = parts; read = read; bad = bad; bad_in = λ c served now. bad_by_contents pool extent joined parts c served now read ∙ bad }
 
-pub opens_result : {a b : Seen} {V : Type 0} (pool : List ℕ) (extent joined : ℕ) (sizes : List ℕ) (parts : List Part) (items : V → List Run) (number : V → ℕ) (result : Result V VolumeFault) → sizes ≡ map a.sectors (range_with_len 0 joined)
-    → WereRead a b joined parts → IfOk result (λ (v : V). HasRuns pool extent (slice_index sizes) parts (record { extent = extent; arrays = length parts; runs = items v }) (number v))
-    → IfOk result (λ (v : V). Opens pool extent joined a b (record { extent = extent; arrays = joined; runs = items v }) (number v))
-opens_result {a} {b} pool extent joined sizes parts items number (Ok v) sizes_are read has =
-    opens_by pool extent joined sizes parts (record { extent = extent; arrays = joined; runs = items v }) (number v) sizes_are read
-    (subst (λ n. HasRuns pool extent (slice_index sizes) parts (record { extent = extent; arrays = n; runs = items v }) (number v)) read.count has)
-opens_result pool extent joined sizes parts items number (Err why) sizes_are read has = tt
+-- with the text of its group
+pub finds_result : {a b : Seen} {V : Type 0} (pool : List ℕ) (extent joined : ℕ) (sizes : List ℕ) (parts : List Part) (items : V → List Run) (number : V → ℕ) (even : V → Bool) (text : List ℕ) (result : Result V VolumeFault)
+    → sizes ≡ map a.sectors (range_with_len 0 joined) → WereRead a b joined parts → IfSome (group_by parts) (IsTextOf text)
+    → IfOk result (λ (v : V). HasRuns pool extent (slice_index sizes) parts (record { extent = extent; arrays = length parts; runs = items v }) (number v))
+    → IfOk result (λ (v : V). even v ≡ list_all (says (number v)) parts)
+    → IfOk result (λ (v : V). Finds pool extent joined a b (record { extent = extent; arrays = joined; runs = items v }) (number v) (even v) text)
+unfolding opens_by
+finds_result {a} {b} pool extent joined sizes parts items number even text (Ok v) sizes_are read said has all =
+    let opens = opens_by pool extent joined sizes parts (record { extent = extent; arrays = joined; runs = items v }) (number v) sizes_are read
+    (subst (λ n. HasRuns pool extent (slice_index sizes) parts (record { extent = extent; arrays = n; runs = items v }) (number v)) read.count has) in
+    record { opens = opens; kept = subst (λ (o : Option Group). IfSome o (IsTextOf text)) opens.runs.found said; all = all }
+finds_result pool extent joined sizes parts items number even text (Err why) sizes_are read said has all = tt
 
 pub refused_result : {a b : Seen} {V : Type 0} (pool : List ℕ) (extent joined : ℕ) (sizes : List ℕ) (parts : List Part) (result : Result V VolumeFault) → sizes ≡ map a.sectors (range_with_len 0 joined)
     → WereRead a b joined parts → IfErr result (HasFault pool extent (slice_index sizes) parts) → IfErr result (IsUnopened pool extent joined a b)

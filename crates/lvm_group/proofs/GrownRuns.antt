@@ -1,6 +1,6 @@
 -- The runs of a grown volume stand in a row, apart from each other, and within the arrays' numbers.
-use Rattle.std.proofs.Common.{◌≡◌, ℕ, zero, suc, ◌+◌, ◌<◌, ◌≤◌, ◌==◌, ◌||◌, Bool, true, false, List, [], ◌∷◌, Some, refl, sym, subst, ◌∙◌, inl, inr, arith}
-use Rattle.std.specs.Prelude.{slice_get, nat_le, nat_lt}
+use Rattle.std.proofs.Common.{◌≡◌, ℕ, zero, suc, ◌+◌, ◌<◌, ◌≤◌, ◌==◌, Bool, true, false, List, [], ◌∷◌, Some, refl, sym, subst, ◌∙◌, inl, inr, arith}
+use Rattle.std.specs.Prelude.{max, min, slice_get, nat_le, nat_lt}
 use Rattle.std.specs.Option.{option_map_or}
 use Rattle.std.specs.List.{AllByRecursion, list_all}
 use Rattle.std.proofs.lemmas.Bool.{cases_eq, cases_lt, eq-eqb, eqb-true, le-leb, leb-true, lt-ltb, le-ltb, ltb-true}
@@ -161,7 +161,7 @@ elsewhere run other differ = go (run.array == other.array) refl where
 before : (run other : Run) → run.first + run.count ≤ other.first → are_apart run other ≡ true
 before run other ends = go (run.array == other.array) refl where
   go : (test : Bool) → (run.array == other.array) ≡ test → are_apart run other ≡ true
-  go true is = rw (is, le-leb (run.first + run.count) other.first ends) refl
+  go true is = rw (is, le-leb (min (run.first + run.count) (other.first + other.count)) (max run.first other.first) (omega arith)) refl
   go false is = rw is refl
 
 apart_piece : (run : Run) (start : ℕ) (piece : Piece) → (run.array ≡ piece.array → run.first + run.count ≤ piece.first) → are_apart run (run_of_piece start piece) ≡ true
@@ -190,11 +190,9 @@ started_apart start array (piece ∷ others) is =
 -- of two runs apart on one array, one that ends no later than the other ends before it
 ends_first : (run last : Run) → run.array ≡ last.array → are_apart run last ≡ true → run.first + run.count ≤ last.first + last.count → 0 < run.count → run.first + run.count ≤ last.first
 ends_first run last same apart ends some =
-    let test : (nat_le (run.first + run.count) last.first || nat_le (last.first + last.count) run.first) ≡ true = rw (eq-eqb run.array last.array same) at apart in
-    go (nat_le (run.first + run.count) last.first) refl test where
-      go : (first : Bool) → nat_le (run.first + run.count) last.first ≡ first → (first || nat_le (last.first + last.count) run.first) ≡ true → run.first + run.count ≤ last.first
-      go true is test = leb-true (run.first + run.count) last.first is
-      go false is test = let past = leb-true (last.first + last.count) run.first test in absurd (omega arith)
+    let test : nat_le (min (run.first + run.count) (last.first + last.count)) (max run.first last.first) ≡ true = rw (eq-eqb run.array last.array same) at apart in
+    let past = leb-true (min (run.first + run.count) (last.first + last.count)) (max run.first last.first) test in
+    omega arith
 
 -- a run apart from another is apart from it once it is longer
 apart_longer : (run last : Run) (piece : Piece) → 0 < run.count → are_apart run last ≡ true → adjoins last piece ≡ true → (run.array ≡ piece.array → run.first + run.count ≤ piece.first)

@@ -31,3 +31,10 @@ pub mod Answered
 pub mod Turns
 pub mod TextStarts
 pub mod Extended
+pub mod KeptText
+pub mod KeptPart
+pub mod Mixed
+pub mod StopsMean
+pub mod Renewed
+pub mod Newest
+pub mod Brought

@@ -7,10 +7,10 @@ use Rattle.lvm_label.specs.Header.{IsLocation, header_bytes}
 use Rattle.rack.specs.Seen.{Image, Seen}
 use Rattle.rack.specs.Targets.{Target, look, target}
 use Rattle.rack.proofs.Phases.{look-append, payload_none}
-use Rattle.lvm_group.specs.Sequences.{AreSingle}
+use Rattle.lvm_group.specs.Sequences.{AreSingle, AreTold}
 use Rattle.lvm_group.specs.declared.starts.TextStart.{TextStart}
 use Rattle.lvm_group.specs.Writing.{AreStarts, Puts, blank_targets, first_targets, header_target, label_targets, new_targets, own_header, own_label, own_location, piece, place_at, start_at, targets_to, text_sectors, text_targets}
-use Rattle.lvm_group.specs.Made.{AreFree, ArePicks, AreTold}
+use Rattle.lvm_group.specs.Made.{AreFree, ArePicks}
 use Rattle.lvm_group.proofs.Written.{AreWritten}
 
 -- ---- one target
@@ -26,15 +26,15 @@ and_false true = refl
 and_false false = refl
 
 -- it is for its sector
-look_here : (disk sector : ℕ) (v : List ℕ) → look (target disk sector v ∷ []) disk sector ≡ Some v
+pub look_here : (disk sector : ℕ) (v : List ℕ) → look (target disk sector v ∷ []) disk sector ≡ Some v
 unfolding look
 look_here disk sector v = rw (eq-eqb disk disk refl, eq-eqb sector sector refl) refl
 
-look_other_disk : (disk sector d s : ℕ) (v : List ℕ) → (disk ≡ d → ⊥) → look (target disk sector v ∷ []) d s ≡ None
+pub look_other_disk : (disk sector d s : ℕ) (v : List ℕ) → (disk ≡ d → ⊥) → look (target disk sector v ∷ []) d s ≡ None
 unfolding look
 look_other_disk disk sector d s v differ = rw (eq_not disk d differ) refl
 
-look_other_sector : (disk sector d s : ℕ) (v : List ℕ) → (sector ≡ s → ⊥) → look (target disk sector v ∷ []) d s ≡ None
+pub look_other_sector : (disk sector d s : ℕ) (v : List ℕ) → (sector ≡ s → ⊥) → look (target disk sector v ∷ []) d s ≡ None
 unfolding look
 look_other_sector disk sector d s v differ = rw (eq_not sector s differ, and_false (disk == d)) refl
 
@@ -44,7 +44,7 @@ or_none : (o : Option (List ℕ)) → option_or o None ≡ o
 or_none None = refl
 or_none (Some v) = refl
 
-look_nowhere : (f : ℕ → List Target) (n d s : ℕ) → ((j : ℕ) → j < n → look (f j) d s ≡ None) → look (targets_to f n) d s ≡ None
+pub look_nowhere : (f : ℕ → List Target) (n d s : ℕ) → ((j : ℕ) → j < n → look (f j) d s ≡ None) → look (targets_to f n) d s ≡ None
 unfolding targets_to look
 look_nowhere f zero d s none = refl
 look_nowhere f (suc n) d s none =
@@ -106,7 +106,7 @@ pub text_nowhere : (array first d s : ℕ) (text : List ℕ) → ((k : ℕ) → 
 text_nowhere array first d s text other =
     look_nowhere (λ k. target array (place_at first k) (piece text k) ∷ []) (text_sectors text) d s (λ k below. look_other_sector array (place_at first k) d s (piece text k) (λ same. other k below same))
 
-text_behind : (array first d s : ℕ) (text : List ℕ) → 1 ≤ first → first < 2040 → length text ≤ 262144 → s < 9 → look (text_targets array first text) d s ≡ None
+pub text_behind : (array first d s : ℕ) (text : List ℕ) → 1 ≤ first → first < 2040 → length text ≤ 262144 → s < 9 → look (text_targets array first text) d s ≡ None
 text_behind array first d s text some below short less =
     text_nowhere array first d s text (λ k inside same. let place = place_bounds first k some below (omega arith) in let most = place.0 in absurd (omega arith))
 
@@ -118,7 +118,7 @@ text_here array first k text some below short less =
 
 -- ---- an array's first targets
 
-abbrev head : List ℕ → ℕ → ℕ → Bool → List Target
+abbrev pub head : List ℕ → ℕ → ℕ → Bool → List Target
 head pool array sectors blank = label_targets pool array sectors ++ blank_targets array blank
 
 head_elsewhere : (pool : List ℕ) (array sectors d s : ℕ) (blank : Bool) → (array ≡ d → ⊥) → look (head pool array sectors blank) d s ≡ None
@@ -126,18 +126,18 @@ unfolding look
 head_elsewhere pool array sectors d s true differ = rw (eq_not array d differ) refl
 head_elsewhere pool array sectors d s false differ = rw (eq_not array d differ) refl
 
-first_elsewhere : (pool : List ℕ) (sectors : ℕ → ℕ) (starts : List TextStart) (text : List ℕ) (array d s : ℕ) → (array ≡ d → ⊥) → look (first_targets pool sectors starts text array) d s ≡ None
+pub first_elsewhere : (pool : List ℕ) (sectors : ℕ → ℕ) (starts : List TextStart) (text : List ℕ) (array d s : ℕ) → (array ≡ d → ⊥) → look (first_targets pool sectors starts text array) d s ≡ None
 first_elsewhere pool sectors starts text array d s differ =
     let start : TextStart = start_at starts array in
     look-append (head pool array (sectors array) start.blank) (text_targets array start.sector text) d s
     ∙ ap (λ o. option_or o (look (head pool array (sectors array) start.blank) d s)) (text_elsewhere array start.sector d s text differ) ∙ head_elsewhere pool array (sectors array) d s start.blank differ
 
-head_at : (pool : List ℕ) (array sectors : ℕ) (blank : Bool) → look (head pool array sectors blank) array 1 ≡ Some (label_bytes (own_label pool array sectors))
+pub head_at : (pool : List ℕ) (array sectors : ℕ) (blank : Bool) → look (head pool array sectors blank) array 1 ≡ Some (label_bytes (own_label pool array sectors))
 unfolding look
 head_at pool array sectors true = rw (eq-eqb array array refl) refl
 head_at pool array sectors false = rw (eq-eqb array array refl) refl
 
-head_nowhere : (pool : List ℕ) (array sectors s : ℕ) (blank : Bool) → (1 ≡ s → ⊥) → (8 ≡ s → ⊥) → look (head pool array sectors blank) array s ≡ None
+pub head_nowhere : (pool : List ℕ) (array sectors s : ℕ) (blank : Bool) → (1 ≡ s → ⊥) → (8 ≡ s → ⊥) → look (head pool array sectors blank) array s ≡ None
 unfolding look
 head_nowhere pool array sectors s true label header = rw (eq-eqb array array refl, eq_not 1 s label, eq_not 8 s header) refl
 head_nowhere pool array sectors s false label header = rw (eq-eqb array array refl, eq_not 1 s label) refl
@@ -149,7 +149,7 @@ first_at pool sectors starts text array s o none is =
     let start : TextStart = start_at starts array in
     look-append (head pool array (sectors array) start.blank) (text_targets array start.sector text) array s ∙ ap (λ o. option_or o (look (head pool array (sectors array) start.blank) array s)) none ∙ is
 
-first_text : (pool : List ℕ) (sectors : ℕ → ℕ) (starts : List TextStart) (text : List ℕ) (array k : ℕ) → AreStarts starts → length text ≤ 262144 → 512 * k < length text
+pub first_text : (pool : List ℕ) (sectors : ℕ → ℕ) (starts : List TextStart) (text : List ℕ) (array k : ℕ) → AreStarts starts → length text ≤ 262144 → 512 * k < length text
     → look (first_targets pool sectors starts text array) array (place_at (start_at starts array).sector k) ≡ Some (piece text k)
 first_text pool sectors starts text array k are short less =
     let start : TextStart = start_at starts array in
@@ -162,13 +162,13 @@ pub firsts_at : (pool : List ℕ) (sectors : ℕ → ℕ) (starts : List TextSta
     → look (targets_to (first_targets pool sectors starts text) n) d s ≡ look (first_targets pool sectors starts text d) d s
 firsts_at pool sectors starts text n d s below = look_in (first_targets pool sectors starts text) n d d s below (λ j less differ. first_elsewhere pool sectors starts text j d s differ)
 
-headers_at : (starts : List TextStart) (text : List ℕ) (n d s : ℕ) → d < n → look (targets_to (header_target starts text) n) d s ≡ look (header_target starts text d) d s
+pub headers_at : (starts : List TextStart) (text : List ℕ) (n d s : ℕ) → d < n → look (targets_to (header_target starts text) n) d s ≡ look (header_target starts text d) d s
 headers_at starts text n d s below =
     look_in (header_target starts text) n d d s below
     (λ j less differ. look_other_disk j 8 d s (header_bytes (own_header (own_location (512 * (start_at starts j).sector) text ∷ []))) differ)
 
 -- a sector that isn't the header's
-new_at : (pool : List ℕ) (sectors : ℕ → ℕ) (starts : List TextStart) (text : List ℕ) (n d s : ℕ) (o : Option (List ℕ)) → d < n → (8 ≡ s → ⊥) → look (first_targets pool sectors starts text d) d s ≡ o
+pub new_at : (pool : List ℕ) (sectors : ℕ → ℕ) (starts : List TextStart) (text : List ℕ) (n d s : ℕ) (o : Option (List ℕ)) → d < n → (8 ≡ s → ⊥) → look (first_targets pool sectors starts text d) d s ≡ o
     → look (new_targets pool sectors starts text n) d s ≡ o
 new_at pool sectors starts text n d s o below other is =
     look-append (targets_to (first_targets pool sectors starts text) n) (targets_to (header_target starts text) n) d s

@@ -1,5 +1,5 @@
 -- A new volume is what its arrays' contents mean once it has been made.
-use Rattle.std.proofs.Common.{◌≡◌, ◌^◌, ℕ, ◌+◌, ◌*◌, ◌<◌, ◌≤◌, true, List, [], ◌∷◌, Some, Result, Ok, Err, refl, ap, subst, ◌∙◌, arith, length, map}
+use Rattle.std.proofs.Common.{◌≡◌, ◌^◌, ℕ, ◌+◌, ◌*◌, ◌<◌, ◌≤◌, true, List, [], ◌∷◌, Some, Result, Ok, Err, refl, sym, ap, subst, ◌∙◌, inl, arith, length, map}
 use Rattle.std.specs.Prelude.{OnOk, option_map, slice_index}
 use Rattle.std.specs.List.{AllByRecursion, list_all, range_with_len}
 use Rattle.std.proofs.lemmas.List.FromFn.{get_or-map-range_with_len}
@@ -15,12 +15,12 @@ use Rattle.lvm_group.specs.declared.runs.Run.{Run}
 use Rattle.lvm_group.specs.declared.growth.Piece.{Piece}
 use Rattle.lvm_group.specs.Runs.{IsOrderly, Linear, data_start, extents_of}
 use Rattle.lvm_group.specs.Shown.{IsInside, contents_of, total}
-use Rattle.lvm_group.specs.Sequences.{AreSingle}
+use Rattle.lvm_group.specs.Sequences.{AreSingle, AreTold}
 use Rattle.lvm_group.specs.Group.{linear_in, all_apart}
 use Rattle.lvm_group.specs.Growth.{AreBelow, behind_runs, fits, grown, is_within, pieces, started}
 use Rattle.lvm_group.specs.Own.{HoldAll, in_row, own_group, own_lv, own_pv, own_pvs}
 use Rattle.lvm_group.specs.Ids.{group_id, group_name, text_id}
-use Rattle.lvm_group.specs.Made.{AreFree, ArePicks, AreTold, Makes, Means, new_group, new_volume}
+use Rattle.lvm_group.specs.Made.{AreFree, ArePicks, Makes, Means, new_group, new_volume}
 use Rattle.lvm_group.specs.Writing.{AreStarts, Puts, new_targets, own_label, own_location, start_at}
 use Rattle.lvm_group.proofs.Grown.{pieces_few, pieces_small, started_count}
 use Rattle.lvm_group.proofs.GrownRuns.{grown_apart, grown_row, grown_within}
@@ -28,7 +28,8 @@ use Rattle.lvm_group.proofs.OwnText.{IsWritable, own_is_own, runs_back, small_ar
 use Rattle.lvm_group.proofs.Passed.{both}
 use Rattle.lvm_group.proofs.TextStands.{there_at}
 use Rattle.lvm_group.proofs.OwnGroup.{own_inside, own_orderly}
-use Rattle.lvm_group.proofs.Written.{group_written, none_bad}
+use Rattle.lvm_group.specs.Images.{LeavesVolume}
+use Rattle.lvm_group.proofs.Written.{area_there, group_written, none_bad}
 use Rattle.lvm_group.proofs.NewTargets.{new_written}
 
 new_count : (numbers : List ℕ) → length (grown [] numbers) ≤ length numbers
@@ -98,6 +99,30 @@ new_means pool extent a b numbers text c labels headers some few holds short rea
           (own_is_own pool extent (length numbers) a.sectors 1 numbers (grown [] numbers) (new_writable extent a.sectors numbers few holds)) are;
     }
 
+-- it can be extended
+pub new_settled : (pool : List ℕ) (extent : ℕ) (a b : Seen) (numbers text : List ℕ) → HaveLabelsDecoded → HaveHeadersDecoded → 0 < length numbers → length numbers ≤ 16 → HoldAll extent a.sectors 0 numbers
+    → length text ≤ 262144 → group_of text ≡ Ok (new_group pool extent a.sectors numbers) → Puts a b (new_targets pool a.sectors [] text (length numbers)) {X = Unit {0}} (Ok tt) → AreSingle a b (length numbers)
+    → ((array : ℕ) → array < length numbers → IsLabel (own_label pool array (a.sectors array))) → ((array : ℕ) → array < length numbers → IsLocation (own_location (512 * (start_at [] array).sector) text)) → AreTold a b (length numbers) → AreFree a (length numbers)
+    → LeavesVolume pool (length numbers) (new_volume extent numbers) 1 a.sectors b
+new_settled pool extent a b numbers text labels headers some few holds short read puts single are_labels location told free =
+    let after : Image = λ d s. (b.held d s).current in
+    let are = new_written a b pool [] text (length numbers) after fresh_starts short puts single are_labels location told (λ d s below less. inl refl) free in
+    let own = own_is_own pool extent (length numbers) a.sectors 1 numbers (grown [] numbers) (new_writable extent a.sectors numbers few holds) in (
+      after,
+      λ d s v below less may. single d s v below (told d s below less) may,
+      record {
+        areas = λ array below. area_there pool array (a.sectors array) (start_at [] array).sector text (after array) labels (are array below);
+        means = record {
+          group = new_group pool extent a.sectors numbers;
+          found = group_written pool a.sectors [] (length numbers) text after (new_group pool extent a.sectors numbers) labels headers fresh_starts some short read are;
+          own = own;
+          sound = none_bad pool extent a.sectors [] (length numbers) text after (new_group pool extent a.sectors numbers) labels headers fresh_starts some short read own are;
+          volume = sym (new_runs pool extent a.sectors numbers few);
+          numbered = refl;
+        };
+      },
+    )
+
 -- ---- as it is made
 
 own_pvs_same : (pool : List ℕ) (f g : ℕ → ℕ) (array : ℕ) (numbers : List ℕ) → ((i : ℕ) → i < array + length numbers → f i ≡ g i) → own_pvs pool f array numbers ≡ own_pvs pool g array numbers
@@ -142,6 +167,7 @@ pub makes_by : (a b : Seen) (pool : List ℕ) (extent : ℕ) (numbers text : Lis
 makes_by a b pool extent numbers text (Ok done) labels headers some few holds short read puts single are_labels location = record {
   single = single;
   means = λ told free c picks. new_means pool extent a b numbers text c labels headers some few holds short read puts single are_labels location told free picks;
+  settled = λ told free. new_settled pool extent a b numbers text labels headers some few holds short read puts single are_labels location told free;
 }
 makes_by a b pool extent numbers text (Err gone) labels headers some few holds short read puts single are_labels location = tt
 

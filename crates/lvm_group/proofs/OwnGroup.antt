@@ -1,6 +1,6 @@
 -- The volume of a group that the pool writes is orderly, and lies inside its arrays.
 use Rattle.std.proofs.Common.{◌≡◌, ◌⊎◌, ◌^◌, ℕ, zero, suc, ◌+◌, ◌-◌, ◌*◌, ◌<◌, ◌≤◌, ◌==◌, ◌&&◌, ◌||◌, Bool, true, false, inl, inr, List, [], ◌∷◌, Option, Some, None, refl, sym, ap, subst, ◌∙◌, arith}
-use Rattle.std.specs.Prelude.{length, slice_get, nat_le, nat_lt, not, is_some, bytes_eq, option_map}
+use Rattle.std.specs.Prelude.{length, max, min, slice_get, nat_le, nat_lt, not, is_some, bytes_eq, option_map}
 use Rattle.std.specs.Option.{option_map_or}
 use Rattle.std.specs.List.{list_all}
 use Rattle.std.proofs.lemmas.Bool.{cases_eq, cases_lt, eq-eqb, eqb-true, leb-true, ltb-true}
@@ -117,13 +117,11 @@ not_true false first second = cc
 -- one extent of an array isn't in both
 not_both : (run other : Run) (extent place : ℕ) → are_apart run other ≡ true → run.start ≤ extent → extent < run.start + run.count → other.start ≤ place → place < other.start + other.count
     → run.array ≡ other.array → run.first + (extent - run.start) ≡ other.first + (place - other.start) → ⊥
-not_both run other extent place apart starts ends other_starts other_ends array same = elim (either (not (run.array == other.array)) (nat_le (run.first + run.count) other.first || nat_le (other.first + other.count) run.first) apart) [
-  | inl elsewhere ↦ not_true (run.array == other.array) elsewhere (eq-eqb run.array other.array array)
-  | inr beside ↦ elim (either (nat_le (run.first + run.count) other.first) (nat_le (other.first + other.count) run.first) beside) [
-    | inl before ↦ let up = leb-true (run.first + run.count) other.first before in absurd (omega arith)
-    | inr behind ↦ let up = leb-true (other.first + other.count) run.first behind in absurd (omega arith)
-  ]
-]
+not_both run other extent place apart starts ends other_starts other_ends array same =
+    elim (either (not (run.array == other.array)) (nat_le (min (run.first + run.count) (other.first + other.count)) (max run.first other.first)) apart) [
+      | inl elsewhere ↦ not_true (run.array == other.array) elsewhere (eq-eqb run.array other.array array)
+      | inr beside ↦ let up = leb-true (min (run.first + run.count) (other.first + other.count)) (max run.first other.first) beside in absurd (omega arith)
+    ]
 
 same_run : (runs : List Run) (i j : ℕ) (run other : Run) → slice_get runs i ≡ Some run → slice_get runs j ≡ Some other → i ≡ j → run ≡ other
 same_run runs i j run other at there same = let one : slice_get runs i ≡ Some other = ap (slice_get runs) same ∙ there in cc

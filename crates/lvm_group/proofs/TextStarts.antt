@@ -69,7 +69,7 @@ by_location : (o : Option Location) → (1 ≤ option_map_or sector_behind o 1) 
 by_location None = (omega arith, omega arith)
 by_location (Some l) = behind_inside l (is_inside own_area l) refl
 
-by_header : (o : Option Header) → (1 ≤ (start_by o).sector) × ((start_by o).sector < 2040)
+pub by_header : (o : Option Header) → (1 ≤ (start_by o).sector) × ((start_by o).sector < 2040)
 by_header None = (omega arith, omega arith)
 by_header (Some header) = by_location (location_in header)
 

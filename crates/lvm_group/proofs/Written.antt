@@ -1,5 +1,5 @@
 -- What stands in arrays on which label, header and text of the pool's group were written: the group.
-use Rattle.std.proofs.Common.{◌≡◌, ℕ, zero, suc, ◌+◌, ◌-◌, ◌*◌, ◌<◌, ◌≤◌, ◌==◌, ◌&&◌, Bool, true, false, List, [], ◌∷◌, Option, Some, None, Ok, refl, ap, ◌∙◌, arith, length, map}
+use Rattle.std.proofs.Common.{◌≡◌, ℕ, zero, suc, ◌+◌, ◌-◌, ◌*◌, ◌<◌, ◌≤◌, ◌==◌, ◌&&◌, Bool, true, false, List, [], ◌∷◌, Option, Some, None, Ok, refl, sym, ap, ◌∙◌, arith, length, map}
 use Rattle.std.specs.Prelude.{nat_eq, nat_lt, slice_get}
 use Rattle.std.specs.List.{find, range_with_len, starts_with}
 use Rattle.std.proofs.lemmas.Bool.{eq-eqb, le-leb, lt-ltb}
@@ -10,7 +10,9 @@ use Rattle.lvm_text.specs.declared.group.Group.{Group}
 use Rattle.lvm_text.specs.Group.{group_of}
 use Rattle.rack.specs.Seen.{Image}
 use Rattle.lvm_group.specs.declared.parts.Part.{Part}
+use Rattle.lvm_label.specs.declared.label.Label.{Label}
 use Rattle.lvm_group.specs.Ids.{label_id, pv_id}
+use Rattle.lvm_group.specs.Images.{HasOwnArea}
 use Rattle.lvm_group.specs.Parts.{Array, group_at, header_at, label_on, part_by, part_of}
 use Rattle.lvm_group.specs.Group.{ahead, first_bad, group_in, highest, is_bad, is_own_group, names_array, parts_in}
 use Rattle.lvm_group.specs.declared.starts.TextStart.{TextStart}
@@ -35,6 +37,15 @@ written_part pool array sectors first text group =
 label_there : (pool : List ℕ) (array sectors first : ℕ) (text : List ℕ) (a : Array) → HaveLabelsDecoded → IsWritten pool array sectors first text a → label_on a ≡ Some (own_label pool array sectors)
 label_there pool array sectors first text a labels is =
     rw (is.label, labels (own_label pool array sectors) (a 0) (a 2 ∷ a 3 ∷ []) is.is_label is.free) refl
+
+pub area_there : (pool : List ℕ) (array sectors first : ℕ) (text : List ℕ) (a : Array) → HaveLabelsDecoded → IsWritten pool array sectors first text a → HasOwnArea a
+area_there pool array sectors first text a labels is = record {
+  free = is.free;
+  area = λ label at.
+      let same : Some label ≡ Some (own_label pool array sectors) = sym at ∙ label_there pool array sectors first text a labels is in
+      let one : label ≡ own_label pool array sectors = cc in
+      ap (λ (l : Label). slice_get l.metadata.items 0) one;
+}
 
 header_there : (pool : List ℕ) (array sectors first : ℕ) (text : List ℕ) (a : Array) → HaveHeadersDecoded → IsWritten pool array sectors first text a
     → header_at a own_area ≡ Some (own_header (own_location (512 * first) text ∷ []))
@@ -81,12 +92,12 @@ mapped_at f [] i y at = cc
 mapped_at f (x ∷ xs) zero y at = (x, refl, cc)
 mapped_at f (x ∷ xs) (suc i) y at = mapped_at f xs i y at
 
-range_below : (from count i x : ℕ) → slice_get (range_with_len from count) i ≡ Some x → (from ≤ x) × (x < from + count)
+pub range_below : (from count i x : ℕ) → slice_get (range_with_len from count) i ≡ Some x → (from ≤ x) × (x < from + count)
 range_below from zero i x at = cc
 range_below from (suc count) zero x at = let same : from ≡ x = cc in (omega arith, omega arith)
 range_below from (suc count) (suc i) x at = let rest = range_below (from + 1) count i x at in let one = rest.0 in let two = rest.1 in (omega arith, omega arith)
 
-find_none : (p : ℕ → Bool) (xs : List ℕ) → ((i x : ℕ) → slice_get xs i ≡ Some x → p x ≡ false) → find p xs ≡ None
+pub find_none : (p : ℕ → Bool) (xs : List ℕ) → ((i x : ℕ) → slice_get xs i ≡ Some x → p x ≡ false) → find p xs ≡ None
 find_none p [] fails = refl
 find_none p (x ∷ xs) fails = rw (fails 0 x refl) (find_none p xs (λ i y at. fails (suc i) y at))
 

@@ -1,6 +1,6 @@
 -- What a change of the group writes and leaves. Labels, empty headers and the new text come first; the headers with the text come last,
 -- once all else is durable.
-use Rattle.std.specs.Prelude.{◌≡◌, ◌⊎◌, ℕ, ◌+◌, ◌-◌, ◌/◌, ◌<◌, ◌≤◌, false, nat_lt, if◌then◌else◌, List, Option, Some, None, unwrap_or, Result, OnOk}
+use Rattle.std.specs.Prelude.{◌≡◌, ◌⊎◌, ℕ, ◌+◌, ◌-◌, ◌/◌, ◌<◌, false, nat_lt, if◌then◌else◌, List, Option, Some, None, unwrap_or, Result, OnOk}
 use Rattle.std.specs.Option.{option_map_or}
 use Rattle.std.specs.Result.{result_ok}
 use Rattle.lvm_label.specs.declared.header.Location.{Location}

@@ -1,5 +1,5 @@
 -- The volume group of a pool as its arrays' contents say it, and the volume that it keeps.
-use Rattle.std.specs.Prelude.{ℕ, ◌+◌, ◌*◌, ◌^◌, ◌==◌, ◌&&◌, ◌||◌, Bool, true, false, nat_le, nat_lt, not, is_some, bytes_eq, if◌then◌else◌, List, [], ◌∷◌, length, map, Option, Some, None, option_map}
+use Rattle.std.specs.Prelude.{ℕ, ◌+◌, ◌*◌, ◌^◌, ◌==◌, ◌&&◌, ◌||◌, Bool, true, false, nat_le, nat_lt, not, is_some, bytes_eq, min, max, if◌then◌else◌, List, [], ◌∷◌, length, map, Option, Some, None, option_map}
 use Rattle.std.specs.Option.{option_map_or}
 use Rattle.std.specs.List.{find, list_all, list_any, range_with_len}
 use Rattle.rack.specs.Seen.{Image}
@@ -29,6 +29,15 @@ unfoldable pub highest : List (Option Group) → Option Group
 highest [] = None
 highest (None ∷ others) = highest others
 highest (Some g ∷ others) = ahead g (highest others)
+
+-- of two groups in a row the one of highest seqno, of equal ones the first
+abbrev pub newer : Option Group → Option Group → Option Group
+newer None o = o
+newer (Some g) None = Some g
+newer (Some g) (Some h) = if nat_lt g.seqno h.seqno then Some h else Some g
+
+abbrev pub seqno_of : Option Group → Option ℕ
+seqno_of o = option_map (λ (g : Group). g.seqno) o
 
 -- the parts of the joined arrays
 abbrev pub parts_in : Image → (ℕ → ℕ) → ℕ → List Part
@@ -103,7 +112,7 @@ lies_in pvs run = option_map_or (λ (pv : Pv). nat_le (run.first + run.count) pv
 
 -- two runs share no extent of an array
 abbrev pub are_apart : Run → Run → Bool
-are_apart run other = not (run.array == other.array) || (nat_le (run.first + run.count) other.first || nat_le (other.first + other.count) run.first)
+are_apart run other = not (run.array == other.array) || nat_le (min (run.first + run.count) (other.first + other.count)) (max run.first other.first)
 
 unfoldable pub all_apart : List Run → Bool
 all_apart [] = true

@@ -15,3 +15,6 @@ pub mod Made
 pub mod Opening
 pub mod Changing
 pub mod Extending
+pub mod Images
+pub mod Brought
+pub mod Framed

@@ -2,7 +2,7 @@
 use Rattle.std.specs.Prelude.{◌≡◌, ℕ, ◌<◌, false, nat_eq, List, [], length, Some, None, Err}
 use Rattle.std.specs.List.{starts_with}
 use Rattle.rack.specs.Values.{MayLeave}
-use Rattle.rack.specs.Seen.{Image, Seen, IsLive}
+use Rattle.rack.specs.Seen.{Image, Seen}
 use Rattle.rack.specs.Targets.{Target}
 use Rattle.lvm_label.specs.Label.{label_word}
 use Rattle.lvm_text.specs.declared.group.Group.{Group}
@@ -12,16 +12,13 @@ use Rattle.lvm_group.specs.declared.volume.VolumeFault.TheVariants as fault
 use Rattle.lvm_group.specs.Writing.{Puts, new_targets}
 use Rattle.lvm_group.specs.Runs.{Linear}
 use Rattle.lvm_group.specs.Shown.{contents_of}
-use Rattle.lvm_group.specs.Sequences.{AreSingle}
+use Rattle.lvm_group.specs.Sequences.{AreSingle, AreTold}
+use Rattle.lvm_group.specs.Images.{LeavesVolume}
 use Rattle.lvm_group.specs.Group.{first_bad, group_in, volume_in}
 use Rattle.lvm_group.specs.Growth.{grown}
 use Rattle.lvm_group.specs.Own.{own_group}
 
--- the sectors before the first extents of the first arrays are told, and not spent at the end
-abbrev pub AreTold : Seen → Seen → ℕ → Type 0
-AreTold a b arrays = (d s : ℕ) → d < arrays → s < 2048 → IsLive a b d s
-
--- their first sectors have no label, as LVM2 would find it before that of sector 1
+-- the first sectors of the first arrays have no label, as LVM2 would find it before that of sector 1
 abbrev pub AreFree : Seen → ℕ → Type 0
 AreFree a arrays = (d : ℕ) → d < arrays → starts_with nat_eq (a.held d 0).current label_word ≡ false
 
@@ -46,6 +43,7 @@ pub record Means (pool : List ℕ) (extent : ℕ) (sectors : ℕ → ℕ) (numbe
 pub record Makes (pool : List ℕ) (extent : ℕ) (numbers : List ℕ) (a b : Seen) : Type 0 where
   pub single : AreSingle a b (length numbers)
   pub means : AreTold a b (length numbers) → AreFree a (length numbers) → (c : Image) → ArePicks b (length numbers) c → Means pool extent a.sectors numbers c
+  pub settled : AreTold a b (length numbers) → AreFree a (length numbers) → LeavesVolume pool (length numbers) (new_volume extent numbers) 1 a.sectors b
 
 -- what making a volume writes
 abbrev pub made_targets : List ℕ → ℕ → (ℕ → ℕ) → List ℕ → List Target

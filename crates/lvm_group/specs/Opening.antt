@@ -1,8 +1,8 @@
 -- What opening a volume answers: it goes by what stands in the joined arrays as they were read. A sector that was
 -- refused is one that has no bytes.
-use Rattle.std.specs.Prelude.{◌≡◌, ℕ, ◌<◌, ◌≤◌, ◌==◌, ◌&&◌, ◌||◌, Bool, false, true, not, is_some, List, [], length, map, slice_get, Option, Some, None}
+use Rattle.std.specs.Prelude.{◌≡◌, ℕ, ◌<◌, ◌==◌, ◌&&◌, ◌||◌, Bool, false, true, not, is_some, List, length, map, slice_get, Option, Some, None}
 use Rattle.std.specs.Option.{option_map_or}
-use Rattle.std.specs.List.{find, range_with_len}
+use Rattle.std.specs.List.{find, list_all, range_with_len}
 use Rattle.rack.specs.Seen.{Image, Seen, Rose}
 use Rattle.lvm_text.specs.declared.group.Pv.{Pv}
 use Rattle.lvm_text.specs.declared.group.Group.{Group}
@@ -10,7 +10,7 @@ use Rattle.lvm_group.specs.declared.parts.Part.{Part}
 use Rattle.lvm_group.specs.declared.volume.VolumeFault.{VolumeFault}
 use Rattle.lvm_group.specs.declared.volume.VolumeFault.TheVariants as fault
 use Rattle.lvm_group.specs.Parts.{has_bad_text}
-use Rattle.lvm_group.specs.Reading.{IsNow, held_on}
+use Rattle.lvm_group.specs.Reading.{IsNow, IsTextOf, held_on}
 use Rattle.lvm_group.specs.Found.{AreParts}
 use Rattle.lvm_group.specs.Runs.{Linear}
 use Rattle.lvm_group.specs.Group.{group_in, first_bad, has_own_label, highest, is_bad_by, is_own_group, linear_in, pv_of}
@@ -20,6 +20,10 @@ use Rattle.lvm_group.specs.Group.{group_in, first_bad, has_own_label, highest, i
 -- the group text that counts
 abbrev pub group_by : List Part → Option Group
 group_by parts = highest (map (λ (part : Part). part.group) parts)
+
+-- a part says a group of this seqno
+abbrev pub says : ℕ → Part → Bool
+says seqno part = option_map_or (λ (g : Group). g.seqno == seqno) part.group false
 
 -- the array of this number is bad
 abbrev pub is_bad_among : List ℕ → ℕ → (ℕ → ℕ) → List Part → ℕ → Bool
@@ -86,6 +90,12 @@ pub record Opens (pool : List ℕ) (extent joined : ℕ) (a b : Seen) (l : Linea
   pub read : WereRead a b joined parts
   pub runs : HasRuns pool extent a.sectors parts l seqno
   pub means : (c : Image) → AreServed a b joined → AreNow a joined c → Means pool extent joined a.sectors l seqno (within_sectors a c)
+
+-- A volume that was read, whether each array says a group of its seqno, and the text of its group.
+pub record Finds (pool : List ℕ) (extent joined : ℕ) (a b : Seen) (l : Linear) (seqno : ℕ) (even : Bool) (text : List ℕ) : Type 0 where
+  pub opens : Opens pool extent joined a b l seqno
+  pub kept : IsTextOf text opens.runs.group
+  pub all : even ≡ list_all (says seqno) opens.parts
 
 -- An array for which none was opened: the lowest bad one by what was read, and where no sector was refused, by the contents.
 pub record IsBadVolume (pool : List ℕ) (extent joined : ℕ) (a b : Seen) (array : ℕ) : Type 0 where

@@ -1,6 +1,8 @@
 -- What reading an array gives, where sectors may be refused or spent meanwhile.
-use Rattle.std.specs.Prelude.{◌≡◌, ◌⊎◌, ℕ, ◌<◌, ◌≤◌, false, nat_lt, if◌then◌else◌, List, []}
+use Rattle.std.specs.Prelude.{◌≡◌, ◌⊎◌, ℕ, ◌<◌, ◌≤◌, false, nat_lt, if◌then◌else◌, List, [], length, Ok}
 use Rattle.rack.specs.Seen.{Seen, Rose}
+use Rattle.lvm_text.specs.declared.group.Group.{Group}
+use Rattle.lvm_text.specs.Group.{group_of}
 use Rattle.lvm_group.specs.Parts.{Array}
 
 -- an array's current contents, told, but for sectors that are spent
@@ -20,3 +22,8 @@ AreRead a b array now c = (sector : ℕ) → IsRead a b array now sector (c sect
 -- the contents where nothing was refused
 abbrev pub held_on : Seen → ℕ → Array → Array
 held_on a array now = λ sector. if nat_lt sector (a.sectors array) then now sector else []
+
+-- a text of at most 262144 bytes says a group
+pub record IsTextOf (text : List ℕ) (group : Group) : Type 0 where
+  pub says : group_of text ≡ Ok group
+  pub short : length text ≤ 262144

@@ -5,6 +5,10 @@ use Rattle.rack.specs.Values.{MayLeave}
 use Rattle.rack.specs.Seen.{Seen, IsLive, Rose, Stays}
 use Rattle.rack.specs.Calls.{KeepsAll}
 
+-- the sectors before the first extents of the first arrays, so many, are told, and not spent at the end
+abbrev pub AreTold : Seen → Seen → ℕ → Type 0
+AreTold a b arrays = (d s : ℕ) → d < arrays → s < 2048 → IsLive a b d s
+
 -- each sector of the first disks has one value
 abbrev pub AreSingle : Seen → Seen → ℕ → Type 0
 AreSingle a b disks =

@@ -1,12 +1,14 @@
 -- What a change writes on the arrays: labels, headers and the new text.
-use Rattle.std.specs.Prelude.{◌≡◌, ℕ, zero, suc, ◌+◌, ◌-◌, ◌*◌, ◌/◌, ◌<◌, ◌≤◌, Bool, List, [], ◌∷◌, ◌++◌, nat_lt, if◌then◌else◌, true, false, slice_get, unwrap_or, length, take, drop, Some, Result, OnOk, IfErr}
+use Rattle.std.specs.Prelude.{◌≡◌, ℕ, zero, suc, ◌+◌, ◌-◌, ◌*◌, ◌/◌, ◌^◌, ◌<◌, ◌≤◌, Bool, List, [], ◌∷◌, ◌++◌, nat_lt, if◌then◌else◌, true, false, slice_get, unwrap_or, length, take, drop, Some, Result, Ok, OnOk, IfErr}
 use Rattle.lvm_label.specs.declared.label.Area.{Area}
 use Rattle.lvm_label.specs.declared.label.Label.{Label}
 use Rattle.lvm_label.specs.declared.header.Location.{Location}
 use Rattle.lvm_label.specs.declared.header.Header.{Header}
 use Rattle.lvm_label.specs.Fields.{padded}
-use Rattle.lvm_label.specs.Label.{label_bytes, label_from}
-use Rattle.lvm_label.specs.Header.{header_bytes, header_from}
+use Rattle.lvm_label.specs.Label.{HaveLabelsDecoded, IsLabel, label_bytes, label_from}
+use Rattle.lvm_label.specs.Header.{HaveHeadersDecoded, IsLocation, header_bytes, header_from}
+use Rattle.lvm_text.specs.declared.group.Group.{Group}
+use Rattle.lvm_text.specs.Group.{group_of}
 use Rattle.shr_base.specs.Crc.{lvm_crc_of}
 use Rattle.rack.specs.declared.Gone.{Gone}
 use Rattle.rack.specs.Seen.{Seen, IsLive, Rose}
@@ -107,3 +109,12 @@ pub record Puts (a b : Seen) (xs : List Target) {X : Type 0} (result : Result X 
   pub gone : IfErr result (λ e. (e.disk < a.disks) × Rose (a.faults e.disk) (b.faults e.disk))
   pub spent : a.steady → IfErr result (λ e. (sector : ℕ) × (b.spent e.disk sector ≡ true))
   pub done : OnOk result ((d s : ℕ) (w : List ℕ) → IsLive a b d s → look xs d s ≡ Some w → (b.held d s).current ≡ w)
+
+-- what is written of the text of a group on the first arrays, so many, is read again: labels, headers, locations and the text
+pub record IsReadBack (pool text : List ℕ) (n : ℕ) (sectors : ℕ → ℕ) (group : Group) : Type 0 where
+  pub labels : HaveLabelsDecoded
+  pub headers : HaveHeadersDecoded
+  pub label : (array : ℕ) → array < n → IsLabel (own_label pool array (sectors array))
+  pub location : (offset : ℕ) → 0 < offset → offset < 2 ^ 64 → IsLocation (own_location offset text)
+  pub short : length text ≤ 262144
+  pub read : group_of text ≡ Ok group

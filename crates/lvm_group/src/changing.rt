@@ -1,17 +1,20 @@
 //! Changing the group that stands in the arrays.
 
-ghost use Rattle.std.specs.Prelude.{◌≡◌, ◌<◌, ◌≤◌, ◌+◌, ℕ, length};
+ghost use Rattle.std.specs.Prelude.{◌≡◌, ◌↔◌, ◌<◌, ◌≤◌, ◌+◌, ℕ, IsTrue, length};
 ghost use Rattle.std.specs.List.{AllByRecursion};
 ghost use Rattle.lvm_text.specs.Printed.{printed};
+ghost use Rattle.lvm_group.specs.Brought.{HaveAreas, Rewrites};
 ghost use Rattle.lvm_group.specs.Changing.{Changes};
 ghost use Rattle.lvm_group.specs.Extending.{next_seqno};
 ghost use Rattle.lvm_group.specs.Own.{HoldAll, own_group};
+ghost use Rattle.lvm_group.specs.Writing.{IsReadBack};
 
 use crate::making::sizes;
 use crate::printing::print_own;
 use crate::runs::Run;
 use crate::starts::read_starts;
-use crate::writing::put_new;
+use crate::writing::{own_labels_fit, own_locations_fit, put_new};
+use lvm_label::{encoded_headers_decode, encoded_labels_decode};
 use lvm_text::Text;
 use rack::{Gone, Rack};
 use shr_base::Id;
@@ -46,6 +49,39 @@ pub(crate) fn put_change<R: Rack>(
     put_new(rack, pool, arrays, starts.as_slice(), text)
 }
 
+/// Whether the first arrays, so many, have room for their metadata.
+fn have_areas<R: Rack>(rack: &R, arrays: u32) -> bool
+    requires fit { (R.seen rack.now).fit }
+    requires arrays { arrays ≤ (R.seen rack.now).disks }
+    ensures { IsTrue result ↔ HaveAreas (R.seen rack.now).sectors arrays }
+{
+    for array in 0..arrays {
+        if rack.sectors(array) < 2048 {
+            return false;
+        }
+    }
+    true
+}
+
+/// Writes the newest text on the first arrays, so many, as a change does, unless they are even: where they are at most
+/// 16 and have room for it. An array that refuses a call ends this: each array says the newest text then or what it said.
+pub(crate) fn bring_up<R: Rack>(rack: &mut R, pool: &Id, arrays: u32, even: bool, text: &[u8])
+    requires fit { (R.seen rack.old).fit }
+    requires arrays { arrays ≤ (R.seen rack.old).disks }
+    requires short { length text.now ≤ 262144 }
+    ensures rewrites { Rewrites pool.now.0 text.now arrays even (R.seen rack.old) (R.seen rack.new) }
+    ensures runs { R.runs rack.old rack.new }
+{
+    if even || arrays > 16 || !have_areas(rack, arrays) {
+        return;
+    }
+    encoded_labels_decode();
+    encoded_headers_decode();
+    own_labels_fit(rack, pool, arrays);
+    own_locations_fit(text);
+    let _ = put_change(rack, pool, arrays, text);
+}
+
 /// Writes the group of a volume with these runs on as many arrays as there are numbers of extents.
 pub(crate) fn put_grown<R: Rack>(
     rack: &mut R,
@@ -64,6 +100,8 @@ pub(crate) fn put_grown<R: Rack>(
     requires short { length runs.now ≤ 1024 }
     requires room { 262144 ≤ length text.old.bytes + text.old.spare }
     ensures changes { Changes pool.now.0 (printed (own_group pool.now.0 extent (R.seen rack.old).sectors seqno numbers.now runs.now)) (length numbers.now) (R.seen rack.old) (R.seen rack.new) result }
+    ensures read_back { IsReadBack pool.now.0 (printed (own_group pool.now.0 extent (R.seen rack.old).sectors seqno numbers.now runs.now)) (length numbers.now)
+        (R.seen rack.old).sectors (own_group pool.now.0 extent (R.seen rack.old).sectors seqno numbers.now runs.now) }
     ensures room { length text.old.bytes + text.old.spare ≤ length text.new.bytes + text.new.spare }
     ensures runs { R.runs rack.old rack.new }
 {
@@ -71,5 +109,10 @@ pub(crate) fn put_grown<R: Rack>(
     let sectors = sizes(rack, arrays);
     text.clear();
     print_own(pool, extent, sectors.as_slice(), seqno, numbers, runs, text);
-    put_change(rack, pool, arrays, text.as_slice())
+    encoded_labels_decode();
+    encoded_headers_decode();
+    own_labels_fit(rack, pool, arrays);
+    let printed = text.as_slice();
+    own_locations_fit(printed);
+    put_change(rack, pool, arrays, printed)
 }

@@ -23,7 +23,7 @@ use shr_base::Id;
 use std::alloc::Global;
 
 /// Bytes of the longest text.
-const MOST_TEXT: usize = 262144;
+pub(crate) const MOST_TEXT: usize = 262144;
 
 /// The room of a volume: twice for the runs of as many segments as a text may have, and for a text.
 #[derive(Debug, Drop)]

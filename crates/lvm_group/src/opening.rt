@@ -1,12 +1,12 @@
 //! Finding the volume of a group that stands in arrays.
 
 ghost use Rattle.std.specs.Prelude.{◌≡◌, ◌≤◌, ◌<◌, ◌^◌, IfErr, IfOk, length, map, slice_index, option_copied, ◌+◌};
-ghost use Rattle.std.specs.List.{range_with_len};
+ghost use Rattle.std.specs.List.{list_all, range_with_len};
 ghost use Rattle.std.specs.Option.{option_map_or};
 ghost use Rattle.rack.specs.Sequences.{OnlyReads};
 ghost use Rattle.lvm_group.specs.Group.{ahead, has_own_label};
 ghost use Rattle.lvm_group.specs.Parts.{has_bad_text};
-ghost use Rattle.lvm_group.specs.Opening.{HasFault, HasRuns, IsUnopened, Opens, first_bad_with, group_by, is_bad_with};
+ghost use Rattle.lvm_group.specs.Opening.{Finds, HasFault, HasRuns, IsUnopened, first_bad_with, group_by, is_bad_with, says};
 
 use crate::parts::{Part, location_in, read_parts};
 use crate::profile::{extents_of, own_runs};
@@ -23,6 +23,8 @@ pub(crate) struct Opened {
     pub runs: Vec<Run>,
     /// The seqno of the group's text.
     pub seqno: u64,
+    /// Whether each array says a group of this seqno.
+    pub even: bool,
 }
 
 /// The sectors of the first arrays, so many.
@@ -107,6 +109,24 @@ fn first_bad(pool: &Id, pvs: &[Pv], parts: &[Part]) -> Option<u32>
     None
 }
 
+/// Whether each part says a group of this seqno.
+fn are_even(parts: &[Part], seqno: u64) -> bool
+    ensures { result ≡ list_all (says seqno) parts.now }
+{
+    let mut rest = parts;
+    while let Some((part, after)) = rest.split_first() {
+        if !part
+            .group
+            .as_ref()
+            .is_some_and(|group| group.seqno == seqno)
+        {
+            return false;
+        }
+        rest = after;
+    }
+    true
+}
+
 /// The volume that stands in arrays of these sectors, by their parts.
 fn runs_by(
     alloc: Global,
@@ -120,6 +140,7 @@ fn runs_by(
     requires same { length sectors.now ≡ length parts.now }
     ensures runs { IfOk result (λ opened. HasRuns pool.now.0 extent (slice_index sectors.now) parts.now
         (record { extent = extent; arrays = length parts.now; runs = opened.runs.items }) opened.seqno) }
+    ensures even { IfOk result (λ opened. opened.even ≡ list_all (says opened.seqno) parts.now) }
     ensures fault { IfErr result (HasFault pool.now.0 extent (slice_index sectors.now) parts.now) }
 {
     let Some(group) = highest(parts) else {
@@ -136,11 +157,13 @@ fn runs_by(
         None => Ok(Opened {
             runs,
             seqno: group.seqno,
+            even: are_even(parts, group.seqno),
         }),
     }
 }
 
-/// Reads the joined arrays, so many, for their volume, by a buffer with room for the longest text.
+/// Reads the joined arrays, so many, for their volume, by a buffer with room for the longest text, and keeps the text
+/// of its group in another one.
 pub(crate) fn find_runs<R: Rack>(
     alloc: Global,
     rack: &mut R,
@@ -148,22 +171,24 @@ pub(crate) fn find_runs<R: Rack>(
     extent: u32,
     joined: u32,
     into: &mut Text,
+    kept: &mut Text,
 ) -> Result<Opened, VolumeFault>
     requires fit { (R.seen rack.old).fit }
     requires some { 0 < joined }
     requires joined { joined ≤ (R.seen rack.old).disks }
     requires room { 262144 ≤ length into.old.bytes + into.old.spare }
+    requires kept_room { 262144 ≤ length kept.old.bytes + kept.old.spare }
     ensures looks { OnlyReads (R.seen rack.old) (R.seen rack.new) }
     ensures kept { R.runs rack.old rack.new }
-    ensures opens { IfOk result (λ opened. Opens pool.now.0 extent joined (R.seen rack.old) (R.seen rack.new)
-        (record { extent = extent; arrays = joined; runs = opened.runs.items }) opened.seqno) }
-    ensures room { IfOk result (λ opened. length into.old.bytes + into.old.spare ≤ length into.new.bytes + into.new.spare) }
+    ensures opens { IfOk result (λ opened. Finds pool.now.0 extent joined (R.seen rack.old) (R.seen rack.new)
+        (record { extent = extent; arrays = joined; runs = opened.runs.items }) opened.seqno opened.even kept.new.bytes) }
+    ensures room { IfOk result (λ opened. 262144 ≤ length into.new.bytes + into.new.spare) }
     ensures refused { IfErr result (IsUnopened pool.now.0 extent joined (R.seen rack.old) (R.seen rack.new)) }
 {
     let Ok(sectors) = sectors_of(alloc, rack, joined) else {
         return Err(VolumeFault::Memory);
     };
-    let Ok(parts) = read_parts(alloc, rack, joined, into) else {
+    let Ok(parts) = read_parts(alloc, rack, joined, into, kept) else {
         return Err(VolumeFault::Memory);
     };
     runs_by(alloc, pool, extent, sectors.as_slice(), parts.as_slice())

@@ -1,9 +1,12 @@
 //! What stands in an array for its group, found by reading.
 
-ghost use Rattle.std.specs.Prelude.{◌≡◌, ◌<◌, ◌≤◌, ◌+◌, ◌++◌, ◌∷◌, ◌^◌, [], IfOk, OnOk, length};
+ghost use Rattle.std.specs.Prelude.{◌≡◌, ◌<◌, ◌≤◌, ◌+◌, ◌++◌, ◌∷◌, ◌^◌, [], IfOk, IfSome, OnOk, Option, length, nat_lt, true};
+ghost use Rattle.std.specs.Option.{option_map_or};
 ghost use Rattle.lvm_group.specs.Parts.{Array, area_of, location_in};
 ghost use Rattle.rack.specs.Sequences.{OnlyReads};
-ghost use Rattle.lvm_group.specs.Reading.{IsNow};
+ghost use Rattle.lvm_group.specs.Reading.{IsNow, IsTextOf};
+ghost use Rattle.lvm_group.specs.Group.{newer, seqno_of};
+ghost use Rattle.lvm_group.specs.Opening.{group_by};
 ghost use Rattle.lvm_group.specs.Found.{AreParts, IsInArea, IsPart};
 
 use crate::reading::{read_group, read_header, read_label};
@@ -11,6 +14,7 @@ use lvm_label::{Area, Header, Label, Location};
 use lvm_text::{Group, Text};
 use rack::{NoMemory, Rack};
 use std::alloc::Global;
+use std::mem::swap;
 
 /// Where the header stands on an array without a label.
 const OWN_HEADER_SECTOR: u64 = 8;
@@ -70,6 +74,7 @@ fn read_in_area<R: Rack>(
     ensures runs { R.runs rack.old rack.new }
     ensures found { IfOk result (λ found. (now : Array) → IsNow (R.seen rack.old) array now
         → IsInArea (R.seen rack.old) (R.seen rack.new) array now area found.header found.group) }
+    ensures said { IfOk result (λ found. IfSome found.group (IsTextOf into.new.bytes)) }
     ensures room { length into.old.bytes + into.old.spare ≤ length into.new.bytes + into.new.spare }
 {
     let mut found = InArea {
@@ -108,6 +113,7 @@ pub(crate) fn read_part<R: Rack>(
     ensures runs { R.runs rack.old rack.new }
     ensures part { IfOk result (λ part. (now : Array) → IsNow (R.seen rack.old) array now
         → IsPart (R.seen rack.old) (R.seen rack.new) array now part) }
+    ensures said { IfOk result (λ part. IfSome part.group (IsTextOf into.new.bytes)) }
     ensures room { length into.old.bytes + into.old.spare ≤ length into.new.bytes + into.new.spare }
 {
     let sectors = rack.sectors(array);
@@ -138,25 +144,62 @@ fn append(parts: &mut Vec<Part>, part: Part) -> Result<(), NoMemory>
     }
 }
 
-/// Reads the parts of the first arrays, so many, by a buffer with room for the longest text.
+/// Whether a group is newer than one of this seqno, or the first one.
+fn is_newer(group: &Group, newest: Option<u64>) -> bool
+    ensures { result ≡ option_map_or (λ seqno. nat_lt seqno group.now.seqno) newest true }
+{
+    match newest {
+        Some(seqno) => seqno < group.seqno,
+        None => true,
+    }
+}
+
+/// Keeps a part's text where its group is newer than the one of the kept text, whose seqno is given; the seqno of the
+/// group of the text that is kept then.
+fn keep_newer(part: &Part, newest: Option<u64>, text: &mut Text, kept: &mut Text) -> Option<u64>
+    requires said { IfSome part.now.group (IsTextOf text.old.bytes) }
+    requires room { 262144 ≤ length text.old.bytes + text.old.spare }
+    requires kept_room { 262144 ≤ length kept.old.bytes + kept.old.spare }
+    ensures keeps { (o : Option Group) → newest ≡ seqno_of o → IfSome o (IsTextOf kept.old.bytes)
+        → (result ≡ seqno_of (newer o part.now.group)) × IfSome (newer o part.now.group) (IsTextOf kept.new.bytes) }
+    ensures room { 262144 ≤ length text.new.bytes + text.new.spare }
+    ensures kept_room { 262144 ≤ length kept.new.bytes + kept.new.spare }
+{
+    let Some(group) = &part.group else {
+        return newest;
+    };
+    if !is_newer(group, newest) {
+        return newest;
+    }
+    swap(text, kept);
+    Some(group.seqno)
+}
+
+/// Reads the parts of the first arrays, so many, and keeps the text of the group that counts. Both buffers have room
+/// for the longest text.
 pub(crate) fn read_parts<R: Rack>(
     alloc: Global,
     rack: &mut R,
     joined: u32,
     into: &mut Text,
+    kept: &mut Text,
 ) -> Result<Vec<Part>, NoMemory>
     requires fit { (R.seen rack.old).fit }
     requires joined { joined ≤ (R.seen rack.old).disks }
     requires room { 262144 ≤ length into.old.bytes + into.old.spare }
+    requires kept_room { 262144 ≤ length kept.old.bytes + kept.old.spare }
     ensures looks { OnlyReads (R.seen rack.old) (R.seen rack.new) }
     ensures runs { R.runs rack.old rack.new }
     ensures count { IfOk result (λ parts. length parts.items ≡ joined) }
-    ensures room { IfOk result (λ parts. length into.old.bytes + into.old.spare ≤ length into.new.bytes + into.new.spare) }
+    ensures said { IfOk result (λ parts. IfSome (group_by parts.items) (IsTextOf kept.new.bytes)) }
+    ensures room { IfOk result (λ parts. 262144 ≤ length into.new.bytes + into.new.spare) }
     ensures parts { IfOk result (λ parts. AreParts (R.seen rack.old) (R.seen rack.new) joined parts.items) }
 {
     let mut parts = Vec::new(alloc);
+    let mut newest = None;
     for array in 0..joined {
         let part = read_part(alloc, rack, array, into)?;
+        newest = keep_newer(&part, newest, into, kept);
         append(&mut parts, part)?;
     }
     Ok(parts)

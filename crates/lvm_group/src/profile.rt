@@ -136,9 +136,9 @@ fn all_lie(pvs: &[Pv], runs: &[Run]) -> bool
 fn are_apart(run: &Run, other: &Run) -> bool
     ensures { result ≡ are_apart run.now other.now }
 {
-    run.array != other.array
-        || u128::from(run.first) + u128::from(run.count) <= u128::from(other.first)
-        || u128::from(other.first) + u128::from(other.count) <= u128::from(run.first)
+    let end = u128::from(run.first) + u128::from(run.count);
+    let other_end = u128::from(other.first) + u128::from(other.count);
+    run.array != other.array || end.min(other_end) <= u128::from(run.first.max(other.first))
 }
 
 /// Whether a run shares none with others.

@@ -4,7 +4,7 @@ ghost use Rattle.std.specs.Prelude.{◌≡◌, ◌<◌, ◌≤◌, ◌+◌, ◌^
 ghost use Rattle.std.specs.Result.{result_ok};
 ghost use Rattle.lvm_group.specs.Parts.{Array, behind, group_at, is_inside, label_on, row_at, text_at};
 ghost use Rattle.rack.specs.Sequences.{OnlyReads};
-ghost use Rattle.lvm_group.specs.Reading.{AreRead, IsNow, IsRead, held_on};
+ghost use Rattle.lvm_group.specs.Reading.{AreRead, IsNow, IsRead, IsTextOf, held_on};
 ghost use Rattle.lvm_label.specs.Header.{header_of};
 ghost use Rattle.lvm_text.specs.Group.{group_of};
 ghost use Rattle.lvm_text.specs.Written.{Grows};
@@ -136,6 +136,7 @@ fn read_text<R: Rack>(
         → text_at (held_on (R.seen rack.old) array now) area.now location.now ≡ Some into.new.bytes }
     ensures none { IsFalse result → (now : Array) → IsNow (R.seen rack.old) array now
         → (c : Array) × AreRead (R.seen rack.old) (R.seen rack.new) array now c × (text_at c area.now location.now ≡ None) }
+    ensures short { length into.new.bytes ≤ location.now.size }
     ensures room { length into.old.bytes + into.old.spare ≤ length into.new.bytes + into.new.spare }
 {
     into.clear();
@@ -188,6 +189,7 @@ pub(crate) fn read_group<R: Rack>(
     ensures runs { R.runs rack.old rack.new }
     ensures group { IfOk result (λ found. (now : Array) → IsNow (R.seen rack.old) array now
         → (c : Array) × AreRead (R.seen rack.old) (R.seen rack.new) array now c × (found ≡ group_at c area.now location.now)) }
+    ensures said { IfOk result (λ found. IfSome found (IsTextOf into.new.bytes)) }
     ensures room { length into.old.bytes + into.old.spare ≤ length into.new.bytes + into.new.spare }
 {
     if !is_inside(area, location) {

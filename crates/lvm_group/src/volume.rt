@@ -7,12 +7,13 @@ ghost use Rattle.lvm_group.specs.Runs.{IsOrderly, extents_of};
 ghost use Rattle.lvm_group.specs.Shown.{IsInside, volume_of};
 ghost use Rattle.lvm_group.specs.Laws.{is_sound};
 
-use crate::changing::{next_seqno, put_grown};
+use crate::changing::{bring_up, next_seqno, put_grown};
 use crate::growth::{copy, fits, grow};
-use crate::making::{extents_in, make, take_room};
+use crate::making::{MOST_TEXT, extents_in, make, take_room};
 use crate::opening::find_runs;
 use crate::runs::{Run, Spot, spot_with};
 use crate::syncing::sync_first;
+use lvm_label::{encoded_headers_decode, encoded_labels_decode};
 use lvm_text::Text;
 use rack::{Back, Gone, Rack};
 use shr_base::Id;
@@ -63,10 +64,11 @@ pub struct Volume<R> {
 
 impl<R: Rack> Rack for Volume<R> {
     ghost use Rattle.lvm_group.specs.Volume.{linear};
+    ghost use Rattle.lvm_group.specs.Framed.{Frames, frames_same, frames_then};
 
     ghost seen = { λ volume. volume_of (linear volume) (R.seen volume.rack) };
 
-    ghost runs = { λ old new. R.runs old.rack new.rack };
+    ghost runs = { λ old new. R.runs old.rack new.rack × Frames R.seen old new };
 
     ghost lenders = { λ volume. R.lenders volume.rack };
 
@@ -103,11 +105,11 @@ impl<R: Rack> Rack for Volume<R> {
 
     ghost sound = { λ volume fit traced. is_sound (linear volume) (R.seen volume.rack) volume.orderly fit.1 (R.sound volume.rack fit.0 traced) };
 
-    ghost runs_same = { λ volume. R.runs_same volume.rack };
+    ghost runs_same = { λ volume. (R.runs_same volume.rack, frames_same R.seen volume) };
 
-    ghost runs_then = { λ x y z one two. R.runs_then x.rack y.rack z.rack one two };
+    ghost runs_then = { λ x y z one two. (R.runs_then x.rack y.rack z.rack one.0 two.0, frames_then R.seen x y z one.1 two.1) };
 
-    ghost runs_lenders = { λ x y runs. R.runs_lenders x.rack y.rack runs };
+    ghost runs_lenders = { λ x y runs. R.runs_lenders x.rack y.rack runs.0 };
 }
 
 impl<R: Rack> Volume<R> {
@@ -116,6 +118,9 @@ impl<R: Rack> Volume<R> {
     ghost use Rattle.lvm_group.specs.Changing.{Changes};
     ghost use Rattle.lvm_group.specs.Extending.{extended, next_group, next_seqno};
     ghost use Rattle.lvm_group.specs.Growth.{AreBelow, fits};
+    ghost use Rattle.lvm_group.specs.Brought.{BringsUp};
+    ghost use Rattle.lvm_group.specs.Images.{IsNew, IsOldOrNew};
+    ghost use Rattle.rack.specs.Moments.{Leaves};
     ghost use Rattle.lvm_group.specs.Made.{IsUnmade, Makes, made_targets, new_volume};
     ghost use Rattle.lvm_group.specs.Own.{HoldAll};
     ghost use Rattle.lvm_group.specs.Opening.{IsUnopened, Opens};
@@ -192,6 +197,9 @@ impl<R: Rack> Volume<R> {
     /// lowest array that is bad: its header has a location that gives no group, or the group names it and it has no
     /// label with its id and no header, or it is the first one and the group isn't the pool's. A sector that is
     /// refused has no bytes.
+    ///
+    /// Where a joined array doesn't say a group of this seqno, its text is then written on all of them, as
+    /// [`Volume::extend`] writes one. An array that refuses this keeps what it said: the volume is open all the same.
     pub fn open(
         alloc: Global,
         rack: R,
@@ -204,10 +212,10 @@ impl<R: Rack> Volume<R> {
         requires sized { 0 < extent }
         requires some { 0 < joined }
         requires arrays { joined ≤ (R.seen rack).disks }
-        ensures opens { IfOk result (λ volume. Opens pool.now.0 extent joined (R.seen rack) (R.seen volume.rack) (linear volume) (seqno_of volume)) }
+        ensures opens { IfOk result (λ volume. (opens : Opens pool.now.0 extent joined (R.seen rack) (R.seen volume.rack) (linear volume) (seqno_of volume))
+            × BringsUp pool.now.0 joined (linear volume) (seqno_of volume) opens.runs.group (R.seen rack) (R.seen volume.rack)) }
         ensures pool { IfOk result (λ volume. pool_of volume ≡ pool.now.0) }
         ensures fit { IfOk result (λ volume. (volume_of (linear volume) (R.seen volume.rack)).fit) }
-        ensures looks { IfOk result (λ volume. OnlyReads (R.seen rack) (R.seen volume.rack)) }
         ensures refused { IfErr result (λ back. IsUnopened pool.now.0 extent joined (R.seen rack) (R.seen back.rack) back.why) }
         ensures looked { IfErr result (λ back. OnlyReads (R.seen rack) (R.seen back.rack)) }
         ensures kept { IfOk result (λ volume. R.runs rack volume.rack) }
@@ -219,10 +227,28 @@ impl<R: Rack> Volume<R> {
                 why: VolumeFault::Memory,
             });
         };
+        let Ok(kept) = Text::with_room(alloc, MOST_TEXT) else {
+            return Err(Back {
+                rack,
+                why: VolumeFault::Memory,
+            });
+        };
+        encoded_labels_decode();
+        encoded_headers_decode();
         let mut room = room;
+        let mut kept = kept;
         let mut rack = rack;
-        match find_runs(alloc, &mut rack, pool, extent, joined, &mut room.text) {
+        match find_runs(
+            alloc,
+            &mut rack,
+            pool,
+            extent,
+            joined,
+            &mut room.text,
+            &mut kept,
+        ) {
             Ok(opened) => {
+                bring_up(&mut rack, pool, joined, opened.even, kept.as_slice());
                 copy(&mut room.runs, opened.runs.as_slice());
                 let count = extents_in(opened.runs.as_slice());
                 Ok(Volume {
@@ -265,6 +291,9 @@ impl<R: Rack> Volume<R> {
         requires fits { IsTrue (fits (linear self.old).runs extents.now) }
         ensures changes { Changes (pool_of self.old) (printed (next_group (pool_of self.old) (linear self.old) (R.seen (below_of self.old)).sectors (seqno_of self.old) extents.now))
             (length extents.now) (R.seen (below_of self.old)) (R.seen (below_of self.new)) result }
+        ensures images { (R.seen (below_of self.old)).traced → Leaves (R.seen (below_of self.old)) (R.seen (below_of self.new))
+            (IsOldOrNew (pool_of self.old) (linear self.old) (seqno_of self.old) extents.now (R.seen (below_of self.old)) (R.seen (below_of self.new))) }
+        ensures renewed { OnOk result (IsNew (pool_of self.old) (linear self.old) (seqno_of self.old) extents.now (R.seen (below_of self.old)) (R.seen (below_of self.new))) }
         ensures volume { OnOk result (linear self.new ≡ extended (linear self.old) extents.now) }
         ensures seqno { OnOk result (seqno_of self.new ≡ next_seqno (seqno_of self.old)) }
         ensures same { OnErr result ((linear self.new ≡ linear self.old) × (seqno_of self.new ≡ seqno_of self.old)) }

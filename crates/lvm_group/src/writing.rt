@@ -175,6 +175,24 @@ fn text_header(offset: u64, text: &[u8]) -> [u8; 512]
     })
 }
 
+/// The labels of the first arrays, so many, have fields that fit.
+pub(crate) fn own_labels_fit<R: Rack>(rack: &R, pool: &Id, arrays: u32)
+    requires fit { (R.seen rack.now).fit }
+    requires arrays { arrays ≤ (R.seen rack.now).disks }
+    ensures { (array : ℕ) → array < arrays → IsLabel (own_label pool.now.0 array ((R.seen rack.now).sectors array)) }
+{
+    for array in 0..arrays {
+        let _ = label_sector(pool, array, rack.sectors(array));
+    }
+}
+
+/// So have the locations of a text.
+pub(crate) fn own_locations_fit(text: &[u8])
+    ensures { (offset : ℕ) → 0 < offset → offset < 2 ^ 64 → IsLocation (own_location offset text.now) }
+{
+    let _ = (text.len(), lvm_crc(text));
+}
+
 /// Writes an empty header, where there is none.
 fn put_blank<R: Rack>(rack: &mut R, array: u32, blank: bool) -> Result<(), Gone>
     requires fit { (R.seen rack.old).fit }

@@ -1,4 +1,4 @@
-use Rattle.std.proofs.Common.{◌≡◌, ℕ, ◌<◌, ◌≤◌, List, [], ◌++◌, Result, Ok, Err, true, sym, subst}
+use Rattle.std.proofs.Common.{◌≡◌, ℕ, ◌<◌, List, [], Ok, Err, true, sym, subst}
 use Rattle.rack.specs.declared.Gone.{Gone}
 use Rattle.rack.specs.Targets.{Target, look}
 use Rattle.rack.specs.Seen.{Seen, Rose}
@@ -7,7 +7,7 @@ use Rattle.rack.specs.Sequences.{IsPayload, OnlyReads}
 use Rattle.rack.proofs.Writing.{only_quiet}
 use Rattle.lvm_group.specs.declared.starts.TextStart.{TextStart}
 use Rattle.lvm_group.specs.Writing.{AreStarts, Puts, first_targets, header_target, new_targets, targets_to}
-use Rattle.lvm_group.specs.Changing.{AreBehind, Changes, IsInTurn}
+use Rattle.lvm_group.specs.Changing.{AreBehind, IsInTurn}
 use Rattle.lvm_group.proofs.Putting.{puts_cut, puts_then, single_then}
 use Rattle.lvm_group.proofs.Turns.{turn_behind, turn_cut}
 use Rattle.lvm_group.proofs.TextStarts.{starts_behind, starts_in, starts_inside}

@@ -1,4 +1,4 @@
-use Rattle.std.proofs.Common.{◌≡◌, ◌∙◌, ℕ, Bool, Option, Some, sym, ap, true, false, arith, length}
+use Rattle.std.proofs.Common.{◌≡◌, ◌∙◌, ℕ, Bool, Option, sym, ap, true, false, arith, length}
 use Rattle.std.specs.Prelude.{slice_get}
 use Rattle.std.specs.Option.{option_map_or}
 use Rattle.lvm_group.specs.declared.parts.Part.{Part}

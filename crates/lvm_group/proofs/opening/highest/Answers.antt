@@ -1,5 +1,5 @@
-use Rattle.std.proofs.Common.{◌≡◌, ℕ, suc, ◌+◌, ◌-◌, ◌∙◌, List, Option, ◌∷◌, sym, ap, ap₂, arith, length, drop, refl, map}
-use Rattle.std.specs.Option.{option_copied, option_map_or}
+use Rattle.std.proofs.Common.{◌≡◌, suc, ◌+◌, ◌-◌, ◌∙◌, Option, ◌∷◌, sym, ap, ap₂, arith, length, drop, map}
+use Rattle.std.specs.Option.{option_map_or}
 use Rattle.lvm_text.specs.declared.group.Group.{Group}
 use Rattle.lvm_group.specs.declared.parts.Part.{Part}
 use Rattle.lvm_group.specs.Group.{ahead, highest}

@@ -1,11 +1,9 @@
-use Rattle.std.proofs.Common.{◌≡◌, ◌∙◌, ℕ, List, Option, Some, None, true, false, sym, ap, subst, refl, length, Vec, Global}
+use Rattle.std.proofs.Common.{◌≡◌, ◌∙◌, List, Option, Some, true, false, sym, ap, subst, refl, length, Vec, Global}
 use Rattle.std.specs.Prelude.{slice_index, is_some, IfSome}
-use Rattle.std.specs.Option.{option_map_or, option_copied}
-use Rattle.lvm_text.specs.declared.group.Group.{Group}
 use Rattle.lvm_text.specs.declared.group.Pv.{Pv}
 use Rattle.lvm_group.specs.declared.runs.Run.{Run}
 use Rattle.lvm_group.specs.Group.{is_own_group, runs_in}
-use Rattle.lvm_group.specs.Opening.{HasRuns, first_bad_with, group_by}
+use Rattle.lvm_group.specs.Opening.{first_bad_with}
 use Rattle.lvm_group.proofs.Answered.{bad_with_group, first_is_bad}
 use Rattle.lvm_group.proofs.OwnGroup.{own_sized}
 use Rattle.lvm_group.proofs.opening.runs_by.Goals as goal

@@ -1,4 +1,8 @@
 use Rattle.std.proofs.Common.{◌≡◌, ◌+◌, ◌≤◌, length}
+use Rattle.std.specs.Prelude.{IfSome}
+use Rattle.lvm_group.specs.Group.{seqno_of}
+use Rattle.lvm_group.specs.Opening.{group_by}
+use Rattle.lvm_group.specs.Reading.{IsTextOf}
 use Rattle.rack.specs.Sequences.{OnlyReads}
 use Rattle.lvm_group.specs.Found.{AreParts}
 use Rattle.lvm_group.proofs.parts.read_parts.Given as goal
@@ -8,7 +12,9 @@ invariant-loop-array g l = record {
   looks : OnlyReads (g.R.Rack.seen l.fn.rack) (g.R.Rack.seen l.rack);
   runs : g.R.Rack.runs l.fn.rack l.rack;
   room : 262144 ≤ length l.into.bytes + l.into.spare;
-  kept : length l.fn.into.bytes + l.fn.into.spare ≤ length l.into.bytes + l.into.spare;
+  kept_room : 262144 ≤ length l.kept.bytes + l.kept.spare;
+  newest : l.newest ≡ seqno_of (group_by l.parts.items);
+  said : IfSome (group_by l.parts.items) (IsTextOf l.kept.bytes);
   count : length l.parts.items ≡ l.array;
   parts : AreParts (g.R.Rack.seen l.fn.rack) (g.R.Rack.seen l.rack) l.array l.parts.items;
 }

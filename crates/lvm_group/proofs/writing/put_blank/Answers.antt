@@ -1,5 +1,4 @@
-use Rattle.std.proofs.Common.{◌≡◌, ℕ, Bool, true, false, Ok, sym, subst}
-use Rattle.rack.specs.Seen.{Seen}
+use Rattle.std.proofs.Common.{Bool, Ok, sym, subst}
 use Rattle.lvm_group.specs.Writing.{Puts, blank_targets}
 use Rattle.lvm_group.proofs.Putting.{puts_none}
 use Rattle.lvm_group.proofs.writing.put_blank.Goals as goal

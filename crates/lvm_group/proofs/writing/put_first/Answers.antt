@@ -2,7 +2,7 @@ use Rattle.std.proofs.Common.{◌≡◌, ℕ, List, [], ◌∷◌, ◌++◌, Ok,
 use Rattle.lvm_label.specs.Label.{label_bytes}
 use Rattle.rack.specs.declared.Gone.{Gone}
 use Rattle.rack.specs.Seen.{Seen}
-use Rattle.rack.specs.Targets.{Target, target}
+use Rattle.rack.specs.Targets.{target}
 use Rattle.lvm_group.specs.declared.starts.TextStart.{TextStart}
 use Rattle.lvm_group.specs.Writing.{Puts, blank_targets, label_targets, own_label, start_at, text_targets}
 use Rattle.lvm_group.proofs.Putting.{puts_cut, puts_then}

@@ -1,7 +1,7 @@
 use Rattle.std.proofs.Common.{◌≡◌, ℕ, ◌+◌, ◌*◌, ◌<◌, List, [], ◌∷◌, ap, subst, ◌∙◌, inl, inr, arith}
 use Rattle.std.proofs.lemmas.Bool.{cases_lt}
 use Rattle.lvm_label.specs.Header.{IsLocation, header_bytes}
-use Rattle.rack.specs.Targets.{Target, target}
+use Rattle.rack.specs.Targets.{target}
 use Rattle.lvm_group.specs.declared.starts.TextStart.{TextStart}
 use Rattle.lvm_group.specs.Writing.{header_target, own_header, own_location, start_at}
 use Rattle.lvm_group.proofs.Putting.{puts_start, puts_more, puts_refused, puts_all}

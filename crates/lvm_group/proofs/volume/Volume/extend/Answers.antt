@@ -1,16 +1,17 @@
-use Rattle.std.proofs.Common.{◌≡◌, ◌<◌, ◌≤◌, ◌+◌, ℕ, max, true, List, ap, sym, subst, ◌∙◌, arith, length, Vec, Global}
+use Rattle.std.proofs.Common.{◌≡◌, ◌<◌, ◌≤◌, max, true, List, Ok, ap, sym, subst, ◌∙◌, arith, length, Vec, Global}
 use Rattle.std.specs.Prelude.{vec_capacity}
 use Rattle.std.specs.List.{AllByRecursion}
 use Rattle.lvm_group.specs.declared.runs.Run.{Run}
 use Rattle.lvm_group.specs.Runs.{IsOrderly, Linear, extents_of}
 use Rattle.lvm_group.specs.Group.{all_apart}
 use Rattle.lvm_group.specs.Growth.{grown}
-use Rattle.lvm_group.specs.Own.{in_row}
+use Rattle.lvm_group.specs.Own.{in_row, own_group}
 use Rattle.lvm_group.specs.Shown.{IsInside}
 use Rattle.lvm_group.proofs.Below.{inside_still}
 use Rattle.lvm_group.proofs.Extended.{fits_parts, next_inside, next_orderly, next_writable, small_extents}
 use Rattle.lvm_group.proofs.GrownRuns.{grown_within}
 use Rattle.lvm_group.proofs.NewVolume.{arrays_small}
+use Rattle.lvm_group.proofs.Renewed.{extended_end, extended_images, next_is_group}
 use Rattle.lvm_group.proofs.volume.Volume.extend.Goals as goal
 
 pub grow-requires-clause-bounded : goal.grow-requires-clause-bounded
@@ -87,3 +88,45 @@ returns-clause-fit g c =
           (subst (λ (runs : List Run). IsInside (record { extent = v.extent; arrays = joined; runs = runs }) a) (sym runs_are)
           (next_inside v.pool.0 v.extent joined a 1 c.args.extents.now v.runs.items c.requires.few (omega arith) inside.small c.requires.fits is)),
     )
+
+pub returns-clause-images : goal.returns-clause-images
+returns-clause-images g c =
+    let v = c.args.self.now in
+    let a = g.R.Rack.seen v.rack in
+    let l : Linear = record { extent = v.extent; arrays = v.arrays; runs = v.runs.items } in
+    let runs_are = c.as_slice-2.ensures.value ∙ c.grow.ensures.items ∙ ap (λ (runs : List Run). grown runs c.args.extents.now) c.as_slice.ensures.value in
+    extended_images v.pool.0 l v.seqno c.args.extents.now (Ok tt) (own_group v.pool.0 v.extent a.sectors c.next_seqno-seqno.result c.args.extents.now c.as_slice-2.result.now)
+    (record { some = c.requires.some; few = c.requires.few; holds = c.requires.holds; numbered = v.numbered; row = v.row; apart = v.apart; fitting = c.requires.fits })
+    (record {
+      is = next_is_group v.pool.0 l a.sectors v.seqno c.next_seqno-seqno.result c.args.extents.now c.as_slice-2.result.now c.next_seqno-seqno.ensures runs_are;
+      back = c.in_ok-put_grown.ensures.read_back;
+      changes = c.in_ok-put_grown.ensures.changes;
+    })
+
+pub returns-in_err-put_grown-clause-images : goal.returns-in_err-put_grown-clause-images
+returns-in_err-put_grown-clause-images g c =
+    let v = c.args.self.now in
+    let a = g.R.Rack.seen v.rack in
+    let l : Linear = record { extent = v.extent; arrays = v.arrays; runs = v.runs.items } in
+    let runs_are = c.as_slice-2.ensures.value ∙ c.grow.ensures.items ∙ ap (λ (runs : List Run). grown runs c.args.extents.now) c.as_slice.ensures.value in
+    extended_images v.pool.0 l v.seqno c.args.extents.now c.put_grown.result (own_group v.pool.0 v.extent a.sectors c.next_seqno-seqno.result c.args.extents.now c.as_slice-2.result.now)
+    (record { some = c.requires.some; few = c.requires.few; holds = c.requires.holds; numbered = v.numbered; row = v.row; apart = v.apart; fitting = c.requires.fits })
+    (record {
+      is = next_is_group v.pool.0 l a.sectors v.seqno c.next_seqno-seqno.result c.args.extents.now c.as_slice-2.result.now c.next_seqno-seqno.ensures runs_are;
+      back = c.put_grown.ensures.read_back;
+      changes = c.put_grown.ensures.changes;
+    })
+
+pub returns-clause-renewed : goal.returns-clause-renewed
+returns-clause-renewed g c =
+    let v = c.args.self.now in
+    let a = g.R.Rack.seen v.rack in
+    let l : Linear = record { extent = v.extent; arrays = v.arrays; runs = v.runs.items } in
+    let runs_are = c.as_slice-2.ensures.value ∙ c.grow.ensures.items ∙ ap (λ (runs : List Run). grown runs c.args.extents.now) c.as_slice.ensures.value in
+    extended_end v.pool.0 l v.seqno c.args.extents.now (Ok tt) (own_group v.pool.0 v.extent a.sectors c.next_seqno-seqno.result c.args.extents.now c.as_slice-2.result.now)
+    (record { some = c.requires.some; few = c.requires.few; holds = c.requires.holds; numbered = v.numbered; row = v.row; apart = v.apart; fitting = c.requires.fits })
+    (record {
+      is = next_is_group v.pool.0 l a.sectors v.seqno c.next_seqno-seqno.result c.args.extents.now c.as_slice-2.result.now c.next_seqno-seqno.ensures runs_are;
+      back = c.in_ok-put_grown.ensures.read_back;
+      changes = c.in_ok-put_grown.ensures.changes;
+    })

@@ -1,3 +1,6 @@
+use Rattle.std.proofs.Common.{refl}
+use Rattle.rack.proofs.Writing.{only_quiet}
+use Rattle.lvm_group.specs.Framed.{IsShown}
 use Rattle.lvm_group.specs.Volume.{linear}
 use Rattle.lvm_group.proofs.Below.{read_volume, unread_volume}
 use Rattle.lvm_group.proofs.volume.VolumeRack.read.Goals as goal
@@ -11,3 +14,15 @@ pub returns-in-Err-clause-reads : goal.returns-in-Err-clause-reads
 returns-in-Err-clause-reads g c =
     unread_volume {l = linear c.args.self.now} c.args.disk c.args.sector _ c.in-Err.field-0 c.args.self.now.orderly c.requires.fit.1 c.requires.sector
     (rw (← c.spot-spot.ensures.array, ← c.spot-spot.ensures.sector) c.in-Err.ensures.reads)
+
+pub returns-in-Ok-clause-runs : goal.returns-in-Ok-clause-runs
+returns-in-Ok-clause-runs g c = (
+  c.in-Ok.ensures.runs,
+  record { volume = refl; pool = refl; seqno = refl; writes = λ fit. only_quiet (IsShown (linear c.args.self.now)) c.in-Ok.ensures.reads.stays c.in-Ok.ensures.reads.keeps },
+)
+
+pub returns-in-Err-clause-runs : goal.returns-in-Err-clause-runs
+returns-in-Err-clause-runs g c = (
+  c.in-Err.ensures.runs,
+  record { volume = refl; pool = refl; seqno = refl; writes = λ fit. only_quiet (IsShown (linear c.args.self.now)) c.in-Err.ensures.reads.stays c.in-Err.ensures.reads.keeps },
+)
