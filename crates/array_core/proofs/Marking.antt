@@ -22,6 +22,7 @@ use Rattle.array_model.specs.View.{IsArray, shape_of, may_vary, is_alone}
 use Rattle.array_model.specs.Says.{Says, Holds}
 use Rattle.array_model.specs.Members.{HasSlices, Notes}
 use Rattle.array_model.proofs.Moves.{Moves, KeepsOthers, moves_then, moves_by, moves_of, acts_of}
+use Rattle.array_model.proofs.DataFrames.{even_unsynced}
 use Rattle.array_model.proofs.RowWrites.{whole_seat}
 use Rattle.array_core.specs.Pool.{MayRenew}
 use Rattle.array_core.specs.Superblocks.{raised}
@@ -52,17 +53,6 @@ readied v w a b true whole fresh unmarked is marks = now_marked whole fresh unma
 readied v w a b false whole fresh unmarked is marks = lost_one whole fresh unmarked (sym is) marks
 
 -- ---- the array in it
-
--- no row must agree where all are left to resync
-no_rows : (t : Super) → t.resync_offset ≡ 0 → first_unsynced t ≡ 0
-no_rows t none = by (is_unclean t) refl
-  where
-    by : (b : Bool) → is_unclean t ≡ b → (if b then t.resync_offset / 128 else t.size / 128) ≡ 0
-    by true is = omega (arith, none)
-    by false is = let low : t.size ≤ t.resync_offset = ltb-false t.resync_offset t.size is in omega (arith, none, low)
-
-even_none : (shape : Shape) (n first : ℕ) (c : Image) → first ≡ 0 → AreEven shape n first c
-even_none shape n first c none x inside synced counts = absurd (omega (arith, synced, none))
 
 -- nothing but superblocks of its own was written
 pub supers_others : (v : View) (a b : Seen) → v.number < 16 → WritesOnly a b (IsNewSuper v) → KeepsOthers v.number a b
@@ -113,7 +103,7 @@ mark_moves s v w a b is_array slices whole unmarked marks may vals spent =
     let there : slice_get v.seats 0 ≡ Some Whole = whole_seat v 0 is_array whole first in
     renew_moves s v (raised v.truth.events) 0 false a b is_array may.state may.rows raise.0 raise.1 (inr refl) slices.lasting may.supers marks.writes.only
     w.marked (Holds s (shape_of v) v vals spent a) vals spent may.fresh (λ h. h)
-    (λ h c inside mix. even_none (shape_of v) v.number _ (replayed a.sectors c) (no_rows (unsynced v).truth refl))
+    (λ h c inside mix. even_unsynced (shape_of v) v.number (unsynced v).truth (replayed a.sectors c) refl)
     (λ h steady. h.shape.settled (steady_before v w unmarked steady))
     (λ is. refl)
     (λ is.
