@@ -25,3 +25,4 @@ pub mod RowLists
 pub mod RowOwed
 pub mod RowLogged
 pub mod LogWrites
+pub mod WriteCalls

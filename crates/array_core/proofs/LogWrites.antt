@@ -1,5 +1,5 @@
 -- A sector that is written by one commit: what is left of the array and of the log, whoever went in it.
-use Rattle.std.proofs.Common.{◌≡◌, ◌≢◌, ℕ, zero, suc, ◌+◌, ◌<◌, ◌≤◌, Bool, true, false, ◌==◌, ◌||◌, nat_lt, if◌then◌else◌, List, [], ◌∷◌, filter, length, slice_get, Some, refl, sym, ap, subst, ◌∙◌, eq-eqb, lt-ltb, ltb-true, arith}
+use Rattle.std.proofs.Common.{◌≡◌, ◌≢◌, ℕ, zero, suc, ◌+◌, ◌<◌, ◌≤◌, Bool, true, false, ◌==◌, ◌||◌, nat_lt, if◌then◌else◌, List, [], ◌∷◌, filter, length, slice_get, Some, refl, sym, ap, subst, ◌∙◌, inl, inr, eq-eqb, lt-ltb, ltb-true, arith}
 use Rattle.std.proofs.lemmas.Bool.{both_ways, and_from}
 use Rattle.std.specs.Option.{option_map_or}
 use Rattle.std.specs.List.{list_all, range_with_len}
@@ -27,7 +27,7 @@ use Rattle.array_model.proofs.Moves.{Moves, moves_by, moves_of}
 use Rattle.array_model.proofs.Noting.{holds_lost, losing_of}
 use Rattle.array_model.proofs.RowWrites.{gone_none, holds_values, is_spent, same_values, says_values}
 use Rattle.array_model.proofs.Views.{loses_then, notes_then, same_view_then}
-use Rattle.array_core.specs.Logging.{HasAll, StagedRow, is_due}
+use Rattle.array_core.specs.Logging.{HasAll, StagedRow, Stages, is_due}
 use Rattle.array_core.specs.Pool.{Goes, MayLog}
 use Rattle.array_core.specs.Writing.{Base}
 use Rattle.array_core.proofs.RowLogged.{log_kept, logged_row, nobody}
@@ -57,6 +57,21 @@ nobody_named (p ∷ places) none = absurd (both_ways (names (p ∷ places) p) (n
 first_none : (p q : Bool) → (p || q) ≡ false → p ≡ false
 first_none true q is = absurd (both_ways true is refl)
 first_none false q is = refl
+
+-- ---- what was added
+
+pub staged_row : (all : Bool) (v w : View) (a b : Seen) (x : ℕ) (from : List ℕ) (r : Bool) (added : List Target) → Stages all v w a b x from r added → r ≡ true
+    → StagedRow all v w a x from added
+staged_row all v w a b x from r added stages is = elim stages.either [ inl refused ↦ absurd (both_ways r refused.0 is) | inr row ↦ row.1 ]
+
+pub staged_spent : (all : Bool) (v w : View) (a b : Seen) (x : ℕ) (from : List ℕ) (r : Bool) (added : List Target) → Stages all v w a b x from r added → r ≡ false
+    → (spent_in w x ≡ true) × (added ≡ [])
+staged_spent all v w a b x from r added stages is = elim stages.either [ inl refused ↦ (refused.1, refused.2) | inr row ↦ absurd (both_ways r is row.0) ]
+
+pub staged_list : (all : Bool) (u w : View) (a b : Seen) (x : ℕ) (from : List ℕ) (r : Bool) (added : List Target) → IsArray u → x < sectors_of u → length from ≡ 512
+    → (r ≡ true → spent_in u x ≡ false) → Stages all u w a b x from r added → r ≡ true → RowList all u added
+staged_list all u w a b x from r added is_array low wide unspent stages is =
+    row_list all u w a x from added is_array low wide (unspent is) (staged_row all u w a b x from r added stages is)
 
 -- ---- sectors that the rack has
 

@@ -21,9 +21,9 @@ ghost use Rattle.array_core.specs.Pool.{Goes, MayLog};
 ghost use Rattle.array_core.specs.Writing.{Base};
 ghost use Rattle.array_core.specs.Logging.{HasAll, MakesParity, Stages, StagesChange, due_copies, is_due, one_if, sector_target};
 
-use crate::{Array, Spent};
 use crate::members::{Spread, Stand};
 use crate::reading::DATA_SECTOR;
+use crate::{Array, Spent};
 use commit_log::{Log, Target};
 use parity::xor_into;
 use rack::{Places, Rack};
@@ -240,8 +240,8 @@ impl Array {
         ensures logged { (s : State) (v : View) (vals : ℕ → Values) (spent : ℕ → Bool) → Covers self.new spent
             → Base all v self.old → MayLog s v self.new log.old.number on.now.items (R.seen rack.old)
             → Moves v.number (R.seen rack.old) (R.seen rack.new) (Holds s (shape_of v) v vals spent (R.seen rack.old))
-                (Says s v.number (shape_of v) (appended_at x from.now vals) spent)
-                (Holds s (shape_of v) self.new (appended_at x from.now vals) spent (R.seen rack.new)) }
+            (Says s v.number (shape_of v) (appended_at x from.now vals) spent)
+            (Holds s (shape_of v) self.new (appended_at x from.now vals) spent (R.seen rack.new)) }
         ensures kept { (s : State) (v : View) → Base all v self.old → MayLog s v self.new log.old.number on.now.items (R.seen rack.old)
             → LogKept s log.new.number (has_gone self.new) (R.seen rack.new) }
         ensures notes { Notes self.old self.new (R.seen rack.old) (R.seen rack.new) }

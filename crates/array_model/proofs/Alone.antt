@@ -1,5 +1,5 @@
 -- A mirror of which one member at most is left: it is written past the log.
-use Rattle.std.proofs.Common.{◌≡◌, ◌⊎◌, ℕ, zero, suc, ◌+◌, ◌<◌, ◌≤◌, Bool, true, false, ◌&&◌, ◌||◌, not, nat_lt, nat_le, if◌then◌else◌, List, [], ◌∷◌, map, take, length, slice_get, Option, Some, None, refl, sym, ap, subst, ◌∙◌, inl, inr, lt-ltb, arith}
+use Rattle.std.proofs.Common.{◌≡◌, ◌⊎◌, ℕ, zero, suc, ◌+◌, ◌<◌, ◌≤◌, Bool, true, false, ◌&&◌, ◌||◌, not, nat_lt, nat_le, if◌then◌else◌, List, [], ◌∷◌, map, take, length, slice_get, Option, Some, None, unwrap_or, refl, sym, ap, subst, ◌∙◌, inl, inr, lt-ltb, ltb-true, arith}
 use Rattle.std.proofs.lemmas.Bool.{both_ways, and_parts, leb-true}
 use Rattle.std.specs.List.{list_all}
 use Rattle.std.specs.Option.{option_map_or}
@@ -20,6 +20,7 @@ use Rattle.array_model.specs.declared.Seat.TheVariants.{Missing, Whole, Rebuildi
 use Rattle.array_model.specs.View.{View, IsArray, is_alone, is_whole_array, is_whole_seat, member_on, present, seat_reach, shape_of, spent_in}
 use Rattle.array_model.specs.Members.{slice_on}
 use Rattle.array_model.specs.Rows.{IsPlain, Owes, sector_at, source_at, written}
+use Rattle.array_model.proofs.Copies.{all_want}
 use Rattle.array_model.proofs.Firsts.{firsts, member_among}
 use Rattle.array_model.proofs.Layouts.{final_by, reshaping_parity}
 use Rattle.array_model.proofs.Noting.{length_members}
@@ -42,17 +43,19 @@ present_whole (Whole ∷ seats) all = ap suc (present_whole seats all)
 present_whole (Missing ∷ seats) all = absurd (both_ways false refl all)
 present_whole (Rebuilding to ∷ seats) all = absurd (both_ways false refl all)
 
--- none of the members counts
-none_counts : (t : ℕ) (members : List Member) → first_counting t members ≡ None → wanting t members ≡ length members
-unfolding first_counting
-none_counts t [] none = refl
-none_counts t (m ∷ others) none =
-    let Goal : Bool → Type 0 = λ b. (if b then Some m else first_counting t others) ≡ None → (if b then wanting t others else suc (wanting t others)) ≡ suc (length others) in
-    let goal : Goal (nat_lt t m.reach) = elim (nat_lt t m.reach) as Goal [ true ↦ λ is. cc | false ↦ λ is. ap suc (none_counts t others is) ] in
-    goal none
-
 many_spent : (lacking : ℕ) (synced : Bool) → 2 ≤ lacking → spent_with lacking synced ≡ true
 many_spent lacking synced many = ap (λ (b : Bool). b || (nat_lt 0 lacking && not synced)) (lt-ltb 1 lacking (omega (arith, many)))
+
+pub first_counts : (t : ℕ) (members : List Member) (m : Member) → first_counting t members ≡ Some m → t < m.reach
+unfolding first_counting
+first_counts t [] m is = cc
+first_counts t (first ∷ others) m is =
+    let Goal : Bool → Type 0 = λ b. nat_lt t first.reach ≡ b → (if b then Some first else first_counting t others) ≡ Some m → t < m.reach in
+    let goal : Goal (nat_lt t first.reach) = elim (nat_lt t first.reach) as Goal [
+      | true ↦ λ low here. subst (λ (o : Member). t < o.reach) (ap (λ o. unwrap_or o first) here) (ltb-true t first.reach low)
+      | false ↦ λ none later. first_counts t others m later
+    ] in
+    goal refl is
 
 module _ (v : View) (is_array : IsArray v) (alone : is_alone v ≡ true) where
   few : present v.seats ≤ 1
@@ -113,7 +116,7 @@ module _ (v : View) (is_array : IsArray v) (alone : is_alone v ≡ true) where
 
   pub alone_spent : (y : ℕ) → first_counting y (firsts v v.truth.raid_disks) ≡ None → spent_in v y ≡ true
   alone_spent y none =
-      let long : wanting y (shape_of v).members ≡ length (firsts v v.truth.raid_disks) = ap (wanting y) (shape_members v) ∙ none_counts y (firsts v v.truth.raid_disks) none in
+      let long : wanting y (shape_of v).members ≡ length (firsts v v.truth.raid_disks) = ap (wanting y) (shape_members v) ∙ all_want y (firsts v v.truth.raid_disks) none in
       let count = length_members v in
       ap (λ t. spent_with (wanting t (shape_of v).members) (nat_lt (row_at t) v.resync)) (at y)
       ∙ many_spent (wanting y (shape_of v).members) (nat_lt (row_at y) v.resync) (omega (arith, long, count, is_array.least))
