@@ -26,3 +26,4 @@ pub mod Opening
 pub mod Degraded
 pub mod Copies
 pub mod Alone
+pub mod Sides
