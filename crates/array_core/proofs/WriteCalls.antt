@@ -200,7 +200,6 @@ same_based s v u w number on a b is_array slices many lacks same readies may sta
     is_array = is_array;
     fresh = may.renew.fresh;
     steady = unmarked v.marked refl;
-    still = may.still;
     same = same_view v;
     lost = nobody;
     loses = loses_nobody v;
@@ -240,7 +239,6 @@ marked_based s v u w number on a b is_array slices many whole unmarked lost mark
         is_array = restated_array e 0 u.marked v is_array;
         fresh = may.renew.fresh;
         steady = ap (λ (m : Bool). m || is_alone v) lost ∙ many;
-        still = may.still;
         same = notes.same;
         lost = notes.lost;
         loses = notes.loses;

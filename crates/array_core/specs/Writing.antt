@@ -1,7 +1,6 @@
 -- What a write makes of an array.
 use Rattle.std.specs.Prelude.{◌≡◌, ◌≢◌, ◌⊎◌, ℕ, ◌<◌, Bool, true, false, List, []}
 use Rattle.rack.specs.Seen.{Seen}
-use Rattle.array_image.specs.Supers.{is_reshaping}
 use Rattle.array_model.specs.View.{View, IsArray, LosesPlaces, is_whole_array, may_vary}
 use Rattle.array_model.specs.Members.{IsSameButSeats, Notes}
 use Rattle.array_core.specs.Logging.{is_due}
@@ -12,7 +11,6 @@ pub record Base (all : Bool) (v u : View) : Type 0 where
   pub is_array : IsArray v
   pub fresh : v.went ≡ []
   pub steady : may_vary v ≡ false
-  pub still : is_reshaping v.truth ≡ false
   pub same : IsSameButSeats v u
   pub lost : ℕ → Bool
   pub loses : LosesPlaces v u lost

@@ -142,8 +142,8 @@ module _ (shape : Shape) (k n resync x : ℕ) (from : List ℕ) (cur : Image) (x
         agree
   ]
 
-  pub side_change : RowChange shape n resync x from cur xs
-  side_change = record {
+  pub straight_change : RowChange shape n resync x from cur xs
+  straight_change = record {
     alone = λ y m u source is. elim (apart y) [
       | inl at ↦
           change.alone y m u (straight_source shape k y at ∙ source)
