@@ -19,7 +19,7 @@ use Rattle.array_model.specs.ArrayCalls.{Covers, appended_at}
 use Rattle.array_model.specs.Rows.{RowChange, written}
 use Rattle.array_model.proofs.Losses.{IsLosing}
 use Rattle.array_model.proofs.Moves.{Moves, moves_then, moves_by}
-use Rattle.array_model.proofs.Opening.{even_counted}
+use Rattle.array_model.proofs.Opening.{agree_counted}
 use Rattle.array_core.proofs.Marking.{says_appended}
 use Rattle.md_super.specs.declared.superblock.Super.{Super}
 use Rattle.std.specs.Option.{option_map_or}
@@ -47,7 +47,8 @@ use Rattle.array_core.specs.Pool.{MayLog}
 use Rattle.array_core.proofs.LogFrames.{look_nothing}
 use Rattle.array_core.proofs.RowCommits.{IsOwnData, logged_moves}
 use Rattle.array_core.proofs.RowLists.{own_on}
-use Rattle.array_core.proofs.RowOwed.{Base, RowList, row_owes}
+use Rattle.array_core.specs.Writing.{Base}
+use Rattle.array_core.proofs.RowOwed.{RowList, row_owes}
 
 -- the target of a place
 any_place : (xs : List Target) (p : ℕ) → list_any (λ x. place_of x.disk == p) xs ≡ true → (d s : ℕ) × (u : List ℕ) × IsPayload xs d s u × (place_of d ≡ p)
@@ -161,9 +162,9 @@ change_kept shape n resync x from cur now xs same change =
           value_by_data shape (written xs now) (written xs cur) n y (λ m among counts. over m (sector_in (layout_at shape y) y) among counts)
           ∙ change.value y alive
           ∙ ap (λ (v : List ℕ). if y == x then from else v) (sym (value_by_data shape now cur n y (λ m among counts. same m (sector_in (layout_at shape y) y) among counts)));
-      even = λ rows even.
-          even_counted shape n rows (written xs now) (written xs cur) over
-          (change.even rows (even_counted shape n rows cur now (λ m t among counts. sym (same m t among counts)) even));
+      even = λ y counts agree.
+          agree_counted shape n y (written xs now) (written xs cur) over
+          (change.even y counts (agree_counted shape n y cur now (λ m t among counted. sym (same m t among counted)) agree));
     }
 
 -- A row that was read and changed by one commit, whoever went in it.

@@ -13,7 +13,7 @@ use Rattle.array_image.specs.Places.{member_slice, data_sector}
 use Rattle.array_image.specs.Stripes.{Layout, parity, width, position_in, sector_in, there, given, AgreeIn}
 use Rattle.array_image.specs.Arrays.{Member, Shape, column, layout_at, stripe_in, value_by}
 use Rattle.array_image.specs.Held.{Among, member_at, source_in}
-use Rattle.array_image.specs.Even.{AreEven}
+use Rattle.array_image.specs.Even.{AllCount}
 use Rattle.array_image.specs.Spent.{wanting, spent_with, spent_by}
 use Rattle.array_image.specs.Marks.{lower, unless_gone}
 use Rattle.array_image.proofs.Marked.{among_lowered}
@@ -21,7 +21,7 @@ use Rattle.array_image.proofs.Losing.{length_map}
 use Rattle.array_image.proofs.Frames.{value_by_data}
 use Rattle.array_image.proofs.Sources.{source_counts, source_value}
 use Rattle.array_model.specs.Members.{gathered}
-use Rattle.array_model.specs.Rows.{RowChange, data_at, parity_part, written, source_at, sector_at, part_at, IsPlain}
+use Rattle.array_model.specs.Rows.{AgreeAt, RowChange, data_at, parity_part, written, source_at, sector_at, part_at, IsPlain}
 use Rattle.array_model.proofs.DataFrames.{columns_same}
 use Rattle.array_model.proofs.Firsts.{none_given}
 use Rattle.array_model.proofs.ParityRow.{AreSized, one_new, lengths, same_place, long_xor, data_inside, parity_inside, parity_source}
@@ -442,8 +442,8 @@ module _ (shape : Shape) (k n resync x : ℕ) (from new : List ℕ) (cur : Image
       ] in
       goal refl
 
-  even_now : (rows : ℕ) → AreEven shape n rows cur → AreEven shape n rows (written xs cur)
-  even_now rows even y inside synced counting =
+  even_now : (y : ℕ) → AllCount (layout_at shape y) shape (sector_at shape y) → AgreeAt shape n cur y → AgreeAt shape n (written xs cur) y
+  even_now y counting agree =
       let layout = layout_at shape y in
       let sector = sector_in layout y in
       let y_is : sector ≡ sector_of k y = plain_sector shape (parity k) y plain in
@@ -453,7 +453,7 @@ module _ (shape : Shape) (k n resync x : ℕ) (from new : List ℕ) (cur : Image
         | false ↦ λ no.
             subst (λ stripe. AgreeIn layout (there stripe))
             (sym (columns_same f cur n sector (take (width layout) members) (λ m among counts. sectors_same m sector (λ same. both_ways (sector == t) no (eq-eqb sector t same)))))
-            (even y inside synced counting)
+            agree
         | true ↦ λ is.
             let at : sector ≡ t = eqb-true sector t is in
             let count_all : (j : ℕ) → j < length members → t < (part_at j members).reach =
@@ -461,7 +461,7 @@ module _ (shape : Shape) (k n resync x : ℕ) (from new : List ℕ) (cur : Image
             let sum : (c : Image) → AreSized (filled c n t) members → xor_all 512 (there (stripe_in c n shape layout sector)) ≡ total c n t members =
             λ c sizes. ap₂ (λ (ms : List Member) i. xor_all 512 (there (map (column c n i) ms))) all at ∙ total_there c n t members sizes in
             let old : total cur n t members ≡ zeros 512 =
-            sym (sum cur g_sized) ∙ subst (λ (l : Layout). AgreeIn l (there (stripe_in cur n shape layout sector))) (plain.layout_is y) (even y inside synced counting) in
+            sym (sum cur g_sized) ∙ subst (λ (l : Layout). AgreeIn l (there (stripe_in cur n shape layout sector))) (plain.layout_is y) agree in
             subst (λ (l : Layout). AgreeIn l (there (stripe_in f n shape layout sector))) (sym (plain.layout_is y))
             (sum f h_sized ∙ same_total (count_all p in_p) (count_all q in_q) ∙ old)
       ] in
@@ -504,7 +504,7 @@ not_lost lost t m counts = by (lost m.place) counts
 module _ (shape : Shape) (k n resync x : ℕ) (cur : Image) (lost : ℕ → Bool)
     (plain : IsPlain shape (parity k)) (count : IsMemberCount k)
     (sized : (m : Member) (t : ℕ) → Among m shape.members → t < m.reach → length (cur (member_slice m.place n) (data_sector + t)) ≡ 512)
-    (even : AreEven shape n resync cur) (inside : sector_of k x < shape.size)
+    (even : row_at (sector_at shape x) < resync → AllCount (layout_at shape x) shape (sector_at shape x) → AgreeAt shape n cur x)
     (unspent : spent_with (wanting (sector_of k x) (map (lower lost) shape.members)) (nat_lt (row_at (sector_of k x)) resync) ≡ false)
     (counts : sector_of k x < (parity_part shape k x).reach) where
   abbrev ms : List Member
@@ -580,7 +580,7 @@ module _ (shape : Shape) (k n resync x : ℕ) (cur : Image) (lost : ℕ → Bool
       let row = ltb-true (row_at t) resync (synced_row (wanting t ms) _ some unspent) in
       let at_t : sector_at shape x ≡ t = plain_sector shape (parity k) x plain in
       let taken : take (width (layout_at shape x)) members ≡ members = ap (λ (l : Layout). take (width l) members) (plain.layout_is x) ∙ plain_take shape (parity k) plain in
-      let agree = even x (subst (λ i. i < shape.size) (sym at_t) inside) (subst (λ i. row_at i < resync) (sym at_t) row)
+      let agree = even (subst (λ i. row_at i < resync) (sym at_t) row)
       (λ m among. subst (λ i. i < m.reach) (sym at_t) (all m (subst (λ (os : List Member). Among m os) taken among))) in
       let zero_sum : total cur n t members ≡ zeros 512 =
       sym (ap₂ (λ (os : List Member) i. xor_all 512 (there (map (column cur n i) os))) taken at_t ∙ total_there cur n t members sized_g)

@@ -25,3 +25,5 @@ pub mod Moves
 pub mod Opening
 pub mod Degraded
 pub mod Copies
+pub mod Alone
+pub mod Sides
