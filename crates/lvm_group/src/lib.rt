@@ -47,6 +47,3 @@ mod volume;
 mod writing;
 
 pub use volume::{Volume, VolumeFault};
-
-#[cfg(test)]
-mod tests;
