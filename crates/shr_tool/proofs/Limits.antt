@@ -1,5 +1,5 @@
 -- How many bytes of a script were taken, and that no line of them was `quit`.
-use Rattle.std.proofs.Common.{◌≡◌, ◌≢◌, ℕ, zero, suc, ◌+◌, ◌-◌, ◌≤◌, List, [], ◌∷◌, ◌++◌, length, take, drop, Some, append_assoc, length-append, length-take, length-drop, sym, ◌∙◌, ap, subst, arith}
+use Rattle.std.proofs.Common.{◌≡◌, ◌≢◌, ℕ, zero, suc, ◌+◌, ◌-◌, ◌≤◌, List, [], ◌∷◌, ◌++◌, length, take, drop, Some, append_assoc, length-append, length-take, length-drop, sym, ◌∙◌, ap, subst, arith, Ok}
 use Rattle.std.specs.List.{All}
 use Rattle.std.proofs.Math.Seq.{take-append_seam}
 use Rattle.shr_script.specs.declared.Command.TheVariants.{Quit}

@@ -1,5 +1,5 @@
 -- A script that is longer than its limit.
-use Rattle.std.specs.Prelude.{◌≢◌, ◌↔◌, ℕ, ◌+◌, ◌<◌, ◌≤◌, List, length, take, Some}
+use Rattle.std.specs.Prelude.{◌≢◌, ◌↔◌, ℕ, ◌+◌, ◌<◌, ◌≤◌, List, length, take, Some, Ok}
 use Rattle.std.specs.List.{All}
 use Rattle.shr_script.specs.declared.Command.TheVariants.{Quit}
 use Rattle.shr_script.specs.Line.{line_of}

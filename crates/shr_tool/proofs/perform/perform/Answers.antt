@@ -1,5 +1,5 @@
 -- Commands that call nothing.
-use Rattle.std.proofs.Common.{rules, ◌++◌, codes, refl, sym, ◌∙◌, ap}
+use Rattle.std.proofs.Common.{rules, ◌++◌, codes, refl, sym, ◌∙◌, ap, Ok}
 use Rattle.std.specs.Prelude.{decimal}
 use Rattle.shr_script.specs.declared.Command.TheVariants.{Size, Quit, Unbuilt}
 use Rattle.shr_script.specs.Reply.{as_line}

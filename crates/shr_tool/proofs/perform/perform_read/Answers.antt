@@ -1,4 +1,4 @@
-use Rattle.std.proofs.Common.{sym, ◌∙◌, ap, subst, Err}
+use Rattle.std.proofs.Common.{sym, ◌∙◌, ap, subst, Err, Ok}
 use Rattle.shr_script.specs.declared.Command.TheVariants.{Read}
 use Rattle.shr_tool.specs.Meaning.{view_of}
 use Rattle.shr_tool.specs.Timeline.{Breaks}

@@ -1,4 +1,4 @@
-use Rattle.std.proofs.Common.{sym, subst, ◌∙◌, ap, Err}
+use Rattle.std.proofs.Common.{sym, subst, ◌∙◌, ap, Err, Ok}
 use Rattle.shr_script.specs.declared.Command.TheVariants.{Write}
 use Rattle.shr_tool.specs.Meaning.{view_of}
 use Rattle.shr_tool.specs.Timeline.{Performs}
