@@ -38,3 +38,4 @@ pub mod StopsMean
 pub mod Renewed
 pub mod Newest
 pub mod Brought
+pub mod KeptPlaces

@@ -1,9 +1,8 @@
 -- Stops in extending a volume leave the old group or the new one, and at its end the new one.
 use Rattle.std.proofs.Common.{◌≡◌, ◌^◌, ℕ, suc, ◌+◌, ◌*◌, ◌<◌, ◌≤◌, ◌==◌, true, false, Bool, List, [], ◌∷◌, Option, Some, Result, Ok, Err, refl, sym, ap, subst, ◌∙◌, inl, inr, arith, length}
-use Rattle.std.specs.Prelude.{OnOk, cond, is_some, slice_get}
+use Rattle.std.specs.Prelude.{OnOk, cond, is_some}
 use Rattle.std.specs.Option.{option_map_or}
 use Rattle.std.proofs.lemmas.Bool.{cases_lt, eqb-true}
-use Rattle.lvm_label.specs.declared.label.Label.{Label}
 use Rattle.lvm_text.specs.declared.group.Group.{Group}
 use Rattle.lvm_text.specs.Printed.{printed}
 use Rattle.rack.specs.declared.Gone.{Gone}
@@ -23,7 +22,7 @@ use Rattle.lvm_group.specs.Images.{HasOwnArea, IsNew, IsOldOrNew, IsSettled, ove
 use Rattle.lvm_group.specs.Own.{HoldAll, in_row, own_group, own_pv, own_pvs}
 use Rattle.lvm_group.specs.Parts.{part_of}
 use Rattle.lvm_group.specs.Runs.{Linear}
-use Rattle.lvm_group.specs.Writing.{IsReadBack, first_targets, header_target, new_targets, own_label, start_at, targets_to}
+use Rattle.lvm_group.specs.Writing.{IsReadBack, first_targets, header_target, new_targets, start_at, targets_to}
 use Rattle.lvm_group.proofs.Extended.{next_linear, next_writable}
 use Rattle.lvm_group.proofs.KeptPart.{IsKept, IsOneOf, area_kept}
 use Rattle.lvm_group.proofs.Mixed.{array_sound, means_either, means_new, means_same}

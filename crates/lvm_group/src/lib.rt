@@ -9,7 +9,9 @@
 //! sector of an array.
 //!
 //! **The contract.** It meets `Rack` over any rack, steady or not, by that rack's contract alone. It
-//! is fit where its extents lie inside the arrays, which have fewer than 2^52 sectors together.
+//! is fit where its extents lie inside the arrays, which have fewer than 2^52 sectors together. Its calls
+//! leave its extents and its group what they are, and below they write its own sectors alone
+//! (specs/Framed.antt).
 //!
 //! **The group.** What arrays' contents say of their volume group, which group counts, whether it is
 //! one that the pool writes and which arrays are bad is told by specs/Parts.antt and specs/Group.antt,
@@ -24,11 +26,13 @@
 //!
 //! **Extending.** [`Volume::extend`] writes a new text behind the last one of each array, and once all is durable
 //! the headers with it: a stop at any moment leaves some of the first writes, or all of them and some of the
-//! headers (specs/Changing.antt).
+//! headers (specs/Changing.antt). So each stop leaves the old volume or the extended one, and no bad array
+//! (specs/Images.antt); a sector of the old volume keeps its place.
 //!
 //! **Opening.** [`Volume::open`] answers by what was read of the joined arrays: the volume of the group that
 //! counts, or the lowest bad array (specs/Opening.antt). Where no sector was refused, these are the group and the
-//! array that the contents determine.
+//! array that the contents determine. The text of that group is then written on all joined arrays where one of
+//! them doesn't say a group of its seqno, and each stop leaves the same volume (specs/Brought.antt).
 #![tactic(auto)]
 
 mod changing;

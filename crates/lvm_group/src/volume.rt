@@ -116,7 +116,7 @@ impl<R: Rack> Volume<R> {
     ghost use Rattle.std.specs.Prelude.{◌<◌, ◌≤◌, ◌^◌, IfErr, IfOk, IsTrue, Ok, OnErr, OnOk, length};
     ghost use Rattle.lvm_text.specs.Printed.{printed};
     ghost use Rattle.lvm_group.specs.Changing.{Changes};
-    ghost use Rattle.lvm_group.specs.Extending.{extended, next_group, next_seqno};
+    ghost use Rattle.lvm_group.specs.Extending.{KeepsPlaces, extended, next_group, next_seqno};
     ghost use Rattle.lvm_group.specs.Growth.{AreBelow, fits};
     ghost use Rattle.lvm_group.specs.Brought.{BringsUp};
     ghost use Rattle.lvm_group.specs.Images.{IsNew, IsOldOrNew};
@@ -295,6 +295,7 @@ impl<R: Rack> Volume<R> {
             (IsOldOrNew (pool_of self.old) (linear self.old) (seqno_of self.old) extents.now (R.seen (below_of self.old)) (R.seen (below_of self.new))) }
         ensures renewed { OnOk result (IsNew (pool_of self.old) (linear self.old) (seqno_of self.old) extents.now (R.seen (below_of self.old)) (R.seen (below_of self.new))) }
         ensures volume { OnOk result (linear self.new ≡ extended (linear self.old) extents.now) }
+        ensures keeps { OnOk result (KeepsPlaces (linear self.old) (linear self.new)) }
         ensures seqno { OnOk result (seqno_of self.new ≡ next_seqno (seqno_of self.old)) }
         ensures same { OnErr result ((linear self.new ≡ linear self.old) × (seqno_of self.new ≡ seqno_of self.old)) }
         ensures pool { pool_of self.new ≡ pool_of self.old }

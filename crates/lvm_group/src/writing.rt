@@ -175,7 +175,8 @@ fn text_header(offset: u64, text: &[u8]) -> [u8; 512]
     })
 }
 
-/// The labels of the first arrays, so many, have fields that fit.
+/// The labels of the first arrays, so many, have fields that fit: what is written of them is read again. This writes
+/// nothing; it computes what the fields are.
 pub(crate) fn own_labels_fit<R: Rack>(rack: &R, pool: &Id, arrays: u32)
     requires fit { (R.seen rack.now).fit }
     requires arrays { arrays ≤ (R.seen rack.now).disks }
@@ -186,7 +187,7 @@ pub(crate) fn own_labels_fit<R: Rack>(rack: &R, pool: &Id, arrays: u32)
     }
 }
 
-/// So have the locations of a text.
+/// So have the locations of a text, at any offset.
 pub(crate) fn own_locations_fit(text: &[u8])
     ensures { (offset : ℕ) → 0 < offset → offset < 2 ^ 64 → IsLocation (own_location offset text.now) }
 {

@@ -8,6 +8,8 @@ use Rattle.lvm_group.specs.Growth.{grown}
 use Rattle.lvm_group.specs.Own.{in_row, own_group}
 use Rattle.lvm_group.specs.Shown.{IsInside}
 use Rattle.lvm_group.proofs.Below.{inside_still}
+use Rattle.lvm_group.specs.Extending.{KeepsPlaces}
+use Rattle.lvm_group.proofs.KeptPlaces.{extended_keeps}
 use Rattle.lvm_group.proofs.Extended.{fits_parts, next_inside, next_orderly, next_writable, small_extents}
 use Rattle.lvm_group.proofs.GrownRuns.{grown_within}
 use Rattle.lvm_group.proofs.NewVolume.{arrays_small}
@@ -130,3 +132,10 @@ returns-clause-renewed g c =
       back = c.in_ok-put_grown.ensures.read_back;
       changes = c.in_ok-put_grown.ensures.changes;
     })
+
+pub returns-clause-keeps : goal.returns-clause-keeps
+returns-clause-keeps g c =
+    let v = c.args.self.now in
+    let l : Linear = record { extent = v.extent; arrays = v.arrays; runs = v.runs.items } in
+    let runs_are = ap (λ (runs : Vec Run Global). runs.items) c.swap.ensures.x_after ∙ c.grow.ensures.items ∙ ap (λ (runs : List Run). grown runs c.args.extents.now) c.as_slice.ensures.value in
+    subst (λ (runs : List Run). KeepsPlaces l (record { extent = v.extent; arrays = c.max-self.result; runs = runs })) (sym runs_are) (extended_keeps l c.args.extents.now v.orderly v.row)
