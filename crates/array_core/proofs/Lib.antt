@@ -15,6 +15,7 @@ pub mod StagedTargets
 pub mod Rewriting
 pub mod Settled
 pub mod Renewing
+pub mod Stripped
 pub mod Direct
 pub mod LogFrames
 pub mod Cleaning

@@ -1,5 +1,5 @@
 -- What a write makes of an array.
-use Rattle.std.specs.Prelude.{◌≡◌, ◌≢◌, ◌⊎◌, ℕ, ◌<◌, Bool, true, false, List, []}
+use Rattle.std.specs.Prelude.{◌≡◌, ◌≢◌, ◌⊎◌, ℕ, ◌<◌, Bool, true, false, []}
 use Rattle.rack.specs.Seen.{Seen}
 use Rattle.array_model.specs.View.{View, IsArray, LosesPlaces, is_whole_array, may_vary}
 use Rattle.array_model.specs.Members.{IsSameButSeats, Notes}

@@ -1,6 +1,5 @@
-use Rattle.std.proofs.Common.{◌≡◌, ℕ, ◌<◌, ◌∙◌, Bool, sym, ap, subst, inl}
+use Rattle.std.proofs.Common.{ℕ, ◌<◌, ◌∙◌, Bool, sym, subst, inl}
 use Rattle.commit_log.specs.Phases.{AreLogs}
-use Rattle.array_model.specs.View.{View, is_whole_array}
 use Rattle.array_model.proofs.Alone.{alone_lacks}
 use Rattle.array_core.specs.Settling.{Readies}
 use Rattle.array_core.specs.Writing.{Base, as_it_was}

@@ -1,8 +1,8 @@
-use Rattle.std.proofs.Common.{◌≡◌, ◌∙◌, ℕ, List, refl, sym, ap, subst, inl, inr}
+use Rattle.std.proofs.Common.{◌∙◌, List, refl, sym, ap, subst, inl, inr}
 use Rattle.rack.specs.Targets.{Target}
 use Rattle.commit_log.specs.View.{LogView, committed}
 use Rattle.commit_log.specs.Kept.{LogKept}
-use Rattle.array_model.specs.View.{View, has_gone}
+use Rattle.array_model.specs.View.{has_gone}
 use Rattle.array_model.proofs.Views.{notes_then}
 use Rattle.array_core.specs.Pool.{MayLog}
 use Rattle.array_core.proofs.LogWrites.{few_in_order, staged_list, staged_row, staged_spent, row_had, reads_goes, goes_then, commit_notes, commit_moves, commit_kept, refused_moves, refused_kept}
