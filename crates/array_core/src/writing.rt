@@ -249,10 +249,10 @@ impl Array {
         self.is_marked()
     }
 
-    /// Writes a sector. Of a whole array each row is left to resync durably, once in a run, and then the row is written past the
-    /// log; a mirror with one member writes that member alone; any other row is changed by one commit of the log, on the places
-    /// that aren't marked missing. Whoever answers `Gone` is missing from then on, and the others have the whole row. The sector
-    /// is refused exactly where it is spent after that; it has the new value then for whoever can't read it any more.
+    /// Writes a sector. A whole array is marked first, once in a run: it is durable on all members that each row is left to resync.
+    /// Then its row is written past the log; a mirror with one member writes that member alone; and any other row is changed by
+    /// one commit of the log, on the places that aren't marked missing. Whoever answers `Gone` is missing from then on, and the
+    /// others have the whole row. The sector is refused exactly where it is spent after that, and no other sector has changed.
     pub fn write<R: Rack>(
         &mut self,
         rack: &mut R,
