@@ -27,3 +27,4 @@ pub mod RowOwed
 pub mod RowLogged
 pub mod LogWrites
 pub mod WriteCalls
+pub mod Elsewhere

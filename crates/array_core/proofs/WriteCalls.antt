@@ -65,7 +65,7 @@ past_kept s number v w a b lasting stays others kept =
 -- ---- the view
 
 -- a view by which the array goes before its losses are noted
-record Viewed (v u : View) (a b : Seen) : Type 0 where
+pub record Viewed (v u : View) (a b : Seen) : Type 0 where
   pub base : View
   pub notes : Notes base u a b
   pub slices : HasSlices v a → HasSlices base a
@@ -99,7 +99,7 @@ same_viewed v u a b same = record {
   same = λ n. refl;
 }
 
-viewed : (v u : View) (a b : Seen) (r : Bool) → Readies v u a b r → Viewed v u a b
+pub viewed : (v u : View) (a b : Seen) (r : Bool) → Readies v u a b r → Viewed v u a b
 viewed v u a b r (was_marked whole fresh marked same reads) = same_viewed v u a b same
 viewed v u a b r (now_marked whole fresh unmarked marked marks) = marked_viewed v u a b marks
 viewed v u a b r (lost_one whole fresh unmarked lost marks) = marked_viewed v u a b marks

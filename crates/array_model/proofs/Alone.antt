@@ -14,6 +14,7 @@ use Rattle.array_image.specs.Supers.{is_reshaping}
 use Rattle.array_image.specs.Arrays.{Member, final_layout, layout_at}
 use Rattle.array_image.specs.Even.{AreEven}
 use Rattle.array_image.specs.Held.{Among, current_in, first_counting}
+use Rattle.array_image.proofs.Sources.{source_counts}
 use Rattle.array_image.specs.Spent.{wanting, spent_with}
 use Rattle.array_model.specs.declared.Seat.{Seat}
 use Rattle.array_model.specs.declared.Seat.TheVariants.{Missing, Whole, Rebuilding}
@@ -142,7 +143,7 @@ module _ (v : View) (is_array : IsArray v) (alone : is_alone v ≡ true) where
       → Owes v a x from (target (slice_on v k) (data_sector + x) from ∷ [])
   alone_owes a x k from is wide = record {
     row = record {
-      own = λ d t u one. let here = payload d t u one in (member_on v k, x, here.0, here.1);
+      own = λ d t u one. let here = payload d t u one in (member_on v k, x, here.0, here.1, (source_counts (shape_of v) x (member_on v k) (source_is x ∙ is)).among);
       sized = λ d t u one. ap length (payload d t u one).2 ∙ wide;
       alone = λ y m u source one.
           let here = payload (member_slice m.place v.number) (data_sector + sector_at (shape_of v) y) u one in
