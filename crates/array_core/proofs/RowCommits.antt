@@ -79,7 +79,7 @@ source_wants (parity n) t position members inside none = at_wants t position (ta
 
 -- ---- no target elsewhere
 
-no_look : (xs : List Target) (d t : ℕ) → ((u : List ℕ) → look xs d t ≡ Some u → ⊥) → look xs d t ≡ None
+pub no_look : (xs : List Target) (d t : ℕ) → ((u : List ℕ) → look xs d t ≡ Some u → ⊥) → look xs d t ≡ None
 no_look xs d t none =
     let Goal : Option (List ℕ) → Type 0 = λ o. look xs d t ≡ o → o ≡ None in
     let goal : Goal (look xs d t) = elim (look xs d t) as Goal [ None ↦ λ is. refl | Some u ↦ λ is. absurd (none u is) ] in

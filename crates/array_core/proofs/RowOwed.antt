@@ -18,16 +18,17 @@ use Rattle.array_image.specs.Held.{Among, current_in}
 use Rattle.array_image.specs.Marks.{lower}
 use Rattle.array_image.specs.Spent.{wanting, spent_with, spent_by}
 use Rattle.array_image.proofs.Settled.{among_take}
-use Rattle.array_model.specs.View.{View, IsArray, LosesPlaces, shape_of, spent_in, sectors_of, member_on, may_vary}
+use Rattle.array_model.specs.View.{View, IsArray, LosesPlaces, shape_of, spent_in, sectors_of, member_on}
 use Rattle.array_model.specs.Says.{IsOpen}
 use Rattle.array_model.specs.Members.{IsSameButSeats, members_of, slice_on}
 use Rattle.array_model.specs.Rows.{RowChange, part_at, data_at, parity_part, IsPlain, straight}
 use Rattle.array_model.proofs.Copies.{copies_change}
-use Rattle.array_model.proofs.Degraded.{parity_change, side_value, two_want, long_zeros}
+use Rattle.array_model.proofs.Degraded.{parity_change}
+use Rattle.array_model.proofs.Filled.{two_want, long_zeros}
+use Rattle.array_model.proofs.SideParity.{side_value}
 use Rattle.array_model.proofs.Firsts.{map_take, position_of}
 use Rattle.array_model.proofs.Layouts.{layout_by, members_count, reshaping_parity, sector_inside}
 use Rattle.array_model.proofs.Looking.{look_payload}
-use Rattle.array_model.proofs.Losses.{IsLosing}
 use Rattle.array_model.proofs.Noting.{layout_is, laid_out, length_members, losing_of, spent_fewer, unspent_then, covers_before}
 use Rattle.array_model.proofs.Parts.{at_is, look_one}
 use Rattle.array_model.proofs.ParityRow.{data_inside, parity_inside, same_place}
@@ -35,7 +36,7 @@ use Rattle.array_model.proofs.Reading.{layout_same, open_then, slice_same, spent
 use Rattle.array_model.proofs.RowWrites.{part_on, plain_shape}
 use Rattle.array_model.proofs.Sides.{off_side, on_side, rows_apart, straight_change, straight_part, straight_plain, straight_sector, straight_spent, straight_value, take_twice}
 use Rattle.array_model.proofs.Spared.{at_most_one, lost_value, wanting_take}
-use Rattle.array_model.proofs.Views.{shape_members, shape_then, members_then, vary_then, fresh_then, loses_then, same_view_then}
+use Rattle.array_model.proofs.Views.{shape_members, shape_then, members_then, loses_then, same_view_then}
 use Rattle.array_core.specs.declared.members.Stand.{Stand}
 use Rattle.array_core.specs.Logging.{is_due, one_if, sector_target, due_copies, MakesParity, IsChange, data_alone, with_parity, IsRowAt, StagedRow, staged_copies, staged_change}
 use Rattle.array_core.specs.Writing.{Base}

@@ -24,7 +24,7 @@ sector_at shape y = sector_in (layout_at shape y) y
 -- the targets of a write of sector x to array n
 pub record IsRow (shape : Shape) (n x : ℕ) (from : List ℕ) (xs : List Target) : Type 0 where
   -- they are whole sectors of its members' data
-  pub own : (d t : ℕ) (u : List ℕ) → IsPayload xs d t u → (m : Member) × (k : ℕ) × (d ≡ member_slice m.place n) × (t ≡ data_sector + k)
+  pub own : (d t : ℕ) (u : List ℕ) → IsPayload xs d t u → (m : Member) × (k : ℕ) × (d ≡ member_slice m.place n) × (t ≡ data_sector + k) × Among m shape.members
   pub sized : (d t : ℕ) (u : List ℕ) → IsPayload xs d t u → length u ≡ 512
   -- of the array's sectors they change x alone
   pub alone :
