@@ -1,6 +1,8 @@
 -- Calls of one array that write nothing, as parts of a call of all.
 use Rattle.std.proofs.Common.{◌≡◌, ℕ, zero, suc, ◌+◌, ◌-◌, ◌*◌, ◌/◌, ◌%◌, ◌^◌, ◌<◌, ◌≤◌, Bool, true, false, ◌==◌, ◌&&◌, ◌||◌, not, nat_lt, if◌then◌else◌, List, [], ◌∷◌, map, length, slice_get, Option, Some, None, option_map, unwrap_or, ◌⊎◌, refl, sym, ap, ap₂, subst, ◌∙◌, inl, inr, ltb-true, lt-ltb, le-ltb, arith}
 use Rattle.std.proofs.lemmas.Bool.{cases_Bool, cases_eq, cases_lt, both_ways, and_parts, and_from, ltb-false}
+use Rattle.std.specs.List.{list_all, list_any, range_with_len}
+use Rattle.std.proofs.lemmas.Option.{slice_get_past}
 use Rattle.rack.specs.Values.{Values}
 use Rattle.rack.specs.Seen.{Seen, IsPick, Stays}
 use Rattle.rack.specs.Moments.{Leaves}
@@ -15,26 +17,26 @@ use Rattle.array_image.specs.Arrays.{Member, Shape, first_layout}
 use Rattle.array_image.specs.Held.{Among}
 use Rattle.array_image.proofs.Marked.{among_lowered}
 use Rattle.array_image.specs.Marks.{lower, lowered}
-use Rattle.array_image.specs.Supers.{is_unclean}
+use Rattle.array_image.specs.Supers.{is_reshaping, is_unclean}
 use Rattle.array_model.specs.declared.Seat.{Seat}
-use Rattle.array_model.specs.declared.Seat.TheVariants.{Missing}
-use Rattle.array_model.specs.View.{View, IsArray, HasFault, LosesPlaces, has_gone, place_at, seat_unless, present, rows_of, sectors_of, shape_of, spent_in}
+use Rattle.array_model.specs.declared.Seat.TheVariants.{Whole, Missing, Rebuilding}
+use Rattle.array_model.specs.View.{View, IsArray, HasFault, LosesPlaces, has_gone, is_missing_seat, is_whole_array, is_whole_seat, place_at, seat_unless, present, rows_of, sectors_of, shape_of, spent_in}
 use Rattle.array_model.specs.ArrayCalls.{Covers, Keeping}
-use Rattle.array_model.specs.Members.{Notes, slice_on}
+use Rattle.array_model.specs.Members.{IsSameButSeats, Notes, slice_on}
 use Rattle.array_model.proofs.Views.{shape_then, fewer_left}
 use Rattle.array_model.proofs.Noting.{losing_by}
-use Rattle.array_core.specs.Slots.{place_by}
 use Rattle.array_core.specs.Superblocks.{settled, raised}
 use Rattle.array_core.specs.Settling.{Settles}
 use Rattle.array_core.proofs.Settled.{settled_shape}
 use Rattle.raid_rack.specs.Raid.{Raid, gone_in, is_left, is_over}
 use Rattle.raid_rack.specs.Marking.{Part}
-use Rattle.raid_rack.specs.Moves.{IsOfPool, IsSet, IsSeated, AreMarked, AreLive, PartOf, Moves}
+use Rattle.raid_rack.specs.Moves.{IsOfPool, IsSet, IsSeated, IsMarkedWhole, AreMarked, PartOf, Moves}
 use Rattle.raid_rack.proofs.Books.{after_same}
 use Rattle.raid_rack.proofs.Over.{someone_left, over_still, IsFurther, not_true}
 use Rattle.raid_rack.proofs.Reading.{part_read, part_unread}
-use Rattle.raid_rack.proofs.Seated.{with_seats, view_with, seated_with, missing_of, missing_then, place_few}
-use Rattle.raid_rack.proofs.Noted.{with_arrays, live_with, gone_some, gone_from, losing_spent}
+use Rattle.raid_rack.proofs.Ranges.{any_some, any_none}
+use Rattle.raid_rack.proofs.Seated.{with_seats, view_with, seated_with, missing_of, place_few}
+use Rattle.raid_rack.proofs.Noted.{with_arrays, live_later, current_few, gone_some, gone_from, losing_spent}
 
 -- ---- one array
 
@@ -58,10 +60,10 @@ seated_still s n u x y stays seated =
 pub part_of : (v : Raid) (f : ℕ → View) (a b : Seen) (n : ℕ) (vals now : ℕ → Values) (spent : ℕ → Bool)
     → (a.traced → Leaves a b (λ c. Unit {0}))
     → ((durable : Shape) → Part v.state v.state durable durable vals now spent (gone_in v) (gone_in (with_arrays v f)) v (with_arrays v f) a b n)
-    → (AreLive v a → AreLive (with_arrays v f) b)
+    → Stays a b → a.lasting
     → (AreMarked (with_arrays v f) → AreMarked v × (shape_of (v.arrays n) ≡ shape_of (f n)))
     → PartOf v (with_arrays v f) a b n vals now spent
-part_of v f a b n vals now spent leaves part live marked =
+part_of v f a b n vals now spent leaves part stays lasting marked =
     record {
       leaves = λ traced.
           let all = leaves traced in
@@ -75,7 +77,7 @@ part_of v f a b n vals now spent leaves part live marked =
           record {
             durable = amid.durable;
             stood = (part amid.durable).holds amid.stood;
-            supers = live amid.supers;
+            supers = live_later v.state.made a b stays lasting amid.supers;
             marked = λ are. let both = marked are in amid.marked both.0 ∙ both.1;
           };
     }
@@ -102,14 +104,15 @@ pub record ReadsOne (v : Raid) (f : ℕ → View) (m : ℕ) (a b : Seen) : Type 
   pub lost : ℕ → Bool
   pub loses : LosesPlaces (v.arrays m) (f m) lost
   pub cause : (place : ℕ) → lost place ≡ true → HasFault a b place
-  pub slice : (k : ℕ) → slice_on (f m) k ≡ slice_on (v.arrays m) k
-  pub disks : (f m).truth.raid_disks ≡ (v.arrays m).truth.raid_disks
   pub keeps : (s : State) (durable : Shape) (vals : ℕ → Values) (spent : ℕ → Bool) → Covers (f m) spent → Keeping s (v.arrays m) (f m) spent a b durable vals
   pub spent : (y : ℕ) → spent_in (f m) y ≡ false → spent_in (v.arrays m) y ≡ false
   pub sectors : sectors_of (f m) ≡ sectors_of (v.arrays m)
   pub events : (v.arrays m).truth.events ≤ (f m).truth.events
   pub seats : present (f m).seats ≤ present (v.arrays m).seats
   pub lowered_is : shape_of (f m) ≡ lowered lost (shape_of (v.arrays m))
+  pub whole : (f m).marked ≡ true → ((v.arrays m).marked ≡ true)
+      × (is_whole_array (v.arrays m) ≡ true
+      → (is_whole_array (f m) ≡ true) ⊎ ((p : ℕ) × (is_current v.state p ≡ true) × (lost p ≡ true)))
   pub shape : ((k : ℕ) → k < (v.arrays m).truth.raid_disks → lost (place_at (v.arrays m) k) ≡ true → is_current v.state (place_at (v.arrays m) k) ≡ false)
       → shape_of (v.arrays m) ≡ shape_of (f m)
 
@@ -218,18 +221,37 @@ module _ (v : Raid) (f : ℕ → View) (m : ℕ) (a b : Seen) (set : IsSet v a) 
   read_leaves : a.traced → Leaves a b (λ c. Unit {0})
   read_leaves traced = leaves_weaker (IsPick a b a.held) (λ c. Unit {0}) (λ c pick. tt) (call.reads.keeps.stops traced)
 
-  read_live : AreLive v a → AreLive (with_arrays v f) b
-  read_live =
-      live_with v f a b call.reads.stays set.lasting
-      (λ n low.
-      by_number (λ j. ((k : ℕ) → slice_on (f j) k ≡ slice_on (v.arrays j) k) × ((f j).truth.raid_disks ≡ (v.arrays j).truth.raid_disks)
-      × ((k : ℕ) → slice_get (v.arrays j).seats k ≡ Some Missing → slice_get (f j).seats k ≡ Some Missing)) m n
-      (λ k. call.slice k, call.disks, λ k was. call.loses.seats k ∙ missing_then (call.lost (place_at (v.arrays m) k)) (slice_get (v.arrays m).seats k) was)
-      (λ apart. (
-        λ k. ap (λ (u : View). slice_on u k) (call.others n apart),
-        ap (λ (u : View). u.truth.raid_disks) (call.others n apart),
-        λ k was. ap (λ (u : View). slice_get u.seats k) (call.others n apart) ∙ was,
-      )))
+  -- a marked array that was whole is so, or a current place went
+  read_whole : (n : ℕ) → n < v.state.made → IsMarkedWhole (with_arrays v f) n
+  read_whole n low = by_number (λ k. IsMarkedWhole (with_arrays v f) k) m n own other
+    where
+      still : ((p : ℕ) × (is_current v.state p ≡ true) × (gone_in v p ≡ true)) → (p : ℕ) × (is_current v.state p ≡ true) × (gone_in (with_arrays v f) p ≡ true)
+      still some = (some.0, some.1, more_gone some.0 some.2)
+
+      own : IsMarkedWhole (with_arrays v f) m
+      own marked =
+          let was = call.whole marked in
+          elim (set.marked m call.low was.0) [
+            | inl all ↦
+                elim (was.1 all) [
+                  | inl yet ↦ inl yet
+                  | inr lost ↦
+                      inr (
+                        lost.0,
+                        lost.1,
+                        gone_from (with_arrays v f) lost.0 m (current_few v.state lost.0 set.few lost.1) call.low
+                            (call.loses.went lost.0 ∙ or_left (call.lost lost.0) (has_gone (v.arrays m) lost.0) lost.2),
+                      )
+                ]
+            | inr some ↦ inr (still some)
+          ]
+
+      other : (n ≡ m → ⊥) → IsMarkedWhole (with_arrays v f) n
+      other apart marked =
+          elim (set.marked n low (ap (λ (u : View). u.marked) (sym (call.others n apart)) ∙ marked)) [
+            | inl all ↦ inl (ap is_whole_array (call.others n apart) ∙ all)
+            | inr some ↦ inr (still some)
+          ]
 
   read_part : (n : ℕ) (vals : ℕ → Values) (spent : ℕ → Bool) → n < v.state.made → is_over (with_arrays v f) n ≡ false → Covers (f n) spent
       → PartOf v (with_arrays v f) a b n vals vals spent
@@ -245,7 +267,7 @@ module _ (v : Raid) (f : ℕ → View) (m : ℕ) (a b : Seen) (set : IsSet v a) 
         | inr apart ↦
             part_unread v.state durable vals spent (gone_in v) (gone_in (with_arrays v f)) v (with_arrays v f) a b n set.lasting call.reads refl (call.others n apart) more_gone someone
       ])
-      read_live
+      call.reads.stays set.lasting
       (λ are. (marked_before are, same_shape are n))
 
   pub moves_read : Moves v (with_arrays v f) a b
@@ -262,11 +284,11 @@ module _ (v : Raid) (f : ℕ → View) (m : ℕ) (a b : Seen) (set : IsSet v a) 
           logs = λ p current. call.reads.stays.sectors (log_slice p) ∙ set.logs p current;
           arrays = λ n low. by_number (λ k. IsSeated v.state k (f k) b) m n call.seated
               (λ apart. subst (λ (u : View). IsSeated v.state n u b) (sym (call.others n apart)) (seated_still v.state n (v.arrays n) a b call.reads.stays (set.arrays n low)));
+          marked = read_whole;
         };
         book = after_same v.state;
         leaves = read_leaves;
         number = omega arith;
-        refused = λ n. refl;
         sectors = λ n. by_number (λ k. sectors_of (f k) ≡ sectors_of (v.arrays k)) m n call.sectors (λ apart. ap sectors_of (call.others n apart));
         left = left_before;
         cause = caused;
@@ -317,6 +339,62 @@ shape_still u w lost is_array truth loses missing =
           | inr high ↦ inr (past u.seats k (let count = is_array.seats in omega (arith, count, high)))
         ])
 
+-- a whole array is so after calls in which no place of a current member went
+whole_then : (s : State) (n : ℕ) (u w : View) (lost : ℕ → Bool) (x : Seen) → IsSeated s n u x → IsSameButSeats u w → LosesPlaces u w lost → is_whole_array u ≡ true
+    → (is_whole_array w ≡ true) ⊎ ((p : ℕ) × (is_current s p ≡ true) × (lost p ≡ true))
+whole_then s n u w lost x seated same loses whole =
+    let test : ℕ → Bool = λ k. lost (place_at u k) in
+    let parts = and_parts (list_all is_whole_seat u.seats) ((u.resync == rows_of u) && (not u.young && not (is_reshaping u.truth))) whole in
+    elim (cases_Bool (list_any test (range_with_len 0 u.truth.raid_disks))) [
+      | inl some ↦
+          let at = any_some test 0 u.truth.raid_disks some in
+          let low = at.2 in
+          let inside : at.0 < u.truth.raid_disks = omega (arith, low) in
+          inr (
+            place_at u at.0,
+            there_current (is_current s (place_at u at.0)) (has_gone u (place_at u at.0)) u.seats at.0 parts.0
+                (let count = seated.is_array.seats in omega (arith, count, inside)) (seated.marks at.0 inside),
+            at.3,
+          )
+      | inr none ↦
+          let seats : (k : ℕ) → slice_get w.seats k ≡ slice_get u.seats k = λ k.
+          loses.seats k
+          ∙ elim (cases_lt k u.truth.raid_disks) [
+            | inl low ↦ unlost (slice_get u.seats k) (test k) (any_none test 0 u.truth.raid_disks k none (omega arith) (omega (arith, low)))
+            | inr past ↦
+                let out = slice_get_past u.seats k (let count = seated.is_array.seats in omega (arith, count, past)) in
+                ap (option_map (seat_unless lost (place_at u k))) out ∙ sym out
+          ] in
+          inl (ap is_whole_array (view_with u w same)
+          ∙ and_from (list_all is_whole_seat w.seats) ((u.resync == rows_of u) && (not u.young && not (is_reshaping u.truth)))
+          (ap (list_all is_whole_seat) (same_seats w.seats u.seats seats) ∙ parts.0) parts.1)
+    ]
+  where
+    same_seats : (ws vs : List Seat) → ((k : ℕ) → slice_get ws k ≡ slice_get vs k) → ws ≡ vs
+    same_seats [] [] same = refl
+    same_seats [] (v ∷ vs) same = let bad : None ≡ Some v = same 0 in absurd (cc)
+    same_seats (z ∷ ws) [] same = let bad : Some z ≡ None = same 0 in absurd (cc)
+    same_seats (z ∷ ws) (v ∷ vs) same = ap₂ (λ (seat : Seat) (seats : List Seat). seat ∷ seats) (ap (λ o. unwrap_or o z) (same 0)) (same_seats ws vs (λ k. same (suc k)))
+
+    unlost : (o : Option Seat) (b : Bool) → b ≡ false → option_map (λ seat. if b then Missing else seat) o ≡ o
+    unlost None b is = refl
+    unlost (Some seat) true is = absurd (both_ways true is refl)
+    unlost (Some seat) false is = refl
+
+    there : (current went : Bool) (seat : Seat) → is_whole_seat seat ≡ true → is_missing_seat seat ≡ not (current && not went) → current ≡ true
+    there true went seat all is = refl
+    there false went Whole all is = absurd (both_ways false refl is)
+    there false went Missing all is = absurd (both_ways false refl all)
+    there false went (Rebuilding to) all is = absurd (both_ways false refl all)
+
+    there_current : (current went : Bool) (seats : List Seat) (k : ℕ) → list_all is_whole_seat seats ≡ true → k < length seats
+        → option_map is_missing_seat (slice_get seats k) ≡ Some (not (current && not went)) → current ≡ true
+    there_current current went [] k all low is = absurd (omega (arith, low))
+    there_current current went (seat ∷ seats) zero all low is =
+        there current went seat (and_parts (is_whole_seat seat) (list_all is_whole_seat seats) all).0 (ap (λ o. unwrap_or o true) is)
+    there_current current went (seat ∷ seats) (suc k) all low is =
+        there_current current went seats k (and_parts (is_whole_seat seat) (list_all is_whole_seat seats) all).1 (omega (arith, low)) is
+
 pub reads_notes : (v : Raid) (f : ℕ → View) (m : ℕ) (a b : Seen) → IsSet v a → m < v.state.made → OnlyReads a b
     → ((n : ℕ) → (n ≡ m → ⊥) → f n ≡ v.arrays n) → Notes (v.arrays m) (f m) a b
     → ((s : State) (durable : Shape) (vals : ℕ → Values) (spent : ℕ → Bool) → Covers (f m) spent → Keeping s (v.arrays m) (f m) spent a b durable vals)
@@ -334,13 +412,12 @@ reads_notes v f m a b set low reads others notes keeps =
       lost = notes.lost;
       loses = notes.loses;
       cause = notes.cause;
-      slice = λ k. ap₂ (λ (t : Super) j. member_slice (place_by t k) j) notes.same.truth notes.same.number;
-      disks = ap (λ (t : Super). t.raid_disks) notes.same.truth;
       keeps = keeps;
       spent = λ y alive. losing_spent u w notes.lost seated.is_array (losing_by u w a b notes) y alive;
       sectors = ap (λ (t : Super). capacity (first_layout t) t.size) notes.same.truth;
       events = subst (λ (t : Super). u.truth.events ≤ t.events) (sym notes.same.truth) (omega arith);
       seats = fewer_left u w notes.lost notes.loses;
+      whole = λ marked. (sym notes.same.marked ∙ marked, whole_then v.state m u w notes.lost a seated notes.same notes.loses);
       lowered_is = shape_then u w notes.lost notes.same.truth notes.loses;
       shape = λ marked. shape_still u w notes.lost seated.is_array notes.same.truth notes.loses
           (λ k few lost. missing_of (slice_get u.seats k) (is_current v.state (place_at u k)) (has_gone u (place_at u k)) (marked k few lost) (seated.marks k few));
@@ -467,8 +544,6 @@ reads_settled v f m a b set low reads others settles keeps =
       lost = notes.lost;
       loses = subst (λ (k : View). LosesPlaces u k notes.lost) is (record { seats = notes.loses.seats; went = notes.loses.went });
       cause = notes.cause;
-      slice = λ k. ap (λ (w : View). slice_on w k) (sym is) ∙ ap₂ (λ (t : Super) j. member_slice (place_by t k) j) notes.same.truth notes.same.number;
-      disks = ap (λ (w : View). w.truth.raid_disks) (sym is) ∙ ap (λ (t : Super). t.raid_disks) notes.same.truth;
       keeps = keeps;
       spent = λ y alive.
           losing_spent u z notes.lost seated.is_array (losing_by u z a b notes) y
@@ -478,6 +553,7 @@ reads_settled v f m a b set low reads others settles keeps =
           (let more = (raised_low z.truth.events synced.is_of_pool.events synced.is_of_pool.events_end).0 in
           let same : z.truth.events ≡ u.truth.events = ap (λ (t : Super). t.events) notes.same.truth in omega (arith, more, same));
       seats = subst (λ (k : View). present k.seats ≤ present u.seats) is (fewer_left u z notes.lost notes.loses);
+      whole = λ marked. absurd (both_ways false refl (ap (λ (k : View). k.marked) is ∙ marked));
       lowered_is = ap shape_of (sym is) ∙ settled_shape z ∙ shape_then u z notes.lost notes.same.truth notes.loses;
       shape = λ marked.
           shape_still u z notes.lost seated.is_array notes.same.truth notes.loses

@@ -218,6 +218,8 @@ module _ (v : Raid) (lost on gone : List ℕ) (l : LogView) (xs : List Target) (
         (gone_seated (state_after v lost) n (v.arrays n) gone c (stays_same c commit.call.stays.fit)
         (seated_marked v.state lost n (v.arrays n) c (λ p is. commit.marking.noted n p low is)
         (seated_still v.state n (v.arrays n) b c commit.call.stays (set_before.arrays n low))));
+    marked = λ n low is.
+        absurd (both_ways (v.arrays n).marked (commit.marking.staged.each n low).unmarked (ap (λ (u : View). u.marked) (sym (commit.arrays n low)) ∙ is));
   }
 
   pub after_losing : (n : ℕ) → n < v.state.made → ((without gone (v.arrays n)).went ≡ [] → (v.arrays n).went ≡ []) → IsLosing (v.arrays n) (f n) (names gone)

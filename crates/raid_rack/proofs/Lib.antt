@@ -25,7 +25,10 @@ mod Missing
 pub mod Marking
 pub mod Parts
 pub mod Told
+pub mod Sourced
 pub mod Whole
+pub mod Ended
+pub mod Serving
 pub mod Reading
 pub mod Restated
 pub mod Copies

@@ -71,7 +71,6 @@ moves_same v x set =
       book = after_same v.state;
       leaves = λ traced. leaves_same x (λ c. Unit {0});
       number = omega arith;
-      refused = λ n. refl;
       sectors = λ n. refl;
       left = λ place is. is;
       cause = λ place was now. absurd (both_ways (is_left v place) now was);
@@ -90,7 +89,6 @@ moves_then v w z a b c one two =
       book = after_then v.state w.state z.state one.book two.book;
       leaves = λ traced. leaves_then (λ c. Unit {0}) (one.leaves traced) (two.leaves (one.stays.traced traced));
       number = (let first = one.number in let second = two.number in omega (arith, first, second));
-      refused = λ n. two.refused n ∙ one.refused n;
       sectors = λ n. two.sectors n ∙ one.sectors n;
       left = λ place is. one.left place (two.left place is);
       cause = λ place was now. caused place was now;

@@ -11,7 +11,7 @@ pub or_parts : (b c : Bool) → (b || c) ≡ false → (b ≡ false) × (c ≡ f
 or_parts true c is = absurd (both_ways true is refl)
 or_parts false c is = (refl, is)
 
-or_from : (b c : Bool) → b ≡ false → c ≡ false → (b || c) ≡ false
+pub or_from : (b c : Bool) → b ≡ false → c ≡ false → (b || c) ≡ false
 or_from b c one two = ap₂ (λ x y. x || y) one two
 
 not_false : (b : Bool) → not b ≡ false → b ≡ true

@@ -53,7 +53,7 @@ now_counted v x n now picks stood reads =
     stood.holds.shape.still now picks m sector among counts
     ∙ reads (member_slice m.place (v.arrays n).number) (data_sector + sector) (stood.holds.shape.open_left m sector among counts))
 
-pub raid_sound : (v : Raid) (x : Seen) → StopsInside x → IsSound x → IsSound (raid_of v x)
+pub raid_sound : {F : Type 0} {r : ℕ → ℕ} (v : Raid) (x : Seen) → StopsInside x → IsSound x → IsSound (raid_of F r v x)
 raid_sound v x inside sound =
     let now = sound.now.0 in
     let picks : Picks x now = record { picks = sound.only_held now sound.now.1; inside = inside x.clock now sound.now.1 } in
