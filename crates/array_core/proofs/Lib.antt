@@ -24,3 +24,5 @@ pub mod RowCommits
 pub mod RowLists
 pub mod RowOwed
 pub mod RowLogged
+pub mod LogWrites
+pub mod WriteCalls

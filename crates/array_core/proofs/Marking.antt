@@ -1,10 +1,12 @@
 -- The mark: superblocks that leave all rows to resync, written before rows are written past the log.
-use Rattle.std.proofs.Common.{◌≡◌, ℕ, ◌/◌, ◌<◌, ◌≤◌, Bool, true, false, ◌==◌, ◌&&◌, ◌||◌, not, if◌then◌else◌, List, [], ◌∷◌, map, slice_get, Some, None, suc, unwrap_or, refl, sym, ap, ap₂, subst, ◌∙◌, inl, inr, ltb-false, arith}
+use Rattle.std.proofs.Common.{◌≡◌, ℕ, ◌/◌, ◌<◌, ◌≤◌, Bool, true, false, ◌==◌, ◌&&◌, ◌||◌, not, nat_le, count_by, filter, length, if◌then◌else◌, List, [], ◌∷◌, map, slice_get, Some, None, suc, unwrap_or, refl, sym, ap, ap₂, subst, ◌∙◌, inl, inr, ltb-false, arith}
 use Rattle.std.specs.List.{list_all}
 use Rattle.std.proofs.lemmas.Bool.{both_ways}
+use Rattle.std.proofs.lemmas.List.Sums.{length-filter}
 use Rattle.array_image.specs.Supers.{is_reshaping, is_unclean}
 use Rattle.array_model.specs.declared.Seat.{Seat}
-use Rattle.array_model.specs.View.{View, is_whole_array, is_whole_seat, rows_of}
+use Rattle.md_super.specs.Profile.{is_mirror}
+use Rattle.array_model.specs.View.{View, is_missing_seat, is_whole_array, is_whole_seat, present, rows_of}
 use Rattle.array_core.specs.declared.slots.Slot.{Slot}
 use Rattle.array_core.specs.declared.Array.TheInside.{Inside}
 use Rattle.array_core.specs.Model.{view_of}
@@ -17,11 +19,12 @@ use Rattle.pool_state.specs.declared.contents.State.{State}
 use Rattle.array_image.specs.SoundArray.{first_unsynced}
 use Rattle.array_image.specs.Arrays.{Shape, replayed}
 use Rattle.array_image.specs.Even.{AreEven}
-use Rattle.array_model.specs.declared.Seat.TheVariants.{Whole, Missing}
+use Rattle.array_model.specs.declared.Seat.TheVariants.{Whole, Missing, Rebuilding}
 use Rattle.array_model.specs.View.{IsArray, shape_of, may_vary, is_alone}
 use Rattle.array_model.specs.Says.{Says, Holds}
 use Rattle.array_model.specs.Members.{HasSlices, Notes}
 use Rattle.array_model.proofs.Moves.{Moves, KeepsOthers, moves_then, moves_by, moves_of, acts_of}
+use Rattle.array_model.proofs.DataFrames.{even_unsynced}
 use Rattle.array_model.proofs.RowWrites.{whole_seat}
 use Rattle.array_core.specs.Pool.{MayRenew}
 use Rattle.array_core.specs.Superblocks.{raised}
@@ -47,22 +50,33 @@ whole_is a v whole resynced reshaping is all rows shape =
     subst (λ (w : View). resynced ≡ (w.resync == rows_of w) → (whole && (resynced && (not a.young && not reshaping))) ≡ is_whole_array w) is
     (λ r i. (all ∙ seats_all a.slots.items) i && (r i && (not a.young && not (shape i)))) rows
 
+-- how many members are there
+pub present_seats : (slots : List Slot) → count_by (λ s. not (is_missing_seat s.seat)) slots ≡ present (map (λ (s : Slot). s.seat) slots)
+present_seats slots = sym (length-filter (λ (s : Slot). not (is_missing_seat s.seat)) slots) ∙ filtered slots
+  where
+    filtered : (slots : List Slot) → length (filter (λ s. not (is_missing_seat s.seat)) slots) ≡ present (map (λ (s : Slot). s.seat) slots)
+    filtered [] = refl
+    filtered (s ∷ slots) = by s.seat (filtered slots)
+      where
+        by : (seat : Seat) → length (filter (λ s. not (is_missing_seat s.seat)) slots) ≡ present (map (λ (s : Slot). s.seat) slots)
+            → length (if not (is_missing_seat seat) then s ∷ filter (λ s. not (is_missing_seat s.seat)) slots else filter (λ s. not (is_missing_seat s.seat)) slots)
+            ≡ (if is_missing_seat seat then present (map (λ (s : Slot). s.seat) slots) else suc (present (map (λ (s : Slot). s.seat) slots)))
+        by Whole rest = ap suc rest
+        by Missing rest = rest
+        by (Rebuilding to) rest = ap suc rest
+
+pub alone_is : (a : Inside) (v : View) (count : ℕ) → view_of a ≡ v → is_mirror a.truth ≡ true → count ≡ count_by (λ s. not (is_missing_seat s.seat)) a.slots.items
+    → nat_le count 1 ≡ is_alone v
+alone_is a v count is mirrors counted =
+    ap (λ n. nat_le n 1) (counted ∙ present_seats a.slots.items)
+    ∙ ap (λ (b : Bool). b && nat_le (present (view_of a).seats) 1) (sym mirrors)
+    ∙ ap is_alone is
+
 pub readied : (v w : View) (a b : Seen) (r : Bool) → is_whole_array v ≡ true → v.went ≡ [] → v.marked ≡ false → r ≡ w.marked → Marks v w a b → Readies v w a b r
 readied v w a b true whole fresh unmarked is marks = now_marked whole fresh unmarked (sym is) marks
 readied v w a b false whole fresh unmarked is marks = lost_one whole fresh unmarked (sym is) marks
 
 -- ---- the array in it
-
--- no row must agree where all are left to resync
-no_rows : (t : Super) → t.resync_offset ≡ 0 → first_unsynced t ≡ 0
-no_rows t none = by (is_unclean t) refl
-  where
-    by : (b : Bool) → is_unclean t ≡ b → (if b then t.resync_offset / 128 else t.size / 128) ≡ 0
-    by true is = omega (arith, none)
-    by false is = let low : t.size ≤ t.resync_offset = ltb-false t.resync_offset t.size is in omega (arith, none, low)
-
-even_none : (shape : Shape) (n first : ℕ) (c : Image) → first ≡ 0 → AreEven shape n first c
-even_none shape n first c none x inside synced counts = absurd (omega (arith, synced, none))
 
 -- nothing but superblocks of its own was written
 pub supers_others : (v : View) (a b : Seen) → v.number < 16 → WritesOnly a b (IsNewSuper v) → KeepsOthers v.number a b
@@ -113,7 +127,7 @@ mark_moves s v w a b is_array slices whole unmarked marks may vals spent =
     let there : slice_get v.seats 0 ≡ Some Whole = whole_seat v 0 is_array whole first in
     renew_moves s v (raised v.truth.events) 0 false a b is_array may.state may.rows raise.0 raise.1 (inr refl) slices.lasting may.supers marks.writes.only
     w.marked (Holds s (shape_of v) v vals spent a) vals spent may.fresh (λ h. h)
-    (λ h c inside mix. even_none (shape_of v) v.number _ (replayed a.sectors c) (no_rows (unsynced v).truth refl))
+    (λ h c inside mix. even_unsynced (shape_of v) v.number (unsynced v).truth (replayed a.sectors c) refl)
     (λ h steady. h.shape.settled (steady_before v w unmarked steady))
     (λ is. refl)
     (λ is.

@@ -47,7 +47,8 @@ use Rattle.array_core.specs.Pool.{MayLog}
 use Rattle.array_core.proofs.LogFrames.{look_nothing}
 use Rattle.array_core.proofs.RowCommits.{IsOwnData, logged_moves}
 use Rattle.array_core.proofs.RowLists.{own_on}
-use Rattle.array_core.proofs.RowOwed.{Base, RowList, row_owes}
+use Rattle.array_core.specs.Writing.{Base}
+use Rattle.array_core.proofs.RowOwed.{RowList, row_owes}
 
 -- the target of a place
 any_place : (xs : List Target) (p : ℕ) → list_any (λ x. place_of x.disk == p) xs ≡ true → (d s : ℕ) × (u : List ℕ) × IsPayload xs d s u × (place_of d ≡ p)

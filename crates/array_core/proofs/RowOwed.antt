@@ -27,7 +27,7 @@ use Rattle.array_model.proofs.Firsts.{position_of}
 use Rattle.array_model.proofs.Layouts.{members_count, sector_inside}
 use Rattle.array_model.proofs.Looking.{look_payload}
 use Rattle.array_model.proofs.Losses.{IsLosing}
-use Rattle.array_model.proofs.Noting.{layout_is, laid_out, length_members, unspent_then, covers_before}
+use Rattle.array_model.proofs.Noting.{layout_is, laid_out, length_members, losing_of, unspent_then, covers_before}
 use Rattle.array_model.proofs.Parts.{at_is, look_one}
 use Rattle.array_model.proofs.ParityRow.{data_inside, parity_inside, same_place}
 use Rattle.array_model.proofs.Reading.{layout_same, open_then, slice_same, spent_given}
@@ -36,6 +36,7 @@ use Rattle.array_model.proofs.Spared.{at_most_one, lost_value}
 use Rattle.array_model.proofs.Views.{shape_members, shape_then, members_then, vary_then, fresh_then, loses_then, same_view_then}
 use Rattle.array_core.specs.declared.members.Stand.{Stand}
 use Rattle.array_core.specs.Logging.{is_due, one_if, sector_target, due_copies, MakesParity, IsChange, data_alone, with_parity, IsRowAt, StagedRow, staged_copies, staged_change}
+use Rattle.array_core.specs.Writing.{Base}
 use Rattle.array_core.proofs.Gathering.{spent_after, value_after}
 use Rattle.array_core.proofs.RowLists.{AllOn, one_on, join_on, weaker_on, copies_on, copies_has, valid_on, copies_apart, change_apart, copies_same, some_payload, payload_or, payload_left, payload_right, one_has}
 
@@ -161,28 +162,6 @@ row_list all u w a x from xs is_array low wide unspent (staged_change k at side 
         }
 
 -- ---- what they owe
-
--- a view u of an array that lost places since b0, in which nobody had gone, and whose members' sectors are due as b0 has them
-pub record Base (all : Bool) (b0 u : View) : Type 0 where
-  pub is_array : IsArray b0
-  pub fresh : b0.went ≡ []
-  pub steady : may_vary b0 ≡ false
-  pub still : is_reshaping b0.truth ≡ false
-  pub same : IsSameButSeats b0 u
-  pub lost : ℕ → Bool
-  pub loses : LosesPlaces b0 u lost
-  pub due : (j t : ℕ) → j < b0.truth.raid_disks → t < b0.truth.size → is_due all u j t ≡ is_due false b0 j t
-
-pub losing_of : (v w : View) (lost : ℕ → Bool) → IsSameButSeats v w → LosesPlaces v w lost → IsLosing v w lost
-losing_of v w lost same loses = record {
-  number = same.number;
-  truth = same.truth;
-  resync = same.resync;
-  shape = shape_then v w lost same.truth loses;
-  vary = vary_then v w lost same.truth same.marked loses;
-  marked = λ is. sym same.marked ∙ is;
-  went = fresh_then v w lost loses;
-}
 
 unspent_base : (all : Bool) (b0 u : View) (x : ℕ) → Base all b0 u → spent_in u x ≡ false → spent_in b0 x ≡ false
 unspent_base all b0 u x base unspent = covers_before b0 u base.lost (losing_of b0 u base.lost base.same base.loses) (spent_in u) (λ y alive. alive) x unspent

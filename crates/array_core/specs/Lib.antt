@@ -10,3 +10,4 @@ pub mod Parities
 pub mod Settling
 pub mod Pool
 pub mod Logging
+pub mod Writing

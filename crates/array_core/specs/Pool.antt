@@ -5,8 +5,9 @@ use Rattle.rack.specs.Moments.{Leaves}
 use Rattle.pool_state.specs.declared.contents.State.{State}
 use Rattle.array_image.specs.Places.{member_slice, super_sector}
 use Rattle.array_image.specs.States.{is_current}
+use Rattle.array_image.specs.Supers.{is_reshaping}
 use Rattle.commit_log.specs.Kept.{LogKept, AreLeft}
-use Rattle.array_model.specs.View.{View, has_gone, shape_of}
+use Rattle.array_model.specs.View.{View, has_gone, is_whole_array, shape_of}
 use Rattle.array_model.specs.Says.{IsOpen}
 use Rattle.array_model.specs.Stages.{IsStateOf}
 use Rattle.array_core.specs.Staging.{HasRowRebuilds}
@@ -20,10 +21,14 @@ pub record MayRenew (s : State) (v : View) (a : Seen) : Type 0 where
   pub rows : HasRowRebuilds v
   pub events : v.truth.events < 2 ^ 63 - 1
 
--- What one commit needs, and a write, where v and w are the array before it and after it: the log is kept for the places of `on`,
--- which are all current ones, its number isn't at its end, and one of them is left.
+-- What a write needs, where v and w are the array before it and after it: images go by the run's marks, nobody went since they were
+-- last heeded, an array that was marked is whole still, the log is kept for the places of `on`, which are all current ones, its
+-- number isn't at its end, and one of them is left.
 pub record MayCommit (s : State) (v w : View) (number : ℕ) (on : List ℕ) (a : Seen) : Type 0 where
   pub renew : MayRenew s v a
+  pub opened : IsOpen (shape_of v) v.number a
+  pub steady : v.marked ≡ true → is_whole_array v ≡ true
+  pub still : is_reshaping v.truth ≡ false
   pub log : LogKept s number (λ place. false) a
   pub room : number < 2 ^ 63 - 1
   pub places : AreLeft s (λ place. false) on

@@ -1,23 +1,32 @@
 //! Rows that are changed by one commit of the log.
 
-ghost use Rattle.std.specs.Prelude.{◌≡◌, ◌<◌, ◌≤◌, ◌+◌, ◌++◌, ◌||◌, ℕ, Bool, List, [], ◌∷◌, length, nat_lt, true, false};
+ghost use Rattle.std.specs.Prelude.{◌≡◌, ◌⊎◌, ◌<◌, ◌≤◌, ◌+◌, ◌++◌, ◌||◌, ℕ, Bool, List, [], ◌∷◌, length, nat_lt, true, false, OnOk, IfErr};
+ghost use Rattle.rack.specs.Values.{Values};
+ghost use Rattle.pool_state.specs.declared.contents.State.{State};
 ghost use Rattle.rack.specs.Sequences.{OnlyReads};
 ghost use Rattle.array_image.specs.Stripes.{mirror, parity, sector_in, position_in};
 ghost use Rattle.array_image.specs.Arrays.{layout_at};
 ghost use Rattle.raid_map.specs.LeftSymmetric.{parity_at, row_at};
 ghost use Rattle.array_image.specs.Spent.{wanting, spent_with};
-ghost use Rattle.array_model.specs.View.{member_on, place_at, sectors_of, shape_of, spent_in};
+ghost use Rattle.array_model.specs.View.{View, has_gone, member_on, place_at, sectors_of, shape_of, spent_in};
+ghost use Rattle.array_model.specs.Says.{Holds, Says};
+ghost use Rattle.array_model.specs.ArrayCalls.{Covers, appended_at};
+ghost use Rattle.array_model.proofs.Moves.{Moves};
 ghost use Rattle.array_model.specs.Members.{HasSlices, Notes, members_of};
-ghost use Rattle.commit_log.specs.View.{most_sectors};
+ghost use Rattle.commit_log.specs.View.{committed, most_sectors};
+ghost use Rattle.commit_log.specs.Kept.{LogKept};
+ghost use Rattle.commit_log.specs.Phases.{AreLogs};
 ghost use Rattle.array_core.specs.Stands.{IsStand, layout_of};
-ghost use Rattle.array_core.specs.Logging.{MakesParity, Stages, StagesChange, due_copies, is_due, one_if, sector_target};
+ghost use Rattle.array_core.specs.Pool.{Goes, MayLog};
+ghost use Rattle.array_core.specs.Writing.{Base};
+ghost use Rattle.array_core.specs.Logging.{HasAll, MakesParity, Stages, StagesChange, due_copies, is_due, one_if, sector_target};
 
-use crate::Array;
 use crate::members::{Spread, Stand};
 use crate::reading::DATA_SECTOR;
+use crate::{Array, Spent};
 use commit_log::{Log, Target};
 use parity::xor_into;
-use rack::Rack;
+use rack::{Places, Rack};
 use raid_map::place;
 
 impl Array {
@@ -172,5 +181,82 @@ impl Array {
                 self.stage_change(rack, log, all, &at, &side, from)
             }
         }
+    }
+
+    /// Adds what a write of a sector changes in its row to the log, unless the sector is spent before or by then.
+    fn stage_unspent<R: Rack>(
+        &mut self,
+        rack: &mut R,
+        log: &mut Log,
+        all: bool,
+        x: u64,
+        from: &[u8; 512],
+    ) -> bool
+        requires slices { HasSlices self.old (R.seen rack.old) }
+        requires sector { x < sectors_of self.old }
+        requires empty { log.old.added ≡ [] }
+        ensures staged { Stages all self.old self.new (R.seen rack.old) (R.seen rack.new) x from.now result log.new.added }
+        ensures unspent { result ≡ true → spent_in self.old x ≡ false }
+        ensures log { log.new ≡ record log.old { added = log.new.added } }
+        ensures runs { R.runs rack.old rack.new }
+    {
+        if self.is_spent(x) {
+            return false;
+        }
+        self.stage_row(rack, log, all, x, from)
+    }
+
+    /// The answer to a write: a sector is refused where it is spent.
+    pub(crate) fn answer(&self, sector: u64) -> Result<(), Spent>
+        requires { sector < sectors_of self.now }
+        ensures served { OnOk result (spent_in self.now sector ≡ false) }
+        ensures refused { IfErr result (λ e. (e.sector ≡ sector) × (spent_in self.now sector ≡ true)) }
+    {
+        if self.is_spent(sector) {
+            Err(Spent { sector })
+        } else {
+            Ok(())
+        }
+    }
+
+    /// Writes a sector by one commit of the log. The row is changed on the members that are due: those that count there, or all
+    /// of them, as each counted when the call began. Whoever goes is missing from then on. The sector is refused exactly where it
+    /// is spent after that.
+    pub(crate) fn write_logged<R: Rack>(
+        &mut self,
+        rack: &mut R,
+        log: &mut Log,
+        on: &Places,
+        all: bool,
+        x: u64,
+        from: &[u8; 512],
+    ) -> Result<(), Spent>
+        requires slices { HasSlices self.old (R.seen rack.old) }
+        requires all { all ≡ true → HasAll self.old (R.seen rack.old) }
+        requires disks { (R.seen rack.old).disks ≡ 272 }
+        requires logs { AreLogs (R.seen rack.old).sectors on.now.items }
+        requires sector { x < sectors_of self.old }
+        requires empty { log.old.added ≡ [] }
+        ensures logged { (s : State) (v : View) (vals : ℕ → Values) (spent : ℕ → Bool) → Covers self.new spent
+            → Base all v self.old → MayLog s v self.new log.old.number on.now.items (R.seen rack.old)
+            → Moves v.number (R.seen rack.old) (R.seen rack.new) (Holds s (shape_of v) v vals spent (R.seen rack.old))
+            (Says s v.number (shape_of v) (appended_at x from.now vals) spent)
+            (Holds s (shape_of v) self.new (appended_at x from.now vals) spent (R.seen rack.new)) }
+        ensures kept { (s : State) (v : View) → Base all v self.old → MayLog s v self.new log.old.number on.now.items (R.seen rack.old)
+            → LogKept s log.new.number (has_gone self.new) (R.seen rack.new) }
+        ensures notes { Notes self.old self.new (R.seen rack.old) (R.seen rack.new) }
+        ensures goes { Goes (R.seen rack.old) (R.seen rack.new) }
+        ensures log { (log.new ≡ log.old) ⊎ (log.new ≡ committed log.old) }
+        ensures runs { R.runs rack.old rack.new }
+        ensures served { OnOk result (spent_in self.new x ≡ false) }
+        ensures refused { IfErr result (λ e. (e.sector ≡ x) × (spent_in self.new x ≡ true)) }
+    {
+        self.rules();
+        if !self.stage_unspent(rack, log, all, x, from) {
+            return Err(Spent { sector: x });
+        }
+        let lost = log.commit(rack, on);
+        self.note_all(&lost);
+        self.answer(x)
     }
 }

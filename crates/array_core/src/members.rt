@@ -1,6 +1,6 @@
 //! The members of an array: who counts where, and where a sector stands.
 
-ghost use Rattle.std.specs.Prelude.{◌≢◌, ◌==◌, ◌&&◌, false, slice_get, ◌≡◌, ◌<◌, ◌≤◌, ◌^◌, ℕ, Some, None, nat_lt, true, IfSome, IfNone};
+ghost use Rattle.std.specs.Prelude.{count_by, not, ◌≢◌, ◌==◌, ◌&&◌, false, slice_get, ◌≡◌, ◌<◌, ◌≤◌, ◌^◌, ℕ, Some, None, nat_lt, true, IfSome, IfNone};
 ghost use Rattle.std.specs.List.{list_all};
 ghost use Rattle.raid_map.specs.LeftSymmetric.{parity_at, row_at, sector_of};
 ghost use Rattle.array_image.specs.Stripes.{mirror, parity, width, position_in, sector_in};
@@ -10,7 +10,7 @@ ghost use Rattle.array_image.specs.Arrays.{final_layout, layout_at};
 ghost use Rattle.array_image.specs.Held.{source_in, first_counting};
 ghost use Rattle.array_image.specs.Spent.{wanting, spent_with};
 ghost use Rattle.array_model.specs.declared.Seat.TheVariants.{Missing};
-ghost use Rattle.array_model.specs.View.{IsArray, is_whole_array, is_whole_seat, rows_of, place_at, member_on, shape_of, sectors_of, spent_in};
+ghost use Rattle.array_model.specs.View.{IsArray, is_alone, is_missing_seat, is_whole_array, is_whole_seat, rows_of, place_at, member_on, shape_of, sectors_of, spent_in};
 ghost use Rattle.array_model.specs.Members.{members_of, row_layout, slice_on};
 ghost use Rattle.array_model.proofs.Firsts.{firsts};
 ghost use Rattle.array_core.specs.Stands.{IsSlot, IsStand, layout_of};
@@ -60,6 +60,16 @@ fn is_whole_seat(seat: Seat) -> bool
         Seat::Missing => false,
         Seat::Rebuilding { .. } => false,
     }
+}
+
+/// How many members aren't missing.
+fn present(slots: &[Slot]) -> usize
+    ensures { result ≡ count_by (λ s. not (is_missing_seat s.seat)) slots.now }
+{
+    slots
+        .iter()
+        .filter(|slot| slot.seat != Seat::Missing)
+        .count()
 }
 
 /// How a sector's row is spread over the members.
@@ -162,6 +172,16 @@ impl Array {
         ensures { result ≡ self.now.truth.size }
     {
         self.truth.size
+    }
+
+    /// Whether the array is a mirror of which one member at most is left.
+    pub(crate) fn is_alone(&self) -> bool
+        ensures { result ≡ is_alone self.now }
+    {
+        if !is_mirror(&self.truth) {
+            return false;
+        }
+        present(self.slots.as_slice()) <= 1
     }
 
     /// Whether a member counts at a sector of its data.
@@ -281,7 +301,7 @@ impl Array {
     }
 
     /// The first of so many members that counts at a sector of its data.
-    fn first(&self, members: u32, sector: u64) -> Option<usize>
+    pub(crate) fn first(&self, members: u32, sector: u64) -> Option<usize>
         requires { members ≤ self.now.truth.raid_disks }
         ensures found { IfSome result (λ k. (k < members) × (first_counting sector (firsts self.now members) ≡ Some (member_on self.now k))) }
         ensures none { IfNone result (first_counting sector (firsts self.now members) ≡ None) }

@@ -1,6 +1,7 @@
 //! What is read of an array over a rack of slices, and made durable on it.
 
 ghost use Rattle.std.specs.Prelude.{◌≡◌, ◌<◌, ◌≤◌, ◌^◌, ◌==◌, ℕ, Bool, Some, nat_lt, true, false, OnOk, IfErr};
+ghost use Rattle.std.specs.List.{list_all};
 ghost use Rattle.rack.specs.Values.{Values};
 ghost use Rattle.rack.specs.Sequences.{OnlyReads};
 ghost use Rattle.pool_state.specs.declared.contents.State.{State};
@@ -14,6 +15,7 @@ ghost use Rattle.array_model.specs.Says.{IsOpen};
 ghost use Rattle.array_model.specs.ArrayCalls.{Covers, Keeping, ReadsArray, SyncsArray};
 ghost use Rattle.array_model.specs.Members.{row_layout, row_of, restored, member_spent, first_of_row, HasSlices, IsSameButSeats, Notes, IsSingleOn, members_of, added, gathered};
 ghost use Rattle.array_model.proofs.Firsts.{firsts};
+ghost use Rattle.array_core.specs.Seats.{names};
 ghost use Rattle.array_core.specs.Stands.{IsStand, layout_of, given_at, blank};
 
 use crate::members::{Spread, Stand};
@@ -56,6 +58,16 @@ fn first_of_row(spread: Spread, sector: u64) -> u64
 }
 
 impl Array {
+    /// Notes places that answered `Gone`: their members are missing from then on.
+    pub(crate) fn note_all(&mut self, places: &Places)
+        requires { list_all (λ p. nat_lt p 16) places.now.items ≡ true }
+        ensures same { IsSameButSeats self.old self.new }
+        ensures loses { LosesPlaces self.old self.new (names places.now.items) }
+    {
+        let _number = self.number;
+        self.gone(places);
+    }
+
     /// Notes a place that answered `Gone`: its member is missing from then on.
     pub(crate) fn note(&mut self, place: u32)
         requires { place < 16 }

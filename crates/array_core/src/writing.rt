@@ -1,6 +1,6 @@
 //! Writes to an array over a rack of slices.
 
-ghost use Rattle.std.specs.Prelude.{◌≡◌, ◌≢◌, ◌<◌, ◌≤◌, ◌+◌, ℕ, Bool, List, [], ◌∷◌, Some, None, nat_lt, true, false, OnOk, IfErr};
+ghost use Rattle.std.specs.Prelude.{◌≡◌, ◌≢◌, ◌⊎◌, ◌<◌, ◌≤◌, ◌+◌, ℕ, Bool, List, [], ◌∷◌, Some, None, nat_lt, true, false, OnOk, IfErr};
 ghost use Rattle.rack.specs.Values.{Values};
 ghost use Rattle.rack.specs.Targets.{target};
 ghost use Rattle.rack.specs.Sequences.{OnlyReads};
@@ -10,19 +10,26 @@ ghost use Rattle.array_image.specs.Places.{data_sector};
 ghost use Rattle.array_image.specs.Stripes.{mirror, parity};
 ghost use Rattle.array_image.specs.Arrays.{final_layout};
 ghost use Rattle.array_image.specs.Spent.{wanting, spent_with};
-ghost use Rattle.array_model.specs.View.{has_gone, is_whole_array, member_on, place_at, sectors_of, shape_of, spent_in};
+ghost use Rattle.array_model.specs.View.{has_gone, is_alone, is_whole_array, member_on, place_at, sectors_of, shape_of, spent_in};
 ghost use Rattle.array_model.specs.ArrayCalls.{Covers, WritesArray};
 ghost use Rattle.array_model.specs.Members.{HasSlices, IsKept, Notes, Works, members_of, slice_on};
 ghost use Rattle.array_model.specs.Rows.{Wrote, copies};
+ghost use Rattle.array_model.proofs.Moves.{KeepsOthers};
+ghost use Rattle.commit_log.specs.View.{committed};
+ghost use Rattle.commit_log.specs.Kept.{LogKept};
+ghost use Rattle.commit_log.specs.Phases.{AreLogs};
+ghost use Rattle.array_core.specs.Pool.{Goes, MayCommit};
 ghost use Rattle.array_core.specs.Stands.{IsStand};
+ghost use Rattle.array_core.specs.Writing.{WritesView};
 ghost use Rattle.array_core.specs.Parities.{FoundParity};
 ghost use Rattle.array_core.specs.Settling.{Marks, Readies};
 
 use crate::members::{Spread, Stand};
 use crate::reading::DATA_SECTOR;
 use crate::{Array, Spent};
+use commit_log::Log;
 use parity::xor_into;
-use rack::Rack;
+use rack::{Places, Rack};
 use raid_map::place;
 
 impl Array {
@@ -162,17 +169,56 @@ impl Array {
         ensures writes { (s : State) (vals : ℕ → Values) (spent : ℕ → Bool) → Covers self.new spent
             → WritesArray s self.old self.new spent (R.seen rack.old) (R.seen rack.new) (shape_of self.old) vals sector from.now }
         ensures notes { Notes self.old self.new (R.seen rack.old) (R.seen rack.new) }
+        ensures others { KeepsOthers self.old.number (R.seen rack.old) (R.seen rack.new) }
+        ensures goes { Goes (R.seen rack.old) (R.seen rack.new) }
         ensures runs { R.runs rack.old rack.new }
         ensures served { OnOk result (spent_in self.new sector ≡ false) }
         ensures refused { IfErr result (λ e. (e.sector ≡ sector) × (spent_in self.new sector ≡ true)) }
     {
         self.rules();
         self.write_row(rack, sector, from);
-        if self.is_spent(sector) {
-            Err(Spent { sector })
-        } else {
-            Ok(())
+        self.answer(sector)
+    }
+
+    /// Writes a sector on the first member of a mirror that counts there, if one does.
+    fn write_first<R: Rack>(&mut self, rack: &mut R, sector: u64, from: &[u8; 512])
+        requires slices { HasSlices self.old (R.seen rack.old) }
+        requires sector { sector < self.old.truth.size }
+        requires alone { is_alone self.old ≡ true }
+        ensures wrote { Wrote self.old self.new (R.seen rack.old) (R.seen rack.new) sector from.now }
+        ensures runs { R.runs rack.old rack.new }
+    {
+        self.rules();
+        let members = self.truth.raid_disks;
+        match self.first(members, sector) {
+            Some(position) => self.send(rack, position, sector, from),
+            None => {}
         }
+    }
+
+    /// Writes a sector of a mirror of which one member at most is left, past the log: it is one sector. The sector is refused
+    /// exactly where it is spent after that.
+    fn write_alone<R: Rack>(
+        &mut self,
+        rack: &mut R,
+        sector: u64,
+        from: &[u8; 512],
+    ) -> Result<(), Spent>
+        requires slices { HasSlices self.old (R.seen rack.old) }
+        requires sector { sector < sectors_of self.old }
+        requires alone { is_alone self.old ≡ true }
+        ensures writes { (s : State) (vals : ℕ → Values) (spent : ℕ → Bool) → Covers self.new spent → self.old.went ≡ []
+            → WritesArray s self.old self.new spent (R.seen rack.old) (R.seen rack.new) (shape_of self.old) vals sector from.now }
+        ensures notes { Notes self.old self.new (R.seen rack.old) (R.seen rack.new) }
+        ensures others { KeepsOthers self.old.number (R.seen rack.old) (R.seen rack.new) }
+        ensures goes { Goes (R.seen rack.old) (R.seen rack.new) }
+        ensures runs { R.runs rack.old rack.new }
+        ensures served { OnOk result (spent_in self.new sector ≡ false) }
+        ensures refused { IfErr result (λ e. (e.sector ≡ sector) × (spent_in self.new sector ≡ true)) }
+    {
+        self.rules();
+        self.write_first(rack, sector, from);
+        self.answer(sector)
     }
 
     /// Makes it durable on all members that each row is left to resync, with one more event, so that rows may be written past the
@@ -201,5 +247,47 @@ impl Array {
         }
         self.mark(rack);
         self.is_marked()
+    }
+
+    /// Writes a sector. Of a whole array each row is left to resync durably, once in a run, and then the row is written past the
+    /// log; a mirror with one member writes that member alone; any other row is changed by one commit of the log, on the places
+    /// that aren't marked missing. Whoever answers `Gone` is missing from then on, and the others have the whole row. The sector
+    /// is refused exactly where it is spent after that; it has the new value then for whoever can't read it any more.
+    pub fn write<R: Rack>(
+        &mut self,
+        rack: &mut R,
+        log: &mut Log,
+        on: &Places,
+        sector: u64,
+        from: &[u8; 512],
+    ) -> Result<(), Spent>
+        requires slices { HasSlices self.old (R.seen rack.old) }
+        requires disks { (R.seen rack.old).disks ≡ 272 }
+        requires logs { AreLogs (R.seen rack.old).sectors on.now.items }
+        requires empty { log.old.added ≡ [] }
+        requires sector { sector < sectors_of self.old }
+        ensures writes { (s : State) (vals : ℕ → Values) (spent : ℕ → Bool) → Covers self.new spent
+            → MayCommit s self.old self.new log.old.number on.now.items (R.seen rack.old)
+            → WritesArray s self.old self.new spent (R.seen rack.old) (R.seen rack.new) (shape_of self.old) vals sector from.now }
+        ensures kept { (s : State) → MayCommit s self.old self.new log.old.number on.now.items (R.seen rack.old)
+            → LogKept s log.new.number (has_gone self.new) (R.seen rack.new) }
+        ensures view { WritesView self.old self.new (R.seen rack.old) (R.seen rack.new) }
+        ensures goes { Goes (R.seen rack.old) (R.seen rack.new) }
+        ensures log { (log.new ≡ log.old) ⊎ (log.new ≡ committed log.old) }
+        ensures runs { R.runs rack.old rack.new }
+        ensures served { OnOk result (spent_in self.new sector ≡ false) }
+        ensures refused { IfErr result (λ e. (e.sector ≡ sector) × (spent_in self.new sector ≡ true)) }
+    {
+        self.rules();
+        if self.is_alone() {
+            return self.write_alone(rack, sector, from);
+        }
+        let whole = self.is_whole();
+        let ready = self.is_ready(rack);
+        self.rules();
+        if ready {
+            return self.write_marked(rack, sector, from);
+        }
+        self.write_logged(rack, log, on, whole, sector, from)
     }
 }

@@ -21,7 +21,8 @@ use Rattle.array_model.proofs.Parts.{plain_sector, plain_source, plain_take}
 use Rattle.array_model.proofs.Spared.{at_most_one}
 use Rattle.array_model.proofs.WholeWrites.{own_value}
 
-all_want : (t : ℕ) (members : List Member) → first_counting t members ≡ None → wanting t members ≡ length members
+-- none of the members counts
+pub all_want : (t : ℕ) (members : List Member) → first_counting t members ≡ None → wanting t members ≡ length members
 unfolding first_counting
 all_want t [] none = refl
 all_want t (m ∷ others) none =

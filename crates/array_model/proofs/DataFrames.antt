@@ -8,7 +8,8 @@ use Rattle.array_image.specs.Places.{member_slice, super_sector, data_sector}
 use Rattle.array_image.specs.Arrays.{Member, Shape, column, member_by, member_in, place_with, shape_by, shape_in}
 use Rattle.array_image.specs.States.{is_current}
 use Rattle.array_image.specs.Supers.{super_in, truth_in, is_unclean}
-use Rattle.array_image.specs.SoundArray.{IsSoundArray}
+use Rattle.array_image.specs.Even.{AreEven}
+use Rattle.array_image.specs.SoundArray.{IsSoundArray, first_unsynced}
 use Rattle.array_image.proofs.Frames.{super_of_sector, truth_by_supers}
 use Rattle.array_image.specs.Held.{Among}
 use Rattle.array_image.proofs.Frames.{map_same}
@@ -41,17 +42,22 @@ shape_at s c e array same =
     map_at (shape_by s c array) (shape_by s e array) (truth_in s c array) (λ t. shape_by_at s c e array t same)
     ∙ ap (λ (t : Option Super). option_map (shape_by s e array) t) (truth_at s c e array same)
 
--- superblocks that agree and leave all rows to resync need no row that agrees
-pub sound_at : (s : State) (c e : Image) (array : ℕ) (t : Super) → SameSectors array c e → t.resync_offset ≡ 0 → IsSoundArray s e array t → IsSoundArray s c array t
-sound_at s c e array t same marked sound =
+-- superblocks that agree, where the rows do that they leave in sync
+pub sound_with : (s : State) (c e : Image) (array : ℕ) (t : Super) → SameSectors array c e
+    → ((shape : Shape) → shape_in s c array ≡ Some shape → AreEven shape array (first_unsynced t) c) → IsSoundArray s e array t → IsSoundArray s c array t
+sound_with s c e array t same even sound =
     record {
       two = sound.two;
       written = sound.written;
       same = λ p q u v at_p at_q is_u is_v events.
           sound.same p q u v at_p at_q (sym (super_at s c e array p same) ∙ is_u) (sym (super_at s c e array q same) ∙ is_v) events;
       rebuilt = λ p u at_p is_u rebuilding. sound.rebuilt p u at_p (sym (super_at s c e array p same) ∙ is_u) rebuilding;
-      even = λ joined shape is x inside synced. absurd (no_row (is_unclean t) refl synced);
+      even = λ joined. even;
     }
+
+-- no row must agree where all are left to resync
+pub even_unsynced : (shape : Shape) (array : ℕ) (t : Super) (c : Image) → t.resync_offset ≡ 0 → AreEven shape array (first_unsynced t) c
+even_unsynced shape array t c marked x inside synced = absurd (no_row (is_unclean t) refl synced)
   where
     no_row : {k : ℕ} (b : Bool) → is_unclean t ≡ b → k < (if b then t.resync_offset / 128 else t.size / 128) → ⊥
     no_row true is below = omega (arith, marked, below)

@@ -25,3 +25,4 @@ pub mod Moves
 pub mod Opening
 pub mod Degraded
 pub mod Copies
+pub mod Alone

@@ -16,10 +16,10 @@ use Rattle.array_image.specs.Held.{current_in}
 use Rattle.array_image.specs.Marks.{lowered}
 use Rattle.array_image.specs.Spent.{spent_by, spent_with}
 use Rattle.array_image.proofs.Losing.{length_map}
-use Rattle.array_model.specs.View.{View, IsArray, IsNoted, HasGeometry, shape_of, spent_in}
+use Rattle.array_model.specs.View.{View, IsArray, IsNoted, HasGeometry, LosesPlaces, shape_of, spent_in}
 use Rattle.array_model.specs.Says.{Holds}
 use Rattle.array_model.specs.ArrayCalls.{Keeping, Covers}
-use Rattle.array_model.specs.Members.{members_of, Notes}
+use Rattle.array_model.specs.Members.{IsSameButSeats, members_of, Notes}
 use Rattle.array_model.proofs.Views.{same_geometry, shape_then, vary_then, fresh_then}
 use Rattle.array_model.proofs.Keeping.{keeping_calls}
 use Rattle.array_model.proofs.Losses.{IsLosing, losing_calls, losing_holds}
@@ -28,16 +28,19 @@ use Rattle.array_model.proofs.Spared.{IsLaidOut, lost_value, at_most_one, synced
 pub shape_noted : (v w : View) (a b : Seen) (notes : Notes v w a b) → shape_of w ≡ lowered notes.lost (shape_of v)
 shape_noted v w a b notes = shape_then v w notes.lost notes.same.truth notes.loses
 
-pub losing_by : (v w : View) (a b : Seen) (notes : Notes v w a b) → IsLosing v w notes.lost
-losing_by v w a b notes = record {
-  number = notes.same.number;
-  truth = notes.same.truth;
-  resync = notes.same.resync;
-  shape = shape_noted v w a b notes;
-  vary = vary_then v w notes.lost notes.same.truth notes.same.marked notes.loses;
-  marked = λ is. sym notes.same.marked ∙ is;
-  went = fresh_then v w notes.lost notes.loses;
+pub losing_of : (v w : View) (lost : ℕ → Bool) → IsSameButSeats v w → LosesPlaces v w lost → IsLosing v w lost
+losing_of v w lost same loses = record {
+  number = same.number;
+  truth = same.truth;
+  resync = same.resync;
+  shape = shape_then v w lost same.truth loses;
+  vary = vary_then v w lost same.truth same.marked loses;
+  marked = λ is. sym same.marked ∙ is;
+  went = fresh_then v w lost loses;
 }
+
+pub losing_by : (v w : View) (a b : Seen) (notes : Notes v w a b) → IsLosing v w notes.lost
+losing_by v w a b notes = losing_of v w notes.lost notes.same notes.loses
 
 pub noted_by : (v w : View) (a b : Seen) → Notes v w a b → IsNoted v w a b
 noted_by v w a b notes = record {
@@ -152,13 +155,20 @@ covers_before v w lost losing spent covers y alive =
     (wanting_more lost (sector_in (layout_at (shape_of v) y) y) (shape_of v).members)
     (unspent_then v w lost losing y (covers y alive))
 
--- what an array holds, it holds once the places that went are noted
+-- what an array holds, it holds without the places that it lost
+pub holds_lost : (v w : View) (lost : ℕ → Bool) (x : Seen) → IsArray v → IsLosing v w lost
+    → (s : State) (durable : Shape) (vals : ℕ → Values) (spent : ℕ → Bool) → Covers w spent
+    → Holds s durable v vals spent x → Holds s durable w vals spent x
+holds_lost v w lost x is_array losing s durable vals spent covers holds =
+    losing_holds s durable v w vals spent x lost losing
+    (λ y alive.
+    lost_value lost (shape_of v) v.number v.resync (current_in x.held) y (laid_out v is_array) holds.shape.even holds.shape.sized
+    (unspent_then v w lost losing y (covers y alive)))
+    holds
+
+-- and so once the places that went are noted
 pub holds_noted : (v w : View) (a b x : Seen) → IsArray v → Notes v w a b
     → (s : State) (durable : Shape) (vals : ℕ → Values) (spent : ℕ → Bool) → Covers w spent
     → Holds s durable v vals spent x → Holds s durable w vals spent x
 holds_noted v w a b x is_array notes s durable vals spent covers holds =
-    losing_holds s durable v w vals spent x notes.lost (losing_by v w a b notes)
-    (λ y alive.
-    lost_value notes.lost (shape_of v) v.number v.resync (current_in x.held) y (laid_out v is_array) holds.shape.even holds.shape.sized
-    (unspent_then v w notes.lost (losing_by v w a b notes) y (covers y alive)))
-    holds
+    holds_lost v w notes.lost x is_array (losing_by v w a b notes) s durable vals spent covers holds

@@ -1,5 +1,5 @@
 -- A write of a sector of a whole array: its targets, and its clause.
-use Rattle.std.proofs.Common.{◌≡◌, ℕ, zero, suc, ◌+◌, ◌<◌, Bool, true, false, ◌==◌, ◌&&◌, ◌||◌, not, nat_lt, if◌then◌else◌, List, [], ◌∷◌, ◌++◌, map, length, slice_get, Some, option_map, unwrap_or, refl, sym, ap, ap₂, subst, ◌∙◌, inl, inr, eqb-true, lt-ltb, ltb-true, arith}
+use Rattle.std.proofs.Common.{◌≡◌, ◌⊎◌, ℕ, zero, suc, ◌+◌, ◌<◌, Bool, true, false, ◌==◌, ◌&&◌, ◌||◌, not, nat_lt, if◌then◌else◌, List, [], ◌∷◌, ◌++◌, map, length, slice_get, Some, option_map, unwrap_or, refl, sym, ap, ap₂, subst, ◌∙◌, inl, inr, eqb-true, lt-ltb, ltb-true, arith}
 use Rattle.std.proofs.lemmas.Bool.{both_ways, and_parts}
 use Rattle.std.proofs.lemmas.List.Quantifiers.{position-Some}
 use Rattle.std.specs.Option.{option_map_or}
@@ -17,18 +17,22 @@ use Rattle.array_image.specs.Arrays.{Member, Shape, value_by, final_layout, plac
 use Rattle.array_image.proofs.Losing.{map_join}
 use Rattle.array_model.specs.declared.Seat.{Seat}
 use Rattle.array_model.specs.declared.Seat.TheVariants.{Whole, Missing, Rebuilding}
-use Rattle.array_model.specs.View.{View, IsArray, shape_of, spent_in, is_whole_seat, is_whole_array, seat_unless, seat_reach, has_gone, place_at, member_on, rows_of}
+use Rattle.array_model.specs.View.{View, IsArray, shape_of, spent_in, is_alone, is_whole_seat, is_whole_array, may_vary, seat_unless, seat_reach, has_gone, place_at, member_on, rows_of}
+use Rattle.array_image.specs.Even.{AreEven}
 use Rattle.array_image.specs.Left.{IsInside}
+use Rattle.array_image.specs.SoundArray.{first_unsynced}
 use Rattle.array_model.specs.Says.{Says, Holds}
 use Rattle.array_model.specs.ArrayCalls.{Turns, Keeping, WritesArray, Covers, appended_at}
 use Rattle.array_model.specs.Members.{slice_on, gone_slices, Notes, Works, IsKept}
-use Rattle.array_model.specs.Rows.{IsPlain, part_at, target_on, copies, Owes, Wrote, row, refused}
-use Rattle.array_model.proofs.Views.{shape_members}
-use Rattle.array_model.proofs.Noting.{losing_by, noted_by, laid_out, length_members, read_acts}
+use Rattle.array_model.specs.Rows.{IsPlain, part_at, source_at, target_on, copies, Owes, Wrote, row, refused}
+use Rattle.array_model.proofs.DataFrames.{even_unsynced}
+use Rattle.array_model.proofs.Moves.{KeepsOthers}
+use Rattle.array_model.proofs.Views.{loses_nobody, same_view, shape_members}
+use Rattle.array_model.proofs.Noting.{covers_before, losing_by, losing_of, noted_by, laid_out, length_members, read_acts, unspent_then}
 use Rattle.array_model.proofs.Layouts.{layout_by}
 use Rattle.array_model.proofs.Firsts.{firsts, firsts_more, position_of}
 use Rattle.array_model.proofs.Reading.{slice_same}
-use Rattle.array_model.proofs.Whole.{IsWhole}
+use Rattle.array_model.proofs.Whole.{IsWhole, unspent_inside, whole_source}
 use Rattle.array_model.proofs.WriteActs.{write_acts}
 use Rattle.array_model.proofs.Writing.{works_then}
 
@@ -158,17 +162,40 @@ copies_all v sector from = ap (map (target_on v.number sector from)) (sym (shape
 
 -- ---- the clause
 
--- a row that was written past the log on a whole array whose mark is durable
+-- What a write past the log needs of an array: members' sectors may have several values, no row must agree in images, and each
+-- sector that isn't spent is a member's own.
+pub record IsPastLog (v : View) : Type 0 where
+  pub vary : may_vary v ≡ true
+  pub agree : (v.marked ≡ true) ⊎ ((rows : ℕ) (c : Image) → AreEven (shape_of v) v.number rows c)
+  pub sources : (y : ℕ) → spent_in v y ≡ false → (m : Member) × (source_at (shape_of v) y ≡ Some m)
+
+-- a whole array whose mark is durable
+pub whole_past : (v : View) → IsArray v → is_whole_array v ≡ true → v.marked ≡ true → IsPastLog v
+whole_past v is_array whole marked = record {
+  vary = ap (λ (m : Bool). m || is_alone v) marked;
+  agree = inl marked;
+  sources = λ y unspent.
+      let laid = laid_out v is_array in
+      let all = whole_shape v is_array whole in
+      let nobody : ℕ → Bool = λ place. false in
+      whole_source (shape_of v) v.resync y laid all
+      (unspent_inside nobody (shape_of v) v.resync y laid all (unspent_then v v nobody (losing_of v v nobody (same_view v) (loses_nobody v)) y unspent));
+}
+
+-- a row that was written past the log
 pub row_acts : (v w : View) (a b : Seen) (x : ℕ) (from : List ℕ) (xs : List Target)
-    → a.lasting → IsArray v → is_whole_array v ≡ true → v.marked ≡ true → v.went ≡ []
+    → a.lasting → IsArray v → IsPastLog v → v.went ≡ []
     → Works v w a b xs → Owes v a x from xs
     → (s : State) (vals : ℕ → Values) (spent : ℕ → Bool) → Covers w spent
     → WritesArray s v w spent a b (shape_of v) vals x from
-row_acts v w a b x from xs lasting is_array whole marked fresh works owes s vals spent covers =
+row_acts v w a b x from xs lasting is_array past fresh works owes s vals spent covers =
     let notes = works.notes in
+    let losing = losing_by v w a b notes in
     write_acts a b (gone_slices w) s v w vals spent notes.lost x from xs lasting works.puts
-    (noted_by v w a b notes) (losing_by v w a b notes) (laid_out v is_array) (whole_shape v is_array whole) is_array.few
-    marked (notes.same.marked ∙ marked) fresh covers
+    (noted_by v w a b notes) losing (laid_out v is_array) (λ y alive. past.sources y (covers_before v w notes.lost losing spent covers y alive)) is_array.few
+    (still_varies (may_vary w) (may_vary v) past.vary losing.vary) fresh
+    (λ holds r left t is c. elim past.agree [ inl marked ↦ even_unsynced (shape_of v) v.number t c (holds.mark marked r left t is) | inr even ↦ even (first_unsynced t) c ])
+    covers
     (λ m among here.
     ap₂ (λ (n : ℕ) (g : Bool). (slice_of (member_slice m.place v.number) == n + 1) && g) notes.same.number
     (ap (has_gone w) (place_is m.place is_array.few) ∙ notes.loses.went m.place ∙ ap₂ (λ p q. p || q) here (gone_none v fresh m.place))
@@ -182,8 +209,12 @@ row_acts v w a b x from xs lasting is_array whole marked fresh works owes s vals
     and_false true = refl
     and_false false = refl
 
+    still_varies : (now was : Bool) → was ≡ true → (now ≡ false → was ≡ false) → now ≡ true
+    still_varies true was is steady = refl
+    still_varies false was is steady = absurd (both_ways was (steady refl) is)
+
 -- the values after a write to a spent sector are those before it, wherever they count
-same_values : (x : ℕ) (from : List ℕ) (vals : ℕ → Values) (spent : ℕ → Bool) → spent x ≡ true → (y : ℕ) → spent y ≡ false → vals y ≡ appended_at x from vals y
+pub same_values : (x : ℕ) (from : List ℕ) (vals : ℕ → Values) (spent : ℕ → Bool) → spent x ≡ true → (y : ℕ) → spent y ≡ false → vals y ≡ appended_at x from vals y
 same_values x from vals spent lost y alive =
     let Goal : Bool → Type 0 = λ b. (y == x) ≡ b → vals y ≡ (if b then append (vals y) from else vals y) in
     let goal : Goal (y == x) =
@@ -193,12 +224,12 @@ same_values x from vals spent lost y alive =
     ] in
     goal refl
 
-says_values : (s : State) (n : ℕ) (shape : Shape) (vals now : ℕ → Values) (spent : ℕ → Bool) (r : Image) → ((y : ℕ) → spent y ≡ false → vals y ≡ now y)
+pub says_values : (s : State) (n : ℕ) (shape : Shape) (vals now : ℕ → Values) (spent : ℕ → Bool) (r : Image) → ((y : ℕ) → spent y ≡ false → vals y ≡ now y)
     → Says s n shape vals spent r → Says s n shape now spent r
 says_values s n shape vals now spent r same says =
     record { shape_is = says.shape_is; value = λ y alive. subst (λ h. MayLeave h (value_by shape r n y)) (same y alive) (says.value y alive); is_sound = says.is_sound }
 
-holds_values : (s : State) (durable : Shape) (w : View) (vals now : ℕ → Values) (spent : ℕ → Bool) (x : Seen) → ((y : ℕ) → spent y ≡ false → vals y ≡ now y)
+pub holds_values : (s : State) (durable : Shape) (w : View) (vals now : ℕ → Values) (spent : ℕ → Bool) (x : Seen) → ((y : ℕ) → spent y ≡ false → vals y ≡ now y)
     → Holds s durable w vals spent x → Holds s durable w now spent x
 holds_values s durable w vals now spent x same holds =
     let h = holds.shape in
@@ -245,7 +276,7 @@ spent_acts s v w spent a b durable vals x from lost kept =
       calm = kept.calm;
     }
 
-is_spent : (w : View) (spent : ℕ → Bool) (x : ℕ) → Covers w spent → spent_in w x ≡ true → spent x ≡ true
+pub is_spent : (w : View) (spent : ℕ → Bool) (x : ℕ) → Covers w spent → spent_in w x ≡ true → spent x ≡ true
 is_spent w spent x covers lost =
     let Goal : Bool → Type 0 = λ b. spent x ≡ b → b ≡ true in
     let goal : Goal (spent x) = elim (spent x) as Goal [ true ↦ λ is. refl | false ↦ λ is. absurd (both_ways (spent_in w x) (covers x is) lost) ] in
@@ -253,10 +284,20 @@ is_spent w spent x covers lost =
 
 -- however it ended
 pub wrote_acts : (v w : View) (a b : Seen) (x : ℕ) (from : List ℕ)
-    → a.lasting → IsArray v → is_whole_array v ≡ true → v.marked ≡ true → v.went ≡ [] → Wrote v w a b x from
+    → a.lasting → IsArray v → IsPastLog v → v.went ≡ [] → Wrote v w a b x from
     → (s : State) (vals : ℕ → Values) (spent : ℕ → Bool) → Covers w spent
     → WritesArray s v w spent a b (shape_of v) vals x from
-wrote_acts v w a b x from lasting is_array whole marked fresh (row xs works owes) s vals spent covers =
-    row_acts v w a b x from xs lasting is_array whole marked fresh works owes s vals spent covers
-wrote_acts v w a b x from lasting is_array whole marked fresh (refused reads notes lost) s vals spent covers =
+wrote_acts v w a b x from lasting is_array past fresh (row xs works owes) s vals spent covers =
+    row_acts v w a b x from xs lasting is_array past fresh works owes s vals spent covers
+wrote_acts v w a b x from lasting is_array past fresh (refused reads notes lost) s vals spent covers =
     spent_acts s v w spent a b (shape_of v) vals x from (is_spent w spent x covers lost) (read_acts a b v w lasting reads is_array notes s (shape_of v) vals spent covers)
+
+-- and it wrote to the array's own slices alone
+pub wrote_others : (v w : View) (a b : Seen) (x : ℕ) (from : List ℕ) → v.number < 16 → Wrote v w a b x from → KeepsOthers v.number a b
+wrote_others v w a b x from few (row xs works owes) d t live other =
+    works.puts.only.others d t live (λ u is. let at = owes.row.own d t u is in other (omega (arith, few, at.2)))
+wrote_others v w a b x from few (refused reads notes lost) d t live other = reads.keeps.held d t live
+
+pub wrote_notes : (v w : View) (a b : Seen) (x : ℕ) (from : List ℕ) → Wrote v w a b x from → Notes v w a b
+wrote_notes v w a b x from (row xs works owes) = works.notes
+wrote_notes v w a b x from (refused reads notes lost) = notes

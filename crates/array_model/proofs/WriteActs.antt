@@ -1,4 +1,4 @@
--- A write to a whole array past the log, in which places may go: its clause from what its calls did.
+-- A write past the log, in which places may go: its clause from what its calls did.
 use Rattle.std.proofs.Common.{◌≡◌, ◌⊎◌, ℕ, ◌+◌, ◌<◌, Bool, true, false, ◌==◌, ◌||◌, if◌then◌else◌, List, [], map, take, length, Option, Some, None, unwrap_or, refl, sym, ap, subst, ◌∙◌, inl, inr, eq-eqb, eqb-true, arith}
 use Rattle.std.proofs.lemmas.Bool.{both_ways}
 use Rattle.std.specs.Option.{option_map_or}
@@ -16,12 +16,13 @@ use Rattle.array_image.proofs.Frames.{super_of_sector}
 use Rattle.rack.proofs.Phases.{payload_none}
 use Rattle.array_image.specs.Held.{Among, current_in}
 use Rattle.array_image.specs.Even.{AreEven}
+use Rattle.array_image.specs.SoundArray.{first_unsynced}
 use Rattle.array_image.specs.Marks.{lower, lowered}
 use Rattle.array_image.proofs.Settled.{among_take}
 use Rattle.array_image.proofs.Marked.{among_lowered}
 use Rattle.array_image.proofs.Replays.{SameLogs, replayed_same}
 use Rattle.array_image.proofs.Sources.{source_value, source_counts}
-use Rattle.array_model.specs.View.{View, shape_of, spent_in, may_vary, is_alone, IsNoted}
+use Rattle.array_model.specs.View.{View, shape_of, spent_in, may_vary, IsNoted}
 use Rattle.array_image.specs.Left.{reading, IsInside, Picks, PicksLogs, IsLeft, IsApart, IsClosed}
 use Rattle.array_model.specs.Says.{Says, HoldsShape, Holds, IsEarlier}
 use Rattle.array_model.specs.ArrayCalls.{Acts, Turns, appended_at}
@@ -33,9 +34,9 @@ use Rattle.array_image.specs.Spent.{spent_by}
 use Rattle.array_model.specs.Rows.{written, IsRow, source_at, sector_at}
 use Rattle.array_model.proofs.Spared.{lost_value, IsLaidOut}
 use Rattle.array_model.proofs.Looking.{no_target, look_payload, payload_look, unwritten, unwritten_same}
-use Rattle.array_model.proofs.DataFrames.{SameSectors, truth_at, shape_at, sound_at, columns_same}
+use Rattle.array_model.proofs.DataFrames.{SameSectors, truth_at, shape_at, sound_with, columns_same}
 use Rattle.array_model.proofs.Noting.{unspent_then}
-use Rattle.array_model.proofs.Whole.{IsWhole, among_kept, unspent_inside, whole_source}
+use Rattle.array_model.proofs.Whole.{among_kept}
 use Rattle.array_model.specs.Members.{Puts}
 
 -- ---- where there is no target
@@ -76,7 +77,9 @@ before_of a b xs c lasting stays inside mix =
 -- what holds when the write begins
 record Begins (s : State) (v : View) (vals : ℕ → Values) (spent : ℕ → Bool) (a : Seen) : Type 0 where
   pub holds : HoldsShape s v.number (shape_of v) (shape_of v) v.resync (may_vary v) vals spent a
-  pub mark : (r : Image) → IsLeft a r → (t : Super) → truth_in s r v.number ≡ Some t → t.resync_offset ≡ 0
+  -- no row must agree in images
+  pub agree : (r : Image) → IsLeft a r → (t : Super) → truth_in s r v.number ≡ Some t → (c : Image) → AreEven (shape_of v) v.number (first_unsynced t) c
+  pub mark : v.marked ≡ true → (r : Image) → IsLeft a r → (t : Super) → truth_in s r v.number ≡ Some t → t.resync_offset ≡ 0
   pub closed : IsClosed v.number a
 
 -- and what is known of it as a whole
@@ -133,7 +136,8 @@ mixed_supers a b shape n x from xs c lasting stays few row inside mix =
 mixed_says : (s : State) (v : View) (vals : ℕ → Values) (spent : ℕ → Bool) (a b : Seen) (x : ℕ) (from : List ℕ) (xs : List Target)
     → a.lasting → Stays a b → Begins s v vals spent a → Write s v vals spent a b x from xs
     → (c : Image) → IsInside a.sectors c → IsMix a b (IsPayload xs) c
-    → Says s v.number (shape_of v) (appended_at x from vals) spent (replayed a.sectors c) × ((t : Super) → truth_in s (replayed a.sectors c) v.number ≡ Some t → t.resync_offset ≡ 0)
+    → Says s v.number (shape_of v) (appended_at x from vals) spent (replayed a.sectors c)
+    × (v.marked ≡ true → (t : Super) → truth_in s (replayed a.sectors c) v.number ≡ Some t → t.resync_offset ≡ 0)
 mixed_says s v vals spent a b x from xs lasting stays begins write c inside mix =
     let n = v.number in
     let shape = shape_of v in
@@ -145,16 +149,20 @@ mixed_says s v vals spent a b x from xs lasting stays begins write c inside mix 
     (unwritten_same xs (reading a) c (member_slice place n) super_sector (super_free shape n x from xs write.row (member_slice place n))) in
     let left : IsLeft a (replayed a.sectors e) = (e, picks, λ d t. refl) in
     let old = begins.holds.says (replayed a.sectors e) left in
-    let mark : (t : Super) → truth_in s (replayed a.sectors c) n ≡ Some t → t.resync_offset ≡ 0 =
-    λ t is. begins.mark (replayed a.sectors e) left t (sym (truth_at s (replayed a.sectors c) (replayed a.sectors e) n same) ∙ is) in (
+    let shape_is = shape_at s (replayed a.sectors c) (replayed a.sectors e) n same ∙ old.shape_is in
+    let truth : (t : Super) → truth_in s (replayed a.sectors c) n ≡ Some t → truth_in s (replayed a.sectors e) n ≡ Some t =
+    λ t is. sym (truth_at s (replayed a.sectors c) (replayed a.sectors e) n same) ∙ is in (
       record {
-        shape_is = shape_at s (replayed a.sectors c) (replayed a.sectors e) n same ∙ old.shape_is;
+        shape_is = shape_is;
         value = mixed_value s v vals spent a b x from xs lasting stays begins write c inside mix;
         is_sound = λ t is.
-            sound_at s (replayed a.sectors c) (replayed a.sectors e) n t same (mark t is)
-            (old.is_sound t (sym (truth_at s (replayed a.sectors c) (replayed a.sectors e) n same) ∙ is));
+            sound_with s (replayed a.sectors c) (replayed a.sectors e) n t same
+            (λ f at.
+            subst (λ (g : Shape). AreEven g n (first_unsynced t) (replayed a.sectors c)) (ap (λ o. unwrap_or o f) (sym shape_is ∙ at))
+            (begins.agree (replayed a.sectors e) left t (truth t is) (replayed a.sectors c)))
+            (old.is_sound t (truth t is));
       },
-      mark,
+      λ marked t is. begins.mark marked (replayed a.sectors e) left t (truth t is),
     )
 
 -- ---- after it
@@ -301,16 +309,9 @@ written_holds s v w vals spent a b x from xs went_now lost lasting puts begins w
 
 -- ---- the clause
 
-sources_of : (v w : View) (spent : ℕ → Bool) (lost : ℕ → Bool)
-    → IsLosing v w lost → IsLaidOut (shape_of v) v.resync → IsWhole (shape_of v)
-    → ((y : ℕ) → spent y ≡ false → spent_in w y ≡ false)
-    → (y : ℕ) → spent y ≡ false → (m : Member) × (source_at (shape_of v) y ≡ Some m)
-sources_of v w spent lost losing is_array whole unspent y alive =
-    whole_source (shape_of v) v.resync y is_array whole
-    (unspent_inside lost (shape_of v) v.resync y is_array whole (unspent_then v w lost losing y (unspent y alive)))
-
--- A write to a whole, marked array, of which nothing is pending: whoever goes in it, at each moment and after it each sector holds what
--- it held, and the written one the value too. All that a layout owes is that the row agrees once all targets are written.
+-- A write to an array whose sectors may vary, and of which nothing is pending: whoever goes in it, at each moment and after it each
+-- sector holds what it held, and the written one the value too. Each sector that isn't spent has a source, and no row must agree in
+-- images. All that a layout owes is that the row agrees once all targets are written.
 pub write_acts : (a b : Seen) (went_now : ℕ → Bool) (s : State) (v w : View) (vals : ℕ → Values) (spent : ℕ → Bool) (lost : ℕ → Bool)
     (x : ℕ) (from : List ℕ) (xs : List Target)
     → a.lasting
@@ -318,21 +319,23 @@ pub write_acts : (a b : Seen) (went_now : ℕ → Bool) (s : State) (v w : View)
     → IsNoted v w a b
     → IsLosing v w lost
     → IsLaidOut (shape_of v) v.resync
-    → IsWhole (shape_of v)
+    → ((y : ℕ) → spent y ≡ false → (m : Member) × (source_at (shape_of v) y ≡ Some m))
     → v.number < 16
-    → v.marked ≡ true → w.marked ≡ true → v.went ≡ []
+    → may_vary w ≡ true → v.went ≡ []
+    → (Holds s (shape_of v) v vals spent a → (r : Image) → IsLeft a r → (t : Super) → truth_in s r v.number ≡ Some t → (c : Image)
+    → AreEven (shape_of v) v.number (first_unsynced t) c)
     → ((y : ℕ) → spent y ≡ false → spent_in w y ≡ false)
     → ((m : Member) → Among m (shape_of v).members → lost m.place ≡ false → went_now (member_slice m.place v.number) ≡ false)
     → IsRow (shape_of v) v.number x from xs
     → (HoldsShape s v.number (shape_of v) (shape_of v) v.resync (may_vary v) vals spent a → AreEven (shape_of v) v.number v.resync (written xs (current_in a.held)))
     → Acts s v w spent a b (shape_of v) vals (Says s v.number (shape_of v) (appended_at x from vals) spent) (shape_of v) (appended_at x from vals)
-write_acts a b went_now s v w vals spent lost x from xs lasting puts noted losing is_array whole few marked marked_now fresh unspent left row even =
+write_acts a b went_now s v w vals spent lost x from xs lasting puts noted losing is_array sources few vary fresh agree unspent left row even =
     let n = v.number in
     let shape = shape_of v in
     let begins_of : Holds s shape v vals spent a → Begins s v vals spent a =
-    λ holds. record { holds = holds.shape; mark = holds.mark marked; closed = holds.closed fresh } in
+    λ holds. record { holds = holds.shape; agree = agree holds; mark = holds.mark; closed = holds.closed fresh } in
     let write : Write s v vals spent a b x from xs =
-    record { few = few; row = row; sources = sources_of v w spent lost losing is_array whole unspent } in
+    record { few = few; row = row; sources = sources } in
     let logs : (place t : ℕ) → IsLive a b (log_slice place) t → Keeps (a.held (log_slice place) t) (b.held (log_slice place) t) =
     λ place t live. puts.only.others (log_slice place) t live (payload_none xs (log_slice place) t (log_free shape n x from xs few row place t)) in
     record {
@@ -361,10 +364,9 @@ write_acts a b went_now s v w vals spent lost x from xs lasting puts noted losin
                 subst (λ k. HoldsShape s k shape (shape_of w) w.resync (may_vary w) (appended_at x from vals) spent b) (sym losing.number)
                 (subst (λ r. HoldsShape s n shape (shape_of w) r (may_vary w) (appended_at x from vals) spent b) (sym losing.resync)
                 (subst (λ (g : Shape). HoldsShape s n shape g v.resync (may_vary w) (appended_at x from vals) spent b) (sym losing.shape)
-                (subst (λ t. HoldsShape s n shape (lowered lost shape) v.resync t (appended_at x from vals) spent b)
-                (sym (ap (λ t. t || is_alone w) marked_now)) now)));
+                (subst (λ t. HoldsShape s n shape (lowered lost shape) v.resync t (appended_at x from vals) spent b) (sym vary) now)));
             mark = λ is r left_b t truth.
-                (mixed_says s v vals spent a b x from xs lasting puts.only.stays begins write left_b.0 (inside_before puts.only.stays left_b.0 left_b.1.inside) (left_mix a b xs went_now puts left_b.0 left_b.1)).1 t
+                (mixed_says s v vals spent a b x from xs lasting puts.only.stays begins write left_b.0 (inside_before puts.only.stays left_b.0 left_b.1.inside) (left_mix a b xs went_now puts left_b.0 left_b.1)).1 (losing.marked is) t
                 (subst (λ (g : Image). truth_in s g n ≡ Some t)
                 (λ i d u. (left_b.2 d u ∙ ap (λ (sectors : ℕ → ℕ). replayed sectors left_b.0 d u) (λ j e. puts.only.stays.sectors e j)) i)
                 (subst (λ k. truth_in s r k ≡ Some t) losing.number truth));
