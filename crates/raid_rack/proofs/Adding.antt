@@ -35,7 +35,7 @@ super_live v x n k set live low inside there =
     let seated = set.arrays n low in
     let sectors = seated.slices.sectors k inside there in
     subst (λ j. IsLive x x (member_slice (place_at u k) j) super_sector) (sym seated.number)
-    (live n (place_at u k) low (place_few u k seated.is_array inside)
+    (live n (place_at u k) super_sector low (place_few u k seated.is_array inside)
     (subst (λ j. super_sector < x.sectors (member_slice (place_at u k) j)) seated.number (omega (arith, sectors))))
 
 -- ---- copies

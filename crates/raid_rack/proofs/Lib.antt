@@ -15,6 +15,7 @@ pub mod Committed
 pub mod Adding
 pub mod Settling
 pub mod Elements
+pub mod Changed
 pub mod Calls
 pub mod Noted
 pub mod Seated
@@ -27,6 +28,8 @@ pub mod Parts
 pub mod Told
 pub mod Sourced
 pub mod Whole
+pub mod Written
+pub mod Sent
 pub mod Ended
 pub mod Serving
 pub mod Reading

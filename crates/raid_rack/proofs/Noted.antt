@@ -15,6 +15,7 @@ use Rattle.array_image.specs.Places.{log_slice, member_slice, super_sector}
 use Rattle.array_image.specs.States.{is_current}
 use Rattle.array_image.specs.Arrays.{Shape, layout_at, replayed}
 use Rattle.array_image.specs.Marks.{lower}
+use Rattle.array_image.specs.Supers.{is_reshaping}
 use Rattle.array_image.specs.Held.{Among, current_in}
 use Rattle.array_image.proofs.Marked.{among_lowered}
 use Rattle.array_image.specs.Left.{PicksLogs}
@@ -94,10 +95,10 @@ pub record IsNoting (lost : List ℕ) (v : Raid) (f : ℕ → View) : Type 0 whe
 abbrev pub with_arrays : Raid → (ℕ → View) → Raid
 with_arrays v f = record v { arrays = f }
 
--- superblocks that are told are told still
+-- slices that are told are told still
 pub live_later : (made : ℕ) (x y : Seen) → Stays x y → x.lasting → AreLive made x → AreLive made y
-live_later made x y stays lasting live n place low few there =
-    live_after stays (live_on lasting stays (live n place low few (subst (λ k. super_sector < k) (stays.sectors (member_slice place n)) there)))
+live_later made x y stays lasting live n place t low few there =
+    live_after stays (live_on lasting stays (live n place t low few (subst (λ k. t < k) (stays.sectors (member_slice place n)) there)))
 
 -- whoever is noted has gone, in each array
 pub noted_went : (lost : List ℕ) (v : Raid) (f : ℕ → View) → IsNoting lost v f → (n p : ℕ) → n < v.state.made → p < 16
@@ -118,6 +119,10 @@ noted_more lost v f noting p is =
 pub noted_whole : (lost : List ℕ) (v : Raid) (f : ℕ → View) → IsNoting lost v f → (n : ℕ) → n < v.state.made → IsMarkedWhole (with_arrays v f) n
 noted_whole lost v f noting n low marked =
     inr (noting.one, noting.current, gone_from (with_arrays v f) noting.one n noting.few low (noted_one lost v f noting n low))
+
+pub noted_plain : (lost : List ℕ) (v : Raid) (f : ℕ → View) → IsNoting lost v f → ((n : ℕ) → n < v.state.made → is_reshaping (v.arrays n).truth ≡ false)
+    → (n : ℕ) → n < v.state.made → is_reshaping (f n).truth ≡ false
+noted_plain lost v f noting plain n low = ap (λ (u : View). is_reshaping u.truth) (noting.arrays n low) ∙ plain n low
 
 pub noted_seated : (lost : List ℕ) (v : Raid) (f : ℕ → View) (x : Seen) → IsNoting lost v f → IsSet v x → (n : ℕ) → n < v.state.made → IsSeated v.state n (f n) x
 noted_seated lost v f x noting set n low =
@@ -149,7 +154,7 @@ noted_amid lost v f x n vals spent set noting low goes covers amid =
           amid.stood.holds.shape.even amid.stood.holds.shape.sized
           (unspent_then (v.arrays n) (f n) (names lost) losing y (covers y alive)))
           amid.stood;
-      supers = amid.supers;
+      slices = amid.slices;
       marked = λ are.
           absurd (both_ways (gone_in (with_arrays v f) noting.one) (are noting.one noting.current)
           (gone_from (with_arrays v f) noting.one n noting.few low (noted_one lost v f noting n low)));
@@ -219,6 +224,7 @@ moves_noted lost v f x set noting went sectors =
         logs = set.logs;
         arrays = noted_seated lost v f x noting set;
         marked = noted_whole lost v f noting;
+        plain = noted_plain lost v f noting (set.plain);
       };
       book = after_same v.state;
       leaves = λ traced. leaves_same x (λ c. Unit {0});
@@ -306,7 +312,7 @@ heeded_amid v f x n vals spent set arrays are low amid =
         someone = (stood.someone.0, stood.someone.1, heeded_none v f arrays stood.someone.0);
         holds = stood.holds;
       };
-      supers = amid.supers;
+      slices = amid.slices;
       marked = λ now. amid.marked are ∙ sym (ap shape_of (arrays n low) ∙ heeded_shape (v.arrays n));
     }
 
@@ -335,6 +341,7 @@ moves_heeded v f x set arrays sectors are =
             (heeded_seated v.state n (v.arrays n) x (stays_same x set.fit) (set.arrays n low)
             (λ p current. gone_not v p n (current_few v.state p set.few current) low (are p current)));
         marked = λ n low. heeded_whole v f n (arrays n low) are (set.marked n low);
+        plain = λ n low. ap (λ (u : View). is_reshaping u.truth) (arrays n low) ∙ set.plain n low;
       };
       book = after_same v.state;
       leaves = λ traced. leaves_same x (λ c. Unit {0});

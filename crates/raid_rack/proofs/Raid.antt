@@ -79,11 +79,11 @@ keeps_raid v w a b acts =
     }
 
 -- a write, answered
-pub writes_raid : {F G : Type 0} {r q : ℕ → ℕ} (v w : Raid) (a b : Seen) (n y : ℕ) (from : List ℕ)
+pub writes_raid : {F G : Type 0} {r q : ℕ → ℕ} (v w : Raid) (a b : Seen) (n y : ℕ) (from : List ℕ) (u : Unit {0})
     → G → ((m : ℕ) → r m ≤ q m) → RaidActs v w a b (appended (held_in v a) n y from)
     → live_of w n y
-    → Writes (raid_of F r v a) (raid_of G q w b) n y from {X = Unit {0}} (Ok tt)
-writes_raid v w a b n y from fit more acts unspent =
+    → Writes (raid_of F r v a) (raid_of G q w b) n y from {X = Unit {0}} (Ok u)
+writes_raid v w a b n y from u fit more acts unspent =
     record {
       stays = stays_raid v w a b _ fit more acts;
       cause = record { served = unspent; gone = tt; spent = λ steady. tt };
@@ -129,16 +129,16 @@ syncs_raid v w a b n fit more acts single =
     }
 
 -- a write that is refused: its sector is spent, and all others are as they were
-pub refused_raid : {F G : Type 0} {r q : ℕ → ℕ} (v w : Raid) (a b : Seen) (n y : ℕ) (from : List ℕ)
+pub refused_raid : {F G : Type 0} {r q : ℕ → ℕ} (v w : Raid) (a b : Seen) (n y : ℕ) (from : List ℕ) (e : Gone) → e.disk ≡ n
     → G → ((m : ℕ) → r m ≤ q m) → RaidActs v w a b (appended (held_in v a) n y from)
     → ((m z : ℕ) → IsTold v a m → live_of w m z → Keeps (held_in v a m z) (held_in w b m z))
     → spent_of w n y ≡ true
     → Rose (r n) (q n)
-    → Writes (raid_of F r v a) (raid_of G q w b) n y from {X = Unit {0}} (Err (record { disk = n }))
-refused_raid v w a b n y from fit more acts same spent rose =
+    → Writes (raid_of F r v a) (raid_of G q w b) n y from {X = Unit {0}} (Err e)
+refused_raid v w a b n y from e is fit more acts same spent rose =
     record {
       stays = stays_raid v w a b _ fit more acts;
-      cause = record { served = tt; gone = (refl, rose); spent = λ steady. spent };
+      cause = record { served = tt; gone = (is, rose); spent = λ steady. spent };
       stops = λ traced. picks_raid v w a b (appended (held_in v a) n y from) acts traced;
       done = tt;
       failed = λ m z live. inl (same m z live.is_told live.unspent);

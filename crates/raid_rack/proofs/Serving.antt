@@ -1,32 +1,42 @@
 -- Calls of a rack of arrays that move no value, as calls of a rack.
 use Rattle.std.specs.Prelude.{Result, OnOk, IfErr}
-use Rattle.std.proofs.Common.{◌≡◌, ℕ, ◌+◌, ◌<◌, ◌≤◌, true, false, List, [], Ok, ap, subst, ◌∙◌, le-ltb, if◌then◌else◌, arith}
+use Rattle.std.proofs.lemmas.Bool.{cases_eq, both_ways}
+use Rattle.std.proofs.Common.{◌≡◌, ℕ, ◌+◌, ◌<◌, ◌≤◌, Bool, true, false, ◌==◌, ◌&&◌, List, [], Ok, Err, refl, ap, subst, ◌∙◌, inl, inr, le-ltb, if◌then◌else◌, arith}
 use Rattle.rack.specs.declared.Gone.{Gone}
-use Rattle.rack.specs.Seen.{Seen, Rose}
-use Rattle.rack.specs.Calls.{Reads, Syncs}
+use Rattle.rack.specs.Values.{Values, Keeps, append}
+use Rattle.rack.specs.Seen.{Held, Seen, Rose, appended}
+use Rattle.rack.specs.Calls.{Reads, Syncs, Writes}
+use Rattle.rack.proofs.Writing.{appended_elsewhere}
 use Rattle.slice_rack.specs.Slices.{Slices, disk_of, first_of, sectors_of}
 use Rattle.slice_rack.specs.Sliced.{slices_of}
 use Rattle.array_image.specs.Held.{IsSettled}
 use Rattle.array_image.proofs.Sources.{held_single}
 use Rattle.array_model.specs.View.{shape_of}
+use Rattle.array_model.specs.ArrayCalls.{appended_at}
 use Rattle.raid_rack.specs.declared.arrays.Arrays.{Arrays}
 use Rattle.raid_rack.specs.Raid.{Raid, live_of, spent_of, held_in, StopsInside, IsTold, raid_of}
-use Rattle.raid_rack.specs.Moves.{IsHeeded, Moves, ReadsValue, SyncsOne}
+use Rattle.raid_rack.specs.Acts.{RaidActs}
+use Rattle.raid_rack.specs.Moves.{Brings, Moves, ReadsValue, SyncsOne, WritesOne, written_at}
 use Rattle.raid_rack.specs.RaidRack.{IsFit, IsRunning, raid_by}
 use Rattle.raid_rack.proofs.Ended.{none_past}
 use Rattle.raid_rack.proofs.Own.{live_parts}
-use Rattle.raid_rack.proofs.Raid.{reads_raid, syncs_raid}
-use Rattle.raid_rack.proofs.Whole.{IsWholeCall, before_amid, moves_whole, raid_acts}
+use Rattle.raid_rack.proofs.Moving.{moves_bring}
+use Rattle.raid_rack.proofs.Raid.{reads_raid, refused_raid, syncs_raid, writes_raid}
+use Rattle.raid_rack.proofs.Whole.{IsWholeCall, before_amid, brings_whole, raid_acts}
 
 -- what stops leave of slices lies inside them
 pub stops_inside : (t : Slices) (x : Seen) → StopsInside (slices_of t x)
 stops_inside t x k c left d s out =
     left.2 d s ∙ ap (λ b. if b then left.0 (disk_of t d) (first_of t d + s) else []) (le-ltb s (sectors_of t d) out)
 
-whole_call : (a b : Arrays) (x y : Seen) → IsFit a x → IsFit b y → Moves (raid_by a) (raid_by b) x y → StopsInside y
+whole_call : (a b : Arrays) (x y : Seen) (now : ℕ → (ℕ → Values) → ℕ → Values) → IsFit a x → IsFit b y → Brings (raid_by a) (raid_by b) x y now → StopsInside y
+    → IsWholeCall (raid_by a) (raid_by b) x y (λ n. now n (held_in (raid_by a) x n))
+whole_call a b x y now fit after brings inside =
+    brings_whole (raid_by a) (raid_by b) x y now brings fit.heeded after.heeded inside (λ n past. none_past b n after.running.count past)
+
+keeps_call : (a b : Arrays) (x y : Seen) → IsFit a x → IsFit b y → Moves (raid_by a) (raid_by b) x y → StopsInside y
     → IsWholeCall (raid_by a) (raid_by b) x y (held_in (raid_by a) x)
-whole_call a b x y fit after moves inside =
-    moves_whole (raid_by a) (raid_by b) x y moves fit.heeded after.heeded inside (λ n past. none_past b n after.running.count past)
+keeps_call a b x y fit after moves inside = whole_call a b x y (λ n vals. vals) fit after (moves_bring (raid_by a) (raid_by b) x y moves) inside
 
 pub read_call : {r q : ℕ → ℕ} (a b : Arrays) (x y : Seen) (n s : ℕ) (into : List ℕ) (result : Result (Unit {0}) Gone)
     → IsFit a x → IsFit b y → StopsInside y → ReadsValue (raid_by a) (raid_by b) x y n s into
@@ -37,7 +47,7 @@ pub read_call : {r q : ℕ → ℕ} (a b : Arrays) (x y : Seen) (n s : ℕ) (int
 read_call a b x y n s into result fit after inside reads served refused more =
     let v = raid_by a in
     let w = raid_by b in
-    let call = whole_call a b x y fit after reads.moves inside in
+    let call = keeps_call a b x y fit after reads.moves inside in
     reads_raid v w x y n s into result after more (raid_acts v w x y (held_in v x) call)
     (λ told alive.
     let goes = (live_parts w n s alive).0 in
@@ -50,10 +60,55 @@ pub sync_call : {r : ℕ → ℕ} (a b : Arrays) (x y : Seen) (n : ℕ) → IsFi
 sync_call {r} a b x y n fit after inside syncs =
     let v = raid_by a in
     let w = raid_by b in
-    let call = whole_call a b x y fit after syncs.moves inside in
+    let call = keeps_call a b x y fit after syncs.moves inside in
     syncs_raid v w x y n after (λ m. omega arith) (raid_acts v w x y (held_in v x) call)
     (λ z told alive.
     let goes = (live_parts w n z alive).0 in
     held_single (shape_of (w.arrays n)) n y.held z
     (syncs.settled (held_in v x n) (spent_of w n) told.joined goes (λ k unspent. (live_parts w n k unspent).1)
     (before_amid v w x y (held_in v x) call n told goes)))
+
+-- the values after a write, as those of a rack
+written_appended : (held : Held) (n s : ℕ) (from : List ℕ) (k z : ℕ) → written_at n s from k (held k) z ≡ appended held n s from k z
+written_appended held n s from k z = of (k == n)
+  where
+    of : (b : Bool) → (if b then appended_at s from (held k) else held k) z ≡ (if b && (z == s) then append (held k z) from else held k z)
+    of true = refl
+    of false = refl
+
+pub write_call : {r q : ℕ → ℕ} (a b : Arrays) (x y : Seen) (n s : ℕ) (from : List ℕ) (result : Result (Unit {0}) Gone)
+    → IsFit a x → IsFit b y → StopsInside y → WritesOne (raid_by a) (raid_by b) x y n s from
+    → OnOk result (spent_of (raid_by b) n s ≡ false)
+    → IfErr result (λ e. (e.disk ≡ n) × (spent_of (raid_by b) n s ≡ true) × Rose (r n) (q n))
+    → ((m : ℕ) → r m ≤ q m)
+    → Writes (raid_of (IsFit a x) r (raid_by a) x) (raid_of (IsFit b y) q (raid_by b) y) n s from result
+write_call {r} {q} a b x y n s from result fit after inside writes =
+    by result
+  where
+    v : Raid
+    v = raid_by a
+
+    w : Raid
+    w = raid_by b
+
+    acts : RaidActs v w x y (appended (held_in v x) n s from)
+    acts =
+        subst (RaidActs v w x y) (λ i k z. written_appended (held_in v x) n s from k z i)
+        (raid_acts v w x y (λ k. written_at n s from k (held_in v x k)) (whole_call a b x y (written_at n s from) fit after writes.brings inside))
+
+    other : (m z : ℕ) → spent_of w n s ≡ true → live_of w m z → appended (held_in v x) n s from m z ≡ held_in v x m z
+    other m z spent alive =
+        appended_elsewhere (held_in v x) n s from m z
+        (elim (cases_eq m n) [
+          | inl disk ↦ inr (λ sector. both_ways (spent_of w m z) alive (ap (λ k. spent_of w k z) disk ∙ ap (spent_of w n) sector ∙ spent))
+          | inr apart ↦ inl apart
+        ])
+
+    by : (result : Result (Unit {0}) Gone) → OnOk result (spent_of w n s ≡ false)
+        → IfErr result (λ e. (e.disk ≡ n) × (spent_of w n s ≡ true) × Rose (r n) (q n)) → ((m : ℕ) → r m ≤ q m)
+        → Writes (raid_of (IsFit a x) r v x) (raid_of (IsFit b y) q w y) n s from result
+    by (Ok u) served refused more = writes_raid v w x y n s from u after more acts served
+    by (Err e) served refused more =
+        refused_raid v w x y n s from e refused.0 after more acts
+        (λ m z told alive. subst (λ (h : Values). Keeps h (held_in w y m z)) (other m z refused.1 alive) (acts.held m z told alive))
+        refused.1 refused.2

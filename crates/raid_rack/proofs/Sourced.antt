@@ -16,7 +16,7 @@ use Rattle.array_model.proofs.Noting.{laid_out}
 use Rattle.array_model.proofs.RowWrites.{whole_shape}
 use Rattle.array_model.proofs.Spared.{at_most_one, wanting_take}
 use Rattle.array_model.proofs.Whole.{unspent_inside, whole_source}
-use Rattle.raid_rack.proofs.Calls.{lowered_none}
+use Rattle.raid_rack.proofs.Changed.{lowered_none}
 use Rattle.raid_rack.proofs.Told.{IsSourced}
 
 none_counting : (sector : ℕ) (ms : List Member) → first_counting sector ms ≡ None → wanting sector ms ≡ length ms

@@ -55,7 +55,7 @@ has_synced a all x y n old u running low old_is all_is syncs reads notes =
       moves = step;
       running = record { count = ap length all_is ∙ length_set a.all.items n u ∙ running.count; set = step.set };
       settled = λ vals spent joined goes covers amid.
-          subst (λ k. IsSettled (shape_of (f n)) k y.held) call.seated.number
+          subst (λ k. IsSettled (shape_of (f n)) k y.held) call.views.seated.number
           ((synced a.state amid.durable vals spent covers).settled amid.stood.holds);
     }
 

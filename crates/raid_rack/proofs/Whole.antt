@@ -12,7 +12,7 @@ use Rattle.array_model.specs.Says.{Holds}
 use Rattle.array_core.specs.Seats.{names}
 use Rattle.raid_rack.specs.Raid.{Raid, gone_in, is_over, live_of, spent_of, held_in, Stood, StopsInside, IsTold}
 use Rattle.raid_rack.specs.Acts.{RaidStays, RaidActs}
-use Rattle.raid_rack.specs.Moves.{IsAmid, IsHeeded, IsMarkedWhole, IsSet, Moves, PartOf}
+use Rattle.raid_rack.specs.Moves.{IsAmid, IsHeeded, IsMarkedWhole, IsSet, Brings, PartOf}
 use Rattle.raid_rack.proofs.Noted.{gone_some}
 use Rattle.raid_rack.proofs.Over.{or_from}
 use Rattle.raid_rack.proofs.Own.{live_parts, between_value}
@@ -31,7 +31,7 @@ heeded_gone v heeded p =
     ]
 
 -- so an array that this run has marked is whole
-heeded_whole : (v : Raid) (n : ℕ) → IsHeeded v → IsMarkedWhole v n → (v.arrays n).marked ≡ true → is_whole_array (v.arrays n) ≡ true
+pub heeded_whole : (v : Raid) (n : ℕ) → IsHeeded v → IsMarkedWhole v n → (v.arrays n).marked ≡ true → is_whole_array (v.arrays n) ≡ true
 heeded_whole v n heeded whole marked =
     elim (whole marked) [
       | inl all ↦ all
@@ -46,7 +46,7 @@ told_amid v x n spent heeded told goes fewer =
       durable = shape_of (v.arrays n);
       stood = subst (λ g. Stood v.state (shape_of (v.arrays n)) (held_in v x n) spent g v x n) (λ i p. sym (heeded_gone v heeded p) i)
           (fewer_stood v.state (shape_of (v.arrays n)) (held_in v x n) (spent_of v n) spent (λ place. false) v x n fewer (told.stood goes));
-      supers = told.supers goes;
+      slices = told.slices goes;
       marked = λ are. refl;
     }
 
@@ -108,7 +108,7 @@ module _ (v w : Raid) (a b : Seen) (vals : Held) (call : IsWholeCall v w a b val
             record {
               joined = subst (λ k. n < k) (sym call.joined) told.joined;
               stood = λ goes. own_stood n told goes;
-              supers = λ goes. (after_amid n told goes).supers;
+              slices = λ goes. (after_amid n told goes).slices;
             };
         leaves = λ traced.
             let all = call.leaves traced in
@@ -130,33 +130,33 @@ module _ (v w : Raid) (a b : Seen) (vals : Held) (call : IsWholeCall v w a b val
             (own_keeps w.state (w.arrays n) (vals n) (spent_of w n) b y stood.holds.shape alive);
       }
 
--- a call that moves no value
-pub moves_whole : (v w : Raid) (a b : Seen) → Moves v w a b → IsHeeded v → IsHeeded w → StopsInside b
-    → ((n : ℕ) → w.state.made ≤ n → is_over w n ≡ true) → IsWholeCall v w a b (held_in v a)
-moves_whole v w a b moves before after inside none =
+-- a call that may write
+pub brings_whole : (v w : Raid) (a b : Seen) (now : ℕ → (ℕ → Values) → ℕ → Values) → Brings v w a b now → IsHeeded v → IsHeeded w → StopsInside b
+    → ((n : ℕ) → w.state.made ≤ n → is_over w n ≡ true) → IsWholeCall v w a b (λ n. now n (held_in v a n))
+brings_whole v w a b now brings before after inside none =
     record {
       stays = record {
-        below = moves.stays;
-        lasting = moves.set.lasting;
+        below = brings.stays;
+        lasting = brings.set.lasting;
         inside = inside;
-        made = moves.book.same.made;
-        sectors = moves.sectors;
+        made = brings.book.same.made;
+        sectors = brings.sectors;
         spent = λ n y alive.
             let parts = live_parts w n y alive in
-            or_from (is_over v n) (spent_in (v.arrays n) y) (moves.still n (low n parts.0) parts.0) (moves.spent n y (low n parts.0) parts.1);
+            or_from (is_over v n) (spent_in (v.arrays n) y) (brings.still n (low n parts.0) parts.0) (brings.spent n y (low n parts.0) parts.1);
       };
-      leaves = moves.leaves;
-      still = λ n goes. moves.still n (low n goes) goes;
-      joined = moves.book.same.joined;
-      low = λ n goes. subst (λ k. n < k) (sym moves.book.same.made) (low n goes);
+      leaves = brings.leaves;
+      still = λ n goes. brings.still n (low n goes) goes;
+      joined = brings.book.same.joined;
+      low = λ n goes. subst (λ k. n < k) (sym brings.book.same.made) (low n goes);
       before = before;
       after = after;
-      set = moves.set;
-      parts = λ n joined goes. moves.parts n (held_in v a n) (spent_of w n) joined (low n goes) goes (λ y alive. (live_parts w n y alive).1);
+      set = brings.set;
+      parts = λ n joined goes. brings.parts n (held_in v a n) (spent_of w n) joined (low n goes) goes (λ y alive. (live_parts w n y alive).1);
     }
   where
     low : (n : ℕ) → is_over w n ≡ false → n < v.state.made
     low n goes = elim (cases_lt n w.state.made) [
-      | inl below ↦ subst (λ k. n < k) moves.book.same.made below
+      | inl below ↦ subst (λ k. n < k) brings.book.same.made below
       | inr past ↦ absurd (both_ways (is_over w n) goes (none n past))
     ]

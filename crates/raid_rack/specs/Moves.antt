@@ -1,6 +1,6 @@
 -- Parts of a call of a rack of arrays: what they keep and change, whatever the rack below tells, and what they do to each array
 -- that stands.
-use Rattle.std.specs.Prelude.{◌≡◌, ◌⊎◌, ℕ, ◌<◌, ◌≤◌, ◌^◌, [], Bool, true, false, ◌&&◌, not, nat_lt, if◌then◌else◌, is_ok, List, length, slice_get, Some, option_map}
+use Rattle.std.specs.Prelude.{◌≡◌, ◌⊎◌, ℕ, ◌<◌, ◌≤◌, ◌^◌, [], Bool, true, false, ◌==◌, ◌&&◌, not, nat_lt, if◌then◌else◌, is_ok, List, length, slice_get, Some, option_map}
 use Rattle.rack.specs.Values.{Values, Keeps}
 use Rattle.rack.specs.Seen.{Seen, IsLive, Stays}
 use Rattle.rack.specs.Moments.{Leaves}
@@ -9,7 +9,7 @@ use Rattle.pool_state.specs.Valid.{is_valid}
 use Rattle.pool_state.specs.declared.contents.State.{State}
 use Rattle.array_image.specs.Places.{log_slice, log_sectors, slice_of, super_sector, array_id}
 use Rattle.array_image.specs.States.{is_current}
-use Rattle.array_image.specs.Supers.{has_roles, has_whole_row}
+use Rattle.array_image.specs.Supers.{has_roles, has_whole_row, is_reshaping}
 use Rattle.array_image.specs.SoundArray.{IsWrittenSuper, first_unsynced}
 use Rattle.array_image.specs.Arrays.{Member, Shape, replayed}
 use Rattle.array_image.specs.Held.{Among, IsSettled}
@@ -17,7 +17,7 @@ use Rattle.array_image.specs.Left.{IsInside}
 use Rattle.array_model.specs.View.{View, IsArray, HasFault, has_gone, is_missing_seat, is_whole_array, place_at, sectors_of, shape_of, spent_in}
 use Rattle.array_model.specs.declared.Seat.TheVariants.{Missing}
 use Rattle.array_model.specs.Members.{HasSlices, slice_on}
-use Rattle.array_model.specs.ArrayCalls.{Covers}
+use Rattle.array_model.specs.ArrayCalls.{Covers, appended_at}
 use Rattle.array_core.specs.Staging.{HasRowRebuilds}
 use Rattle.array_core.specs.Seats.{gone}
 use Rattle.raid_rack.specs.Raid.{Raid, AreLive, gone_in, is_left, is_over, Stood}
@@ -66,6 +66,8 @@ pub record IsSet (v : Raid) (x : Seen) : Type 0 where
   pub logs : (place : ℕ) → is_current v.state place ≡ true → x.sectors (log_slice place) ≡ log_sectors
   pub arrays : (n : ℕ) → n < v.state.made → IsSeated v.state n (v.arrays n) x
   pub marked : (n : ℕ) → n < v.state.made → IsMarkedWhole v n
+  -- none is being reshaped: rows of such an array aren't written yet
+  pub plain : (n : ℕ) → n < v.state.made → is_reshaping (v.arrays n).truth ≡ false
 
 -- nobody has gone who isn't heeded
 abbrev pub IsHeeded : Raid → Type 0
@@ -81,7 +83,7 @@ AreMarked v = (place : ℕ) → is_current v.state place ≡ true → gone_in v 
 pub record IsAmid (v : Raid) (x : Seen) (n : ℕ) (vals : ℕ → Values) (spent : ℕ → Bool) : Type 0 where
   pub durable : Shape
   pub stood : Stood v.state durable vals spent (gone_in v) v x n
-  pub supers : AreLive v.state.made x
+  pub slices : AreLive v.state.made x
   pub marked : AreMarked v → durable ≡ shape_of (v.arrays n)
 
 -- A part of a call, seen from an array: it gives its values at each moment, and stands after it with these.
@@ -134,6 +136,31 @@ pub record ReadsValue (v w : Raid) (a b : Seen) (n sector : ℕ) (into : List �
   pub value :
       (vals : ℕ → Values) (spent : ℕ → Bool) → n < v.state.joined → is_over w n ≡ false → Covers (w.arrays n) spent → spent sector ≡ false
       → IsAmid v a n vals spent → into ≡ (vals sector).current
+
+-- A part of a call that writes: `now` are each array's values after it, by those before.
+pub record Brings (v w : Raid) (a b : Seen) (now : ℕ → (ℕ → Values) → ℕ → Values) : Type 0 where
+  pub stays : Stays a b
+  pub set : IsSet w b
+  pub book : IsAfter v.state w.state
+  pub leaves : a.traced → Leaves a b (λ c. Unit {0})
+  pub sectors : (n : ℕ) → sectors_of (w.arrays n) ≡ sectors_of (v.arrays n)
+  -- whoever isn't left any more has a fault, and what is spent stays so
+  pub left : (place : ℕ) → is_left w place ≡ true → is_left v place ≡ true
+  pub cause : (place : ℕ) → is_left v place ≡ true → is_left w place ≡ false → HasFault a b place
+  pub still : (n : ℕ) → n < v.state.made → is_over w n ≡ false → is_over v n ≡ false
+  pub spent : (n y : ℕ) → n < v.state.made → spent_in (w.arrays n) y ≡ false → spent_in (v.arrays n) y ≡ false
+  pub parts :
+      (n : ℕ) (vals : ℕ → Values) (spent : ℕ → Bool) → n < v.state.joined → n < v.state.made → is_over w n ≡ false → Covers (w.arrays n) spent
+      → PartOf v w a b n vals (now n vals) spent
+
+-- the values of each array once a sector of array m is written
+abbrev pub written_at : ℕ → ℕ → List ℕ → ℕ → (ℕ → Values) → ℕ → Values
+written_at m sector from n vals = if n == m then appended_at sector from vals else vals
+
+-- A call that writes a sector of array m: losses are mended.
+pub record WritesOne (v w : Raid) (a b : Seen) (m sector : ℕ) (from : List ℕ) : Type 0 where
+  pub brings : Brings v w a b (written_at m sector from)
+  pub heeded : IsHeeded w
 
 -- places are noted as lost in each array
 abbrev pub noted_at : List ℕ → Raid → Raid

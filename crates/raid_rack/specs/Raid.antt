@@ -5,7 +5,7 @@ use Rattle.rack.specs.Values.{Values}
 use Rattle.rack.specs.Seen.{Image, Held, Seen, IsLive}
 use Rattle.pool_state.specs.declared.contents.State.{State}
 use Rattle.array_image.specs.Arrays.{Shape, arrays_in, replayed}
-use Rattle.array_image.specs.Places.{member_slice, super_sector}
+use Rattle.array_image.specs.Places.{member_slice}
 use Rattle.array_image.specs.States.{is_current}
 use Rattle.array_image.specs.Left.{IsInside}
 use Rattle.array_image.specs.Held.{held_by}
@@ -75,16 +75,16 @@ pub record Stood (s : State) (durable : Shape) (vals : ℕ → Values) (spent : 
   pub someone : (place : ℕ) × (is_current s place ≡ true) × (gone place ≡ false)
   pub holds : Holds s durable (v.arrays n) vals spent x
 
--- each superblock's sector that a slice of one of the arrays has is told
+-- each sector of the arrays' slices is told
 abbrev pub AreLive : ℕ → Seen → Type 0
 AreLive made x =
-    (n place : ℕ) → n < made → place < 16 → super_sector < x.sectors (member_slice place n) → IsLive x x (member_slice place n) super_sector
+    (n place t : ℕ) → n < made → place < 16 → t < x.sectors (member_slice place n) → IsLive x x (member_slice place n) t
 
 -- an array between calls, where all marks are durable
 pub record IsTold (v : Raid) (x : Seen) (n : ℕ) : Type 0 where
   pub joined : n < v.state.joined
   pub stood : is_over v n ≡ false → Stood v.state (shape_of (v.arrays n)) (held_in v x n) (spent_of v n) (λ place. false) v x n
-  pub supers : is_over v n ≡ false → AreLive v.state.made x
+  pub slices : is_over v n ≡ false → AreLive v.state.made x
 
 -- ---- as a rack
 

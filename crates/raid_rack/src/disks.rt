@@ -2,7 +2,7 @@
 
 ghost use Rattle.std.specs.Prelude.{◌≡◌, ℕ, ◌<◌, ◌≤◌, ◌^◌, true, false, OnOk, IfErr};
 ghost use Rattle.rack.specs.Seen.{Rose};
-ghost use Rattle.rack.specs.Calls.{Reads, Syncs};
+ghost use Rattle.rack.specs.Calls.{Reads, Syncs, Writes};
 ghost use Rattle.slice_rack.specs.SliceRack.{below_of};
 ghost use Rattle.raid_rack.specs.Raid.{spent_of};
 ghost use Rattle.raid_rack.specs.RaidRack.{IsFit, arrays_in, raid_in, raid_seen, refused_in, slices_in, slices_seen};
@@ -39,6 +39,20 @@ impl<R: Rack> RaidRack<R> {
         ensures runs { R.runs (below_of (slices_in self.old)) (below_of (slices_in self.new)) }
     {
         self.arrays.read_array(&mut self.slices, disk, sector, into);
+        self.answer(disk, sector)
+    }
+
+    /// Writes a sector of an array. A drive that goes is marked missing before the call returns. It is refused exactly where the
+    /// sector is spent after that.
+    pub fn write(&mut self, disk: u32, sector: u64, from: &[u8; 512]) -> Result<(), Gone>
+        requires fit { (raid_seen R.seen self.old).fit }
+        requires disk { disk < (raid_seen R.seen self.old).disks }
+        requires sector { sector < (raid_seen R.seen self.old).sectors disk }
+        ensures writes { Writes (raid_seen R.seen self.old) (raid_seen R.seen self.new) disk sector from.now result }
+        ensures runs { R.runs (below_of (slices_in self.old)) (below_of (slices_in self.new)) }
+    {
+        self.arrays
+            .write_array(&mut self.slices, disk, sector, from);
         self.answer(disk, sector)
     }
 

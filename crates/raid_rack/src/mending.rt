@@ -2,7 +2,7 @@
 
 ghost use Rattle.std.specs.Prelude.{◌≡◌, ◌<◌, true, [], ◌∷◌, length};
 ghost use Rattle.array_image.specs.States.{is_current};
-ghost use Rattle.raid_rack.specs.Moves.{AreMarked, Mends, Moves, ReadsValue, SyncsOne, noted_at};
+ghost use Rattle.raid_rack.specs.Moves.{AreMarked, Mends, Moves, IsHeeded, ReadsValue, SyncsOne, WritesOne, noted_at};
 ghost use Rattle.array_model.specs.View.{sectors_of};
 ghost use Rattle.raid_rack.specs.Settling.{SettlesTo};
 ghost use Rattle.raid_rack.specs.RaidRack.{EndsTurn, IsRunning, raid_by};
@@ -116,6 +116,30 @@ impl Arrays {
         ensures runs { S.runs rack.old rack.new }
     {
         let _ = self.all[number as usize].read(rack, sector, into);
+        self.mend(rack);
+    }
+
+    /// Writes a sector of an array. Whoever goes is marked. Whether the sector is spent is known after that, so no answer is given.
+    pub(crate) fn write_array<S: Rack>(
+        &mut self,
+        rack: &mut S,
+        number: u32,
+        sector: u64,
+        from: &[u8; 512],
+    )
+        requires running { IsRunning self.old (S.seen rack.old) }
+        requires heeded { IsHeeded (raid_by self.old) }
+        requires number { number < self.old.state.made }
+        requires sector { sector < sectors_of ((raid_by self.old).arrays number) }
+        ensures writes { WritesOne (raid_by self.old) (raid_by self.new) (S.seen rack.old) (S.seen rack.new) number sector from.now }
+        ensures running { IsRunning self.new (S.seen rack.new) }
+        ensures runs { S.runs rack.old rack.new }
+    {
+        let on = current_places(&self.state);
+        self.log.clear();
+        let array = &mut self.all[number as usize];
+        let _ = array.write(rack, &mut self.log, &on, sector, from);
+        let _places = array.went();
         self.mend(rack);
     }
 
