@@ -1,6 +1,5 @@
 mod Own
 pub mod Raid
-pub mod SoundRaid
 mod Books
 mod Ranges
 pub mod Dropped

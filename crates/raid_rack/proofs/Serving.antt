@@ -19,15 +19,10 @@ use Rattle.raid_rack.specs.Acts.{RaidActs}
 use Rattle.raid_rack.specs.Moves.{Brings, Moves, ReadsValue, SyncsOne, WritesOne, written_at}
 use Rattle.raid_rack.specs.RaidRack.{IsFit, IsRunning, raid_by}
 use Rattle.raid_rack.proofs.Ended.{none_past}
-use Rattle.raid_rack.proofs.Own.{live_parts}
+use Rattle.raid_rack.specs.Laws.{live_parts}
 use Rattle.raid_rack.proofs.Moving.{moves_bring}
 use Rattle.raid_rack.proofs.Raid.{reads_raid, refused_raid, syncs_raid, writes_raid}
 use Rattle.raid_rack.proofs.Whole.{IsWholeCall, before_amid, brings_whole, raid_acts}
-
--- what stops leave of slices lies inside them
-pub stops_inside : (t : Slices) (x : Seen) → StopsInside (slices_of t x)
-stops_inside t x k c left d s out =
-    left.2 d s ∙ ap (λ b. if b then left.0 (disk_of t d) (first_of t d + s) else []) (le-ltb s (sectors_of t d) out)
 
 whole_call : (a b : Arrays) (x y : Seen) (now : ℕ → (ℕ → Values) → ℕ → Values) → IsFit a x → IsFit b y → Brings (raid_by a) (raid_by b) x y now → StopsInside y
     → IsWholeCall (raid_by a) (raid_by b) x y (λ n. now n (held_in (raid_by a) x n))

@@ -15,7 +15,8 @@ use Rattle.raid_rack.specs.Acts.{RaidStays, RaidActs}
 use Rattle.raid_rack.specs.Moves.{IsAmid, IsHeeded, IsMarkedWhole, IsSet, Brings, PartOf}
 use Rattle.raid_rack.proofs.Noted.{gone_some}
 use Rattle.raid_rack.proofs.Over.{or_from}
-use Rattle.raid_rack.proofs.Own.{live_parts, between_value}
+use Rattle.raid_rack.specs.Laws.{live_parts}
+use Rattle.raid_rack.proofs.Own.{between_value}
 use Rattle.raid_rack.proofs.Sourced.{sourced}
 use Rattle.raid_rack.proofs.Told.{own_holds, own_keeps, fewer_stood}
 

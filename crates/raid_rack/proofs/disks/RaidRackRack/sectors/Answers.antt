@@ -3,7 +3,7 @@ use Rattle.array_model.specs.View.{sectors_of}
 use Rattle.array_model.proofs.Layouts.{sectors_small}
 use Rattle.raid_rack.specs.RaidRack.{no_array, raid_by}
 use Rattle.raid_rack.proofs.Steps.{same_element}
-use Rattle.raid_rack.proofs.arrays.RaidRack.sectors.Goals as goal
+use Rattle.raid_rack.proofs.disks.RaidRackRack.sectors.Goals as goal
 
 pub returns-clause-bounded : goal.returns-clause-bounded
 returns-clause-bounded g c =

@@ -2,8 +2,9 @@ use Rattle.std.proofs.Common.{sym, subst}
 use Rattle.rack.specs.Calls.{Reads}
 use Rattle.slice_rack.specs.SliceRack.{tables, below_of}
 use Rattle.raid_rack.specs.RaidRack.{raid_seen}
-use Rattle.raid_rack.proofs.Serving.{read_call, stops_inside}
-use Rattle.raid_rack.proofs.arrays.RaidRack.read.Goals as goal
+use Rattle.raid_rack.specs.Laws.{stops_inside}
+use Rattle.raid_rack.proofs.Serving.{read_call}
+use Rattle.raid_rack.proofs.disks.RaidRackRack.read.Goals as goal
 
 pub returns-clause-reads : goal.returns-clause-reads
 returns-clause-reads g c =

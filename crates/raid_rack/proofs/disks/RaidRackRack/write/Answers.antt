@@ -2,8 +2,9 @@ use Rattle.std.proofs.Common.{sym, subst}
 use Rattle.rack.specs.Calls.{Writes}
 use Rattle.slice_rack.specs.SliceRack.{tables, below_of}
 use Rattle.raid_rack.specs.RaidRack.{raid_seen}
-use Rattle.raid_rack.proofs.Serving.{write_call, stops_inside}
-use Rattle.raid_rack.proofs.arrays.RaidRack.write.Goals as goal
+use Rattle.raid_rack.specs.Laws.{stops_inside}
+use Rattle.raid_rack.proofs.Serving.{write_call}
+use Rattle.raid_rack.proofs.disks.RaidRackRack.write.Goals as goal
 
 pub returns-clause-writes : goal.returns-clause-writes
 returns-clause-writes g c =

@@ -1,6 +1,7 @@
 use Rattle.slice_rack.specs.SliceRack.{tables, below_of}
-use Rattle.raid_rack.proofs.Serving.{sync_call, stops_inside}
-use Rattle.raid_rack.proofs.arrays.RaidRack.sync.Goals as goal
+use Rattle.raid_rack.specs.Laws.{stops_inside}
+use Rattle.raid_rack.proofs.Serving.{sync_call}
+use Rattle.raid_rack.proofs.disks.RaidRackRack.sync.Goals as goal
 
 pub returns-clause-syncs : goal.returns-clause-syncs
 returns-clause-syncs g c =
