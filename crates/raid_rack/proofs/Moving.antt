@@ -10,7 +10,7 @@ use Rattle.array_image.specs.Left.{IsInside}
 use Rattle.array_model.specs.View.{HasFault}
 use Rattle.raid_rack.specs.Raid.{Raid, is_left}
 use Rattle.raid_rack.specs.Marking.{SaysBetween}
-use Rattle.raid_rack.specs.Moves.{IsSet, IsAmid, PartOf, Brings, Moves}
+use Rattle.raid_rack.specs.Moves.{IsSet, IsAmid, PartOf, AreCaused, Brings, Moves}
 use Rattle.raid_rack.proofs.Books.{after_same, after_then}
 
 -- ---- one array
@@ -131,8 +131,6 @@ moves_bring v w a b moves =
       book = moves.book;
       leaves = moves.leaves;
       sectors = moves.sectors;
-      left = moves.left;
-      cause = moves.cause;
       still = moves.still;
       spent = moves.spent;
       parts = moves.parts;
@@ -147,12 +145,6 @@ brings_then v w z a b c now one two =
       book = after_then v.state w.state z.state one.book two.book;
       leaves = λ traced. leaves_then (λ i. Unit {0}) (one.leaves traced) (two.leaves (one.stays.traced traced));
       sectors = λ n. two.sectors n ∙ one.sectors n;
-      left = λ place is. one.left place (two.left place is);
-      cause = λ place was gone.
-          elim (cases_Bool (is_left w place)) [
-            | inl mid ↦ let fault = two.cause place mid gone in (fault.0, fault.1, rose_later a b c fault.0 one.stays fault.2)
-            | inr early ↦ let fault = one.cause place was early in (fault.0, fault.1, rose_early a b c fault.0 two.stays fault.2)
-          ];
       still = λ n made over. one.still n made (two.still n (still_made n made) over);
       spent = λ n y made alive. one.spent n y made (two.spent n y (still_made n made) alive);
       parts = λ n vals spent joined made goes covers.
@@ -165,3 +157,15 @@ brings_then v w z a b c now one two =
   where
     still_made : (n : ℕ) → n < v.state.made → n < w.state.made
     still_made n made = subst (λ k. n < k) (sym one.book.same.made) made
+
+-- causes of two parts in a row
+pub caused_then : (v w z : Raid) (a b c : Seen) → Stays a b → Stays b c → AreCaused v w a b → AreCaused w z b c → AreCaused v z a c
+caused_then v w z a b c first second one two =
+    record {
+      left = λ place is. one.left place (two.left place is);
+      cause = λ place was gone.
+          elim (cases_Bool (is_left w place)) [
+            | inl mid ↦ let fault = two.cause place mid gone in (fault.0, fault.1, rose_later a b c fault.0 first fault.2)
+            | inr early ↦ let fault = one.cause place was early in (fault.0, fault.1, rose_early a b c fault.0 second fault.2)
+          ];
+    }

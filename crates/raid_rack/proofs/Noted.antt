@@ -30,11 +30,11 @@ use Rattle.array_model.proofs.Spared.{at_most_one, lost_value, wanting_more}
 use Rattle.array_model.proofs.Noting.{laid_out, unspent_then}
 use Rattle.array_core.specs.Seats.{names, gone, heeded}
 use Rattle.raid_rack.specs.Raid.{Raid, AreLive, gone_in, is_left, is_over}
-use Rattle.raid_rack.specs.Moves.{IsSet, IsSeated, IsMarkedWhole, AreMarked, IsAmid, Moves}
+use Rattle.raid_rack.specs.Moves.{IsSet, IsSeated, IsMarkedWhole, AreMarked, IsAmid, Brings, Moves}
 use Rattle.raid_rack.proofs.Books.{after_same}
 use Rattle.raid_rack.proofs.Own.{look_nothing}
 use Rattle.raid_rack.proofs.Ranges.{any_some, any_from}
-use Rattle.raid_rack.proofs.Over.{someone_left, over_still, IsFurther}
+use Rattle.raid_rack.proofs.Over.{someone_left, not_true, over_still, IsFurther}
 use Rattle.raid_rack.proofs.Reading.{stood_noted, stood_heeded}
 use Rattle.raid_rack.proofs.Moving.{part_still}
 use Rattle.raid_rack.proofs.Seated.{names_joined, gone_losing, gone_fewer, gone_seated, heeded_seated}
@@ -160,6 +160,15 @@ noted_amid lost v f x n vals spent set noting low goes covers amid =
           (gone_from (with_arrays v f) noting.one n noting.few low (noted_one lost v f noting n low)));
     }
 
+noted_before : (lost : List ℕ) (v : Raid) (f : ℕ → View) → IsNoting lost v f → (p : ℕ) → is_left (with_arrays v f) p ≡ true → is_left v p ≡ true
+noted_before lost v f noting p is =
+    let both = and_parts (is_current v.state p) (not (gone_in (with_arrays v f) p)) is in
+    and_from (is_current v.state p) (not (gone_in v p)) both.0
+    (elim (cases_Bool (gone_in v p)) [
+      | inl was ↦ absurd (both_ways (gone_in (with_arrays v f) p) (not_true (gone_in (with_arrays v f) p) both.1) (noted_more lost v f noting p was))
+      | inr none ↦ ap not none
+    ])
+
 -- ---- they are those that went in some array
 
 abbrev pub HaveGone : List ℕ → Raid → Type 0
@@ -209,23 +218,26 @@ losing_spent u w lost is_array losing y alive =
               ap (λ k. spent_with k b) none
         ]
 
+pub set_noted : (lost : List ℕ) (v : Raid) (f : ℕ → View) (x : Seen) → IsSet v x → IsNoting lost v f → IsSet (with_arrays v f) x
+set_noted lost v f x set noting = record {
+  fit = set.fit;
+  lasting = set.lasting;
+  disks = set.disks;
+  few = set.few;
+  most = set.most;
+  valid = set.valid;
+  logs = set.logs;
+  arrays = noted_seated lost v f x noting set;
+  marked = noted_whole lost v f noting;
+  plain = noted_plain lost v f noting (set.plain);
+}
+
 pub moves_noted : (lost : List ℕ) (v : Raid) (f : ℕ → View) (x : Seen) → IsSet v x → IsNoting lost v f → HaveGone lost v
     → ((n : ℕ) → sectors_of (f n) ≡ sectors_of (v.arrays n)) → Moves v (with_arrays v f) x x
 moves_noted lost v f x set noting went sectors =
     record {
       stays = stays_same x set.fit;
-      set = record {
-        fit = set.fit;
-        lasting = set.lasting;
-        disks = set.disks;
-        few = set.few;
-        most = set.most;
-        valid = set.valid;
-        logs = set.logs;
-        arrays = noted_seated lost v f x noting set;
-        marked = noted_whole lost v f noting;
-        plain = noted_plain lost v f noting (set.plain);
-      };
+      set = set_noted lost v f x set noting;
       book = after_same v.state;
       leaves = λ traced. leaves_same x (λ c. Unit {0});
       number = omega arith;
@@ -239,6 +251,29 @@ moves_noted lost v f x set noting went sectors =
           among_lowered (names lost) sector (shape_of (v.arrays n)).members m
           (subst (λ (shape : Shape). Among m shape.members) (noted_losing lost v f n noting low (set.arrays n low).is_array).shape among) counts;
       kept = λ d t live apart other. keeps_same (x.held d t);
+      parts = λ n vals spent joined low goes covers. part_still v (with_arrays v f) x n vals spent (noted_amid lost v f x n vals spent set noting low goes covers);
+    }
+
+-- so they move no value
+pub noted_brings : (lost : List ℕ) (v : Raid) (f : ℕ → View) (x : Seen) → IsSet v x → IsNoting lost v f
+    → ((n : ℕ) → sectors_of (f n) ≡ sectors_of (v.arrays n)) → Brings v (with_arrays v f) x x (λ n vals. vals)
+noted_brings lost v f x set noting sectors =
+    record {
+      stays = stays_same x set.fit;
+      set = set_noted lost v f x set noting;
+      book = after_same v.state;
+      leaves = λ traced. leaves_same x (λ c. Unit {0});
+      sectors = sectors;
+      still = λ n low goes. over_still v (with_arrays v f) (record {
+        left = noted_before lost v f noting;
+        number = omega arith;
+        epoch = omega arith;
+        made = refl;
+        events = λ k below. subst (λ (u : View). (v.arrays k).truth.events ≤ u.truth.events) (sym (noting.arrays k below)) (omega arith);
+        seats = λ k below. subst (λ (u : View). present u.seats ≤ present (v.arrays k).seats) (sym (noting.arrays k below)) (gone_fewer (v.arrays k) lost (set.arrays k below).is_array);
+      }) n low goes;
+      spent = λ n y low alive.
+          losing_spent (v.arrays n) (f n) (names lost) (set.arrays n low).is_array (noted_losing lost v f n noting low (set.arrays n low).is_array) y alive;
       parts = λ n vals spent joined low goes covers. part_still v (with_arrays v f) x n vals spent (noted_amid lost v f x n vals spent set noting low goes covers);
     }
 

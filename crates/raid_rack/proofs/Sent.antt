@@ -16,12 +16,12 @@ use Rattle.array_core.specs.Superblocks.{raised}
 use Rattle.array_core.specs.Writing.{WritesView, as_it_was, newly_marked}
 use Rattle.raid_rack.specs.declared.arrays.Arrays.{Arrays}
 use Rattle.raid_rack.specs.Raid.{Raid}
-use Rattle.raid_rack.specs.Moves.{Brings, IsHeeded, IsSet, Mends, WritesOne, written_at}
+use Rattle.raid_rack.specs.Moves.{AreCaused, Brings, IsHeeded, IsSet, Mends, WritesOne, written_at}
 use Rattle.raid_rack.specs.RaidRack.{IsRunning, raid_by, no_array}
 use Rattle.raid_rack.proofs.Calls.{raised_low, unsynced_by}
-use Rattle.raid_rack.proofs.Changed.{ViewsOne, called, views_notes}
+use Rattle.raid_rack.proofs.Changed.{ViewsOne, called, caused, left_before, views_notes}
 use Rattle.raid_rack.proofs.Committed.{next_later}
-use Rattle.raid_rack.proofs.Moving.{brings_then}
+use Rattle.raid_rack.proofs.Moving.{brings_then, caused_then}
 use Rattle.raid_rack.proofs.Steps.{set_own, set_other, length_set}
 use Rattle.raid_rack.proofs.Written.{WriteCall, write_brings}
 
@@ -68,6 +68,7 @@ pub record WroteArray (old u : View) (number late : ℕ) (on : List ℕ) (x y : 
 
 pub record HasWritten (a b : Arrays) (x y : Seen) (n sector : ℕ) (from : List ℕ) : Type 0 where
   pub brings : Brings (raid_by a) (raid_by b) x y (written_at n sector from)
+  pub caused : AreCaused (raid_by a) (raid_by b) x y
   pub running : IsRunning b y
 
 pub has_written : (a : Arrays) (all : ArrayVec View) (log : LogView) (x y : Seen) (n sector : ℕ) (from on : List ℕ) (number : ℕ) (old u : View)
@@ -98,6 +99,10 @@ has_written a all log x y n sector from on number old u running heeded low old_i
     let brings = write_brings v f log.number n x y on sector from running.set call in
     record {
       brings = brings;
+      caused = record {
+        left = left_before v f n x y running.set call.views;
+        cause = caused v f n x y running.set call.views;
+      };
       running = record { count = ap length all_is ∙ length_set a.all.items n u ∙ running.count; set = brings.set };
     }
 
@@ -111,5 +116,7 @@ pub writes_one : (a b c : Arrays) (x y z : Seen) (n sector : ℕ) (from : List �
 writes_one a b c x y z n sector from wrote mends =
     record {
       brings = brings_then (raid_by a) (raid_by b) (raid_by c) x y z (written_at n sector from) wrote.brings mends.moves;
+      caused = caused_then (raid_by a) (raid_by b) (raid_by c) x y z wrote.brings.stays mends.moves.stays wrote.caused
+          (record { left = mends.moves.left; cause = mends.moves.cause });
       heeded = mends.heeded;
     }

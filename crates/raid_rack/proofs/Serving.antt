@@ -1,7 +1,7 @@
 -- Calls of a rack of arrays that move no value, as calls of a rack.
 use Rattle.std.specs.Prelude.{Result, OnOk, IfErr}
 use Rattle.std.proofs.lemmas.Bool.{cases_eq, both_ways}
-use Rattle.std.proofs.Common.{◌≡◌, ℕ, ◌+◌, ◌<◌, ◌≤◌, Bool, true, false, ◌==◌, ◌&&◌, List, [], Ok, Err, refl, ap, subst, ◌∙◌, inl, inr, le-ltb, if◌then◌else◌, arith}
+use Rattle.std.proofs.Common.{◌≡◌, ℕ, ◌+◌, ◌<◌, ◌≤◌, Bool, true, false, ◌==◌, ◌&&◌, nat_lt, List, [], ◌∷◌, Ok, Err, refl, ap, subst, ◌∙◌, inl, inr, le-ltb, lt-ltb, if◌then◌else◌, arith}
 use Rattle.rack.specs.declared.Gone.{Gone}
 use Rattle.rack.specs.Values.{Values, Keeps, append}
 use Rattle.rack.specs.Seen.{Held, Seen, Rose, appended}
@@ -11,17 +11,21 @@ use Rattle.slice_rack.specs.Slices.{Slices, disk_of, first_of, sectors_of}
 use Rattle.slice_rack.specs.Sliced.{slices_of}
 use Rattle.array_image.specs.Held.{IsSettled}
 use Rattle.array_image.proofs.Sources.{held_single}
-use Rattle.array_model.specs.View.{shape_of}
+use Rattle.commit_log.proofs.Deciding.{names_first}
+use Rattle.array_image.specs.States.{is_current}
+use Rattle.array_core.specs.Seats.{gone}
+use Rattle.array_model.specs.View.{View, shape_of, sectors_of as array_sectors}
 use Rattle.array_model.specs.ArrayCalls.{appended_at}
 use Rattle.raid_rack.specs.declared.arrays.Arrays.{Arrays}
 use Rattle.raid_rack.specs.Raid.{Raid, live_of, spent_of, held_in, StopsInside, IsTold, raid_of}
 use Rattle.raid_rack.specs.Acts.{RaidActs}
-use Rattle.raid_rack.specs.Moves.{Brings, Moves, ReadsValue, SyncsOne, WritesOne, written_at}
-use Rattle.raid_rack.specs.RaidRack.{IsFit, IsRunning, raid_by}
+use Rattle.raid_rack.specs.Moves.{Brings, Mends, Moves, ReadsValue, SyncsOne, WritesOne, noted_at, written_at}
+use Rattle.raid_rack.specs.RaidRack.{IsFit, IsRunning, KeepsRack, raid_by}
 use Rattle.raid_rack.proofs.Ended.{none_past}
 use Rattle.raid_rack.specs.Laws.{live_parts}
-use Rattle.raid_rack.proofs.Moving.{moves_bring}
-use Rattle.raid_rack.proofs.Raid.{reads_raid, refused_raid, syncs_raid, writes_raid}
+use Rattle.raid_rack.proofs.Moving.{brings_then, moves_bring}
+use Rattle.raid_rack.proofs.Noted.{IsNoting, current_few, noted_brings}
+use Rattle.raid_rack.proofs.Raid.{keeps_raid, reads_raid, refused_raid, stays_raid, syncs_raid, writes_raid}
 use Rattle.raid_rack.proofs.Whole.{IsWholeCall, before_amid, brings_whole, raid_acts}
 
 whole_call : (a b : Arrays) (x y : Seen) (now : ℕ → (ℕ → Values) → ℕ → Values) → IsFit a x → IsFit b y → Brings (raid_by a) (raid_by b) x y now → StopsInside y
@@ -107,3 +111,39 @@ write_call {r} {q} a b x y n s from result fit after inside writes =
         refused_raid v w x y n s from e refused.0 after more acts
         (λ m z told alive. subst (λ (h : Values). Keeps h (held_in w y m z)) (other m z refused.1 alive) (acts.held m z told alive))
         refused.1 refused.2
+
+-- ---- a drive that its owner loses
+
+pub lose_brings : (a b : Arrays) (place : ℕ) (x y : Seen) → IsRunning a x → is_current a.state place ≡ true
+    → Mends (noted_at (place ∷ []) (raid_by a)) (raid_by b) x y → Brings (raid_by a) (raid_by b) x y (λ n vals. vals)
+lose_brings a b place x y running current mends =
+    let v = raid_by a in
+    let lost = place ∷ [] in
+    let noted = noted_at lost v in
+    let f : ℕ → View = noted.arrays in
+    let is : (n : ℕ) → n < v.state.made → f n ≡ gone lost (v.arrays n) =
+    λ n low. ap (λ (t : Bool). if t then gone lost (v.arrays n) else v.arrays n) (lt-ltb n v.state.made low) in
+    let noting : IsNoting lost v f = record {
+      arrays = is;
+      one = place;
+      named = names_first place [];
+      current = current;
+      few = current_few a.state place running.set.few current;
+    } in
+    brings_then v noted (raid_by b) x x y (λ n vals. vals)
+    (noted_brings lost v f x running.set noting (λ n. same_sectors (nat_lt n v.state.made) (v.arrays n))) mends.moves
+  where
+    same_sectors : (t : Bool) (u : View) → array_sectors (if t then gone (place ∷ []) u else u) ≡ array_sectors u
+    same_sectors true u = refl
+    same_sectors false u = refl
+
+pub lose_stays : {r : ℕ → ℕ} (a b : Arrays) (place : ℕ) (x y : Seen) → IsFit a x → IsFit b y → StopsInside y → is_current a.state place ≡ true
+    → Mends (noted_at (place ∷ []) (raid_by a)) (raid_by b) x y → KeepsRack (raid_of (IsFit a x) r (raid_by a) x) (raid_of (IsFit b y) r (raid_by b) y)
+lose_stays a b place x y fit after inside current mends =
+    let v = raid_by a in
+    let w = raid_by b in
+    let acts = raid_acts v w x y (held_in v x) (whole_call a b x y (λ n vals. vals) fit after (lose_brings a b place x y fit.running current mends) inside) in
+    record {
+      stays = stays_raid v w x y (held_in v x) after (λ m. omega arith) acts;
+      keeps = keeps_raid v w x y acts;
+    }

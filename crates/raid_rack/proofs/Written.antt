@@ -175,8 +175,6 @@ module _ (v : Raid) (f : ℕ → View) (number m : ℕ) (a b : Seen) (on : List 
         book = after_same v.state;
         leaves = call.goes.leaves;
         sectors = views_sectors v f m a b set call.views;
-        left = left_before v f m a b set call.views;
-        cause = caused v f m a b set call.views;
         still = λ n low goes. over_still v (called v f number) (further v f m a b set call.views number call.later) n low goes;
         spent = λ n y low alive. views_spent v f m a b set call.views n y alive;
         parts = λ n vals spent joined low goes covers.

@@ -144,14 +144,17 @@ pub record Brings (v w : Raid) (a b : Seen) (now : ℕ → (ℕ → Values) → 
   pub book : IsAfter v.state w.state
   pub leaves : a.traced → Leaves a b (λ c. Unit {0})
   pub sectors : (n : ℕ) → sectors_of (w.arrays n) ≡ sectors_of (v.arrays n)
-  -- whoever isn't left any more has a fault, and what is spent stays so
-  pub left : (place : ℕ) → is_left w place ≡ true → is_left v place ≡ true
-  pub cause : (place : ℕ) → is_left v place ≡ true → is_left w place ≡ false → HasFault a b place
+  -- what is spent stays so
   pub still : (n : ℕ) → n < v.state.made → is_over w n ≡ false → is_over v n ≡ false
   pub spent : (n y : ℕ) → n < v.state.made → spent_in (w.arrays n) y ≡ false → spent_in (v.arrays n) y ≡ false
   pub parts :
       (n : ℕ) (vals : ℕ → Values) (spent : ℕ → Bool) → n < v.state.joined → n < v.state.made → is_over w n ≡ false → Covers (w.arrays n) spent
       → PartOf v w a b n vals (now n vals) spent
+
+-- whoever isn't left any more has a fault
+pub record AreCaused (v w : Raid) (a b : Seen) : Type 0 where
+  pub left : (place : ℕ) → is_left w place ≡ true → is_left v place ≡ true
+  pub cause : (place : ℕ) → is_left v place ≡ true → is_left w place ≡ false → HasFault a b place
 
 -- the values of each array once a sector of array m is written
 abbrev pub written_at : ℕ → ℕ → List ℕ → ℕ → (ℕ → Values) → ℕ → Values
@@ -160,6 +163,7 @@ written_at m sector from n vals = if n == m then appended_at sector from vals el
 -- A call that writes a sector of array m: losses are mended.
 pub record WritesOne (v w : Raid) (a b : Seen) (m sector : ℕ) (from : List ℕ) : Type 0 where
   pub brings : Brings v w a b (written_at m sector from)
+  pub caused : AreCaused v w a b
   pub heeded : IsHeeded w
 
 -- places are noted as lost in each array

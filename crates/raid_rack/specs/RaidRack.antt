@@ -1,6 +1,7 @@
 -- A rack of arrays, as contracts see it.
 use Rattle.std.specs.Prelude.{◌≡◌, ◌⊎◌, ℕ, pos, true, false, List, [], length, get_or, slice_get, unwrap_or}
-use Rattle.rack.specs.Seen.{Seen}
+use Rattle.rack.specs.Seen.{Seen, Stays}
+use Rattle.rack.specs.Calls.{KeepsAll}
 use Rattle.slice_rack.specs.declared.SliceRack.{SliceRack}
 use Rattle.slice_rack.specs.SliceRack.{tables, below_of}
 use Rattle.slice_rack.specs.Sliced.{slices_of}
@@ -96,3 +97,8 @@ pub record IsFit (a : Arrays) (x : Seen) : Type 0 where
 abbrev pub raid_seen : {R : Type 0} → (R → Seen) → RaidRack R → Seen
 raid_seen seen rack =
     raid_of (IsFit (arrays_in rack) (slices_seen seen rack)) (refused_in rack) (raid_in rack) (slices_seen seen rack)
+
+-- As a rack, it stays, and no value comes or goes: what it tells, it tells after the call.
+pub record KeepsRack (a b : Seen) : Type 0 where
+  pub stays : Stays a b
+  pub keeps : KeepsAll a b

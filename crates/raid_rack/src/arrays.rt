@@ -44,7 +44,7 @@ impl<R: Rack> RaidRack<R> {
     ghost use Rattle.array_image.specs.States.{is_current};
     ghost use Rattle.raid_rack.specs.Losses.{has_other};
     ghost use Rattle.raid_rack.specs.Moves.{Mends, noted_at};
-    ghost use Rattle.raid_rack.specs.RaidRack.{IsRunning, arrays_in, arrays_of, raid_in, refused_in, slices_in, slices_seen};
+    ghost use Rattle.raid_rack.specs.RaidRack.{IsFit, KeepsRack, arrays_in, arrays_of, raid_seen, raid_in, refused_in, slices_in, slices_seen};
 
     /// The rack of these arrays, which are those below the state's `made`, by number, over these slices. Nothing is added to the
     /// log, and nothing is pending in it.
@@ -92,13 +92,13 @@ impl<R: Rack> RaidRack<R> {
     /// Loses the drive of a place, which isn't marked missing: its mark is durable when this returns. Refused exactly where no other
     /// drive is left, and then nothing changes.
     pub fn lose(&mut self, place: u32) -> Result<(), LastDrive>
-        requires running { IsRunning (arrays_in self.old) (slices_seen R.seen self.old) }
+        requires fit { IsFit (arrays_in self.old) (slices_seen R.seen self.old) }
         requires place { is_current (raid_in self.old).state place ≡ true }
         ensures served { OnOk result (has_other (raid_in self.old).state place ≡ true) }
         ensures refused { OnErr result (has_other (raid_in self.old).state place ≡ false) }
         ensures kept { OnErr result (self.new ≡ self.old) }
         ensures mends { OnOk result (Mends (noted_at (place ∷ []) (raid_in self.old)) (raid_in self.new) (slices_seen R.seen self.old) (slices_seen R.seen self.new)) }
-        ensures running { IsRunning (arrays_in self.new) (slices_seen R.seen self.new) }
+        ensures keeps { OnOk result (KeepsRack (raid_seen R.seen self.old) (raid_seen R.seen self.new)) }
         ensures runs { R.runs (below_of (slices_in self.old)) (below_of (slices_in self.new)) }
     {
         if !has_other(&self.arrays.state, place) {
