@@ -246,7 +246,7 @@ impl Array {
     }
 
     /// Whether a sector of the array can't be had any more.
-    pub(crate) fn is_spent(&self, x: u64) -> bool
+    pub fn is_spent(&self, x: u64) -> bool
         requires { x < sectors_of self.now }
         ensures { result ≡ spent_in self.now x }
     {

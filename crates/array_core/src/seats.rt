@@ -1,8 +1,9 @@
 //! What an array knows of its members, and how that changes with their drives.
 
+ghost use Rattle.std.specs.List.{list_all};
 ghost use Rattle.std.specs.Option.{option_copied};
 ghost use Rattle.arrayvec.specs.ArrayVec.{array_vec_len};
-ghost use Rattle.std.specs.Prelude.{◌++◌, ◌||◌, ◌<◌, ◌+◌, if◌then◌else◌, ◌≡◌, ◌≤◌, ◌∷◌, [], map, option_map, length, Some, None, Option, true};
+ghost use Rattle.std.specs.Prelude.{nat_lt, ◌++◌, ◌||◌, ◌<◌, ◌+◌, if◌then◌else◌, ◌≡◌, ◌≤◌, ◌∷◌, [], map, option_map, length, Some, None, Option, true};
 ghost use Rattle.array_model.specs.declared.Seat.TheVariants.{Missing};
 ghost use Rattle.array_model.specs.View.{sectors_of, rows_of};
 ghost use Rattle.array_image.specs.Places.{member_id};
@@ -63,9 +64,10 @@ impl Array {
         self.resync
     }
 
-    /// The places that answered `Gone` since they were last heeded, in order.
+    /// The places that answered `Gone` since they were last heeded, in order. They are below 16.
     pub fn went(&self) -> &Places
-        ensures { result.now.items ≡ self.now.went }
+        ensures places { result.now.items ≡ self.now.went }
+        ensures few { list_all (λ place. nat_lt place 16) self.now.went ≡ true }
     {
         &self.went
     }

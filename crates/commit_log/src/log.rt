@@ -81,6 +81,13 @@ impl Log {
         })
     }
 
+    /// The greatest number of a commit that it has seen or made.
+    pub fn number(&self) -> u64
+        ensures { result ≡ self.now.number }
+    {
+        self.number
+    }
+
     /// Forgets what was added, and lends no payload any more.
     pub fn clear(&mut self)
         ensures { self.new ≡ emptied self.old }

@@ -5,7 +5,7 @@ use Rattle.std.specs.List.{list_any, list_all, range_with_len}
 use Rattle.rack.specs.Seen.{Seen, IsLive}
 use Rattle.rack.specs.Targets.{Target, look}
 use Rattle.pool_state.specs.declared.contents.State.{State}
-use Rattle.array_image.specs.Places.{log_slice, place_of, slice_of}
+use Rattle.array_image.specs.Places.{log_slice, member_slice, place_of, slice_of, super_sector}
 use Rattle.array_image.specs.States.{is_current, current_places}
 use Rattle.array_image.specs.Record.{is_target, are_apart}
 use Rattle.commit_log.specs.View.{LogView, names}
@@ -16,16 +16,27 @@ use Rattle.array_model.specs.declared.Seat.TheVariants.{Missing}
 use Rattle.array_model.specs.View.{is_missing_seat, place_at, has_gone}
 use Rattle.array_model.specs.Members.{slice_on}
 use Rattle.array_model.specs.Stages.{AmongTargets}
-use Rattle.raid_rack.specs.Raid.{Raid, gone_in}
+use Rattle.raid_rack.specs.Raid.{Raid, AreLive, gone_in}
+use Rattle.raid_rack.specs.Moves.{IsSet}
 use Rattle.raid_rack.specs.Losses.{IsCopyOn, AreCopiesOn}
 use Rattle.raid_rack.specs.Marking.{NoData}
-use Rattle.raid_rack.specs.Moves.{AreLive}
 use Rattle.raid_rack.specs.Settling.{IsSuperOf, IsMarking, state_after}
 use Rattle.raid_rack.proofs.Missing.{current_marked}
 use Rattle.raid_rack.proofs.Added.{names_current}
 use Rattle.raid_rack.proofs.Noted.{current_few}
 use Rattle.raid_rack.proofs.Seated.{missing_of, place_few}
 use Rattle.raid_rack.proofs.Elements.{among_either, all_among, any_among, apart_append, look_among, look_lacks}
+
+-- the superblock's sector of a member that isn't missing is told
+super_live : (v : Raid) (x : Seen) (n k : ℕ) → IsSet v x → AreLive v.state.made x → n < v.state.made → k < (v.arrays n).truth.raid_disks
+    → (slice_get (v.arrays n).seats k ≡ Some Missing → ⊥) → IsLive x x (slice_on (v.arrays n) k) super_sector
+super_live v x n k set live low inside there =
+    let u = v.arrays n in
+    let seated = set.arrays n low in
+    let sectors = seated.slices.sectors k inside there in
+    subst (λ j. IsLive x x (member_slice (place_at u k) j) super_sector) (sym seated.number)
+    (live n (place_at u k) super_sector low (place_few u k seated.is_array inside)
+    (subst (λ j. super_sector < x.sectors (member_slice (place_at u k) j)) seated.number (omega (arith, sectors))))
 
 -- ---- copies
 
@@ -218,7 +229,7 @@ module _ (v : Raid) (lost on : List ℕ) (l : LogView) (xs : List Target) (x : S
             )
       ]
 
-  pub all_live : AreLive v x → ((p u : ℕ) → p < 16 → u < x.sectors (log_slice p) → IsLive x x (log_slice p) u)
+  pub all_live : AreLive v.state.made x → ((p u : ℕ) → p < 16 → u < x.sectors (log_slice p) → IsLive x x (log_slice p) u)
       → (d s : ℕ) (w : List ℕ) → look l.added d s ≡ Some w → IsLive x x d s
   all_live live logs d s w is =
       let at = look_among l.added d s w is in
@@ -226,7 +237,7 @@ module _ (v : Raid) (lost on : List ℕ) (l : LogView) (xs : List Target) (x : S
         | inl super ↦
             subst (λ e. IsLive x x e s) (sym super.disk ∙ at.2)
             (subst (λ u. IsLive x x (slice_on (v.arrays super.array) super.position) u) (sym super.sector ∙ at.3)
-            (live super.array super.position super.low super.inside super.there))
+            (super_live v x super.array super.position marking.set live super.low super.inside super.there))
         | inr copy ↦
             let current = was_current copy.place (sym (on_current copy.place) ∙ copy.named) in
             let sectors = marking.set.logs copy.place current in

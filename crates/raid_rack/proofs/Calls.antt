@@ -1,6 +1,8 @@
 -- Calls of one array that write nothing, as parts of a call of all.
 use Rattle.std.proofs.Common.{◌≡◌, ℕ, zero, suc, ◌+◌, ◌-◌, ◌*◌, ◌/◌, ◌%◌, ◌^◌, ◌<◌, ◌≤◌, Bool, true, false, ◌==◌, ◌&&◌, ◌||◌, not, nat_lt, if◌then◌else◌, List, [], ◌∷◌, map, length, slice_get, Option, Some, None, option_map, unwrap_or, ◌⊎◌, refl, sym, ap, ap₂, subst, ◌∙◌, inl, inr, ltb-true, lt-ltb, le-ltb, arith}
 use Rattle.std.proofs.lemmas.Bool.{cases_Bool, cases_eq, cases_lt, both_ways, and_parts, and_from, ltb-false}
+use Rattle.std.specs.List.{list_all, list_any, range_with_len}
+use Rattle.std.proofs.lemmas.Option.{slice_get_past}
 use Rattle.rack.specs.Values.{Values}
 use Rattle.rack.specs.Seen.{Seen, IsPick, Stays}
 use Rattle.rack.specs.Moments.{Leaves}
@@ -15,307 +17,83 @@ use Rattle.array_image.specs.Arrays.{Member, Shape, first_layout}
 use Rattle.array_image.specs.Held.{Among}
 use Rattle.array_image.proofs.Marked.{among_lowered}
 use Rattle.array_image.specs.Marks.{lower, lowered}
-use Rattle.array_image.specs.Supers.{is_unclean}
+use Rattle.array_image.specs.Supers.{is_reshaping, is_unclean}
 use Rattle.array_model.specs.declared.Seat.{Seat}
-use Rattle.array_model.specs.declared.Seat.TheVariants.{Missing}
-use Rattle.array_model.specs.View.{View, IsArray, HasFault, LosesPlaces, has_gone, place_at, seat_unless, present, rows_of, sectors_of, shape_of, spent_in}
+use Rattle.array_model.specs.declared.Seat.TheVariants.{Whole, Missing, Rebuilding}
+use Rattle.array_model.specs.View.{View, IsArray, HasFault, LosesPlaces, has_gone, is_missing_seat, is_whole_array, is_whole_seat, place_at, seat_unless, present, rows_of, sectors_of, shape_of, spent_in}
 use Rattle.array_model.specs.ArrayCalls.{Covers, Keeping}
-use Rattle.array_model.specs.Members.{Notes, slice_on}
+use Rattle.array_model.specs.Members.{IsSameButSeats, Notes, slice_on}
 use Rattle.array_model.proofs.Views.{shape_then, fewer_left}
 use Rattle.array_model.proofs.Noting.{losing_by}
-use Rattle.array_core.specs.Slots.{place_by}
-use Rattle.array_core.specs.Superblocks.{settled, raised}
+use Rattle.array_core.specs.Superblocks.{settled, settled_truth, left_offset, raised}
 use Rattle.array_core.specs.Settling.{Settles}
 use Rattle.array_core.proofs.Settled.{settled_shape}
 use Rattle.raid_rack.specs.Raid.{Raid, gone_in, is_left, is_over}
 use Rattle.raid_rack.specs.Marking.{Part}
-use Rattle.raid_rack.specs.Moves.{IsOfPool, IsSet, IsSeated, AreMarked, AreLive, PartOf, Moves}
+use Rattle.raid_rack.specs.Moves.{IsOfPool, IsSet, IsSeated, IsMarkedWhole, AreMarked, PartOf, Moves}
 use Rattle.raid_rack.proofs.Books.{after_same}
+use Rattle.raid_rack.proofs.Changed.{ViewsOne, MayRestate, further, marked_before, more_gone, same_shape, left_before, caused, part_if, views_notes, views_sectors, views_set, views_spent}
 use Rattle.raid_rack.proofs.Over.{someone_left, over_still, IsFurther, not_true}
 use Rattle.raid_rack.proofs.Reading.{part_read, part_unread}
-use Rattle.raid_rack.proofs.Seated.{with_seats, view_with, seated_with, missing_of, missing_then, place_few}
-use Rattle.raid_rack.proofs.Noted.{with_arrays, live_with, gone_some, gone_from, losing_spent}
+use Rattle.raid_rack.proofs.Ranges.{any_some, any_none}
+use Rattle.raid_rack.proofs.Seated.{with_seats, view_with, seated_with, missing_of, place_few}
+use Rattle.raid_rack.proofs.Noted.{with_arrays, live_later, current_few, gone_some, gone_from, losing_spent}
 
--- ---- one array
-
--- calls elsewhere leave it one of the pool
-pub seated_still : (s : State) (n : ℕ) (u : View) (x y : Seen) → Stays x y → IsSeated s n u x → IsSeated s n u y
-seated_still s n u x y stays seated =
-    record {
-      is_array = seated.is_array;
-      number = seated.number;
-      slices = record {
-        fit = stays.fit;
-        lasting = stays.lasting seated.slices.lasting;
-        disks = λ k low there. subst (λ m. slice_on u k < m) (sym stays.disks) (seated.slices.disks k low there);
-        sectors = λ k low there. subst (λ m. data_sector + u.truth.size ≤ m) (sym (stays.sectors (slice_on u k))) (seated.slices.sectors k low there);
-      };
-      marks = seated.marks;
-      is_of_pool = seated.is_of_pool;
-    }
-
--- a part that each shape by the marks allows
-pub part_of : (v : Raid) (f : ℕ → View) (a b : Seen) (n : ℕ) (vals now : ℕ → Values) (spent : ℕ → Bool)
-    → (a.traced → Leaves a b (λ c. Unit {0}))
-    → ((durable : Shape) → Part v.state v.state durable durable vals now spent (gone_in v) (gone_in (with_arrays v f)) v (with_arrays v f) a b n)
-    → (AreLive v a → AreLive (with_arrays v f) b)
-    → (AreMarked (with_arrays v f) → AreMarked v × (shape_of (v.arrays n) ≡ shape_of (f n)))
-    → PartOf v (with_arrays v f) a b n vals now spent
-part_of v f a b n vals now spent leaves part live marked =
-    record {
-      leaves = λ traced.
-          let all = leaves traced in
-          record {
-            later = all.later;
-            kept = all.kept;
-            past = all.past;
-            new = λ k c after until stopped inside amid. ((part amid.durable).leaves traced).new k c after until stopped inside amid.stood;
-          };
-      holds = λ amid.
-          record {
-            durable = amid.durable;
-            stood = (part amid.durable).holds amid.stood;
-            supers = live amid.supers;
-            marked = λ are. let both = marked are in amid.marked both.0 ∙ both.1;
-          };
-    }
-
--- nobody is lost
-pub lowered_none : (shape : Shape) → lowered (λ p. false) shape ≡ shape
-lowered_none shape = ap (λ (ms : List Member). record shape { members = ms }) (none shape.members)
-  where
-    none : (ms : List Member) → map (lower (λ p. false)) ms ≡ ms
-    none [] = refl
-    none (m ∷ ms) = ap (λ (rest : List Member). m ∷ rest) (none ms)
-
-of_shape : (w : View) (went : List ℕ) → shape_of (with_seats w w.seats went) ≡ shape_of w
-unfolding shape_of
-of_shape w went = refl
-
--- ---- a call of array m
+-- ---- a call of array m that writes nothing
 
 pub record ReadsOne (v : Raid) (f : ℕ → View) (m : ℕ) (a b : Seen) : Type 0 where
-  pub low : m < v.state.made
+  pub views : ViewsOne v f m a b
   pub reads : OnlyReads a b
-  pub others : (n : ℕ) → (n ≡ m → ⊥) → f n ≡ v.arrays n
-  pub seated : IsSeated v.state m (f m) b
-  pub lost : ℕ → Bool
-  pub loses : LosesPlaces (v.arrays m) (f m) lost
-  pub cause : (place : ℕ) → lost place ≡ true → HasFault a b place
-  pub slice : (k : ℕ) → slice_on (f m) k ≡ slice_on (v.arrays m) k
-  pub disks : (f m).truth.raid_disks ≡ (v.arrays m).truth.raid_disks
   pub keeps : (s : State) (durable : Shape) (vals : ℕ → Values) (spent : ℕ → Bool) → Covers (f m) spent → Keeping s (v.arrays m) (f m) spent a b durable vals
-  pub spent : (y : ℕ) → spent_in (f m) y ≡ false → spent_in (v.arrays m) y ≡ false
-  pub sectors : sectors_of (f m) ≡ sectors_of (v.arrays m)
-  pub events : (v.arrays m).truth.events ≤ (f m).truth.events
-  pub seats : present (f m).seats ≤ present (v.arrays m).seats
-  pub lowered_is : shape_of (f m) ≡ lowered lost (shape_of (v.arrays m))
-  pub shape : ((k : ℕ) → k < (v.arrays m).truth.raid_disks → lost (place_at (v.arrays m) k) ≡ true → is_current v.state (place_at (v.arrays m) k) ≡ false)
-      → shape_of (v.arrays m) ≡ shape_of (f m)
-
-or_left : (b c : Bool) → b ≡ true → (b || c) ≡ true
-or_left true c is = refl
-or_left false c is = absurd (both_ways false refl is)
-
-or_right : (b c : Bool) → c ≡ true → (b || c) ≡ true
-or_right true c is = refl
-or_right false c is = is
-
-or_of : (b c : Bool) → (b || c) ≡ true → c ≡ false → b ≡ true
-or_of true c e none = refl
-or_of false c e none = absurd (both_ways c none e)
-
-by_number : (X : ℕ → Type 0) (m n : ℕ) → X m → ((n ≡ m → ⊥) → X n) → X n
-by_number X m n own other = elim (cases_eq n m) [
-  | inl same ↦ subst X (sym same) own
-  | inr apart ↦ other apart
-]
 
 module _ (v : Raid) (f : ℕ → View) (m : ℕ) (a b : Seen) (set : IsSet v a) (call : ReadsOne v f m a b) where
-  more_gone : (p : ℕ) → gone_in v p ≡ true → gone_in (with_arrays v f) p ≡ true
-  more_gone p is =
-      let at = gone_some v p is in
-      let n = at.1.0 in
-      gone_from (with_arrays v f) p n at.0 at.1.1
-      (elim (cases_eq n m) [
-        | inl same ↦
-            ap (λ k. has_gone (f k) p) same ∙ call.loses.went p
-            ∙ or_right (call.lost p) (has_gone (v.arrays m) p) (subst (λ k. has_gone (v.arrays k) p ≡ true) same at.1.2)
-        | inr apart ↦ ap (λ (u : View). has_gone u p) (call.others n apart) ∙ at.1.2
-      ])
-
-  new_gone : (p : ℕ) → gone_in v p ≡ false → gone_in (with_arrays v f) p ≡ true → call.lost p ≡ true
-  new_gone p not is =
-      let at = gone_some (with_arrays v f) p is in
-      let n = at.1.0 in
-      elim (cases_eq n m) [
-        | inl same ↦
-            or_of (call.lost p) (has_gone (v.arrays m) p)
-            (sym (call.loses.went p) ∙ subst (λ k. has_gone (f k) p ≡ true) same at.1.2)
-            (elim (cases_Bool (has_gone (v.arrays m) p)) [
-              | inl had ↦ absurd (both_ways (gone_in v p) not (gone_from v p m at.0 call.low had))
-              | inr none ↦ none
-            ])
-        | inr apart ↦
-            absurd (both_ways (gone_in v p) not
-            (gone_from v p n at.0 at.1.1 (sym (ap (λ (u : View). has_gone u p) (call.others n apart)) ∙ at.1.2)))
-      ]
-
-  left_before : (p : ℕ) → is_left (with_arrays v f) p ≡ true → is_left v p ≡ true
-  left_before p is =
-      let both = and_parts (is_current v.state p) (not (gone_in (with_arrays v f) p)) is in
-      let now = not_true (gone_in (with_arrays v f) p) both.1 in
-      and_from (is_current v.state p) (not (gone_in v p)) both.0
-      (elim (cases_Bool (gone_in v p)) [
-        | inl was ↦ absurd (both_ways (gone_in (with_arrays v f) p) now (more_gone p was))
-        | inr not ↦ ap (λ c. Rattle.std.proofs.Common.not c) not
-      ])
-
-  caused : (p : ℕ) → is_left v p ≡ true → is_left (with_arrays v f) p ≡ false → HasFault a b p
-  caused p was now =
-      let both = and_parts (is_current v.state p) (not (gone_in v p)) was in
-      call.cause p (new_gone p (not_true (gone_in v p) both.1)
-      (elim (cases_Bool (gone_in (with_arrays v f) p)) [
-        | inl is ↦ is
-        | inr none ↦ absurd (both_ways (is_left (with_arrays v f) p) now (and_from (is_current v.state p) (not (gone_in (with_arrays v f) p)) both.0 (ap not none)))
-      ]))
-
-  -- where whoever went is marked, no current place went in this call
-  marked_before : AreMarked (with_arrays v f) → AreMarked v
-  marked_before are p current =
-      elim (cases_Bool (gone_in v p)) [
-        | inl was ↦ absurd (both_ways (gone_in (with_arrays v f) p) (are p current) (more_gone p was))
-        | inr none ↦ none
-      ]
-
-  same_shape : AreMarked (with_arrays v f) → (n : ℕ) → shape_of (v.arrays n) ≡ shape_of (f n)
-  same_shape are n =
-      elim (cases_eq n m) [
-        | inl same ↦ subst (λ k. shape_of (v.arrays k) ≡ shape_of (f k)) (sym same)
-            (call.shape (λ k low lost.
-            elim (cases_Bool (is_current v.state (place_at (v.arrays m) k))) [
-              | inl current ↦
-                  absurd (both_ways (gone_in (with_arrays v f) (place_at (v.arrays m) k)) (are (place_at (v.arrays m) k) current)
-                  (gone_from (with_arrays v f) (place_at (v.arrays m) k) m (place_few (v.arrays m) k (set.arrays m call.low).is_array low) call.low
-                  (call.loses.went (place_at (v.arrays m) k) ∙ or_left (call.lost (place_at (v.arrays m) k)) (has_gone (v.arrays m) (place_at (v.arrays m) k)) lost)))
-              | inr other ↦ other
-            ]))
-        | inr apart ↦ ap shape_of (sym (call.others n apart))
-      ]
-
-  read_further : IsFurther v (with_arrays v f)
-  read_further = record {
-    left = left_before;
-    number = omega arith;
-    epoch = omega arith;
-    made = refl;
-    events = λ n low. by_number (λ k. (v.arrays k).truth.events ≤ (f k).truth.events) m n call.events
-        (λ apart. subst (λ (u : View). (v.arrays n).truth.events ≤ u.truth.events) (sym (call.others n apart)) (omega arith));
-    seats = λ n low. by_number (λ k. present (f k).seats ≤ present (v.arrays k).seats) m n call.seats
-        (λ apart. subst (λ (u : View). present u.seats ≤ present (v.arrays n).seats) (sym (call.others n apart)) (omega arith));
-  }
+  views : ViewsOne v f m a b
+  views = call.views
 
   read_leaves : a.traced → Leaves a b (λ c. Unit {0})
   read_leaves traced = leaves_weaker (IsPick a b a.held) (λ c. Unit {0}) (λ c pick. tt) (call.reads.keeps.stops traced)
 
-  read_live : AreLive v a → AreLive (with_arrays v f) b
-  read_live =
-      live_with v f a b call.reads.stays set.lasting
-      (λ n low.
-      by_number (λ j. ((k : ℕ) → slice_on (f j) k ≡ slice_on (v.arrays j) k) × ((f j).truth.raid_disks ≡ (v.arrays j).truth.raid_disks)
-      × ((k : ℕ) → slice_get (v.arrays j).seats k ≡ Some Missing → slice_get (f j).seats k ≡ Some Missing)) m n
-      (λ k. call.slice k, call.disks, λ k was. call.loses.seats k ∙ missing_then (call.lost (place_at (v.arrays m) k)) (slice_get (v.arrays m).seats k) was)
-      (λ apart. (
-        λ k. ap (λ (u : View). slice_on u k) (call.others n apart),
-        ap (λ (u : View). u.truth.raid_disks) (call.others n apart),
-        λ k was. ap (λ (u : View). slice_get u.seats k) (call.others n apart) ∙ was,
-      )))
-
   read_part : (n : ℕ) (vals : ℕ → Values) (spent : ℕ → Bool) → n < v.state.made → is_over (with_arrays v f) n ≡ false → Covers (f n) spent
       → PartOf v (with_arrays v f) a b n vals vals spent
   read_part n vals spent low goes covers =
-      part_of v f a b n vals vals spent read_leaves
-      (λ durable.
       let someone = someone_left (with_arrays v f) n goes in
+      let more = more_gone v f m a b set views in
+      part_if v f v.number a b n vals vals spent call.reads.stays set.lasting read_leaves
+      (λ are. (marked_before v f m a b set views are, same_shape v f m a b set views are n))
+      (λ amid.
       elim (cases_eq n m) [
         | inl same ↦
-            part_read v.state durable vals spent (gone_in v) (gone_in (with_arrays v f)) v (with_arrays v f) a b n set.lasting call.reads refl more_gone someone
-            (subst (λ k. Keeping v.state (v.arrays k) (f k) spent a b durable vals) (sym same)
-            (call.keeps v.state durable vals spent (subst (λ k. Covers (f k) spent) same covers)))
+            part_read v.state amid.durable vals spent (gone_in v) (gone_in (with_arrays v f)) v (with_arrays v f) a b n set.lasting call.reads refl more someone
+            (subst (λ k. Keeping v.state (v.arrays k) (f k) spent a b amid.durable vals) (sym same)
+            (call.keeps v.state amid.durable vals spent (subst (λ k. Covers (f k) spent) same covers)))
         | inr apart ↦
-            part_unread v.state durable vals spent (gone_in v) (gone_in (with_arrays v f)) v (with_arrays v f) a b n set.lasting call.reads refl (call.others n apart) more_gone someone
+            part_unread v.state amid.durable vals spent (gone_in v) (gone_in (with_arrays v f)) v (with_arrays v f) a b n set.lasting call.reads refl (views.others n apart) more someone
       ])
-      read_live
-      (λ are. (marked_before are, same_shape are n))
 
   pub moves_read : Moves v (with_arrays v f) a b
   moves_read =
       record {
         stays = call.reads.stays;
-        set = record {
-          fit = call.reads.stays.fit;
-          lasting = call.reads.stays.lasting set.lasting;
-          disks = call.reads.stays.disks ∙ set.disks;
-          few = set.few;
-          most = set.most;
-          valid = set.valid;
-          logs = λ p current. call.reads.stays.sectors (log_slice p) ∙ set.logs p current;
-          arrays = λ n low. by_number (λ k. IsSeated v.state k (f k) b) m n call.seated
-              (λ apart. subst (λ (u : View). IsSeated v.state n u b) (sym (call.others n apart)) (seated_still v.state n (v.arrays n) a b call.reads.stays (set.arrays n low)));
-        };
+        set = views_set v f m a b set views v.number;
         book = after_same v.state;
         leaves = read_leaves;
         number = omega arith;
-        refused = λ n. refl;
-        sectors = λ n. by_number (λ k. sectors_of (f k) ≡ sectors_of (v.arrays k)) m n call.sectors (λ apart. ap sectors_of (call.others n apart));
-        left = left_before;
-        cause = caused;
-        still = λ n low goes. over_still v (with_arrays v f) read_further n low goes;
-        spent = λ n y low. by_number (λ k. spent_in (f k) y ≡ false → spent_in (v.arrays k) y ≡ false) m n (call.spent y)
-            (λ apart alive. sym (ap (λ (u : View). spent_in u y) (call.others n apart)) ∙ alive);
+        sectors = views_sectors v f m a b set views;
+        left = left_before v f m a b set views;
+        cause = caused v f m a b set views;
+        still = λ n low goes. over_still v (with_arrays v f) (further v f m a b set views v.number (omega arith)) n low goes;
+        spent = λ n y low alive. views_spent v f m a b set views n y alive;
         counted = λ n k sector low among counts.
             elim (cases_eq n m) [
               | inl same ↦
                   subst (λ j. Among k (shape_of (v.arrays j)).members) (sym same)
-                  (among_lowered call.lost sector (shape_of (v.arrays m)).members k
-                  (subst (λ (shape : Shape). Among k shape.members) (ap (λ j. shape_of (f j)) same ∙ call.lowered_is) among) counts)
-              | inr apart ↦ subst (λ (u : View). Among k (shape_of u).members) (call.others n apart) among
+                  (among_lowered views.lost sector (shape_of (v.arrays m)).members k
+                  (subst (λ (shape : Shape). Among k shape.members) (ap (λ j. shape_of (f j)) same ∙ views.lowered_is) among) counts)
+              | inr apart ↦ subst (λ (u : View). Among k (shape_of u).members) (views.others n apart) among
             ];
         kept = λ d t live apart other. call.reads.keeps.held d t live;
         parts = λ n vals spent joined low goes covers. read_part n vals spent low goes covers;
       }
-
--- ---- a read or a sync of one array
-
--- no place is lost that its seats go by
-shape_still : (u w : View) (lost : ℕ → Bool) → IsArray u → w.truth ≡ u.truth → LosesPlaces u w lost
-    → ((k : ℕ) → k < u.truth.raid_disks → lost (place_at u k) ≡ true → slice_get u.seats k ≡ Some Missing)
-    → shape_of u ≡ shape_of w
-shape_still u w lost is_array truth loses missing =
-    sym (shape_then u (with_seats w w.seats u.went) (λ p. false) truth
-    (record { seats = λ k. loses.seats k ∙ kept k (lost (place_at u k)) refl; went = λ p. refl })
-    ∙ lowered_none (shape_of u))
-    ∙ of_shape w u.went
-  where
-    past : (xs : List Seat) (k : ℕ) → length xs ≤ k → slice_get xs k ≡ None
-    past [] k high = refl
-    past (x ∷ xs) zero high = absurd (omega (arith, high))
-    past (x ∷ xs) (suc k) high = past xs k (omega (arith, high))
-
-    none_lost : (b : Bool) (o : Option Seat) → (b ≡ true → (o ≡ Some Missing) ⊎ (o ≡ None)) → option_map (λ seat. if b then Missing else seat) o ≡ option_map (λ seat. seat) o
-    none_lost false o is = refl
-    none_lost true o is = elim (is refl) [
-      | inl there ↦ ap (option_map (λ seat. Missing)) there ∙ sym (ap (option_map (λ seat. seat)) there)
-      | inr none ↦ ap (option_map (λ seat. Missing)) none ∙ sym (ap (option_map (λ seat. seat)) none)
-    ]
-
-    kept : (k : ℕ) (b : Bool) → lost (place_at u k) ≡ b → option_map (seat_unless lost (place_at u k)) (slice_get u.seats k) ≡ option_map (seat_unless (λ p. false) (place_at u k)) (slice_get u.seats k)
-    kept k b is =
-        none_lost (lost (place_at u k)) (slice_get u.seats k)
-        (λ gone. elim (cases_lt k u.truth.raid_disks) [
-          | inl low ↦ inl (missing k low gone)
-          | inr high ↦ inr (past u.seats k (let count = is_array.seats in omega (arith, count, high)))
-        ])
 
 pub reads_notes : (v : Raid) (f : ℕ → View) (m : ℕ) (a b : Seen) → IsSet v a → m < v.state.made → OnlyReads a b
     → ((n : ℕ) → (n ≡ m → ⊥) → f n ≡ v.arrays n) → Notes (v.arrays m) (f m) a b
@@ -323,33 +101,19 @@ pub reads_notes : (v : Raid) (f : ℕ → View) (m : ℕ) (a b : Seen) → IsSet
     → ReadsOne v f m a b
 reads_notes v f m a b set low reads others notes keeps =
     let u = v.arrays m in
-    let w = f m in
-    let seated = set.arrays m low in
+    let pool = (set.arrays m low).is_of_pool in
     record {
-      low = low;
+      views = views_notes v f m a b u.truth.events u.truth.resync_offset u.marked set low reads.stays others
+          (record { later = omega arith; some = pool.events; few = pool.events_end; whole = pool.written.resync; unsynced = pool.unsynced })
+          (λ marked. inl marked) notes;
       reads = reads;
-      others = others;
-      seated = subst (λ (z : View). IsSeated v.state m z b) (sym (view_with u w notes.same))
-          (seated_with v.state m u w.seats w.went notes.lost a b reads.stays seated notes.loses.seats (λ p few current. notes.loses.went p));
-      lost = notes.lost;
-      loses = notes.loses;
-      cause = notes.cause;
-      slice = λ k. ap₂ (λ (t : Super) j. member_slice (place_by t k) j) notes.same.truth notes.same.number;
-      disks = ap (λ (t : Super). t.raid_disks) notes.same.truth;
       keeps = keeps;
-      spent = λ y alive. losing_spent u w notes.lost seated.is_array (losing_by u w a b notes) y alive;
-      sectors = ap (λ (t : Super). capacity (first_layout t) t.size) notes.same.truth;
-      events = subst (λ (t : Super). u.truth.events ≤ t.events) (sym notes.same.truth) (omega arith);
-      seats = fewer_left u w notes.lost notes.loses;
-      lowered_is = shape_then u w notes.lost notes.same.truth notes.loses;
-      shape = λ marked. shape_still u w notes.lost seated.is_array notes.same.truth notes.loses
-          (λ k few lost. missing_of (slice_get u.seats k) (is_current v.state (place_at u k)) (has_gone u (place_at u k)) (marked k few lost) (seated.marks k few));
     }
 
 -- ---- a settling
 
 -- rows left to resync by an offset
-unsynced_by : (offset size resync : ℕ) → (offset < size → offset / 128 ≤ resync) → (size ≤ offset → size / 128 ≤ resync)
+pub unsynced_by : (offset size resync : ℕ) → (offset < size → offset / 128 ≤ resync) → (size ≤ offset → size / 128 ≤ resync)
     → (if nat_lt offset size then offset / 128 else size / 128) ≤ resync
 unsynced_by offset size resync less more =
     elim (cases_lt offset size) [
@@ -379,7 +143,7 @@ offset_whole true false less was resync is = inl refl
 offset_whole false unclean true was resync is = inr (omega arith)
 offset_whole false unclean false was resync is = inl refl
 
-raised_low : (n : ℕ) → 0 < n → n < 2 ^ 63 → (n ≤ raised n) × (raised n < 2 ^ 63)
+pub raised_low : (n : ℕ) → 0 < n → n < 2 ^ 63 → (n ≤ raised n) × (raised n < 2 ^ 63)
 raised_low n some low = elim (cases_lt n (2 ^ 63 - 1)) [
   | inl room ↦
       let e : raised n ≡ n + 1 = ap (λ (b : Bool). if b then n + 1 else n) (lt-ltb n (2 ^ 63 - 1) room) in
@@ -389,63 +153,21 @@ raised_low n some low = elim (cases_lt n (2 ^ 63 - 1)) [
       (omega (arith, e), omega (arith, e, low))
 ]
 
-pub pool_settled : (s : State) (z : View) → IsArray z → IsOfPool s z → IsOfPool s (settled z)
+-- what settling makes of the truth is one of a pool
+pub may_settle : (s : State) (z : View) → IsArray z → IsOfPool s z → MayRestate z (raised z.truth.events) (left_offset z)
 unfolding offset_by
-pool_settled s z is_array pool =
+may_settle s z is_array pool =
     let events = raised_low z.truth.events pool.events pool.events_end in
     record {
-      set = pool.set;
-      profile = pool.profile;
-      events = let more = events.0 in let some = pool.events in omega (arith, more, some);
-      events_end = events.1;
-      row = pool.row;
-      roles = pool.roles;
-      written = record {
-        name = pool.written.name;
-        times = pool.written.times;
-        roles = pool.written.roles;
-        step = pool.written.step;
-        next_level = pool.written.next_level;
-        next_layout = pool.written.next_layout;
-        next_chunk = pool.written.next_chunk;
-        position = pool.written.position;
-        last_position = pool.written.last_position;
-        no_position = pool.written.no_position;
-        resync = offset_whole z.young (is_unclean z.truth) (nat_lt z.resync (rows_of z)) z.truth.resync_offset z.resync pool.written.resync;
-      };
+      later = events.0;
+      some = let more = events.0 in let some = pool.events in omega (arith, more, some);
+      few = events.1;
+      whole = offset_whole z.young (is_unclean z.truth) (nat_lt z.resync (rows_of z)) z.truth.resync_offset z.resync pool.written.resync;
       unsynced = offset_rows z.young (is_unclean z.truth) (nat_lt z.resync (rows_of z)) z.truth.resync_offset z.resync z.truth.size is_array.small
           pool.unsynced
           (λ none. ltb-false z.resync (rows_of z) none)
           (λ unclean. ltb-true z.truth.resync_offset z.truth.size unclean);
-      rows = pool.rows;
     }
-
-pub seated_settled : (s : State) (n : ℕ) (z : View) (x : Seen) → IsSeated s n z x → IsSeated s n (settled z) x
-seated_settled s n z x seated =
-    let a = seated.is_array in
-    record {
-      is_array = record {
-        few = a.few;
-        level = a.level;
-        least = a.least;
-        most = a.most;
-        seats = a.seats;
-        devices = a.devices;
-        small = a.small;
-        whole_rows = a.whole_rows;
-        placed = a.placed;
-        synced = a.synced;
-        reshape = a.reshape;
-      };
-      number = seated.number;
-      slices = record { fit = seated.slices.fit; lasting = seated.slices.lasting; disks = seated.slices.disks; sectors = seated.slices.sectors };
-      marks = seated.marks;
-      is_of_pool = pool_settled s z a seated.is_of_pool;
-    }
-
-settled_spent : (z : View) (y : ℕ) → spent_in (settled z) y ≡ spent_in z y
-unfolding shape_of
-settled_spent z y = refl
 
 pub reads_settled : (v : Raid) (f : ℕ → View) (m : ℕ) (a b : Seen) → IsSet v a → m < v.state.made → OnlyReads a b
     → ((n : ℕ) → (n ≡ m → ⊥) → f n ≡ v.arrays n) → Settles (v.arrays m) (f m) a b
@@ -454,33 +176,28 @@ pub reads_settled : (v : Raid) (f : ℕ → View) (m : ℕ) (a b : Seen) → IsS
 reads_settled v f m a b set low reads others settles keeps =
     let u = v.arrays m in
     let z = settles.synced in
-    let notes = settles.notes in
     let seated = set.arrays m low in
-    let synced : IsSeated v.state m z b = subst (λ (k : View). IsSeated v.state m k b) (sym (view_with u z notes.same))
-    (seated_with v.state m u z.seats z.went notes.lost a b reads.stays seated notes.loses.seats (λ p few current. notes.loses.went p)) in
-    let is : settled z ≡ f m = sym settles.truth in
     record {
-      low = low;
+      views = views_notes v f m a b (raised u.truth.events) (left_offset u) false set low reads.stays others
+          (may_settle v.state u seated.is_array seated.is_of_pool) (λ marked. absurd (both_ways false refl marked))
+          (subst (λ (k : View). Notes (settled u) k a b) (sym settles.truth) (settled_notes u z a b settles.notes));
       reads = reads;
-      others = others;
-      seated = subst (λ (k : View). IsSeated v.state m k b) is (seated_settled v.state m z b synced);
-      lost = notes.lost;
-      loses = subst (λ (k : View). LosesPlaces u k notes.lost) is (record { seats = notes.loses.seats; went = notes.loses.went });
-      cause = notes.cause;
-      slice = λ k. ap (λ (w : View). slice_on w k) (sym is) ∙ ap₂ (λ (t : Super) j. member_slice (place_by t k) j) notes.same.truth notes.same.number;
-      disks = ap (λ (w : View). w.truth.raid_disks) (sym is) ∙ ap (λ (t : Super). t.raid_disks) notes.same.truth;
       keeps = keeps;
-      spent = λ y alive.
-          losing_spent u z notes.lost seated.is_array (losing_by u z a b notes) y
-          (sym (settled_spent z y) ∙ ap (λ (k : View). spent_in k y) is ∙ alive);
-      sectors = ap sectors_of (sym is) ∙ ap (λ (t : Super). capacity (first_layout t) t.size) notes.same.truth;
-      events = subst (λ (k : View). u.truth.events ≤ k.truth.events) is
-          (let more = (raised_low z.truth.events synced.is_of_pool.events synced.is_of_pool.events_end).0 in
-          let same : z.truth.events ≡ u.truth.events = ap (λ (t : Super). t.events) notes.same.truth in omega (arith, more, same));
-      seats = subst (λ (k : View). present k.seats ≤ present u.seats) is (fewer_left u z notes.lost notes.loses);
-      lowered_is = ap shape_of (sym is) ∙ settled_shape z ∙ shape_then u z notes.lost notes.same.truth notes.loses;
-      shape = λ marked.
-          shape_still u z notes.lost seated.is_array notes.same.truth notes.loses
-          (λ k few lost. missing_of (slice_get u.seats k) (is_current v.state (place_at u k)) (has_gone u (place_at u k)) (marked k few lost) (seated.marks k few))
-          ∙ sym (settled_shape z) ∙ ap shape_of is;
     }
+  where
+    settled_notes : (u z : View) (a b : Seen) → Notes u z a b → Notes (settled u) (settled z) a b
+    settled_notes u z a b notes =
+        let same = view_with u z notes.same in
+        record {
+          same = record {
+            number = notes.same.number;
+            truth = ap settled_truth same;
+            devices = notes.same.devices;
+            resync = notes.same.resync;
+            young = notes.same.young;
+            marked = refl;
+          };
+          lost = notes.lost;
+          loses = record { seats = notes.loses.seats; went = notes.loses.went };
+          cause = notes.cause;
+        }

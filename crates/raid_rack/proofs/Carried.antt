@@ -35,8 +35,8 @@ use Rattle.raid_rack.proofs.Marking.{MarksCall, NotesLost, marks_part, shape_aft
 use Rattle.raid_rack.proofs.Restated.{IsStaged, restates_staged}
 use Rattle.raid_rack.proofs.Over.{someone_left, member_left, number_room, not_true}
 use Rattle.raid_rack.proofs.Seated.{gone_lost, missing_then, place_few}
-use Rattle.raid_rack.proofs.Noted.{gone_not, live_with}
-use Rattle.raid_rack.proofs.Calls.{lowered_none}
+use Rattle.raid_rack.proofs.Noted.{gone_not, live_later}
+use Rattle.raid_rack.proofs.Changed.{lowered_none}
 use Rattle.raid_rack.proofs.Elements.{among_first, apart_found, look_lacks}
 use Rattle.raid_rack.proofs.Adding.{which, current_is, on_current, was_current, no_data, all_apart, all_live, supers_calm, supers_inside}
 use Rattle.raid_rack.proofs.Committed.{IsCommit, raid_after, after_further, after_marked, gone_current, after_gone, commit_losing, seated_marked, raised_range, next_later}
@@ -53,7 +53,7 @@ seat_left (s ∷ seats) some =
     ] in
     goal refl some
 
-seat_marks : (o : Option Seat) (current went : Bool) → option_map is_missing_seat o ≡ Some (not (current && not went)) → (current ≡ true → went ≡ false)
+pub seat_marks : (o : Option Seat) (current went : Bool) → option_map is_missing_seat o ≡ Some (not (current && not went)) → (current ≡ true → went ≡ false)
     → option_map (λ seat. not (is_missing_seat seat)) o ≡ Some current
 seat_marks None current went is left = absurd (let bad : None ≡ Some (not (current && not went)) = is in cc)
 seat_marks (Some seat) false went is left = ap (λ x. option_map not x) is
@@ -112,7 +112,7 @@ module _ (v : Raid) (lost on gone : List ℕ) (l : LogView) (xs : List Target) (
     are_left = are_left;
     none = no_data v lost on l xs b commit.marking;
     ready = kept_ready v.state (state_after v lost) (gone_in v) l on b someone.0 kept brings room.0 commit.marking.set.lasting
-        (all_live v lost on l xs b commit.marking amid.supers kept.logs) was_one left_both.0;
+        (all_live v lost on l xs b commit.marking amid.slices kept.logs) was_one left_both.0;
     decides = kept_decides v.state (state_after v lost) l.number (gone_in v) l.added on gone b someone.0 kept brings are_left
         (and_from (names on someone.0) (not (names gone someone.0)) (on_current v lost on l xs b commit.marking someone.0 ∙ someone.1) (ap not left_both.1))
         someone.1;
@@ -268,14 +268,7 @@ module _ (v : Raid) (lost on gone : List ℕ) (l : LogView) (xs : List Target) (
               durable = shape_of (v.arrays n);
               stood = subst (λ g. Stood (state_after v lost) (shape_of (v.arrays n)) vals spent g (raid_after v lost (next_number l.number) f) c n)
                   (λ i q. sym (after_gone v lost on gone l xs f b c commit n q low) i) (part.holds amid.stood);
-              supers = live_with v f b c commit.call.stays commit.marking.set.lasting
-                  (λ m below. (
-                    λ k. subst (λ (z : View). slice_on z k ≡ slice_on (v.arrays m) k) (sym (commit.arrays m below)) refl,
-                    subst (λ (z : View). z.truth.raid_disks ≡ (v.arrays m).truth.raid_disks) (sym (commit.arrays m below)) refl,
-                    λ k was. subst (λ (z : View). slice_get z.seats k ≡ Some Missing) (sym (commit.arrays m below))
-                        (gone_lost (v.arrays m) gone (commit.marking.set.arrays m below).is_array k ∙ missing_then (names gone (place_at (v.arrays m) k)) (slice_get (v.arrays m).seats k) was),
-                  ))
-                  amid.supers;
+              slices = live_later v.state.made b c commit.call.stays commit.marking.set.lasting amid.slices;
               marked = λ are.
                   let same : names gone ≡ (λ q. false) = λ i q. none_gone are q i in
                   sym (losing.shape ∙ ap (λ g. lowered g (shape_of (v.arrays n))) same ∙ lowered_none (shape_of (v.arrays n)));

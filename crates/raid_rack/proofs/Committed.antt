@@ -14,6 +14,7 @@ use Rattle.array_image.specs.Supers.{has_roles}
 use Rattle.commit_log.specs.View.{LogView, names, next_number}
 use Rattle.commit_log.specs.Commits.{CommitCall}
 use Rattle.commit_log.specs.Kept.{gone_with}
+use Rattle.array_image.specs.Supers.{is_reshaping}
 use Rattle.array_model.specs.View.{View, HasFault, has_gone, place_at, present, sectors_of}
 use Rattle.array_model.proofs.Losses.{IsLosing}
 use Rattle.array_core.specs.Seats.{gone as without}
@@ -26,7 +27,7 @@ use Rattle.raid_rack.proofs.Missing.{current_marked, length_marked}
 use Rattle.raid_rack.proofs.Over.{IsFurther, not_true}
 use Rattle.raid_rack.proofs.Seated.{gone_losing, gone_fewer, gone_seated, names_joined}
 use Rattle.raid_rack.proofs.Noted.{current_few, gone_some, gone_from, gone_not, bool_same}
-use Rattle.raid_rack.proofs.Calls.{seated_still}
+use Rattle.raid_rack.proofs.Changed.{seated_still}
 use Rattle.raid_rack.proofs.Elements.{any_among}
 use Rattle.raid_rack.proofs.Adding.{which, current_is, on_current, was_current, there_current, super_place}
 
@@ -218,6 +219,9 @@ module _ (v : Raid) (lost on gone : List ℕ) (l : LogView) (xs : List Target) (
         (gone_seated (state_after v lost) n (v.arrays n) gone c (stays_same c commit.call.stays.fit)
         (seated_marked v.state lost n (v.arrays n) c (λ p is. commit.marking.noted n p low is)
         (seated_still v.state n (v.arrays n) b c commit.call.stays (set_before.arrays n low))));
+    marked = λ n low is.
+        absurd (both_ways (v.arrays n).marked (commit.marking.staged.each n low).unmarked (ap (λ (u : View). u.marked) (sym (commit.arrays n low)) ∙ is));
+    plain = λ n low. ap (λ (u : View). is_reshaping u.truth) (commit.arrays n low) ∙ set_before.plain n low;
   }
 
   pub after_losing : (n : ℕ) → n < v.state.made → ((without gone (v.arrays n)).went ≡ [] → (v.arrays n).went ≡ []) → IsLosing (v.arrays n) (f n) (names gone)

@@ -1,6 +1,5 @@
 mod Own
 pub mod Raid
-pub mod SoundRaid
 mod Books
 mod Ranges
 pub mod Dropped
@@ -15,6 +14,7 @@ pub mod Committed
 pub mod Adding
 pub mod Settling
 pub mod Elements
+pub mod Changed
 pub mod Calls
 pub mod Noted
 pub mod Seated
@@ -25,7 +25,12 @@ mod Missing
 pub mod Marking
 pub mod Parts
 pub mod Told
+pub mod Sourced
 pub mod Whole
+pub mod Written
+pub mod Sent
+pub mod Ended
+pub mod Serving
 pub mod Reading
 pub mod Restated
 pub mod Copies

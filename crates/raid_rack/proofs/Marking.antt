@@ -32,7 +32,8 @@ use Rattle.raid_rack.specs.Raid.{Raid, Stood}
 use Rattle.raid_rack.specs.Marking.{NoData, Restates, SaysBetween, Part}
 use Rattle.raid_rack.specs.Book.{IsAfter}
 use Rattle.raid_rack.proofs.Books.{after_same}
-use Rattle.raid_rack.proofs.Own.{look_nothing, says_same, stood_left}
+use Rattle.raid_rack.specs.Laws.{stood_left}
+use Rattle.raid_rack.proofs.Own.{look_nothing, says_same}
 
 -- ---- slices of an array, and the states' sectors, aren't the log's
 

@@ -23,12 +23,11 @@ use Rattle.raid_rack.specs.Missing.{marked}
 use Rattle.raid_rack.specs.Losses.{newly_gone, AreCopiesOn, AddsCopies}
 use Rattle.raid_rack.specs.Moves.{IsSet, AreMarked, Moves}
 use Rattle.raid_rack.specs.Settling.{SettlesTo, HasStaged, IsMarking, state_after}
-use Rattle.raid_rack.specs.RaidRack.{IsRunning, raid_by, no_array}
+use Rattle.raid_rack.specs.RaidRack.{IsRunning, EndsTurn, raid_by, no_array}
 use Rattle.raid_rack.proofs.Missing.{current_marked}
 use Rattle.raid_rack.proofs.Added.{names_current}
 use Rattle.raid_rack.proofs.Moving.{moves_then}
-use Rattle.raid_rack.proofs.Noted.{IsNoting, with_arrays, moves_noted, current_few, gone_some}
-use Rattle.raid_rack.proofs.Seated.{names_joined}
+use Rattle.raid_rack.proofs.Noted.{IsNoting, with_arrays, moves_noted, noted_went, current_few}
 use Rattle.raid_rack.proofs.Committed.{IsCommit, raid_after, valid_marked}
 use Rattle.raid_rack.proofs.Turns.{moves_commit, commit_progress}
 use Rattle.raid_rack.proofs.Turned.{newly_named, newly_other, moves_emptied}
@@ -103,25 +102,27 @@ has_noted a all log lost x turn each count number =
     let named : (p : ℕ) → names lost p ≡ (is_current a.state p && gone_in (raid_by a) p) =
     λ p. ap (λ ps. names ps p) turn.lost_are ∙ newly_named a p turn.running.count turn.running.set.few in
     let one = first_named lost turn.some in
+    let had : (p : ℕ) → names lost p ≡ true → (is_current a.state p ≡ true) × (gone_in (raid_by a) p ≡ true) =
+    λ p is. and_parts (is_current a.state p) (gone_in (raid_by a) p) (sym (named p) ∙ is) in
     let noting : IsNoting lost (raid_by a) f = record {
       arrays = λ n low. each_get (without lost) a.all.items all.items n each (let same = turn.running.count in omega (arith, low, same));
-      sectors = λ n. each_sectors (without lost) a.all.items all.items n (λ u. refl) each;
-      went = λ p is. (and_parts (is_current a.state p) (gone_in (raid_by a) p) (sym (named p) ∙ is)).1;
       one = one.0;
       named = one.1;
-      current = (and_parts (is_current a.state one.0) (gone_in (raid_by a) one.0) (sym (named one.0) ∙ one.1)).0;
+      current = (had one.0 one.1).0;
+      few = current_few a.state one.0 turn.running.set.few (had one.0 one.1).0;
     } in
-    let step = moves_noted lost (raid_by a) f x turn.running.set noting in
+    let step = moves_noted lost (raid_by a) f x turn.running.set noting (λ p is. (had p is).1)
+    (λ n. each_sectors (without lost) a.all.items all.items n (λ u. refl) each) in
     let number_back = sym number in
     let whole : with_arrays (raid_by a) f ≡ raid_by (record a { all = all; log = log }) =
-    λ i. record { state = a.state; arrays = f; number = number_back i; refused = (raid_by a).refused; written = (raid_by a).written } in
+    λ i. record { state = a.state; arrays = f; number = number_back i; written = (raid_by a).written } in
     record {
       moves = subst (λ (w : Raid). Moves (raid_by a) w x x) whole step;
       running = record { count = count ∙ turn.running.count; set = subst (λ (w : Raid). IsSet w x) whole step.set };
       same = refl;
       noted = λ n p low is.
-          let few = (gone_some (raid_by a) p (noting.went p is)).0 in
-          ap (λ (u : View). has_gone u p) (noting.arrays n low) ∙ names_joined ((raid_by a).arrays n).went lost p few ∙ or_last (has_gone ((raid_by a).arrays n) p) (names lost p) is;
+          noted_went lost (raid_by a) f noting n p low (current_few a.state p turn.running.set.few (had p is).0)
+          ∙ or_last (has_gone ((raid_by a).arrays n) p) (names lost p) is;
       one = one.0;
       named = one.1;
     }
@@ -165,11 +166,6 @@ on_few lost s t p t_is few current =
 
 -- ---- all of a turn
 
-pub record EndsTurn (a e : Arrays) (x z : Seen) : Type 0 where
-  pub moves : Moves (raid_by a) (raid_by e) x z
-  pub progress : AreMarked (raid_by e) ⊎ ((p : ℕ) × (is_left (raid_by a) p ≡ true) × (is_left (raid_by e) p ≡ false))
-  pub running : IsRunning e z
-
 pub ends_turn : (a b c : Arrays) (all : ArrayVec View) (log l : LogView) (t : State) (lost on gone : List ℕ) (x y z : Seen)
     → HasNoted a b lost x → SettlesTo (raid_by b) (raid_by c) x y b.state.made c.log.added → IsRunning c y
     → t ≡ marked lost c.state → IsMarking (raid_by c) lost on l c.log.added y → CommitCall l on gone y z
@@ -190,7 +186,7 @@ ends_turn a b c all log l t lost on gone x y z noted settles running t_is markin
     let back = sym t_is in
     let same_number = sym number in
     let whole : raid_after v lost (next_number l.number) f ≡ raid_by (record c { state = t; all = all; log = log }) =
-    λ i. record { state = back i; arrays = f; number = same_number i; refused = v.refused; written = v.written } in
+    λ i. record { state = back i; arrays = f; number = same_number i; written = v.written } in
     let step = moves_then (raid_by a) (raid_by b) (raid_after v lost (next_number l.number) f) x x z noted.moves (moves_commit (raid_by b) v lost on gone l c.log.added f x y z settled commit) in
     record {
       moves = subst (λ (w : Raid). Moves (raid_by a) w x z) whole step;
@@ -221,10 +217,11 @@ ends_empty a b c t lost on x y noted settles running same t_is on_is empty =
     (λ n p low is.
     let made : n < b.state.made = subst (λ (s : State). n < s.made) settles.same low in
     settles.went n p made (noted.noted n p (subst (λ (s : State). n < s.made) noted.same made) is))
-    nobody in
+    nobody
+    (λ n low. (settles.staged.each n (subst (λ (s : State). n < s.made) settles.same low)).unmarked) in
     let back = sym t_is in
     let whole : record v { state = state_after v lost } ≡ raid_by (record c { state = t }) =
-    λ i. record { state = back i; arrays = v.arrays; number = v.number; refused = v.refused; written = v.written } in
+    λ i. record { state = back i; arrays = v.arrays; number = v.number; written = v.written } in
     let joined = moves_then (raid_by a) v (record v { state = state_after v lost }) x y y (moves_then (raid_by a) (raid_by b) v x x y noted.moves settles.moves) step in
     record {
       moves = subst (λ (w : Raid). Moves (raid_by a) w x y) whole joined;

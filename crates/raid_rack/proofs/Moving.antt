@@ -10,7 +10,7 @@ use Rattle.array_image.specs.Left.{IsInside}
 use Rattle.array_model.specs.View.{HasFault}
 use Rattle.raid_rack.specs.Raid.{Raid, is_left}
 use Rattle.raid_rack.specs.Marking.{SaysBetween}
-use Rattle.raid_rack.specs.Moves.{IsSet, IsAmid, PartOf, Moves}
+use Rattle.raid_rack.specs.Moves.{IsSet, IsAmid, PartOf, AreCaused, Brings, Moves}
 use Rattle.raid_rack.proofs.Books.{after_same, after_then}
 
 -- ---- one array
@@ -71,7 +71,6 @@ moves_same v x set =
       book = after_same v.state;
       leaves = λ traced. leaves_same x (λ c. Unit {0});
       number = omega arith;
-      refused = λ n. refl;
       sectors = λ n. refl;
       left = λ place is. is;
       cause = λ place was now. absurd (both_ways (is_left v place) now was);
@@ -90,7 +89,6 @@ moves_then v w z a b c one two =
       book = after_then v.state w.state z.state one.book two.book;
       leaves = λ traced. leaves_then (λ c. Unit {0}) (one.leaves traced) (two.leaves (one.stays.traced traced));
       number = (let first = one.number in let second = two.number in omega (arith, first, second));
-      refused = λ n. two.refused n ∙ one.refused n;
       sectors = λ n. two.sectors n ∙ one.sectors n;
       left = λ place is. one.left place (two.left place is);
       cause = λ place was now. caused place was now;
@@ -121,3 +119,53 @@ moves_then v w z a b c one two =
               let fault = one.cause place was gone in
               (fault.0, fault.1, rose_early a b c fault.0 two.stays fault.2)
         ]
+
+-- ---- parts that write
+
+-- a part that moves no value brings none
+pub moves_bring : (v w : Raid) (a b : Seen) → Moves v w a b → Brings v w a b (λ n vals. vals)
+moves_bring v w a b moves =
+    record {
+      stays = moves.stays;
+      set = moves.set;
+      book = moves.book;
+      leaves = moves.leaves;
+      sectors = moves.sectors;
+      still = moves.still;
+      spent = moves.spent;
+      parts = moves.parts;
+    }
+
+-- a write, and what moves no value after it
+pub brings_then : (v w z : Raid) (a b c : Seen) (now : ℕ → (ℕ → Values) → ℕ → Values) → Brings v w a b now → Moves w z b c → Brings v z a c now
+brings_then v w z a b c now one two =
+    record {
+      stays = stays_then one.stays two.stays;
+      set = two.set;
+      book = after_then v.state w.state z.state one.book two.book;
+      leaves = λ traced. leaves_then (λ i. Unit {0}) (one.leaves traced) (two.leaves (one.stays.traced traced));
+      sectors = λ n. two.sectors n ∙ one.sectors n;
+      still = λ n made over. one.still n made (two.still n (still_made n made) over);
+      spent = λ n y made alive. one.spent n y made (two.spent n y (still_made n made) alive);
+      parts = λ n vals spent joined made goes covers.
+          parts_then v w z a b c n vals (now n vals) (now n vals) spent one.stays two
+          (λ i says. says_sooner v.state w.state z.state n (now n vals) spent (replayed a.sectors i) two.book says)
+          (λ i says. says_later v.state w.state z.state n (now n vals) spent (replayed a.sectors i) one.book says)
+          (one.parts n vals spent joined made (two.still n (still_made n made) goes) (λ y alive. two.spent n y (still_made n made) (covers y alive)))
+          (two.parts n (now n vals) spent (subst (λ k. n < k) (sym one.book.same.joined) joined) (still_made n made) goes covers);
+    }
+  where
+    still_made : (n : ℕ) → n < v.state.made → n < w.state.made
+    still_made n made = subst (λ k. n < k) (sym one.book.same.made) made
+
+-- causes of two parts in a row
+pub caused_then : (v w z : Raid) (a b c : Seen) → Stays a b → Stays b c → AreCaused v w a b → AreCaused w z b c → AreCaused v z a c
+caused_then v w z a b c first second one two =
+    record {
+      left = λ place is. one.left place (two.left place is);
+      cause = λ place was gone.
+          elim (cases_Bool (is_left w place)) [
+            | inl mid ↦ let fault = two.cause place mid gone in (fault.0, fault.1, rose_later a b c fault.0 first fault.2)
+            | inr early ↦ let fault = one.cause place was early in (fault.0, fault.1, rose_early a b c fault.0 second fault.2)
+          ];
+    }

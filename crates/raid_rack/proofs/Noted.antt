@@ -15,6 +15,7 @@ use Rattle.array_image.specs.Places.{log_slice, member_slice, super_sector}
 use Rattle.array_image.specs.States.{is_current}
 use Rattle.array_image.specs.Arrays.{Shape, layout_at, replayed}
 use Rattle.array_image.specs.Marks.{lower}
+use Rattle.array_image.specs.Supers.{is_reshaping}
 use Rattle.array_image.specs.Held.{Among, current_in}
 use Rattle.array_image.proofs.Marked.{among_lowered}
 use Rattle.array_image.specs.Left.{PicksLogs}
@@ -22,23 +23,21 @@ use Rattle.array_image.proofs.Replays.{replayed_as_is}
 use Rattle.commit_log.specs.Kept.{LogKept}
 use Rattle.commit_log.specs.Commits.{Stands}
 use Rattle.commit_log.proofs.Kept.{kept_idle, live_on, live_after}
-use Rattle.array_model.specs.View.{View, IsArray, has_gone, place_at, present, sectors_of, shape_of, spent_in}
-use Rattle.array_model.specs.declared.Seat.TheVariants.{Missing}
-use Rattle.array_model.specs.Members.{slice_on}
+use Rattle.array_model.specs.View.{View, IsArray, has_gone, is_whole_array, present, sectors_of, shape_of, spent_in}
 use Rattle.array_model.specs.ArrayCalls.{Covers}
 use Rattle.array_model.proofs.Losses.{IsLosing}
 use Rattle.array_model.proofs.Spared.{at_most_one, lost_value, wanting_more}
 use Rattle.array_model.proofs.Noting.{laid_out, unspent_then}
 use Rattle.array_core.specs.Seats.{names, gone, heeded}
-use Rattle.raid_rack.specs.Raid.{Raid, gone_in, is_left, is_over}
-use Rattle.raid_rack.specs.Moves.{IsSet, IsSeated, AreMarked, AreLive, IsAmid, Moves}
+use Rattle.raid_rack.specs.Raid.{Raid, AreLive, gone_in, is_left, is_over}
+use Rattle.raid_rack.specs.Moves.{IsSet, IsSeated, IsMarkedWhole, AreMarked, IsAmid, Brings, Moves}
 use Rattle.raid_rack.proofs.Books.{after_same}
 use Rattle.raid_rack.proofs.Own.{look_nothing}
 use Rattle.raid_rack.proofs.Ranges.{any_some, any_from}
-use Rattle.raid_rack.proofs.Over.{someone_left, over_still, IsFurther}
+use Rattle.raid_rack.proofs.Over.{someone_left, not_true, over_still, IsFurther}
 use Rattle.raid_rack.proofs.Reading.{stood_noted, stood_heeded}
 use Rattle.raid_rack.proofs.Moving.{part_still}
-use Rattle.raid_rack.proofs.Seated.{names_joined, gone_losing, gone_fewer, gone_lost, missing_then, gone_seated, heeded_seated}
+use Rattle.raid_rack.proofs.Seated.{names_joined, gone_losing, gone_fewer, gone_seated, heeded_seated}
 
 -- ---- places that went
 
@@ -67,6 +66,10 @@ bool_same true c one two = sym (one refl)
 bool_same false true one two = two refl
 bool_same false false one two = refl
 
+or_last : (b c : Bool) → c ≡ true → (b || c) ≡ true
+or_last true c is = refl
+or_last false c is = is
+
 or_of : (b c : Bool) → (b || c) ≡ true → c ≡ false → b ≡ true
 or_of true c e none = refl
 or_of false c e none = absurd (both_ways c none e)
@@ -81,45 +84,49 @@ current_few s p few current =
 
 -- ---- they are noted
 
--- lost places that went, one of them current, are noted in all arrays
+-- places are noted as lost in all arrays, one of them current
 pub record IsNoting (lost : List ℕ) (v : Raid) (f : ℕ → View) : Type 0 where
   pub arrays : (n : ℕ) → n < v.state.made → f n ≡ gone lost (v.arrays n)
-  pub sectors : (n : ℕ) → sectors_of (f n) ≡ sectors_of (v.arrays n)
-  pub went : (p : ℕ) → names lost p ≡ true → gone_in v p ≡ true
   pub one : ℕ
   pub named : names lost one ≡ true
   pub current : is_current v.state one ≡ true
+  pub few : one < 16
 
 abbrev pub with_arrays : Raid → (ℕ → View) → Raid
 with_arrays v f = record v { arrays = f }
 
--- members that aren't missing weren't, so their superblocks are told still
-pub live_with : (v : Raid) (f : ℕ → View) (x y : Seen) → Stays x y → x.lasting
-    → ((m : ℕ) → m < v.state.made → ((k : ℕ) → slice_on (f m) k ≡ slice_on (v.arrays m) k) × ((f m).truth.raid_disks ≡ (v.arrays m).truth.raid_disks)
-    × ((k : ℕ) → slice_get (v.arrays m).seats k ≡ Some Missing → slice_get (f m).seats k ≡ Some Missing))
-    → AreLive v x → AreLive (with_arrays v f) y
-live_with v f x y stays lasting same live m k low few there =
-    let at = same m low in
-    subst (λ d. IsLive y y d super_sector) (sym (at.0 k))
-    (live_after stays (live_on lasting stays (live m k low (subst (λ c. k < c) at.1 few) (λ was. there (at.2 k was)))))
+-- slices that are told are told still
+pub live_later : (made : ℕ) (x y : Seen) → Stays x y → x.lasting → AreLive made x → AreLive made y
+live_later made x y stays lasting live n place t low few there =
+    live_after stays (live_on lasting stays (live n place t low few (subst (λ k. t < k) (stays.sectors (member_slice place n)) there)))
 
-noted_gone : (lost : List ℕ) (v : Raid) (f : ℕ → View) → IsNoting lost v f → (p : ℕ) → gone_in (with_arrays v f) p ≡ gone_in v p
-noted_gone lost v f noting p =
-    bool_same (gone_in (with_arrays v f) p) (gone_in v p)
-    (λ is.
-    let at = gone_some (with_arrays v f) p is in
-    let n = at.1.0 in
-    let either : (has_gone (v.arrays n) p || names lost p) ≡ true =
-    sym (ap (λ (u : View). has_gone u p) (noting.arrays n at.1.1) ∙ names_joined (v.arrays n).went lost p at.0) ∙ at.1.2 in
-    elim (cases_Bool (names lost p)) [
-      | inl lost_now ↦ noting.went p lost_now
-      | inr other ↦ gone_from v p n at.0 at.1.1 (or_of (has_gone (v.arrays n) p) (names lost p) either other)
-    ])
-    (λ is.
+-- whoever is noted has gone, in each array
+pub noted_went : (lost : List ℕ) (v : Raid) (f : ℕ → View) → IsNoting lost v f → (n p : ℕ) → n < v.state.made → p < 16
+    → has_gone (f n) p ≡ (has_gone (v.arrays n) p || names lost p)
+noted_went lost v f noting n p low few =
+    ap (λ (u : View). has_gone u p) (noting.arrays n low) ∙ names_joined (v.arrays n).went lost p few
+
+noted_one : (lost : List ℕ) (v : Raid) (f : ℕ → View) (noting : IsNoting lost v f) (n : ℕ) → n < v.state.made → has_gone (f n) noting.one ≡ true
+noted_one lost v f noting n low = noted_went lost v f noting n noting.one low noting.few ∙ or_last (has_gone (v.arrays n) noting.one) (names lost noting.one) noting.named
+
+pub noted_more : (lost : List ℕ) (v : Raid) (f : ℕ → View) → IsNoting lost v f → (p : ℕ) → gone_in v p ≡ true → gone_in (with_arrays v f) p ≡ true
+noted_more lost v f noting p is =
     let at = gone_some v p is in
-    let n = at.1.0 in
-    gone_from (with_arrays v f) p n at.0 at.1.1
-    (ap (λ (u : View). has_gone u p) (noting.arrays n at.1.1) ∙ names_joined (v.arrays n).went lost p at.0 ∙ ap (λ b. b || names lost p) at.1.2))
+    gone_from (with_arrays v f) p at.1.0 at.0 at.1.1
+    (noted_went lost v f noting at.1.0 p at.1.1 at.0 ∙ ap (λ b. b || names lost p) at.1.2)
+
+-- so an array that was whole is so, or somebody went who is current
+pub noted_whole : (lost : List ℕ) (v : Raid) (f : ℕ → View) → IsNoting lost v f → (n : ℕ) → n < v.state.made → IsMarkedWhole (with_arrays v f) n
+noted_whole lost v f noting n low marked =
+    inr (noting.one, noting.current, gone_from (with_arrays v f) noting.one n noting.few low (noted_one lost v f noting n low))
+
+pub noted_plain : (lost : List ℕ) (v : Raid) (f : ℕ → View) → IsNoting lost v f → ((n : ℕ) → n < v.state.made → is_reshaping (v.arrays n).truth ≡ false)
+    → (n : ℕ) → n < v.state.made → is_reshaping (f n).truth ≡ false
+noted_plain lost v f noting plain n low = ap (λ (u : View). is_reshaping u.truth) (noting.arrays n low) ∙ plain n low
+
+pub noted_seated : (lost : List ℕ) (v : Raid) (f : ℕ → View) (x : Seen) → IsNoting lost v f → IsSet v x → (n : ℕ) → n < v.state.made → IsSeated v.state n (f n) x
+noted_seated lost v f x noting set n low =
+    subst (λ (u : View). IsSeated v.state n u x) (sym (noting.arrays n low)) (gone_seated v.state n (v.arrays n) lost x (stays_same x set.fit) (set.arrays n low))
 
 noted_losing : (lost : List ℕ) (v : Raid) (f : ℕ → View) (n : ℕ) → IsNoting lost v f → n < v.state.made → IsArray (v.arrays n)
     → IsLosing (v.arrays n) (f n) (names lost)
@@ -127,29 +134,11 @@ noted_losing lost v f n noting low is_array =
     subst (λ (u : View). IsLosing (v.arrays n) u (names lost)) (sym (noting.arrays n low))
     (gone_losing (v.arrays n) lost is_array
     (λ none.
-    let few = (gone_some v noting.one (noting.went noting.one noting.named)).0 in
-    absurd (both_ways (names (gone lost (v.arrays n)).went noting.one) (ap (λ ps. names ps noting.one) none)
-    (names_joined (v.arrays n).went lost noting.one few
-    ∙ ap (λ b. has_gone (v.arrays n) noting.one || b) noting.named ∙ or_true (has_gone (v.arrays n) noting.one)))))
-  where
-    or_true : (b : Bool) → (b || true) ≡ true
-    or_true true = refl
-    or_true false = refl
+    absurd (both_ways (names (f n).went noting.one) (ap (λ (u : View). names u.went noting.one) (noting.arrays n low) ∙ ap (λ ps. names ps noting.one) none)
+    (noted_one lost v f noting n low))))
 
-noted_left : (lost : List ℕ) (v : Raid) (f : ℕ → View) → IsNoting lost v f → (p : ℕ) → is_left (with_arrays v f) p ≡ is_left v p
-noted_left lost v f noting p = ap (λ b. is_current v.state p && not b) (noted_gone lost v f noting p)
-
-noted_further : (lost : List ℕ) (v : Raid) (f : ℕ → View) (x : Seen) → IsSet v x → IsNoting lost v f → IsFurther v (with_arrays v f)
-noted_further lost v f x set noting = record {
-  left = λ p is. sym (noted_left lost v f noting p) ∙ is;
-  number = omega arith;
-  epoch = omega arith;
-  made = refl;
-  events = λ n low. subst (λ (u : View). (v.arrays n).truth.events ≤ u.truth.events) (sym (noting.arrays n low)) (omega arith);
-  seats = λ n low. subst (λ (u : View). present u.seats ≤ present (v.arrays n).seats) (sym (noting.arrays n low)) (gone_fewer (v.arrays n) lost (set.arrays n low).is_array);
-}
-
-noted_amid : (lost : List ℕ) (v : Raid) (f : ℕ → View) (x : Seen) (n : ℕ) (vals : ℕ → Values) (spent : ℕ → Bool)
+-- An array that stands does so still, its members on these places missing: with images as they were, and the values that it held.
+pub noted_amid : (lost : List ℕ) (v : Raid) (f : ℕ → View) (x : Seen) (n : ℕ) (vals : ℕ → Values) (spent : ℕ → Bool)
     → IsSet v x → IsNoting lost v f → n < v.state.made → is_over (with_arrays v f) n ≡ false → Covers (f n) spent
     → IsAmid v x n vals spent → IsAmid (with_arrays v f) x n vals spent
 noted_amid lost v f x n vals spent set noting low goes covers amid =
@@ -157,7 +146,7 @@ noted_amid lost v f x n vals spent set noting low goes covers amid =
     record {
       durable = amid.durable;
       stood = stood_noted v.state amid.durable vals spent (gone_in v) (gone_in (with_arrays v f)) (names lost) v (with_arrays v f) x n refl
-          (λ p is. noted_gone lost v f noting p ∙ is)
+          (noted_more lost v f noting)
           (someone_left (with_arrays v f) n goes)
           losing
           (λ y alive.
@@ -165,18 +154,50 @@ noted_amid lost v f x n vals spent set noting low goes covers amid =
           amid.stood.holds.shape.even amid.stood.holds.shape.sized
           (unspent_then (v.arrays n) (f n) (names lost) losing y (covers y alive)))
           amid.stood;
-      supers = live_with v f x x (stays_same x set.fit) set.lasting
-          (λ m below. (
-            λ k. subst (λ (u : View). slice_on u k ≡ slice_on (v.arrays m) k) (sym (noting.arrays m below)) refl,
-            subst (λ (u : View). u.truth.raid_disks ≡ (v.arrays m).truth.raid_disks) (sym (noting.arrays m below)) refl,
-            λ k was. subst (λ (u : View). slice_get u.seats k ≡ Some Missing) (sym (noting.arrays m below))
-                (gone_lost (v.arrays m) lost (set.arrays m below).is_array k ∙ missing_then (names lost (place_at (v.arrays m) k)) (slice_get (v.arrays m).seats k) was),
-          ))
-          amid.supers;
+      slices = amid.slices;
       marked = λ are.
           absurd (both_ways (gone_in (with_arrays v f) noting.one) (are noting.one noting.current)
-          (noted_gone lost v f noting noting.one ∙ noting.went noting.one noting.named));
+          (gone_from (with_arrays v f) noting.one n noting.few low (noted_one lost v f noting n low)));
     }
+
+noted_before : (lost : List ℕ) (v : Raid) (f : ℕ → View) → IsNoting lost v f → (p : ℕ) → is_left (with_arrays v f) p ≡ true → is_left v p ≡ true
+noted_before lost v f noting p is =
+    let both = and_parts (is_current v.state p) (not (gone_in (with_arrays v f) p)) is in
+    and_from (is_current v.state p) (not (gone_in v p)) both.0
+    (elim (cases_Bool (gone_in v p)) [
+      | inl was ↦ absurd (both_ways (gone_in (with_arrays v f) p) (not_true (gone_in (with_arrays v f) p) both.1) (noted_more lost v f noting p was))
+      | inr none ↦ ap not none
+    ])
+
+-- ---- they are those that went in some array
+
+abbrev pub HaveGone : List ℕ → Raid → Type 0
+HaveGone lost v = (p : ℕ) → names lost p ≡ true → gone_in v p ≡ true
+
+noted_gone : (lost : List ℕ) (v : Raid) (f : ℕ → View) → IsNoting lost v f → HaveGone lost v → (p : ℕ) → gone_in (with_arrays v f) p ≡ gone_in v p
+noted_gone lost v f noting went p =
+    bool_same (gone_in (with_arrays v f) p) (gone_in v p)
+    (λ is.
+    let at = gone_some (with_arrays v f) p is in
+    let n = at.1.0 in
+    elim (cases_Bool (names lost p)) [
+      | inl lost_now ↦ went p lost_now
+      | inr other ↦ gone_from v p n at.0 at.1.1 (or_of (has_gone (v.arrays n) p) (names lost p) (sym (noted_went lost v f noting n p at.1.1 at.0) ∙ at.1.2) other)
+    ])
+    (noted_more lost v f noting p)
+
+noted_left : (lost : List ℕ) (v : Raid) (f : ℕ → View) → IsNoting lost v f → HaveGone lost v → (p : ℕ) → is_left (with_arrays v f) p ≡ is_left v p
+noted_left lost v f noting went p = ap (λ b. is_current v.state p && not b) (noted_gone lost v f noting went p)
+
+noted_further : (lost : List ℕ) (v : Raid) (f : ℕ → View) (x : Seen) → IsSet v x → IsNoting lost v f → HaveGone lost v → IsFurther v (with_arrays v f)
+noted_further lost v f x set noting went = record {
+  left = λ p is. sym (noted_left lost v f noting went p) ∙ is;
+  number = omega arith;
+  epoch = omega arith;
+  made = refl;
+  events = λ n low. subst (λ (u : View). (v.arrays n).truth.events ≤ u.truth.events) (sym (noting.arrays n low)) (omega arith);
+  seats = λ n low. subst (λ (u : View). present u.seats ≤ present (v.arrays n).seats) (sym (noting.arrays n low)) (gone_fewer (v.arrays n) lost (set.arrays n low).is_array);
+}
 
 -- what is spent stays so
 pub losing_spent : (u w : View) (lost : ℕ → Bool) → IsArray u → IsLosing u w lost → (y : ℕ) → spent_in w y ≡ false → spent_in u y ≡ false
@@ -197,34 +218,62 @@ losing_spent u w lost is_array losing y alive =
               ap (λ k. spent_with k b) none
         ]
 
-pub moves_noted : (lost : List ℕ) (v : Raid) (f : ℕ → View) (x : Seen) → IsSet v x → IsNoting lost v f → Moves v (with_arrays v f) x x
-moves_noted lost v f x set noting =
+pub set_noted : (lost : List ℕ) (v : Raid) (f : ℕ → View) (x : Seen) → IsSet v x → IsNoting lost v f → IsSet (with_arrays v f) x
+set_noted lost v f x set noting = record {
+  fit = set.fit;
+  lasting = set.lasting;
+  disks = set.disks;
+  few = set.few;
+  most = set.most;
+  valid = set.valid;
+  logs = set.logs;
+  arrays = noted_seated lost v f x noting set;
+  marked = noted_whole lost v f noting;
+  plain = noted_plain lost v f noting (set.plain);
+}
+
+pub moves_noted : (lost : List ℕ) (v : Raid) (f : ℕ → View) (x : Seen) → IsSet v x → IsNoting lost v f → HaveGone lost v
+    → ((n : ℕ) → sectors_of (f n) ≡ sectors_of (v.arrays n)) → Moves v (with_arrays v f) x x
+moves_noted lost v f x set noting went sectors =
     record {
       stays = stays_same x set.fit;
-      set = record {
-        fit = set.fit;
-        lasting = set.lasting;
-        disks = set.disks;
-        few = set.few;
-        most = set.most;
-        valid = set.valid;
-        logs = set.logs;
-        arrays = λ n low. subst (λ (u : View). IsSeated v.state n u x) (sym (noting.arrays n low)) (gone_seated v.state n (v.arrays n) lost x (stays_same x set.fit) (set.arrays n low));
-      };
+      set = set_noted lost v f x set noting;
       book = after_same v.state;
       leaves = λ traced. leaves_same x (λ c. Unit {0});
       number = omega arith;
-      refused = λ n. refl;
-      sectors = noting.sectors;
-      left = λ p is. sym (noted_left lost v f noting p) ∙ is;
-      cause = λ p was now. absurd (both_ways (is_left v p) (sym (noted_left lost v f noting p) ∙ now) was);
-      still = λ n low goes. over_still v (with_arrays v f) (noted_further lost v f x set noting) n low goes;
+      sectors = sectors;
+      left = λ p is. sym (noted_left lost v f noting went p) ∙ is;
+      cause = λ p was now. absurd (both_ways (is_left v p) (sym (noted_left lost v f noting went p) ∙ now) was);
+      still = λ n low goes. over_still v (with_arrays v f) (noted_further lost v f x set noting went) n low goes;
       spent = λ n y low alive.
           losing_spent (v.arrays n) (f n) (names lost) (set.arrays n low).is_array (noted_losing lost v f n noting low (set.arrays n low).is_array) y alive;
       counted = λ n m sector low among counts.
           among_lowered (names lost) sector (shape_of (v.arrays n)).members m
           (subst (λ (shape : Shape). Among m shape.members) (noted_losing lost v f n noting low (set.arrays n low).is_array).shape among) counts;
       kept = λ d t live apart other. keeps_same (x.held d t);
+      parts = λ n vals spent joined low goes covers. part_still v (with_arrays v f) x n vals spent (noted_amid lost v f x n vals spent set noting low goes covers);
+    }
+
+-- so they move no value
+pub noted_brings : (lost : List ℕ) (v : Raid) (f : ℕ → View) (x : Seen) → IsSet v x → IsNoting lost v f
+    → ((n : ℕ) → sectors_of (f n) ≡ sectors_of (v.arrays n)) → Brings v (with_arrays v f) x x (λ n vals. vals)
+noted_brings lost v f x set noting sectors =
+    record {
+      stays = stays_same x set.fit;
+      set = set_noted lost v f x set noting;
+      book = after_same v.state;
+      leaves = λ traced. leaves_same x (λ c. Unit {0});
+      sectors = sectors;
+      still = λ n low goes. over_still v (with_arrays v f) (record {
+        left = noted_before lost v f noting;
+        number = omega arith;
+        epoch = omega arith;
+        made = refl;
+        events = λ k below. subst (λ (u : View). (v.arrays k).truth.events ≤ u.truth.events) (sym (noting.arrays k below)) (omega arith);
+        seats = λ k below. subst (λ (u : View). present u.seats ≤ present (v.arrays k).seats) (sym (noting.arrays k below)) (gone_fewer (v.arrays k) lost (set.arrays k below).is_array);
+      }) n low goes;
+      spent = λ n y low alive.
+          losing_spent (v.arrays n) (f n) (names lost) (set.arrays n low).is_array (noted_losing lost v f n noting low (set.arrays n low).is_array) y alive;
       parts = λ n vals spent joined low goes covers. part_still v (with_arrays v f) x n vals spent (noted_amid lost v f x n vals spent set noting low goes covers);
     }
 
@@ -298,15 +347,16 @@ heeded_amid v f x n vals spent set arrays are low amid =
         someone = (stood.someone.0, stood.someone.1, heeded_none v f arrays stood.someone.0);
         holds = stood.holds;
       };
-      supers = live_with v f x x (stays_same x set.fit) set.lasting
-          (λ m below. (
-            λ k. subst (λ (u : View). slice_on u k ≡ slice_on (v.arrays m) k) (sym (arrays m below)) refl,
-            subst (λ (u : View). u.truth.raid_disks ≡ (v.arrays m).truth.raid_disks) (sym (arrays m below)) refl,
-            λ k was. subst (λ (u : View). slice_get u.seats k ≡ Some Missing) (sym (arrays m below)) was,
-          ))
-          amid.supers;
+      slices = amid.slices;
       marked = λ now. amid.marked are ∙ sym (ap shape_of (arrays n low) ∙ heeded_shape (v.arrays n));
     }
+
+heeded_whole : (v : Raid) (f : ℕ → View) (n : ℕ) → f n ≡ heeded (v.arrays n) → AreMarked v → IsMarkedWhole v n → IsMarkedWhole (with_arrays v f) n
+heeded_whole v f n is are whole marked =
+    elim (whole (ap (λ (u : View). u.marked) (sym is) ∙ marked)) [
+      | inl all ↦ inl (ap is_whole_array is ∙ all)
+      | inr some ↦ absurd (both_ways (gone_in v some.0) (are some.0 some.1) some.2)
+    ]
 
 pub moves_heeded : (v : Raid) (f : ℕ → View) (x : Seen) → IsSet v x
     → ((n : ℕ) → n < v.state.made → f n ≡ heeded (v.arrays n)) → ((n : ℕ) → sectors_of (f n) ≡ sectors_of (v.arrays n)) → AreMarked v
@@ -325,11 +375,12 @@ moves_heeded v f x set arrays sectors are =
         arrays = λ n low. subst (λ (u : View). IsSeated v.state n u x) (sym (arrays n low))
             (heeded_seated v.state n (v.arrays n) x (stays_same x set.fit) (set.arrays n low)
             (λ p current. gone_not v p n (current_few v.state p set.few current) low (are p current)));
+        marked = λ n low. heeded_whole v f n (arrays n low) are (set.marked n low);
+        plain = λ n low. ap (λ (u : View). is_reshaping u.truth) (arrays n low) ∙ set.plain n low;
       };
       book = after_same v.state;
       leaves = λ traced. leaves_same x (λ c. Unit {0});
       number = omega arith;
-      refused = λ n. refl;
       sectors = sectors;
       left = λ p is. sym (heeded_left v f arrays are p) ∙ is;
       cause = λ p was now. absurd (both_ways (is_left v p) (sym (heeded_left v f arrays are p) ∙ now) was);

@@ -5,13 +5,13 @@ use Rattle.std.specs.List.{list_any, range_with_len}
 use Rattle.array_image.specs.States.{is_current}
 use Rattle.array_model.specs.View.{present}
 use Rattle.raid_rack.specs.Raid.{Raid, gone_in, is_left, is_empty, is_used_up, is_over, last_number}
-use Rattle.raid_rack.proofs.Ranges.{any_some, any_wider, none_narrower}
+use Rattle.raid_rack.proofs.Ranges.{any_some, any_none, any_wider, none_narrower}
 
 pub or_parts : (b c : Bool) → (b || c) ≡ false → (b ≡ false) × (c ≡ false)
 or_parts true c is = absurd (both_ways true is refl)
 or_parts false c is = (refl, is)
 
-or_from : (b c : Bool) → b ≡ false → c ≡ false → (b || c) ≡ false
+pub or_from : (b c : Bool) → b ≡ false → c ≡ false → (b || c) ≡ false
 or_from b c one two = ap₂ (λ x y. x || y) one two
 
 not_false : (b : Bool) → not b ≡ false → b ≡ true
@@ -51,6 +51,15 @@ number_room v n goes =
     let one = or_parts (nat_lt last_number v.number) (nat_lt last_number v.state.epoch || list_any (λ m. nat_lt last_number (v.arrays m).truth.events) (range_with_len 0 v.state.made)) used in
     let two = or_parts (nat_lt last_number v.state.epoch) (list_any (λ m. nat_lt last_number (v.arrays m).truth.events) (range_with_len 0 v.state.made)) one.1 in
     (ltb-false last_number v.number one.0, ltb-false last_number v.state.epoch two.0)
+
+pub event_room : (v : Raid) (n m : ℕ) → is_over v n ≡ false → m < v.state.made → (v.arrays m).truth.events ≤ last_number
+event_room v n m goes low =
+    let late : ℕ → Bool = λ k. nat_lt last_number (v.arrays k).truth.events in
+    let parts = or_parts (is_empty v) (is_used_up v || (present (v.arrays n).seats == 0)) goes in
+    let used = (or_parts (is_used_up v) (present (v.arrays n).seats == 0) parts.1).0 in
+    let one = or_parts (nat_lt last_number v.number) (nat_lt last_number v.state.epoch || list_any late (range_with_len 0 v.state.made)) used in
+    let two = or_parts (nat_lt last_number v.state.epoch) (list_any late (range_with_len 0 v.state.made)) one.1 in
+    ltb-false last_number (v.arrays m).truth.events (any_none late 0 v.state.made m two.1 (omega arith) (omega (arith, low)))
 
 -- what falls of a pool, and what rises
 pub record IsFurther (v w : Raid) : Type 0 where

@@ -20,7 +20,8 @@ use Rattle.array_model.proofs.Others.{other_holds_all}
 use Rattle.raid_rack.specs.Raid.{Raid, Stood}
 use Rattle.raid_rack.specs.Marking.{SaysBetween, Part}
 use Rattle.raid_rack.proofs.Books.{after_same, after_then}
-use Rattle.raid_rack.proofs.Own.{look_nothing, stood_left, says_at, says_same}
+use Rattle.raid_rack.specs.Laws.{stood_left}
+use Rattle.raid_rack.proofs.Own.{look_nothing, says_at, says_same}
 
 -- two parts in a row are one
 pub part_then : (s t u : State) (first durable after : Shape) (vals now : ℕ → Values) (spent gone gone_now gone_after : ℕ → Bool) (v w z : Raid) (a b c : Seen) (n : ℕ)

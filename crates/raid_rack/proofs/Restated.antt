@@ -27,7 +27,7 @@ use Rattle.array_core.proofs.Staged.{slot_on, alone_others, staged_shape, staged
 use Rattle.raid_rack.specs.Raid.{Raid, Stood}
 use Rattle.raid_rack.specs.Marking.{NoData, Restates}
 use Rattle.raid_rack.proofs.Marking.{no_data}
-use Rattle.raid_rack.proofs.SoundRaid.{AgreeCounted, counted_columns}
+use Rattle.raid_rack.specs.Laws.{AgreeCounted, counted_columns}
 
 -- ---- rows of settled members
 

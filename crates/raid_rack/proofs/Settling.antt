@@ -198,12 +198,12 @@ settles_more v w f a b c m xs ys few before call syncs adds unmarked =
           let had = before.went n p low is in
           elim (cases_eq n m) [
             | inl same ↦
-                ap (λ k. has_gone (f k) p) same ∙ call.loses.went p ∙ or_right (call.lost p) (has_gone (w.arrays m) p) (subst (λ k. has_gone (w.arrays k) p ≡ true) same had)
-            | inr other ↦ ap (λ (u : View). has_gone u p) (call.others n other) ∙ had
+                ap (λ k. has_gone (f k) p) same ∙ call.views.loses.went p ∙ or_right (call.views.lost p) (has_gone (w.arrays m) p) (subst (λ k. has_gone (w.arrays k) p ≡ true) same had)
+            | inr other ↦ ap (λ (u : View). has_gone u p) (call.views.others n other) ∙ had
           ];
-      staged = staged_more w (with_arrays w f) m xs ys b c call.low few before.moves.set call.others call.seated before.staged adds unmarked;
+      staged = staged_more w (with_arrays w f) m xs ys b c call.views.low few before.moves.set call.views.others call.views.seated before.staged adds unmarked;
       settled = λ n vals spent low joined goes covers amid.
-          let made : n < w.state.made = let last = call.low in omega (arith, low, last) in
+          let made : n < w.state.made = let last = call.views.low in omega (arith, low, last) in
           let was : n < v.state.made = subst (λ (s : State). n < s.made) before.same made in
           let earlier = step.still n made goes in
           let covered : Covers (w.arrays n) spent = λ y alive. step.spent n y made (covers y alive) in
@@ -211,12 +211,12 @@ settles_more v w f a b c m xs ys few before call syncs adds unmarked =
           elim (cases_eq n m) [
             | inl same ↦
                 let goal : IsSettled (shape_of (f m)) m c.held =
-                subst (λ k. IsSettled (shape_of (f m)) k c.held) call.seated.number
+                subst (λ k. IsSettled (shape_of (f m)) k c.held) call.views.seated.number
                 ((syncs w.state mid.durable vals spent (subst (λ k. Covers (f k) spent) same covers)).settled
                 (subst (λ k. Holds w.state mid.durable (w.arrays k) vals spent b) same mid.stood.holds)) in
                 subst (λ k. IsSettled (shape_of (f k)) k c.held) (sym same) goal
             | inr other ↦
-                subst (λ (u : View). IsSettled (shape_of u) n c.held) (sym (call.others n other))
+                subst (λ (u : View). IsSettled (shape_of u) n c.held) (sym (call.views.others n other))
                 (settled_later w b c n vals spent before.moves.set.lasting call.reads mid
                 (before.settled n vals spent (omega (arith, low, other)) joined earlier covered amid))
           ];

@@ -1,5 +1,4 @@
 -- A sync of one array, and the mending of losses after it.
-use Rattle.std.specs.Prelude.{Result, Ok, Err, IfErr, is_ok}
 use Rattle.std.proofs.Common.{◌≡◌, ℕ, ◌+◌, ◌<◌, Bool, true, false, List, [], set, length, get_or, refl, sym, ap, subst, ◌∙◌, inl, inr, arith}
 use Rattle.std.proofs.lemmas.Bool.{cases_Bool, both_ways}
 use Rattle.arrayvec.specs.ArrayVec.{ArrayVec}
@@ -17,7 +16,6 @@ use Rattle.array_model.specs.Members.{HasSlices, Notes}
 use Rattle.array_model.specs.ArrayCalls.{Covers, ReadsArray, SyncsArray}
 use Rattle.array_model.proofs.Keeping.{settled_kept}
 use Rattle.raid_rack.specs.declared.arrays.Arrays.{Arrays}
-use Rattle.array_core.specs.declared.Spent.{Spent}
 use Rattle.raid_rack.specs.Raid.{is_over}
 use Rattle.raid_rack.specs.Moves.{IsAmid, Moves, Mends, ReadsValue, SyncsOne}
 use Rattle.raid_rack.specs.RaidRack.{IsRunning, raid_by, no_array}
@@ -57,7 +55,7 @@ has_synced a all x y n old u running low old_is all_is syncs reads notes =
       moves = step;
       running = record { count = ap length all_is ∙ length_set a.all.items n u ∙ running.count; set = step.set };
       settled = λ vals spent joined goes covers amid.
-          subst (λ k. IsSettled (shape_of (f n)) k y.held) call.seated.number
+          subst (λ k. IsSettled (shape_of (f n)) k y.held) call.views.seated.number
           ((synced a.state amid.durable vals spent covers).settled amid.stood.holds);
     }
 
@@ -115,21 +113,15 @@ has_read a all x y n sector into old u running low old_is all_is reads_one reads
       value = λ vals spent covers alive amid. (seen a.state amid.durable vals spent covers).value amid.stood.holds alive;
     }
 
-pub reads_value : (a b c : Arrays) (x y z : Seen) (n sector : ℕ) (into : List ℕ) (found : Bool) → n < a.state.made → HasRead a b x y n sector into → b.state ≡ a.state
+pub reads_value : (a b c : Arrays) (x y z : Seen) (n sector : ℕ) (into : List ℕ) → n < a.state.made → HasRead a b x y n sector into → b.state ≡ a.state
     → Mends (raid_by b) (raid_by c) y z
-    → (found ≡ false → spent_in ((raid_by b).arrays n) sector ≡ true)
-    → ReadsValue (raid_by a) (raid_by c) x z n sector into found
-reads_value a b c x y z n sector into found low read same mends refused =
+    → ReadsValue (raid_by a) (raid_by c) x z n sector into
+reads_value a b c x y z n sector into low read same mends =
     let made : n < b.state.made = subst (λ (s : State). n < s.made) (sym same) low in
     record {
       moves = moves_then (raid_by a) (raid_by b) (raid_by c) x y z read.moves mends.moves;
       heeded = mends.heeded;
       value = λ vals spent joined goes covers alive amid. read.value vals spent (λ s unspent. mends.moves.spent n s made (covers s unspent)) alive amid;
-      refused = λ none.
-          elim (cases_Bool (spent_in ((raid_by c).arrays n) sector)) [
-            | inl is ↦ is
-            | inr alive ↦ absurd (both_ways (spent_in ((raid_by b).arrays n) sector) (mends.moves.spent n sector made alive) (refused none))
-          ];
     }
 
 -- a read writes nothing
@@ -139,14 +131,3 @@ pub read_only : (old u : View) (x y : Seen) (sector : ℕ) (into : List ℕ) (s 
 read_only old u x y sector into s reads =
     let one = reads s (shape_of old) (λ k. only []) (λ k. true) (λ k alive. absurd (both_ways true alive refl)) in
     record { stays = one.acts.stays; keeps = one.keeps }
-
--- an answer that isn't one is a refusal
-pub refused_by : {X E : Type 0} (r : Result X E) (found : Bool) (P : E → Type 0) (Q : Type 0) → found ≡ is_ok r → IfErr r P → ((e : E) → P e → Q) → found ≡ false → Q
-refused_by (Ok v) found P Q is refused of none = absurd (both_ways found none is)
-refused_by (Err e) found P Q is refused of none = of e refused
-
-pub refused_own : {X : Type 0} (r : Result X Spent) (found : Bool) (u w : View) (sector : ℕ) → found ≡ is_ok r
-    → IfErr r (λ e. (e.sector ≡ sector) × (spent_in u sector ≡ true)) → w ≡ u → found ≡ false → spent_in w sector ≡ true
-refused_own r found u w sector is refused same =
-    refused_by r found (λ e. (e.sector ≡ sector) × (spent_in u sector ≡ true)) (spent_in w sector ≡ true) is refused
-    (λ e both. ap (λ (z : View). spent_in z sector) same ∙ both.1)

@@ -24,7 +24,7 @@ use Rattle.raid_rack.proofs.Committed.{valid_marked, after_marked, seated_marked
 
 -- ---- who went newly
 
-any_index : {X : Type 0} (f : X → Bool) (xs : List X) (d : X) → list_any f xs ≡ true → (n : ℕ) × (n < length xs) × (f (get_or xs n d) ≡ true)
+pub any_index : {X : Type 0} (f : X → Bool) (xs : List X) (d : X) → list_any f xs ≡ true → (n : ℕ) × (n < length xs) × (f (get_or xs n d) ≡ true)
 any_index f [] d is = absurd (both_ways false refl is)
 any_index f (x ∷ xs) d is =
     elim (cases_Bool (f x)) [
@@ -35,7 +35,7 @@ any_index f (x ∷ xs) d is =
           (suc rest.0, omega (arith, low), rest.2)
     ]
 
-index_any : {X : Type 0} (f : X → Bool) (xs : List X) (d : X) (n : ℕ) → n < length xs → f (get_or xs n d) ≡ true → list_any f xs ≡ true
+pub index_any : {X : Type 0} (f : X → Bool) (xs : List X) (d : X) (n : ℕ) → n < length xs → f (get_or xs n d) ≡ true → list_any f xs ≡ true
 index_any f [] d n low is = absurd (omega (arith, low))
 index_any f (x ∷ xs) d zero low is = ap (λ b. b || list_any f xs) is
 index_any f (x ∷ xs) d (suc n) low is = or_last (f x) (list_any f xs) (index_any f xs d n (omega (arith, low)) is)
@@ -138,8 +138,9 @@ pub moves_emptied : (v : Raid) (lost : List ℕ) (x : Seen) → IsSet v x
     → ((p : ℕ) → names lost p ≡ (is_current v.state p && gone_in v p))
     → ((n p : ℕ) → n < v.state.made → names lost p ≡ true → went_in (v.arrays n) p ≡ true)
     → ((p : ℕ) → is_current (state_after v lost) p ≡ false)
+    → ((n : ℕ) → n < v.state.made → (v.arrays n).marked ≡ false)
     → Moves v (record v { state = state_after v lost }) x x
-moves_emptied v lost x set lost_is noted nobody =
+moves_emptied v lost x set lost_is noted nobody unmarked =
     let w : Raid = record v { state = state_after v lost } in
     let none : (p : ℕ) → is_left w p ≡ false = λ p. ap (λ b. b && not (gone_in w p)) (nobody p) in
     let over : (n : ℕ) → is_over w n ≡ false → ⊥ = λ n goes.
@@ -156,11 +157,12 @@ moves_emptied v lost x set lost_is noted nobody =
         valid = λ p low. valid_marked lost v.state p (set.valid p (subst (λ k. p < k) (length_marked lost 0 v.state.drives.items) low));
         logs = λ p current. absurd (both_ways (is_current (state_after v lost) p) (nobody p) current);
         arrays = λ n low. seated_marked v.state lost n (v.arrays n) x (λ p is. noted n p low is) (set.arrays n low);
+        marked = λ n low is. absurd (both_ways (v.arrays n).marked (unmarked n low) is);
+        plain = set.plain;
       };
       book = after_marked lost v.state;
       leaves = λ traced. leaves_same x (λ c. Unit {0});
       number = omega arith;
-      refused = λ n. refl;
       sectors = λ n. refl;
       left = λ p is. absurd (both_ways (is_left w p) (none p) is);
       cause = λ p was now.

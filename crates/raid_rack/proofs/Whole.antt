@@ -1,17 +1,64 @@
 -- A whole call, from what it does to each array.
-use Rattle.std.proofs.Common.{◌≡◌, ℕ, ◌<◌, ◌≤◌, false, sym, subst}
+use Rattle.std.proofs.Common.{◌≡◌, ℕ, ◌<◌, ◌≤◌, Bool, true, false, [], refl, sym, ap, subst, ◌∙◌, inl, inr}
+use Rattle.std.proofs.lemmas.Bool.{cases_Bool, cases_lt, both_ways}
 use Rattle.rack.specs.Values.{Values, Keeps}
 use Rattle.rack.specs.Seen.{Held, Seen}
 use Rattle.rack.specs.Moments.{Leaves}
-use Rattle.array_image.specs.Arrays.{replayed}
+use Rattle.array_image.specs.Arrays.{Shape, replayed}
 use Rattle.array_image.specs.Held.{held_by}
-use Rattle.array_model.specs.View.{shape_of}
+use Rattle.array_image.specs.States.{is_current}
+use Rattle.array_model.specs.View.{View, has_gone, is_whole_array, shape_of, spent_in}
 use Rattle.array_model.specs.Says.{Holds}
-use Rattle.raid_rack.specs.Raid.{Raid, is_over, spent_of, held_in, Stood, IsTold}
+use Rattle.array_core.specs.Seats.{names}
+use Rattle.raid_rack.specs.Raid.{Raid, gone_in, is_over, live_of, spent_of, held_in, Stood, StopsInside, IsTold}
 use Rattle.raid_rack.specs.Acts.{RaidStays, RaidActs}
-use Rattle.raid_rack.specs.Marking.{Part}
-use Rattle.raid_rack.proofs.Own.{live_parts, between_value}
-use Rattle.raid_rack.proofs.Told.{IsSourced, own_holds, own_keeps, fewer_stood}
+use Rattle.raid_rack.specs.Moves.{IsAmid, IsHeeded, IsMarkedWhole, IsSet, Brings, PartOf}
+use Rattle.raid_rack.proofs.Noted.{gone_some}
+use Rattle.raid_rack.proofs.Over.{or_from}
+use Rattle.raid_rack.specs.Laws.{live_parts}
+use Rattle.raid_rack.proofs.Own.{between_value}
+use Rattle.raid_rack.proofs.Sourced.{sourced}
+use Rattle.raid_rack.proofs.Told.{own_holds, own_keeps, fewer_stood}
+
+-- ---- between calls
+
+pub heeded_gone : (v : Raid) → IsHeeded v → (p : ℕ) → gone_in v p ≡ false
+heeded_gone v heeded p =
+    elim (cases_Bool (gone_in v p)) [
+      | inl is ↦
+          let at = gone_some v p is in
+          absurd (both_ways (has_gone (v.arrays at.1.0) p) (ap (λ ps. names ps p) (heeded at.1.0 at.1.1)) at.1.2)
+      | inr none ↦ none
+    ]
+
+-- so an array that this run has marked is whole
+pub heeded_whole : (v : Raid) (n : ℕ) → IsHeeded v → IsMarkedWhole v n → (v.arrays n).marked ≡ true → is_whole_array (v.arrays n) ≡ true
+heeded_whole v n heeded whole marked =
+    elim (whole marked) [
+      | inl all ↦ all
+      | inr some ↦ absurd (both_ways (gone_in v some.0) (heeded_gone v heeded some.0) some.2)
+    ]
+
+-- an array between calls, as one at some point of a call
+pub told_amid : (v : Raid) (x : Seen) (n : ℕ) (spent : ℕ → Bool) → IsHeeded v → IsTold v x n → is_over v n ≡ false
+    → ((y : ℕ) → spent y ≡ false → spent_of v n y ≡ false) → IsAmid v x n (held_in v x n) spent
+told_amid v x n spent heeded told goes fewer =
+    record {
+      durable = shape_of (v.arrays n);
+      stood = subst (λ g. Stood v.state (shape_of (v.arrays n)) (held_in v x n) spent g v x n) (λ i p. sym (heeded_gone v heeded p) i)
+          (fewer_stood v.state (shape_of (v.arrays n)) (held_in v x n) (spent_of v n) spent (λ place. false) v x n fewer (told.stood goes));
+      slices = told.slices goes;
+      marked = λ are. refl;
+    }
+
+-- and the other way round, by its own shape
+amid_stood : (v : Raid) (x : Seen) (n : ℕ) (vals : ℕ → Values) (spent : ℕ → Bool) → IsHeeded v → IsAmid v x n vals spent
+    → Stood v.state (shape_of (v.arrays n)) vals spent (λ place. false) v x n
+amid_stood v x n vals spent heeded amid =
+    subst (λ g. Stood v.state (shape_of (v.arrays n)) vals spent g v x n) (λ i p. heeded_gone v heeded p i)
+    (subst (λ (shape : Shape). Stood v.state shape vals spent (gone_in v) v x n) (amid.marked (λ p current. heeded_gone v heeded p)) amid.stood)
+
+-- ---- a whole call
 
 -- what it does to the arrays that are ready for the volume, where the pool isn't at its end after it
 pub record IsWholeCall (v w : Raid) (a b : Seen) (vals : Held) : Type 0 where
@@ -19,62 +66,98 @@ pub record IsWholeCall (v w : Raid) (a b : Seen) (vals : Held) : Type 0 where
   pub leaves : a.traced → Leaves a b (λ c. Unit {0})
   pub still : (n : ℕ) → is_over w n ≡ false → is_over v n ≡ false
   pub joined : w.state.joined ≡ v.state.joined
-  pub parts :
-      (n : ℕ) → n < v.state.joined → is_over w n ≡ false
-      → Part v.state w.state (shape_of (v.arrays n)) (shape_of (w.arrays n)) (held_in v a n) (vals n) (spent_of w n) (λ place. false) (λ place. false) v w a b n
-  pub sourced : (n : ℕ) → n < v.state.joined → is_over w n ≡ false → IsSourced (w.arrays n) (spent_of w n) b
+  pub low : (n : ℕ) → is_over w n ≡ false → n < w.state.made
+  pub before : IsHeeded v
+  pub after : IsHeeded w
+  pub set : IsSet w b
+  pub parts : (n : ℕ) → n < v.state.joined → is_over w n ≡ false → PartOf v w a b n (held_in v a n) (vals n) (spent_of w n)
 
--- what an array that was told stands for after it
-after_stood : (v w : Raid) (a b : Seen) (vals : Held) (n : ℕ) → IsWholeCall v w a b vals → IsTold v a n → is_over w n ≡ false
-    → Stood w.state (shape_of (w.arrays n)) (vals n) (spent_of w n) (λ place. false) w b n
-after_stood v w a b vals n call told goes =
-    (call.parts n told.joined goes).holds
-    (fewer_stood v.state (shape_of (v.arrays n)) (held_in v a n) (spent_of v n) (spent_of w n) (λ place. false) v a n
-    (λ y alive. call.stays.spent n y alive) (told.stood (call.still n goes)))
+module _ (v w : Raid) (a b : Seen) (vals : Held) (call : IsWholeCall v w a b vals) where
+  -- what an array that was told stands for before it and after it
+  pub before_amid : (n : ℕ) → IsTold v a n → is_over w n ≡ false → IsAmid v a n (held_in v a n) (spent_of w n)
+  before_amid n told goes = told_amid v a n (spent_of w n) call.before told (call.still n goes) (λ y alive. call.stays.spent n y alive)
 
--- the same, with what its sectors hold
-own_stood : (w : Raid) (b : Seen) (vals : ℕ → Values) (n : ℕ) → IsSourced (w.arrays n) (spent_of w n) b
-    → Stood w.state (shape_of (w.arrays n)) vals (spent_of w n) (λ place. false) w b n
-    → Stood w.state (shape_of (w.arrays n)) (held_in w b n) (spent_of w n) (λ place. false) w b n
-own_stood w b vals n sourced stood =
+  after_amid : (n : ℕ) → IsTold v a n → is_over w n ≡ false → IsAmid w b n (vals n) (spent_of w n)
+  after_amid n told goes = (call.parts n told.joined goes).holds (before_amid n told goes)
+
+  after_stood : (n : ℕ) → IsTold v a n → is_over w n ≡ false → Stood w.state (shape_of (w.arrays n)) (vals n) (spent_of w n) (λ place. false) w b n
+  after_stood n told goes = amid_stood w b n (vals n) (spent_of w n) call.after (after_amid n told goes)
+
+  -- the same, with what its sectors hold
+  own_stood : (n : ℕ) → IsTold v a n → is_over w n ≡ false
+      → Stood w.state (shape_of (w.arrays n)) (held_in w b n) (spent_of w n) (λ place. false) w b n
+  own_stood n told goes =
+      let stood = after_stood n told goes in
+      let low = call.low n goes in
+      let source = sourced (w.arrays n) (spent_of w n) b (call.set.arrays n low).is_array (heeded_whole w n call.after (call.set.marked n low))
+      (λ y alive. (live_parts w n y alive).1) stood.holds.shape.settled in
+      record {
+        joined = stood.joined;
+        few = stood.few;
+        number = stood.number;
+        log = stood.log;
+        someone = stood.someone;
+        holds = subst (λ k. Holds w.state (shape_of (w.arrays n)) (w.arrays n) (held_by (shape_of (w.arrays n)) b.held k) (spent_of w n) b) stood.number
+            (own_holds w.state (w.arrays n) (vals n) (spent_of w n) b source stood.holds);
+      }
+
+  pub raid_acts : RaidActs v w a b vals
+  raid_acts =
+      record {
+        stays = call.stays;
+        told = λ n told.
+            record {
+              joined = subst (λ k. n < k) (sym call.joined) told.joined;
+              stood = λ goes. own_stood n told goes;
+              slices = λ goes. (after_amid n told goes).slices;
+            };
+        leaves = λ traced.
+            let all = call.leaves traced in
+            record {
+              later = all.later;
+              kept = all.kept;
+              past = all.past;
+              new = λ k c after until stopped n y told alive.
+                  let goes = (live_parts w n y alive).0 in
+                  between_value v.state w.state n (vals n) (spent_of w n) (replayed a.sectors c) y
+                  (((call.parts n told.joined goes).leaves traced).new k c after until stopped
+                  (λ d t out. call.stays.inside k c stopped d t (subst (λ i. i ≤ t) (sym (call.stays.below.sectors d)) out))
+                  (before_amid n told goes))
+                  alive;
+            };
+        held = λ n y told alive.
+            let stood = after_stood n told (live_parts w n y alive).0 in
+            subst (λ k. Keeps (vals n y) (held_by (shape_of (w.arrays n)) b.held k y)) stood.number
+            (own_keeps w.state (w.arrays n) (vals n) (spent_of w n) b y stood.holds.shape alive);
+      }
+
+-- a call that may write
+pub brings_whole : (v w : Raid) (a b : Seen) (now : ℕ → (ℕ → Values) → ℕ → Values) → Brings v w a b now → IsHeeded v → IsHeeded w → StopsInside b
+    → ((n : ℕ) → w.state.made ≤ n → is_over w n ≡ true) → IsWholeCall v w a b (λ n. now n (held_in v a n))
+brings_whole v w a b now brings before after inside none =
     record {
-      joined = stood.joined;
-      few = stood.few;
-      number = stood.number;
-      log = stood.log;
-      someone = stood.someone;
-      holds = subst (λ k. Holds w.state (shape_of (w.arrays n)) (w.arrays n) (held_by (shape_of (w.arrays n)) b.held k) (spent_of w n) b) stood.number
-          (own_holds w.state (w.arrays n) vals (spent_of w n) b sourced stood.holds);
+      stays = record {
+        below = brings.stays;
+        lasting = brings.set.lasting;
+        inside = inside;
+        made = brings.book.same.made;
+        sectors = brings.sectors;
+        spent = λ n y alive.
+            let parts = live_parts w n y alive in
+            or_from (is_over v n) (spent_in (v.arrays n) y) (brings.still n (low n parts.0) parts.0) (brings.spent n y (low n parts.0) parts.1);
+      };
+      leaves = brings.leaves;
+      still = λ n goes. brings.still n (low n goes) goes;
+      joined = brings.book.same.joined;
+      low = λ n goes. subst (λ k. n < k) (sym brings.book.same.made) (low n goes);
+      before = before;
+      after = after;
+      set = brings.set;
+      parts = λ n joined goes. brings.parts n (held_in v a n) (spent_of w n) joined (low n goes) goes (λ y alive. (live_parts w n y alive).1);
     }
-
-pub raid_acts : (v w : Raid) (a b : Seen) (vals : Held) → IsWholeCall v w a b vals → RaidActs v w a b vals
-raid_acts v w a b vals call =
-    record {
-      stays = call.stays;
-      told = λ n told.
-          record {
-            joined = subst (λ k. n < k) (sym call.joined) told.joined;
-            stood = λ goes. own_stood w b (vals n) n (call.sourced n told.joined goes) (after_stood v w a b vals n call told goes);
-          };
-      leaves = λ traced.
-          let all = call.leaves traced in
-          record {
-            later = all.later;
-            kept = all.kept;
-            past = all.past;
-            new = λ k c after until stopped n y told alive.
-                let goes = (live_parts w n y alive).0 in
-                let part = call.parts n told.joined goes in
-                between_value v.state w.state n (vals n) (spent_of w n) (replayed a.sectors c) y
-                ((part.leaves traced).new k c after until stopped
-                (λ d t out. call.stays.inside k c stopped d t (subst (λ i. i ≤ t) (sym (call.stays.below.sectors d)) out))
-                (fewer_stood v.state (shape_of (v.arrays n)) (held_in v a n) (spent_of v n) (spent_of w n) (λ place. false) v a n
-                (λ z unspent. call.stays.spent n z unspent) (told.stood (call.still n goes))))
-                alive;
-          };
-      held = λ n y told alive.
-          let goes = (live_parts w n y alive).0 in
-          let stood = after_stood v w a b vals n call told goes in
-          subst (λ k. Keeps (vals n y) (held_by (shape_of (w.arrays n)) b.held k y)) stood.number
-          (own_keeps w.state (w.arrays n) (vals n) (spent_of w n) b y stood.holds.shape alive);
-    }
+  where
+    low : (n : ℕ) → is_over w n ≡ false → n < v.state.made
+    low n goes = elim (cases_lt n w.state.made) [
+      | inl below ↦ subst (λ k. n < k) brings.book.same.made below
+      | inr past ↦ absurd (both_ways (is_over w n) goes (none n past))
+    ]

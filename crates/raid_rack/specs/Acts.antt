@@ -1,5 +1,5 @@
 -- What a whole call of a rack of arrays does.
-use Rattle.std.specs.Prelude.{◌≡◌, ℕ, ◌≤◌}
+use Rattle.std.specs.Prelude.{◌≡◌, ℕ}
 use Rattle.rack.specs.Values.{MayLeave, Keeps}
 use Rattle.rack.specs.Seen.{Image, Held, Seen, Stays}
 use Rattle.rack.specs.Moments.{Leaves}
@@ -14,7 +14,6 @@ pub record RaidStays (v w : Raid) (a b : Seen) : Type 0 where
   pub inside : StopsInside b
   pub made : w.state.made ≡ v.state.made
   pub sectors : (n : ℕ) → sectors_of (w.arrays n) ≡ sectors_of (v.arrays n)
-  pub refused : (n : ℕ) → v.refused n ≤ w.refused n
   pub spent : (n y : ℕ) → live_of w n y → live_of v n y
 
 -- each array that was told gives in replayed contents one of these values, in each sector that isn't spent in the end

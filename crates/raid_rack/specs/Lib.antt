@@ -7,3 +7,4 @@ pub mod Losses
 pub mod Moves
 pub mod Settling
 pub mod RaidRack
+pub mod Laws

@@ -1,6 +1,6 @@
 -- Parts of a call of a rack of arrays: what they keep and change, whatever the rack below tells, and what they do to each array
 -- that stands.
-use Rattle.std.specs.Prelude.{◌≡◌, ℕ, ◌<◌, ◌≤◌, ◌^◌, [], Bool, true, false, ◌&&◌, not, nat_lt, if◌then◌else◌, is_ok, List, length, slice_get, Some, option_map}
+use Rattle.std.specs.Prelude.{◌≡◌, ◌⊎◌, ℕ, ◌<◌, ◌≤◌, ◌^◌, [], Bool, true, false, ◌==◌, ◌&&◌, not, nat_lt, if◌then◌else◌, is_ok, List, length, slice_get, Some, option_map}
 use Rattle.rack.specs.Values.{Values, Keeps}
 use Rattle.rack.specs.Seen.{Seen, IsLive, Stays}
 use Rattle.rack.specs.Moments.{Leaves}
@@ -9,18 +9,18 @@ use Rattle.pool_state.specs.Valid.{is_valid}
 use Rattle.pool_state.specs.declared.contents.State.{State}
 use Rattle.array_image.specs.Places.{log_slice, log_sectors, slice_of, super_sector, array_id}
 use Rattle.array_image.specs.States.{is_current}
-use Rattle.array_image.specs.Supers.{has_roles, has_whole_row}
+use Rattle.array_image.specs.Supers.{has_roles, has_whole_row, is_reshaping}
 use Rattle.array_image.specs.SoundArray.{IsWrittenSuper, first_unsynced}
 use Rattle.array_image.specs.Arrays.{Member, Shape, replayed}
 use Rattle.array_image.specs.Held.{Among, IsSettled}
 use Rattle.array_image.specs.Left.{IsInside}
-use Rattle.array_model.specs.View.{View, IsArray, HasFault, has_gone, is_missing_seat, place_at, sectors_of, shape_of, spent_in}
+use Rattle.array_model.specs.View.{View, IsArray, HasFault, has_gone, is_missing_seat, is_whole_array, place_at, sectors_of, shape_of, spent_in}
 use Rattle.array_model.specs.declared.Seat.TheVariants.{Missing}
 use Rattle.array_model.specs.Members.{HasSlices, slice_on}
-use Rattle.array_model.specs.ArrayCalls.{Covers}
+use Rattle.array_model.specs.ArrayCalls.{Covers, appended_at}
 use Rattle.array_core.specs.Staging.{HasRowRebuilds}
 use Rattle.array_core.specs.Seats.{gone}
-use Rattle.raid_rack.specs.Raid.{Raid, gone_in, is_left, is_over, Stood}
+use Rattle.raid_rack.specs.Raid.{Raid, AreLive, gone_in, is_left, is_over, Stood}
 use Rattle.raid_rack.specs.Book.{IsAfter}
 use Rattle.raid_rack.specs.Marking.{SaysBetween}
 
@@ -49,6 +49,12 @@ pub record IsSeated (s : State) (n : ℕ) (v : View) (x : Seen) : Type 0 where
       → option_map is_missing_seat (slice_get v.seats k) ≡ Some (not (is_current s (place_at v k) && not (has_gone v (place_at v k))))
   pub is_of_pool : IsOfPool s v
 
+-- an array that this run has marked is whole, or a drive has gone that isn't marked yet
+abbrev pub IsMarkedWhole : Raid → ℕ → Type 0
+IsMarkedWhole v n =
+    (v.arrays n).marked ≡ true
+    → (is_whole_array (v.arrays n) ≡ true) ⊎ ((place : ℕ) × (is_current v.state place ≡ true) × (gone_in v place ≡ true))
+
 -- the arrays of a pool over its slices
 pub record IsSet (v : Raid) (x : Seen) : Type 0 where
   pub fit : x.fit
@@ -59,6 +65,13 @@ pub record IsSet (v : Raid) (x : Seen) : Type 0 where
   pub valid : (place : ℕ) → place < length v.state.drives.items → is_valid v.state place ≡ true
   pub logs : (place : ℕ) → is_current v.state place ≡ true → x.sectors (log_slice place) ≡ log_sectors
   pub arrays : (n : ℕ) → n < v.state.made → IsSeated v.state n (v.arrays n) x
+  pub marked : (n : ℕ) → n < v.state.made → IsMarkedWhole v n
+  -- none is being reshaped: rows of such an array aren't written yet
+  pub plain : (n : ℕ) → n < v.state.made → is_reshaping (v.arrays n).truth ≡ false
+
+-- nobody has gone who isn't heeded
+abbrev pub IsHeeded : Raid → Type 0
+IsHeeded v = (n : ℕ) → n < v.state.made → (v.arrays n).went ≡ []
 
 -- whoever went is marked
 abbrev pub AreMarked : Raid → Type 0
@@ -66,17 +79,11 @@ AreMarked v = (place : ℕ) → is_current v.state place ≡ true → gone_in v 
 
 -- ---- what holds of an array that stands
 
--- the superblocks of the members that aren't missing are told
-abbrev pub AreLive : Raid → Seen → Type 0
-AreLive v x =
-    (n k : ℕ) → n < v.state.made → k < (v.arrays n).truth.raid_disks → (slice_get (v.arrays n).seats k ≡ Some Missing → ⊥)
-    → IsLive x x (slice_on (v.arrays n) k) super_sector
-
 -- An array at some point of a call: its sectors hold vals. Where whoever went is marked, images go by its own shape.
 pub record IsAmid (v : Raid) (x : Seen) (n : ℕ) (vals : ℕ → Values) (spent : ℕ → Bool) : Type 0 where
   pub durable : Shape
   pub stood : Stood v.state durable vals spent (gone_in v) v x n
-  pub supers : AreLive v x
+  pub slices : AreLive v.state.made x
   pub marked : AreMarked v → durable ≡ shape_of (v.arrays n)
 
 -- A part of a call, seen from an array: it gives its values at each moment, and stands after it with these.
@@ -93,7 +100,6 @@ pub record Moves (v w : Raid) (a b : Seen) : Type 0 where
   pub book : IsAfter v.state w.state
   pub leaves : a.traced → Leaves a b (λ c. Unit {0})
   pub number : v.number ≤ w.number
-  pub refused : (n : ℕ) → w.refused n ≡ v.refused n
   pub sectors : (n : ℕ) → sectors_of (w.arrays n) ≡ sectors_of (v.arrays n)
   -- whoever isn't left any more has a fault, and what is spent stays so
   pub left : (place : ℕ) → is_left w place ≡ true → is_left v place ≡ true
@@ -112,26 +118,53 @@ pub record Moves (v w : Raid) (a b : Seen) : Type 0 where
 -- Losses are mended: nobody went from then on, and who went is marked.
 pub record Mends (v w : Raid) (a b : Seen) : Type 0 where
   pub moves : Moves v w a b
-  pub heeded : (n : ℕ) → n < w.state.made → (w.arrays n).went ≡ []
+  pub heeded : IsHeeded w
   pub marked : (place : ℕ) → gone_in v place ≡ true → is_current w.state place ≡ false
 
 -- A call of array n that syncs it: losses are mended, and its members have one value a sector.
 pub record SyncsOne (v w : Raid) (a b : Seen) (n : ℕ) : Type 0 where
   pub moves : Moves v w a b
-  pub heeded : (m : ℕ) → m < w.state.made → (w.arrays m).went ≡ []
+  pub heeded : IsHeeded w
   pub settled :
       (vals : ℕ → Values) (spent : ℕ → Bool) → n < v.state.joined → is_over w n ≡ false → Covers (w.arrays n) spent
       → IsAmid v a n vals spent → IsSettled (shape_of (w.arrays n)) n b.held
 
--- A call of array n that reads a sector: losses are mended. Where the sector isn't spent after that, its current value was read;
--- it was refused only where it is.
-pub record ReadsValue (v w : Raid) (a b : Seen) (n sector : ℕ) (into : List ℕ) (found : Bool) : Type 0 where
+-- A call of array n that reads a sector: losses are mended. Where the sector isn't spent after that, its current value was read.
+pub record ReadsValue (v w : Raid) (a b : Seen) (n sector : ℕ) (into : List ℕ) : Type 0 where
   pub moves : Moves v w a b
-  pub heeded : (m : ℕ) → m < w.state.made → (w.arrays m).went ≡ []
+  pub heeded : IsHeeded w
   pub value :
       (vals : ℕ → Values) (spent : ℕ → Bool) → n < v.state.joined → is_over w n ≡ false → Covers (w.arrays n) spent → spent sector ≡ false
       → IsAmid v a n vals spent → into ≡ (vals sector).current
-  pub refused : found ≡ false → spent_in (w.arrays n) sector ≡ true
+
+-- A part of a call that writes: `now` are each array's values after it, by those before.
+pub record Brings (v w : Raid) (a b : Seen) (now : ℕ → (ℕ → Values) → ℕ → Values) : Type 0 where
+  pub stays : Stays a b
+  pub set : IsSet w b
+  pub book : IsAfter v.state w.state
+  pub leaves : a.traced → Leaves a b (λ c. Unit {0})
+  pub sectors : (n : ℕ) → sectors_of (w.arrays n) ≡ sectors_of (v.arrays n)
+  -- what is spent stays so
+  pub still : (n : ℕ) → n < v.state.made → is_over w n ≡ false → is_over v n ≡ false
+  pub spent : (n y : ℕ) → n < v.state.made → spent_in (w.arrays n) y ≡ false → spent_in (v.arrays n) y ≡ false
+  pub parts :
+      (n : ℕ) (vals : ℕ → Values) (spent : ℕ → Bool) → n < v.state.joined → n < v.state.made → is_over w n ≡ false → Covers (w.arrays n) spent
+      → PartOf v w a b n vals (now n vals) spent
+
+-- whoever isn't left any more has a fault
+pub record AreCaused (v w : Raid) (a b : Seen) : Type 0 where
+  pub left : (place : ℕ) → is_left w place ≡ true → is_left v place ≡ true
+  pub cause : (place : ℕ) → is_left v place ≡ true → is_left w place ≡ false → HasFault a b place
+
+-- the values of each array once a sector of array m is written
+abbrev pub written_at : ℕ → ℕ → List ℕ → ℕ → (ℕ → Values) → ℕ → Values
+written_at m sector from n vals = if n == m then appended_at sector from vals else vals
+
+-- A call that writes a sector of array m: losses are mended.
+pub record WritesOne (v w : Raid) (a b : Seen) (m sector : ℕ) (from : List ℕ) : Type 0 where
+  pub brings : Brings v w a b (written_at m sector from)
+  pub caused : AreCaused v w a b
+  pub heeded : IsHeeded w
 
 -- places are noted as lost in each array
 abbrev pub noted_at : List ℕ → Raid → Raid

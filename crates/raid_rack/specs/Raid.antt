@@ -1,10 +1,11 @@
 -- What contracts see of a rack of arrays, and what it shows as a rack.
-use Rattle.std.specs.Prelude.{◌≡◌, ℕ, ◌-◌, ◌<◌, ◌^◌, Bool, true, false, ◌==◌, ◌&&◌, ◌||◌, not, nat_lt}
+use Rattle.std.specs.Prelude.{◌≡◌, ◌⊎◌, ℕ, ◌-◌, ◌<◌, ◌^◌, Bool, true, false, ◌==◌, ◌&&◌, ◌||◌, not, nat_lt}
 use Rattle.std.specs.List.{list_any, range_with_len}
 use Rattle.rack.specs.Values.{Values}
-use Rattle.rack.specs.Seen.{Image, Held, Seen}
+use Rattle.rack.specs.Seen.{Image, Held, Seen, IsLive}
 use Rattle.pool_state.specs.declared.contents.State.{State}
 use Rattle.array_image.specs.Arrays.{Shape, arrays_in, replayed}
+use Rattle.array_image.specs.Places.{member_slice}
 use Rattle.array_image.specs.States.{is_current}
 use Rattle.array_image.specs.Left.{IsInside}
 use Rattle.array_image.specs.Held.{held_by}
@@ -19,8 +20,6 @@ pub record Raid : Type 0 where
   pub arrays : ℕ → View
   -- the number of the log
   pub number : ℕ
-  -- the spent answers of each array so far
-  pub refused : ℕ → ℕ
   -- the arrays that this run has written to
   pub written : ℕ → Bool
 
@@ -76,10 +75,16 @@ pub record Stood (s : State) (durable : Shape) (vals : ℕ → Values) (spent : 
   pub someone : (place : ℕ) × (is_current s place ≡ true) × (gone place ≡ false)
   pub holds : Holds s durable (v.arrays n) vals spent x
 
+-- each sector of the arrays' slices is told
+abbrev pub AreLive : ℕ → Seen → Type 0
+AreLive made x =
+    (n place t : ℕ) → n < made → place < 16 → t < x.sectors (member_slice place n) → IsLive x x (member_slice place n) t
+
 -- an array between calls, where all marks are durable
 pub record IsTold (v : Raid) (x : Seen) (n : ℕ) : Type 0 where
   pub joined : n < v.state.joined
   pub stood : is_over v n ≡ false → Stood v.state (shape_of (v.arrays n)) (held_in v x n) (spent_of v n) (λ place. false) v x n
+  pub slices : is_over v n ≡ false → AreLive v.state.made x
 
 -- ---- as a rack
 
@@ -92,18 +97,19 @@ Stops x k c = (below : Image) × x.stops k below × ((n y : ℕ) → c n y ≡ a
 abbrev pub StopsInside : Seen → Type 0
 StopsInside x = (k : ℕ) (c : Image) → x.stops k c → IsInside x.sectors c
 
-abbrev pub raid_of : Raid → Seen → Seen
-raid_of v x = record {
+-- As a rack, where `fit` holds between calls, and `refused` are the spent answers of each array so far.
+abbrev pub raid_of : Type 0 → (ℕ → ℕ) → Raid → Seen → Seen
+raid_of fit refused v x = record {
   disks = v.state.made;
   sectors = λ n. sectors_of (v.arrays n);
   held = held_in v x;
   clock = x.clock;
   stops = Stops x;
-  faults = v.refused;
+  faults = refused;
   spent = spent_of v;
   lasting = ⊥;
   steady = Unit {0};
-  fit = x.fit × x.lasting;
+  fit = fit;
   told = IsTold v x;
   traced = x.traced;
 }

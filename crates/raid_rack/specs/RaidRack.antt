@@ -1,6 +1,7 @@
 -- A rack of arrays, as contracts see it.
-use Rattle.std.specs.Prelude.{◌≡◌, pos, false, List, [], length, get_or, slice_get, unwrap_or}
-use Rattle.rack.specs.Seen.{Seen}
+use Rattle.std.specs.Prelude.{◌≡◌, ◌⊎◌, ℕ, pos, true, false, List, [], length, get_or, slice_get, unwrap_or}
+use Rattle.rack.specs.Seen.{Seen, Stays}
+use Rattle.rack.specs.Calls.{KeepsAll}
 use Rattle.slice_rack.specs.declared.SliceRack.{SliceRack}
 use Rattle.slice_rack.specs.SliceRack.{tables, below_of}
 use Rattle.slice_rack.specs.Sliced.{slices_of}
@@ -8,8 +9,8 @@ use Rattle.md_super.specs.declared.superblock.Super.{Super}
 use Rattle.array_model.specs.View.{View}
 use Rattle.raid_rack.specs.declared.arrays.RaidRack.{RaidRack}
 use Rattle.raid_rack.specs.declared.arrays.Arrays.{Arrays}
-use Rattle.raid_rack.specs.Raid.{Raid}
-use Rattle.raid_rack.specs.Moves.{IsSet}
+use Rattle.raid_rack.specs.Raid.{Raid, is_left, raid_of}
+use Rattle.raid_rack.specs.Moves.{AreMarked, IsHeeded, IsSet, Moves}
 
 -- a number without an array: nothing is said of it
 abbrev pub no_super : Super
@@ -49,7 +50,6 @@ raid_by a = record {
   state = a.state;
   arrays = λ n. get_or a.all.items n no_array;
   number = a.log.number;
-  refused = λ n. unwrap_or (slice_get a.refused n) 0;
   written = λ n. unwrap_or (slice_get a.written n) false;
 }
 
@@ -69,10 +69,36 @@ pub record IsRunning (a : Arrays) (x : Seen) : Type 0 where
   pub count : length a.all.items ≡ a.state.made
   pub set : IsSet (raid_by a) x
 
+-- One turn of the marking of losses: whoever went is marked, or somebody isn't left any more.
+pub record EndsTurn (a b : Arrays) (x y : Seen) : Type 0 where
+  pub moves : Moves (raid_by a) (raid_by b) x y
+  pub progress :
+      AreMarked (raid_by b) ⊎ ((place : ℕ) × (is_left (raid_by a) place ≡ true) × (is_left (raid_by b) place ≡ false))
+  pub running : IsRunning b y
+
 -- the arrays of a rack of arrays, with their state and log
 abbrev pub arrays_in : {R : Type 0} → RaidRack R → Arrays
 arrays_in rack = rack.arrays
 
+-- the spent answers of each array so far
+abbrev pub refused_in : {R : Type 0} → RaidRack R → ℕ → ℕ
+refused_in rack n = unwrap_or (slice_get rack.refused n) 0
+
 -- what its slices show
 abbrev pub slices_seen : {R : Type 0} → (R → Seen) → RaidRack R → Seen
 slices_seen seen rack = slices_of (tables (slices_in rack)) (seen (below_of (slices_in rack)))
+
+-- The arrays of a pool between calls: nobody went who isn't heeded.
+pub record IsFit (a : Arrays) (x : Seen) : Type 0 where
+  pub running : IsRunning a x
+  pub heeded : IsHeeded (raid_by a)
+
+-- what a rack of arrays shows
+abbrev pub raid_seen : {R : Type 0} → (R → Seen) → RaidRack R → Seen
+raid_seen seen rack =
+    raid_of (IsFit (arrays_in rack) (slices_seen seen rack)) (refused_in rack) (raid_in rack) (slices_seen seen rack)
+
+-- As a rack, it stays, and no value comes or goes: what it tells, it tells after the call.
+pub record KeepsRack (a b : Seen) : Type 0 where
+  pub stays : Stays a b
+  pub keeps : KeepsAll a b

@@ -17,8 +17,6 @@ pub(crate) struct Arrays {
     /// By number.
     pub(crate) all: ArrayVec<Array, 16>,
     pub(crate) log: Log,
-    /// The spent answers of each array so far.
-    pub(crate) refused: [u64; 16],
     /// Which arrays this run has written to.
     pub(crate) written: [bool; 16],
 }
@@ -26,8 +24,10 @@ pub(crate) struct Arrays {
 /// A rack of all arrays of a pool: disk `n` is array `n`.
 #[derive(Drop)]
 pub struct RaidRack<R> {
-    slices: SliceRack<R>,
-    arrays: Arrays,
+    pub(crate) slices: SliceRack<R>,
+    pub(crate) arrays: Arrays,
+    /// The spent answers of each array so far.
+    pub(crate) refused: [u64; 16],
     /// When the pool was opened, in seconds since 1970: the times in superblocks of new arrays.
     seconds: u64,
 }
@@ -44,7 +44,7 @@ impl<R: Rack> RaidRack<R> {
     ghost use Rattle.array_image.specs.States.{is_current};
     ghost use Rattle.raid_rack.specs.Losses.{has_other};
     ghost use Rattle.raid_rack.specs.Moves.{Mends, noted_at};
-    ghost use Rattle.raid_rack.specs.RaidRack.{IsRunning, arrays_in, arrays_of, raid_in, slices_in, slices_seen};
+    ghost use Rattle.raid_rack.specs.RaidRack.{IsFit, KeepsRack, arrays_in, arrays_of, raid_seen, raid_in, refused_in, slices_in, slices_seen};
 
     /// The rack of these arrays, which are those below the state's `made`, by number, over these slices. Nothing is added to the
     /// log, and nothing is pending in it.
@@ -59,7 +59,7 @@ impl<R: Rack> RaidRack<R> {
         ensures state { (raid_in result).state ≡ state }
         ensures arrays { arrays_of result ≡ arrays.items }
         ensures number { (raid_in result).number ≡ log.number }
-        ensures refused { (n : ℕ) → (raid_in result).refused n ≡ 0 }
+        ensures refused { (n : ℕ) → refused_in result n ≡ 0 }
         ensures written { (n : ℕ) → (raid_in result).written n ≡ false }
     {
         RaidRack {
@@ -68,9 +68,9 @@ impl<R: Rack> RaidRack<R> {
                 state,
                 all: arrays,
                 log,
-                refused: [0; 16],
                 written: [false; 16],
             },
+            refused: [0; 16],
             seconds,
         }
     }
@@ -92,13 +92,13 @@ impl<R: Rack> RaidRack<R> {
     /// Loses the drive of a place, which isn't marked missing: its mark is durable when this returns. Refused exactly where no other
     /// drive is left, and then nothing changes.
     pub fn lose(&mut self, place: u32) -> Result<(), LastDrive>
-        requires running { IsRunning (arrays_in self.old) (slices_seen R.seen self.old) }
+        requires fit { IsFit (arrays_in self.old) (slices_seen R.seen self.old) }
         requires place { is_current (raid_in self.old).state place ≡ true }
         ensures served { OnOk result (has_other (raid_in self.old).state place ≡ true) }
         ensures refused { OnErr result (has_other (raid_in self.old).state place ≡ false) }
         ensures kept { OnErr result (self.new ≡ self.old) }
         ensures mends { OnOk result (Mends (noted_at (place ∷ []) (raid_in self.old)) (raid_in self.new) (slices_seen R.seen self.old) (slices_seen R.seen self.new)) }
-        ensures running { IsRunning (arrays_in self.new) (slices_seen R.seen self.new) }
+        ensures keeps { OnOk result (KeepsRack (raid_seen R.seen self.old) (raid_seen R.seen self.new)) }
         ensures runs { R.runs (below_of (slices_in self.old)) (below_of (slices_in self.new)) }
     {
         if !has_other(&self.arrays.state, place) {

@@ -33,9 +33,11 @@
 #![tactic(auto)]
 
 mod arrays;
+mod disks;
 mod losses;
 mod marks;
 mod mending;
+mod spent;
 
 pub use arrays::{LastDrive, RaidRack};
 pub use losses::{add_copies, heed_all, newly_gone, note_gone};

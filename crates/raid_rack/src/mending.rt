@@ -1,11 +1,11 @@
 //! Losses that calls met are marked: all arrays are settled, and one commit writes the marks.
 
-ghost use Rattle.std.specs.Prelude.{◌≡◌, ◌⊎◌, ℕ, ◌<◌, true, false, [], ◌∷◌, length};
-ghost use Rattle.raid_rack.specs.Raid.{is_left};
-ghost use Rattle.raid_rack.specs.Moves.{AreMarked, Mends, Moves, ReadsValue, SyncsOne, noted_at};
+ghost use Rattle.std.specs.Prelude.{◌≡◌, ◌<◌, true, [], ◌∷◌, length};
+ghost use Rattle.array_image.specs.States.{is_current};
+ghost use Rattle.raid_rack.specs.Moves.{AreMarked, Mends, Moves, IsHeeded, ReadsValue, SyncsOne, WritesOne, noted_at};
 ghost use Rattle.array_model.specs.View.{sectors_of};
 ghost use Rattle.raid_rack.specs.Settling.{SettlesTo};
-ghost use Rattle.raid_rack.specs.RaidRack.{IsRunning, raid_by};
+ghost use Rattle.raid_rack.specs.RaidRack.{EndsTurn, IsRunning, raid_by};
 ghost use Rattle.raid_rack.specs.Losses as spec;
 
 use crate::arrays::Arrays;
@@ -39,10 +39,7 @@ impl Arrays {
         requires running { IsRunning self.old (S.seen rack.old) }
         requires lost { lost.now.items ≡ spec.newly_gone self.old.state self.old.all.items }
         requires some { 0 < length lost.now.items }
-        ensures moves { Moves (raid_by self.old) (raid_by self.new) (S.seen rack.old) (S.seen rack.new) }
-        ensures progress { AreMarked (raid_by self.new)
-            ⊎ ((p : ℕ) × (is_left (raid_by self.old) p ≡ true) × (is_left (raid_by self.new) p ≡ false)) }
-        ensures running { IsRunning self.new (S.seen rack.new) }
+        ensures ends { EndsTurn self.old self.new (S.seen rack.old) (S.seen rack.new) }
         ensures runs { S.runs rack.old rack.new }
     {
         note_gone(self.all.as_mut_slice(), lost);
@@ -103,29 +100,53 @@ impl Arrays {
         self.mend(rack);
     }
 
-    /// Reads a sector of an array. Whoever goes is marked. The answer is false where the sector was spent already when it was read.
+    /// Reads a sector of an array. Whoever goes is marked. Whether the sector is spent is known after that, so no answer is given.
     pub(crate) fn read_array<S: Rack>(
         &mut self,
         rack: &mut S,
         number: u32,
         sector: u64,
         into: &mut [u8; 512],
-    ) -> bool
+    )
         requires running { IsRunning self.old (S.seen rack.old) }
         requires number { number < self.old.state.made }
         requires sector { sector < sectors_of ((raid_by self.old).arrays number) }
-        ensures reads { ReadsValue (raid_by self.old) (raid_by self.new) (S.seen rack.old) (S.seen rack.new) number sector into.new result }
+        ensures reads { ReadsValue (raid_by self.old) (raid_by self.new) (S.seen rack.old) (S.seen rack.new) number sector into.new }
         ensures running { IsRunning self.new (S.seen rack.new) }
         ensures runs { S.runs rack.old rack.new }
     {
-        let found = self.all[number as usize].read(rack, sector, into).is_ok();
+        let _ = self.all[number as usize].read(rack, sector, into);
         self.mend(rack);
-        found
+    }
+
+    /// Writes a sector of an array. Whoever goes is marked. Whether the sector is spent is known after that, so no answer is given.
+    pub(crate) fn write_array<S: Rack>(
+        &mut self,
+        rack: &mut S,
+        number: u32,
+        sector: u64,
+        from: &[u8; 512],
+    )
+        requires running { IsRunning self.old (S.seen rack.old) }
+        requires heeded { IsHeeded (raid_by self.old) }
+        requires number { number < self.old.state.made }
+        requires sector { sector < sectors_of ((raid_by self.old).arrays number) }
+        ensures writes { WritesOne (raid_by self.old) (raid_by self.new) (S.seen rack.old) (S.seen rack.new) number sector from.now }
+        ensures running { IsRunning self.new (S.seen rack.new) }
+        ensures runs { S.runs rack.old rack.new }
+    {
+        let on = current_places(&self.state);
+        self.log.clear();
+        let array = &mut self.all[number as usize];
+        let _ = array.write(rack, &mut self.log, &on, sector, from);
+        let _places = array.went();
+        self.mend(rack);
     }
 
     /// Loses the drive of a place, whose member is missing in each array from then on, and marks it.
     pub(crate) fn lose_place<S: Rack>(&mut self, rack: &mut S, place: u32)
         requires running { IsRunning self.old (S.seen rack.old) }
+        requires place { is_current self.old.state place ≡ true }
         ensures mends { Mends (noted_at (place ∷ []) (raid_by self.old)) (raid_by self.new) (S.seen rack.old) (S.seen rack.new) }
         ensures running { IsRunning self.new (S.seen rack.new) }
         ensures runs { S.runs rack.old rack.new }

@@ -1,5 +1,6 @@
 use Rattle.std.proofs.Common.{◌∷◌, [], option_map, slice_get, ap, subst, ◌∙◌}
 use Rattle.arrayvec.specs.ArrayVec.{with_items}
+use Rattle.commit_log.proofs.Deciding.{names_first}
 use Rattle.array_core.specs.Seats.{gone}
 use Rattle.raid_rack.specs.Raid.{Raid}
 use Rattle.raid_rack.specs.Moves.{Mends}
@@ -13,7 +14,10 @@ mend-requires g c =
     let a = c.args.self.now in
     let each = each_items a.all c.as_mut_slice.result.now c.note_gone.new.arrays (gone (c.args.place ∷ [])) c.as_mut_slice.ensures.value
     (λ n. c.note_gone.ensures n ∙ ap (λ ps. option_map (gone ps) (slice_get c.as_mut_slice.result.now n)) c.one_place.ensures) in
-    record { running = dropped_running a (with_items a.all c.note_gone.new.arrays) (c.args.place ∷ []) (g.S.Rack.seen c.args.rack.now) c.requires.running each.0 each.1 }
+    record {
+      running = dropped_running a (with_items a.all c.note_gone.new.arrays) (c.args.place ∷ []) c.args.place (g.S.Rack.seen c.args.rack.now) c.requires.running each.0 each.1
+          (names_first c.args.place []) c.requires.place;
+    }
 
 pub returns-clause-mends : goal.returns-clause-mends
 returns-clause-mends g c =

@@ -21,8 +21,8 @@ settle_all-requires-clause-running g c =
     let noted = has_noted a (with_items a.all c.note_gone.new.arrays) c.clear.new.self lost x turn each.0 each.1 (ap (λ (l : LogView). l.number) c.clear.ensures) in
     noted.running
 
-pub returns-then-ne-clause-moves : goal.returns-then-ne-clause-moves
-returns-then-ne-clause-moves g c =
+pub returns-then-ne-clause-ends : goal.returns-then-ne-clause-ends
+returns-then-ne-clause-ends g c =
     let a = c.args.self.now in
     let lost = c.args.lost.now.items in
     let x = g.S.Rack.seen c.args.rack.now in
@@ -32,31 +32,13 @@ returns-then-ne-clause-moves g c =
     let s = c.settle_all.new.self in
     let y = g.S.Rack.seen c.settle_all.new.rack in
     let gone_is : c.newly_gone-gone.result.items ≡ newly_gone s.state s.all.items = c.newly_gone-gone.ensures ∙ ap (newly_gone s.state) c.as_slice.ensures.value in
-    let ends = ends_early a _ s lost x y turn noted c.settle_all.ensures.settles c.settle_all.ensures.running
+    ends_early a _ s lost x y turn noted c.settle_all.ensures.settles c.settle_all.ensures.running
     (λ same.
     other_text c.as_slice-2.result.now c.as_slice-3.result.now (sym (not_of_true _ (sym c.ne.ensures ∙ c.if-ne.true)))
-    (c.as_slice-2.ensures.value ∙ gone_is ∙ same ∙ sym c.as_slice-3.ensures.value)) in
-    ends.moves
+    (c.as_slice-2.ensures.value ∙ gone_is ∙ same ∙ sym c.as_slice-3.ensures.value))
 
-pub returns-then-ne-clause-progress : goal.returns-then-ne-clause-progress
-returns-then-ne-clause-progress g c =
-    let a = c.args.self.now in
-    let lost = c.args.lost.now.items in
-    let x = g.S.Rack.seen c.args.rack.now in
-    let each = each_items a.all c.as_mut_slice.result.now c.note_gone.new.arrays (without lost) c.as_mut_slice.ensures.value c.note_gone.ensures in
-    let turn : IsTurn a lost x = record { running = c.requires.running; lost_are = c.requires.lost; some = c.requires.some } in
-    let noted = has_noted a (with_items a.all c.note_gone.new.arrays) c.clear.new.self lost x turn each.0 each.1 (ap (λ (l : LogView). l.number) c.clear.ensures) in
-    let s = c.settle_all.new.self in
-    let y = g.S.Rack.seen c.settle_all.new.rack in
-    let gone_is : c.newly_gone-gone.result.items ≡ newly_gone s.state s.all.items = c.newly_gone-gone.ensures ∙ ap (newly_gone s.state) c.as_slice.ensures.value in
-    let ends = ends_early a _ s lost x y turn noted c.settle_all.ensures.settles c.settle_all.ensures.running
-    (λ same.
-    other_text c.as_slice-2.result.now c.as_slice-3.result.now (sym (not_of_true _ (sym c.ne.ensures ∙ c.if-ne.true)))
-    (c.as_slice-2.ensures.value ∙ gone_is ∙ same ∙ sym c.as_slice-3.ensures.value)) in
-    ends.progress
-
-pub returns-then-is_empty-clause-moves : goal.returns-then-is_empty-clause-moves
-returns-then-is_empty-clause-moves g c =
+pub returns-then-is_empty-clause-ends : goal.returns-then-is_empty-clause-ends
+returns-then-is_empty-clause-ends g c =
     let a = c.args.self.now in
     let lost = c.args.lost.now.items in
     let x = g.S.Rack.seen c.args.rack.now in
@@ -72,51 +54,8 @@ returns-then-is_empty-clause-moves g c =
     ∙ c.as_slice-3.ensures.value in
     let t = c.mark_missing.new.state in
     let on = c.current_places-on.result.items in
-    let ends = ends_empty a _ s t lost on x y noted c.settle_all.ensures.settles c.settle_all.ensures.running same c.mark_missing.ensures c.current_places-on.ensures
-    (eqb-true (length on) 0 (sym c.if-is_empty.ensures)) in
-    ends.moves
-
-pub returns-then-is_empty-clause-progress : goal.returns-then-is_empty-clause-progress
-returns-then-is_empty-clause-progress g c =
-    let a = c.args.self.now in
-    let lost = c.args.lost.now.items in
-    let x = g.S.Rack.seen c.args.rack.now in
-    let each = each_items a.all c.as_mut_slice.result.now c.note_gone.new.arrays (without lost) c.as_mut_slice.ensures.value c.note_gone.ensures in
-    let turn : IsTurn a lost x = record { running = c.requires.running; lost_are = c.requires.lost; some = c.requires.some } in
-    let noted = has_noted a (with_items a.all c.note_gone.new.arrays) c.clear.new.self lost x turn each.0 each.1 (ap (λ (l : LogView). l.number) c.clear.ensures) in
-    let s = c.settle_all.new.self in
-    let y = g.S.Rack.seen c.settle_all.new.rack in
-    let gone_is : c.newly_gone-gone.result.items ≡ newly_gone s.state s.all.items = c.newly_gone-gone.ensures ∙ ap (newly_gone s.state) c.as_slice.ensures.value in
-    let same : newly_gone s.state s.all.items ≡ lost =
-    sym gone_is ∙ sym c.as_slice-2.ensures.value
-    ∙ same_text c.as_slice-2.result.now c.as_slice-3.result.now (sym (not_of_false _ (sym c.ne.ensures ∙ c.if-ne.false)))
-    ∙ c.as_slice-3.ensures.value in
-    let t = c.mark_missing.new.state in
-    let on = c.current_places-on.result.items in
-    let ends = ends_empty a _ s t lost on x y noted c.settle_all.ensures.settles c.settle_all.ensures.running same c.mark_missing.ensures c.current_places-on.ensures
-    (eqb-true (length on) 0 (sym c.if-is_empty.ensures)) in
-    ends.progress
-
-pub returns-then-is_empty-clause-running : goal.returns-then-is_empty-clause-running
-returns-then-is_empty-clause-running g c =
-    let a = c.args.self.now in
-    let lost = c.args.lost.now.items in
-    let x = g.S.Rack.seen c.args.rack.now in
-    let each = each_items a.all c.as_mut_slice.result.now c.note_gone.new.arrays (without lost) c.as_mut_slice.ensures.value c.note_gone.ensures in
-    let turn : IsTurn a lost x = record { running = c.requires.running; lost_are = c.requires.lost; some = c.requires.some } in
-    let noted = has_noted a (with_items a.all c.note_gone.new.arrays) c.clear.new.self lost x turn each.0 each.1 (ap (λ (l : LogView). l.number) c.clear.ensures) in
-    let s = c.settle_all.new.self in
-    let y = g.S.Rack.seen c.settle_all.new.rack in
-    let gone_is : c.newly_gone-gone.result.items ≡ newly_gone s.state s.all.items = c.newly_gone-gone.ensures ∙ ap (newly_gone s.state) c.as_slice.ensures.value in
-    let same : newly_gone s.state s.all.items ≡ lost =
-    sym gone_is ∙ sym c.as_slice-2.ensures.value
-    ∙ same_text c.as_slice-2.result.now c.as_slice-3.result.now (sym (not_of_false _ (sym c.ne.ensures ∙ c.if-ne.false)))
-    ∙ c.as_slice-3.ensures.value in
-    let t = c.mark_missing.new.state in
-    let on = c.current_places-on.result.items in
-    let ends = ends_empty a _ s t lost on x y noted c.settle_all.ensures.settles c.settle_all.ensures.running same c.mark_missing.ensures c.current_places-on.ensures
-    (eqb-true (length on) 0 (sym c.if-is_empty.ensures)) in
-    ends.running
+    ends_empty a _ s t lost on x y noted c.settle_all.ensures.settles c.settle_all.ensures.running same c.mark_missing.ensures c.current_places-on.ensures
+    (eqb-true (length on) 0 (sym c.if-is_empty.ensures))
 
 pub add_copies-requires-clause-valid : goal.add_copies-requires-clause-valid
 add_copies-requires-clause-valid g c n place at =
@@ -206,8 +145,8 @@ commit-gone-requires-clause-had g c =
     c.add_copies.ensures.added (ap (λ (m : LogView). m.number) c.add_copies.ensures.log) in
     all_had (raid_by s) lost on l s.log.added y marking
 
-pub returns-clause-moves : goal.returns-clause-moves
-returns-clause-moves g c =
+pub returns-clause-ends : goal.returns-clause-ends
+returns-clause-ends g c =
     let a = c.args.self.now in
     let lost = c.args.lost.now.items in
     let x = g.S.Rack.seen c.args.rack.now in
@@ -227,59 +166,6 @@ returns-clause-moves g c =
     let marking = marking_of a _ s lost on l t x y noted c.settle_all.ensures.settles c.settle_all.ensures.running same c.mark_missing.ensures c.current_places-on.ensures
     c.add_copies.ensures.added (ap (λ (m : LogView). m.number) c.add_copies.ensures.log) in
     let after = each_items s.all c.as_mut_slice-2.result.now c.note_gone-2.new.arrays (without c.commit-gone.result.items) c.as_mut_slice-2.ensures.value c.note_gone-2.ensures in
-    let ends = ends_turn a _ s (with_items s.all c.note_gone-2.new.arrays) c.commit-gone.new.self l t lost on c.commit-gone.result.items x y (g.S.Rack.seen c.commit-gone.new.rack)
+    ends_turn a _ s (with_items s.all c.note_gone-2.new.arrays) c.commit-gone.new.self l t lost on c.commit-gone.result.items x y (g.S.Rack.seen c.commit-gone.new.rack)
     noted c.settle_all.ensures.settles c.settle_all.ensures.running c.mark_missing.ensures marking c.commit-gone.ensures.commits after.0 after.1
-    (ap (λ (m : LogView). m.number) c.commit-gone.ensures.log) in
-    ends.moves
-
-pub returns-clause-progress : goal.returns-clause-progress
-returns-clause-progress g c =
-    let a = c.args.self.now in
-    let lost = c.args.lost.now.items in
-    let x = g.S.Rack.seen c.args.rack.now in
-    let each = each_items a.all c.as_mut_slice.result.now c.note_gone.new.arrays (without lost) c.as_mut_slice.ensures.value c.note_gone.ensures in
-    let turn : IsTurn a lost x = record { running = c.requires.running; lost_are = c.requires.lost; some = c.requires.some } in
-    let noted = has_noted a (with_items a.all c.note_gone.new.arrays) c.clear.new.self lost x turn each.0 each.1 (ap (λ (l : LogView). l.number) c.clear.ensures) in
-    let s = c.settle_all.new.self in
-    let y = g.S.Rack.seen c.settle_all.new.rack in
-    let gone_is : c.newly_gone-gone.result.items ≡ newly_gone s.state s.all.items = c.newly_gone-gone.ensures ∙ ap (newly_gone s.state) c.as_slice.ensures.value in
-    let same : newly_gone s.state s.all.items ≡ lost =
-    sym gone_is ∙ sym c.as_slice-2.ensures.value
-    ∙ same_text c.as_slice-2.result.now c.as_slice-3.result.now (sym (not_of_false _ (sym c.ne.ensures ∙ c.if-ne.false)))
-    ∙ c.as_slice-3.ensures.value in
-    let t = c.mark_missing.new.state in
-    let on = c.current_places-on.result.items in
-    let l = c.add_copies.new.log in
-    let marking = marking_of a _ s lost on l t x y noted c.settle_all.ensures.settles c.settle_all.ensures.running same c.mark_missing.ensures c.current_places-on.ensures
-    c.add_copies.ensures.added (ap (λ (m : LogView). m.number) c.add_copies.ensures.log) in
-    let after = each_items s.all c.as_mut_slice-2.result.now c.note_gone-2.new.arrays (without c.commit-gone.result.items) c.as_mut_slice-2.ensures.value c.note_gone-2.ensures in
-    let ends = ends_turn a _ s (with_items s.all c.note_gone-2.new.arrays) c.commit-gone.new.self l t lost on c.commit-gone.result.items x y (g.S.Rack.seen c.commit-gone.new.rack)
-    noted c.settle_all.ensures.settles c.settle_all.ensures.running c.mark_missing.ensures marking c.commit-gone.ensures.commits after.0 after.1
-    (ap (λ (m : LogView). m.number) c.commit-gone.ensures.log) in
-    ends.progress
-
-pub returns-clause-running : goal.returns-clause-running
-returns-clause-running g c =
-    let a = c.args.self.now in
-    let lost = c.args.lost.now.items in
-    let x = g.S.Rack.seen c.args.rack.now in
-    let each = each_items a.all c.as_mut_slice.result.now c.note_gone.new.arrays (without lost) c.as_mut_slice.ensures.value c.note_gone.ensures in
-    let turn : IsTurn a lost x = record { running = c.requires.running; lost_are = c.requires.lost; some = c.requires.some } in
-    let noted = has_noted a (with_items a.all c.note_gone.new.arrays) c.clear.new.self lost x turn each.0 each.1 (ap (λ (l : LogView). l.number) c.clear.ensures) in
-    let s = c.settle_all.new.self in
-    let y = g.S.Rack.seen c.settle_all.new.rack in
-    let gone_is : c.newly_gone-gone.result.items ≡ newly_gone s.state s.all.items = c.newly_gone-gone.ensures ∙ ap (newly_gone s.state) c.as_slice.ensures.value in
-    let same : newly_gone s.state s.all.items ≡ lost =
-    sym gone_is ∙ sym c.as_slice-2.ensures.value
-    ∙ same_text c.as_slice-2.result.now c.as_slice-3.result.now (sym (not_of_false _ (sym c.ne.ensures ∙ c.if-ne.false)))
-    ∙ c.as_slice-3.ensures.value in
-    let t = c.mark_missing.new.state in
-    let on = c.current_places-on.result.items in
-    let l = c.add_copies.new.log in
-    let marking = marking_of a _ s lost on l t x y noted c.settle_all.ensures.settles c.settle_all.ensures.running same c.mark_missing.ensures c.current_places-on.ensures
-    c.add_copies.ensures.added (ap (λ (m : LogView). m.number) c.add_copies.ensures.log) in
-    let after = each_items s.all c.as_mut_slice-2.result.now c.note_gone-2.new.arrays (without c.commit-gone.result.items) c.as_mut_slice-2.ensures.value c.note_gone-2.ensures in
-    let ends = ends_turn a _ s (with_items s.all c.note_gone-2.new.arrays) c.commit-gone.new.self l t lost on c.commit-gone.result.items x y (g.S.Rack.seen c.commit-gone.new.rack)
-    noted c.settle_all.ensures.settles c.settle_all.ensures.running c.mark_missing.ensures marking c.commit-gone.ensures.commits after.0 after.1
-    (ap (λ (m : LogView). m.number) c.commit-gone.ensures.log) in
-    ends.running
+    (ap (λ (m : LogView). m.number) c.commit-gone.ensures.log)

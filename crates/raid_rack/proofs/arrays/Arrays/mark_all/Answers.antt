@@ -45,12 +45,12 @@ loop-turn-preserved g c =
     let s = c.loop-turn.self in
     record {
       moves = moves_then (raid_by c.args.self.now) (raid_by s) (raid_by c.mark.new.self) (g.S.Rack.seen c.args.rack.now) (g.S.Rack.seen c.loop-turn.rack) (g.S.Rack.seen c.mark.new.rack)
-          inv.moves c.mark.ensures.moves;
-      running = c.mark.ensures.running;
+          inv.moves c.mark.ensures.ends.moves;
+      running = c.mark.ensures.ends.running;
       turns = turns_next s c.mark.new.self c.newly_gone-lost.result.items c.loop-turn._turn (g.S.Rack.seen c.loop-turn.rack) (g.S.Rack.seen c.mark.new.rack) inv.running
           (c.newly_gone-lost.ensures ∙ ap (newly_gone s.state) c.as_slice.ensures.value)
           (some_length c.newly_gone-lost.result.items (sym c.if-is_empty.ensures))
-          c.mark.ensures.moves c.mark.ensures.progress inv.turns;
+          c.mark.ensures.ends.moves c.mark.ensures.ends.progress inv.turns;
       runs = g.met.S.Rack.runs_then _ _ _ inv.runs c.mark.ensures.runs;
     }
 

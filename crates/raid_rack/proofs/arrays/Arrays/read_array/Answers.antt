@@ -2,7 +2,7 @@ use Rattle.std.proofs.Common.{get_or, ap, refl, ◌∙◌, slice_set, arith}
 use Rattle.arrayvec.specs.ArrayVec.{with_items}
 use Rattle.raid_rack.specs.RaidRack.{no_array}
 use Rattle.raid_rack.proofs.Steps.{same_element, items_set, set_own}
-use Rattle.raid_rack.proofs.Synced.{has_read, reads_value, read_only, refused_own}
+use Rattle.raid_rack.proofs.Synced.{has_read, reads_value, read_only}
 use Rattle.raid_rack.proofs.arrays.Arrays.read_array.Goals as goal
 
 pub mend-requires : goal.mend-requires
@@ -30,15 +30,13 @@ returns-clause-reads g c =
     let count = c.requires.running.count in
     let low = c.requires.number in
     let items = items_set a.all c.deref_mut.result.now n c.read.new.self c.deref_mut.ensures.value in
-    reads_value a _ c.mend.new.self x y (g.S.Rack.seen c.mend.new.rack) n c.args.sector c.read.new.into c.is_ok-found.result low
+    reads_value a _ c.mend.new.self x y (g.S.Rack.seen c.mend.new.rack) n c.args.sector c.read.new.into low
     (has_read a (with_items a.all (slice_set c.deref_mut.result.now n c.read.new.self)) x y n c.args.sector c.read.new.into _ c.read.new.self
     c.requires.running low
     (same_element c.deref_mut.result.now a.all.items n _ no_array c.deref_mut.ensures.value (omega (arith, count, low)))
     items
     c.read.ensures.reads (read_only _ c.read.new.self x y c.args.sector c.read.new.into a.state c.read.ensures.reads) c.read.ensures.notes)
     refl c.mend.ensures.mends
-    (refused_own c.read.result c.is_ok-found.result c.read.new.self _ c.args.sector c.is_ok-found.ensures.value c.read.ensures.refused
-    (ap (λ ys. get_or ys n no_array) items ∙ set_own a.all.items n c.read.new.self no_array (omega (arith, count, low))))
 
 pub returns-clause-runs : goal.returns-clause-runs
 returns-clause-runs g c = g.met.S.Rack.runs_then _ _ _ c.read.ensures.runs c.mend.ensures.runs

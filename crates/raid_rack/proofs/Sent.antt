@@ -1,0 +1,122 @@
+-- The code that writes a sector of an array, as a part of a call of all.
+use Rattle.std.proofs.Common.{◌≡◌, ◌⊎◌, ℕ, ◌^◌, ◌<◌, ◌≤◌, Bool, true, false, ◌==◌, ◌&&◌, ◌||◌, nat_lt, List, [], ◌∷◌, set, length, get_or, refl, sym, ap, subst, ◌∙◌, inl, inr, eqb-true, ltb-true, arith}
+use Rattle.std.proofs.lemmas.Bool.{cases_Bool, both_ways, and_parts}
+use Rattle.std.specs.List.{list_any, list_all}
+use Rattle.arrayvec.specs.ArrayVec.{ArrayVec}
+use Rattle.rack.specs.Values.{Values}
+use Rattle.rack.specs.Seen.{Seen, Stays}
+use Rattle.pool_state.specs.declared.contents.State.{State}
+use Rattle.array_image.specs.States.{current_places}
+use Rattle.commit_log.specs.View.{LogView, committed}
+use Rattle.commit_log.specs.Kept.{LogKept}
+use Rattle.array_model.specs.View.{View, has_gone, shape_of}
+use Rattle.array_model.specs.ArrayCalls.{Covers, WritesArray}
+use Rattle.array_core.specs.Pool.{Goes, MayCommit}
+use Rattle.array_core.specs.Superblocks.{raised}
+use Rattle.array_core.specs.Writing.{WritesView, as_it_was, newly_marked}
+use Rattle.raid_rack.specs.declared.arrays.Arrays.{Arrays}
+use Rattle.raid_rack.specs.Raid.{Raid}
+use Rattle.raid_rack.specs.Moves.{AreCaused, Brings, IsHeeded, IsSet, Mends, WritesOne, written_at}
+use Rattle.raid_rack.specs.RaidRack.{IsRunning, raid_by, no_array}
+use Rattle.raid_rack.proofs.Calls.{raised_low, unsynced_by}
+use Rattle.raid_rack.proofs.Changed.{ViewsOne, called, caused, left_before, views_notes}
+use Rattle.raid_rack.proofs.Committed.{next_later}
+use Rattle.raid_rack.proofs.Moving.{brings_then, caused_then}
+use Rattle.raid_rack.proofs.Steps.{set_own, set_other, length_set}
+use Rattle.raid_rack.proofs.Written.{WriteCall, write_brings}
+
+-- what it makes of the array
+views_write : (v : Raid) (f : ℕ → View) (m : ℕ) (a b : Seen) → IsSet v a → m < v.state.made → Stays a b
+    → ((n : ℕ) → (n ≡ m → ⊥) → f n ≡ v.arrays n) → WritesView (v.arrays m) (f m) a b → ViewsOne v f m a b
+views_write v f m a b set low stays others (as_it_was why notes) =
+    let u = v.arrays m in
+    let pool = (set.arrays m low).is_of_pool in
+    views_notes v f m a b u.truth.events u.truth.resync_offset u.marked set low stays others
+    (record { later = omega arith; some = pool.events; few = pool.events_end; whole = pool.written.resync; unsynced = pool.unsynced })
+    (λ marked. inl marked) notes
+views_write v f m a b set low stays others (newly_marked whole fresh unmarked notes) =
+    let u = v.arrays m in
+    let pool = (set.arrays m low).is_of_pool in
+    let events = raised_low u.truth.events pool.events pool.events_end in
+    views_notes v f m a b (raised u.truth.events) 0 (f m).marked set low stays others
+    (record {
+      later = events.0;
+      some = let more = events.0 in let some = pool.events in omega (arith, more, some);
+      few = events.1;
+      whole = inr refl;
+      unsynced = unsynced_by 0 u.truth.size u.resync (λ below. omega arith) (λ above. omega (arith, above));
+    })
+    (λ marked. inr whole) notes
+
+-- places below 16
+low_named : (ps : List ℕ) (p : ℕ) → list_all (λ place. nat_lt place 16) ps ≡ true → list_any (λ q. q == p) ps ≡ true → p < 16
+low_named [] p all is = absurd (both_ways false refl is)
+low_named (q ∷ ps) p all is =
+    let both = and_parts (nat_lt q 16) (list_all (λ place. nat_lt place 16) ps) all in
+    elim (cases_Bool (q == p)) [
+      | inl here ↦ let same = eqb-true q p here in let low = ltb-true q 16 both.0 in omega (arith, same, low)
+      | inr other ↦ low_named ps p both.1 (sym (ap (λ b. b || list_any (λ q. q == p) ps) other) ∙ is)
+    ]
+
+-- what the write of an array says of it, before it and after it
+pub record WroteArray (old u : View) (number late : ℕ) (on : List ℕ) (x y : Seen) (sector : ℕ) (from : List ℕ) : Type 0 where
+  pub writes :
+      (s : State) (vals : ℕ → Values) (spent : ℕ → Bool) → Covers u spent → MayCommit s old u number on x
+      → WritesArray s old u spent x y (shape_of old) vals sector from
+  pub kept : (s : State) → MayCommit s old u number on x → LogKept s late (has_gone u) y
+  pub view : WritesView old u x y
+
+pub record HasWritten (a b : Arrays) (x y : Seen) (n sector : ℕ) (from : List ℕ) : Type 0 where
+  pub brings : Brings (raid_by a) (raid_by b) x y (written_at n sector from)
+  pub caused : AreCaused (raid_by a) (raid_by b) x y
+  pub running : IsRunning b y
+
+pub has_written : (a : Arrays) (all : ArrayVec View) (log : LogView) (x y : Seen) (n sector : ℕ) (from on : List ℕ) (number : ℕ) (old u : View)
+    → IsRunning a x → IsHeeded (raid_by a) → n < a.state.made
+    → old ≡ get_or a.all.items n no_array → all.items ≡ set a.all.items n u → number ≡ a.log.number → number ≤ log.number
+    → on ≡ current_places a.state → list_all (λ place. nat_lt place 16) u.went ≡ true → Goes x y
+    → WroteArray old u number log.number on x y sector from
+    → HasWritten a (record a { all = all; log = log }) x y n sector from
+has_written a all log x y n sector from on number old u running heeded low old_is all_is number_is later on_is few goes wrote =
+    let f : ℕ → View = λ k. get_or all.items k no_array in
+    let v = raid_by a in
+    let own : f n ≡ u = ap (λ ys. get_or ys n no_array) all_is ∙ set_own a.all.items n u no_array (let count = running.count in omega (arith, low, count)) in
+    let others : (k : ℕ) → (k ≡ n → ⊥) → f k ≡ v.arrays k = λ k other. ap (λ ys. get_or ys k no_array) all_is ∙ set_other a.all.items n k u no_array other in
+    let at : WroteArray (v.arrays n) (f n) v.number log.number on x y sector from =
+    subst (λ (z : View). WroteArray z (f n) v.number log.number on x y sector from) old_is
+    (subst (λ (z : View). WroteArray old z v.number log.number on x y sector from) (sym own)
+    (subst (λ k. WroteArray old u k log.number on x y sector from) number_is wrote)) in
+    let call : WriteCall v f log.number n x y on sector from = record {
+      heeded = heeded;
+      views = views_write v f n x y running.set low goes.stays others at.view;
+      goes = goes;
+      later = subst (λ k. k ≤ log.number) number_is later;
+      on_is = on_is;
+      few = λ p is. low_named u.went p few (sym (ap (λ (z : View). has_gone z p) own) ∙ is);
+      writes = λ vals spent covers may. at.writes a.state vals spent covers may;
+      kept = λ may. at.kept a.state may;
+    } in
+    let brings = write_brings v f log.number n x y on sector from running.set call in
+    record {
+      brings = brings;
+      caused = record {
+        left = left_before v f n x y running.set call.views;
+        cause = caused v f n x y running.set call.views;
+      };
+      running = record { count = ap length all_is ∙ length_set a.all.items n u ∙ running.count; set = brings.set };
+    }
+
+-- a write's number is that before it, or the next one
+pub later_number : (before after : LogView) → (after ≡ before) ⊎ (after ≡ committed before) → before.number ≤ after.number
+later_number before after (inl same) = let is = ap (λ (l : LogView). l.number) same in omega (arith, is)
+later_number before after (inr next) = subst (λ (l : LogView). before.number ≤ l.number) (sym next) (next_later before.number)
+
+pub writes_one : (a b c : Arrays) (x y z : Seen) (n sector : ℕ) (from : List ℕ) → HasWritten a b x y n sector from → Mends (raid_by b) (raid_by c) y z
+    → WritesOne (raid_by a) (raid_by c) x z n sector from
+writes_one a b c x y z n sector from wrote mends =
+    record {
+      brings = brings_then (raid_by a) (raid_by b) (raid_by c) x y z (written_at n sector from) wrote.brings mends.moves;
+      caused = caused_then (raid_by a) (raid_by b) (raid_by c) x y z wrote.brings.stays mends.moves.stays wrote.caused
+          (record { left = mends.moves.left; cause = mends.moves.cause });
+      heeded = mends.heeded;
+    }

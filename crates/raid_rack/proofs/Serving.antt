@@ -1,0 +1,149 @@
+-- Calls of a rack of arrays that move no value, as calls of a rack.
+use Rattle.std.specs.Prelude.{Result, OnOk, IfErr}
+use Rattle.std.proofs.lemmas.Bool.{cases_eq, both_ways}
+use Rattle.std.proofs.Common.{◌≡◌, ℕ, ◌+◌, ◌<◌, ◌≤◌, Bool, true, false, ◌==◌, ◌&&◌, nat_lt, List, [], ◌∷◌, Ok, Err, refl, ap, subst, ◌∙◌, inl, inr, le-ltb, lt-ltb, if◌then◌else◌, arith}
+use Rattle.rack.specs.declared.Gone.{Gone}
+use Rattle.rack.specs.Values.{Values, Keeps, append}
+use Rattle.rack.specs.Seen.{Held, Seen, Rose, appended}
+use Rattle.rack.specs.Calls.{Reads, Syncs, Writes}
+use Rattle.rack.proofs.Writing.{appended_elsewhere}
+use Rattle.slice_rack.specs.Slices.{Slices, disk_of, first_of, sectors_of}
+use Rattle.slice_rack.specs.Sliced.{slices_of}
+use Rattle.array_image.specs.Held.{IsSettled}
+use Rattle.array_image.proofs.Sources.{held_single}
+use Rattle.commit_log.proofs.Deciding.{names_first}
+use Rattle.array_image.specs.States.{is_current}
+use Rattle.array_core.specs.Seats.{gone}
+use Rattle.array_model.specs.View.{View, shape_of, sectors_of as array_sectors}
+use Rattle.array_model.specs.ArrayCalls.{appended_at}
+use Rattle.raid_rack.specs.declared.arrays.Arrays.{Arrays}
+use Rattle.raid_rack.specs.Raid.{Raid, live_of, spent_of, held_in, StopsInside, IsTold, raid_of}
+use Rattle.raid_rack.specs.Acts.{RaidActs}
+use Rattle.raid_rack.specs.Moves.{Brings, Mends, Moves, ReadsValue, SyncsOne, WritesOne, noted_at, written_at}
+use Rattle.raid_rack.specs.RaidRack.{IsFit, IsRunning, KeepsRack, raid_by}
+use Rattle.raid_rack.proofs.Ended.{none_past}
+use Rattle.raid_rack.specs.Laws.{live_parts}
+use Rattle.raid_rack.proofs.Moving.{brings_then, moves_bring}
+use Rattle.raid_rack.proofs.Noted.{IsNoting, current_few, noted_brings}
+use Rattle.raid_rack.proofs.Raid.{keeps_raid, reads_raid, refused_raid, stays_raid, syncs_raid, writes_raid}
+use Rattle.raid_rack.proofs.Whole.{IsWholeCall, before_amid, brings_whole, raid_acts}
+
+whole_call : (a b : Arrays) (x y : Seen) (now : ℕ → (ℕ → Values) → ℕ → Values) → IsFit a x → IsFit b y → Brings (raid_by a) (raid_by b) x y now → StopsInside y
+    → IsWholeCall (raid_by a) (raid_by b) x y (λ n. now n (held_in (raid_by a) x n))
+whole_call a b x y now fit after brings inside =
+    brings_whole (raid_by a) (raid_by b) x y now brings fit.heeded after.heeded inside (λ n past. none_past b n after.running.count past)
+
+keeps_call : (a b : Arrays) (x y : Seen) → IsFit a x → IsFit b y → Moves (raid_by a) (raid_by b) x y → StopsInside y
+    → IsWholeCall (raid_by a) (raid_by b) x y (held_in (raid_by a) x)
+keeps_call a b x y fit after moves inside = whole_call a b x y (λ n vals. vals) fit after (moves_bring (raid_by a) (raid_by b) x y moves) inside
+
+pub read_call : {r q : ℕ → ℕ} (a b : Arrays) (x y : Seen) (n s : ℕ) (into : List ℕ) (result : Result (Unit {0}) Gone)
+    → IsFit a x → IsFit b y → StopsInside y → ReadsValue (raid_by a) (raid_by b) x y n s into
+    → OnOk result (spent_of (raid_by b) n s ≡ false)
+    → IfErr result (λ e. (e.disk ≡ n) × (spent_of (raid_by b) n s ≡ true) × Rose (r n) (q n))
+    → ((m : ℕ) → r m ≤ q m)
+    → Reads (raid_of (IsFit a x) r (raid_by a) x) (raid_of (IsFit b y) q (raid_by b) y) n s into result
+read_call a b x y n s into result fit after inside reads served refused more =
+    let v = raid_by a in
+    let w = raid_by b in
+    let call = keeps_call a b x y fit after reads.moves inside in
+    reads_raid v w x y n s into result after more (raid_acts v w x y (held_in v x) call)
+    (λ told alive.
+    let goes = (live_parts w n s alive).0 in
+    reads.value (held_in v x n) (spent_of w n) told.joined goes (λ z unspent. (live_parts w n z unspent).1) alive
+    (before_amid v w x y (held_in v x) call n told goes))
+    served refused
+
+pub sync_call : {r : ℕ → ℕ} (a b : Arrays) (x y : Seen) (n : ℕ) → IsFit a x → IsFit b y → StopsInside y → SyncsOne (raid_by a) (raid_by b) x y n
+    → Syncs (raid_of (IsFit a x) r (raid_by a) x) (raid_of (IsFit b y) r (raid_by b) y) n {X = Unit {0}} (Ok tt)
+sync_call {r} a b x y n fit after inside syncs =
+    let v = raid_by a in
+    let w = raid_by b in
+    let call = keeps_call a b x y fit after syncs.moves inside in
+    syncs_raid v w x y n after (λ m. omega arith) (raid_acts v w x y (held_in v x) call)
+    (λ z told alive.
+    let goes = (live_parts w n z alive).0 in
+    held_single (shape_of (w.arrays n)) n y.held z
+    (syncs.settled (held_in v x n) (spent_of w n) told.joined goes (λ k unspent. (live_parts w n k unspent).1)
+    (before_amid v w x y (held_in v x) call n told goes)))
+
+-- the values after a write, as those of a rack
+written_appended : (held : Held) (n s : ℕ) (from : List ℕ) (k z : ℕ) → written_at n s from k (held k) z ≡ appended held n s from k z
+written_appended held n s from k z = of (k == n)
+  where
+    of : (b : Bool) → (if b then appended_at s from (held k) else held k) z ≡ (if b && (z == s) then append (held k z) from else held k z)
+    of true = refl
+    of false = refl
+
+pub write_call : {r q : ℕ → ℕ} (a b : Arrays) (x y : Seen) (n s : ℕ) (from : List ℕ) (result : Result (Unit {0}) Gone)
+    → IsFit a x → IsFit b y → StopsInside y → WritesOne (raid_by a) (raid_by b) x y n s from
+    → OnOk result (spent_of (raid_by b) n s ≡ false)
+    → IfErr result (λ e. (e.disk ≡ n) × (spent_of (raid_by b) n s ≡ true) × Rose (r n) (q n))
+    → ((m : ℕ) → r m ≤ q m)
+    → Writes (raid_of (IsFit a x) r (raid_by a) x) (raid_of (IsFit b y) q (raid_by b) y) n s from result
+write_call {r} {q} a b x y n s from result fit after inside writes =
+    by result
+  where
+    v : Raid
+    v = raid_by a
+
+    w : Raid
+    w = raid_by b
+
+    acts : RaidActs v w x y (appended (held_in v x) n s from)
+    acts =
+        subst (RaidActs v w x y) (λ i k z. written_appended (held_in v x) n s from k z i)
+        (raid_acts v w x y (λ k. written_at n s from k (held_in v x k)) (whole_call a b x y (written_at n s from) fit after writes.brings inside))
+
+    other : (m z : ℕ) → spent_of w n s ≡ true → live_of w m z → appended (held_in v x) n s from m z ≡ held_in v x m z
+    other m z spent alive =
+        appended_elsewhere (held_in v x) n s from m z
+        (elim (cases_eq m n) [
+          | inl disk ↦ inr (λ sector. both_ways (spent_of w m z) alive (ap (λ k. spent_of w k z) disk ∙ ap (spent_of w n) sector ∙ spent))
+          | inr apart ↦ inl apart
+        ])
+
+    by : (result : Result (Unit {0}) Gone) → OnOk result (spent_of w n s ≡ false)
+        → IfErr result (λ e. (e.disk ≡ n) × (spent_of w n s ≡ true) × Rose (r n) (q n)) → ((m : ℕ) → r m ≤ q m)
+        → Writes (raid_of (IsFit a x) r v x) (raid_of (IsFit b y) q w y) n s from result
+    by (Ok u) served refused more = writes_raid v w x y n s from u after more acts served
+    by (Err e) served refused more =
+        refused_raid v w x y n s from e refused.0 after more acts
+        (λ m z told alive. subst (λ (h : Values). Keeps h (held_in w y m z)) (other m z refused.1 alive) (acts.held m z told alive))
+        refused.1 refused.2
+
+-- ---- a drive that its owner loses
+
+pub lose_brings : (a b : Arrays) (place : ℕ) (x y : Seen) → IsRunning a x → is_current a.state place ≡ true
+    → Mends (noted_at (place ∷ []) (raid_by a)) (raid_by b) x y → Brings (raid_by a) (raid_by b) x y (λ n vals. vals)
+lose_brings a b place x y running current mends =
+    let v = raid_by a in
+    let lost = place ∷ [] in
+    let noted = noted_at lost v in
+    let f : ℕ → View = noted.arrays in
+    let is : (n : ℕ) → n < v.state.made → f n ≡ gone lost (v.arrays n) =
+    λ n low. ap (λ (t : Bool). if t then gone lost (v.arrays n) else v.arrays n) (lt-ltb n v.state.made low) in
+    let noting : IsNoting lost v f = record {
+      arrays = is;
+      one = place;
+      named = names_first place [];
+      current = current;
+      few = current_few a.state place running.set.few current;
+    } in
+    brings_then v noted (raid_by b) x x y (λ n vals. vals)
+    (noted_brings lost v f x running.set noting (λ n. same_sectors (nat_lt n v.state.made) (v.arrays n))) mends.moves
+  where
+    same_sectors : (t : Bool) (u : View) → array_sectors (if t then gone (place ∷ []) u else u) ≡ array_sectors u
+    same_sectors true u = refl
+    same_sectors false u = refl
+
+pub lose_stays : {r : ℕ → ℕ} (a b : Arrays) (place : ℕ) (x y : Seen) → IsFit a x → IsFit b y → StopsInside y → is_current a.state place ≡ true
+    → Mends (noted_at (place ∷ []) (raid_by a)) (raid_by b) x y → KeepsRack (raid_of (IsFit a x) r (raid_by a) x) (raid_of (IsFit b y) r (raid_by b) y)
+lose_stays a b place x y fit after inside current mends =
+    let v = raid_by a in
+    let w = raid_by b in
+    let acts = raid_acts v w x y (held_in v x) (whole_call a b x y (λ n vals. vals) fit after (lose_brings a b place x y fit.running current mends) inside) in
+    record {
+      stays = stays_raid v w x y (held_in v x) after (λ m. omega arith) acts;
+      keeps = keeps_raid v w x y acts;
+    }

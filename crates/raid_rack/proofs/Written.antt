@@ -1,0 +1,189 @@
+-- A call that writes to one array, as a part of a call of all.
+use Rattle.std.proofs.Common.{◌≡◌, ◌≢◌, ◌⊎◌, ℕ, ◌+◌, ◌-◌, ◌^◌, ◌<◌, ◌≤◌, Bool, true, false, ◌==◌, ◌&&◌, not, if◌then◌else◌, List, [], length, slice_get, Option, Some, None, refl, sym, ap, subst, ◌∙◌, inl, inr, eq-eqb, ne_eqb, arith}
+use Rattle.std.proofs.lemmas.Bool.{cases_eq}
+use Rattle.std.specs.Option.{option_map_or}
+use Rattle.rack.specs.Values.{Values}
+use Rattle.rack.specs.Seen.{Seen, IsLive}
+use Rattle.pool_state.specs.declared.contents.State.{State}
+use Rattle.array_image.specs.Places.{member_slice, data_sector, super_sector}
+use Rattle.array_image.specs.States.{is_current, current_places}
+use Rattle.array_image.specs.Supers.{is_reshaping}
+use Rattle.array_image.specs.Arrays.{Member, Shape}
+use Rattle.array_image.specs.Held.{Among}
+use Rattle.commit_log.specs.Kept.{LogKept}
+use Rattle.commit_log.specs.View.{names}
+use Rattle.commit_log.proofs.KeptAfter.{kept_more}
+use Rattle.array_model.specs.declared.Seat.{Seat}
+use Rattle.array_model.specs.declared.Seat.TheVariants.{Whole, Missing, Rebuilding}
+use Rattle.array_model.specs.View.{View, has_gone, is_missing_seat, is_whole_array, member_on, place_at, seat_reach, shape_of, spent_in}
+use Rattle.array_model.specs.Says.{IsOpen, Says}
+use Rattle.array_model.specs.Stages.{IsStateOf}
+use Rattle.array_model.specs.ArrayCalls.{Covers, WritesArray, appended_at}
+use Rattle.array_model.specs.Members.{slice_on}
+use Rattle.array_model.proofs.Firsts.{position_of}
+use Rattle.array_core.specs.Pool.{Goes, MayCommit}
+use Rattle.raid_rack.specs.Raid.{Raid, AreLive, gone_in, is_left, is_over, held_in, Stood}
+use Rattle.raid_rack.specs.Moves.{AreMarked, Brings, IsAmid, IsHeeded, IsSet, PartOf, written_at}
+use Rattle.raid_rack.specs.Marking.{Part}
+use Rattle.raid_rack.proofs.Added.{names_current}
+use Rattle.raid_rack.proofs.Books.{after_same}
+use Rattle.raid_rack.proofs.Carried.{seat_marks}
+use Rattle.raid_rack.proofs.Changed.{ViewsOne, called, part_if, marked_before, same_shape, left_before, caused, further, views_set, views_sectors, views_spent}
+use Rattle.raid_rack.proofs.Noted.{current_few, gone_from, gone_not}
+use Rattle.raid_rack.proofs.Over.{event_room, number_room, over_still, someone_left}
+use Rattle.raid_rack.proofs.Parts.{part_own, part_other}
+use Rattle.raid_rack.proofs.Seated.{place_few}
+use Rattle.raid_rack.proofs.Whole.{heeded_gone, heeded_whole}
+
+-- ---- what it needs
+
+-- the sectors of members that count are told
+opened : (v : Raid) (x : Seen) (n : ℕ) → IsSet v x → AreLive v.state.made x → n < v.state.made → IsOpen (shape_of (v.arrays n)) (v.arrays n).number x
+unfolding shape_of
+opened v x n set live low m sector among counts =
+    let u = v.arrays n in
+    let seated = set.arrays n low in
+    let at = position_of u u.truth.raid_disks m among in
+    let reach : sector < (member_on u at.0).reach = subst (λ (o : Member). sector < o.reach) at.2 counts in
+    let inside = fits (slice_get u.seats at.0) refl reach in
+    let sectors = seated.slices.sectors at.0 at.1 inside.0 in
+    let below = inside.1 in
+    subst (λ (o : Member). IsLive x x (member_slice o.place u.number) (data_sector + sector)) (sym at.2)
+    (subst (λ j. IsLive x x (member_slice (place_at u at.0) j) (data_sector + sector)) (sym seated.number)
+    (live n (place_at u at.0) (data_sector + sector) low (place_few u at.0 seated.is_array at.1)
+    (subst (λ j. data_sector + sector < x.sectors (member_slice (place_at u at.0) j)) seated.number (omega (arith, sectors, below)))))
+  where
+    fits : (o : Option Seat) → slice_get (v.arrays n).seats (position_of (v.arrays n) (v.arrays n).truth.raid_disks m among).0 ≡ o
+        → sector < option_map_or (seat_reach (v.arrays n).truth.size) o 0
+        → (slice_get (v.arrays n).seats (position_of (v.arrays n) (v.arrays n).truth.raid_disks m among).0 ≢ Some Missing) × (sector < (v.arrays n).truth.size)
+    fits None is reach = absurd (omega (arith, reach))
+    fits (Some Whole) is reach = (λ missing. absurd (let bad : Some Whole ≡ Some Missing = sym is ∙ missing in cc), reach)
+    fits (Some Missing) is reach = absurd (omega (arith, reach))
+    fits (Some (Rebuilding to)) is reach =
+        let low_to = ((set.arrays n low).is_of_pool.rows (position_of (v.arrays n) (v.arrays n).truth.raid_disks m among).0 to is).1 in
+        (λ missing. absurd (let bad : Some (Rebuilding to) ≡ Some Missing = sym is ∙ missing in cc), omega (arith, reach, low_to))
+
+-- its members that are missing are those whose places are marked
+state_of : (v : Raid) (x : Seen) (n : ℕ) → IsSet v x → IsHeeded v → n < v.state.made → IsStateOf (v.arrays n) v.state
+state_of v x n set heeded low =
+    let seated = set.arrays n low in
+    let pool = seated.is_of_pool in
+    record {
+      set = pool.set;
+      profile = pool.profile;
+      events = pool.events;
+      events_end = pool.events_end;
+      row = pool.row;
+      roles = pool.roles;
+      marks = λ k below.
+          let inside : k < (v.arrays n).truth.raid_disks = let count = seated.is_array.seats in omega (arith, below, count) in
+          let p = place_at (v.arrays n) k in
+          seat_marks (slice_get (v.arrays n).seats k) (is_current v.state p) (has_gone (v.arrays n) p) (seated.marks k inside)
+          (λ current. ap (λ ps. names ps p) (heeded n low));
+    }
+
+-- ---- a write of array m, where whoever went is marked
+
+pub record WriteCall (v : Raid) (f : ℕ → View) (number m : ℕ) (a b : Seen) (on : List ℕ) (sector : ℕ) (from : List ℕ) : Type 0 where
+  pub heeded : IsHeeded v
+  pub views : ViewsOne v f m a b
+  pub goes : Goes a b
+  pub later : v.number ≤ number
+  pub on_is : on ≡ current_places v.state
+  pub few : (p : ℕ) → has_gone (f m) p ≡ true → p < 16
+  pub writes :
+      (vals : ℕ → Values) (spent : ℕ → Bool) → Covers (f m) spent → MayCommit v.state (v.arrays m) (f m) v.number on a
+      → WritesArray v.state (v.arrays m) (f m) spent a b (shape_of (v.arrays m)) vals sector from
+  pub kept : MayCommit v.state (v.arrays m) (f m) v.number on a → LogKept v.state number (has_gone (f m)) b
+
+module _ (v : Raid) (f : ℕ → View) (number m : ℕ) (a b : Seen) (on : List ℕ) (sector : ℕ) (from : List ℕ) (set : IsSet v a)
+    (call : WriteCall v f number m a b on sector from) where
+  may : (n : ℕ) (vals : ℕ → Values) (spent : ℕ → Bool) → n < v.state.made → is_over (called v f number) n ≡ false → IsAmid v a n vals spent
+      → MayCommit v.state (v.arrays m) (f m) v.number on a
+  may n vals spent below goes amid =
+      let low = call.views.low in
+      let seated = set.arrays m low in
+      let before = over_still v (called v f number) (further v f m a b set call.views number call.later) n below goes in
+      let some = someone_left (called v f number) n goes in
+      record {
+        renew = record {
+          state = state_of v a m set call.heeded low;
+          fresh = call.heeded m low;
+          supers = λ place few there.
+              subst (λ j. IsLive a a (member_slice place j) super_sector) (sym seated.number)
+              (amid.slices m place super_sector low few (subst (λ j. super_sector < a.sectors (member_slice place j)) seated.number there));
+          rows = seated.is_of_pool.rows;
+          events = let room = event_room v n m before low in omega (arith, room);
+        };
+        opened = opened v a m set amid.slices low;
+        steady = heeded_whole v m call.heeded (set.marked m low);
+        still = set.plain m low;
+        log = subst (λ g. LogKept v.state v.number g a) (λ i p. heeded_gone v call.heeded p i) amid.stood.log;
+        room = let room = (number_room v n before).0 in omega (arith, room);
+        places = λ p. ap (λ ps. names ps p) call.on_is ∙ names_current v.state p ∙ sym (and_true (is_current v.state p));
+        someone = (some.0, some.1, gone_not (called v f number) some.0 m (current_few v.state some.0 set.few some.1) low some.2);
+      }
+    where
+      and_true : (c : Bool) → (c && true) ≡ c
+      and_true true = refl
+      and_true false = refl
+
+  log_after : MayCommit v.state (v.arrays m) (f m) v.number on a → LogKept v.state number (gone_in (called v f number)) b
+  log_after given =
+      kept_more v.state number (has_gone (f m)) (gone_in (called v f number)) b
+      (λ p is. gone_from (called v f number) p m (call.few p is) call.views.low is) (call.kept given)
+
+  -- whoever went is marked before it
+  marked : (p : ℕ) → is_current v.state p ≡ true → gone_in v p ≡ false
+  marked p current = heeded_gone v call.heeded p
+
+  small : (n : ℕ) → n < v.state.made → n < 16
+  small n low = let most = set.most in omega (arith, low, most)
+
+  own_part : (vals : ℕ → Values) (spent : ℕ → Bool) → is_over (called v f number) m ≡ false → Covers (f m) spent
+      → PartOf v (called v f number) a b m vals (appended_at sector from vals) spent
+  own_part vals spent goes covers =
+      part_if v f number a b m vals (appended_at sector from vals) spent call.goes.stays set.lasting call.goes.leaves
+      (λ are. (marked_before v f m a b set call.views are, same_shape v f m a b set call.views are m))
+      (λ amid.
+      let given = may m vals spent call.views.low goes amid in
+      let shape = shape_of (v.arrays m) in
+      subst (λ (s : Shape). Part v.state v.state s s vals (appended_at sector from vals) spent (gone_in v) (gone_in (called v f number)) v (called v f number) a b m)
+      (sym (amid.marked marked))
+      (part_own v.state shape vals (appended_at sector from vals) spent (gone_in v) (gone_in (called v f number)) v (called v f number) a b m
+      (call.writes vals spent covers given) (λ log. log_after given) (someone_left (called v f number) m goes)))
+
+  other_part : (n : ℕ) (vals : ℕ → Values) (spent : ℕ → Bool) → (n ≡ m → ⊥) → n < v.state.made → is_over (called v f number) n ≡ false
+      → PartOf v (called v f number) a b n vals vals spent
+  other_part n vals spent apart below goes =
+      part_if v f number a b n vals vals spent call.goes.stays set.lasting call.goes.leaves
+      (λ are. (marked_before v f m a b set call.views are, same_shape v f m a b set call.views are n))
+      (λ amid.
+      let given = may n vals spent below goes amid in
+      let shape = shape_of (v.arrays m) in
+      let own = held_in v a m in
+      part_other v.state amid.durable shape vals own (appended_at sector from own) spent (spent_in (f m)) (gone_in v) (gone_in (called v f number)) v (called v f number) a b n m
+      (Says v.state (v.arrays m).number shape (appended_at sector from own) (spent_in (f m)))
+      (small m call.views.low) (small n below) apart (set.arrays m call.views.low).number (call.views.others n apart) set.lasting marked
+      (call.writes own (spent_in (f m)) (λ y alive. alive) given) (λ log. log_after given) (someone_left (called v f number) n goes))
+
+  pub write_brings : Brings v (called v f number) a b (written_at m sector from)
+  write_brings =
+      record {
+        stays = call.goes.stays;
+        set = views_set v f m a b set call.views number;
+        book = after_same v.state;
+        leaves = call.goes.leaves;
+        sectors = views_sectors v f m a b set call.views;
+        still = λ n low goes. over_still v (called v f number) (further v f m a b set call.views number call.later) n low goes;
+        spent = λ n y low alive. views_spent v f m a b set call.views n y alive;
+        parts = λ n vals spent joined low goes covers.
+            let Goal : Bool → Type 0 = λ t. PartOf v (called v f number) a b n vals (if t then appended_at sector from vals else vals) spent in
+            elim (cases_eq n m) [
+              | inl same ↦
+                  subst Goal (sym (eq-eqb n m same))
+                  (subst (λ k. PartOf v (called v f number) a b k vals (appended_at sector from vals) spent) (sym same)
+                  (own_part vals spent (subst (λ k. is_over (called v f number) k ≡ false) same goes) (subst (λ k. Covers (f k) spent) same covers)))
+              | inr apart ↦ subst Goal (sym (ne_eqb n m apart)) (other_part n vals spent apart low goes)
+            ];
+      }

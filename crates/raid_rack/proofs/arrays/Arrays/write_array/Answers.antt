@@ -1,0 +1,54 @@
+use Rattle.std.proofs.Common.{get_or, slice_set, ap, arith}
+use Rattle.std.proofs.lemmas.Option.{slice_get-get_or}
+use Rattle.arrayvec.specs.ArrayVec.{with_items}
+use Rattle.commit_log.specs.View.{LogView}
+use Rattle.raid_rack.specs.RaidRack.{no_array}
+use Rattle.raid_rack.proofs.Mended.{on_named}
+use Rattle.raid_rack.proofs.Noted.{current_few}
+use Rattle.raid_rack.proofs.Sent.{has_written, later_number, writes_one}
+use Rattle.raid_rack.proofs.Steps.{same_element, items_set}
+use Rattle.raid_rack.proofs.arrays.Arrays.write_array.Goals as goal
+
+pub write-requires-clause-logs : goal.write-requires-clause-logs
+write-requires-clause-logs g c j low =
+    let s = c.args.self.now.state in
+    let on = c.current_places-on.result.items in
+    let current = on_named s on j (get_or on j 0) c.current_places-on.ensures (slice_get-get_or on j 0 low) in
+    (current_few s (get_or on j 0) c.requires.running.set.few current, c.requires.running.set.logs (get_or on j 0) current)
+
+pub mend-requires : goal.mend-requires
+mend-requires g c =
+    let a = c.args.self.now in
+    let n = c.args.number in
+    let x = g.S.Rack.seen c.args.rack.now in
+    let y = g.S.Rack.seen c.write.new.rack in
+    let count = c.requires.running.count in
+    let low = c.requires.number in
+    let number = ap (λ (l : LogView). l.number) c.clear.ensures in
+    let wrote = has_written a (with_items a.all (slice_set c.deref_mut.result.now n c.write.new.self)) c.write.new.log x y n c.args.sector c.args.from.now c.current_places-on.result.items c.clear.new.self.number _ c.write.new.self
+    c.requires.running c.requires.heeded low
+    (same_element c.deref_mut.result.now a.all.items n _ no_array c.deref_mut.ensures.value (omega (arith, count, low)))
+    (items_set a.all c.deref_mut.result.now n c.write.new.self c.deref_mut.ensures.value)
+    number (later_number c.clear.new.self c.write.new.log c.write.ensures.log) c.current_places-on.ensures c.went-places.ensures.few c.write.ensures.goes
+    (record { writes = c.write.ensures.writes; kept = c.write.ensures.kept; view = c.write.ensures.view }) in
+    record { running = wrote.running }
+
+pub returns-clause-writes : goal.returns-clause-writes
+returns-clause-writes g c =
+    let a = c.args.self.now in
+    let n = c.args.number in
+    let x = g.S.Rack.seen c.args.rack.now in
+    let y = g.S.Rack.seen c.write.new.rack in
+    let count = c.requires.running.count in
+    let low = c.requires.number in
+    let number = ap (λ (l : LogView). l.number) c.clear.ensures in
+    let wrote = has_written a (with_items a.all (slice_set c.deref_mut.result.now n c.write.new.self)) c.write.new.log x y n c.args.sector c.args.from.now c.current_places-on.result.items c.clear.new.self.number _ c.write.new.self
+    c.requires.running c.requires.heeded low
+    (same_element c.deref_mut.result.now a.all.items n _ no_array c.deref_mut.ensures.value (omega (arith, count, low)))
+    (items_set a.all c.deref_mut.result.now n c.write.new.self c.deref_mut.ensures.value)
+    number (later_number c.clear.new.self c.write.new.log c.write.ensures.log) c.current_places-on.ensures c.went-places.ensures.few c.write.ensures.goes
+    (record { writes = c.write.ensures.writes; kept = c.write.ensures.kept; view = c.write.ensures.view }) in
+    writes_one a _ c.mend.new.self x y (g.S.Rack.seen c.mend.new.rack) n c.args.sector c.args.from.now wrote c.mend.ensures.mends
+
+pub returns-clause-runs : goal.returns-clause-runs
+returns-clause-runs g c = g.met.S.Rack.runs_then _ _ _ c.write.ensures.runs c.mend.ensures.runs

@@ -1,0 +1,87 @@
+//! The arrays as disks of a rack.
+
+ghost use Rattle.std.specs.Prelude.{◌≡◌, ℕ, ◌<◌, ◌≤◌, true, false, OnOk, IfErr};
+ghost use Rattle.rack.specs.Seen.{Rose};
+ghost use Rattle.slice_rack.specs.SliceRack.{below_of, tables};
+ghost use Rattle.slice_rack.specs.Laws.{is_sound};
+ghost use Rattle.raid_rack.specs.Laws.{raid_sound, stops_inside};
+ghost use Rattle.raid_rack.specs.Raid.{spent_of};
+ghost use Rattle.raid_rack.specs.RaidRack.{IsFit, arrays_in, raid_in, raid_seen, refused_in, slices_in, slices_seen};
+
+use crate::arrays::RaidRack;
+use rack::{Gone, Rack};
+
+/// Disk `n` is array `n`. A drive that goes in a call is marked missing before the call returns. A sector is refused exactly where
+/// it is spent after that.
+impl<R: Rack> Rack for RaidRack<R> {
+    ghost seen = { λ rack. raid_seen R.seen rack };
+
+    ghost runs = { λ old new. R.runs (below_of (slices_in old)) (below_of (slices_in new)) };
+
+    ghost lenders = { λ rack. R.lenders (below_of (slices_in rack)) };
+
+    fn disks(&self) -> u32 {
+        self.arrays.state.made
+    }
+
+    fn sectors(&self, disk: u32) -> u64 {
+        self.arrays.all[disk as usize].sectors()
+    }
+
+    fn read(&mut self, disk: u32, sector: u64, into: &mut [u8; 512]) -> Result<(), Gone> {
+        self.arrays.read_array(&mut self.slices, disk, sector, into);
+        self.answer(disk, sector)
+    }
+
+    fn write(&mut self, disk: u32, sector: u64, from: &[u8; 512]) -> Result<(), Gone> {
+        self.arrays
+            .write_array(&mut self.slices, disk, sector, from);
+        self.answer(disk, sector)
+    }
+
+    fn sync(&mut self, disk: u32) -> Result<(), Gone> {
+        self.arrays.sync_array(&mut self.slices, disk);
+        Ok(())
+    }
+
+    ghost sound = { λ rack fit traced. raid_sound (raid_in rack) (slices_seen R.seen rack) (stops_inside (tables (slices_in rack)) (R.seen (below_of (slices_in rack))))
+        (is_sound (tables (slices_in rack)) (R.seen (below_of (slices_in rack))) (slices_in rack).orderly fit.running.set.fit.1
+        (R.sound (below_of (slices_in rack)) fit.running.set.fit.0 traced)) };
+
+    ghost runs_same = { λ rack. R.runs_same (below_of (slices_in rack)) };
+
+    ghost runs_then = { λ x y z one two. R.runs_then (below_of (slices_in x)) (below_of (slices_in y)) (below_of (slices_in z)) one two };
+
+    ghost runs_lenders = { λ x y runs. R.runs_lenders (below_of (slices_in x)) (below_of (slices_in y)) runs };
+}
+
+impl<R: Rack> RaidRack<R> {
+    /// The answer of a call to a sector: it is refused, and counted, exactly where the sector is spent.
+    fn answer(&mut self, disk: u32, sector: u64) -> Result<(), Gone>
+        requires fit { IsFit (arrays_in self.old) (slices_seen R.seen self.old) }
+        requires disk { disk < (raid_seen R.seen self.old).disks }
+        requires sector { sector < (raid_seen R.seen self.old).sectors disk }
+        ensures same { self.new ≡ record self.old { refused = self.new.refused } }
+        ensures served { OnOk result (spent_of (raid_in self.old) disk sector ≡ false) }
+        ensures refused { IfErr result (λ e. (e.disk ≡ disk) × (spent_of (raid_in self.old) disk sector ≡ true)
+            × Rose (refused_in self.old disk) (refused_in self.new disk)) }
+        ensures more { (n : ℕ) → refused_in self.old n ≤ refused_in self.new n }
+    {
+        if !self.arrays.is_spent(disk, sector) {
+            return Ok(());
+        }
+        self.note_refusal(disk);
+        Err(Gone { disk })
+    }
+
+    /// Counts a spent answer of an array. The count stands still at its last value.
+    fn note_refusal(&mut self, disk: u32)
+        requires { disk < 16 }
+        ensures same { self.new ≡ record self.old { refused = self.new.refused } }
+        ensures rose { Rose (refused_in self.old disk) (refused_in self.new disk) }
+        ensures more { (n : ℕ) → refused_in self.old n ≤ refused_in self.new n }
+    {
+        let count = self.refused[disk as usize];
+        self.refused[disk as usize] = count.saturating_add(1);
+    }
+}
