@@ -2,3 +2,4 @@ pub mod Chosen
 mod Decoding
 mod Ranges
 mod Sights
+pub mod Seated

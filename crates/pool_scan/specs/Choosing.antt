@@ -1,9 +1,10 @@
 -- What the identities that were read say of the drives.
-use Rattle.std.specs.Prelude.{◌≡◌, ◌==◌, ℕ, ◌<◌, Bool, false, not, bytes_eq, if◌then◌else◌, List, length, position, slice_get, Option, Some, None}
+use Rattle.std.specs.Prelude.{◌≡◌, ◌==◌, ℕ, ◌<◌, Bool, false, not, bytes_eq, if◌then◌else◌, List, length, map, position, slice_get, Option, Some, None}
 use Rattle.std.specs.Option.{option_and_then, option_map_or}
-use Rattle.std.specs.List.{list_any}
+use Rattle.std.specs.List.{list_any, range_with_len}
 use Rattle.pool_state.specs.declared.contents.State.{State}
-use Rattle.array_image.specs.States.{epoch_of}
+use Rattle.array_image.specs.Foremost.{foremost}
+use Rattle.array_image.specs.States.{epoch_of, is_current}
 use Rattle.pool_image.specs.Disks.{Disks, Identities, all_disks, id_by}
 use Rattle.pool_scan.specs.declared.Known.{Known}
 use Rattle.pool_scan.specs.Scanning.{copied_at, id_in}
@@ -33,6 +34,15 @@ standing s known place disk =
     (option_and_then (λ id. position (λ drive. bytes_eq drive.id.0 id) s.drives.items) (id_at known disk)) false
     then Some disk
     else None
+
+-- the place for which a disk stands
+abbrev pub place_at : State → List Known → ℕ → Option ℕ
+place_at s known disk = option_and_then (λ id. position (λ drive. bytes_eq drive.id.0 id) s.drives.items) (id_at known disk)
+
+-- the disk that is taken for a place: for a current one, of those that stand for it that of highest epoch, of equal ones the lowest
+unfoldable pub seat_by : State → List Known → ℕ → Option ℕ
+seat_by s known place =
+    if is_current s place then foremost (epoch_at known) (map (standing s known place) (range_with_len 0 (length known))) else None
 
 -- a disk has a copy of another pool's state
 abbrev pub has_pool_other_than : List ℕ → Disks → Identities → Bool

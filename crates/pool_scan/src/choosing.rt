@@ -38,7 +38,8 @@ impl Scan {
     /// ones the lowest. A place that isn't current has none.
     pub fn seat(&self, state: &State, place: u32) -> Option<u32>
         requires { length self.now.disks.items < 2 ^ 32 }
-        ensures { (disks : Disks) (identities : Identities) → AreOf disks identities self.now.disks.items
+        ensures chosen { result ≡ spec.seat_by state.now self.now.disks.items place }
+        ensures seated { (disks : Disks) (identities : Identities) → AreOf disks identities self.now.disks.items
             → result ≡ seat_of state.now disks identities place }
     {
         if is_there(state, place) {
