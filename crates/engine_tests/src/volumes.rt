@@ -1,7 +1,7 @@
 //! Tests of a volume over arrays: that it is made, extended and opened where there is memory, that its group is what LVM2's
 //! formats say, that texts go round their area, and which array is bad.
 
-ghost use Rattle.std.specs.Prelude.{◌≡◌, ◌<◌, IfOk};
+ghost use Rattle.std.specs.Prelude.{◌≡◌, ◌+◌, ◌^◌, ◌<◌, IfOk};
 ghost use Rattle.rack_mem.specs.MemBay.{memory};
 ghost use Rattle.rack_mem.specs.Memory.{seen_of};
 ghost use Rattle.lvm_group.specs.Shown.{volume_of};
