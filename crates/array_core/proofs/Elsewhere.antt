@@ -1,6 +1,5 @@
 -- Which slices a write leaves as they are: those of missing members, of other arrays, and the logs of places without a part in it.
-use Rattle.std.proofs.Common.{◌≡◌, ◌≢◌, ◌⊎◌, ℕ, zero, suc, ◌+◌, ◌*◌, ◌<◌, ◌≤◌, Bool, true, false, ◌||◌, not, nat_lt, List, [], ◌∷◌, slice_get, Option, Some, None, refl, sym, ap, ap₂, subst, ◌∙◌, inl, inr, ltb-true, arith}
-use Rattle.std.proofs.lemmas.Bool.{both_ways}
+use Rattle.std.proofs.Common.{◌≡◌, ◌≢◌, ℕ, zero, suc, ◌+◌, ◌<◌, Bool, true, false, not, List, [], ◌∷◌, slice_get, Option, Some, None, refl, sym, ap, subst, ◌∙◌, inl, inr, ltb-true, arith}
 use Rattle.std.specs.Option.{option_map_or}
 use Rattle.rack.specs.Values.{Keeps}
 use Rattle.rack.specs.Seen.{Seen, IsLive, Stays}
@@ -15,7 +14,7 @@ use Rattle.commit_log.specs.View.{LogView, names}
 use Rattle.commit_log.specs.Commits.{CommitCall}
 use Rattle.array_model.specs.declared.Seat.{Seat}
 use Rattle.array_model.specs.declared.Seat.TheVariants.{Missing, Rebuilding, Whole}
-use Rattle.array_model.specs.View.{View, IsArray, is_missing_seat, is_whole_array, member_on, seat_reach, shape_of}
+use Rattle.array_model.specs.View.{View, IsArray, is_missing_seat, is_whole_array, member_on, seat_reach}
 use Rattle.array_model.specs.Members.{Notes, Works, slice_on}
 use Rattle.array_model.specs.Rows.{Wrote, refused, row}
 use Rattle.array_model.proofs.Firsts.{position_of}
