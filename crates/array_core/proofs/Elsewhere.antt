@@ -1,6 +1,5 @@
 -- Which slices a write leaves as they are: those of missing members, of other arrays, and the logs of places without a part in it.
-use Rattle.std.proofs.Common.{◌≡◌, ◌≢◌, ◌⊎◌, ℕ, zero, suc, ◌+◌, ◌*◌, ◌<◌, ◌≤◌, Bool, true, false, ◌||◌, not, nat_lt, List, [], ◌∷◌, slice_get, Option, Some, None, refl, sym, ap, ap₂, subst, ◌∙◌, inl, inr, ltb-true, arith}
-use Rattle.std.proofs.lemmas.Bool.{both_ways}
+use Rattle.std.proofs.Common.{◌≡◌, ◌≢◌, ℕ, zero, suc, ◌+◌, ◌<◌, Bool, true, false, not, List, [], ◌∷◌, slice_get, Option, Some, None, refl, sym, ap, subst, ◌∙◌, inl, inr, ltb-true, arith}
 use Rattle.std.specs.Option.{option_map_or}
 use Rattle.rack.specs.Values.{Keeps}
 use Rattle.rack.specs.Seen.{Seen, IsLive, Stays}
@@ -15,17 +14,18 @@ use Rattle.commit_log.specs.View.{LogView, names}
 use Rattle.commit_log.specs.Commits.{CommitCall}
 use Rattle.array_model.specs.declared.Seat.{Seat}
 use Rattle.array_model.specs.declared.Seat.TheVariants.{Missing, Rebuilding, Whole}
-use Rattle.array_model.specs.View.{View, IsArray, is_missing_seat, is_whole_array, member_on, seat_reach, shape_of}
-use Rattle.array_model.specs.Members.{Works, slice_on}
+use Rattle.array_model.specs.View.{View, IsArray, is_missing_seat, is_whole_array, member_on, seat_reach}
+use Rattle.array_model.specs.Members.{Notes, Works, slice_on}
 use Rattle.array_model.specs.Rows.{Wrote, refused, row}
 use Rattle.array_model.proofs.Firsts.{position_of}
 use Rattle.array_model.proofs.Looking.{look_payload}
 use Rattle.array_model.proofs.Parts.{at_is}
-use Rattle.array_model.proofs.Reading.{slice_same}
+use Rattle.array_model.proofs.Reading.{missing_before, slice_same}
 use Rattle.array_model.proofs.RowWrites.{whole_seat}
 use Rattle.array_model.proofs.Views.{shape_members}
 use Rattle.array_core.specs.Logging.{is_due}
-use Rattle.array_core.specs.Settling.{Readies, was_marked, now_marked, lost_one, not_whole}
+use Rattle.array_core.specs.Superblocks.{settled}
+use Rattle.array_core.specs.Settling.{Readies, WritesSupers, was_marked, now_marked, lost_one, not_whole}
 use Rattle.array_core.specs.Writing.{IsElsewhere, KeepsElsewhere, was_there}
 use Rattle.array_core.proofs.RowCommits.{no_look}
 use Rattle.array_core.proofs.RowOwed.{RowList}
@@ -155,3 +155,19 @@ pub write_elsewhere : (v u : View) (on : List ℕ) (a b c : Seen) (r all : Bool)
 write_elsewhere v u on a b c r all is_array readies first second whole_all rest =
     elsewhere_then false v on a b c first second (ready_elsewhere v u on a b r is_array.few readies)
     (λ d t live other. rest d t live (row_elsewhere v u on a b r all d is_array readies whole_all other))
+
+-- ---- a clean end
+
+pub clean_elsewhere : (v u w : View) (on : List ℕ) (a b c : Seen) (many : ℕ) → v.number < 16 → OnlyReads a b → Notes v u a b → WritesSupers (settled u) w b c many
+    → KeepsElsewhere false v on a c
+clean_elsewhere v u w on a b c many few reads notes writes =
+    elsewhere_then false v on a b c reads.stays writes.only.stays (reads_elsewhere false v on a b reads)
+    (λ d t live other.
+    writes.only.others d t live
+    (λ x new.
+    not_there false v on d few other (
+      new.position,
+      subst (λ k. new.position < k) (ap (λ (s : Super). s.raid_disks) notes.same.truth) new.inside,
+      seat_there v new.position (missing_before v u new.position notes.lost notes.loses new.there),
+      new.disk ∙ slice_same v u new.position notes.same,
+    )))

@@ -161,13 +161,16 @@ seats_same [] (y ∷ ys) same = let none : None ≡ Some y = same 0 in absurd (c
 seats_same (x ∷ xs) [] same = let none : Some x ≡ None = same 0 in absurd (cc)
 seats_same (x ∷ xs) (y ∷ ys) same = ap₂ (λ (z : Seat) zs. z ∷ zs) (ap (λ o. unwrap_or o x) (same 0)) (seats_same xs ys (λ n. same (suc n)))
 
--- an array that was whole is so once it is marked
-pub mark_whole : (v w : View) (a b : Seen) → is_whole_array v ≡ true → Marks v w a b → w.marked ≡ true → is_whole_array w ≡ true
-mark_whole v w a b whole marks marked =
-    let notes = mark_notes v w a b marks in
+-- an array that was whole is so where nobody went
+pub notes_whole : (v w : View) (a b : Seen) → Notes v w a b → w.went ≡ [] → is_whole_array v ≡ true → is_whole_array w ≡ true
+notes_whole v w a b notes fresh whole =
     let same = notes.same in
-    let seats : w.seats ≡ v.seats = seats_same w.seats v.seats (seats_kept (marked_by w.marked v) w notes.lost notes.loses (mark_all v w a b marks marked)) in
+    let seats : w.seats ≡ v.seats = seats_same w.seats v.seats (seats_kept v w notes.lost notes.loses fresh) in
     (λ i. list_all is_whole_seat (seats i) && ((same.resync i == (same.truth i).size / 128) && (not (same.young i) && not (is_reshaping (same.truth i))))) ∙ whole
+
+-- and once it is marked
+pub mark_whole : (v w : View) (a b : Seen) → is_whole_array v ≡ true → Marks v w a b → w.marked ≡ true → is_whole_array w ≡ true
+mark_whole v w a b whole marks marked = notes_whole (marked_by w.marked v) w a b (mark_notes v w a b marks) (mark_all v w a b marks marked) whole
 
 pub restated_shape : (e o : ℕ) (m : Bool) (v : View) → shape_of (restated e o m v) ≡ shape_of v
 unfolding shape_of

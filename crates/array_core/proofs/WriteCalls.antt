@@ -32,7 +32,7 @@ use Rattle.array_core.specs.Writing.{Base, WritesView, as_it_was, newly_marked}
 use Rattle.array_core.proofs.Cleaning.{noted_restated, raised_more}
 use Rattle.array_core.proofs.LogFrames.{kept_logs}
 use Rattle.array_core.proofs.LogWrites.{reads_goes}
-use Rattle.array_core.proofs.Marking.{mark_all, mark_moves, mark_notes, mark_whole, marked_by, restated_array, restated_shape, says_appended, supers_others}
+use Rattle.array_core.proofs.Marking.{mark_all, mark_moves, mark_notes, mark_whole, marked_by, notes_whole, restated_array, restated_shape, says_appended, supers_others}
 use Rattle.array_core.proofs.RowLogged.{nobody}
 
 -- ---- the frame
@@ -151,6 +151,11 @@ pub view_noted : (v w : View) (a b : Seen) → a.fit → Stays a b → WritesVie
 view_noted v w a b fit stays (as_it_was why notes) = noted_by v w a b notes
 view_noted v w a b fit stays (newly_marked whole fresh unmarked notes) =
     noted_restated v v w (raised v.truth.events) 0 w.marked a a b (stays_same a fit) stays (notes_none v a a) notes
+
+-- an array that was marked only if it was whole is so after a write in which nobody went
+pub write_steady : (v w : View) (a b : Seen) → WritesView v w a b → (v.marked ≡ true → is_whole_array v ≡ true) → w.went ≡ [] → w.marked ≡ true → is_whole_array w ≡ true
+write_steady v w a b (as_it_was why notes) steady fresh marked = notes_whole v w a b notes fresh (steady (sym notes.same.marked ∙ marked))
+write_steady v w a b (newly_marked whole was unmarked notes) steady fresh marked = notes_whole (marked_by w.marked v) w a b notes fresh whole
 
 -- ---- rows past the log
 

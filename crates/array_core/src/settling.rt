@@ -1,6 +1,6 @@
 //! Superblocks that say how the array stands once its members are synced.
 
-ghost use Rattle.std.specs.Prelude.{◌≡◌, ◌≤◌, ◌+◌, ◌<◌, ℕ, Bool, false, length};
+ghost use Rattle.std.specs.Prelude.{◌≡◌, ◌≤◌, ◌+◌, ◌<◌, ℕ, Bool, List, false, length};
 ghost use Rattle.rack.specs.Values.{Values};
 ghost use Rattle.rack.specs.Sequences.{OnlyReads};
 ghost use Rattle.pool_state.specs.declared.contents.State.{State};
@@ -13,6 +13,7 @@ ghost use Rattle.commit_log.specs.View.{most_sectors};
 ghost use Rattle.array_core.specs.Settling.{Cleans, IsOwnSector, Settles, WritesSuper, WritesSupers};
 ghost use Rattle.array_core.specs.Pool.{Goes, MayRenew};
 ghost use Rattle.array_core.specs.Staging.{AddsSupersOf};
+ghost use Rattle.array_core.specs.Writing.{KeepsElsewhere};
 
 use crate::Array;
 use crate::staging::SUPER_SECTOR;
@@ -50,6 +51,7 @@ impl Array {
         ensures view { Cleans self.old self.new (R.seen rack.old) (R.seen rack.new) }
         ensures noted { IsNoted self.old self.new (R.seen rack.old) (R.seen rack.new) }
         ensures goes { Goes (R.seen rack.old) (R.seen rack.new) }
+        ensures elsewhere { (on : List ℕ) → KeepsElsewhere false self.old on (R.seen rack.old) (R.seen rack.new) }
         ensures kept { (s : State) (number : ℕ) → LogKept s number (λ place. false) (R.seen rack.old) → LogKept s number (λ place. false) (R.seen rack.new) }
         ensures runs { R.runs rack.old rack.new }
     {

@@ -1,9 +1,10 @@
-use Rattle.std.proofs.Common.{◌≤◌, ◌∙◌, sym, subst}
+use Rattle.std.proofs.Common.{false, ◌≤◌, ◌∙◌, sym, subst}
 use Rattle.array_image.specs.SoundArray.{first_unsynced}
 use Rattle.array_model.specs.View.{View, IsArray}
 use Rattle.array_core.specs.Settling.{WritesSupers}
 use Rattle.array_core.proofs.LogFrames.{kept_logs}
 use Rattle.array_core.proofs.Cleaning.{clean_acts, clean_logs, cleans_view}
+use Rattle.array_core.proofs.Elsewhere.{clean_elsewhere, reads_elsewhere}
 use Rattle.array_core.proofs.Array.clean.Goals as goal
 
 pub returns-then-has_lost-clause-cleans : goal.returns-then-has_lost-clause-cleans
@@ -41,3 +42,14 @@ returns-clause-kept g c =
     clean_logs s number c.sync.new.self c.renew_supers.new.self (g.R.Rack.seen c.args.rack.now) b d c.settle_truth.new.self.truth.raid_disks c.requires.slices.lasting
     c.rules-2.ensures.few c.sync.ensures.reads
     (subst (λ (w : View). WritesSupers w c.renew_supers.new.self b d c.settle_truth.new.self.truth.raid_disks) c.settle_truth.ensures c.renew_supers.ensures.writes) kept
+
+pub returns-then-has_lost-clause-elsewhere : goal.returns-then-has_lost-clause-elsewhere
+returns-then-has_lost-clause-elsewhere g c = λ on. reads_elsewhere false c.args.self.now on (g.R.Rack.seen c.args.rack.now) (g.R.Rack.seen c.sync.new.rack) c.sync.ensures.reads
+
+pub returns-clause-elsewhere : goal.returns-clause-elsewhere
+returns-clause-elsewhere g c = λ on.
+    let b = g.R.Rack.seen c.sync.new.rack in
+    let d = g.R.Rack.seen c.renew_supers.new.rack in
+    clean_elsewhere c.args.self.now c.sync.new.self c.renew_supers.new.self on (g.R.Rack.seen c.args.rack.now) b d c.settle_truth.new.self.truth.raid_disks c.rules.ensures.few
+    c.sync.ensures.reads c.sync.ensures.notes
+    (subst (λ (w : View). WritesSupers w c.renew_supers.new.self b d c.settle_truth.new.self.truth.raid_disks) c.settle_truth.ensures c.renew_supers.ensures.writes)
