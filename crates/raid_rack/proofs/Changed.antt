@@ -28,10 +28,10 @@ use Rattle.array_model.proofs.Noting.{losing_by}
 use Rattle.array_core.specs.Superblocks.{settled, raised}
 use Rattle.array_core.specs.Settling.{Settles}
 use Rattle.array_core.proofs.Settled.{settled_shape}
+use Rattle.raid_rack.specs.Book.{after_same}
 use Rattle.raid_rack.specs.Raid.{Raid, gone_in, is_left, is_over}
 use Rattle.raid_rack.specs.Marking.{Part}
 use Rattle.raid_rack.specs.Moves.{IsAmid, IsOfPool, IsSet, IsSeated, IsMarkedWhole, AreMarked, PartOf, Moves}
-use Rattle.raid_rack.proofs.Books.{after_same}
 use Rattle.raid_rack.proofs.Over.{someone_left, over_still, IsFurther, not_true}
 use Rattle.raid_rack.proofs.Reading.{part_read, part_unread}
 use Rattle.raid_rack.proofs.Ranges.{any_some, any_none}

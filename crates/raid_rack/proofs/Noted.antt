@@ -29,9 +29,9 @@ use Rattle.array_model.proofs.Losses.{IsLosing}
 use Rattle.array_model.proofs.Spared.{at_most_one, lost_value, wanting_more}
 use Rattle.array_model.proofs.Noting.{laid_out, unspent_then}
 use Rattle.array_core.specs.Seats.{names, gone, heeded}
+use Rattle.raid_rack.specs.Book.{after_same}
 use Rattle.raid_rack.specs.Raid.{Raid, AreLive, gone_in, is_left, is_over}
 use Rattle.raid_rack.specs.Moves.{IsSet, IsSeated, IsMarkedWhole, AreMarked, IsAmid, Brings, Moves}
-use Rattle.raid_rack.proofs.Books.{after_same}
 use Rattle.raid_rack.proofs.Own.{look_nothing}
 use Rattle.raid_rack.proofs.Ranges.{any_some, any_from}
 use Rattle.raid_rack.proofs.Over.{someone_left, not_true, over_still, IsFurther}

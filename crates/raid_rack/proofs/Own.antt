@@ -14,9 +14,9 @@ use Rattle.array_model.specs.View.{shape_of, spent_in}
 use Rattle.array_model.specs.Says.{Says}
 use Rattle.array_image.proofs.Frames.{Agree, supers_same, truth_by_supers, shape_same, value_same}
 use Rattle.array_image.proofs.SoundFrames.{sound_same}
+use Rattle.raid_rack.specs.Book.{after_same}
 use Rattle.raid_rack.specs.Laws.{says_value}
 use Rattle.raid_rack.specs.Marking.{SaysBetween}
-use Rattle.raid_rack.proofs.Books.{after_same}
 use Rattle.raid_rack.specs.Raid.{Raid, is_over, live_of, held_in, spent_of, IsTold, Stood}
 
 -- no target

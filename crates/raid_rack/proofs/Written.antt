@@ -22,11 +22,11 @@ use Rattle.array_model.specs.ArrayCalls.{Covers, WritesArray, appended_at}
 use Rattle.array_model.specs.Members.{slice_on}
 use Rattle.array_model.proofs.Firsts.{position_of}
 use Rattle.array_core.specs.Pool.{Goes, MayCommit}
+use Rattle.raid_rack.specs.Book.{after_same}
 use Rattle.raid_rack.specs.Raid.{Raid, AreLive, gone_in, is_left, is_over, held_in, Stood}
 use Rattle.raid_rack.specs.Moves.{AreMarked, Brings, IsAmid, IsHeeded, IsSet, PartOf, written_at}
 use Rattle.raid_rack.specs.Marking.{Part}
 use Rattle.raid_rack.proofs.Added.{names_current}
-use Rattle.raid_rack.proofs.Books.{after_same}
 use Rattle.raid_rack.proofs.Carried.{seat_marks}
 use Rattle.raid_rack.proofs.Changed.{ViewsOne, called, part_if, marked_before, same_shape, left_before, caused, further, views_set, views_sectors, views_spent}
 use Rattle.raid_rack.proofs.Noted.{current_few, gone_from, gone_not}
