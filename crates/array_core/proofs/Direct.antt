@@ -1,8 +1,7 @@
 -- Superblocks that are written directly, one by one: at each moment images say the array by the old truth or by the new one, and
 -- its shape and values stay.
-use Rattle.std.proofs.Common.{◌≡◌, ◌≢◌, ◌⊎◌, ℕ, pos, ◌+◌, ◌-◌, ◌%◌, ◌<◌, ◌≤◌, ◌^◌, Bool, true, false, ◌==◌, ◌&&◌, not, nat_lt, if◌then◌else◌, List, [], map, take, length, slice_get, Option, Some, None, option_map, unwrap_or, refl, sym, ap, ap₂, subst, ◌∙◌, inl, inr, eq-eqb, eqb-true, lt-ltb, ltb-true, arith}
+use Rattle.std.proofs.Common.{◌≡◌, ◌≢◌, ◌⊎◌, ℕ, ◌+◌, ◌-◌, ◌%◌, ◌<◌, ◌≤◌, ◌^◌, Bool, true, false, ◌==◌, ◌&&◌, not, nat_lt, List, [], map, length, slice_get, Option, Some, None, option_map, unwrap_or, refl, sym, ap, ap₂, subst, ◌∙◌, inl, inr, eq-eqb, eqb-true, lt-ltb, ltb-true, arith}
 use Rattle.std.proofs.lemmas.Bool.{and_parts, and_from, both_ways}
-use Rattle.std.proofs.lemmas.Nat.{and_assoc}
 use Rattle.std.specs.List.{range_with_len}
 use Rattle.rack.specs.Values.{Values, MayLeave, Keeps}
 use Rattle.rack.specs.Seen.{Image, Seen, IsLive, Stays}
@@ -12,11 +11,11 @@ use Rattle.md_super.specs.declared.superblock.Super.{Super}
 use Rattle.md_super.specs.Profile.{rules, is_mirror}
 use Rattle.pool_state.specs.declared.contents.State.{State}
 use Rattle.array_image.specs.Places.{slice_of, place_of, log_slice, member_slice, super_sector, data_sector}
-use Rattle.array_image.specs.Stripes.{width, sector_in, there, AgreeIn}
+use Rattle.array_image.specs.Stripes.{there}
 use Rattle.array_image.specs.States.{is_current}
 use Rattle.array_image.specs.Supers.{is_rebuilding, is_reshaping, super_in, truth_in}
 use Rattle.array_image.specs.SoundArray.{IsWrittenSuper, IsSoundArray, array_fields, first_unsynced}
-use Rattle.array_image.specs.Arrays.{Member, Shape, layout_at, member_by, member_in, place_with, shape_by, shape_in, replayed}
+use Rattle.array_image.specs.Arrays.{Member, Shape, member_by, member_in, place_with, shape_by, shape_in, replayed}
 use Rattle.array_image.specs.Even.{AreEven}
 use Rattle.array_image.specs.Held.{IsSettled}
 use Rattle.array_image.specs.Left.{reading, IsInside, Picks, PicksLogs, IsLeft}
@@ -29,7 +28,6 @@ use Rattle.array_model.specs.Says.{Says, IsOpen, Holds, IsEarlier, HasNoOthers}
 use Rattle.array_model.specs.ArrayCalls.{Turns}
 use Rattle.array_model.specs.Stages.{IsStateOf}
 use Rattle.array_model.specs.Members.{slice_on}
-use Rattle.array_model.proofs.DataFrames.{columns_same}
 use Rattle.array_model.proofs.Keeping.{reading_live, reading_outside, inside_before, logs_of, live_on, live_after, open_after, logs_before, closed_after, KeepsData, same_value, held_kept, even_kept, settled_kept}
 use Rattle.array_model.proofs.Moves.{Moves}
 use Rattle.array_model.proofs.Renewed.{Renews, AreNewer, NewTruth, old, renewed, new_truth, shape_kept, sound_renewed, leads, in_current}
@@ -41,76 +39,8 @@ use Rattle.array_core.specs.Settling.{IsOwnSector, IsNewSuper}
 use Rattle.array_core.proofs.Truths.{rule_holds}
 use Rattle.array_core.proofs.Rules.{get_map, get_range, zero_more}
 use Rattle.array_core.proofs.SlotMembers.{member_at}
-use Rattle.array_core.proofs.OwnSupers.{own_whole, own_rebuilding, own_array, own_there}
-
--- ---- the fields of the array that stay
-
-abbrev strip : Super → Super
-strip t = record (array_fields t) { events = 0; resync_offset = 0 }
-
-strip_reshaping : (t : Super) → is_reshaping (strip t) ≡ is_reshaping t
-strip_reshaping t = ap (λ (k : ℕ). k == 4) (and_assoc 4 t.feature_map 0xfffffffd)
-
-strip_written : (n : ℕ) (t : Super) → IsWrittenSuper n t → IsWrittenSuper n (strip t)
-strip_written n t written =
-    let bit = sym (strip_reshaping t) in
-    record {
-      name = written.name;
-      times = written.times;
-      roles = written.roles;
-      step = written.step ∙ ap (λ (b : Bool). pos (if b then 1 else 0)) bit;
-      next_level = written.next_level ∙ ap (λ (b : Bool). pos (if b then 5 else 0)) bit;
-      next_layout = written.next_layout ∙ ap (λ (b : Bool). if b then 2 else 0) bit;
-      next_chunk = written.next_chunk ∙ ap (λ (b : Bool). if b then 128 else 0) bit;
-      position = written.position;
-      last_position = written.last_position;
-      no_position = λ is. written.no_position (bit ∙ is);
-      resync = inr refl;
-    }
-
-whole_written : (n : ℕ) (t : Super) → (t.resync_offset ≡ 2 ^ 64 - 1) ⊎ (t.resync_offset % 128 ≡ 0) → IsWrittenSuper n (strip t) → IsWrittenSuper n t
-whole_written n t offset written =
-    let bit = strip_reshaping t in
-    record {
-      name = written.name;
-      times = written.times;
-      roles = written.roles;
-      step = written.step ∙ ap (λ (b : Bool). pos (if b then 1 else 0)) bit;
-      next_level = written.next_level ∙ ap (λ (b : Bool). pos (if b then 5 else 0)) bit;
-      next_layout = written.next_layout ∙ ap (λ (b : Bool). if b then 2 else 0) bit;
-      next_chunk = written.next_chunk ∙ ap (λ (b : Bool). if b then 128 else 0) bit;
-      position = written.position;
-      last_position = written.last_position;
-      no_position = λ is. written.no_position (bit ∙ is);
-      resync = offset;
-    }
-
--- the member of a superblock that is written for it
-own_member : (t : Super) (slot : Slot) (size p : ℕ) → slot.seat ≢ Missing → member_by size p true (Some (member_super t slot)) ≡ member_at size p (Some slot.seat)
-own_member t slot size p present =
-    let by : Bool → Member = λ b. record { place = p; reach = if b then (member_super t slot).recovery_offset else size; is_whole = not b } in
-    let Goal : Seat → Type 0 = λ seat. slot.seat ≡ seat → by (is_rebuilding (member_super t slot)) ≡ member_at size p (Some seat) in
-    let goal : Goal slot.seat = elim slot.seat as Goal [
-      | Missing ↦ λ is. absurd (present is)
-      | Whole ↦ λ is. ap by (own_whole t slot is)
-      | Rebuilding to ↦ λ is.
-          ap by (own_rebuilding t slot to is)
-          ∙ ap (λ (seat : Seat). record { place = p; reach = rebuilt_to seat; is_whole = false }) is
-    ] in
-    goal refl
-
-some_same : {X : Type 0} (x y : X) → Some x ≡ Some y → x ≡ y
-some_same x y same = ap (λ o. unwrap_or o x) same
-
--- rows that agree in contents agree in others with the same data
-even_data : (shape : Shape) (n resync : ℕ) (c e : Image)
-    → ((m : Member) (t : ℕ) → c (member_slice m.place n) (data_sector + t) ≡ e (member_slice m.place n) (data_sector + t))
-    → AreEven shape n resync e → AreEven shape n resync c
-even_data shape n resync c e same even x inside synced counts =
-    let layout = layout_at shape x in
-    subst (λ stripe. AgreeIn layout (there stripe))
-    (sym (columns_same c e n (sector_in layout x) (take (width layout) shape.members) (λ m among counted. same m (sector_in layout x))))
-    (even x inside synced counts)
+use Rattle.array_core.proofs.OwnSupers.{own_whole, own_array, own_there}
+use Rattle.array_core.proofs.Stripped.{strip, strip_reshaping, strip_written, whole_written, own_member, some_same, even_data}
 
 -- ---- superblocks with other events and other rows left to resync
 

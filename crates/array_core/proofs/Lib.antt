@@ -15,6 +15,7 @@ pub mod StagedTargets
 pub mod Rewriting
 pub mod Settled
 pub mod Renewing
+pub mod Stripped
 pub mod Direct
 pub mod LogFrames
 pub mod Cleaning
@@ -26,3 +27,4 @@ pub mod RowOwed
 pub mod RowLogged
 pub mod LogWrites
 pub mod WriteCalls
+pub mod Elsewhere

@@ -1,5 +1,5 @@
 -- A sector that is written by one commit: what is left of the array and of the log, whoever went in it.
-use Rattle.std.proofs.Common.{◌≡◌, ◌≢◌, ℕ, zero, suc, ◌+◌, ◌<◌, ◌≤◌, Bool, true, false, ◌==◌, ◌||◌, nat_lt, if◌then◌else◌, List, [], ◌∷◌, filter, length, slice_get, Some, refl, sym, ap, subst, ◌∙◌, inl, inr, eq-eqb, lt-ltb, ltb-true, arith}
+use Rattle.std.proofs.Common.{◌≡◌, ◌≢◌, ℕ, zero, suc, ◌+◌, ◌<◌, ◌≤◌, Bool, true, false, ◌||◌, nat_lt, if◌then◌else◌, List, [], ◌∷◌, filter, length, slice_get, Some, refl, sym, ap, subst, ◌∙◌, inl, inr, eq-eqb, lt-ltb, ltb-true, arith}
 use Rattle.std.proofs.lemmas.Bool.{both_ways, and_from}
 use Rattle.std.specs.Option.{option_map_or}
 use Rattle.std.specs.List.{list_all, range_with_len}
@@ -10,7 +10,6 @@ use Rattle.rack.specs.Sequences.{OnlyReads}
 use Rattle.rack.specs.Targets.{Target, look}
 use Rattle.pool_state.specs.declared.contents.State.{State}
 use Rattle.array_image.specs.Places.{data_sector}
-use Rattle.array_image.specs.Arrays.{Shape}
 use Rattle.commit_log.specs.View.{LogView, names, in_order, next_number}
 use Rattle.commit_log.specs.Commits.{CommitCall}
 use Rattle.commit_log.specs.Kept.{LogKept, gone_with}
@@ -26,7 +25,7 @@ use Rattle.array_model.proofs.Looking.{look_payload}
 use Rattle.array_model.proofs.Moves.{Moves, moves_by, moves_of}
 use Rattle.array_model.proofs.Noting.{holds_lost, losing_of}
 use Rattle.array_model.proofs.RowWrites.{gone_none, holds_values, is_spent, same_values, says_values}
-use Rattle.array_model.proofs.Views.{loses_then, notes_then, same_view_then}
+use Rattle.array_model.proofs.Views.{loses_then, same_view_then}
 use Rattle.array_core.specs.Logging.{HasAll, StagedRow, Stages, is_due}
 use Rattle.array_core.specs.Pool.{Goes, MayLog}
 use Rattle.array_core.specs.Writing.{Base}

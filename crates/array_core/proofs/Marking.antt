@@ -1,9 +1,9 @@
 -- The mark: superblocks that leave all rows to resync, written before rows are written past the log.
-use Rattle.std.proofs.Common.{◌≡◌, ℕ, ◌/◌, ◌<◌, ◌≤◌, Bool, true, false, ◌==◌, ◌&&◌, ◌||◌, not, nat_le, count_by, filter, length, if◌then◌else◌, List, [], ◌∷◌, map, slice_get, Some, None, suc, unwrap_or, refl, sym, ap, ap₂, subst, ◌∙◌, inl, inr, ltb-false, arith}
+use Rattle.std.proofs.Common.{◌≡◌, ℕ, ◌/◌, ◌<◌, Bool, true, false, ◌==◌, ◌&&◌, ◌||◌, not, nat_le, count_by, filter, length, if◌then◌else◌, List, [], ◌∷◌, map, slice_get, Some, None, suc, unwrap_or, refl, sym, ap, ap₂, subst, ◌∙◌, inl, inr, arith}
 use Rattle.std.specs.List.{list_all}
 use Rattle.std.proofs.lemmas.Bool.{both_ways}
 use Rattle.std.proofs.lemmas.List.Sums.{length-filter}
-use Rattle.array_image.specs.Supers.{is_reshaping, is_unclean}
+use Rattle.array_image.specs.Supers.{is_reshaping}
 use Rattle.array_model.specs.declared.Seat.{Seat}
 use Rattle.md_super.specs.Profile.{is_mirror}
 use Rattle.array_model.specs.View.{View, is_missing_seat, is_whole_array, is_whole_seat, present, rows_of}
@@ -14,11 +14,8 @@ use Rattle.array_core.specs.Settling.{Marks, unsynced, IsNewSuper, Readies, was_
 use Rattle.rack.specs.Values.{Values, MayLeave, append}
 use Rattle.rack.specs.Seen.{Image, Seen}
 use Rattle.rack.specs.Sequences.{WritesOnly}
-use Rattle.md_super.specs.declared.superblock.Super.{Super}
 use Rattle.pool_state.specs.declared.contents.State.{State}
-use Rattle.array_image.specs.SoundArray.{first_unsynced}
 use Rattle.array_image.specs.Arrays.{Shape, replayed}
-use Rattle.array_image.specs.Even.{AreEven}
 use Rattle.array_model.specs.declared.Seat.TheVariants.{Whole, Missing, Rebuilding}
 use Rattle.array_model.specs.View.{IsArray, shape_of, may_vary, is_alone}
 use Rattle.array_model.specs.Says.{Says, Holds}

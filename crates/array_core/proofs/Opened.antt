@@ -1,12 +1,12 @@
 -- The array that is opened is that of the contents.
-use Rattle.std.proofs.Common.{◌≡◌, ℕ, zero, suc, ◌+◌, ◌*◌, ◌^◌, ◌<◌, ◌≤◌, Bool, true, false, ◌==◌, ◌&&◌, not, nat_lt, is_ok, bytes_eq, if◌then◌else◌, List, [], ◌∷◌, map, find, count_by, unwrap_or, length, get_or, slice_get, Option, Some, None, Ok, Err, refl, sym, ap, ap₂, subst, ◌∙◌, lt-ltb, eqb-true, arith}
+use Rattle.std.proofs.Common.{◌≡◌, ℕ, zero, suc, ◌+◌, ◌*◌, ◌^◌, ◌<◌, ◌≤◌, Bool, true, false, ◌==◌, ◌&&◌, not, nat_lt, is_ok, bytes_eq, if◌then◌else◌, List, [], ◌∷◌, map, find, count_by, unwrap_or, length, get_or, slice_get, Option, Some, None, Ok, Err, option_map, refl, sym, ap, ap₂, subst, ◌∙◌, lt-ltb, eqb-true, arith}
 use Rattle.std.specs.Option.{option_map_or, option_and_then}
 use Rattle.std.specs.List.{range_with_len, list_all, zip}
 use Rattle.std.proofs.lemmas.Bool.{and_parts, and_from, both_ways}
 use Rattle.std.proofs.lemmas.List.Quantifiers.{position-Some}
 use Rattle.std.proofs.lemmas.Option.{slice_get-get_or}
 use Rattle.std.proofs.lemmas.Slice.Eq.{bytes_eq-Decides}
-use Rattle.rack.specs.Seen.{Image}
+use Rattle.rack.specs.Seen.{Image, Seen}
 use Rattle.pool_state.specs.declared.contents.State.{State}
 use Rattle.md_super.specs.declared.superblock.Super.{Super}
 use Rattle.md_super.specs.Profile.{profiled}
@@ -14,17 +14,21 @@ use Rattle.array_image.specs.Places.{array_id}
 use Rattle.array_image.specs.States.{is_current, current_places}
 use Rattle.array_image.specs.Supers.{is_named, is_rebuilding, is_reshaping, is_unclean, has_roles, has_whole_row, is_super_of, only_if, super_in, super_of, truth_in}
 use Rattle.array_image.specs.Places.{member_slice, super_sector}
-use Rattle.array_image.specs.Arrays.{place_with, member_by, member_in, shape_by, final_layout, first_layout}
+use Rattle.array_image.specs.Arrays.{Shape, place_with, member_by, member_in, shape_by, final_layout, first_layout}
+use Rattle.array_image.specs.Held.{Among}
+use Rattle.array_image.specs.Left.{reading}
 use Rattle.array_image.specs.Foremost.{foremost}
 use Rattle.array_model.specs.declared.Seat.TheVariants.{Whole, Rebuilding}
 use Rattle.array_model.specs.View.{shape_of, member_on}
+use Rattle.array_model.specs.Says.{IsOpen}
+use Rattle.array_model.specs.Opened.{OpensOn}
 use Rattle.array_core.specs.declared.Found.{Found}
 use Rattle.array_core.specs.declared.ArrayFault.TheVariants.{Foreign, TooFew, DirtyDegraded}
 use Rattle.array_core.specs.declared.slots.Slot.{Slot}
 use Rattle.array_core.specs.Slots.{slot_with, place_by, places_by}
 use Rattle.array_core.specs.Model.{is_truth}
 use Rattle.array_core.specs.Opening.{super_at, truth_of, share_set, slot_by, slots_found, lacking, view_found, opened_by, opened}
-use Rattle.array_core.specs.Contents.{current_super, AreFound, lacking_in}
+use Rattle.array_core.specs.Contents.{current_super, AreFound, AreSlicesOf, lacking_in}
 use Rattle.array_core.proofs.Leading.{Leads, foremost_leads, leads_foremost, foremost_filtered}
 use Rattle.array_core.proofs.Lists.{map_back}
 use Rattle.array_core.proofs.Truths.{truth_facts, valid_truth}
@@ -287,3 +291,27 @@ module _ (s : State) (c : Image) (number : ℕ) (t : Super) (found : List Found)
       else if nat_lt 0 n && (not young && is_unclean t) then Err DirtyDegraded
       else Ok (view_found number young found t))
       (found_shares s c number t found are) found_lacking
+
+-- ---- what the opened array holds
+
+-- the opened array is that of the slices, so it holds what they say
+pub found_opens : (s : State) (number : ℕ) (t : Super) (found : List Found) (x : Seen) → is_truth t ≡ true → AreSlicesOf s number t found x
+    → OpensOn s (view_found number false found t) x
+found_opens s number t found x holds slices =
+    let v = view_found number false found t in
+    let shape : shape_of v ≡ shape_by s (reading x) number t = found_shape s (reading x) number t found slices.found_is holds false in
+    record {
+      few = λ place current. (let low = current_below s place current in let few = slices.found_is.few in omega (arith, low, few));
+      joined = slices.joined;
+      shape_is = ap (option_map (shape_by s (reading x) number)) slices.found_is.truth ∙ ap Some (sym shape);
+      truth_is = slices.found_is.truth;
+      sound = slices.sound;
+      alone = slices.alone;
+      resync = omega arith;
+      unmarked = refl;
+      closed = slices.closed;
+      single = slices.single;
+      open_slices = subst (λ (f : Shape). IsOpen f number x) (sym shape) slices.open_slices;
+      supers = slices.supers;
+      sized = λ m i among counts. slices.sized m i (subst (λ (f : Shape). Among m f.members) shape among) counts;
+    }

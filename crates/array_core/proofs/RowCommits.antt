@@ -38,6 +38,7 @@ use Rattle.array_model.proofs.Moves.{Moves}
 use Rattle.array_model.proofs.Noting.{laid_out, unspent_then, covers_before}
 use Rattle.array_model.proofs.Spared.{lost_value, at_most_one, wanting_lost, wanting_take}
 use Rattle.array_model.proofs.Opening.{even_counted}
+use Rattle.array_model.proofs.Parts.{change_even}
 use Rattle.array_model.proofs.Whole.{among_kept}
 use Rattle.array_model.proofs.WholeWrites.{own_held}
 use Rattle.array_image.proofs.SoundFrames.{sound_same}
@@ -78,7 +79,7 @@ source_wants (parity n) t position members inside none = at_wants t position (ta
 
 -- ---- no target elsewhere
 
-no_look : (xs : List Target) (d t : ℕ) → ((u : List ℕ) → look xs d t ≡ Some u → ⊥) → look xs d t ≡ None
+pub no_look : (xs : List Target) (d t : ℕ) → ((u : List ℕ) → look xs d t ≡ Some u → ⊥) → look xs d t ≡ None
 no_look xs d t none =
     let Goal : Option (List ℕ) → Type 0 = λ o. look xs d t ≡ o → o ≡ None in
     let goal : Goal (look xs d t) = elim (look xs d t) as Goal [ None ↦ λ is. refl | Some u ↦ λ is. absurd (none u is) ] in
@@ -219,7 +220,7 @@ module _ (s : State) (v w : View) (a b : Seen) (l : LogView) (on lost : List ℕ
                       let f_is : shape ≡ f = ap (λ o. unwrap_or o f) (sym (shape_at s r e n supers ∙ old.shape_is) ∙ at) in
                       subst (λ (g : Shape). AreEven g n (first_unsynced t) r) f_is
                       (even_counted shape n (first_unsynced t) r now counted
-                      ((change h).even (first_unsynced t)
+                      (change_even shape n v.resync x from (current_in a.held) l.added (change h) (first_unsynced t)
                       (even_counted shape n (first_unsynced t) (current_in a.held) e old_counted (sound.even joined shape old.shape_is))));
                 };
           }
@@ -355,7 +356,7 @@ module _ (s : State) (v w : View) (a b : Seen) (l : LogView) (on lost : List ℕ
 
     shape_now : HoldsShape s v.number (shape_of v) (lowered gone (shape_of v)) v.resync (may_vary w) (appended_at x from vals) spent b
     shape_now =
-        let even_now = (change h).even v.resync holds.shape.even in
+        let even_now = change_even shape n v.resync x from (current_in a.held) l.added (change h) v.resync holds.shape.even in
         let left_now : (m : Member) (t : ℕ) → Among m (lowered gone shape).members → t < m.reach → current_in b.held (member_slice m.place n) (data_sector + t) ≡ now (member_slice m.place n) (data_sector + t) =
         λ m t among counts. kept_now m t (among_lowered gone t shape.members m among counts) counts (among_kept gone t shape.members m among counts) in
         record {

@@ -1,6 +1,6 @@
 -- A row that is read and changed by one commit keeps the array, and the log.
-use Rattle.std.proofs.Common.{◌≡◌, ◌≢◌, ℕ, ◌+◌, ◌-◌, ◌<◌, ◌≤◌, ◌^◌, Bool, true, false, ◌==◌, ◌&&◌, ◌||◌, not, nat_lt, if◌then◌else◌, List, [], ◌∷◌, filter, length, slice_get, Option, Some, None, option_map, unwrap_or, refl, sym, ap, ap₂, subst, ◌∙◌, inl, inr, eqb-true, lt-ltb, ltb-true, arith}
-use Rattle.std.proofs.lemmas.Bool.{both_ways, and_parts, and_from}
+use Rattle.std.proofs.Common.{◌≡◌, ℕ, ◌+◌, ◌<◌, Bool, true, false, ◌==◌, ◌&&◌, ◌||◌, not, if◌then◌else◌, List, [], ◌∷◌, length, slice_get, Option, Some, None, option_map, unwrap_or, refl, sym, ap, subst, ◌∙◌, inl, inr, eqb-true, ltb-true, arith}
+use Rattle.std.proofs.lemmas.Bool.{both_ways, and_from}
 use Rattle.std.specs.List.{list_any}
 use Rattle.rack.specs.Values.{Values}
 use Rattle.rack.specs.Seen.{Image, Seen, IsLive}
@@ -8,7 +8,6 @@ use Rattle.rack.specs.Targets.{Target, look}
 use Rattle.rack.specs.Sequences.{IsPayload, OnlyReads}
 use Rattle.pool_state.specs.declared.contents.State.{State}
 use Rattle.array_image.specs.Places.{place_of, log_slice, data_sector}
-use Rattle.array_image.specs.Record.{pending}
 use Rattle.array_image.specs.States.{is_current}
 use Rattle.array_image.specs.Held.{Among, current_in}
 use Rattle.array_image.specs.Stripes.{sector_in}
@@ -19,23 +18,23 @@ use Rattle.array_model.specs.ArrayCalls.{Covers, appended_at}
 use Rattle.array_model.specs.Rows.{RowChange, written}
 use Rattle.array_model.proofs.Losses.{IsLosing}
 use Rattle.array_model.proofs.Moves.{Moves, moves_then, moves_by}
-use Rattle.array_model.proofs.Opening.{even_counted}
+use Rattle.array_model.proofs.Opening.{agree_counted}
 use Rattle.array_core.proofs.Marking.{says_appended}
 use Rattle.md_super.specs.declared.superblock.Super.{Super}
 use Rattle.std.specs.Option.{option_map_or}
 use Rattle.array_image.specs.Left.{PicksLogs}
 use Rattle.array_image.specs.Arrays.{Member, Shape, layout_at, replayed}
 use Rattle.array_image.proofs.Replays.{replayed_as_is}
-use Rattle.commit_log.specs.View.{LogView, names, is_left, next_number}
+use Rattle.commit_log.specs.View.{LogView, names, next_number}
 use Rattle.commit_log.specs.Standing.{IsReady, SomeoneDecides}
 use Rattle.commit_log.specs.Commits.{CommitCall}
-use Rattle.commit_log.specs.Kept.{LogKept, AreLeft, Brings, gone_with}
+use Rattle.commit_log.specs.Kept.{LogKept, Brings, gone_with}
 use Rattle.commit_log.proofs.Kept.{brings_nothing, kept_ready, kept_decides, kept_idle}
 use Rattle.commit_log.proofs.KeptAfter.{kept_after, kept_keeps}
 use Rattle.array_model.specs.declared.Seat.{Seat}
 use Rattle.array_model.specs.declared.Seat.TheVariants.{Whole, Missing, Rebuilding}
-use Rattle.array_model.specs.View.{View, IsArray, LosesPlaces, shape_of, spent_in, sectors_of, member_on, place_at, has_gone, seat_reach, is_missing_seat}
-use Rattle.array_model.specs.Members.{IsSameButSeats, Notes, slice_on}
+use Rattle.array_model.specs.View.{View, IsArray, shape_of, spent_in, sectors_of, member_on, place_at, has_gone, seat_reach, is_missing_seat}
+use Rattle.array_model.specs.Members.{Notes, slice_on}
 use Rattle.array_model.proofs.Firsts.{member_among}
 use Rattle.array_model.proofs.Looking.{look_payload}
 use Rattle.array_model.proofs.Keeping.{live_on, live_after, keeping_calls}
@@ -162,9 +161,9 @@ change_kept shape n resync x from cur now xs same change =
           value_by_data shape (written xs now) (written xs cur) n y (λ m among counts. over m (sector_in (layout_at shape y) y) among counts)
           ∙ change.value y alive
           ∙ ap (λ (v : List ℕ). if y == x then from else v) (sym (value_by_data shape now cur n y (λ m among counts. same m (sector_in (layout_at shape y) y) among counts)));
-      even = λ rows even.
-          even_counted shape n rows (written xs now) (written xs cur) over
-          (change.even rows (even_counted shape n rows cur now (λ m t among counts. sym (same m t among counts)) even));
+      even = λ y counts agree.
+          agree_counted shape n y (written xs now) (written xs cur) over
+          (change.even y counts (agree_counted shape n y cur now (λ m t among counted. sym (same m t among counted)) agree));
     }
 
 -- A row that was read and changed by one commit, whoever went in it.

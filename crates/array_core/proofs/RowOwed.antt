@@ -10,30 +10,33 @@ use Rattle.raid_map.specs.LeftSymmetric.{IsMemberCount, member_of, sector_of, pa
 use Rattle.raid_map.proofs.Rows.{apart_from_parity}
 use Rattle.array_image.specs.Places.{member_slice, data_sector}
 use Rattle.array_image.specs.Record.{is_target, are_apart}
-use Rattle.array_image.specs.Stripes.{Layout, mirror, parity, width, capacity, given, position_in, sector_in}
+use Rattle.array_image.specs.Stripes.{Layout, mirror, parity, width, capacity, given, position_in, sector_in, there, AgreeIn}
 use Rattle.array_image.specs.Supers.{is_reshaping}
 use Rattle.array_image.specs.Arrays.{Member, Shape, column, first_layout, layout_at, value_by}
 use Rattle.array_image.specs.Even.{AreEven}
 use Rattle.array_image.specs.Held.{Among, current_in}
 use Rattle.array_image.specs.Marks.{lower}
 use Rattle.array_image.specs.Spent.{wanting, spent_with, spent_by}
-use Rattle.array_model.specs.View.{View, IsArray, LosesPlaces, shape_of, spent_in, sectors_of, member_on, may_vary}
+use Rattle.array_image.proofs.Settled.{among_take}
+use Rattle.array_model.specs.View.{View, IsArray, LosesPlaces, shape_of, spent_in, sectors_of, member_on}
 use Rattle.array_model.specs.Says.{IsOpen}
 use Rattle.array_model.specs.Members.{IsSameButSeats, members_of, slice_on}
-use Rattle.array_model.specs.Rows.{RowChange, part_at, data_at, parity_part, IsPlain}
+use Rattle.array_model.specs.Rows.{RowChange, part_at, data_at, parity_part, IsPlain, straight}
 use Rattle.array_model.proofs.Copies.{copies_change}
-use Rattle.array_model.proofs.Degraded.{parity_change, side_value, two_want, long_zeros}
-use Rattle.array_model.proofs.Firsts.{position_of}
-use Rattle.array_model.proofs.Layouts.{members_count, sector_inside}
+use Rattle.array_model.proofs.Degraded.{parity_change}
+use Rattle.array_model.proofs.Filled.{two_want, long_zeros}
+use Rattle.array_model.proofs.SideParity.{side_value}
+use Rattle.array_model.proofs.Firsts.{map_take, position_of}
+use Rattle.array_model.proofs.Layouts.{layout_by, members_count, reshaping_parity, sector_inside}
 use Rattle.array_model.proofs.Looking.{look_payload}
-use Rattle.array_model.proofs.Losses.{IsLosing}
-use Rattle.array_model.proofs.Noting.{layout_is, laid_out, length_members, losing_of, unspent_then, covers_before}
+use Rattle.array_model.proofs.Noting.{layout_is, laid_out, length_members, losing_of, spent_fewer, unspent_then, covers_before}
 use Rattle.array_model.proofs.Parts.{at_is, look_one}
 use Rattle.array_model.proofs.ParityRow.{data_inside, parity_inside, same_place}
 use Rattle.array_model.proofs.Reading.{layout_same, open_then, slice_same, spent_given}
 use Rattle.array_model.proofs.RowWrites.{part_on, plain_shape}
-use Rattle.array_model.proofs.Spared.{at_most_one, lost_value}
-use Rattle.array_model.proofs.Views.{shape_members, shape_then, members_then, vary_then, fresh_then, loses_then, same_view_then}
+use Rattle.array_model.proofs.Sides.{off_side, on_side, rows_apart, straight_change, straight_part, straight_plain, straight_sector, straight_spent, straight_value, take_twice}
+use Rattle.array_model.proofs.Spared.{at_most_one, lost_value, wanting_take}
+use Rattle.array_model.proofs.Views.{shape_members, shape_then, members_then, loses_then, same_view_then}
 use Rattle.array_core.specs.declared.members.Stand.{Stand}
 use Rattle.array_core.specs.Logging.{is_due, one_if, sector_target, due_copies, MakesParity, IsChange, data_alone, with_parity, IsRowAt, StagedRow, staged_copies, staged_change}
 use Rattle.array_core.specs.Writing.{Base}
@@ -183,10 +186,14 @@ module _ (all : Bool) (b0 u w : View) (a : Seen) (x : ℕ) (from : List ℕ) (ba
   low_base : x < sectors_of b0
   low_base = subst (λ (t : _). x < capacity (first_layout t) t.size) base.same.truth low
 
-  plain_by : (l : Layout) → layout_at (shape_of u) x ≡ l → IsPlain (shape_of b0) l
-  plain_by l is =
-      let plain = plain_shape b0 base.is_array base.still in
-      subst (λ (k : Layout). IsPlain (shape_of b0) k) (sym (plain.layout_is x) ∙ sym layout_of_base ∙ is) plain
+  -- copies are those of an array that doesn't reshape
+  still : (n : ℕ) → layout_at (shape_of b0) x ≡ mirror n → is_reshaping b0.truth ≡ false
+  still n layout = by (is_reshaping b0.truth) (nat_lt x b0.truth.reshape_position) refl refl
+    where
+      by : (b moved : Bool) → is_reshaping b0.truth ≡ b → nat_lt x b0.truth.reshape_position ≡ moved → b ≡ false
+      by false moved is is_m = refl
+      by true true is is_m = let bad = sym layout ∙ layout_by b0 x true true is is_m ∙ reshaping_parity b0 base.is_array is in absurd (cc)
+      by true false is is_m = let bad = sym layout ∙ layout_by b0 x true false is is_m in absurd (cc)
 
   unspent_b : spent_by (shape_of b0) b0.resync x ≡ false
   unspent_b = unspent_base all b0 u x base unspent
@@ -199,7 +206,9 @@ module _ (all : Bool) (b0 u w : View) (a : Seen) (x : ℕ) (from : List ℕ) (ba
 
   copies_owe : (n : ℕ) → layout_at (shape_of u) x ≡ mirror n → RowChange (shape_of b0) b0.number b0.resync x from (current_in a.held) (due_copies all u x from n)
   copies_owe n layout =
-      let plain = plain_by (mirror n) layout in
+      let copied : layout_at (shape_of b0) x ≡ mirror n = sym layout_of_base ∙ layout in
+      let whole = plain_shape b0 base.is_array (still n copied) in
+      let plain : IsPlain (shape_of b0) (mirror n) = subst (λ (l : Layout). IsPlain (shape_of b0) l) (sym (whole.layout_is x) ∙ copied) whole in
       let at : sector_in (layout_at (shape_of b0) x) x ≡ x = ap (λ (l : Layout). sector_in l x) (sym layout_of_base ∙ layout) in
       let inside : x < b0.truth.size = (let inside = inside_b in omega (arith, inside, at)) in
       let long = length_members b0 in
@@ -221,8 +230,15 @@ module _ (all : Bool) (b0 u w : View) (a : Seen) (x : ℕ) (from : List ℕ) (ba
       (λ d i v is_v. let one = on d i v (look_payload xs d i v is_v) in (one.sector, one.own.2)))
 
   module _ (k : ℕ) (at side : Stand) (row : IsRowAt u x k at side) where
-    plain : IsPlain (shape_of b0) (parity k)
-    plain = plain_by (parity k) row.layout
+    here : layout_at (shape_of b0) x ≡ parity k
+    here = sym layout_of_base ∙ row.layout
+
+    most : k ≤ b0.truth.raid_disks
+    most = subst (λ (l : Layout). width l ≤ b0.truth.raid_disks) here (layout_is b0 x base.is_array).most
+
+    -- the row is one of its layout's members, which don't reshape
+    plain : IsPlain (straight (shape_of b0) k) (parity k)
+    plain = straight_plain b0 k base.is_array most
 
     count : IsMemberCount k
     count = subst (λ (l : Layout). IsMemberCount (width l)) (sym layout_of_base ∙ row.layout) (members_count b0 x base.is_array)
@@ -245,33 +261,39 @@ module _ (all : Bool) (b0 u w : View) (a : Seen) (x : ℕ) (from : List ℕ) (ba
     in_size : at.sector < b0.truth.size
     in_size = subst (λ (t : _). at.sector < t.size) base.same.truth row.stand.sector
 
-    part_p : data_at (shape_of b0) k x ≡ member_on b0 at.position
-    part_p = ap (λ j. part_at j (shape_of b0).members) (sym p_is) ∙ part_on b0 at.position low_p
+    in_p : at.position < k
+    in_p = subst (λ (l : Layout). at.position < width l) row.spread row.stand.position
 
-    part_q : parity_part (shape_of b0) k x ≡ member_on b0 side.position
-    part_q = ap (λ j. part_at j (shape_of b0).members) (sym q_is) ∙ part_on b0 side.position low_q
+    in_q : side.position < k
+    in_q = subst (λ (l : Layout). side.position < width l) row.side_spread row.side_stand.position
 
-    d_p : slice_on u at.position ≡ member_slice (data_at (shape_of b0) k x).place b0.number
+    part_p : data_at (straight (shape_of b0) k) k x ≡ member_on b0 at.position
+    part_p = ap (λ j. part_at j (take k (shape_of b0).members)) (sym p_is) ∙ straight_part b0 at.position k in_p most
+
+    part_q : parity_part (straight (shape_of b0) k) k x ≡ member_on b0 side.position
+    part_q = ap (λ j. part_at j (take k (shape_of b0).members)) (sym q_is) ∙ straight_part b0 side.position k in_q most
+
+    d_p : slice_on u at.position ≡ member_slice (data_at (straight (shape_of b0) k) k x).place b0.number
     d_p = slice_same b0 u at.position base.same ∙ ap (λ (m : Member). member_slice m.place b0.number) (sym part_p)
 
-    d_q : slice_on u side.position ≡ member_slice (parity_part (shape_of b0) k x).place b0.number
+    d_q : slice_on u side.position ≡ member_slice (parity_part (straight (shape_of b0) k) k x).place b0.number
     d_q = slice_same b0 u side.position base.same ∙ ap (λ (m : Member). member_slice m.place b0.number) (sym part_q)
 
-    differ : member_slice (data_at (shape_of b0) k x).place b0.number ≡ member_slice (parity_part (shape_of b0) k x).place b0.number → ⊥
+    differ : member_slice (data_at (straight (shape_of b0) k) k x).place b0.number ≡ member_slice (parity_part (straight (shape_of b0) k) k x).place b0.number → ⊥
     differ same =
         apart_from_parity k x count.least
-        (plain.apart (member_of k x) (parity_at k (sector_of k x)) (data_inside (shape_of b0) k x plain count) (parity_inside (shape_of b0) k (sector_of k x) plain count)
-        (same_place (data_at (shape_of b0) k x).place (parity_part (shape_of b0) k x).place b0.number same))
+        (plain.apart (member_of k x) (parity_at k (sector_of k x)) (data_inside (straight (shape_of b0) k) k x plain count) (parity_inside (straight (shape_of b0) k) k (sector_of k x) plain count)
+        (same_place (data_at (straight (shape_of b0) k) k x).place (parity_part (straight (shape_of b0) k) k x).place b0.number same))
 
-    due_p : sector_of k x < (data_at (shape_of b0) k x).reach → is_due all u at.position at.sector ≡ true
+    due_p : sector_of k x < (data_at (straight (shape_of b0) k) k x).reach → is_due all u at.position at.sector ≡ true
     due_p counts =
         base.due at.position at.sector low_p in_size
-        ∙ ap₂ (λ (m : Member) s. nat_lt s m.reach) (sym part_p) t_is ∙ lt-ltb (sector_of k x) (data_at (shape_of b0) k x).reach counts
+        ∙ ap₂ (λ (m : Member) s. nat_lt s m.reach) (sym part_p) t_is ∙ lt-ltb (sector_of k x) (data_at (straight (shape_of b0) k) k x).reach counts
 
-    due_q : sector_of k x < (parity_part (shape_of b0) k x).reach → is_due all u side.position at.sector ≡ true
+    due_q : sector_of k x < (parity_part (straight (shape_of b0) k) k x).reach → is_due all u side.position at.sector ≡ true
     due_q counts =
         base.due side.position at.sector low_q in_size
-        ∙ ap₂ (λ (m : Member) s. nat_lt s m.reach) (sym part_q) t_is ∙ lt-ltb (sector_of k x) (parity_part (shape_of b0) k x).reach counts
+        ∙ ap₂ (λ (m : Member) s. nat_lt s m.reach) (sym part_q) t_is ∙ lt-ltb (sector_of k x) (parity_part (straight (shape_of b0) k) k x).reach counts
 
     abbrev IsOne : List ℕ → ℕ → ℕ → List ℕ → Type 0
     IsOne new d s v = ((d ≡ slice_on u at.position) × (s ≡ data_sector + at.sector) × (v ≡ from)) ⊎ ((d ≡ slice_on u side.position) × (s ≡ data_sector + at.sector) × (v ≡ new))
@@ -280,29 +302,33 @@ module _ (all : Bool) (b0 u w : View) (a : Seen) (x : ℕ) (from : List ℕ) (ba
         → ((d s : ℕ) (v : List ℕ) → IsPayload xs d s v → IsOne new d s v)
         → (is_due all u at.position at.sector ≡ true → IsPayload xs (slice_on u at.position) (data_sector + at.sector) from)
         → (is_due all u side.position at.sector ≡ true → IsPayload xs (slice_on u side.position) (data_sector + at.sector) new)
-        → (sector_of k x < (parity_part (shape_of b0) k x).reach
-        → new ≡ xor (xor (current_in a.held (member_slice (parity_part (shape_of b0) k x).place b0.number) (data_sector + sector_of k x)) (value_by (shape_of b0) (current_in a.held) b0.number x)) from)
+        → (sector_of k x < (parity_part (straight (shape_of b0) k) k x).reach
+        → new ≡ xor (xor (current_in a.held (member_slice (parity_part (straight (shape_of b0) k) k x).place b0.number) (data_sector + sector_of k x)) (value_by (shape_of b0) (current_in a.held) b0.number x)) from)
         → RowChange (shape_of b0) b0.number b0.resync x from (current_in a.held) xs
     by_targets new xs long which has_p has_q next =
         let n = b0.number in
-        let dp = member_slice (data_at (shape_of b0) k x).place n in
-        let dq = member_slice (parity_part (shape_of b0) k x).place n in
-        let here : (d s : ℕ) (v : List ℕ) → IsPayload xs d s v → ((d ≡ dp) × (s ≡ data_sector + sector_of k x) × (v ≡ from)) ⊎ ((d ≡ dq) × (s ≡ data_sector + sector_of k x) × (v ≡ new)) =
+        let dp = member_slice (data_at (straight (shape_of b0) k) k x).place n in
+        let dq = member_slice (parity_part (straight (shape_of b0) k) k x).place n in
+        let here_is : (d s : ℕ) (v : List ℕ) → IsPayload xs d s v → ((d ≡ dp) × (s ≡ data_sector + sector_of k x) × (v ≡ from)) ⊎ ((d ≡ dq) × (s ≡ data_sector + sector_of k x) × (v ≡ new)) =
         λ d s v is. elim (which d s v is) [
           | inl one ↦ inl (one.0 ∙ d_p, one.1 ∙ ap (λ i. data_sector + i) t_is, one.2)
           | inr two ↦ inr (two.0 ∙ d_q, two.1 ∙ ap (λ i. data_sector + i) t_is, two.2)
         ] in
-        parity_change (shape_of b0) k n b0.resync x from new (current_in a.held) xs plain count wide long is_read.sized
+        straight_change (shape_of b0) k n b0.resync x from (current_in a.held) xs here (λ y. rows_apart b0 x k y base.is_array here)
+        (λ d i v is. elim (here_is d i v (look_payload xs d i v is)) [ inl one ↦ one.1 | inr two ↦ two.1 ])
+        (parity_change (straight (shape_of b0) k) k n b0.resync x from new (current_in a.held) xs plain count wide long
+        (λ m t among counts. is_read.sized m t (among_take k (shape_of b0).members m among) counts)
         (λ counts.
         look_one xs dp (data_sector + sector_of k x) from
         (subst (λ d. IsPayload xs d (data_sector + sector_of k x) from) d_p (subst (λ i. IsPayload xs (slice_on u at.position) (data_sector + i) from) t_is (has_p (due_p counts))))
-        (λ v is. elim (here dp _ v is) [ inl one ↦ one.2 | inr two ↦ absurd (differ two.0) ]))
+        (λ v is. elim (here_is dp _ v is) [ inl one ↦ one.2 | inr two ↦ absurd (differ two.0) ]))
         (λ counts.
         look_one xs dq (data_sector + sector_of k x) new
         (subst (λ d. IsPayload xs d (data_sector + sector_of k x) new) d_q (subst (λ i. IsPayload xs (slice_on u side.position) (data_sector + i) new) t_is (has_q (due_q counts))))
-        (λ v is. elim (here dq _ v is) [ inl one ↦ absurd (differ (sym one.0)) | inr two ↦ two.2 ]))
-        (λ d i v is. here d i v (look_payload xs d i v is))
-        unspent_b next
+        (λ v is. elim (here_is dq _ v is) [ inl one ↦ absurd (differ (sym one.0)) | inr two ↦ two.2 ]))
+        (λ d i v is. here_is d i v (look_payload xs d i v is))
+        (straight_spent (shape_of b0) k b0.resync x here unspent_b)
+        (λ counts. next counts ∙ ap (λ v. xor (xor (current_in a.held (member_slice (parity_part (straight (shape_of b0) k) k x).place n) (data_sector + sector_of k x)) v) from) (sym (straight_value (shape_of b0) k n x (current_in a.held) here))))
 
     opened_u : IsOpen (shape_of u) u.number a
     opened_u = open_then b0 u a a base.same base.lost base.loses a is_read.opened
@@ -322,8 +348,8 @@ module _ (all : Bool) (b0 u w : View) (a : Seen) (x : ℕ) (from : List ℕ) (ba
     unfolding shape_of
     size_is v = refl
 
-    parity_is : (new : List ℕ) (makes : MakesParity u w a at side from new) → sector_of k x < (parity_part (shape_of b0) k x).reach
-        → makes.side_old ≡ current_in a.held (member_slice (parity_part (shape_of b0) k x).place b0.number) (data_sector + sector_of k x)
+    parity_is : (new : List ℕ) (makes : MakesParity u w a at side from new) → sector_of k x < (parity_part (straight (shape_of b0) k) k x).reach
+        → makes.side_old ≡ current_in a.held (member_slice (parity_part (straight (shape_of b0) k) k x).place b0.number) (data_sector + sector_of k x)
     parity_is new makes counts =
         let same = same_view_then b0 u w base.same same_w in
         let lost : ℕ → Bool = λ place. lost_w place || base.lost place in
@@ -331,12 +357,27 @@ module _ (all : Bool) (b0 u w : View) (a : Seen) (x : ℕ) (from : List ℕ) (ba
         let members : members_of w ≡ map (lower lost) (shape_of b0).members = members_then b0 w lost same.truth loses ∙ ap (map (lower lost)) (sym (shape_members b0)) in
         let s_is : side.sector ≡ sector_of k x = row.side_sector ∙ t_is in
         let Row : Layout → List Member → ℕ → ℕ → ℕ → List ℕ = λ l ms n i j. given l (map (column (current_in a.held) n i) (take (width l) ms)) j in
-        let still : spent_with (wanting (sector_of k x) (map (lower lost) (shape_of b0).members)) (nat_lt (row_at (sector_of k x)) b0.resync) ≡ false =
+        let low : Member → Member = lower lost in
+        let all : List Member = (shape_of b0).members in
+        let t = sector_of k x in
+        let taken : take k (map low (take k all)) ≡ take k (map low all) = ap (take k) (sym (map_take low k all)) ∙ take_twice k (map low all) in
+        let unspent_all : spent_with (wanting t (map low all)) (nat_lt (row_at t) b0.resync) ≡ false =
         sym (λ i. spent_with (wanting (s_is i) (members i)) (nat_lt (row_at (s_is i)) (same.resync i))) ∙ makes.still in
+        let unspent_side : spent_with (wanting t (map low (take k all))) (nat_lt (row_at t) b0.resync) ≡ false =
+        spent_fewer (wanting t (map low (take k all))) (wanting t (map low all)) (nat_lt (row_at t) b0.resync)
+        (subst (λ ms. wanting t ms ≤ wanting t (map low all)) (map_take low k all) (wanting_take k t (map low all))) unspent_all in
+        let Agree : Layout → List Member → Type 0 = λ l ms. AgreeIn l (there (map (column (current_in a.held) b0.number (sector_in l x)) ms)) in
         makes.side_is opened_u
         ∙ (λ i. Row (row.side_spread i) (members i) (same.number i) (s_is i) ((row.side_position ∙ ap (parity_at k) s_is) i))
-        ∙ side_value (shape_of b0) k b0.number b0.resync x (current_in a.held) lost plain count is_read.sized is_read.even
-        (subst (λ n. sector_of k x < n) (sym (size_is b0)) (subst (λ s. s < b0.truth.size) t_is in_size)) still counts
+        ∙ ap (λ ms. given (parity k) (map (column (current_in a.held) b0.number t) ms) (parity_at k t)) (sym taken)
+        ∙ side_value (straight (shape_of b0) k) k b0.number b0.resync x (current_in a.held) lost plain count
+        (λ m i among counts. is_read.sized m i (among_take k all m among) counts)
+        (λ synced counts.
+        on_side (shape_of b0) k x here Agree
+        (is_read.even x (subst (λ n. sector_in (layout_at (shape_of b0) x) x < n) (sym (size_is b0)) inside_b)
+        (subst (λ i. row_at i < b0.resync) (straight_sector (shape_of b0) k x here) synced)
+        (off_side (shape_of b0) k x here (λ l ms. (m : Member) → Among m ms → sector_in l x < m.reach) counts)))
+        unspent_side counts
 
     change_owes : (xs : List Target) → IsChange all u w a at side from xs → RowChange (shape_of b0) b0.number b0.resync x from (current_in a.held) xs
     change_owes xs (data_alone none) =

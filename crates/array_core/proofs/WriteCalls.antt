@@ -1,5 +1,5 @@
 -- A write from its parts: an array that is marked first, if need be, and a row that is written past the log or by one commit.
-use Rattle.std.proofs.Common.{◌≡◌, ◌≢◌, ◌⊎◌, ℕ, ◌+◌, ◌<◌, ◌≤◌, ◌^◌, Bool, true, false, ◌||◌, nat_lt, List, [], Some, refl, sym, ap, ap₂, subst, ◌∙◌, inl, inr, lt-ltb, arith}
+use Rattle.std.proofs.Common.{◌≡◌, ◌≢◌, ℕ, ◌+◌, ◌<◌, ◌≤◌, Bool, true, false, ◌||◌, List, [], Some, refl, sym, ap, subst, ◌∙◌, inl, inr, lt-ltb, arith}
 use Rattle.std.proofs.lemmas.Bool.{both_ways}
 use Rattle.rack.specs.Values.{Values}
 use Rattle.rack.specs.Seen.{Image, Seen, Stays}
@@ -15,10 +15,9 @@ use Rattle.commit_log.proofs.KeptAfter.{kept_keeps, kept_more}
 use Rattle.array_model.specs.declared.Seat.TheVariants.{Missing, Whole}
 use Rattle.array_model.specs.View.{View, IsArray, IsNoted, has_gone, is_alone, is_whole_array, may_vary, member_on, sectors_of, shape_of}
 use Rattle.array_model.specs.Says.{IsOpen, Says, Holds}
-use Rattle.array_model.specs.ArrayCalls.{Covers, WritesArray, appended_at}
+use Rattle.array_model.specs.ArrayCalls.{WritesArray, appended_at}
 use Rattle.array_model.specs.Members.{HasSlices, Notes, slice_on}
 use Rattle.array_model.specs.Rows.{Wrote, refused, row}
-use Rattle.array_model.specs.Stages.{IsStateOf}
 use Rattle.array_model.proofs.Keeping.{keeping_calls, open_after}
 use Rattle.array_model.proofs.Moves.{Moves, KeepsOthers, acts_of, moves_by, moves_of, moves_then}
 use Rattle.array_model.proofs.Noting.{noted_by}
@@ -26,7 +25,7 @@ use Rattle.array_model.proofs.Reading.{slice_same, slices_then}
 use Rattle.array_model.proofs.RowWrites.{whole_reach, whole_seat}
 use Rattle.array_model.proofs.Views.{loses_nobody, notes_none, notes_then, same_view}
 use Rattle.array_core.specs.Logging.{HasAll, is_due}
-use Rattle.array_core.specs.Pool.{Goes, MayCommit, MayLog, MayRenew}
+use Rattle.array_core.specs.Pool.{Goes, MayCommit, MayLog}
 use Rattle.array_core.specs.Settling.{Marks, Readies, unsynced, was_marked, now_marked, lost_one, not_whole}
 use Rattle.array_core.specs.Superblocks.{raised}
 use Rattle.array_core.specs.Writing.{Base, WritesView, as_it_was, newly_marked}
@@ -66,7 +65,7 @@ past_kept s number v w a b lasting stays others kept =
 -- ---- the view
 
 -- a view by which the array goes before its losses are noted
-record Viewed (v u : View) (a b : Seen) : Type 0 where
+pub record Viewed (v u : View) (a b : Seen) : Type 0 where
   pub base : View
   pub notes : Notes base u a b
   pub slices : HasSlices v a → HasSlices base a
@@ -100,7 +99,7 @@ same_viewed v u a b same = record {
   same = λ n. refl;
 }
 
-viewed : (v u : View) (a b : Seen) (r : Bool) → Readies v u a b r → Viewed v u a b
+pub viewed : (v u : View) (a b : Seen) (r : Bool) → Readies v u a b r → Viewed v u a b
 viewed v u a b r (was_marked whole fresh marked same reads) = same_viewed v u a b same
 viewed v u a b r (now_marked whole fresh unmarked marked marks) = marked_viewed v u a b marks
 viewed v u a b r (lost_one whole fresh unmarked lost marks) = marked_viewed v u a b marks
@@ -200,7 +199,6 @@ same_based s v u w number on a b is_array slices many lacks same readies may sta
     is_array = is_array;
     fresh = may.renew.fresh;
     steady = unmarked v.marked refl;
-    still = may.still;
     same = same_view v;
     lost = nobody;
     loses = loses_nobody v;
@@ -240,7 +238,6 @@ marked_based s v u w number on a b is_array slices many whole unmarked lost mark
         is_array = restated_array e 0 u.marked v is_array;
         fresh = may.renew.fresh;
         steady = ap (λ (m : Bool). m || is_alone v) lost ∙ many;
-        still = may.still;
         same = notes.same;
         lost = notes.lost;
         loses = notes.loses;

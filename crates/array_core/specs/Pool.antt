@@ -5,7 +5,6 @@ use Rattle.rack.specs.Moments.{Leaves}
 use Rattle.pool_state.specs.declared.contents.State.{State}
 use Rattle.array_image.specs.Places.{member_slice, super_sector}
 use Rattle.array_image.specs.States.{is_current}
-use Rattle.array_image.specs.Supers.{is_reshaping}
 use Rattle.commit_log.specs.Kept.{LogKept, AreLeft}
 use Rattle.array_model.specs.View.{View, has_gone, is_whole_array, shape_of}
 use Rattle.array_model.specs.Says.{IsOpen}
@@ -28,7 +27,6 @@ pub record MayCommit (s : State) (v w : View) (number : ℕ) (on : List ℕ) (a 
   pub renew : MayRenew s v a
   pub opened : IsOpen (shape_of v) v.number a
   pub steady : v.marked ≡ true → is_whole_array v ≡ true
-  pub still : is_reshaping v.truth ≡ false
   pub log : LogKept s number (λ place. false) a
   pub room : number < 2 ^ 63 - 1
   pub places : AreLeft s (λ place. false) on

@@ -20,6 +20,11 @@
 //! touched. A member that answers `Gone` is noted and missing from then on, and the call goes on with the others; a sector is
 //! refused exactly where it is spent after that. Members are a list that loops walk, and a row is a layout over its first
 //! members, so an array that is being reshaped is read by two layouts and a border, and a member that is being rebuilt by its reach.
+//!
+//! **Writes.** [`Array::write`] is one such record too, under the pool's premises (`MayCommit` of `specs/Pool.antt`): images go by the
+//! run's marks, nobody went since they were last heeded, and the log is kept. A whole array is marked first, once, and its rows go
+//! past the log; so does a mirror with one member. Any other row is one commit of the log: copies, or a sector and its parity, on the
+//! members that counted there when the call began, whoever went since. The log is kept for the next commit.
 #![tactic(auto)]
 
 mod logged;

@@ -20,7 +20,7 @@ ghost use Rattle.commit_log.specs.Kept.{LogKept};
 ghost use Rattle.commit_log.specs.Phases.{AreLogs};
 ghost use Rattle.array_core.specs.Pool.{Goes, MayCommit};
 ghost use Rattle.array_core.specs.Stands.{IsStand};
-ghost use Rattle.array_core.specs.Writing.{WritesView};
+ghost use Rattle.array_core.specs.Writing.{KeepsElsewhere, WritesView};
 ghost use Rattle.array_core.specs.Parities.{FoundParity};
 ghost use Rattle.array_core.specs.Settling.{Marks, Readies};
 
@@ -170,6 +170,7 @@ impl Array {
             → WritesArray s self.old self.new spent (R.seen rack.old) (R.seen rack.new) (shape_of self.old) vals sector from.now }
         ensures notes { Notes self.old self.new (R.seen rack.old) (R.seen rack.new) }
         ensures others { KeepsOthers self.old.number (R.seen rack.old) (R.seen rack.new) }
+        ensures elsewhere { (on : List ℕ) → KeepsElsewhere false self.old on (R.seen rack.old) (R.seen rack.new) }
         ensures goes { Goes (R.seen rack.old) (R.seen rack.new) }
         ensures runs { R.runs rack.old rack.new }
         ensures served { OnOk result (spent_in self.new sector ≡ false) }
@@ -186,6 +187,7 @@ impl Array {
         requires sector { sector < self.old.truth.size }
         requires alone { is_alone self.old ≡ true }
         ensures wrote { Wrote self.old self.new (R.seen rack.old) (R.seen rack.new) sector from.now }
+        ensures elsewhere { (on : List ℕ) → KeepsElsewhere false self.old on (R.seen rack.old) (R.seen rack.new) }
         ensures runs { R.runs rack.old rack.new }
     {
         self.rules();
@@ -211,6 +213,7 @@ impl Array {
             → WritesArray s self.old self.new spent (R.seen rack.old) (R.seen rack.new) (shape_of self.old) vals sector from.now }
         ensures notes { Notes self.old self.new (R.seen rack.old) (R.seen rack.new) }
         ensures others { KeepsOthers self.old.number (R.seen rack.old) (R.seen rack.new) }
+        ensures elsewhere { (on : List ℕ) → KeepsElsewhere false self.old on (R.seen rack.old) (R.seen rack.new) }
         ensures goes { Goes (R.seen rack.old) (R.seen rack.new) }
         ensures runs { R.runs rack.old rack.new }
         ensures served { OnOk result (spent_in self.new sector ≡ false) }
@@ -249,10 +252,10 @@ impl Array {
         self.is_marked()
     }
 
-    /// Writes a sector. Of a whole array each row is left to resync durably, once in a run, and then the row is written past the
-    /// log; a mirror with one member writes that member alone; any other row is changed by one commit of the log, on the places
-    /// that aren't marked missing. Whoever answers `Gone` is missing from then on, and the others have the whole row. The sector
-    /// is refused exactly where it is spent after that; it has the new value then for whoever can't read it any more.
+    /// Writes a sector. A whole array is marked first, once in a run: it is durable on all members that each row is left to resync.
+    /// Then its row is written past the log; a mirror with one member writes that member alone; and any other row is changed by
+    /// one commit of the log, on the places that aren't marked missing. Whoever answers `Gone` is missing from then on, and the
+    /// others have the whole row. The sector is refused exactly where it is spent after that, and no other sector has changed.
     pub fn write<R: Rack>(
         &mut self,
         rack: &mut R,
@@ -272,6 +275,7 @@ impl Array {
         ensures kept { (s : State) → MayCommit s self.old self.new log.old.number on.now.items (R.seen rack.old)
             → LogKept s log.new.number (has_gone self.new) (R.seen rack.new) }
         ensures view { WritesView self.old self.new (R.seen rack.old) (R.seen rack.new) }
+        ensures elsewhere { KeepsElsewhere false self.old on.now.items (R.seen rack.old) (R.seen rack.new) }
         ensures goes { Goes (R.seen rack.old) (R.seen rack.new) }
         ensures log { (log.new ≡ log.old) ⊎ (log.new ≡ committed log.old) }
         ensures runs { R.runs rack.old rack.new }

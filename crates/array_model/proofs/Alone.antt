@@ -1,5 +1,5 @@
 -- A mirror of which one member at most is left: it is written past the log.
-use Rattle.std.proofs.Common.{◌≡◌, ◌⊎◌, ℕ, zero, suc, ◌+◌, ◌<◌, ◌≤◌, Bool, true, false, ◌&&◌, ◌||◌, not, nat_lt, nat_le, if◌then◌else◌, List, [], ◌∷◌, map, take, length, slice_get, Option, Some, None, unwrap_or, refl, sym, ap, subst, ◌∙◌, inl, inr, lt-ltb, ltb-true, arith}
+use Rattle.std.proofs.Common.{◌≡◌, ℕ, suc, ◌+◌, ◌<◌, ◌≤◌, Bool, true, false, ◌&&◌, ◌||◌, not, nat_lt, nat_le, if◌then◌else◌, List, [], ◌∷◌, take, length, slice_get, Option, Some, None, unwrap_or, refl, sym, ap, subst, ◌∙◌, inl, inr, lt-ltb, ltb-true, arith}
 use Rattle.std.proofs.lemmas.Bool.{both_ways, and_parts, leb-true}
 use Rattle.std.specs.List.{list_all}
 use Rattle.std.specs.Option.{option_map_or}
@@ -9,11 +9,12 @@ use Rattle.rack.specs.Sequences.{IsPayload}
 use Rattle.md_super.specs.Profile.{is_mirror}
 use Rattle.raid_map.specs.LeftSymmetric.{row_at}
 use Rattle.array_image.specs.Places.{member_slice, data_sector}
-use Rattle.array_image.specs.Stripes.{Layout, mirror, parity, width, sector_in}
+use Rattle.array_image.specs.Stripes.{Layout, mirror, parity, width}
 use Rattle.array_image.specs.Supers.{is_reshaping}
-use Rattle.array_image.specs.Arrays.{Member, Shape, final_layout, layout_at}
+use Rattle.array_image.specs.Arrays.{Member, final_layout, layout_at}
 use Rattle.array_image.specs.Even.{AreEven}
 use Rattle.array_image.specs.Held.{Among, current_in, first_counting}
+use Rattle.array_image.proofs.Sources.{source_counts}
 use Rattle.array_image.specs.Spent.{wanting, spent_with}
 use Rattle.array_model.specs.declared.Seat.{Seat}
 use Rattle.array_model.specs.declared.Seat.TheVariants.{Missing, Whole, Rebuilding}
@@ -26,7 +27,6 @@ use Rattle.array_model.proofs.Layouts.{final_by, reshaping_parity}
 use Rattle.array_model.proofs.Noting.{length_members}
 use Rattle.array_model.proofs.Parts.{at_is, is_at_own, look_one, plain_sector, plain_source, plain_take}
 use Rattle.array_model.proofs.RowWrites.{IsPastLog, plain_shape, whole_parts}
-use Rattle.array_model.proofs.Spared.{at_most_one}
 use Rattle.array_model.proofs.Views.{shape_members}
 
 -- ---- seats
@@ -143,7 +143,7 @@ module _ (v : View) (is_array : IsArray v) (alone : is_alone v ≡ true) where
       → Owes v a x from (target (slice_on v k) (data_sector + x) from ∷ [])
   alone_owes a x k from is wide = record {
     row = record {
-      own = λ d t u one. let here = payload d t u one in (member_on v k, x, here.0, here.1);
+      own = λ d t u one. let here = payload d t u one in (member_on v k, x, here.0, here.1, (source_counts (shape_of v) x (member_on v k) (source_is x ∙ is)).among);
       sized = λ d t u one. ap length (payload d t u one).2 ∙ wide;
       alone = λ y m u source one.
           let here = payload (member_slice m.place v.number) (data_sector + sector_at (shape_of v) y) u one in

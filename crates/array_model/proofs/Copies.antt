@@ -7,14 +7,14 @@ use Rattle.array_image.specs.Places.{member_slice, data_sector}
 use Rattle.array_image.specs.Stripes.{Layout, mirror, width, sector_in, there, AgreeIn}
 use Rattle.array_image.specs.Arrays.{Member, Shape, layout_at, stripe_in, value_by}
 use Rattle.array_image.specs.Held.{Among, first_counting}
-use Rattle.array_image.specs.Even.{AreEven}
+use Rattle.array_image.specs.Even.{AllCount}
 use Rattle.array_image.specs.Spent.{wanting, spent_by}
 use Rattle.array_image.proofs.Losing.{data_of}
 use Rattle.array_image.proofs.Lost.{there_all}
 use Rattle.array_image.proofs.Noted.{columns_all}
 use Rattle.array_image.proofs.Settled.{among_take}
 use Rattle.array_image.proofs.Sources.{source_counts}
-use Rattle.array_model.specs.Rows.{RowChange, written, source_at, sector_at, IsPlain}
+use Rattle.array_model.specs.Rows.{AgreeAt, RowChange, written, source_at, sector_at, IsPlain}
 use Rattle.array_model.proofs.DataFrames.{columns_same}
 use Rattle.array_model.proofs.MirrorRow.{agree_one}
 use Rattle.array_model.proofs.Parts.{plain_sector, plain_source, plain_take}
@@ -77,8 +77,8 @@ module _ (shape : Shape) (k n resync x : ℕ) (from : List ℕ) (cur : Image) (x
       ] in
       goal refl
 
-  even_now : (rows : ℕ) → AreEven shape n rows cur → AreEven shape n rows (written xs cur)
-  even_now rows even y inside synced count =
+  even_now : (y : ℕ) → AllCount (layout_at shape y) shape (sector_at shape y) → AgreeAt shape n cur y → AgreeAt shape n (written xs cur) y
+  even_now y count agree =
       let f : Image = written xs cur in
       let layout = layout_at shape y in
       let sector = sector_in layout y in
@@ -98,7 +98,7 @@ module _ (shape : Shape) (k n resync x : ℕ) (from : List ℕ) (cur : Image) (x
             subst (λ stripe. AgreeIn layout (there stripe))
             (sym (columns_same f cur n sector (take (width layout) shape.members)
             (λ m among counts. kept (member_slice m.place n) sector (λ here. both_ways (y == x) other (eq-eqb y x (sym y_is ∙ here))))))
-            (even y inside synced count)
+            agree
       ] in
       goal refl
 

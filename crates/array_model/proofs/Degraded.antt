@@ -1,138 +1,28 @@
 -- A RAID-5 row of which a member may be missing: a sector and its parity are written where these count.
-use Rattle.std.proofs.Common.{◌≡◌, ◌⊎◌, ℕ, zero, suc, ◌+◌, ◌<◌, ◌≤◌, Bool, true, false, ◌==◌, nat_lt, if◌then◌else◌, List, [], ◌∷◌, map, take, length, Option, Some, None, unwrap_or, refl, sym, ap, ap₂, subst, ◌∙◌, inl, inr, eqb-true, eq-eqb, lt-ltb, ltb-true, arith}
+use Rattle.std.proofs.Common.{◌≡◌, ◌⊎◌, ℕ, ◌+◌, ◌<◌, ◌≤◌, Bool, true, false, ◌==◌, nat_lt, if◌then◌else◌, List, map, take, length, Option, Some, None, unwrap_or, refl, sym, ap, ap₂, subst, ◌∙◌, inl, inr, eqb-true, eq-eqb, ltb-true, arith}
 use Rattle.std.proofs.lemmas.Bool.{both_ways, ne_eqb}
-use Rattle.std.proofs.lemmas.Simd.{length-replicate}
-use Rattle.std.specs.Option.{option_map_or}
 use Rattle.rack.specs.Seen.{Image}
 use Rattle.rack.specs.Targets.{Target, look}
 use Rattle.parity.specs.Xor.{xor, xor_all, zeros}
-use Rattle.parity.proofs.Laws.{xor_is_a_group, parity_restores}
-use Rattle.raid_map.specs.LeftSymmetric.{IsMemberCount, member_of, sector_of, parity_at, row_at}
+use Rattle.raid_map.specs.LeftSymmetric.{IsMemberCount, member_of, sector_of, parity_at}
 use Rattle.raid_map.proofs.Rows.{stands_once, apart_from_parity}
 use Rattle.array_image.specs.Places.{member_slice, data_sector}
-use Rattle.array_image.specs.Stripes.{Layout, parity, width, position_in, sector_in, there, given, AgreeIn}
+use Rattle.array_image.specs.Stripes.{Layout, parity, width, position_in, sector_in, there, AgreeIn}
 use Rattle.array_image.specs.Arrays.{Member, Shape, column, layout_at, stripe_in, value_by}
-use Rattle.array_image.specs.Held.{Among, member_at, source_in}
-use Rattle.array_image.specs.Even.{AreEven}
-use Rattle.array_image.specs.Spent.{wanting, spent_with, spent_by}
-use Rattle.array_image.specs.Marks.{lower, unless_gone}
-use Rattle.array_image.proofs.Marked.{among_lowered}
-use Rattle.array_image.proofs.Losing.{length_map}
+use Rattle.array_image.specs.Held.{Among, member_at}
+use Rattle.array_image.specs.Even.{AllCount}
+use Rattle.array_image.specs.Spent.{wanting, spent_by}
 use Rattle.array_image.proofs.Frames.{value_by_data}
-use Rattle.array_image.proofs.Sources.{source_counts, source_value}
+use Rattle.array_image.proofs.Sources.{source_counts}
 use Rattle.array_model.specs.Members.{gathered}
-use Rattle.array_model.specs.Rows.{RowChange, data_at, parity_part, written, source_at, sector_at, part_at, IsPlain}
+use Rattle.array_model.specs.Rows.{AgreeAt, RowChange, data_at, parity_part, written, source_at, sector_at, part_at, IsPlain}
 use Rattle.array_model.proofs.DataFrames.{columns_same}
 use Rattle.array_model.proofs.Firsts.{none_given}
-use Rattle.array_model.proofs.ParityRow.{AreSized, one_new, lengths, same_place, long_xor, data_inside, parity_inside, parity_source}
-use Rattle.array_model.proofs.Parts.{part_among, among_part, plain_sector, plain_source, plain_take}
-use Rattle.array_model.proofs.Spared.{at_most_one, synced_row}
+use Rattle.array_model.proofs.ParityRow.{AreSized, one_new, same_place, data_inside, parity_inside, parity_source}
+use Rattle.array_model.proofs.Parts.{part_among, plain_sector, plain_source, plain_take}
+use Rattle.array_model.proofs.Spared.{at_most_one}
 use Rattle.array_model.proofs.WholeWrites.{own_value}
-
--- ---- XOR
-
--- old and new of a sector and of its parity undo each other
-xor_same : (t p f q : List ℕ) → length t ≡ 512 → length p ≡ 512 → length f ≡ 512 → length q ≡ 512
-    → xor (xor (xor (xor t p) f) q) (xor (xor q p) f) ≡ t
-xor_same t p f q long_t long_p long_f long_q =
-    let n : List ℕ = xor (xor q p) f in
-    let long_n : length n ≡ 512 = long_xor (xor q p) f (long_xor q p long_q long_p) long_f in
-    ap (λ v. xor v n)
-    (ap (λ v. xor v q) (xor_is_a_group.associates t p f)
-    ∙ xor_is_a_group.associates t (xor p f) q
-    ∙ ap (xor t) (xor_is_a_group.commutes (xor p f) q ∙ sym (xor_is_a_group.associates q p f)))
-    ∙ xor_is_a_group.undone t n (long_t ∙ sym long_n)
-
--- a parity made of what the others give makes them give the new value
-xor_new : (t q f : List ℕ) → length t ≡ 512 → length q ≡ 512 → length f ≡ 512 → xor (xor t q) (xor (xor q t) f) ≡ f
-xor_new t q f long_t long_q long_f =
-    let s : List ℕ = xor t q in
-    ap (λ v. xor s (xor v f)) (xor_is_a_group.commutes q t)
-    ∙ xor_is_a_group.commutes s (xor s f)
-    ∙ ap (λ v. xor v s) (xor_is_a_group.commutes s f)
-    ∙ xor_is_a_group.undone f s (long_f ∙ sym (long_xor t q long_t long_q))
-
-pub long_zeros : length (zeros 512) ≡ 512
-long_zeros = length-replicate {A = ℕ} 512 0
-
-xor_zeros : (t : List ℕ) → length t ≡ 512 → xor t (zeros 512) ≡ t
-xor_zeros t long = ap (λ k. xor t (zeros k)) (sym long) ∙ xor_is_a_group.neutral t
-
--- ---- a row as whole sectors, with zeros where a member doesn't count
-
-abbrev pub filled : Image → ℕ → ℕ → Member → List ℕ
-filled c n t m = option_map_or (λ v. v) (column c n t m) (zeros 512)
-
-pub filled_there : (c : Image) (n t : ℕ) (m : Member) → t < m.reach → filled c n t m ≡ c (member_slice m.place n) (data_sector + t)
-filled_there c n t m counts = ap (λ (b : Bool). option_map_or (λ v. v) (if b then Some (c (member_slice m.place n) (data_sector + t)) else None) (zeros 512)) (lt-ltb t m.reach counts)
-
-pub filled_none : (c : Image) (n t : ℕ) (m : Member) → nat_lt t m.reach ≡ false → filled c n t m ≡ zeros 512
-filled_none c n t m none = ap (λ (b : Bool). option_map_or (λ v. v) (if b then Some (c (member_slice m.place n) (data_sector + t)) else None) (zeros 512)) none
-
-pub filled_sized : (c : Image) (n t : ℕ) (members : List Member)
-    → ((m : Member) → Among m members → t < m.reach → length (c (member_slice m.place n) (data_sector + t)) ≡ 512) → AreSized (filled c n t) members
-filled_sized c n t members sized m among =
-    let Goal : Bool → Type 0 = λ b. nat_lt t m.reach ≡ b → length (filled c n t m) ≡ 512 in
-    let goal : Goal (nat_lt t m.reach) = elim (nat_lt t m.reach) as Goal [
-      | true ↦ λ is. ap length (filled_there c n t m (ltb-true t m.reach is)) ∙ sized m among (ltb-true t m.reach is)
-      | false ↦ λ is. ap length (filled_none c n t m is) ∙ long_zeros
-    ] in
-    goal refl
-
-pub total : Image → ℕ → ℕ → List Member → List ℕ
-total c n t members = xor_all 512 (map (filled c n t) members)
-
-pub total_sized : (c : Image) (n t : ℕ) (members : List Member) → AreSized (filled c n t) members → length (total c n t members) ≡ 512
-unfolding total
-total_sized c n t members sized = parity_restores.same_length 512 (map (filled c n t) members) (lengths (filled c n t) members sized)
-
--- those that count give together what all do
-pub total_there : (c : Image) (n t : ℕ) (members : List Member) → AreSized (filled c n t) members → xor_all 512 (there (map (column c n t) members)) ≡ total c n t members
-unfolding xor_all there total
-total_there c n t [] sized = refl
-total_there c n t (m ∷ others) sized =
-    let rest = total_there c n t others (λ o among. sized o (inr among)) in
-    let long = total_sized c n t others (λ o among. sized o (inr among)) in
-    by (column c n t m) rest long
-  where
-    by : (o : Option (List ℕ)) → xor_all 512 (there (map (column c n t) others)) ≡ xor_all 512 (map (filled c n t) others) → length (xor_all 512 (map (filled c n t) others)) ≡ 512
-        → xor_all 512 (there (o ∷ map (column c n t) others)) ≡ xor (option_map_or (λ v. v) o (zeros 512)) (xor_all 512 (map (filled c n t) others))
-    by (Some v) rest long = ap (xor v) rest
-    by None rest long = rest ∙ sym (xor_zeros _ long) ∙ xor_is_a_group.commutes _ (zeros 512)
-
--- ---- members
-
-at_part : (s i : ℕ) (ms : List Member) → i < length ms → s < (part_at i ms).reach → member_at s i ms ≡ Some (part_at i ms)
-unfolding member_at
-at_part s i [] inside counts = absurd (omega (arith, inside))
-at_part s zero (m ∷ others) inside counts = ap (λ (b : Bool). if b then Some m else None) (lt-ltb s m.reach counts)
-at_part s (suc i) (m ∷ others) inside counts = at_part s i others (omega (arith, inside)) counts
-
-more_want : (b : Bool) (n : ℕ) → 1 < n → 1 < (if b then n else suc n)
-more_want true n high = high
-more_want false n high = omega (arith, high)
-
-some_want : (b : Bool) (n : ℕ) → 0 < n → 0 < (if b then n else suc n)
-some_want true n high = high
-some_want false n high = omega (arith, high)
-
-one_wants : (s i : ℕ) (ms : List Member) → i < length ms → nat_lt s (part_at i ms).reach ≡ false → 0 < wanting s ms
-one_wants s i [] low none = absurd (omega (arith, low))
-one_wants s zero (m ∷ others) low none = subst (λ b. 0 < (if b then wanting s others else suc (wanting s others))) (sym none) (omega arith)
-one_wants s (suc i) (m ∷ others) low none = some_want (nat_lt s m.reach) (wanting s others) (one_wants s i others (omega (arith, low)) none)
-
--- two members that don't count are two that are wanting
-pub two_want : (s i j : ℕ) (ms : List Member) → i < length ms → j < length ms → (i ≡ j → ⊥) → nat_lt s (part_at i ms).reach ≡ false → nat_lt s (part_at j ms).reach ≡ false → 1 < wanting s ms
-two_want s i j [] low_i low_j other none_i none_j = absurd (omega (arith, low_i))
-two_want s zero zero (m ∷ others) low_i low_j other none_i none_j = absurd (other refl)
-two_want s zero (suc j) (m ∷ others) low_i low_j other none_i none_j =
-    let rest = one_wants s j others (omega (arith, low_j)) none_j in
-    subst (λ b. 1 < (if b then wanting s others else suc (wanting s others))) (sym none_i) (omega (arith, rest))
-two_want s (suc i) zero (m ∷ others) low_i low_j other none_i none_j =
-    let rest = one_wants s i others (omega (arith, low_i)) none_i in
-    subst (λ b. 1 < (if b then wanting s others else suc (wanting s others))) (sym none_j) (omega (arith, rest))
-two_want s (suc i) (suc j) (m ∷ others) low_i low_j other none_i none_j =
-    more_want (nat_lt s m.reach) (wanting s others) (two_want s i j others (omega (arith, low_i)) (omega (arith, low_j)) (λ same. other (ap suc same)) none_i none_j)
+use Rattle.array_model.proofs.Filled.{xor_same, xor_new, xor_zeros, filled, filled_there, filled_none, filled_sized, total, total_sized, total_there, at_part, two_want}
 
 -- ---- the row
 
@@ -442,8 +332,8 @@ module _ (shape : Shape) (k n resync x : ℕ) (from new : List ℕ) (cur : Image
       ] in
       goal refl
 
-  even_now : (rows : ℕ) → AreEven shape n rows cur → AreEven shape n rows (written xs cur)
-  even_now rows even y inside synced counting =
+  even_now : (y : ℕ) → AllCount (layout_at shape y) shape (sector_at shape y) → AgreeAt shape n cur y → AgreeAt shape n (written xs cur) y
+  even_now y counting agree =
       let layout = layout_at shape y in
       let sector = sector_in layout y in
       let y_is : sector ≡ sector_of k y = plain_sector shape (parity k) y plain in
@@ -453,7 +343,7 @@ module _ (shape : Shape) (k n resync x : ℕ) (from new : List ℕ) (cur : Image
         | false ↦ λ no.
             subst (λ stripe. AgreeIn layout (there stripe))
             (sym (columns_same f cur n sector (take (width layout) members) (λ m among counts. sectors_same m sector (λ same. both_ways (sector == t) no (eq-eqb sector t same)))))
-            (even y inside synced counting)
+            agree
         | true ↦ λ is.
             let at : sector ≡ t = eqb-true sector t is in
             let count_all : (j : ℕ) → j < length members → t < (part_at j members).reach =
@@ -461,7 +351,7 @@ module _ (shape : Shape) (k n resync x : ℕ) (from new : List ℕ) (cur : Image
             let sum : (c : Image) → AreSized (filled c n t) members → xor_all 512 (there (stripe_in c n shape layout sector)) ≡ total c n t members =
             λ c sizes. ap₂ (λ (ms : List Member) i. xor_all 512 (there (map (column c n i) ms))) all at ∙ total_there c n t members sizes in
             let old : total cur n t members ≡ zeros 512 =
-            sym (sum cur g_sized) ∙ subst (λ (l : Layout). AgreeIn l (there (stripe_in cur n shape layout sector))) (plain.layout_is y) (even y inside synced counting) in
+            sym (sum cur g_sized) ∙ subst (λ (l : Layout). AgreeIn l (there (stripe_in cur n shape layout sector))) (plain.layout_is y) agree in
             subst (λ (l : Layout). AgreeIn l (there (stripe_in f n shape layout sector))) (sym (plain.layout_is y))
             (sum f h_sized ∙ same_total (count_all p in_p) (count_all q in_q) ∙ old)
       ] in
@@ -469,143 +359,3 @@ module _ (shape : Shape) (k n resync x : ℕ) (from new : List ℕ) (cur : Image
 
   pub parity_change : RowChange shape n resync x from cur xs
   parity_change = record { alone = alone_in; value = λ y alive. value_now y; even = even_now }
-
--- ---- the parity, by its own member or by the others
-
-part_lower : (lost : ℕ → Bool) (j : ℕ) (ms : List Member) → j < length ms → part_at j (map (lower lost) ms) ≡ lower lost (part_at j ms)
-part_lower lost j [] low = absurd (omega (arith, low))
-part_lower lost zero (m ∷ ms) low = refl
-part_lower lost (suc j) (m ∷ ms) low = part_lower lost j ms (omega (arith, low))
-
-map_over : (f : Member → List ℕ) (lost : ℕ → Bool) (ms : List Member) → map f (map (lower lost) ms) ≡ map (λ m. f (lower lost m)) ms
-map_over f lost [] = refl
-map_over f lost (m ∷ ms) = ap (λ vs. f (lower lost m) ∷ vs) (map_over f lost ms)
-
-at_none : (s i : ℕ) (ms : List Member) → i < length ms → nat_lt s (part_at i ms).reach ≡ false → member_at s i ms ≡ None
-unfolding member_at
-at_none s i [] inside none = absurd (omega (arith, inside))
-at_none s zero (m ∷ others) inside none = ap (λ (b : Bool). if b then Some m else None) none
-at_none s (suc i) (m ∷ others) inside none = at_none s i others (omega (arith, inside)) none
-
-take_lowered : (lost : ℕ → Bool) (k : ℕ) (ms : List Member) → length ms ≡ k → take k (map (lower lost) ms) ≡ map (lower lost) ms
-take_lowered lost zero [] is = refl
-take_lowered lost zero (m ∷ ms) is = absurd (omega (arith, is))
-take_lowered lost (suc k) [] is = absurd (omega (arith, is))
-take_lowered lost (suc k) (m ∷ ms) is = ap (λ (os : List Member). lower lost m ∷ os) (take_lowered lost k ms (omega (arith, is)))
-
--- whoever counts without the lost ones isn't lost
-not_lost : (lost : ℕ → Bool) (t : ℕ) (m : Member) → t < (lower lost m).reach → lower lost m ≡ m
-not_lost lost t m counts = by (lost m.place) counts
-  where
-    by : (b : Bool) → t < (unless_gone b m).reach → unless_gone b m ≡ m
-    by true low = absurd (omega (arith, low))
-    by false low = refl
-
-module _ (shape : Shape) (k n resync x : ℕ) (cur : Image) (lost : ℕ → Bool)
-    (plain : IsPlain shape (parity k)) (count : IsMemberCount k)
-    (sized : (m : Member) (t : ℕ) → Among m shape.members → t < m.reach → length (cur (member_slice m.place n) (data_sector + t)) ≡ 512)
-    (even : AreEven shape n resync cur) (inside : sector_of k x < shape.size)
-    (unspent : spent_with (wanting (sector_of k x) (map (lower lost) shape.members)) (nat_lt (row_at (sector_of k x)) resync) ≡ false)
-    (counts : sector_of k x < (parity_part shape k x).reach) where
-  abbrev ms : List Member
-  ms = map (lower lost) shape.members
-
-  low_q : parity_at k (sector_of k x) < length shape.members
-  low_q = parity_inside shape k (sector_of k x) plain count
-
-  low_ms : parity_at k (sector_of k x) < length (map (lower lost) shape.members)
-  low_ms = let long = length_map (lower lost) shape.members in let low = low_q in omega (arith, long, low)
-
-  abbrev part : Member
-  part = parity_part shape k x
-
-  sized_g : AreSized (filled cur n (sector_of k x)) shape.members
-  sized_g = filled_sized cur n (sector_of k x) shape.members (λ m among at. sized m (sector_of k x) among at)
-
-  sum_over : (t : ℕ) → total cur n t (map (lower lost) shape.members) ≡ xor_all 512 (map (λ m. filled cur n t (lower lost m)) shape.members)
-  unfolding total
-  sum_over t = ap (xor_all 512) (map_over (filled cur n t) lost shape.members)
-
-  sum_plain : (t : ℕ) → xor_all 512 (map (filled cur n t) shape.members) ≡ total cur n t shape.members
-  unfolding total
-  sum_plain t = refl
-
-  own_value_of : lower lost (parity_part shape k x) ≡ parity_part shape k x
-      → given (parity k) (map (column cur n (sector_of k x)) (take k (map (lower lost) shape.members))) (parity_at k (sector_of k x)) ≡ cur (member_slice (parity_part shape k x).place n) (data_sector + sector_of k x)
-  own_value_of same =
-      let q = parity_at k (sector_of k x) in
-      let at : part_at q ms ≡ part = part_lower lost q shape.members low_q ∙ same in
-      let source : source_in (parity k) (sector_of k x) q ms ≡ Some part =
-      ap (member_at (sector_of k x) q) (take_lowered lost k shape.members plain.count)
-      ∙ at_part (sector_of k x) q ms low_ms (subst (λ (o : Member). sector_of k x < o.reach) (sym at) counts)
-      ∙ ap (λ (o : Member). Some o) at in
-      (source_value (parity k) cur n (sector_of k x) q ms part source).1
-
-  lost_value_of : nat_lt (sector_of k x) (lower lost (parity_part shape k x)).reach ≡ false
-      → given (parity k) (map (column cur n (sector_of k x)) (take k (map (lower lost) shape.members))) (parity_at k (sector_of k x)) ≡ cur (member_slice (parity_part shape k x).place n) (data_sector + sector_of k x)
-  lost_value_of none =
-      let t = sector_of k x in
-      let q = parity_at k t in
-      let members = shape.members in
-      let wants : nat_lt t (part_at q ms).reach ≡ false = ap (λ (o : Member). nat_lt t o.reach) (part_lower lost q members low_q) ∙ none in
-      let few : wanting t ms ≤ 1 = at_most_one (wanting t ms) _ unspent in
-      let long : length ms ≡ length members = length_map (lower lost) members in
-      let left : (j : ℕ) → j < length members → (j ≡ q → ⊥) → t < (lower lost (part_at j members)).reach =
-      λ j low other.
-      let Goal : Bool → Type 0 = λ b. nat_lt t (lower lost (part_at j members)).reach ≡ b → t < (lower lost (part_at j members)).reach in
-      let goal : Goal (nat_lt t (lower lost (part_at j members)).reach) = elim (nat_lt t (lower lost (part_at j members)).reach) as Goal [
-        | true ↦ λ is. ltb-true t (lower lost (part_at j members)).reach is
-        | false ↦ λ is.
-            let two = two_want t q j ms low_ms (omega (arith, low, long)) (λ same. other (sym same)) wants (ap (λ (o : Member). nat_lt t o.reach) (part_lower lost j members low) ∙ is) in
-            absurd (omega (arith, two, few))
-      ] in
-      goal refl in
-      let g : Member → List ℕ = filled cur n t in
-      let h : Member → List ℕ = λ m. filled cur n t (lower lost m) in
-      let same : (j : ℕ) → j < length members → (j ≡ q → ⊥) → h (part_at j members) ≡ g (part_at j members) =
-      λ j low other. ap g (not_lost lost t (part_at j members) (left j low other)) in
-      let all : (m : Member) → Among m members → t < m.reach =
-      λ m among.
-      let found = among_part members m among in
-      subst (λ (o : Member). t < o.reach) (sym found.2)
-      (let Goal : Bool → Type 0 = λ b. (found.0 == q) ≡ b → t < (part_at found.0 members).reach in
-      let goal : Goal (found.0 == q) = elim (found.0 == q) as Goal [
-        | true ↦ λ is. subst (λ j. t < (part_at j members).reach) (sym (eqb-true found.0 q is)) counts
-        | false ↦ λ no.
-            let there = left found.0 found.1 (λ is. both_ways (found.0 == q) no (eq-eqb found.0 q is)) in
-            subst (λ (o : Member). t < o.reach) (not_lost lost t (part_at found.0 members) there) there
-      ] in
-      goal refl) in
-      let some : 0 < wanting t ms = one_wants t q ms low_ms wants in
-      let row = ltb-true (row_at t) resync (synced_row (wanting t ms) _ some unspent) in
-      let at_t : sector_at shape x ≡ t = plain_sector shape (parity k) x plain in
-      let taken : take (width (layout_at shape x)) members ≡ members = ap (λ (l : Layout). take (width l) members) (plain.layout_is x) ∙ plain_take shape (parity k) plain in
-      let agree = even x (subst (λ i. i < shape.size) (sym at_t) inside) (subst (λ i. row_at i < resync) (sym at_t) row)
-      (λ m among. subst (λ i. i < m.reach) (sym at_t) (all m (subst (λ (os : List Member). Among m os) taken among))) in
-      let zero_sum : total cur n t members ≡ zeros 512 =
-      sym (ap₂ (λ (os : List Member) i. xor_all 512 (there (map (column cur n i) os))) taken at_t ∙ total_there cur n t members sized_g)
-      ∙ subst (λ (l : Layout). AgreeIn l (there (stripe_in cur n shape (layout_at shape x) (sector_at shape x)))) (plain.layout_is x) agree in
-      let sized_h : AreSized (filled cur n t) ms =
-      filled_sized cur n t ms (λ m among at. sized m t (among_lowered lost t members m among at) at) in
-      let part_g : g part ≡ cur (member_slice part.place n) (data_sector + t) = filled_there cur n t part counts in
-      let long_q = sized_g part (part_among q members low_q) in
-      none_given (parity k) cur n t q ms (ap (member_at t q) (take_lowered lost k members plain.count) ∙ at_none t q ms low_ms wants)
-      ∙ ap (gathered cur n t) (take_lowered lost k members plain.count)
-      ∙ total_there cur n t ms sized_h
-      ∙ sum_over t
-      ∙ one_new g h q members low_q sized_g same
-      ∙ ap₂ (λ (v w : List ℕ). xor (xor v (g part)) w) (sum_plain t ∙ zero_sum) (filled_none cur n t (lower lost part) none)
-      ∙ xor_zeros (xor (zeros 512) (g part)) (long_xor (zeros 512) (g part) long_zeros long_q)
-      ∙ xor_is_a_group.commutes (zeros 512) (g part)
-      ∙ xor_zeros (g part) long_q
-      ∙ part_g
-
-  pub side_value : given (parity k) (map (column cur n (sector_of k x)) (take k (map (lower lost) shape.members))) (parity_at k (sector_of k x)) ≡ cur (member_slice (parity_part shape k x).place n) (data_sector + sector_of k x)
-  side_value =
-      let Goal : Bool → Type 0 = λ b. nat_lt (sector_of k x) (lower lost part).reach ≡ b
-      → given (parity k) (map (column cur n (sector_of k x)) (take k ms)) (parity_at k (sector_of k x)) ≡ cur (member_slice part.place n) (data_sector + sector_of k x) in
-      let goal : Goal (nat_lt (sector_of k x) (lower lost part).reach) = elim (nat_lt (sector_of k x) (lower lost part).reach) as Goal [
-        | true ↦ λ is. own_value_of (not_lost lost (sector_of k x) part (ltb-true (sector_of k x) (lower lost part).reach is))
-        | false ↦ λ is. lost_value_of is
-      ] in
-      goal refl

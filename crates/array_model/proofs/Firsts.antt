@@ -23,7 +23,7 @@ range_take a zero n low = refl
 range_take a (suc m) zero low = absurd (omega (arith, low))
 range_take a (suc m) (suc n) low = ap (λ xs. a ∷ xs) (range_take (a + 1) m n (omega (arith, low)))
 
-map_take : {X Y : Type 0} (f : X → Y) (n : ℕ) (xs : List X) → take n (map f xs) ≡ map f (take n xs)
+pub map_take : {X Y : Type 0} (f : X → Y) (n : ℕ) (xs : List X) → take n (map f xs) ≡ map f (take n xs)
 map_take f zero xs = refl
 map_take f (suc n) [] = refl
 map_take f (suc n) (x ∷ xs) = ap (λ ys. f x ∷ ys) (map_take f n xs)

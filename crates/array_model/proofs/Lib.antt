@@ -23,6 +23,9 @@ pub mod Changing
 pub mod Renewed
 pub mod Moves
 pub mod Opening
+pub mod Filled
 pub mod Degraded
+pub mod SideParity
 pub mod Copies
 pub mod Alone
+pub mod Sides

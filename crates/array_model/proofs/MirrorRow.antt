@@ -27,7 +27,7 @@ copy_look shape n x from m among =
 pub mirror_row : (shape : Shape) (k n x : ℕ) (from : List ℕ) → IsPlain shape (mirror k) → length from ≡ 512 → IsRow shape n x from (copies shape n x from)
 mirror_row shape k n x from plain sized =
     record {
-      own = λ d t u is. let at = payload_among n x from shape.members d t u is in (at.0, x, at.2, at.3);
+      own = λ d t u is. let at = payload_among n x from shape.members d t u is in (at.0, x, at.2, at.3, at.1);
       sized = λ d t u is. let at = payload_among n x from shape.members d t u is in ap length at.4 ∙ sized;
       alone = λ y m u source is.
           let at = payload_among n x from shape.members (member_slice m.place n) (data_sector + sector_at shape y) u is in

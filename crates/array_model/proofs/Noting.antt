@@ -96,7 +96,7 @@ layout_is v x is_array = if_is _ (final_is v is_array) (first_is v is_array)
     if_is true one other = one
     if_is false one other = other
 
-length_taken : (k : ℕ) (members : List Member) → k ≤ length members → length (take k members) ≡ k
+pub length_taken : (k : ℕ) (members : List Member) → k ≤ length members → length (take k members) ≡ k
 length_taken zero members low = refl
 length_taken (suc k) [] low = absurd (omega (arith, low))
 length_taken (suc k) (m ∷ others) low = ap suc (length_taken k others (omega (arith, low)))
@@ -143,7 +143,7 @@ read_acts a b v w lasting reads is_array notes s durable vals spent covers =
 
 -- ---- what holds before and after a loss is noted
 
-spent_fewer : (m n : ℕ) (synced : Bool) → m ≤ n → spent_with n synced ≡ false → spent_with m synced ≡ false
+pub spent_fewer : (m n : ℕ) (synced : Bool) → m ≤ n → spent_with n synced ≡ false → spent_with m synced ≡ false
 spent_fewer zero n synced low unspent = refl
 spent_fewer (suc zero) n synced low unspent = ap (λ b. nat_lt 1 1 || (nat_lt 0 1 && not b)) (synced_row n synced (omega (arith, low)) unspent)
 spent_fewer (suc (suc m)) n synced low unspent = let one = at_most_one n synced unspent in absurd (omega (arith, one, low))

@@ -20,20 +20,27 @@ use Rattle.array_image.proofs.Sources.{held_current}
 use Rattle.array_model.specs.View.{View, shape_of}
 use Rattle.array_model.specs.Says.{Says, Holds, IsEarlier}
 use Rattle.array_model.specs.Opened.{OpensOn}
+use Rattle.array_model.specs.Rows.{AgreeAt}
 use Rattle.array_model.proofs.DataFrames.{columns_same}
 use Rattle.array_model.proofs.Keeping.{reading_live, reading_outside, logs_of}
 use Rattle.array_model.proofs.Renewed.{Renews, AreNewer, old, renewed, new_truth, shape_kept, sound_renewed}
 
--- rows that agree in contents agree in others with the same data where members count
+-- members that agree in contents agree in others with the same data where members count
+pub agree_counted : (shape : Shape) (n y : ℕ) (c e : Image)
+    → ((m : Member) (t : ℕ) → Among m shape.members → t < m.reach → c (member_slice m.place n) (data_sector + t) ≡ e (member_slice m.place n) (data_sector + t))
+    → AgreeAt shape n e y → AgreeAt shape n c y
+agree_counted shape n y c e same agree =
+    let layout = layout_at shape y in
+    subst (λ stripe. AgreeIn layout (there stripe))
+    (sym (columns_same c e n (sector_in layout y) (take (width layout) shape.members)
+    (λ m among counted. same m (sector_in layout y) (among_take (width layout) shape.members m among) counted)))
+    agree
+
+-- and so do rows
 pub even_counted : (shape : Shape) (n resync : ℕ) (c e : Image)
     → ((m : Member) (t : ℕ) → Among m shape.members → t < m.reach → c (member_slice m.place n) (data_sector + t) ≡ e (member_slice m.place n) (data_sector + t))
     → AreEven shape n resync e → AreEven shape n resync c
-even_counted shape n resync c e same even x inside synced counts =
-    let layout = layout_at shape x in
-    subst (λ stripe. AgreeIn layout (there stripe))
-    (sym (columns_same c e n (sector_in layout x) (take (width layout) shape.members)
-    (λ m among counted. same m (sector_in layout x) (among_take (width layout) shape.members m among) counted)))
-    (even x inside synced counts)
+even_counted shape n resync c e same even x inside synced counts = agree_counted shape n x c e same (even x inside synced counts)
 
 module _ (s : State) (v : View) (x : Seen) (opens : OpensOn s v x) where
   abbrev n : ℕ

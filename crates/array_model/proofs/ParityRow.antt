@@ -147,8 +147,8 @@ parity_row shape k n x from new plain count sized wide =
     record {
       own = λ d t u is.
           elim (which_of shape k n x from new d t u is) [
-            | of_data at_d at_t is_u ↦ (data_at shape k x, sector_of k x, at_d, at_t)
-            | of_parity at_d at_t is_u ↦ (parity_part shape k x, sector_of k x, at_d, at_t)
+            | of_data at_d at_t is_u ↦ (data_at shape k x, sector_of k x, at_d, at_t, part_among (member_of k x) shape.members (data_inside shape k x plain count))
+            | of_parity at_d at_t is_u ↦ (parity_part shape k x, sector_of k x, at_d, at_t, part_among (parity_at k (sector_of k x)) shape.members (parity_inside shape k (sector_of k x) plain count))
           ];
       sized = λ d t u is.
           elim (which_of shape k n x from new d t u is) [ of_data at_d at_t is_u ↦ ap length is_u ∙ sized | of_parity at_d at_t is_u ↦ ap length is_u ∙ wide ];

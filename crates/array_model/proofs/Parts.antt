@@ -1,13 +1,15 @@
 -- Members by position, and targets on them.
 use Rattle.std.proofs.Common.{◌≡◌, ℕ, zero, suc, ◌+◌, ◌<◌, Bool, true, false, ◌==◌, ◌&&◌, List, [], ◌∷◌, map, take, length, Option, Some, None, refl, sym, ap, subst, inl, inr, eq-eqb, eqb-true, take_all, arith}
 use Rattle.std.proofs.lemmas.Bool.{both_ways}
+use Rattle.rack.specs.Seen.{Image}
 use Rattle.array_image.specs.Places.{member_slice, data_sector}
 use Rattle.rack.specs.Targets.{Target, is_at, look}
 use Rattle.array_image.specs.Stripes.{Layout, width, sector_in, position_in}
 use Rattle.array_image.specs.Arrays.{Member, Shape}
+use Rattle.array_image.specs.Even.{AreEven}
 use Rattle.array_image.specs.Held.{Among, source_in}
 use Rattle.rack.specs.Sequences.{IsPayload}
-use Rattle.array_model.specs.Rows.{source_at, sector_at, part_at, IsPlain, target_on}
+use Rattle.array_model.specs.Rows.{RowChange, written, source_at, sector_at, part_at, IsPlain, target_on}
 use Rattle.array_model.proofs.Looking.{look_payload, payload_look}
 
 both_true : (p q : Bool) → (p && q) ≡ true → (p ≡ true) × (q ≡ true)
@@ -39,6 +41,11 @@ among_payload n sector v [] m among = absurd among
 among_payload n sector v (first ∷ others) m (inl here) =
     inl (subst (λ (o : Member). is_at (member_slice o.place n) (data_sector + sector) (target_on n sector v first) ≡ true) (sym here) (is_at_own (target_on n sector v first)), refl)
 among_payload n sector v (first ∷ others) m (inr later) = inr (among_payload n sector v others m later)
+
+-- rows that agree still do once targets are written that owe it
+pub change_even : (shape : Shape) (n resync x : ℕ) (from : List ℕ) (cur : Image) (xs : List Target) → RowChange shape n resync x from cur xs
+    → (rows : ℕ) → AreEven shape n rows cur → AreEven shape n rows (written xs cur)
+change_even shape n resync x from cur xs change rows even y inside synced counts = change.even y counts (even y inside synced counts)
 
 -- where all payloads for a sector are one, it is the last
 pub look_one : (xs : List Target) (d t : ℕ) (v : List ℕ) → IsPayload xs d t v → ((u : List ℕ) → IsPayload xs d t u → u ≡ v) → look xs d t ≡ Some v

@@ -1,17 +1,17 @@
 -- A write of one array sector: which sectors of its members it touches.
-use Rattle.std.specs.Prelude.{◌≡◌, ◌==◌, if◌then◌else◌, false, ℕ, zero, suc, ◌+◌, ◌<◌, List, [], ◌∷◌, map, length, Option, Some, unwrap_or, true}
+use Rattle.std.specs.Prelude.{◌≡◌, ◌==◌, if◌then◌else◌, false, ℕ, zero, suc, ◌+◌, ◌<◌, List, [], ◌∷◌, map, take, length, Option, Some, unwrap_or, true}
 use Rattle.raid_map.specs.LeftSymmetric.{member_of, sector_of, parity_at}
 use Rattle.rack.specs.Seen.{Image, Seen}
 use Rattle.array_image.specs.Places.{member_slice, data_sector}
 use Rattle.rack.specs.Targets.{Target, look}
-use Rattle.array_image.specs.Stripes.{Layout, width, sector_in, position_in}
-use Rattle.array_image.specs.Arrays.{Member, Shape, layout_at, value_by}
+use Rattle.array_image.specs.Stripes.{Layout, parity, width, sector_in, position_in, there, AgreeIn}
+use Rattle.array_image.specs.Arrays.{Member, Shape, layout_at, stripe_in, value_by}
 use Rattle.array_image.specs.Spent.{spent_by}
 use Rattle.array_image.specs.Held.{Among, source_in, current_in}
 use Rattle.rack.specs.Sequences.{IsPayload, OnlyReads}
 use Rattle.array_model.specs.View.{View, shape_of, spent_in}
 use Rattle.array_model.specs.Says.{IsOpen}
-use Rattle.array_image.specs.Even.{AreEven}
+use Rattle.array_image.specs.Even.{AllCount, AreEven}
 use Rattle.array_model.specs.Members.{Notes, Works}
 
 abbrev pub source_at : Shape → ℕ → Option Member
@@ -24,7 +24,7 @@ sector_at shape y = sector_in (layout_at shape y) y
 -- the targets of a write of sector x to array n
 pub record IsRow (shape : Shape) (n x : ℕ) (from : List ℕ) (xs : List Target) : Type 0 where
   -- they are whole sectors of its members' data
-  pub own : (d t : ℕ) (u : List ℕ) → IsPayload xs d t u → (m : Member) × (k : ℕ) × (d ≡ member_slice m.place n) × (t ≡ data_sector + k)
+  pub own : (d t : ℕ) (u : List ℕ) → IsPayload xs d t u → (m : Member) × (k : ℕ) × (d ≡ member_slice m.place n) × (t ≡ data_sector + k) × Among m shape.members
   pub sized : (d t : ℕ) (u : List ℕ) → IsPayload xs d t u → length u ≡ 512
   -- of the array's sectors they change x alone
   pub alone :
@@ -66,6 +66,14 @@ parity_part shape k x = part_at (parity_at k (sector_of k x)) shape.members
 abbrev pub changed : Shape → ℕ → ℕ → ℕ → List ℕ → List ℕ → List Target
 changed shape k n x from new = target_on n (sector_of k x) from (data_at shape k x) ∷ target_on n (sector_of k x) new (parity_part shape k x) ∷ []
 
+-- the members of a stripe agree where a sector of the array stands
+abbrev pub AgreeAt : Shape → ℕ → Image → ℕ → Type 0
+AgreeAt shape n c y = AgreeIn (layout_at shape y) (there (stripe_in c n shape (layout_at shape y) (sector_at shape y)))
+
+-- an array as a RAID-5 layout on its first members has it, which doesn't reshape
+abbrev pub straight : Shape → ℕ → Shape
+straight shape k = record { members = take k shape.members; size = shape.size; moved = parity k; layout = parity k; reached = 0 }
+
 -- What targets that change sector x by one commit owe, by what the members hold before it.
 pub record RowChange (shape : Shape) (n resync x : ℕ) (from : List ℕ) (cur : Image) (xs : List Target) : Type 0 where
   -- of the sectors that are an array's sector they change x alone
@@ -73,7 +81,8 @@ pub record RowChange (shape : Shape) (n resync x : ℕ) (from : List ℕ) (cur :
       (y : ℕ) (m : Member) (u : List ℕ) → source_at shape y ≡ Some m → look xs (member_slice m.place n) (data_sector + sector_at shape y) ≡ Some u
       → (y ≡ x) × (u ≡ from)
   pub value : (y : ℕ) → spent_by shape resync y ≡ false → value_by shape (written xs cur) n y ≡ (if y == x then from else value_by shape cur n y)
-  pub even : (rows : ℕ) → AreEven shape n rows cur → AreEven shape n rows (written xs cur)
+  -- members that agree still do
+  pub even : (y : ℕ) → AllCount (layout_at shape y) shape (sector_at shape y) → AgreeAt shape n cur y → AgreeAt shape n (written xs cur) y
 
 -- What a write of sector x owes: the targets of its row change this sector alone, and the row agrees once they are written.
 pub record Owes (v : View) (a : Seen) (x : ℕ) (from : List ℕ) (xs : List Target) : Type 0 where

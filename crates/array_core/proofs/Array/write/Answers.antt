@@ -1,9 +1,10 @@
-use Rattle.std.proofs.Common.{◌≡◌, ℕ, ◌<◌, ◌∙◌, Bool, sym, ap, subst, inl}
+use Rattle.std.proofs.Common.{false, refl, ℕ, ◌<◌, ◌∙◌, Bool, sym, subst, inl}
+use Rattle.std.proofs.lemmas.Bool.{both_ways}
 use Rattle.commit_log.specs.Phases.{AreLogs}
-use Rattle.array_model.specs.View.{View, is_whole_array}
 use Rattle.array_model.proofs.Alone.{alone_lacks}
 use Rattle.array_core.specs.Settling.{Readies}
 use Rattle.array_core.specs.Writing.{Base, as_it_was}
+use Rattle.array_core.proofs.Elsewhere.{write_elsewhere}
 use Rattle.array_core.proofs.LogWrites.{goes_then}
 use Rattle.array_core.proofs.Marking.{ready_writes}
 use Rattle.array_core.proofs.WriteCalls.{logged_acts, past_kept, ready_all, ready_based, ready_goes, ready_kept, ready_now, ready_sectors, ready_slices, view_noted, view_then}
@@ -19,6 +20,9 @@ returns-then-is_alone-clause-kept g c = λ s may.
 
 pub returns-then-is_alone-clause-view : goal.returns-then-is_alone-clause-view
 returns-then-is_alone-clause-view g c = as_it_was (inl (alone_lacks c.args.self.now c.rules.ensures (sym c.is_alone.ensures ∙ c.if-is_alone.true))) c.write_alone.ensures.notes
+
+pub returns-then-is_alone-clause-elsewhere : goal.returns-then-is_alone-clause-elsewhere
+returns-then-is_alone-clause-elsewhere g c = c.write_alone.ensures.elsewhere c.args.on.now.items
 
 pub write_marked-requires-clause-slices : goal.write_marked-requires-clause-slices
 write_marked-requires-clause-slices g c =
@@ -139,3 +143,25 @@ returns-clause-goes g c =
     goes_then (g.R.Rack.seen c.args.rack.now) (g.R.Rack.seen c.is_ready-ready.new.rack) (g.R.Rack.seen c.write_logged.new.rack)
     (ready_goes c.args.self.now c.is_ready-ready.new.self (g.R.Rack.seen c.args.rack.now) (g.R.Rack.seen c.is_ready-ready.new.rack) c.is_ready-ready.result c.is_ready-ready.ensures.ready)
     c.write_logged.ensures.goes
+
+pub returns-then-ready-clause-elsewhere : goal.returns-then-ready-clause-elsewhere
+returns-then-ready-clause-elsewhere g c =
+    let v = c.args.self.now in
+    let u = c.is_ready-ready.new.self in
+    let on = c.args.on.now.items in
+    let a = g.R.Rack.seen c.args.rack.now in
+    let b = g.R.Rack.seen c.is_ready-ready.new.rack in
+    let d = g.R.Rack.seen c.write_marked.new.rack in
+    write_elsewhere v u on a b d c.is_ready-ready.result false c.rules.ensures c.is_ready-ready.ensures.ready
+    (ready_goes v u a b c.is_ready-ready.result c.is_ready-ready.ensures.ready).stays c.write_marked.ensures.goes.stays (λ is. absurd (both_ways false refl is)) (c.write_marked.ensures.elsewhere on)
+
+pub returns-clause-elsewhere : goal.returns-clause-elsewhere
+returns-clause-elsewhere g c =
+    let v = c.args.self.now in
+    let u = c.is_ready-ready.new.self in
+    let on = c.args.on.now.items in
+    let a = g.R.Rack.seen c.args.rack.now in
+    let b = g.R.Rack.seen c.is_ready-ready.new.rack in
+    let d = g.R.Rack.seen c.write_logged.new.rack in
+    write_elsewhere v u on a b d c.is_ready-ready.result c.is_whole-whole.result c.rules.ensures c.is_ready-ready.ensures.ready
+    (ready_goes v u a b c.is_ready-ready.result c.is_ready-ready.ensures.ready).stays c.write_logged.ensures.goes.stays (λ is. sym c.is_whole-whole.ensures ∙ is) c.write_logged.ensures.elsewhere

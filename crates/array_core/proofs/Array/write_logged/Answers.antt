@@ -1,11 +1,12 @@
-use Rattle.std.proofs.Common.{◌≡◌, ◌∙◌, ℕ, List, refl, sym, ap, subst, inl, inr}
+use Rattle.std.proofs.Common.{◌∙◌, List, refl, sym, ap, subst, inl, inr}
 use Rattle.rack.specs.Targets.{Target}
 use Rattle.commit_log.specs.View.{LogView, committed}
 use Rattle.commit_log.specs.Kept.{LogKept}
-use Rattle.array_model.specs.View.{View, has_gone}
+use Rattle.array_model.specs.View.{has_gone}
 use Rattle.array_model.proofs.Views.{notes_then}
 use Rattle.array_core.specs.Pool.{MayLog}
 use Rattle.array_core.proofs.LogWrites.{few_in_order, staged_list, staged_row, staged_spent, row_had, reads_goes, goes_then, commit_notes, commit_moves, commit_kept, refused_moves, refused_kept}
+use Rattle.array_core.proofs.Elsewhere.{commit_elsewhere, elsewhere_then, reads_elsewhere}
 use Rattle.array_core.proofs.Array.write_logged.Goals as goal
 
 pub commit-lost-requires-clause-some : goal.commit-lost-requires-clause-some
@@ -81,3 +82,20 @@ returns-clause-goes g c =
 
 pub returns-clause-log : goal.returns-clause-log
 returns-clause-log g c = inr (c.commit-lost.ensures.log ∙ ap committed c.stage_unspent.ensures.log)
+
+pub returns-then-not-stage_unspent-clause-elsewhere : goal.returns-then-not-stage_unspent-clause-elsewhere
+returns-then-not-stage_unspent-clause-elsewhere g c =
+    reads_elsewhere c.args.all c.args.self.now c.args.on.now.items (g.R.Rack.seen c.args.rack.now) (g.R.Rack.seen c.stage_unspent.new.rack) c.stage_unspent.ensures.staged.reads
+
+pub returns-clause-elsewhere : goal.returns-clause-elsewhere
+returns-clause-elsewhere g c =
+    let v = c.args.self.now in
+    let on = c.args.on.now.items in
+    let a = g.R.Rack.seen c.args.rack.now in
+    let b = g.R.Rack.seen c.stage_unspent.new.rack in
+    let d = g.R.Rack.seen c.commit-lost.new.rack in
+    elsewhere_then c.args.all v on a b d c.stage_unspent.ensures.staged.reads.stays c.commit-lost.ensures.commits.stays
+    (reads_elsewhere c.args.all v on a b c.stage_unspent.ensures.staged.reads)
+    (commit_elsewhere c.args.all v c.stage_unspent.new.log on c.commit-lost.result.items b d c.rules.ensures.few
+    (staged_list _ _ _ _ _ _ _ _ _ c.rules.ensures c.requires.sector c.told-from c.stage_unspent.ensures.unspent c.stage_unspent.ensures.staged c.if-not-stage_unspent.false)
+    c.commit-lost.ensures.commits)
