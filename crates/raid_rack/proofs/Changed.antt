@@ -88,7 +88,6 @@ pub record ViewsOne (v : Raid) (f : ℕ → View) (m : ℕ) (a b : Seen) : Type 
   pub events : (v.arrays m).truth.events ≤ (f m).truth.events
   pub seats : present (f m).seats ≤ present (v.arrays m).seats
   pub lowered_is : shape_of (f m) ≡ lowered lost (shape_of (v.arrays m))
-  pub plain : is_reshaping (v.arrays m).truth ≡ false → is_reshaping (f m).truth ≡ false
   -- it is marked only where it was, or where it was whole
   pub was : (f m).marked ≡ true → ((v.arrays m).marked ≡ true) ⊎ (is_whole_array (v.arrays m) ≡ true)
   pub whole :
@@ -271,8 +270,6 @@ module _ (v : Raid) (f : ℕ → View) (m : ℕ) (a b : Seen) (set : IsSet v a) 
     arrays = λ n low. by_number (λ k. IsSeated v.state k (f k) b) m n call.seated
         (λ apart. subst (λ (u : View). IsSeated v.state n u b) (sym (call.others n apart)) (seated_still v.state n (v.arrays n) a b call.stays (set.arrays n low)));
     marked = views_whole;
-    plain = λ n low. by_number (λ k. is_reshaping (f k).truth ≡ false) m n (call.plain (set.plain m call.low))
-        (λ apart. ap (λ (u : View). is_reshaping u.truth) (call.others n apart) ∙ set.plain n low);
   }
 
   pub views_sectors : (n : ℕ) → sectors_of (f n) ≡ sectors_of (v.arrays n)
@@ -466,7 +463,6 @@ views_notes v f m a b events offset mark set low stays others may was notes =
       events = subst (λ (t : Super). u.truth.events ≤ t.events) (sym notes.same.truth) may.later;
       seats = fewer_left u w notes.lost loses;
       lowered_is = shape_then z w notes.lost notes.same.truth notes.loses ∙ ap (lowered notes.lost) shape;
-      plain = λ still. ap (λ (t : Super). is_reshaping t) notes.same.truth ∙ still;
       was = λ marked. was (sym notes.same.marked ∙ marked);
       whole = λ all. whole_then v.state m z w notes.lost a at notes.same notes.loses all;
       shape = λ marked.

@@ -10,7 +10,7 @@ use Rattle.array_core.specs.Seats.{names, gone}
 use Rattle.raid_rack.specs.declared.arrays.Arrays.{Arrays}
 use Rattle.raid_rack.specs.Moves.{noted_at}
 use Rattle.raid_rack.specs.RaidRack.{IsRunning, raid_by, no_array}
-use Rattle.raid_rack.proofs.Noted.{IsNoting, current_few, noted_plain, noted_seated, noted_whole}
+use Rattle.raid_rack.proofs.Noted.{IsNoting, current_few, noted_seated, noted_whole}
 use Rattle.raid_rack.proofs.Mended.{each_get}
 
 -- the arrays that the code notes are those
@@ -65,7 +65,6 @@ dropped_running a all places one x running each same named current =
         logs = set.logs;
         arrays = noted_seated places (raid_by a) f x noting set;
         marked = noted_whole places (raid_by a) f noting;
-        plain = noted_plain places (raid_by a) f noting set.plain;
       };
     }
 

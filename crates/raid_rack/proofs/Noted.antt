@@ -15,7 +15,6 @@ use Rattle.array_image.specs.Places.{log_slice, member_slice, super_sector}
 use Rattle.array_image.specs.States.{is_current}
 use Rattle.array_image.specs.Arrays.{Shape, layout_at, replayed}
 use Rattle.array_image.specs.Marks.{lower}
-use Rattle.array_image.specs.Supers.{is_reshaping}
 use Rattle.array_image.specs.Held.{Among, current_in}
 use Rattle.array_image.proofs.Marked.{among_lowered}
 use Rattle.array_image.specs.Left.{PicksLogs}
@@ -119,10 +118,6 @@ noted_more lost v f noting p is =
 pub noted_whole : (lost : List ℕ) (v : Raid) (f : ℕ → View) → IsNoting lost v f → (n : ℕ) → n < v.state.made → IsMarkedWhole (with_arrays v f) n
 noted_whole lost v f noting n low marked =
     inr (noting.one, noting.current, gone_from (with_arrays v f) noting.one n noting.few low (noted_one lost v f noting n low))
-
-pub noted_plain : (lost : List ℕ) (v : Raid) (f : ℕ → View) → IsNoting lost v f → ((n : ℕ) → n < v.state.made → is_reshaping (v.arrays n).truth ≡ false)
-    → (n : ℕ) → n < v.state.made → is_reshaping (f n).truth ≡ false
-noted_plain lost v f noting plain n low = ap (λ (u : View). is_reshaping u.truth) (noting.arrays n low) ∙ plain n low
 
 pub noted_seated : (lost : List ℕ) (v : Raid) (f : ℕ → View) (x : Seen) → IsNoting lost v f → IsSet v x → (n : ℕ) → n < v.state.made → IsSeated v.state n (f n) x
 noted_seated lost v f x noting set n low =
@@ -229,7 +224,6 @@ set_noted lost v f x set noting = record {
   logs = set.logs;
   arrays = noted_seated lost v f x noting set;
   marked = noted_whole lost v f noting;
-  plain = noted_plain lost v f noting (set.plain);
 }
 
 pub moves_noted : (lost : List ℕ) (v : Raid) (f : ℕ → View) (x : Seen) → IsSet v x → IsNoting lost v f → HaveGone lost v
@@ -376,7 +370,6 @@ moves_heeded v f x set arrays sectors are =
             (heeded_seated v.state n (v.arrays n) x (stays_same x set.fit) (set.arrays n low)
             (λ p current. gone_not v p n (current_few v.state p set.few current) low (are p current)));
         marked = λ n low. heeded_whole v f n (arrays n low) are (set.marked n low);
-        plain = λ n low. ap (λ (u : View). is_reshaping u.truth) (arrays n low) ∙ set.plain n low;
       };
       book = after_same v.state;
       leaves = λ traced. leaves_same x (λ c. Unit {0});

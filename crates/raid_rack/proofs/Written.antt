@@ -7,7 +7,6 @@ use Rattle.rack.specs.Seen.{Seen, IsLive}
 use Rattle.pool_state.specs.declared.contents.State.{State}
 use Rattle.array_image.specs.Places.{member_slice, data_sector, super_sector}
 use Rattle.array_image.specs.States.{is_current, current_places}
-use Rattle.array_image.specs.Supers.{is_reshaping}
 use Rattle.array_image.specs.Arrays.{Member, Shape}
 use Rattle.array_image.specs.Held.{Among}
 use Rattle.commit_log.specs.Kept.{LogKept}
@@ -117,7 +116,6 @@ module _ (v : Raid) (f : ℕ → View) (number m : ℕ) (a b : Seen) (on : List 
         };
         opened = opened v a m set amid.slices low;
         steady = heeded_whole v m call.heeded (set.marked m low);
-        still = set.plain m low;
         log = subst (λ g. LogKept v.state v.number g a) (λ i p. heeded_gone v call.heeded p i) amid.stood.log;
         room = let room = (number_room v n before).0 in omega (arith, room);
         places = λ p. ap (λ ps. names ps p) call.on_is ∙ names_current v.state p ∙ sym (and_true (is_current v.state p));
