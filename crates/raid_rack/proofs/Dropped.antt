@@ -1,8 +1,8 @@
 -- A drive that its owner loses: it is noted in all arrays, and then mended.
-use Rattle.std.proofs.Common.{◌≡◌, ℕ, ◌<◌, ◌≤◌, Bool, true, false, ◌||◌, if◌then◌else◌, List, length, get_or, slice_get, Some, option_map, refl, sym, ap, subst, ◌∙◌, inl, inr, lt-ltb, le-ltb, arith}
+use Rattle.std.proofs.Common.{◌≡◌, ℕ, ◌≤◌, Bool, true, if◌then◌else◌, List, length, get_or, slice_get, option_map, sym, ap, ◌∙◌, inl, inr, lt-ltb, le-ltb, arith}
 use Rattle.std.proofs.lemmas.List.{get_or_past}
 use Rattle.array_image.specs.States.{is_current}
-use Rattle.std.proofs.lemmas.Bool.{cases_lt, both_ways}
+use Rattle.std.proofs.lemmas.Bool.{cases_lt}
 use Rattle.arrayvec.specs.ArrayVec.{ArrayVec}
 use Rattle.rack.specs.Seen.{Seen}
 use Rattle.array_model.specs.View.{View}

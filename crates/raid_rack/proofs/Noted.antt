@@ -1,5 +1,5 @@
 -- Parts of a call that call nothing: losses are noted in all arrays, and heeded once they are marked.
-use Rattle.std.proofs.Common.{◌≡◌, ℕ, ◌<◌, ◌≤◌, Bool, true, false, ◌&&◌, ◌||◌, not, nat_lt, List, map, length, slice_get, Some, refl, sym, ap, subst, ◌∙◌, inl, inr, ltb-true, lt-ltb, arith}
+use Rattle.std.proofs.Common.{◌≡◌, ℕ, ◌<◌, ◌≤◌, Bool, true, false, ◌&&◌, ◌||◌, not, nat_lt, List, map, length, refl, sym, ap, subst, ◌∙◌, inl, inr, ltb-true, lt-ltb, arith}
 use Rattle.std.proofs.lemmas.Bool.{cases_Bool, cases_eq, cases_lt, both_ways, and_parts, and_from}
 use Rattle.std.proofs.lemmas.Option.{slice_get_past}
 use Rattle.std.specs.Option.{option_map_or}
@@ -7,11 +7,11 @@ use Rattle.array_image.specs.Stripes.{sector_in}
 use Rattle.array_image.specs.Spent.{wanting, spent_with}
 use Rattle.std.specs.List.{list_any, range_with_len}
 use Rattle.rack.specs.Values.{Values}
-use Rattle.rack.specs.Seen.{Image, Seen, IsLive, Stays}
+use Rattle.rack.specs.Seen.{Image, Seen, Stays}
 use Rattle.rack.specs.Joins.{stays_same, leaves_same, keeps_same}
 use Rattle.rack.specs.Targets.{Target, look}
 use Rattle.pool_state.specs.declared.contents.State.{State}
-use Rattle.array_image.specs.Places.{log_slice, member_slice, super_sector}
+use Rattle.array_image.specs.Places.{log_slice, member_slice}
 use Rattle.array_image.specs.States.{is_current}
 use Rattle.array_image.specs.Arrays.{Shape, layout_at, replayed}
 use Rattle.array_image.specs.Marks.{lower}

@@ -1,15 +1,12 @@
 -- Calls of a rack of arrays that move no value, as calls of a rack.
 use Rattle.std.specs.Prelude.{Result, OnOk, IfErr}
 use Rattle.std.proofs.lemmas.Bool.{cases_eq, both_ways}
-use Rattle.std.proofs.Common.{◌≡◌, ℕ, ◌+◌, ◌<◌, ◌≤◌, Bool, true, false, ◌==◌, ◌&&◌, nat_lt, List, [], ◌∷◌, Ok, Err, refl, sym, ap, subst, ◌∙◌, inl, inr, le-ltb, lt-ltb, if◌then◌else◌, arith}
+use Rattle.std.proofs.Common.{◌≡◌, ℕ, ◌<◌, ◌≤◌, Bool, true, false, ◌==◌, ◌&&◌, nat_lt, List, [], ◌∷◌, Ok, Err, refl, sym, ap, subst, ◌∙◌, inl, inr, lt-ltb, if◌then◌else◌, arith}
 use Rattle.rack.specs.declared.Gone.{Gone}
 use Rattle.rack.specs.Values.{Values, Keeps, append}
 use Rattle.rack.specs.Seen.{Held, Seen, Rose, appended}
 use Rattle.rack.specs.Calls.{Reads, Syncs, Writes}
 use Rattle.rack.proofs.Writing.{appended_elsewhere}
-use Rattle.slice_rack.specs.Slices.{Slices, disk_of, first_of, sectors_of}
-use Rattle.slice_rack.specs.Sliced.{slices_of}
-use Rattle.array_image.specs.Held.{IsSettled}
 use Rattle.array_image.proofs.Sources.{held_single}
 use Rattle.commit_log.proofs.Deciding.{names_first}
 use Rattle.array_image.specs.States.{is_current}
@@ -17,7 +14,7 @@ use Rattle.array_core.specs.Seats.{gone}
 use Rattle.array_model.specs.View.{View, shape_of, sectors_of as array_sectors}
 use Rattle.array_model.specs.ArrayCalls.{appended_at}
 use Rattle.raid_rack.specs.declared.arrays.Arrays.{Arrays}
-use Rattle.raid_rack.specs.Raid.{Raid, live_of, spent_of, held_in, StopsInside, IsTold, raid_of}
+use Rattle.raid_rack.specs.Raid.{Raid, live_of, spent_of, held_in, StopsInside, raid_of}
 use Rattle.raid_rack.specs.Acts.{RaidActs}
 use Rattle.raid_rack.specs.Moves.{AreCaused, Brings, Mends, Moves, ReadsValue, SyncsOne, WritesOne, noted_at, written_at}
 use Rattle.raid_rack.specs.Runs.{RaidRuns}

@@ -15,8 +15,7 @@ use Rattle.array_image.specs.Arrays.{Member, Shape, replayed}
 use Rattle.array_image.specs.Held.{Among, IsSettled}
 use Rattle.array_image.specs.Left.{IsInside}
 use Rattle.array_model.specs.View.{View, IsArray, HasFault, has_gone, is_missing_seat, is_whole_array, place_at, sectors_of, shape_of, spent_in}
-use Rattle.array_model.specs.declared.Seat.TheVariants.{Missing}
-use Rattle.array_model.specs.Members.{HasSlices, slice_on}
+use Rattle.array_model.specs.Members.{HasSlices}
 use Rattle.array_model.specs.ArrayCalls.{Covers, appended_at}
 use Rattle.array_core.specs.Staging.{HasRowRebuilds}
 use Rattle.array_core.specs.Seats.{gone}
