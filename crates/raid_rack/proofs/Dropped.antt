@@ -75,5 +75,4 @@ dropped_raid a all places count each same = λ i. record {
   state = a.state;
   arrays = λ n. noted_arrays a all places count each same n i;
   number = a.log.number;
-  written = (raid_by a).written;
 }

@@ -20,8 +20,6 @@ pub record Raid : Type 0 where
   pub arrays : ℕ → View
   -- the number of the log
   pub number : ℕ
-  -- the arrays that this run has written to
-  pub written : ℕ → Bool
 
 -- ---- sectors that can't be had
 
