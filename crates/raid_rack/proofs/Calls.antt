@@ -1,43 +1,29 @@
 -- Calls of one array that write nothing, as parts of a call of all.
-use Rattle.std.proofs.Common.{◌≡◌, ℕ, zero, suc, ◌+◌, ◌-◌, ◌*◌, ◌/◌, ◌%◌, ◌^◌, ◌<◌, ◌≤◌, Bool, true, false, ◌==◌, ◌&&◌, ◌||◌, not, nat_lt, if◌then◌else◌, List, [], ◌∷◌, map, length, slice_get, Option, Some, None, option_map, unwrap_or, ◌⊎◌, refl, sym, ap, ap₂, subst, ◌∙◌, inl, inr, ltb-true, lt-ltb, le-ltb, arith}
-use Rattle.std.proofs.lemmas.Bool.{cases_Bool, cases_eq, cases_lt, both_ways, and_parts, and_from, ltb-false}
-use Rattle.std.specs.List.{list_all, list_any, range_with_len}
-use Rattle.std.proofs.lemmas.Option.{slice_get_past}
+use Rattle.std.proofs.Common.{◌≡◌, ℕ, ◌+◌, ◌-◌, ◌*◌, ◌/◌, ◌%◌, ◌^◌, ◌<◌, ◌≤◌, Bool, true, false, nat_lt, if◌then◌else◌, ◌⊎◌, refl, sym, ap, subst, ◌∙◌, inl, inr, ltb-true, lt-ltb, le-ltb, arith}
+use Rattle.std.proofs.lemmas.Bool.{cases_eq, cases_lt, both_ways, ltb-false}
 use Rattle.rack.specs.Values.{Values}
-use Rattle.rack.specs.Seen.{Seen, IsPick, Stays}
+use Rattle.rack.specs.Seen.{Seen, IsPick}
 use Rattle.rack.specs.Moments.{Leaves}
 use Rattle.rack.specs.Joins.{leaves_weaker}
 use Rattle.rack.specs.Sequences.{OnlyReads}
-use Rattle.md_super.specs.declared.superblock.Super.{Super}
-use Rattle.array_image.specs.Stripes.{capacity}
 use Rattle.pool_state.specs.declared.contents.State.{State}
-use Rattle.array_image.specs.Places.{log_slice, member_slice, data_sector}
-use Rattle.array_image.specs.States.{is_current}
-use Rattle.array_image.specs.Arrays.{Member, Shape, first_layout}
+use Rattle.array_image.specs.Arrays.{Shape}
 use Rattle.array_image.specs.Held.{Among}
 use Rattle.array_image.proofs.Marked.{among_lowered}
-use Rattle.array_image.specs.Marks.{lower, lowered}
-use Rattle.array_image.specs.Supers.{is_reshaping, is_unclean}
-use Rattle.array_model.specs.declared.Seat.{Seat}
-use Rattle.array_model.specs.declared.Seat.TheVariants.{Whole, Missing, Rebuilding}
-use Rattle.array_model.specs.View.{View, IsArray, HasFault, LosesPlaces, has_gone, is_missing_seat, is_whole_array, is_whole_seat, place_at, seat_unless, present, rows_of, sectors_of, shape_of, spent_in}
+use Rattle.array_image.specs.Supers.{is_unclean}
+use Rattle.array_model.specs.View.{View, IsArray, rows_of, shape_of}
 use Rattle.array_model.specs.ArrayCalls.{Covers, Keeping}
-use Rattle.array_model.specs.Members.{IsSameButSeats, Notes, slice_on}
-use Rattle.array_model.proofs.Views.{shape_then, fewer_left}
-use Rattle.array_model.proofs.Noting.{losing_by}
+use Rattle.array_model.specs.Members.{Notes}
 use Rattle.array_core.specs.Superblocks.{settled, settled_truth, left_offset, raised}
 use Rattle.array_core.specs.Settling.{Settles}
-use Rattle.array_core.proofs.Settled.{settled_shape}
-use Rattle.raid_rack.specs.Raid.{Raid, gone_in, is_left, is_over}
-use Rattle.raid_rack.specs.Marking.{Part}
-use Rattle.raid_rack.specs.Moves.{IsOfPool, IsSet, IsSeated, IsMarkedWhole, AreMarked, PartOf, Moves}
-use Rattle.raid_rack.proofs.Books.{after_same}
+use Rattle.raid_rack.specs.Book.{after_same}
+use Rattle.raid_rack.specs.Raid.{Raid, gone_in, is_over}
+use Rattle.raid_rack.specs.Moves.{IsOfPool, IsSet, PartOf, Moves}
 use Rattle.raid_rack.proofs.Changed.{ViewsOne, MayRestate, further, marked_before, more_gone, same_shape, left_before, caused, part_if, views_notes, views_sectors, views_set, views_spent}
-use Rattle.raid_rack.proofs.Over.{someone_left, over_still, IsFurther, not_true}
+use Rattle.raid_rack.proofs.Over.{someone_left, over_still}
 use Rattle.raid_rack.proofs.Reading.{part_read, part_unread}
-use Rattle.raid_rack.proofs.Ranges.{any_some, any_none}
-use Rattle.raid_rack.proofs.Seated.{with_seats, view_with, seated_with, missing_of, place_few}
-use Rattle.raid_rack.proofs.Noted.{with_arrays, live_later, current_few, gone_some, gone_from, losing_spent}
+use Rattle.raid_rack.proofs.Seated.{view_with}
+use Rattle.raid_rack.proofs.Noted.{with_arrays}
 
 -- ---- a call of array m that writes nothing
 

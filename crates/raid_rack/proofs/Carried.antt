@@ -17,7 +17,6 @@ use Rattle.commit_log.proofs.Kept.{kept_ready, kept_decides}
 use Rattle.array_model.specs.declared.Seat.{Seat}
 use Rattle.array_model.specs.declared.Seat.TheVariants.{Missing}
 use Rattle.array_model.specs.View.{View, has_gone, is_missing_seat, place_at, present, may_vary, shape_of}
-use Rattle.array_model.specs.Members.{slice_on}
 use Rattle.array_model.specs.ArrayCalls.{Covers}
 use Rattle.array_model.specs.Stages.{IsStateOf, AmongTargets}
 use Rattle.array_model.proofs.Losses.{IsLosing}
@@ -34,7 +33,7 @@ use Rattle.raid_rack.proofs.Added.{marks_bring}
 use Rattle.raid_rack.proofs.Marking.{MarksCall, NotesLost, marks_part, shape_after}
 use Rattle.raid_rack.proofs.Restated.{IsStaged, restates_staged}
 use Rattle.raid_rack.proofs.Over.{someone_left, member_left, number_room, not_true}
-use Rattle.raid_rack.proofs.Seated.{gone_lost, missing_then, place_few}
+use Rattle.raid_rack.proofs.Seated.{place_few}
 use Rattle.raid_rack.proofs.Noted.{gone_not, live_later}
 use Rattle.raid_rack.proofs.Changed.{lowered_none}
 use Rattle.raid_rack.proofs.Elements.{among_first, apart_found, look_lacks}

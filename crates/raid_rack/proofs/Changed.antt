@@ -1,39 +1,29 @@
 -- A call of one array, and what is known of all of them after it.
 use Rattle.std.proofs.Common.{◌≡◌, ℕ, zero, suc, ◌+◌, ◌-◌, ◌*◌, ◌/◌, ◌%◌, ◌^◌, ◌<◌, ◌≤◌, Bool, true, false, ◌==◌, ◌&&◌, ◌||◌, not, nat_lt, if◌then◌else◌, List, [], ◌∷◌, map, length, slice_get, Option, Some, None, option_map, unwrap_or, ◌⊎◌, refl, sym, ap, ap₂, subst, ◌∙◌, inl, inr, ltb-true, lt-ltb, le-ltb, arith}
-use Rattle.std.proofs.lemmas.Bool.{cases_Bool, cases_eq, cases_lt, both_ways, and_parts, and_from, ltb-false}
+use Rattle.std.proofs.lemmas.Bool.{cases_Bool, cases_eq, cases_lt, both_ways, and_parts, and_from}
 use Rattle.std.specs.List.{list_all, list_any, range_with_len}
 use Rattle.std.proofs.lemmas.Option.{slice_get_past}
 use Rattle.rack.specs.Values.{Values}
-use Rattle.rack.specs.Seen.{Seen, IsPick, Stays}
+use Rattle.rack.specs.Seen.{Seen, Stays}
 use Rattle.rack.specs.Moments.{Leaves}
-use Rattle.rack.specs.Joins.{leaves_weaker}
-use Rattle.rack.specs.Sequences.{OnlyReads}
 use Rattle.md_super.specs.declared.superblock.Super.{Super}
 use Rattle.array_image.specs.Stripes.{capacity}
 use Rattle.pool_state.specs.declared.contents.State.{State}
-use Rattle.array_image.specs.Places.{log_slice, member_slice, data_sector}
+use Rattle.array_image.specs.Places.{log_slice, data_sector}
 use Rattle.array_image.specs.States.{is_current}
 use Rattle.array_image.specs.Arrays.{Member, Shape, first_layout}
-use Rattle.array_image.specs.Held.{Among}
-use Rattle.array_image.proofs.Marked.{among_lowered}
 use Rattle.array_image.specs.Marks.{lower, lowered}
-use Rattle.array_image.specs.Supers.{is_reshaping, is_unclean}
+use Rattle.array_image.specs.Supers.{is_reshaping}
 use Rattle.array_model.specs.declared.Seat.{Seat}
 use Rattle.array_model.specs.declared.Seat.TheVariants.{Whole, Missing, Rebuilding}
 use Rattle.array_model.specs.View.{View, IsArray, HasFault, LosesPlaces, has_gone, is_missing_seat, is_whole_array, is_whole_seat, place_at, seat_unless, present, rows_of, sectors_of, shape_of, spent_in}
-use Rattle.array_model.specs.ArrayCalls.{Covers, Keeping}
 use Rattle.array_model.specs.Members.{IsSameButSeats, Notes, slice_on}
 use Rattle.array_model.proofs.Views.{shape_then, fewer_left}
 use Rattle.array_model.proofs.Noting.{losing_by}
-use Rattle.array_core.specs.Superblocks.{settled, raised}
-use Rattle.array_core.specs.Settling.{Settles}
-use Rattle.array_core.proofs.Settled.{settled_shape}
-use Rattle.raid_rack.specs.Raid.{Raid, gone_in, is_left, is_over}
+use Rattle.raid_rack.specs.Raid.{Raid, gone_in, is_left}
 use Rattle.raid_rack.specs.Marking.{Part}
-use Rattle.raid_rack.specs.Moves.{IsAmid, IsOfPool, IsSet, IsSeated, IsMarkedWhole, AreMarked, PartOf, Moves}
-use Rattle.raid_rack.proofs.Books.{after_same}
-use Rattle.raid_rack.proofs.Over.{someone_left, over_still, IsFurther, not_true}
-use Rattle.raid_rack.proofs.Reading.{part_read, part_unread}
+use Rattle.raid_rack.specs.Moves.{IsAmid, IsSet, IsSeated, IsMarkedWhole, AreMarked, PartOf}
+use Rattle.raid_rack.proofs.Over.{IsFurther, not_true}
 use Rattle.raid_rack.proofs.Ranges.{any_some, any_none}
 use Rattle.raid_rack.proofs.Seated.{with_seats, view_with, seated_with, missing_of, place_few}
 use Rattle.raid_rack.proofs.Noted.{with_arrays, live_later, current_few, gone_some, gone_from, losing_spent}
@@ -88,7 +78,6 @@ pub record ViewsOne (v : Raid) (f : ℕ → View) (m : ℕ) (a b : Seen) : Type 
   pub events : (v.arrays m).truth.events ≤ (f m).truth.events
   pub seats : present (f m).seats ≤ present (v.arrays m).seats
   pub lowered_is : shape_of (f m) ≡ lowered lost (shape_of (v.arrays m))
-  pub plain : is_reshaping (v.arrays m).truth ≡ false → is_reshaping (f m).truth ≡ false
   -- it is marked only where it was, or where it was whole
   pub was : (f m).marked ≡ true → ((v.arrays m).marked ≡ true) ⊎ (is_whole_array (v.arrays m) ≡ true)
   pub whole :
@@ -271,8 +260,6 @@ module _ (v : Raid) (f : ℕ → View) (m : ℕ) (a b : Seen) (set : IsSet v a) 
     arrays = λ n low. by_number (λ k. IsSeated v.state k (f k) b) m n call.seated
         (λ apart. subst (λ (u : View). IsSeated v.state n u b) (sym (call.others n apart)) (seated_still v.state n (v.arrays n) a b call.stays (set.arrays n low)));
     marked = views_whole;
-    plain = λ n low. by_number (λ k. is_reshaping (f k).truth ≡ false) m n (call.plain (set.plain m call.low))
-        (λ apart. ap (λ (u : View). is_reshaping u.truth) (call.others n apart) ∙ set.plain n low);
   }
 
   pub views_sectors : (n : ℕ) → sectors_of (f n) ≡ sectors_of (v.arrays n)
@@ -466,7 +453,6 @@ views_notes v f m a b events offset mark set low stays others may was notes =
       events = subst (λ (t : Super). u.truth.events ≤ t.events) (sym notes.same.truth) may.later;
       seats = fewer_left u w notes.lost loses;
       lowered_is = shape_then z w notes.lost notes.same.truth notes.loses ∙ ap (lowered notes.lost) shape;
-      plain = λ still. ap (λ (t : Super). is_reshaping t) notes.same.truth ∙ still;
       was = λ marked. was (sym notes.same.marked ∙ marked);
       whole = λ all. whole_then v.state m z w notes.lost a at notes.same notes.loses all;
       shape = λ marked.

@@ -14,7 +14,6 @@ use Rattle.array_image.specs.Supers.{has_roles}
 use Rattle.commit_log.specs.View.{LogView, names, next_number}
 use Rattle.commit_log.specs.Commits.{CommitCall}
 use Rattle.commit_log.specs.Kept.{gone_with}
-use Rattle.array_image.specs.Supers.{is_reshaping}
 use Rattle.array_model.specs.View.{View, HasFault, has_gone, place_at, present, sectors_of}
 use Rattle.array_model.proofs.Losses.{IsLosing}
 use Rattle.array_core.specs.Seats.{gone as without}
@@ -221,7 +220,6 @@ module _ (v : Raid) (lost on gone : List ℕ) (l : LogView) (xs : List Target) (
         (seated_still v.state n (v.arrays n) b c commit.call.stays (set_before.arrays n low))));
     marked = λ n low is.
         absurd (both_ways (v.arrays n).marked (commit.marking.staged.each n low).unmarked (ap (λ (u : View). u.marked) (sym (commit.arrays n low)) ∙ is));
-    plain = λ n low. ap (λ (u : View). is_reshaping u.truth) (commit.arrays n low) ∙ set_before.plain n low;
   }
 
   pub after_losing : (n : ℕ) → n < v.state.made → ((without gone (v.arrays n)).went ≡ [] → (v.arrays n).went ≡ []) → IsLosing (v.arrays n) (f n) (names gone)

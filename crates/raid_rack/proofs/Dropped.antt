@@ -1,8 +1,8 @@
 -- A drive that its owner loses: it is noted in all arrays, and then mended.
-use Rattle.std.proofs.Common.{◌≡◌, ℕ, ◌<◌, ◌≤◌, Bool, true, false, ◌||◌, if◌then◌else◌, List, length, get_or, slice_get, Some, option_map, refl, sym, ap, subst, ◌∙◌, inl, inr, lt-ltb, le-ltb, arith}
+use Rattle.std.proofs.Common.{◌≡◌, ℕ, ◌≤◌, Bool, true, if◌then◌else◌, List, length, get_or, slice_get, option_map, sym, ap, ◌∙◌, inl, inr, lt-ltb, le-ltb, arith}
 use Rattle.std.proofs.lemmas.List.{get_or_past}
 use Rattle.array_image.specs.States.{is_current}
-use Rattle.std.proofs.lemmas.Bool.{cases_lt, both_ways}
+use Rattle.std.proofs.lemmas.Bool.{cases_lt}
 use Rattle.arrayvec.specs.ArrayVec.{ArrayVec}
 use Rattle.rack.specs.Seen.{Seen}
 use Rattle.array_model.specs.View.{View}
@@ -10,7 +10,7 @@ use Rattle.array_core.specs.Seats.{names, gone}
 use Rattle.raid_rack.specs.declared.arrays.Arrays.{Arrays}
 use Rattle.raid_rack.specs.Moves.{noted_at}
 use Rattle.raid_rack.specs.RaidRack.{IsRunning, raid_by, no_array}
-use Rattle.raid_rack.proofs.Noted.{IsNoting, current_few, noted_plain, noted_seated, noted_whole}
+use Rattle.raid_rack.proofs.Noted.{IsNoting, current_few, noted_seated, noted_whole}
 use Rattle.raid_rack.proofs.Mended.{each_get}
 
 -- the arrays that the code notes are those
@@ -65,7 +65,6 @@ dropped_running a all places one x running each same named current =
         logs = set.logs;
         arrays = noted_seated places (raid_by a) f x noting set;
         marked = noted_whole places (raid_by a) f noting;
-        plain = noted_plain places (raid_by a) f noting set.plain;
       };
     }
 
@@ -76,5 +75,4 @@ dropped_raid a all places count each same = λ i. record {
   state = a.state;
   arrays = λ n. noted_arrays a all places count each same n i;
   number = a.log.number;
-  written = (raid_by a).written;
 }

@@ -1,5 +1,5 @@
 -- The tests of the code for sectors that can't be had any more.
-use Rattle.std.proofs.Common.{◌≡◌, ℕ, zero, suc, ◌+◌, ◌<◌, ◌≤◌, Bool, true, false, ◌==◌, ◌&&◌, ◌||◌, not, nat_lt, if◌then◌else◌, List, [], ◌∷◌, map, length, get_or, slice_get, Option, Some, None, refl, sym, ap, ap₂, ◌∙◌, inl, inr, eq-eqb, eqb-true, lt-ltb, le-ltb, arith}
+use Rattle.std.proofs.Common.{◌≡◌, ℕ, zero, suc, ◌+◌, ◌<◌, ◌≤◌, Bool, true, false, ◌==◌, ◌&&◌, ◌||◌, not, nat_lt, if◌then◌else◌, List, [], ◌∷◌, map, length, get_or, slice_get, refl, sym, ap, ap₂, ◌∙◌, inl, inr, eqb-true, lt-ltb, le-ltb, arith}
 use Rattle.std.proofs.lemmas.Bool.{cases_Bool, both_ways, and_parts, and_from}
 use Rattle.std.proofs.lemmas.List.{get_or_past}
 use Rattle.std.specs.List.{list_any, range_with_len}
@@ -7,7 +7,7 @@ use Rattle.std.specs.Option.{option_map_or}
 use Rattle.array_image.specs.States.{is_current, current_places}
 use Rattle.array_image.specs.Spent.{wanting, spent_with}
 use Rattle.array_image.specs.Stripes.{sector_in}
-use Rattle.array_image.specs.Arrays.{Member, layout_at}
+use Rattle.array_image.specs.Arrays.{layout_at}
 use Rattle.commit_log.specs.View.{names}
 use Rattle.array_model.specs.declared.Seat.{Seat}
 use Rattle.array_model.specs.declared.Seat.TheVariants.{Whole, Missing, Rebuilding}

@@ -1,6 +1,5 @@
 mod Own
 pub mod Raid
-mod Books
 mod Ranges
 pub mod Dropped
 pub mod Synced

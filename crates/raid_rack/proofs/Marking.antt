@@ -30,8 +30,7 @@ use Rattle.array_model.proofs.Keeping.{live_on, inside_before, logs_of, KeepsDat
 use Rattle.array_model.proofs.Losses.{noted_holds, marked_holds}
 use Rattle.raid_rack.specs.Raid.{Raid, Stood}
 use Rattle.raid_rack.specs.Marking.{NoData, Restates, SaysBetween, Part}
-use Rattle.raid_rack.specs.Book.{IsAfter}
-use Rattle.raid_rack.proofs.Books.{after_same}
+use Rattle.raid_rack.specs.Book.{IsAfter, after_same}
 use Rattle.raid_rack.specs.Laws.{stood_left}
 use Rattle.raid_rack.proofs.Own.{look_nothing, says_same}
 

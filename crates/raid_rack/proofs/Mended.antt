@@ -115,7 +115,7 @@ has_noted a all log lost x turn each count number =
     (λ n. each_sectors (without lost) a.all.items all.items n (λ u. refl) each) in
     let number_back = sym number in
     let whole : with_arrays (raid_by a) f ≡ raid_by (record a { all = all; log = log }) =
-    λ i. record { state = a.state; arrays = f; number = number_back i; written = (raid_by a).written } in
+    λ i. record { state = a.state; arrays = f; number = number_back i } in
     record {
       moves = subst (λ (w : Raid). Moves (raid_by a) w x x) whole step;
       running = record { count = count ∙ turn.running.count; set = subst (λ (w : Raid). IsSet w x) whole step.set };
@@ -186,7 +186,7 @@ ends_turn a b c all log l t lost on gone x y z noted settles running t_is markin
     let back = sym t_is in
     let same_number = sym number in
     let whole : raid_after v lost (next_number l.number) f ≡ raid_by (record c { state = t; all = all; log = log }) =
-    λ i. record { state = back i; arrays = f; number = same_number i; written = v.written } in
+    λ i. record { state = back i; arrays = f; number = same_number i } in
     let step = moves_then (raid_by a) (raid_by b) (raid_after v lost (next_number l.number) f) x x z noted.moves (moves_commit (raid_by b) v lost on gone l c.log.added f x y z settled commit) in
     record {
       moves = subst (λ (w : Raid). Moves (raid_by a) w x z) whole step;
@@ -221,7 +221,7 @@ ends_empty a b c t lost on x y noted settles running same t_is on_is empty =
     (λ n low. (settles.staged.each n (subst (λ (s : State). n < s.made) settles.same low)).unmarked) in
     let back = sym t_is in
     let whole : record v { state = state_after v lost } ≡ raid_by (record c { state = t }) =
-    λ i. record { state = back i; arrays = v.arrays; number = v.number; written = v.written } in
+    λ i. record { state = back i; arrays = v.arrays; number = v.number } in
     let joined = moves_then (raid_by a) v (record v { state = state_after v lost }) x y y (moves_then (raid_by a) (raid_by b) v x x y noted.moves settles.moves) step in
     record {
       moves = subst (λ (w : Raid). Moves (raid_by a) w x y) whole joined;

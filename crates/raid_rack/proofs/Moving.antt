@@ -8,10 +8,10 @@ use Rattle.pool_state.specs.declared.contents.State.{State}
 use Rattle.array_image.specs.Arrays.{replayed}
 use Rattle.array_image.specs.Left.{IsInside}
 use Rattle.array_model.specs.View.{HasFault}
+use Rattle.raid_rack.specs.Book.{after_same, after_then}
 use Rattle.raid_rack.specs.Raid.{Raid, is_left}
 use Rattle.raid_rack.specs.Marking.{SaysBetween}
 use Rattle.raid_rack.specs.Moves.{IsSet, IsAmid, PartOf, AreCaused, Brings, Moves}
-use Rattle.raid_rack.proofs.Books.{after_same, after_then}
 
 -- ---- one array
 

@@ -1,5 +1,5 @@
 -- Parts of a call that call nothing: losses are noted in all arrays, and heeded once they are marked.
-use Rattle.std.proofs.Common.{◌≡◌, ℕ, ◌<◌, ◌≤◌, Bool, true, false, ◌&&◌, ◌||◌, not, nat_lt, List, map, length, slice_get, Some, refl, sym, ap, subst, ◌∙◌, inl, inr, ltb-true, lt-ltb, arith}
+use Rattle.std.proofs.Common.{◌≡◌, ℕ, ◌<◌, ◌≤◌, Bool, true, false, ◌&&◌, ◌||◌, not, nat_lt, List, map, length, refl, sym, ap, subst, ◌∙◌, inl, inr, ltb-true, lt-ltb, arith}
 use Rattle.std.proofs.lemmas.Bool.{cases_Bool, cases_eq, cases_lt, both_ways, and_parts, and_from}
 use Rattle.std.proofs.lemmas.Option.{slice_get_past}
 use Rattle.std.specs.Option.{option_map_or}
@@ -7,15 +7,14 @@ use Rattle.array_image.specs.Stripes.{sector_in}
 use Rattle.array_image.specs.Spent.{wanting, spent_with}
 use Rattle.std.specs.List.{list_any, range_with_len}
 use Rattle.rack.specs.Values.{Values}
-use Rattle.rack.specs.Seen.{Image, Seen, IsLive, Stays}
+use Rattle.rack.specs.Seen.{Image, Seen, Stays}
 use Rattle.rack.specs.Joins.{stays_same, leaves_same, keeps_same}
 use Rattle.rack.specs.Targets.{Target, look}
 use Rattle.pool_state.specs.declared.contents.State.{State}
-use Rattle.array_image.specs.Places.{log_slice, member_slice, super_sector}
+use Rattle.array_image.specs.Places.{log_slice, member_slice}
 use Rattle.array_image.specs.States.{is_current}
 use Rattle.array_image.specs.Arrays.{Shape, layout_at, replayed}
 use Rattle.array_image.specs.Marks.{lower}
-use Rattle.array_image.specs.Supers.{is_reshaping}
 use Rattle.array_image.specs.Held.{Among, current_in}
 use Rattle.array_image.proofs.Marked.{among_lowered}
 use Rattle.array_image.specs.Left.{PicksLogs}
@@ -29,9 +28,9 @@ use Rattle.array_model.proofs.Losses.{IsLosing}
 use Rattle.array_model.proofs.Spared.{at_most_one, lost_value, wanting_more}
 use Rattle.array_model.proofs.Noting.{laid_out, unspent_then}
 use Rattle.array_core.specs.Seats.{names, gone, heeded}
+use Rattle.raid_rack.specs.Book.{after_same}
 use Rattle.raid_rack.specs.Raid.{Raid, AreLive, gone_in, is_left, is_over}
 use Rattle.raid_rack.specs.Moves.{IsSet, IsSeated, IsMarkedWhole, AreMarked, IsAmid, Brings, Moves}
-use Rattle.raid_rack.proofs.Books.{after_same}
 use Rattle.raid_rack.proofs.Own.{look_nothing}
 use Rattle.raid_rack.proofs.Ranges.{any_some, any_from}
 use Rattle.raid_rack.proofs.Over.{someone_left, not_true, over_still, IsFurther}
@@ -119,10 +118,6 @@ noted_more lost v f noting p is =
 pub noted_whole : (lost : List ℕ) (v : Raid) (f : ℕ → View) → IsNoting lost v f → (n : ℕ) → n < v.state.made → IsMarkedWhole (with_arrays v f) n
 noted_whole lost v f noting n low marked =
     inr (noting.one, noting.current, gone_from (with_arrays v f) noting.one n noting.few low (noted_one lost v f noting n low))
-
-pub noted_plain : (lost : List ℕ) (v : Raid) (f : ℕ → View) → IsNoting lost v f → ((n : ℕ) → n < v.state.made → is_reshaping (v.arrays n).truth ≡ false)
-    → (n : ℕ) → n < v.state.made → is_reshaping (f n).truth ≡ false
-noted_plain lost v f noting plain n low = ap (λ (u : View). is_reshaping u.truth) (noting.arrays n low) ∙ plain n low
 
 pub noted_seated : (lost : List ℕ) (v : Raid) (f : ℕ → View) (x : Seen) → IsNoting lost v f → IsSet v x → (n : ℕ) → n < v.state.made → IsSeated v.state n (f n) x
 noted_seated lost v f x noting set n low =
@@ -229,7 +224,6 @@ set_noted lost v f x set noting = record {
   logs = set.logs;
   arrays = noted_seated lost v f x noting set;
   marked = noted_whole lost v f noting;
-  plain = noted_plain lost v f noting (set.plain);
 }
 
 pub moves_noted : (lost : List ℕ) (v : Raid) (f : ℕ → View) (x : Seen) → IsSet v x → IsNoting lost v f → HaveGone lost v
@@ -376,7 +370,6 @@ moves_heeded v f x set arrays sectors are =
             (heeded_seated v.state n (v.arrays n) x (stays_same x set.fit) (set.arrays n low)
             (λ p current. gone_not v p n (current_few v.state p set.few current) low (are p current)));
         marked = λ n low. heeded_whole v f n (arrays n low) are (set.marked n low);
-        plain = λ n low. ap (λ (u : View). is_reshaping u.truth) (arrays n low) ∙ set.plain n low;
       };
       book = after_same v.state;
       leaves = λ traced. leaves_same x (λ c. Unit {0});

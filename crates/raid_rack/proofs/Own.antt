@@ -1,23 +1,17 @@
 -- What contents say of the arrays.
-use Rattle.std.proofs.Common.{◌≡◌, ℕ, Bool, true, false, ◌||◌, [], Some, None, refl, sym, ap, subst, ◌∙◌}
-use Rattle.std.proofs.lemmas.Bool.{both_ways}
-use Rattle.std.specs.Option.{option_map_or}
+use Rattle.std.proofs.Common.{◌≡◌, ℕ, Bool, false, [], Some, None, refl, sym, subst, ◌∙◌}
 use Rattle.rack.specs.Values.{Values, MayLeave}
-use Rattle.rack.specs.Seen.{Image, Seen}
+use Rattle.rack.specs.Seen.{Image}
 use Rattle.rack.specs.Targets.{look}
 use Rattle.pool_state.specs.declared.contents.State.{State}
 use Rattle.array_image.specs.States.{state_in}
-use Rattle.array_image.specs.Arrays.{Shape, shape_in, value_by, array_in, arrays_in, replayed}
-use Rattle.array_image.specs.Left.{Picks}
-use Rattle.commit_log.proofs.Kept.{stands_of, kept_replayed}
-use Rattle.array_model.specs.View.{shape_of, spent_in}
+use Rattle.array_image.specs.Arrays.{Shape, arrays_in}
 use Rattle.array_model.specs.Says.{Says}
 use Rattle.array_image.proofs.Frames.{Agree, supers_same, truth_by_supers, shape_same, value_same}
 use Rattle.array_image.proofs.SoundFrames.{sound_same}
+use Rattle.raid_rack.specs.Book.{after_same}
 use Rattle.raid_rack.specs.Laws.{says_value}
 use Rattle.raid_rack.specs.Marking.{SaysBetween}
-use Rattle.raid_rack.proofs.Books.{after_same}
-use Rattle.raid_rack.specs.Raid.{Raid, is_over, live_of, held_in, spent_of, IsTold, Stood}
 
 -- no target
 pub look_nothing : (d t : ℕ) → look [] d t ≡ None

@@ -17,9 +17,9 @@ use Rattle.array_model.specs.View.{View}
 use Rattle.array_model.specs.Says.{Says, Holds}
 use Rattle.array_model.specs.ArrayCalls.{Acts, Turns}
 use Rattle.array_model.proofs.Others.{other_holds_all}
+use Rattle.raid_rack.specs.Book.{after_same, after_then}
 use Rattle.raid_rack.specs.Raid.{Raid, Stood}
 use Rattle.raid_rack.specs.Marking.{SaysBetween, Part}
-use Rattle.raid_rack.proofs.Books.{after_same, after_then}
 use Rattle.raid_rack.specs.Laws.{stood_left}
 use Rattle.raid_rack.proofs.Own.{look_nothing, says_at, says_same}
 

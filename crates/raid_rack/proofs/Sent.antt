@@ -1,5 +1,5 @@
 -- The code that writes a sector of an array, as a part of a call of all.
-use Rattle.std.proofs.Common.{◌≡◌, ◌⊎◌, ℕ, ◌^◌, ◌<◌, ◌≤◌, Bool, true, false, ◌==◌, ◌&&◌, ◌||◌, nat_lt, List, [], ◌∷◌, set, length, get_or, refl, sym, ap, subst, ◌∙◌, inl, inr, eqb-true, ltb-true, arith}
+use Rattle.std.proofs.Common.{◌≡◌, ◌⊎◌, ℕ, ◌<◌, ◌≤◌, Bool, true, false, ◌==◌, ◌||◌, nat_lt, List, [], ◌∷◌, set, length, get_or, refl, sym, ap, subst, ◌∙◌, inl, inr, eqb-true, ltb-true, arith}
 use Rattle.std.proofs.lemmas.Bool.{cases_Bool, both_ways, and_parts}
 use Rattle.std.specs.List.{list_any, list_all}
 use Rattle.arrayvec.specs.ArrayVec.{ArrayVec}
@@ -19,7 +19,7 @@ use Rattle.raid_rack.specs.Raid.{Raid}
 use Rattle.raid_rack.specs.Moves.{AreCaused, Brings, IsHeeded, IsSet, Mends, WritesOne, written_at}
 use Rattle.raid_rack.specs.RaidRack.{IsRunning, raid_by, no_array}
 use Rattle.raid_rack.proofs.Calls.{raised_low, unsynced_by}
-use Rattle.raid_rack.proofs.Changed.{ViewsOne, called, caused, left_before, views_notes}
+use Rattle.raid_rack.proofs.Changed.{ViewsOne, caused, left_before, views_notes}
 use Rattle.raid_rack.proofs.Committed.{next_later}
 use Rattle.raid_rack.proofs.Moving.{brings_then, caused_then}
 use Rattle.raid_rack.proofs.Steps.{set_own, set_other, length_set}

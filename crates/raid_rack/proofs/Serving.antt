@@ -1,15 +1,12 @@
 -- Calls of a rack of arrays that move no value, as calls of a rack.
 use Rattle.std.specs.Prelude.{Result, OnOk, IfErr}
 use Rattle.std.proofs.lemmas.Bool.{cases_eq, both_ways}
-use Rattle.std.proofs.Common.{◌≡◌, ℕ, ◌+◌, ◌<◌, ◌≤◌, Bool, true, false, ◌==◌, ◌&&◌, nat_lt, List, [], ◌∷◌, Ok, Err, refl, ap, subst, ◌∙◌, inl, inr, le-ltb, lt-ltb, if◌then◌else◌, arith}
+use Rattle.std.proofs.Common.{◌≡◌, ℕ, ◌<◌, ◌≤◌, Bool, true, false, ◌==◌, ◌&&◌, nat_lt, List, [], ◌∷◌, Ok, Err, refl, sym, ap, subst, ◌∙◌, inl, inr, lt-ltb, if◌then◌else◌, arith}
 use Rattle.rack.specs.declared.Gone.{Gone}
 use Rattle.rack.specs.Values.{Values, Keeps, append}
 use Rattle.rack.specs.Seen.{Held, Seen, Rose, appended}
 use Rattle.rack.specs.Calls.{Reads, Syncs, Writes}
 use Rattle.rack.proofs.Writing.{appended_elsewhere}
-use Rattle.slice_rack.specs.Slices.{Slices, disk_of, first_of, sectors_of}
-use Rattle.slice_rack.specs.Sliced.{slices_of}
-use Rattle.array_image.specs.Held.{IsSettled}
 use Rattle.array_image.proofs.Sources.{held_single}
 use Rattle.commit_log.proofs.Deciding.{names_first}
 use Rattle.array_image.specs.States.{is_current}
@@ -17,9 +14,10 @@ use Rattle.array_core.specs.Seats.{gone}
 use Rattle.array_model.specs.View.{View, shape_of, sectors_of as array_sectors}
 use Rattle.array_model.specs.ArrayCalls.{appended_at}
 use Rattle.raid_rack.specs.declared.arrays.Arrays.{Arrays}
-use Rattle.raid_rack.specs.Raid.{Raid, live_of, spent_of, held_in, StopsInside, IsTold, raid_of}
+use Rattle.raid_rack.specs.Raid.{Raid, live_of, spent_of, held_in, StopsInside, raid_of}
 use Rattle.raid_rack.specs.Acts.{RaidActs}
-use Rattle.raid_rack.specs.Moves.{Brings, Mends, Moves, ReadsValue, SyncsOne, WritesOne, noted_at, written_at}
+use Rattle.raid_rack.specs.Moves.{AreCaused, Brings, Mends, Moves, ReadsValue, SyncsOne, WritesOne, noted_at, written_at}
+use Rattle.raid_rack.specs.Runs.{RaidRuns}
 use Rattle.raid_rack.specs.RaidRack.{IsFit, IsRunning, KeepsRack, raid_by}
 use Rattle.raid_rack.proofs.Ended.{none_past}
 use Rattle.raid_rack.specs.Laws.{live_parts}
@@ -147,3 +145,47 @@ lose_stays a b place x y fit after inside current mends =
       stays = stays_raid v w x y (held_in v x) after (λ m. omega arith) acts;
       keeps = keeps_raid v w x y acts;
     }
+
+-- ---- what calls do to the book and to images
+
+pub runs_call : (a b : Arrays) (x y : Seen) (now : ℕ → (ℕ → Values) → ℕ → Values) → IsFit a x → IsFit b y → StopsInside y
+    → Brings (raid_by a) (raid_by b) x y now → AreCaused (raid_by a) (raid_by b) x y → RaidRuns (raid_by a) (raid_by b) x y
+runs_call a b x y now fit after inside brings cause =
+    let v = raid_by a in
+    let w = raid_by b in
+    let vals : Held = λ n. now n (held_in v x n) in
+    let call = whole_call a b x y now fit after brings inside in
+    let acts = raid_acts v w x y vals call in
+    record {
+      book = brings.book;
+      sectors = brings.stays.sectors;
+      faults = brings.stays.faults;
+      traced = brings.stays.traced;
+      caused = cause;
+      still = call.still;
+      told = acts.told;
+      images = λ n told goes traced.
+          let all = brings.leaves traced in
+          record {
+            later = all.later;
+            kept = all.kept;
+            past = all.past;
+            new = λ k c after until stopped.
+                let at = ((call.parts n told.joined goes).leaves traced).new k c after until stopped
+                (λ d t out. inside k c stopped d t (subst (λ i. i ≤ t) (sym (brings.stays.sectors d)) out))
+                (before_amid v w x y vals call n told goes) in
+                record {
+                  state = at.state;
+                  is_state = at.is_state;
+                  later = at.later;
+                  sooner = at.sooner;
+                  shape = at.shape;
+                  shape_is = at.says.shape_is;
+                  is_sound = at.says.is_sound;
+                };
+          };
+    }
+
+pub runs_moves : (a b : Arrays) (x y : Seen) → IsFit a x → IsFit b y → StopsInside y → Moves (raid_by a) (raid_by b) x y → RaidRuns (raid_by a) (raid_by b) x y
+runs_moves a b x y fit after inside moves =
+    runs_call a b x y (λ n vals. vals) fit after inside (moves_bring (raid_by a) (raid_by b) x y moves) (record { left = moves.left; cause = moves.cause })

@@ -1,11 +1,11 @@
 -- A sector that isn't spent has its own member, or its array's members have one value a sector.
-use Rattle.std.proofs.Common.{◌≡◌, ℕ, suc, ◌<◌, ◌≤◌, Bool, true, false, ◌&&◌, ◌||◌, nat_lt, nat_le, if◌then◌else◌, List, [], ◌∷◌, take, length, Some, None, refl, sym, ap, subst, ◌∙◌, inl, inr, arith}
-use Rattle.std.proofs.lemmas.Bool.{cases_Bool, both_ways, and_parts}
+use Rattle.std.proofs.Common.{◌≡◌, ℕ, suc, ◌≤◌, Bool, true, false, ◌||◌, nat_lt, nat_le, if◌then◌else◌, List, [], ◌∷◌, take, length, Some, None, refl, sym, ap, subst, ◌∙◌, inl, inr, arith}
+use Rattle.std.proofs.lemmas.Bool.{cases_Bool, and_parts}
 use Rattle.rack.specs.Seen.{Seen}
 use Rattle.md_super.specs.Profile.{is_mirror}
 use Rattle.array_image.specs.Stripes.{Layout, mirror, width, position_in, sector_in}
 use Rattle.array_image.specs.Supers.{is_reshaping}
-use Rattle.array_image.specs.Arrays.{Member, Shape, final_layout, layout_at}
+use Rattle.array_image.specs.Arrays.{Member, Shape, layout_at}
 use Rattle.array_image.specs.Held.{IsSettled, first_counting, source_in}
 use Rattle.array_image.specs.Spent.{wanting, spent_by}
 use Rattle.array_image.proofs.Sources.{source_of}

@@ -77,7 +77,7 @@ settle_step a b all log x y z n old u running settles count low old_is all_is sy
     let settled : Settles (v.arrays n) (f n) y z = subst (λ w. Settles w (f n) y z) old_is (subst (λ w. Settles old w y z) (sym own) view) in
     let call = reads_settled v f n y z settles.moves.set made reads others settled (λ s durable vals spent covers. (synced s durable vals spent covers).acts) in
     let number : v.number ≡ log.number = sym (ap (λ (m : LogView). m.number) log_is) in
-    let whole : with_arrays v f ≡ raid_by (record b { all = all; log = log }) = λ i. record { state = v.state; arrays = f; number = number i; written = v.written } in
+    let whole : with_arrays v f ≡ raid_by (record b { all = all; log = log }) = λ i. record { state = v.state; arrays = f; number = number i } in
     subst (λ (w : Raid). SettlesTo (raid_by a) w x z (n + 1) log.added) whole
     (settles_more (raid_by a) v f x y z n b.log.added log.added settles.moves.set.most settles call synced
     (subst (λ w. AddsSupersOf w b.log.added log.added) (sym own) adds)

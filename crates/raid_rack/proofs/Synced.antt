@@ -1,6 +1,6 @@
 -- A sync of one array, and the mending of losses after it.
-use Rattle.std.proofs.Common.{◌≡◌, ℕ, ◌+◌, ◌<◌, Bool, true, false, List, [], set, length, get_or, refl, sym, ap, subst, ◌∙◌, inl, inr, arith}
-use Rattle.std.proofs.lemmas.Bool.{cases_Bool, both_ways}
+use Rattle.std.proofs.Common.{◌≡◌, ℕ, ◌+◌, ◌<◌, Bool, true, false, List, [], set, length, get_or, refl, sym, ap, subst, ◌∙◌, arith}
+use Rattle.std.proofs.lemmas.Bool.{both_ways}
 use Rattle.arrayvec.specs.ArrayVec.{ArrayVec}
 use Rattle.rack.specs.Values.{Values, only}
 use Rattle.rack.specs.Seen.{Seen}
@@ -10,7 +10,7 @@ use Rattle.array_image.specs.Places.{member_slice, data_sector}
 use Rattle.array_image.specs.Arrays.{Shape}
 use Rattle.array_image.specs.Held.{IsSettled}
 use Rattle.commit_log.proofs.Kept.{live_on}
-use Rattle.array_model.specs.View.{View, shape_of, spent_in}
+use Rattle.array_model.specs.View.{View, shape_of}
 use Rattle.array_model.specs.Says.{IsOpen}
 use Rattle.array_model.specs.Members.{HasSlices, Notes}
 use Rattle.array_model.specs.ArrayCalls.{Covers, ReadsArray, SyncsArray}

@@ -158,7 +158,6 @@ moves_emptied v lost x set lost_is noted nobody unmarked =
         logs = λ p current. absurd (both_ways (is_current (state_after v lost) p) (nobody p) current);
         arrays = λ n low. seated_marked v.state lost n (v.arrays n) x (λ p is. noted n p low is) (set.arrays n low);
         marked = λ n low is. absurd (both_ways (v.arrays n).marked (unmarked n low) is);
-        plain = set.plain;
       };
       book = after_marked lost v.state;
       leaves = λ traced. leaves_same x (λ c. Unit {0});

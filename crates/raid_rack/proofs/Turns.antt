@@ -16,11 +16,10 @@ use Rattle.array_image.specs.Held.{Among}
 use Rattle.array_image.proofs.Marked.{among_lowered}
 use Rattle.array_model.specs.ArrayCalls.{Covers}
 use Rattle.raid_rack.specs.Raid.{Raid, gone_in, is_left}
-use Rattle.raid_rack.specs.Book.{IsAfter}
+use Rattle.raid_rack.specs.Book.{IsAfter, after_then}
 use Rattle.raid_rack.specs.Marking.{SaysBetween}
 use Rattle.raid_rack.specs.Moves.{AreMarked, IsAmid, PartOf, Moves}
 use Rattle.raid_rack.specs.Settling.{SettlesTo, state_after}
-use Rattle.raid_rack.proofs.Books.{after_then}
 use Rattle.raid_rack.proofs.Over.{over_still, not_true}
 use Rattle.raid_rack.proofs.Moving.{says_sooner, says_later}
 use Rattle.raid_rack.proofs.Noted.{gone_some, losing_spent}

@@ -1,16 +1,15 @@
 -- A whole call, from what it does to each array.
-use Rattle.std.proofs.Common.{◌≡◌, ℕ, ◌<◌, ◌≤◌, Bool, true, false, [], refl, sym, ap, subst, ◌∙◌, inl, inr}
+use Rattle.std.proofs.Common.{◌≡◌, ℕ, ◌<◌, ◌≤◌, Bool, true, false, refl, sym, ap, subst, inl, inr}
 use Rattle.std.proofs.lemmas.Bool.{cases_Bool, cases_lt, both_ways}
 use Rattle.rack.specs.Values.{Values, Keeps}
 use Rattle.rack.specs.Seen.{Held, Seen}
 use Rattle.rack.specs.Moments.{Leaves}
 use Rattle.array_image.specs.Arrays.{Shape, replayed}
 use Rattle.array_image.specs.Held.{held_by}
-use Rattle.array_image.specs.States.{is_current}
-use Rattle.array_model.specs.View.{View, has_gone, is_whole_array, shape_of, spent_in}
+use Rattle.array_model.specs.View.{has_gone, is_whole_array, shape_of, spent_in}
 use Rattle.array_model.specs.Says.{Holds}
 use Rattle.array_core.specs.Seats.{names}
-use Rattle.raid_rack.specs.Raid.{Raid, gone_in, is_over, live_of, spent_of, held_in, Stood, StopsInside, IsTold}
+use Rattle.raid_rack.specs.Raid.{Raid, gone_in, is_over, spent_of, held_in, Stood, StopsInside, IsTold}
 use Rattle.raid_rack.specs.Acts.{RaidStays, RaidActs}
 use Rattle.raid_rack.specs.Moves.{IsAmid, IsHeeded, IsMarkedWhole, IsSet, Brings, PartOf}
 use Rattle.raid_rack.proofs.Noted.{gone_some}

@@ -1,34 +1,30 @@
 -- A call that writes to one array, as a part of a call of all.
-use Rattle.std.proofs.Common.{◌≡◌, ◌≢◌, ◌⊎◌, ℕ, ◌+◌, ◌-◌, ◌^◌, ◌<◌, ◌≤◌, Bool, true, false, ◌==◌, ◌&&◌, not, if◌then◌else◌, List, [], length, slice_get, Option, Some, None, refl, sym, ap, subst, ◌∙◌, inl, inr, eq-eqb, ne_eqb, arith}
+use Rattle.std.proofs.Common.{◌≡◌, ◌≢◌, ℕ, ◌+◌, ◌<◌, ◌≤◌, Bool, true, false, ◌&&◌, if◌then◌else◌, List, slice_get, Option, Some, None, refl, sym, ap, subst, ◌∙◌, inl, inr, eq-eqb, ne_eqb, arith}
 use Rattle.std.proofs.lemmas.Bool.{cases_eq}
 use Rattle.std.specs.Option.{option_map_or}
 use Rattle.rack.specs.Values.{Values}
 use Rattle.rack.specs.Seen.{Seen, IsLive}
-use Rattle.pool_state.specs.declared.contents.State.{State}
 use Rattle.array_image.specs.Places.{member_slice, data_sector, super_sector}
 use Rattle.array_image.specs.States.{is_current, current_places}
-use Rattle.array_image.specs.Supers.{is_reshaping}
 use Rattle.array_image.specs.Arrays.{Member, Shape}
-use Rattle.array_image.specs.Held.{Among}
 use Rattle.commit_log.specs.Kept.{LogKept}
 use Rattle.commit_log.specs.View.{names}
 use Rattle.commit_log.proofs.KeptAfter.{kept_more}
 use Rattle.array_model.specs.declared.Seat.{Seat}
 use Rattle.array_model.specs.declared.Seat.TheVariants.{Whole, Missing, Rebuilding}
-use Rattle.array_model.specs.View.{View, has_gone, is_missing_seat, is_whole_array, member_on, place_at, seat_reach, shape_of, spent_in}
+use Rattle.array_model.specs.View.{View, has_gone, member_on, place_at, seat_reach, shape_of, spent_in}
 use Rattle.array_model.specs.Says.{IsOpen, Says}
 use Rattle.array_model.specs.Stages.{IsStateOf}
 use Rattle.array_model.specs.ArrayCalls.{Covers, WritesArray, appended_at}
-use Rattle.array_model.specs.Members.{slice_on}
 use Rattle.array_model.proofs.Firsts.{position_of}
 use Rattle.array_core.specs.Pool.{Goes, MayCommit}
-use Rattle.raid_rack.specs.Raid.{Raid, AreLive, gone_in, is_left, is_over, held_in, Stood}
-use Rattle.raid_rack.specs.Moves.{AreMarked, Brings, IsAmid, IsHeeded, IsSet, PartOf, written_at}
+use Rattle.raid_rack.specs.Book.{after_same}
+use Rattle.raid_rack.specs.Raid.{Raid, AreLive, gone_in, is_over, held_in}
+use Rattle.raid_rack.specs.Moves.{Brings, IsAmid, IsHeeded, IsSet, PartOf, written_at}
 use Rattle.raid_rack.specs.Marking.{Part}
 use Rattle.raid_rack.proofs.Added.{names_current}
-use Rattle.raid_rack.proofs.Books.{after_same}
 use Rattle.raid_rack.proofs.Carried.{seat_marks}
-use Rattle.raid_rack.proofs.Changed.{ViewsOne, called, part_if, marked_before, same_shape, left_before, caused, further, views_set, views_sectors, views_spent}
+use Rattle.raid_rack.proofs.Changed.{ViewsOne, called, part_if, marked_before, same_shape, further, views_set, views_sectors, views_spent}
 use Rattle.raid_rack.proofs.Noted.{current_few, gone_from, gone_not}
 use Rattle.raid_rack.proofs.Over.{event_room, number_room, over_still, someone_left}
 use Rattle.raid_rack.proofs.Parts.{part_own, part_other}
@@ -117,7 +113,6 @@ module _ (v : Raid) (f : ℕ → View) (number m : ℕ) (a b : Seen) (on : List 
         };
         opened = opened v a m set amid.slices low;
         steady = heeded_whole v m call.heeded (set.marked m low);
-        still = set.plain m low;
         log = subst (λ g. LogKept v.state v.number g a) (λ i p. heeded_gone v call.heeded p i) amid.stood.log;
         room = let room = (number_room v n before).0 in omega (arith, room);
         places = λ p. ap (λ ps. names ps p) call.on_is ∙ names_current v.state p ∙ sym (and_true (is_current v.state p));

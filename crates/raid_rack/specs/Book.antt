@@ -1,5 +1,6 @@
 -- The book of a pool, as calls of a rack of arrays change it: marks are added, and nothing else.
-use Rattle.std.specs.Prelude.{◌≡◌, ℕ, ◌≤◌, true, List, map}
+use Rattle.std.specs.Prelude.{◌≡◌, ℕ, ◌≤◌, true, List, map, refl}
+use Rattle.std.proofs.Common.{◌∙◌, arith}
 use Rattle.pool_state.specs.declared.contents.Drive.{Drive}
 use Rattle.pool_state.specs.declared.contents.State.{State}
 use Rattle.array_image.specs.States.{is_current}
@@ -23,3 +24,33 @@ pub record IsAfter (p q : State) : Type 0 where
   pub same : IsSameBook p q
   pub epoch : p.epoch ≤ q.epoch
   pub current : (place : ℕ) → is_current q place ≡ true → is_current p place ≡ true
+
+-- ---- books that follow each other
+
+same_then : (p q r : State) → IsSameBook p q → IsSameBook q r → IsSameBook p r
+same_then p q r one two =
+    record {
+      pool = two.pool ∙ one.pool;
+      extent = two.extent ∙ one.extent;
+      drives = two.drives ∙ one.drives;
+      plan = two.plan ∙ one.plan;
+      made = two.made ∙ one.made;
+      joined = two.joined ∙ one.joined;
+      serial = two.serial ∙ one.serial;
+    }
+
+pub after_same : (p : State) → IsAfter p p
+after_same p =
+    record {
+      same = record { pool = refl; extent = refl; drives = refl; plan = refl; made = refl; joined = refl; serial = refl };
+      epoch = omega arith;
+      current = λ place is. is;
+    }
+
+pub after_then : (p q r : State) → IsAfter p q → IsAfter q r → IsAfter p r
+after_then p q r one two =
+    record {
+      same = same_then p q r one.same two.same;
+      epoch = let first = one.epoch in let second = two.epoch in omega arith;
+      current = λ place is. one.current place (two.current place is);
+    }

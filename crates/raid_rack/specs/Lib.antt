@@ -8,3 +8,4 @@ pub mod Moves
 pub mod Settling
 pub mod RaidRack
 pub mod Laws
+pub mod Runs

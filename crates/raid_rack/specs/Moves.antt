@@ -9,14 +9,13 @@ use Rattle.pool_state.specs.Valid.{is_valid}
 use Rattle.pool_state.specs.declared.contents.State.{State}
 use Rattle.array_image.specs.Places.{log_slice, log_sectors, slice_of, super_sector, array_id}
 use Rattle.array_image.specs.States.{is_current}
-use Rattle.array_image.specs.Supers.{has_roles, has_whole_row, is_reshaping}
+use Rattle.array_image.specs.Supers.{has_roles, has_whole_row}
 use Rattle.array_image.specs.SoundArray.{IsWrittenSuper, first_unsynced}
 use Rattle.array_image.specs.Arrays.{Member, Shape, replayed}
 use Rattle.array_image.specs.Held.{Among, IsSettled}
 use Rattle.array_image.specs.Left.{IsInside}
 use Rattle.array_model.specs.View.{View, IsArray, HasFault, has_gone, is_missing_seat, is_whole_array, place_at, sectors_of, shape_of, spent_in}
-use Rattle.array_model.specs.declared.Seat.TheVariants.{Missing}
-use Rattle.array_model.specs.Members.{HasSlices, slice_on}
+use Rattle.array_model.specs.Members.{HasSlices}
 use Rattle.array_model.specs.ArrayCalls.{Covers, appended_at}
 use Rattle.array_core.specs.Staging.{HasRowRebuilds}
 use Rattle.array_core.specs.Seats.{gone}
@@ -66,8 +65,6 @@ pub record IsSet (v : Raid) (x : Seen) : Type 0 where
   pub logs : (place : ℕ) → is_current v.state place ≡ true → x.sectors (log_slice place) ≡ log_sectors
   pub arrays : (n : ℕ) → n < v.state.made → IsSeated v.state n (v.arrays n) x
   pub marked : (n : ℕ) → n < v.state.made → IsMarkedWhole v n
-  -- none is being reshaped: rows of such an array aren't written yet
-  pub plain : (n : ℕ) → n < v.state.made → is_reshaping (v.arrays n).truth ≡ false
 
 -- nobody has gone who isn't heeded
 abbrev pub IsHeeded : Raid → Type 0

@@ -1,5 +1,5 @@
 -- What contracts see of a rack of arrays, and what it shows as a rack.
-use Rattle.std.specs.Prelude.{◌≡◌, ◌⊎◌, ℕ, ◌-◌, ◌<◌, ◌^◌, Bool, true, false, ◌==◌, ◌&&◌, ◌||◌, not, nat_lt}
+use Rattle.std.specs.Prelude.{◌≡◌, ℕ, ◌-◌, ◌<◌, ◌^◌, Bool, true, false, ◌==◌, ◌&&◌, ◌||◌, not, nat_lt}
 use Rattle.std.specs.List.{list_any, range_with_len}
 use Rattle.rack.specs.Values.{Values}
 use Rattle.rack.specs.Seen.{Image, Held, Seen, IsLive}
@@ -20,8 +20,6 @@ pub record Raid : Type 0 where
   pub arrays : ℕ → View
   -- the number of the log
   pub number : ℕ
-  -- the arrays that this run has written to
-  pub written : ℕ → Bool
 
 -- ---- sectors that can't be had
 

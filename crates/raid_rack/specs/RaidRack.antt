@@ -50,7 +50,6 @@ raid_by a = record {
   state = a.state;
   arrays = λ n. get_or a.all.items n no_array;
   number = a.log.number;
-  written = λ n. unwrap_or (slice_get a.written n) false;
 }
 
 abbrev pub raid_in : {R : Type 0} → RaidRack R → Raid

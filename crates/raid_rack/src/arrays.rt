@@ -17,8 +17,6 @@ pub(crate) struct Arrays {
     /// By number.
     pub(crate) all: ArrayVec<Array, 16>,
     pub(crate) log: Log,
-    /// Which arrays this run has written to.
-    pub(crate) written: [bool; 16],
 }
 
 /// A rack of all arrays of a pool: disk `n` is array `n`.
@@ -60,7 +58,6 @@ impl<R: Rack> RaidRack<R> {
         ensures arrays { arrays_of result ≡ arrays.items }
         ensures number { (raid_in result).number ≡ log.number }
         ensures refused { (n : ℕ) → refused_in result n ≡ 0 }
-        ensures written { (n : ℕ) → (raid_in result).written n ≡ false }
     {
         RaidRack {
             slices,
@@ -68,7 +65,6 @@ impl<R: Rack> RaidRack<R> {
                 state,
                 all: arrays,
                 log,
-                written: [false; 16],
             },
             refused: [0; 16],
             seconds,

@@ -6,6 +6,7 @@ ghost use Rattle.slice_rack.specs.SliceRack.{below_of, tables};
 ghost use Rattle.slice_rack.specs.Laws.{is_sound};
 ghost use Rattle.raid_rack.specs.Laws.{raid_sound, stops_inside};
 ghost use Rattle.raid_rack.specs.Raid.{spent_of};
+ghost use Rattle.raid_rack.specs.Runs.{RaidRuns, raid_runs_same, raid_runs_then};
 ghost use Rattle.raid_rack.specs.RaidRack.{IsFit, arrays_in, raid_in, raid_seen, refused_in, slices_in, slices_seen};
 
 use crate::arrays::RaidRack;
@@ -16,7 +17,8 @@ use rack::{Gone, Rack};
 impl<R: Rack> Rack for RaidRack<R> {
     ghost seen = { λ rack. raid_seen R.seen rack };
 
-    ghost runs = { λ old new. R.runs (below_of (slices_in old)) (below_of (slices_in new)) };
+    ghost runs = { λ old new. R.runs (below_of (slices_in old)) (below_of (slices_in new))
+        × RaidRuns (raid_in old) (raid_in new) (slices_seen R.seen old) (slices_seen R.seen new) };
 
     ghost lenders = { λ rack. R.lenders (below_of (slices_in rack)) };
 
@@ -48,11 +50,14 @@ impl<R: Rack> Rack for RaidRack<R> {
         (is_sound (tables (slices_in rack)) (R.seen (below_of (slices_in rack))) (slices_in rack).orderly fit.running.set.fit.1
         (R.sound (below_of (slices_in rack)) fit.running.set.fit.0 traced)) };
 
-    ghost runs_same = { λ rack. R.runs_same (below_of (slices_in rack)) };
+    ghost runs_same = { λ rack. (R.runs_same (below_of (slices_in rack)), raid_runs_same (raid_in rack) (slices_seen R.seen rack)) };
 
-    ghost runs_then = { λ x y z one two. R.runs_then (below_of (slices_in x)) (below_of (slices_in y)) (below_of (slices_in z)) one two };
+    ghost runs_then = { λ x y z one two. (
+      R.runs_then (below_of (slices_in x)) (below_of (slices_in y)) (below_of (slices_in z)) one.0 two.0,
+      raid_runs_then (raid_in x) (raid_in y) (raid_in z) (slices_seen R.seen x) (slices_seen R.seen y) (slices_seen R.seen z) one.1 two.1,
+    ) };
 
-    ghost runs_lenders = { λ x y runs. R.runs_lenders (below_of (slices_in x)) (below_of (slices_in y)) runs };
+    ghost runs_lenders = { λ x y runs. R.runs_lenders (below_of (slices_in x)) (below_of (slices_in y)) runs.0 };
 }
 
 impl<R: Rack> RaidRack<R> {

@@ -2,13 +2,13 @@
 //!
 //! The arrays of a pool share its drives, its state and its commit log. A drive that answers `Gone` in a call of one array is gone
 //! for all of them: the loss is noted in each array, all arrays are settled on the drives that are left, and one commit has its
-//! mark and their superblocks. A [`RaidRack`] holds the arrays with their state, their log and the slices below. It loses a drive
-//! ([`RaidRack::lose`]); inside the crate one array is read or synced, and whoever goes in that is marked before the call returns.
-//! It isn't a rack yet: its impl, writes and the clean mark don't exist.
+//! mark and their superblocks. A [`RaidRack`] holds the arrays with their state, their log and the slices below. It is a rack of
+//! them over any rack of drives: disk n is array n. It loses a drive ([`RaidRack::lose`]). It can't end a run cleanly yet.
 //!
-//! **Its model.** `Raid` is what contracts see of it: the state, each array's `View`, the number of the log, the answers `Spent`
-//! so far. `raid_of` is the rack that it is to show: disk n is array n, a sector is held where no loss spent it, and what a stop
-//! leaves is what the slices say once their log is replayed.
+//! **Its model.** `Raid` is what contracts see of it: the state, each array's `View`, the number of the log. `raid_of` is the rack
+//! that it shows: disk n is array n, a sector is held where no loss spent it, what a stop leaves is what the slices say once their
+//! log is replayed, and an array is told where its slices are and it stands in them (`IsTold`). Its faults are its spent answers.
+//! Between calls all losses are mended (`IsFit`).
 //!
 //! | Module of specs/ | What it defines |
 //! |---|---|
@@ -20,6 +20,8 @@
 //! | `Moves` | a part of a call that moves no value, for all arrays: what it keeps whatever the rack below tells, what each array that stands gives at each moment and after it; losses that are mended |
 //! | `Settling` | all arrays settled, and the commit that marks losses |
 //! | `RaidRack` | the model of the struct |
+//! | `Runs` | what calls in a row do to the book and to images: marks have their cause |
+//! | `Laws` | what holds of the rack at any moment |
 //! | `Acts` | what a whole call does |
 //!
 //! **The contract of the mending** is one record, `Mends`, over any rack of slices that spends no sector. Whoever went in a call of
@@ -27,9 +29,14 @@
 //! moment stops leave a state with marks between those before and those after it, and by it each array gives its values; afterwards
 //! images go by the shape that the run goes by. No value moves.
 //!
-//! **For a whole call.** Parts of a call in a row are one (`moves_then`); a read, a sync or a settling of one array is a part for all
-//! (`moves_read`); so are losses that are noted and heeded, and the commit that marks them (`moves_noted`, `moves_heeded`,
-//! `moves_commit`). Parts of all arrays are a call of the rack (`raid_acts`), whose values are those of a rack (`raid_sound`).
+//! **A read, a sync and a write** are a call of one array and the mending after it. The sector is refused exactly where it is spent
+//! once that is done (`Arrays::is_spent`), and the refusal is counted. A write is one part more (`Brings`): each array gives the
+//! values that it had, and the written sector the one from before or the new one.
+//!
+//! **For a whole call.** Parts of a call in a row are one (`moves_then`, `brings_then`); a read, a sync or a settling of one array is
+//! a part for all (`moves_read`), and so are a write (`write_brings`), losses that are noted and heeded, and the commit that marks
+//! them (`moves_noted`, `moves_heeded`, `moves_commit`). Parts of all arrays are a call of the rack (`raid_acts`), whose values are
+//! those of a rack (`raid_sound`).
 #![tactic(auto)]
 
 mod arrays;

@@ -1,4 +1,4 @@
-use Rattle.std.proofs.Common.{List, ℕ, ◌==◌, ◌||◌, length, ap, sym, ◌∙◌}
+use Rattle.std.proofs.Common.{List, ℕ, ◌==◌, ◌||◌, length, ap, ◌∙◌}
 use Rattle.raid_rack.specs.Raid.{is_used_up}
 use Rattle.raid_rack.specs.RaidRack.{raid_by}
 use Rattle.raid_rack.proofs.Ended.{empty_by}

@@ -1,7 +1,7 @@
-use Rattle.std.proofs.Common.{get_or, ap, refl, ◌∙◌, slice_set, arith}
+use Rattle.std.proofs.Common.{refl, slice_set, arith}
 use Rattle.arrayvec.specs.ArrayVec.{with_items}
 use Rattle.raid_rack.specs.RaidRack.{no_array}
-use Rattle.raid_rack.proofs.Steps.{same_element, items_set, set_own}
+use Rattle.raid_rack.proofs.Steps.{same_element, items_set}
 use Rattle.raid_rack.proofs.Synced.{has_read, reads_value, read_only}
 use Rattle.raid_rack.proofs.arrays.Arrays.read_array.Goals as goal
 

@@ -1,6 +1,6 @@
 use Rattle.slice_rack.specs.SliceRack.{tables, below_of}
 use Rattle.raid_rack.specs.Laws.{stops_inside}
-use Rattle.raid_rack.proofs.Serving.{sync_call}
+use Rattle.raid_rack.proofs.Serving.{sync_call, runs_moves}
 use Rattle.raid_rack.proofs.disks.RaidRackRack.sync.Goals as goal
 
 pub returns-clause-syncs : goal.returns-clause-syncs
@@ -8,3 +8,11 @@ returns-clause-syncs g c =
     sync_call c.args.self.now.arrays c.sync_array.new.self _ _ c.args.disk c.requires.fit
     (record { running = c.sync_array.ensures.running; heeded = c.sync_array.ensures.syncs.heeded })
     (stops_inside (tables c.sync_array.new.rack) (g.R.Rack.seen (below_of c.sync_array.new.rack))) c.sync_array.ensures.syncs
+
+pub returns-clause-runs : goal.returns-clause-runs
+returns-clause-runs g c = (
+  c.sync_array.ensures.runs,
+  runs_moves c.args.self.now.arrays c.sync_array.new.self _ _ c.requires.fit
+      (record { running = c.sync_array.ensures.running; heeded = c.sync_array.ensures.syncs.heeded })
+      (stops_inside (tables c.sync_array.new.rack) (g.R.Rack.seen (below_of c.sync_array.new.rack))) c.sync_array.ensures.syncs.moves,
+)

@@ -1,0 +1,110 @@
+-- What calls in a row of a rack of arrays do to its book and to images of its slices.
+use Rattle.std.proofs.Common.{◌≡◌, ℕ, ◌≤◌, false, Some, refl, subst, inl, inr, ◌∙◌, arith}
+use Rattle.std.proofs.lemmas.Bool.{cases_Bool, both_ways}
+use Rattle.rack.specs.Seen.{Image, Seen}
+use Rattle.rack.specs.Moments.{Leaves}
+use Rattle.rack.specs.Joins.{leaves_same, leaves_then, leaves_weaker, rose_before, rose_since}
+use Rattle.md_super.specs.declared.superblock.Super.{Super}
+use Rattle.pool_state.specs.declared.contents.State.{State}
+use Rattle.array_image.specs.States.{state_in}
+use Rattle.array_image.specs.Supers.{truth_in}
+use Rattle.array_image.specs.SoundArray.{IsSoundArray}
+use Rattle.array_image.specs.Arrays.{Shape, shape_in, replayed}
+use Rattle.raid_rack.specs.Book.{IsAfter, after_same, after_then}
+use Rattle.raid_rack.specs.Moves.{AreCaused}
+use Rattle.raid_rack.specs.Raid.{Raid, is_left, is_over, IsTold}
+
+-- Replayed contents have a state between two, and by it an array whose superblocks agree.
+pub record IsBetween (s t : State) (n : ℕ) (r : Image) : Type 0 where
+  pub state : State
+  pub is_state : state_in r ≡ Some state
+  pub later : IsAfter s state
+  pub sooner : IsAfter state t
+  pub shape : Shape
+  pub shape_is : shape_in state r n ≡ Some shape
+  pub is_sound : (u : Super) → truth_in state r n ≡ Some u → IsSoundArray state r n u
+
+-- Marks are added and nothing else of the book, each with its cause; what stops leave meanwhile has marks between those before and
+-- those after. What is told stays so.
+pub record RaidRuns (v w : Raid) (a b : Seen) : Type 0 where
+  pub book : IsAfter v.state w.state
+  pub sectors : (d : ℕ) → b.sectors d ≡ a.sectors d
+  pub faults : (d : ℕ) → a.faults d ≤ b.faults d
+  pub traced : a.traced → b.traced
+  pub caused : AreCaused v w a b
+  pub still : (n : ℕ) → is_over w n ≡ false → is_over v n ≡ false
+  pub told : (n : ℕ) → IsTold v a n → IsTold w b n
+  pub images :
+      (n : ℕ) → IsTold v a n → is_over w n ≡ false → a.traced
+      → Leaves a b (λ c. IsBetween v.state w.state n (replayed a.sectors c))
+
+-- no call is a run
+pub raid_runs_same : (v : Raid) (x : Seen) → RaidRuns v v x x
+raid_runs_same v x =
+    record {
+      book = after_same v.state;
+      sectors = λ d. refl;
+      faults = λ d. omega arith;
+      traced = λ traced. traced;
+      caused = record { left = λ place is. is; cause = λ place was now. absurd (both_ways (is_left v place) now was) };
+      still = λ n goes. goes;
+      told = λ n told. told;
+      images = λ n told goes traced. leaves_same x (λ c. IsBetween v.state v.state n (replayed x.sectors c));
+    }
+
+between_sooner : (s t u : State) (n : ℕ) (r : Image) → IsAfter t u → IsBetween s t n r → IsBetween s u n r
+between_sooner s t u n r after at = record {
+  state = at.state;
+  is_state = at.is_state;
+  later = at.later;
+  sooner = after_then at.state t u at.sooner after;
+  shape = at.shape;
+  shape_is = at.shape_is;
+  is_sound = at.is_sound;
+}
+
+between_later : (s t u : State) (n : ℕ) (r : Image) → IsAfter s t → IsBetween t u n r → IsBetween s u n r
+between_later s t u n r after at = record {
+  state = at.state;
+  is_state = at.is_state;
+  later = after_then s t at.state after at.later;
+  sooner = at.sooner;
+  shape = at.shape;
+  shape_is = at.shape_is;
+  is_sound = at.is_sound;
+}
+
+-- runs in a row are one
+pub raid_runs_then : (v w z : Raid) (a b c : Seen) → RaidRuns v w a b → RaidRuns w z b c → RaidRuns v z a c
+raid_runs_then v w z a b c one two =
+    record {
+      book = after_then v.state w.state z.state one.book two.book;
+      sectors = λ d. two.sectors d ∙ one.sectors d;
+      faults = λ d. let first = one.faults d in let second = two.faults d in omega (arith, first, second);
+      traced = λ traced. two.traced (one.traced traced);
+      caused = record {
+        left = λ place is. one.caused.left place (two.caused.left place is);
+        cause = λ place was gone.
+            elim (cases_Bool (is_left w place)) [
+              | inl mid ↦ let fault = two.caused.cause place mid gone in (fault.0, fault.1, rose_since (one.faults fault.0) fault.2)
+              | inr early ↦ let fault = one.caused.cause place was early in (fault.0, fault.1, rose_before (two.faults fault.0) fault.2)
+            ];
+      };
+      still = λ n goes. one.still n (two.still n goes);
+      told = λ n told. two.told n (one.told n told);
+      images = λ n told goes traced.
+          leaves_then
+          (λ i. IsBetween v.state z.state n (replayed a.sectors i))
+          (leaves_weaker
+          (λ i. IsBetween v.state w.state n (replayed a.sectors i))
+          (λ i. IsBetween v.state z.state n (replayed a.sectors i))
+          (λ i at. between_sooner v.state w.state z.state n (replayed a.sectors i) two.book at)
+          (one.images n told (two.still n goes) traced))
+          (leaves_weaker
+          (λ i. IsBetween w.state z.state n (replayed b.sectors i))
+          (λ i. IsBetween v.state z.state n (replayed a.sectors i))
+          (λ i at.
+          subst (λ (sectors : ℕ → ℕ). IsBetween v.state z.state n (replayed sectors i)) (λ k d. one.sectors d k)
+          (between_later v.state w.state z.state n (replayed b.sectors i) one.book at))
+          (two.images n (one.told n told) goes (one.traced traced)));
+    }
