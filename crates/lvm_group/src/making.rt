@@ -23,7 +23,7 @@ use shr_base::Id;
 use std::alloc::Global;
 
 /// Bytes of the longest text.
-pub(crate) const MOST_TEXT: usize = 262144;
+const MOST_TEXT: usize = 262144;
 
 /// The room of a volume: twice for the runs of as many segments as a text may have, and for a text.
 #[derive(Debug, Drop)]
@@ -47,6 +47,18 @@ pub(crate) fn take_room(alloc: Global) -> Result<Room, NoMemory>
     };
     let text = Text::with_room(alloc, MOST_TEXT)?;
     Ok(Room { runs, spare, text })
+}
+
+/// Takes the room to open a volume: its own, and that of a second text.
+pub(crate) fn take_room_to_open(alloc: Global) -> Result<(Room, Text), NoMemory>
+    ensures runs { IfOk result (λ rooms. 1024 ≤ vec_capacity rooms.0.runs) }
+    ensures spare { IfOk result (λ rooms. 1024 ≤ vec_capacity rooms.0.spare) }
+    ensures text { IfOk result (λ rooms. 262144 ≤ rooms.0.text.spare) }
+    ensures kept { IfOk result (λ rooms. 262144 ≤ rooms.1.spare) }
+{
+    let room = take_room(alloc)?;
+    let kept = Text::with_room(alloc, MOST_TEXT)?;
+    Ok((room, kept))
 }
 
 /// How many extents runs have.

@@ -9,7 +9,7 @@ ghost use Rattle.lvm_group.specs.Laws.{is_sound};
 
 use crate::changing::{bring_up, next_seqno, put_grown};
 use crate::growth::{copy, fits, grow};
-use crate::making::{MOST_TEXT, extents_in, make, take_room};
+use crate::making::{extents_in, make, take_room, take_room_to_open};
 use crate::opening::find_runs;
 use crate::runs::{Run, Spot, spot_with};
 use crate::syncing::sync_first;
@@ -221,13 +221,7 @@ impl<R: Rack> Volume<R> {
         ensures kept { IfOk result (λ volume. R.runs rack volume.rack) }
         ensures returned { IfErr result (λ back. R.runs rack back.rack) }
     {
-        let Ok(room) = take_room(alloc) else {
-            return Err(Back {
-                rack,
-                why: VolumeFault::Memory,
-            });
-        };
-        let Ok(kept) = Text::with_room(alloc, MOST_TEXT) else {
+        let Ok((room, kept)) = take_room_to_open(alloc) else {
             return Err(Back {
                 rack,
                 why: VolumeFault::Memory,
