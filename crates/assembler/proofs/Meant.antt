@@ -1,12 +1,12 @@
 -- Where no disk refused a call, what was found is what the meaning of images says.
-use Rattle.std.proofs.Common.{◌≡◌, ◌∙◌, ℕ, ◌<◌, ◌≤◌, ◌&&◌, Bool, true, false, nat_lt, if◌then◌else◌, is_none, List, [], length, map, filter, Option, Some, None, option_map, refl, sym, ap, subst, inl, inr, arith, lt-ltb, le-ltb}
+use Rattle.std.proofs.Common.{◌≡◌, ◌∙◌, ℕ, ◌<◌, ◌≤◌, ◌&&◌, Bool, true, false, nat_lt, if◌then◌else◌, is_none, List, [], length, map, filter, Option, Some, None, option_map, refl, sym, ap, subst, inl, inr, arith, lt-ltb, le-ltb, ◌∷◌}
 use Rattle.std.specs.Option.{option_map_or}
 use Rattle.std.specs.Result.{result_ok}
 use Rattle.std.specs.List.{range_with_len}
-use Rattle.std.proofs.lemmas.Bool.{cases_lt, both_ways}
+use Rattle.std.proofs.lemmas.Bool.{cases_Bool, cases_lt, both_ways}
 use Rattle.std.proofs.lemmas.Option.{none-some}
 use Rattle.rack.specs.Seen.{Image, Seen}
-use Rattle.slice_rack.specs.Slices.{Slices, sectors_of}
+use Rattle.slice_rack.specs.Slices.{Slices, disk_of, sectors_of}
 use Rattle.slice_rack.specs.Sliced.{slices_of}
 use Rattle.pool_state.specs.declared.contents.State.{State}
 use Rattle.pool_state.specs.declared.contents.Copied.{Copied}
@@ -23,6 +23,7 @@ use Rattle.array_image.specs.Record.{gate_sector, gate_of, is_there, record_of, 
 use Rattle.commit_log.specs.View.{LogView, names, is_left, left_of}
 use Rattle.commit_log.proofs.Amid.{no_gate_in_nothing}
 use Rattle.commit_log.proofs.Counting.{few_drives, is_listed}
+use Rattle.commit_log.proofs.Finding.{filter_out}
 use Rattle.commit_log.proofs.Fewer.{names_filter, filter_both, current_of_all, pending_left}
 use Rattle.commit_log.proofs.Replayable.{pending_named}
 use Rattle.commit_log.proofs.Restored.{pending_by}
@@ -74,9 +75,9 @@ few_newest a s is = of_front (foremost epoch_of (map (λ d. (identities_of (disk
         subst (λ (u : State). length u.drives.items ≤ 16) (some_state copy.state s same)
         (of_disk at.0 copy (nat_lt state_sector (a.sectors at.0)) at.2)
 
-pub stand_meant : (a b : Seen) (known : List Known) (s : State) (t : Slices) (on : List ℕ) (m : LogView) (is_pending : Bool) (damaged : Option ℕ)
+clean_meant : (a b : Seen) (known : List Known) (s : State) (t : Slices) (on : List ℕ) (m : LogView) (is_pending : Bool) (damaged : Option ℕ)
     → IsNewest a b known s → IsLaid a known s t on → HasLooked a b t on [] m is_pending damaged → AllTold a → IsUnfaulted a b → StandsAs a s t m
-stand_meant a b known s t on m is_pending damaged is_new laid looked told free = record {
+clean_meant a b known s t on m is_pending damaged is_new laid looked told free = record {
   stands = stands_so a b known s is_new.scan told free (is_new.newest told);
   one_pool = sym (other_meant a b s.pool.0 known is_new.scan told free) ∙ is_new.one_pool told;
   logs = same_logs;
@@ -128,3 +129,25 @@ stand_meant a b known s t on m is_pending damaged is_new laid looked told free =
         and_true : (b : Bool) → (b && true) ≡ b
         and_true true = refl
         and_true false = refl
+
+-- ---- nobody is passed over
+
+none_listed : (f : ℕ → Bool) (ks : List ℕ) → ((p : ℕ) → f p ≡ false) → filter f ks ≡ []
+none_listed f [] none = refl
+none_listed f (k ∷ ks) none = filter_out f k ks (none k) ∙ none_listed f ks none
+
+gone_none : (a b : Seen) (t : Slices) (on gone : List ℕ) (m : LogView) (is_pending : Bool) (damaged : Option ℕ)
+    → HasLooked a b t on gone m is_pending damaged → IsUnfaulted a b → gone ≡ []
+gone_none a b t on gone m is_pending damaged looked free =
+    looked.ordered
+    ∙ none_listed (names gone) (range_with_len 0 16)
+    (λ p. elim (cases_Bool (names gone p)) [
+      | inl lost ↦ absurd (free (disk_of t (log_slice p)) (looked.cause p lost).1)
+      | inr none ↦ none
+    ])
+
+pub stand_meant : (a b : Seen) (known : List Known) (s : State) (t : Slices) (on gone : List ℕ) (m : LogView) (is_pending : Bool) (damaged : Option ℕ)
+    → IsNewest a b known s → IsLaid a known s t on → HasLooked a b t on gone m is_pending damaged → AllTold a → IsUnfaulted a b → StandsAs a s t m
+stand_meant a b known s t on gone m is_pending damaged is_new laid looked told free =
+    clean_meant a b known s t on m is_pending damaged is_new laid
+    (subst (λ g. HasLooked a b t on g m is_pending damaged) (gone_none a b t on gone m is_pending damaged looked free) looked) told free

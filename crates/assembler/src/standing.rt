@@ -1,6 +1,6 @@
 //! A pool as it stands on disks, before its pending record is replayed.
 
-ghost use Rattle.std.specs.Prelude.{◌≡◌, ◌<◌, ◌^◌, ℕ, [], length, IfOk, IfErr};
+ghost use Rattle.std.specs.Prelude.{◌≡◌, ◌<◌, ◌^◌, ℕ, length, IfOk, IfErr};
 ghost use Rattle.rack.specs.Sequences.{OnlyReads};
 ghost use Rattle.slice_rack.specs.Sliced.{slices_of};
 ghost use Rattle.slice_rack.specs.SliceRack.{tables, below_of};
@@ -104,7 +104,7 @@ pub fn stand<R: Rack>(alloc: Global, rack: R) -> Result<Standing<R>, Back<R, Ref
     ensures laid { IfOk result (λ st. IsLaid (R.seen rack) st.scan.disks.items st.state (tables st.slices) st.on.items) }
     ensures looked { IfOk result (λ st. HasLooked (R.seen rack) (R.seen (below_of st.slices)) (tables st.slices) st.on.items st.looked.gone.items st.log st.looked.pending st.looked.damaged) }
     // Where no disk refused a call, all of it is as the meaning of images says.
-    ensures meant { IfOk result (λ st. AllTold (R.seen rack) → IsUnfaulted (R.seen rack) (R.seen (below_of st.slices)) → st.looked.gone.items ≡ []
+    ensures meant { IfOk result (λ st. AllTold (R.seen rack) → IsUnfaulted (R.seen rack) (R.seen (below_of st.slices))
         → StandsAs (R.seen rack) st.state (tables st.slices) st.log) }
     ensures runs { IfOk result (λ st. R.runs rack (below_of st.slices)) }
     ensures kept { IfErr result (λ back. OnlyReads (R.seen rack) (R.seen back.rack)) }

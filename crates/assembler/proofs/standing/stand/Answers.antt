@@ -4,7 +4,7 @@ use Rattle.rack.specs.Sequences.{OnlyReads}
 use Rattle.slice_rack.specs.SliceRack.{tables, below_of}
 use Rattle.commit_log.specs.View.{LogView}
 use Rattle.pool_scan.proofs.Seated.{scan_later}
-use Rattle.assembler.specs.Standing.{IsLaid, HasLooked}
+use Rattle.assembler.specs.Standing.{IsLaid}
 use Rattle.assembler.proofs.Laid.{laid_all, laid_logs, laid_none}
 use Rattle.assembler.proofs.Meant.{cause_meant, stand_meant}
 use Rattle.assembler.proofs.Stood.{only_reads_all, looked_so}
@@ -57,12 +57,7 @@ returns-in-Err-find_newest-clause-exact g c = λ told free.
     cause_meant (g.R.Rack.seen c.args.rack) (g.R.Rack.seen c.find_newest.new.rack) c.in-Err-find_newest.why c.in-Err-find_newest.ensures.refused told free
 
 pub returns-clause-meant : goal.returns-clause-meant
-returns-clause-meant g c = λ told free none.
-    let a = g.R.Rack.seen c.args.rack in
-    let b = g.R.Rack.seen (below_of c.pending-looked.new.rack) in
-    let on = c.seat_drives-on.result.items in
-    let t = tables c.pending-looked.new.rack in
-    stand_meant a b c.in-Ok-find_newest.found.scan.disks.items c.in-Ok-find_newest.found.state t on c.pending-looked.new.self c.pending-looked.result.pending c.pending-looked.result.damaged
-    (returns-clause-newest g c) (returns-clause-laid g c)
-    (subst (λ gone. HasLooked a b t on gone c.pending-looked.new.self c.pending-looked.result.pending c.pending-looked.result.damaged) none (returns-clause-looked g c))
-    told free
+returns-clause-meant g c = λ told free.
+    stand_meant (g.R.Rack.seen c.args.rack) (g.R.Rack.seen (below_of c.pending-looked.new.rack)) c.in-Ok-find_newest.found.scan.disks.items c.in-Ok-find_newest.found.state
+    (tables c.pending-looked.new.rack) c.seat_drives-on.result.items c.pending-looked.result.gone.items c.pending-looked.new.self c.pending-looked.result.pending
+    c.pending-looked.result.damaged (returns-clause-newest g c) (returns-clause-laid g c) (returns-clause-looked g c) told free
