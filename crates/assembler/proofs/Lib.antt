@@ -1,2 +1,3 @@
 mod Laid
 mod Stood
+pub mod Meant

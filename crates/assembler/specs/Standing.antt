@@ -8,12 +8,13 @@ use Rattle.array_image.specs.Places.{log_slice}
 use Rattle.array_image.specs.States.{is_current}
 use Rattle.array_image.specs.Left.{reading}
 use Rattle.pool_image.specs.Disks.{disks_of, newest}
-use Rattle.pool_image.specs.Replay.{logs_of}
+use Rattle.pool_image.specs.Replay.{logs_of, standing, standing_by}
+use Rattle.pool_image.specs.Meaning.{no_pool, two_pools, has_other_pool, refusal_of}
 use Rattle.commit_log.specs.View.{LogView, names, left_of, in_order}
 use Rattle.commit_log.specs.Phases.{AreLogs}
 use Rattle.commit_log.specs.Opening.{Finds}
 use Rattle.pool_scan.specs.declared.Known.{Known}
-use Rattle.pool_scan.specs.Scanning.{AllTold, IsScan, as_read}
+use Rattle.pool_scan.specs.Scanning.{AllTold, IsScan, as_read, now_in}
 use Rattle.pool_scan.specs.Choosing.{has_pool_other_than, seat_by}
 use Rattle.assembler.specs.declared.standing.Refusal.{Refusal}
 use Rattle.assembler.specs.declared.standing.Refusal.TheVariants.{NoPool, TwoPools, Memory}
@@ -48,6 +49,20 @@ pub record HasLooked (a b : Seen) (t : Slices) (on gone : List ℕ) (m : LogView
   pub added : m.added ≡ []
   pub lent : m.is_lent ≡ true
   pub finds : AllTold a → IsLasting a → Finds m on (left_of on gone) is_pending damaged (reading (slices_of t a))
+
+-- By the meaning of images, where no disk refused a call: the pool stands so on what the disks hold, the slices show its log
+-- slices, and the log has the record that is pending there.
+pub record StandsAs (a : Seen) (s : State) (t : Slices) (m : LogView) : Type 0 where
+  pub stands : standing (disks_of a) (now_in a) ≡ Some (standing_by (disks_of a) (now_in a) s)
+  pub one_pool : has_other_pool (disks_of a) (standing_by (disks_of a) (now_in a) s) ≡ false
+  pub logs : (k u : ℕ) → k < 272 → reading (slices_of t a) k u ≡ (standing_by (disks_of a) (now_in a) s).logs k u
+  pub targets : IsLasting a → m.pending ≡ (standing_by (disks_of a) (now_in a) s).targets
+
+-- and no pool is found where the meaning has this refusal
+abbrev pub IsMeant : Seen → Refusal → Type 0
+IsMeant a NoPool = refusal_of (disks_of a) (now_in a) ≡ Some no_pool
+IsMeant a TwoPools = refusal_of (disks_of a) (now_in a) ≡ Some two_pools
+IsMeant a Memory = Unit {0}
 
 -- why no pool was found: by what was read of the disks
 abbrev pub IsCause : Seen → Seen → Refusal → Type 0

@@ -6,7 +6,8 @@ ghost use Rattle.slice_rack.specs.Sliced.{slices_of};
 ghost use Rattle.slice_rack.specs.SliceRack.{tables, below_of};
 ghost use Rattle.pool_image.specs.Disks.{Disks, Identities, newest};
 ghost use Rattle.pool_scan.specs.Choosing.{AreOf};
-ghost use Rattle.assembler.specs.Standing.{IsNewest, IsLaid, HasLooked, IsCause};
+ghost use Rattle.assembler.specs.Standing.{IsNewest, IsLaid, HasLooked, StandsAs, IsCause, IsMeant};
+ghost use Rattle.pool_scan.specs.Scanning.{AllTold, IsUnfaulted};
 
 use crate::laying::seat_drives;
 use commit_log::{Log, Looked};
@@ -102,9 +103,13 @@ pub fn stand<R: Rack>(alloc: Global, rack: R) -> Result<Standing<R>, Back<R, Ref
     ensures newest { IfOk result (λ st. IsNewest (R.seen rack) (R.seen (below_of st.slices)) st.scan.disks.items st.state) }
     ensures laid { IfOk result (λ st. IsLaid (R.seen rack) st.scan.disks.items st.state (tables st.slices) st.on.items) }
     ensures looked { IfOk result (λ st. HasLooked (R.seen rack) (R.seen (below_of st.slices)) (tables st.slices) st.on.items st.looked.gone.items st.log st.looked.pending st.looked.damaged) }
+    // Where no disk refused a call, all of it is as the meaning of images says.
+    ensures meant { IfOk result (λ st. AllTold (R.seen rack) → IsUnfaulted (R.seen rack) (R.seen (below_of st.slices))
+        → StandsAs (R.seen rack) st.state (tables st.slices) st.log) }
     ensures runs { IfOk result (λ st. R.runs rack (below_of st.slices)) }
     ensures kept { IfErr result (λ back. OnlyReads (R.seen rack) (R.seen back.rack)) }
     ensures refused { IfErr result (λ back. IsCause (R.seen rack) (R.seen back.rack) back.why) }
+    ensures exact { IfErr result (λ back. AllTold (R.seen rack) → IsUnfaulted (R.seen rack) (R.seen back.rack) → IsMeant (R.seen rack) back.why) }
     ensures returned { IfErr result (λ back. R.runs rack back.rack) }
 {
     let mut rack = rack;

@@ -40,7 +40,7 @@ pub record IsLoaded (l : LogView) (ps : List ℕ) (e : Image) : Type 0 where
   pub number : (a : GateAt) → pending_at ps e ≡ Some a → a.gate.number ≡ l.number
 
 -- the place of a pending record is one of them
-pending_named : (ps : List ℕ) (e : Image) (a : GateAt) → pending_at ps e ≡ Some a → (names ps a.place ≡ true) × (gate_in e a.place ≡ Some a.gate)
+pub pending_named : (ps : List ℕ) (e : Image) (a : GateAt) → pending_at ps e ≡ Some a → (names ps a.place ≡ true) × (gate_in e a.place ≡ Some a.gate)
 pending_named ps e a is =
     let of = foremost_among (gate_at e) ps a (pending_is_decisive e ps a is) in
     let at = gate_at_is e of.place a of.gives in

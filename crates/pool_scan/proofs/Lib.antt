@@ -3,3 +3,4 @@ mod Decoding
 mod Ranges
 mod Sights
 pub mod Seated
+pub mod Meant

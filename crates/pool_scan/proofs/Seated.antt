@@ -29,7 +29,7 @@ seat_by_is disks identities known are s place =
 -- ---- a disk has one place
 
 -- the foremost of a row is one of it
-foremost_from : {X : Type 0} (measure : X → ℕ) (h : ℕ → Option X) (a n : ℕ) (z : X) → foremost measure (map h (range_with_len a n)) ≡ Some z
+pub foremost_from : {X : Type 0} (measure : X → ℕ) (h : ℕ → Option X) (a n : ℕ) (z : X) → foremost measure (map h (range_with_len a n)) ≡ Some z
     → (k : ℕ) × (k < a + n) × (h k ≡ Some z)
 unfolding foremost
 foremost_from measure h a zero z is = absurd (none-some z is)

@@ -82,6 +82,10 @@ as_read x known = λ d. record {
   table = option_and_then (table_in (identities_of (disks_of x) (now_in x) d).table) (slice_get known d);
 }
 
+-- no disk refused a call
+abbrev pub IsUnfaulted : Seen → Seen → Type 0
+IsUnfaulted x y = (d : ℕ) → Rose (x.faults d) (y.faults d) → ⊥
+
 -- the contents of all disks are told
 abbrev pub AllTold : Seen → Type 0
 AllTold x = (d : ℕ) → d < x.disks → x.told d

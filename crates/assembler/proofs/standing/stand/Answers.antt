@@ -1,11 +1,12 @@
 use Rattle.std.proofs.Common.{sym, ap, subst, ◌∙◌}
 use Rattle.rack.specs.Seen.{Stays}
 use Rattle.rack.specs.Sequences.{OnlyReads}
-use Rattle.slice_rack.specs.SliceRack.{below_of}
+use Rattle.slice_rack.specs.SliceRack.{tables, below_of}
 use Rattle.commit_log.specs.View.{LogView}
 use Rattle.pool_scan.proofs.Seated.{scan_later}
 use Rattle.assembler.specs.Standing.{IsLaid}
 use Rattle.assembler.proofs.Laid.{laid_all, laid_logs, laid_none}
+use Rattle.assembler.proofs.Meant.{cause_meant, stand_meant}
 use Rattle.assembler.proofs.Stood.{only_reads_all, looked_so}
 use Rattle.assembler.proofs.standing.stand.Goals as goal
 
@@ -50,3 +51,13 @@ returns-clause-runs g c =
     let same = c.seat_drives-on.ensures.below ∙ c.new-slices.ensures.below in
     g.met.R.Rack.runs_then _ _ _ c.in-Ok-find_newest.ensures.runs
     (subst (λ r. g.R.Rack.runs r (below_of c.pending-looked.new.rack)) same c.pending-looked.ensures.runs.below)
+
+pub returns-in-Err-find_newest-clause-exact : goal.returns-in-Err-find_newest-clause-exact
+returns-in-Err-find_newest-clause-exact g c = λ told free.
+    cause_meant (g.R.Rack.seen c.args.rack) (g.R.Rack.seen c.find_newest.new.rack) c.in-Err-find_newest.why c.in-Err-find_newest.ensures.refused told free
+
+pub returns-clause-meant : goal.returns-clause-meant
+returns-clause-meant g c = λ told free.
+    stand_meant (g.R.Rack.seen c.args.rack) (g.R.Rack.seen (below_of c.pending-looked.new.rack)) c.in-Ok-find_newest.found.scan.disks.items c.in-Ok-find_newest.found.state
+    (tables c.pending-looked.new.rack) c.seat_drives-on.result.items c.pending-looked.result.gone.items c.pending-looked.new.self c.pending-looked.result.pending
+    c.pending-looked.result.damaged (returns-clause-newest g c) (returns-clause-laid g c) (returns-clause-looked g c) told free
