@@ -37,32 +37,34 @@ fn two_arrays(rt: &impl Abort, alloc: Global, sectors: [u64; 2]) -> Result<MemBa
     Ok(bay)
 }
 
-// A volume of so many extents of each of two arrays, which have so many sectors.
-fn made(
-    rt: &impl Abort,
-    alloc: Global,
-    sectors: [u64; 2],
-    extents: [u64; 2],
-) -> Result<Volume<MemBay>, Fail>
-    ensures fit { IfOk result (λ volume. (volume_of (linear volume) (seen_of (memory (below_of volume)))).fit) }
-    ensures sized { IfOk result (λ volume. (linear volume).extent ≡ 128) }
-{
-    let bay = two_arrays(rt, alloc, sectors)?;
-    assert!(rt; bay.disks() == 2 && bay.sectors(0) < 1 << 20 && bay.sectors(1) < 1 << 20);
-    assert!(rt; 0 < extents[0] && extents[0] <= 512 && 2048 + extents[0] * 128 <= bay.sectors(0));
-    assert!(rt; 0 < extents[1] && extents[1] <= 512 && 2048 + extents[1] * 128 <= bay.sectors(1));
-    match Volume::create(alloc, bay, &Id([7; 16]), 128, &extents) {
-        Ok(volume) => Ok(volume),
-        Err(_) => panic!(rt; "no volume"),
-    }
-}
-
 // A volume of 20 extents of one array and 10 of another.
 fn two_runs(rt: &impl Abort, alloc: Global) -> Result<Volume<MemBay>, Fail>
     ensures fit { IfOk result (λ volume. (volume_of (linear volume) (seen_of (memory (below_of volume)))).fit) }
     ensures sized { IfOk result (λ volume. (linear volume).extent ≡ 128) }
 {
-    made(rt, alloc, [6656, 3328], [20, 10])
+    let bay = two_arrays(rt, alloc, [6656, 3328])?;
+    assert!(rt; bay.disks() == 2);
+    assert!(rt; bay.sectors(0) == 6656);
+    assert!(rt; bay.sectors(1) == 3328);
+    match Volume::create(alloc, bay, &Id([7; 16]), 128, &[20, 10]) {
+        Ok(volume) => Ok(volume),
+        Err(_) => panic!(rt; "no volume"),
+    }
+}
+
+// A volume of one extent of each of two arrays that have room for 512.
+fn room_for_many(rt: &impl Abort, alloc: Global) -> Result<Volume<MemBay>, Fail>
+    ensures fit { IfOk result (λ volume. (volume_of (linear volume) (seen_of (memory (below_of volume)))).fit) }
+    ensures sized { IfOk result (λ volume. (linear volume).extent ≡ 128) }
+{
+    let bay = two_arrays(rt, alloc, [67584, 67584])?;
+    assert!(rt; bay.disks() == 2);
+    assert!(rt; bay.sectors(0) == 67584);
+    assert!(rt; bay.sectors(1) == 67584);
+    match Volume::create(alloc, bay, &Id([7; 16]), 128, &[1, 1]) {
+        Ok(volume) => Ok(volume),
+        Err(_) => panic!(rt; "no volume"),
+    }
 }
 
 // The bytes of so many sectors of a disk, from one on.
@@ -205,7 +207,7 @@ fn what_array_is_bad(rt: HostRuntime) -> Result<(), Fail> {
 // The texts of these extensions go round their area many times.
 #[test]
 fn no_more_segments_than_a_text_has(rt: HostRuntime) -> Result<(), Fail> {
-    let mut volume = made(&rt, rt.alloc(), [67584, 67584], [1, 1])?;
+    let mut volume = room_for_many(&rt, rt.alloc())?;
     for extents in 2..513 {
         extend_to(&rt, &mut volume, &[extents, extents - 1]);
         extend_to(&rt, &mut volume, &[extents, extents]);
