@@ -4,6 +4,7 @@ use Rattle.rack.specs.Seen.{Seen, Stays}
 use Rattle.rack.specs.Calls.{KeepsAll}
 use Rattle.slice_rack.specs.declared.SliceRack.{SliceRack}
 use Rattle.slice_rack.specs.SliceRack.{tables, below_of}
+use Rattle.slice_rack.specs.Runs.{Runs}
 use Rattle.slice_rack.specs.Sliced.{slices_of}
 use Rattle.md_super.specs.declared.superblock.Super.{Super}
 use Rattle.array_model.specs.View.{View}
@@ -101,3 +102,7 @@ raid_seen seen rack =
 pub record KeepsRack (a b : Seen) : Type 0 where
   pub stays : Stays a b
   pub keeps : KeepsAll a b
+
+-- what calls on the slices below keep: where the slices lie, what the rack of drives promises, and all sectors outside slices
+abbrev pub SliceRuns : {R : Type 0} → (R → Seen) → (R → R → Type 0) → SliceRack R → SliceRack R → Type 0
+SliceRuns seen runs x y = Runs (tables x) (tables y) (seen (below_of x)) (seen (below_of y)) (runs (below_of x) (below_of y))

@@ -42,7 +42,7 @@ impl<R: Rack> RaidRack<R> {
     ghost use Rattle.array_image.specs.States.{is_current};
     ghost use Rattle.raid_rack.specs.Losses.{has_other};
     ghost use Rattle.raid_rack.specs.Moves.{Mends, noted_at};
-    ghost use Rattle.raid_rack.specs.RaidRack.{IsFit, KeepsRack, arrays_in, arrays_of, raid_seen, raid_in, refused_in, slices_in, slices_seen};
+    ghost use Rattle.raid_rack.specs.RaidRack.{SliceRuns, IsFit, KeepsRack, arrays_in, arrays_of, raid_seen, raid_in, refused_in, slices_in, slices_seen};
 
     /// The rack of these arrays, which are those below the state's `made`, by number, over these slices. Nothing is added to the
     /// log, and nothing is pending in it.
@@ -95,7 +95,7 @@ impl<R: Rack> RaidRack<R> {
         ensures kept { OnErr result (self.new ≡ self.old) }
         ensures mends { OnOk result (Mends (noted_at (place ∷ []) (raid_in self.old)) (raid_in self.new) (slices_seen R.seen self.old) (slices_seen R.seen self.new)) }
         ensures keeps { OnOk result (KeepsRack (raid_seen R.seen self.old) (raid_seen R.seen self.new)) }
-        ensures runs { R.runs (below_of (slices_in self.old)) (below_of (slices_in self.new)) }
+        ensures runs { SliceRuns R.seen R.runs (slices_in self.old) (slices_in self.new) }
     {
         if !has_other(&self.arrays.state, place) {
             return Err(LastDrive);

@@ -4,10 +4,11 @@ ghost use Rattle.std.specs.Prelude.{◌≡◌, ℕ, ◌<◌, ◌≤◌, true, fa
 ghost use Rattle.rack.specs.Seen.{Rose};
 ghost use Rattle.slice_rack.specs.SliceRack.{below_of, tables};
 ghost use Rattle.slice_rack.specs.Laws.{is_sound};
+ghost use Rattle.slice_rack.specs.Runs.{runs_join, runs_none};
 ghost use Rattle.raid_rack.specs.Laws.{raid_sound, stops_inside};
 ghost use Rattle.raid_rack.specs.Raid.{spent_of};
 ghost use Rattle.raid_rack.specs.Runs.{RaidRuns, raid_runs_same, raid_runs_then};
-ghost use Rattle.raid_rack.specs.RaidRack.{IsFit, arrays_in, raid_in, raid_seen, refused_in, slices_in, slices_seen};
+ghost use Rattle.raid_rack.specs.RaidRack.{IsFit, SliceRuns, arrays_in, raid_in, raid_seen, refused_in, slices_in, slices_seen};
 
 use crate::arrays::RaidRack;
 use rack::{Gone, Rack};
@@ -17,7 +18,7 @@ use rack::{Gone, Rack};
 impl<R: Rack> Rack for RaidRack<R> {
     ghost seen = { λ rack. raid_seen R.seen rack };
 
-    ghost runs = { λ old new. R.runs (below_of (slices_in old)) (below_of (slices_in new))
+    ghost runs = { λ old new. SliceRuns R.seen R.runs (slices_in old) (slices_in new)
         × RaidRuns (raid_in old) (raid_in new) (slices_seen R.seen old) (slices_seen R.seen new) };
 
     ghost lenders = { λ rack. R.lenders (below_of (slices_in rack)) };
@@ -50,14 +51,22 @@ impl<R: Rack> Rack for RaidRack<R> {
         (is_sound (tables (slices_in rack)) (R.seen (below_of (slices_in rack))) (slices_in rack).orderly fit.running.set.fit.1
         (R.sound (below_of (slices_in rack)) fit.running.set.fit.0 traced)) };
 
-    ghost runs_same = { λ rack. (R.runs_same (below_of (slices_in rack)), raid_runs_same (raid_in rack) (slices_seen R.seen rack)) };
+    ghost runs_same = { λ rack. (
+      runs_none (tables (slices_in rack)) (R.seen (below_of (slices_in rack))) (R.runs (below_of (slices_in rack)) (below_of (slices_in rack)))
+          (R.runs_same (below_of (slices_in rack))),
+      raid_runs_same (raid_in rack) (slices_seen R.seen rack),
+    ) };
 
     ghost runs_then = { λ x y z one two. (
-      R.runs_then (below_of (slices_in x)) (below_of (slices_in y)) (below_of (slices_in z)) one.0 two.0,
+      runs_join (tables (slices_in x)) (tables (slices_in y)) (tables (slices_in z))
+          (R.seen (below_of (slices_in x))) (R.seen (below_of (slices_in y))) (R.seen (below_of (slices_in z)))
+          (R.runs (below_of (slices_in x)) (below_of (slices_in y))) (R.runs (below_of (slices_in y)) (below_of (slices_in z)))
+          (R.runs (below_of (slices_in x)) (below_of (slices_in z))) one.0 two.0
+          (R.runs_then (below_of (slices_in x)) (below_of (slices_in y)) (below_of (slices_in z)) one.0.below two.0.below),
       raid_runs_then (raid_in x) (raid_in y) (raid_in z) (slices_seen R.seen x) (slices_seen R.seen y) (slices_seen R.seen z) one.1 two.1,
     ) };
 
-    ghost runs_lenders = { λ x y runs. R.runs_lenders (below_of (slices_in x)) (below_of (slices_in y)) runs.0 };
+    ghost runs_lenders = { λ x y runs. R.runs_lenders (below_of (slices_in x)) (below_of (slices_in y)) runs.0.below };
 }
 
 impl<R: Rack> RaidRack<R> {

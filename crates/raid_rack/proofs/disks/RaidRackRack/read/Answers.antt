@@ -2,7 +2,7 @@ use Rattle.std.proofs.Common.{sym, subst}
 use Rattle.rack.specs.Calls.{Reads}
 use Rattle.slice_rack.specs.SliceRack.{tables, below_of}
 use Rattle.raid_rack.specs.Runs.{RaidRuns}
-use Rattle.raid_rack.specs.RaidRack.{raid_in, raid_seen, slices_in, slices_seen}
+use Rattle.raid_rack.specs.RaidRack.{SliceRuns, raid_in, raid_seen, slices_in, slices_seen}
 use Rattle.raid_rack.specs.Laws.{stops_inside}
 use Rattle.raid_rack.proofs.Serving.{read_call, runs_moves}
 use Rattle.raid_rack.proofs.disks.RaidRackRack.read.Goals as goal
@@ -17,7 +17,7 @@ returns-clause-reads g c =
 
 pub returns-clause-runs : goal.returns-clause-runs
 returns-clause-runs g c =
-    subst (λ r. g.R.Rack.runs (below_of (slices_in c.args.self.now)) (below_of (slices_in r))
+    subst (λ r. SliceRuns g.R.Rack.seen g.R.Rack.runs (slices_in c.args.self.now) (slices_in r)
     × RaidRuns (raid_in c.args.self.now) (raid_in r) (slices_seen g.R.Rack.seen c.args.self.now) (slices_seen g.R.Rack.seen r)) (sym c.answer.ensures.same) (
       c.read_array.ensures.runs,
       runs_moves c.args.self.now.arrays c.read_array.new.self _ _ c.requires.fit

@@ -3,7 +3,7 @@ use Rattle.rack.specs.Calls.{Writes}
 use Rattle.slice_rack.specs.SliceRack.{tables, below_of}
 use Rattle.raid_rack.specs.Moves.{written_at}
 use Rattle.raid_rack.specs.Runs.{RaidRuns}
-use Rattle.raid_rack.specs.RaidRack.{raid_in, raid_seen, slices_in, slices_seen}
+use Rattle.raid_rack.specs.RaidRack.{SliceRuns, raid_in, raid_seen, slices_in, slices_seen}
 use Rattle.raid_rack.specs.Laws.{stops_inside}
 use Rattle.raid_rack.proofs.Serving.{write_call, runs_call}
 use Rattle.raid_rack.proofs.disks.RaidRackRack.write.Goals as goal
@@ -19,7 +19,7 @@ returns-clause-writes g c =
 
 pub returns-clause-runs : goal.returns-clause-runs
 returns-clause-runs g c =
-    subst (λ r. g.R.Rack.runs (below_of (slices_in c.args.self.now)) (below_of (slices_in r))
+    subst (λ r. SliceRuns g.R.Rack.seen g.R.Rack.runs (slices_in c.args.self.now) (slices_in r)
     × RaidRuns (raid_in c.args.self.now) (raid_in r) (slices_seen g.R.Rack.seen c.args.self.now) (slices_seen g.R.Rack.seen r)) (sym c.answer.ensures.same) (
       c.write_array.ensures.runs,
       runs_call c.args.self.now.arrays c.write_array.new.self _ _ (written_at c.args.disk c.args.sector c.args.from.now) c.requires.fit
