@@ -12,56 +12,58 @@ use lvm_group::{Volume, VolumeFault};
 use lvm_label::{Header, Location, decode_header, decode_label, encode_header};
 use lvm_text::parse;
 use rack::{Bay, Name, Rack};
-use rack_mem::{DiskSpec, MemBay};
+use rack_mem::{DiskSpec, MemBay, Pick};
 use shr_base::Id;
 use std::alloc::Global;
 use std::process::Abort;
 use std::test::Fail;
 
-// A bay with two attached disks of so many sectors.
-fn two_arrays(rt: &impl Abort, alloc: Global, sectors: [u64; 2]) -> Result<MemBay, Fail> {
+// A bay with three attached disks of so many sectors.
+fn three_arrays(rt: &impl Abort, alloc: Global, sectors: [u64; 3]) -> Result<MemBay, Fail> {
     let mut shelf = Vec::new(alloc);
-    let (a, b) = (Name::of(alloc, b"a")?, Name::of(alloc, b"b")?);
-    shelf.push(DiskSpec {
-        name: a,
-        sectors: sectors[0],
-    })?;
-    shelf.push(DiskSpec {
-        name: b,
-        sectors: sectors[1],
-    })?;
-    assert!(rt; shelf.len() == 2 && shelf.iter().all(|disk| disk.sectors < 1 << 48));
-    let mut bay = MemBay::new(alloc, shelf, Vec::new(alloc), 300_000)?;
-    assert_eq!(rt; bay.attach("a"), Ok(0));
-    assert_eq!(rt; bay.attach("b"), Ok(1));
+    for (name, sectors) in ["a", "b", "c"].into_iter().zip(sectors) {
+        let name = Name::of(alloc, name.as_bytes())?;
+        shelf.push(DiskSpec { name, sectors })?;
+    }
+    assert!(rt; shelf.len() < 1 << 32 && shelf.iter().all(|disk| disk.sectors < 1 << 48));
+    let mut bay = MemBay::new(alloc, shelf, Vec::new(alloc), 500_000)?;
+    attach(rt, &mut bay);
     Ok(bay)
 }
 
-// A volume of 20 extents of one array and 10 of another.
-fn two_runs(rt: &impl Abort, alloc: Global) -> Result<Volume<MemBay>, Fail>
+fn attach(rt: &impl Abort, bay: &mut MemBay) {
+    for name in ["a", "b", "c"] {
+        assert!(rt; bay.attach(name).is_ok());
+    }
+}
+
+// A volume of 20 extents of one array, 8 of another and 5 of a third.
+fn three_runs(rt: &impl Abort, alloc: Global) -> Result<Volume<MemBay>, Fail>
     ensures fit { IfOk result (λ volume. (volume_of (linear volume) (seen_of (memory (below_of volume)))).fit) }
     ensures sized { IfOk result (λ volume. (linear volume).extent ≡ 128) }
 {
-    let bay = two_arrays(rt, alloc, [6656, 3328])?;
-    assert!(rt; bay.disks() == 2);
+    let bay = three_arrays(rt, alloc, [6656, 3328, 3328])?;
+    assert!(rt; bay.disks() == 3);
     assert!(rt; bay.sectors(0) == 6656);
     assert!(rt; bay.sectors(1) == 3328);
-    match Volume::create(alloc, bay, &Id([7; 16]), 128, &[20, 10]) {
+    assert!(rt; bay.sectors(2) == 3328);
+    match Volume::create(alloc, bay, &Id([7; 16]), 128, &[20, 8, 5]) {
         Ok(volume) => Ok(volume),
         Err(_) => panic!(rt; "no volume"),
     }
 }
 
-// A volume of one extent of each of two arrays that have room for 512.
+// A volume of one extent of each of three arrays that have room for many.
 fn room_for_many(rt: &impl Abort, alloc: Global) -> Result<Volume<MemBay>, Fail>
     ensures fit { IfOk result (λ volume. (volume_of (linear volume) (seen_of (memory (below_of volume)))).fit) }
     ensures sized { IfOk result (λ volume. (linear volume).extent ≡ 128) }
 {
-    let bay = two_arrays(rt, alloc, [67584, 67584])?;
-    assert!(rt; bay.disks() == 2);
-    assert!(rt; bay.sectors(0) == 67584);
-    assert!(rt; bay.sectors(1) == 67584);
-    match Volume::create(alloc, bay, &Id([7; 16]), 128, &[1, 1]) {
+    let bay = three_arrays(rt, alloc, [45824, 45824, 45824])?;
+    assert!(rt; bay.disks() == 3);
+    assert!(rt; bay.sectors(0) == 45824);
+    assert!(rt; bay.sectors(1) == 45824);
+    assert!(rt; bay.sectors(2) == 45824);
+    match Volume::create(alloc, bay, &Id([7; 16]), 128, &[1, 1, 1]) {
         Ok(volume) => Ok(volume),
         Err(_) => panic!(rt; "no volume"),
     }
@@ -80,9 +82,11 @@ fn bytes_at(alloc: Global, bay: &MemBay, disk: u32, first: u64, count: u64) -> R
 
 #[test]
 fn a_made_group_is_read(rt: HostRuntime) -> Result<(), Fail> {
-    let mut volume = two_runs(&rt, rt.alloc())?;
-    assert_eq!(rt; volume.extents(), 30);
-    assert!(rt; volume.fits(&[20, 10]) && volume.fits(&[30, 10, 5]) && !volume.fits(&[20, 9]));
+    let mut volume = three_runs(&rt, rt.alloc())?;
+    assert_eq!(rt; volume.extents(), 33);
+    assert!(rt;
+        volume.fits(&[20, 8, 5]) && volume.fits(&[30, 10, 5, 2]) && !volume.fits(&[20, 7, 5])
+    );
     let bay = volume.inner();
     let sectors = [
         bay.sector_now(1, 0),
@@ -102,38 +106,75 @@ fn a_made_group_is_read(rt: HostRuntime) -> Result<(), Fail> {
         .ok()
         .ok_or("a group")?;
     assert_eq!(rt; group.seqno, 1);
-    assert_eq!(rt; group.pvs.as_slice().len(), 2);
+    assert_eq!(rt; group.pvs.as_slice().len(), 3);
     assert!(rt; group.pvs.as_slice()[1].name.bytes() == b"pv1".as_slice());
     assert_eq!(rt; group.lvs.as_slice().len(), 1);
     Ok(())
 }
 
-// Extends the volume to these numbers of extents of its two arrays.
-fn extend_to(rt: &impl Abort, volume: &mut Volume<MemBay>, numbers: &[u64])
+// Extends the volume to these numbers of extents of its arrays.
+fn extend_to(rt: &impl Abort, volume: &mut Volume<MemBay>, numbers: [u64; 3])
     requires fit { (volume_of (linear volume.old) (seen_of (memory (below_of volume.old)))).fit }
     requires sized { (linear volume.old).extent ≡ 128 }
     ensures fit { (volume_of (linear volume.new) (seen_of (memory (below_of volume.new)))).fit }
     ensures sized { (linear volume.new).extent ≡ 128 }
 {
-    assert!(rt; volume.below().disks() == 2 && numbers.len() == 2);
-    assert!(rt; numbers[0] <= 512 && 2048 + numbers[0] * 128 <= volume.below().sectors(0));
-    assert!(rt; numbers[1] <= 512 && 2048 + numbers[1] * 128 <= volume.below().sectors(1));
-    assert!(rt; volume.fits(numbers));
-    assert_eq!(rt; volume.extend(numbers), Ok(()));
+    let [first, second, third] = numbers;
+    assert!(rt; volume.below().disks() == 3);
+    assert!(rt; first <= 512 && 2048 + first * 128 <= volume.below().sectors(0));
+    assert!(rt; second <= 512 && 2048 + second * 128 <= volume.below().sectors(1));
+    assert!(rt; third <= 512 && 2048 + third * 128 <= volume.below().sectors(2));
+    let numbers = [first, second, third];
+    assert!(rt; volume.fits(&numbers));
+    assert_eq!(rt; volume.extend(&numbers), Ok(()));
+}
+
+// The extents of the volume that three arrays keep.
+fn extents_in(rt: &impl Abort, alloc: Global, bay: MemBay) -> u64 {
+    assert!(rt; bay.disks() == 3);
+    let opened = Volume::open(alloc, bay, &Id([7; 16]), 128, 3)
+        .ok()
+        .expect(rt, "a volume");
+    opened.extents()
 }
 
 #[test]
 fn an_extended_group_is_opened(rt: HostRuntime) -> Result<(), Fail> {
-    let mut volume = two_runs(&rt, rt.alloc())?;
-    extend_to(&rt, &mut volume, &[30, 10]);
-    extend_to(&rt, &mut volume, &[36, 10]);
-    assert_eq!(rt; volume.extents(), 46);
+    let mut volume = three_runs(&rt, rt.alloc())?;
+    for numbers in [
+        [22, 8, 5],
+        [22, 10, 5],
+        [22, 10, 7],
+        [30, 10, 7],
+        [36, 10, 10],
+    ] {
+        extend_to(&rt, &mut volume, numbers);
+    }
+    assert_eq!(rt; volume.extents(), 56);
+    assert_eq!(rt; extents_in(&rt, rt.alloc(), volume.into_inner()), 56);
+    Ok(())
+}
+
+#[test]
+fn a_stop_in_an_extension_leaves_the_old_volume_or_the_new_one(
+    rt: HostRuntime,
+) -> Result<(), Fail> {
+    let mut volume = three_runs(&rt, rt.alloc())?;
+    extend_to(&rt, &mut volume, [30, 8, 5]);
+    let start = volume.below().calls();
+    extend_to(&rt, &mut volume, [36, 10, 5]);
     let bay = volume.into_inner();
-    assert!(rt; bay.disks() == 2);
-    let opened = Volume::open(rt.alloc(), bay, &Id([7; 16]), 128, 2)
-        .ok()
-        .expect(&rt, "a volume");
-    assert_eq!(rt; opened.extents(), 46);
+    let mut last = 0;
+    for moment in start..bay.calls() + 1 {
+        for pick in [Pick::Oldest, Pick::Newest, Pick::Seeded { seed: moment }] {
+            assert!(rt; moment <= bay.calls());
+            let mut image = bay.image_at(rt.alloc(), moment, pick)?;
+            attach(&rt, &mut image);
+            last = extents_in(&rt, rt.alloc(), image);
+            assert!(rt; last == 43 || last == 51, "at {moment}");
+        }
+    }
+    assert_eq!(rt; last, 51);
     Ok(())
 }
 
@@ -163,15 +204,15 @@ fn answer(
     sector: u64,
     bytes: &[u8; 512],
 ) -> Result<Option<VolumeFault>, Fail> {
-    let mut volume = two_runs(rt, alloc)?;
-    extend_to(rt, &mut volume, &[30, 10]);
+    let mut volume = three_runs(rt, alloc)?;
+    extend_to(rt, &mut volume, [30, 10, 5]);
     let mut bay = volume.into_inner();
-    assert!(rt; bay.disks() == 2 && disk < 2);
+    assert!(rt; bay.disks() == 3 && disk < 3);
     assert!(rt; sector < bay.sectors(disk));
     assert_eq!(rt; bay.write(disk, sector, bytes), Ok(()));
-    match Volume::open(alloc, bay, &Id([7; 16]), 128, 2) {
+    match Volume::open(alloc, bay, &Id([7; 16]), 128, 3) {
         Ok(volume) => {
-            assert_eq!(rt; volume.extents(), 40);
+            assert_eq!(rt; volume.extents(), 45);
             Ok(None)
         }
         Err(back) => Ok(Some(back.why)),
@@ -180,8 +221,8 @@ fn answer(
 
 // The header of the first text that the group had.
 fn old_header(rt: &impl Abort, alloc: Global) -> Result<[u8; 512], Fail> {
-    let volume = two_runs(rt, alloc)?;
-    assert!(rt; volume.below().disks() == 2);
+    let volume = three_runs(rt, alloc)?;
+    assert!(rt; volume.below().disks() == 3);
     assert!(rt; volume.below().sectors(1) == 3328);
     Ok(volume.below().sector_now(1, 8))
 }
@@ -208,17 +249,12 @@ fn what_array_is_bad(rt: HostRuntime) -> Result<(), Fail> {
 #[test]
 fn no_more_segments_than_a_text_has(rt: HostRuntime) -> Result<(), Fail> {
     let mut volume = room_for_many(&rt, rt.alloc())?;
-    for extents in 2..513 {
-        extend_to(&rt, &mut volume, &[extents, extents - 1]);
-        extend_to(&rt, &mut volume, &[extents, extents]);
+    for extents in 2..342 {
+        extend_to(&rt, &mut volume, [extents, extents, extents]);
     }
+    extend_to(&rt, &mut volume, [342, 341, 341]);
     assert_eq!(rt; volume.extents(), 1024);
-    assert!(rt; volume.fits(&[512, 512]) && !volume.fits(&[513, 512]));
-    let bay = volume.into_inner();
-    assert!(rt; bay.disks() == 2);
-    let opened = Volume::open(rt.alloc(), bay, &Id([7; 16]), 128, 2)
-        .ok()
-        .expect(&rt, "a volume");
-    assert_eq!(rt; opened.extents(), 1024);
+    assert!(rt; volume.fits(&[342, 341, 341]) && !volume.fits(&[342, 342, 341]));
+    assert_eq!(rt; extents_in(&rt, rt.alloc(), volume.into_inner()), 1024);
     Ok(())
 }
