@@ -6,4 +6,4 @@ use Rattle.lvm_group.specs.Volume.{below_of, linear}
 use Rattle.engine_tests.proofs.volumes.no_more_segments_than_a_text_has.Given as goal
 
 abbrev pub invariant-loop-extents : goal.invariant-loop-extents
-invariant-loop-extents l = (volume_of (linear l.volume) (seen_of (memory (below_of l.volume)))).fit × ((linear l.volume).extent ≡ 128)
+invariant-loop-extents g l = (volume_of (linear l.volume) (seen_of (memory (below_of l.volume)))).fit × ((linear l.volume).extent ≡ 128)
