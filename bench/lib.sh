@@ -6,12 +6,24 @@ root=$(cd "$(dirname "$(readlink -f "${BASH_SOURCE[0]}")")/.." && pwd)
 room=$(mktemp -d)
 trap 'rm -rf "$room"' EXIT
 
-# Proves and builds `$room/ours`, the program on standard input, over one crate that stands on no other of ours.
+# The crates of ours that a crate stands on, itself among them.
+needs() {
+  local below
+  echo "$1"
+  for below in $(sed -n "s/^$1:\(.*\)/\1/p" "$root/crates.txt"); do
+    [ ! -d "$root/crates/$below" ] || needs "$below"
+  done
+}
+
+# Proves and builds `$room/ours`, the program on standard input, over these crates.
 build_ours() {
-  local crate=$1 program=$room/crates/ours
+  local crate program=$room/crates/ours
   mkdir -p "$program/src"
-  cp -r "$root/crates/$crate" "$room/crates/$crate"
-  { grep "^$crate:" "$root/crates.txt"; echo "ours: $crate"; } >"$room/crates.txt"
+  for crate in $(for crate in "$@"; do needs "$crate"; done | sort -u); do
+    cp -r "$root/crates/$crate" "$room/crates/$crate"
+    grep "^$crate:" "$root/crates.txt" >>"$room/crates.txt"
+  done
+  echo "ours: $*" >>"$room/crates.txt"
   cat >"$program/src/main.rt"
   (cd "$program" && rt run >"$room/log" 2>&1) || { cat "$room/log"; exit 1; }
   cp "$program/out/ours" "$room/ours"
