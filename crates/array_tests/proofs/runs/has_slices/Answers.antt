@@ -1,4 +1,4 @@
-use Rattle.std.proofs.Common.{◌≡◌, ◌<◌, ◌≤◌, ◌+◌, ◌*◌, ℕ, true, subst, sym, ap, unwrap_or, arith}
+use Rattle.std.proofs.Common.{◌<◌, ℕ, subst, sym, ap, unwrap_or, arith}
 use Rattle.array_model.specs.View.{View, IsArray, place_at}
 use Rattle.array_model.specs.Members.{slice_on}
 use Rattle.array_tests.proofs.runs.has_slices.Goals as goal
