@@ -26,24 +26,37 @@ fn write_script(rt: &impl Abort, run: &mut Run, values: &mut [u64], writes: u32)
     }
 }
 
-/// A script in an array that lacks the member of a place, if one is given. It goes over the first rows.
-fn script(
-    rt: &impl Abort,
-    alloc: Global,
-    geometry: Geometry,
-    missing: Option<u32>,
-) -> Result<(), Fail> {
-    let mut run = Run::new(rt, alloc, geometry, &[], 100_000)?;
-    if let Some(place) = missing {
-        run.lose(place);
-    }
-    let many = 256 * geometry.members() as usize;
-    let mut values = vec![in alloc; 0u64; many]?;
-    write_script(rt, &mut run, values.as_mut_slice(), 40);
+/// When the member of a place is lost.
+#[derive(Clone, Copy, Debug, PartialEq, Eq)]
+enum Loss {
+    Never,
+    Before(u32),
+    After(u32),
+}
+
+/// Asserts that the first sectors of an array hold these values.
+fn assert_holds(rt: &impl Abort, run: &mut Run, values: &[u64], loss: Loss) {
     for (sector, value) in values.iter().enumerate() {
         let wanted = sector_of(*value);
-        assert!(rt; run.read(rt, sector as u64) == Ok(wanted), "{sector}");
+        assert!(rt;
+            run.read(rt, sector as u64) == Ok(wanted),
+            "{sector}, {loss:?}"
+        );
     }
+}
+
+/// A script in the first rows of an array.
+fn script(rt: &impl Abort, alloc: Global, geometry: Geometry, loss: Loss) -> Result<(), Fail> {
+    let mut run = Run::new(rt, alloc, geometry, &[], 100_000)?;
+    let mut values = vec![in alloc; 0u64; 256 * geometry.members() as usize]?;
+    if let Loss::Before(place) = loss {
+        run.lose(place);
+    }
+    write_script(rt, &mut run, values.as_mut_slice(), 40);
+    if let Loss::After(place) = loss {
+        run.lose(place);
+    }
+    assert_holds(rt, &mut run, values.as_slice(), loss);
     Ok(())
 }
 
@@ -56,9 +69,10 @@ fn an_array_holds_what_was_written(rt: HostRuntime) -> Result<(), Fail> {
         Geometry::Sixteen,
     ];
     for geometry in geometries {
-        script(&rt, rt.alloc(), geometry, None)?;
+        script(&rt, rt.alloc(), geometry, Loss::Never)?;
         for place in 0..geometry.members() {
-            script(&rt, rt.alloc(), geometry, Some(place))?;
+            script(&rt, rt.alloc(), geometry, Loss::Before(place))?;
+            script(&rt, rt.alloc(), geometry, Loss::After(place))?;
         }
     }
     Ok(())
