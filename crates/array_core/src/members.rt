@@ -93,7 +93,7 @@ pub(crate) struct Stand {
 
 impl Array {
     /// What holds of each array.
-    pub(crate) fn rules(&self)
+    pub fn rules(&self)
         ensures { IsArray self.now }
     {
         let _number = self.number;

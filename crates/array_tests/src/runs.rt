@@ -1,0 +1,146 @@
+//! Calls of an array over a bay that has the slices of all places.
+
+ghost use Rattle.std.specs.Prelude.{◌≡◌, ◌<◌, true};
+ghost use Rattle.array_model.specs.Members.{HasSlices};
+ghost use Rattle.commit_log.specs.Phases.{AreLogs};
+
+use crate::geometries::{Geometry, NUMBER, SIZE};
+use array_core::{Array, Spent};
+use commit_log::Log;
+use rack::{Bay, Name, Places, Rack};
+use rack_mem::{DiskSpec, MemBay};
+use std::alloc::Global;
+use std::process::Abort;
+use std::test::Fail;
+
+/// Whether a bay has the log slice of each of these places.
+fn are_logs<R: Rack>(rack: &R, on: &[u32]) -> bool
+    requires fit { (R.seen rack.now).fit }
+    requires disks { (R.seen rack.now).disks ≡ 272 }
+    ensures { result ≡ true → AreLogs (R.seen rack.now).sectors on.now }
+{
+    for place in on {
+        if *place >= 16 {
+            return false;
+        }
+        if rack.sectors(17 * *place) != 8192 {
+            return false;
+        }
+    }
+    true
+}
+
+/// Whether each slice of a bay has room for a member of an array.
+fn has_slices<R: Bay>(rack: &R, array: &Array) -> bool
+    requires disks { (R.seen rack.now).disks ≡ 272 }
+    ensures { result ≡ true → HasSlices array.now (R.seen rack.now) }
+{
+    array.rules();
+    for slice in 0..272 {
+        if rack.sectors(slice) < 2048 + array.truth().size {
+            return false;
+        }
+    }
+    true
+}
+
+/// All slices of sixteen places as disks of a bay, which keeps so many calls. Those of these numbers fail.
+fn bay(rt: &impl Abort, alloc: Global, failing: &[u64], room: u64) -> Result<MemBay, Fail> {
+    let mut shelf = Vec::new(alloc);
+    for disk in 0..272u64 {
+        let name = Name::of(alloc, format!(in alloc; "{disk}")?.as_bytes())?;
+        let sectors = if disk % 17 == 0 { 8192 } else { 2048 + SIZE };
+        shelf.push(DiskSpec { name, sectors })?;
+    }
+    assert!(rt; shelf.len() == 272 && shelf.iter().all(|disk| disk.sectors < 1 << 48));
+    let mut bay = MemBay::new(alloc, shelf, failing.to_vec(alloc)?, room)?;
+    for disk in 0..272u64 {
+        assert!(rt; bay.attach(format!(in alloc; "{disk}")?.as_str()).is_ok());
+    }
+    Ok(bay)
+}
+
+/// The sector of a value: zeros of 0, else no byte is that of its neighbours.
+pub(crate) fn sector_of(value: u64) -> [u8; 512] {
+    let mut sector = [0; 512];
+    let bytes = value.to_le_bytes();
+    for at in 0..512 {
+        sector[at] = bytes[at % 8].wrapping_mul((at % 251) as u8);
+    }
+    sector
+}
+
+/// The first places, without one that is given.
+fn first_places(count: u32, without: Option<u32>) -> Places {
+    let mut places = Places::new();
+    for place in 0..count {
+        if without != Some(place) && !places.is_full() {
+            places.push(place);
+        }
+    }
+    places
+}
+
+/// An array over a bay, with its log.
+#[derive(Drop)]
+pub(crate) struct Run {
+    pub array: Array,
+    pub bay: MemBay,
+    log: Log,
+    on: Places,
+}
+
+impl Run {
+    /// A whole array over a new bay, where all members are places of the log.
+    pub(crate) fn new(
+        rt: &impl Abort,
+        alloc: Global,
+        geometry: Geometry,
+        failing: &[u64],
+        room: u64,
+    ) -> Result<Run, Fail> {
+        Ok(Run {
+            array: geometry.open(alloc)?,
+            bay: bay(rt, alloc, failing, room)?,
+            log: Log::make(alloc)?,
+            on: first_places(geometry.members(), None),
+        })
+    }
+
+    /// The member of a place is missing from then on, and its place is none of the log's.
+    pub(crate) fn lose(&mut self, place: u32) {
+        self.array.lose(place);
+        self.on = first_places(self.array.truth().raid_disks, Some(place));
+    }
+
+    /// Writes a value, once all that it needs has been tested.
+    pub(crate) fn write(&mut self, rt: &impl Abort, sector: u64, value: u64) -> Result<(), Spent> {
+        assert!(rt; self.bay.disks() == 272);
+        assert!(rt; has_slices(&self.bay, &self.array));
+        assert!(rt; are_logs(&self.bay, self.on.as_slice()));
+        assert!(rt; sector < self.array.sectors());
+        self.log.clear();
+        self.array.write(
+            &mut self.bay,
+            &mut self.log,
+            &self.on,
+            sector,
+            &sector_of(value),
+        )
+    }
+
+    /// Reads a sector.
+    pub(crate) fn read(&mut self, rt: &impl Abort, sector: u64) -> Result<[u8; 512], Spent> {
+        assert!(rt; self.bay.disks() == 272);
+        assert!(rt; has_slices(&self.bay, &self.array));
+        assert!(rt; sector < self.array.sectors());
+        let mut block = [0; 512];
+        self.array.read(&mut self.bay, sector, &mut block)?;
+        Ok(block)
+    }
+
+    /// The calls of the bay so far.
+    pub(crate) fn calls(&self) -> u64 {
+        self.bay.calls()
+    }
+}
