@@ -15,7 +15,7 @@ use Rattle.commit_log.specs.View.{names}
 use Rattle.commit_log.specs.Scans.{number_of}
 use Rattle.commit_log.proofs.Deciding.{IsTop, NoneAbove, foremost_among, top_first, gate_at, gate_at_is, all_or, all_at, names_first, names_later, names_either, pending_of_top, pending_is_decisive}
 use Rattle.commit_log.proofs.Counting.{is_listed}
-use Rattle.commit_log.proofs.Finding.{filter_in, filter_out, foremost_left, all_left, any_left, foremost_most}
+use Rattle.commit_log.proofs.LeftPlaces.{filter_in, filter_out, foremost_left, all_left, any_left, foremost_most}
 use Rattle.commit_log.proofs.Naming.{filter_more}
 
 -- ---- lists of places
