@@ -23,7 +23,7 @@ use Rattle.array_image.specs.Record.{gate_sector, gate_of, is_there, record_of, 
 use Rattle.commit_log.specs.View.{LogView, names, is_left, left_of}
 use Rattle.commit_log.proofs.Amid.{no_gate_in_nothing}
 use Rattle.commit_log.proofs.Counting.{few_drives, is_listed}
-use Rattle.commit_log.proofs.Finding.{filter_out}
+use Rattle.commit_log.proofs.LeftPlaces.{filter_out}
 use Rattle.commit_log.proofs.Fewer.{names_filter, filter_both, current_of_all, pending_left}
 use Rattle.commit_log.proofs.Replayable.{pending_named}
 use Rattle.commit_log.proofs.Restored.{pending_by}

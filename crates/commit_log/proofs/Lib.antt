@@ -31,7 +31,7 @@ pub mod Replaying
 pub mod ReplayCalls
 pub mod Scanning
 pub mod Finding
-mod LeftPlaces
+pub mod LeftPlaces
 pub mod Fewer
 pub mod Epochs
 pub mod Replayable
