@@ -12,7 +12,9 @@ ghost use Rattle.lvm_text.specs.Printed.{
 ghost use Rattle.std.specs.List.{AllByRecursion};
 ghost use Rattle.std.specs.Prelude.{◌≡◌, length};
 
-use lvm_text::{Group, Key, Lv, Lvs, Pv, Pvs, Segment, SegmentKind, Segments, Text, TextFault, parse, print};
+use lvm_text::{
+    Group, Key, Lv, Lvs, Pv, Pvs, Segment, SegmentKind, Segments, Text, TextFault, parse, print,
+};
 use rack::Name;
 use std::alloc::Global;
 use std::process::Abort;

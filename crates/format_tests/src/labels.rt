@@ -2,7 +2,9 @@
 
 ghost use Rattle.std.specs.Prelude.{◌≤◌, length};
 
-use lvm_label::{Area, Label, LabelFault, Location, decode_header, decode_label, encode_header, encode_label};
+use lvm_label::{
+    Area, Label, LabelFault, Location, decode_header, decode_label, encode_header, encode_label,
+};
 use std::process::Abort;
 
 /// How the second sector of a physical volume begins that lvm2 2.03.16 made; zeros follow, and

@@ -1,5 +1,5 @@
-use pool_state::{Drive, Plan, State, StateFault, decode_state, encode_state};
 use arrayvec::ArrayVec;
+use pool_state::{Drive, Plan, State, StateFault, decode_state, encode_state};
 use shr_base::fields::{put_bytes, put_u32};
 use shr_base::{Id, crc32};
 use std::test::Fail;

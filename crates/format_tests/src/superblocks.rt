@@ -1,5 +1,5 @@
-use md_super::{Field, Super, SuperFault, Unsupported, decode, encode, profile};
 use arrayvec::ArrayVec;
+use md_super::{Field, Super, SuperFault, Unsupported, decode, encode, profile};
 use shr_base::Id;
 use shr_base::fields::put_bytes;
 use std::test::Fail;
