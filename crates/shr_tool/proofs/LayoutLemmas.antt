@@ -1,17 +1,13 @@
 -- The words after `layout` that are read through a function, and units.
-use Rattle.std.proofs.Common.{◌≡◌, ℕ, suc, ◌+◌, ◌-◌, ◌<◌, ◌≤◌, ◌^◌, ◌/◌, ◌*◌, ◌==◌, Bool, true, false, nat_lt, if◌then◌else◌, List, [], ◌∷◌, ◌++◌, length, take, map, get_or, filter_map, sum_by, All, rules, Some, None, is_some, ap, sym, ◌∙◌, refl, arith}
-use Rattle.std.specs.List.{list_all, range_with_len, cons_option}
+use Rattle.std.proofs.Common.{◌≡◌, ℕ, suc, ◌+◌, ◌-◌, ◌<◌, ◌≤◌, ◌^◌, ◌/◌, ◌*◌, ◌==◌, Bool, true, false, nat_lt, if◌then◌else◌, List, ◌∷◌, ◌++◌, length, get_or, sum_by, ap, sym, ◌∙◌, refl, arith}
+use Rattle.std.specs.List.{range_with_len}
 use Rattle.std.proofs.lemmas.Bool.Decides.{nat_tests}
-use Rattle.std.proofs.lemmas.List.{length-map, map-append, take_more}
-use Rattle.std.proofs.lemmas.List.Folds.{list_all-map}
-use Rattle.std.proofs.lemmas.List.Elements.{filter_map-append, All-append}
 use Rattle.std.proofs.Math.Nat.{div-mul-le_self, mul-le-mul_left}
 use Rattle.layer_plan.specs.declared.Layer.{Layer}
 use Rattle.layer_plan.specs.Slicing.{height_on}
 use Rattle.layer_plan.specs.Layering.{array_of}
 use Rattle.layer_plan.proofs.Sums.{sum_by-map}
 use Rattle.shr_base.specs.Units.{units_of, reserved_sectors}
-use Rattle.shr_words.specs.LayoutWords.{size_of, asked}
 use Rattle.shr_tool.specs.LayoutText.{unused_on, unused_line, unused_lines}
 
 -- the places from one on

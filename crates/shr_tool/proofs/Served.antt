@@ -1,5 +1,5 @@
 -- A pool that was opened on attached disks was opened on those that waited.
-use Rattle.std.proofs.Common.{◌≡◌, ℕ, ◌+◌, ◌<◌, ◌≤◌, Bool, List, [], ◌∷◌, length, Option, refl, sym, ◌∙◌, ap, subst, inl, inr, arith}
+use Rattle.std.proofs.Common.{◌≡◌, ℕ, ◌+◌, ◌<◌, ◌≤◌, Bool, List, length, Option, refl, sym, ◌∙◌, ap, subst, inl, inr, arith}
 use Rattle.std.proofs.lemmas.Bool.{cases_lt}
 use Rattle.rack.specs.declared.AttachFault.{AttachFault}
 use Rattle.rack.specs.declared.AttachFault.TheVariants.{Failed, Twice, Memory as NoRoom}
@@ -13,9 +13,9 @@ use Rattle.pool.specs.declared.assembling.Assembled.{Assembled}
 use Rattle.pool.specs.declared.assembling.Refusal.{Refusal}
 use Rattle.pool.specs.declared.members.Members.{Members}
 use Rattle.pool.specs.DriveMap.{volume_first}
-use Rattle.pool.specs.Looks.{Look, now_in}
+use Rattle.pool.specs.Looks.{now_in}
 use Rattle.pool.specs.Assembling.{disk_of, IsAssembled, IsSeated}
-use Rattle.pool.specs.Reading.{AllTold, IsReadOr, IsReading}
+use Rattle.pool.specs.Reading.{AllTold, IsReadOr}
 use Rattle.pool.specs.Refusals.{IsRefused}
 use Rattle.pool.specs.View.{View, view}
 use Rattle.pool.proofs.Entering.{found_seated}

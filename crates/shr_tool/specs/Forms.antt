@@ -1,5 +1,5 @@
 -- What the program does of the forms of its words today.
-use Rattle.std.specs.Prelude.{ℕ, nat_le, Bool, true, false, not, Option, Some, None}
+use Rattle.std.specs.Prelude.{ℕ, nat_le, Bool, true, false, Option, Some, None}
 use Rattle.shr_words.specs.declared.forms.Form.{Form}
 use Rattle.shr_words.specs.declared.forms.Form.TheVariants.{Layout, Create, Serve, Import, Export, Status, Examine, Trial}
 

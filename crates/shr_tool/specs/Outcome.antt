@@ -1,5 +1,5 @@
 -- How a script on a pool came out, by the status that is answered.
-use Rattle.std.specs.Prelude.{◌≡◌, ◌⊎◌, ℕ, ◌+◌, ◌<◌, ◌≤◌, ◌^◌, List, [], ◌∷◌, ◌++◌, length, take, false, codes, decimal}
+use Rattle.std.specs.Prelude.{◌≡◌, ◌⊎◌, ℕ, ◌<◌, ◌≤◌, ◌^◌, List, [], ◌∷◌, ◌++◌, length, take, false, codes, decimal}
 use Rattle.rack.specs.Seen.{Image, Seen, Rose}
 use Rattle.io_ends.specs.Sink.{AddsPrefix}
 use Rattle.shr_script.specs.Line.{Line}

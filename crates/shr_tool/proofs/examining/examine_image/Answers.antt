@@ -1,5 +1,5 @@
 -- A name is refused, or the image is attached and examined.
-use Rattle.std.proofs.Common.{◌<◌, ℕ, sym, ◌∙◌, subst, string_bytes, refl, rules}
+use Rattle.std.proofs.Common.{◌<◌, ℕ, sym, subst, string_bytes, refl, rules}
 use Rattle.std.proofs.lemmas.List.{length-map}
 use Rattle.shr_tool.specs.Examining.{shown, cut, gone, no_memory, examined}
 use Rattle.shr_tool.proofs.Examined.{examined_by, memory_said, name_refused}

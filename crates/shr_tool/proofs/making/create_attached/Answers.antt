@@ -1,5 +1,5 @@
 -- The pool holds the bay's reference, and gives the bay back as it left it.
-use Rattle.std.proofs.Common.{◌≡◌, ◌∙◌, refl, sym, subst, inl, inr}
+use Rattle.std.proofs.Common.{◌≡◌, ◌∙◌, sym, subst, inl, inr}
 use Rattle.shr_tool.specs.Making.{MadeOn, NotMadeOn}
 use Rattle.layer_plan.specs.declared.PlanError.TheVariants.{TooFew}
 use Rattle.shr_tool.proofs.Made.{creates_of, refused_of, made_on, not_made_on}

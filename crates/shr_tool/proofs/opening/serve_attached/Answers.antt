@@ -1,5 +1,5 @@
 -- The pool holds the bay's reference, and gives the bay back as it left it.
-use Rattle.std.proofs.Common.{◌≡◌, ◌∙◌, refl, sym, subst, inl, inr}
+use Rattle.std.proofs.Common.{◌≡◌, ◌∙◌, sym, subst, inl, inr}
 use Rattle.shr_tool.specs.Opened.{OpenedOn, NotOpenedOn}
 use Rattle.shr_tool.proofs.Served.{opened_on, not_opened_on}
 use Rattle.shr_tool.proofs.opening.serve_attached.Goals as goal

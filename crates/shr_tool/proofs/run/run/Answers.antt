@@ -1,5 +1,5 @@
 -- What was read of the words is what the clauses say of them.
-use Rattle.std.proofs.Common.{◌≡◌, ◌∙◌, Some, inl, sym, ap, subst, map, drop, string_bytes}
+use Rattle.std.proofs.Common.{◌∙◌, Some, inl, sym, ap, subst, map, drop, string_bytes}
 use Rattle.shr_tool.specs.Run.{ServeOutcome, CreateOutcome}
 use Rattle.shr_tool.specs.Examining.{ExamineOutcome}
 use Rattle.shr_tool.proofs.FormLemmas.{create_same}
