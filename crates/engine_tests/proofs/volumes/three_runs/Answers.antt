@@ -1,4 +1,4 @@
-use Rattle.std.proofs.Common.{◌≡◌, ℕ, ◌≤◌, sym, ◌∙◌, arith, rules}
+use Rattle.std.proofs.Common.{◌≡◌, sym, ◌∙◌, arith, rules}
 use Rattle.rack_mem.specs.MemBay.{memory}
 use Rattle.rack_mem.specs.Memory.{seen_of}
 use Rattle.engine_tests.proofs.Holding.{hold_all}
