@@ -33,7 +33,7 @@ fn fail_others(rt: &impl Abort, run: &mut Run, gone: u32) {
 
 /// Two writes during which the call of a number fails, and reads of what they left. Then everybody goes.
 fn goes_at(rt: &impl Abort, alloc: Global, geometry: Geometry, call: u64) -> Result<(), Fail> {
-    let mut run = Run::new(rt, alloc, geometry, &[call], 3000)?;
+    let mut run = Run::new(rt, alloc, geometry, &[call], 9000)?;
     assert!(rt;
         run.write(rt, 5, 0x1234_5678_9abc_def1).is_ok(),
         "at {call}"
@@ -60,7 +60,14 @@ fn goes_at(rt: &impl Abort, alloc: Global, geometry: Geometry, call: u64) -> Res
 
 #[test]
 fn a_member_may_go_at_any_call(rt: HostRuntime) -> Result<(), Fail> {
-    for (geometry, calls) in [(Geometry::Mirror, 8), (Geometry::Three, 14)] {
+    // Each superblock is written and synced, and then are the calls of the two writes.
+    let rows = [
+        (Geometry::Mirror, 4 + 2 + 2),
+        (Geometry::Three, 6 + 4 + 4),
+        (Geometry::Five, 10 + 4 + 4),
+        (Geometry::Sixteen, 32 + 4 + 4),
+    ];
+    for (geometry, calls) in rows {
         for call in 0..calls {
             goes_at(&rt, rt.alloc(), geometry, call)?;
         }
