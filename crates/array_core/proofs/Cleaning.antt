@@ -3,7 +3,7 @@ use Rattle.std.proofs.Common.{◌≡◌, ◌⊎◌, ℕ, ◌+◌, ◌-◌, ◌*�
 use Rattle.std.proofs.lemmas.Bool.{both_ways}
 use Rattle.rack.specs.Values.{Values}
 use Rattle.rack.specs.Seen.{Image, Seen, IsLive, Stays}
-use Rattle.rack.specs.Joins.{stays_same, live_second}
+use Rattle.rack.specs.Joins.{keeps_then, stays_same, live_first, live_second}
 use Rattle.rack.specs.Sequences.{OnlyReads, IsMix}
 use Rattle.pool_state.specs.declared.contents.State.{State}
 use Rattle.array_image.specs.Places.{log_slice, member_slice, super_sector, data_sector}
@@ -15,19 +15,20 @@ use Rattle.array_image.specs.Even.{AreEven}
 use Rattle.array_image.specs.Held.{Among, IsSettled, current_in}
 use Rattle.array_image.specs.Left.{IsInside, PicksLogs}
 use Rattle.array_image.proofs.Settled.{among_take}
+use Rattle.array_image.proofs.Marked.{among_lowered}
 use Rattle.array_model.specs.declared.Seat.{Seat}
 use Rattle.array_model.specs.View.{View, IsArray, IsNoted, LosesPlaces, shape_of, has_gone, place_at, rows_of}
 use Rattle.array_model.specs.Says.{Says, Holds}
 use Rattle.array_model.specs.ArrayCalls.{Covers, Keeping, SyncsArray}
 use Rattle.array_model.specs.Members.{Notes}
 use Rattle.array_model.proofs.DataFrames.{columns_same}
-use Rattle.array_model.proofs.Keeping.{live_on, live_after}
+use Rattle.array_model.proofs.Keeping.{live_on, live_after, settled_kept}
 use Rattle.array_model.proofs.Moves.{Moves, moves_then, moves_by, acts_of}
-use Rattle.array_model.proofs.Noting.{losing_by, covers_before, holds_noted}
+use Rattle.array_model.proofs.Noting.{losing_by, covers_before, holds_noted, shape_noted}
 use Rattle.array_model.proofs.Views.{loses_then, fault_early, fault_later, either_of}
 use Rattle.array_model.proofs.RowWrites.{gone_none}
 use Rattle.array_core.specs.Superblocks.{settled, settled_truth, left_offset, is_settled, raised}
-use Rattle.array_core.specs.Settling.{Cleans, IsNewSuper, WritesSupers}
+use Rattle.array_core.specs.Settling.{Cleans, IsNewSuper, KeepsOthers, WritesSupers}
 use Rattle.array_core.specs.Pool.{MayRenew}
 use Rattle.array_core.proofs.Direct.{restated, renew_moves}
 use Rattle.array_core.proofs.Settled.{spent_same}
@@ -236,6 +237,41 @@ clean_acts v u w a b c lasting is_array now later reads notes syncs fresh unsett
     (Says s n (shape_of v) vals spent) (Says s n (shape_of v) vals spent) (λ h. h) (λ r p. p)
     (holds_noted (settled u) w b c c later writes.notes s (shape_of v) vals spent covers) both)
     (noted_restated v u w (raised u.truth.events) (left_offset u) false a b c reads.stays writes.only.stays notes writes.notes)
+
+-- ---- what is written
+
+pub clean_others : (u w : View) (a b c : Seen) (many : ℕ) → OnlyReads a b → WritesSupers (settled u) w b c many → KeepsOthers a c
+clean_others u w a b c many reads writes d t live other =
+    keeps_then (a.held d t) (b.held d t) (c.held d t)
+    (reads.keeps.held d t (live_first writes.only.stays live))
+    (writes.only.others d t (live_second reads.stays live) (λ x new. other new.sector))
+
+settled_shape : (u : View) → shape_of (settled u) ≡ shape_of u
+unfolding shape_of
+settled_shape u = refl
+
+-- whoever is left has one value in each sector
+pub clean_settled : (v u w : View) (a b c : Seen) (many : ℕ) → a.lasting → OnlyReads a b
+    → ((s : State) (durable : Shape) (vals : ℕ → Values) (spent : ℕ → Bool) → Covers u spent → SyncsArray s v u spent a b durable vals)
+    → WritesSupers (settled u) w b c many
+    → (s : State) (durable : Shape) (vals : ℕ → Values) (spent : ℕ → Bool) → Covers w spent → Holds s durable v vals spent a
+    → IsSettled (shape_of w) w.number c.held
+clean_settled v u w a b c many lasting reads syncs writes s durable vals spent covers holds =
+    let covers_su = covers_before (settled u) w writes.notes.lost (losing_by (settled u) w b c writes.notes) spent covers in
+    let sync = syncs s durable vals spent (λ y alive. sym (spent_same u y) ∙ covers_su y alive) in
+    let single = sync.settled holds in
+    let among : (m : Member) (sector : ℕ) → Among m (shape_of w).members → sector < m.reach → Among m (shape_of u).members =
+    λ m sector inside counts.
+    subst (λ (f : Shape). Among m f.members) (settled_shape u)
+    (among_lowered writes.notes.lost sector (shape_of (settled u)).members m
+    (subst (λ (f : Shape). Among m f.members) (shape_noted (settled u) w b c writes.notes) inside) counts) in
+    subst (λ k. IsSettled (shape_of w) k c.held) (sym writes.notes.same.number)
+    (settled_kept b.held c.held (shape_of w) u.number
+    (λ m sector inside counts.
+    writes.only.others (member_slice m.place u.number) (data_sector + sector)
+    (live_on (reads.stays.lasting lasting) writes.only.stays ((sync.acts.holds holds).shape.open_left m sector (among m sector inside counts) counts))
+    (λ x new. let at = new.sector in absurd (omega (arith, at))))
+    (λ m sector inside counts. single m sector (among m sector inside counts) counts))
 
 -- ---- the log
 

@@ -4,7 +4,7 @@ use Rattle.rack.specs.Seen.{Seen, IsLive}
 use Rattle.array_model.specs.View.{View, is_whole_array}
 use Rattle.array_model.specs.Members.{Notes, slice_on}
 use Rattle.array_core.specs.Superblocks.{settled, is_settled, IsSectorOf, member_super, raised}
-use Rattle.rack.specs.Values.{MayLeave}
+use Rattle.rack.specs.Values.{MayLeave, Keeps}
 use Rattle.rack.specs.Sequences.{OnlyReads, WritesOnly}
 use Rattle.array_image.specs.Places.{super_sector}
 use Rattle.array_model.specs.declared.Seat.TheVariants.{Missing}
@@ -48,9 +48,10 @@ pub record WritesSupers (v w : View) (a b : Seen) (many : ℕ) : Type 0 where
       (n : ℕ) → n < many → slice_get w.seats n ≢ Some Missing → IsLive a b (slice_on v n) super_sector
       → (x : List ℕ) → MayLeave (b.held (slice_on v n) super_sector) x → IsOwnSector v n x
 
--- nothing else was to be done
-pub record IsSynced (synced w : View) : Type 0 where
+-- nothing else was to be done, and nothing is written
+pub record IsSynced (synced w : View) (a b : Seen) : Type 0 where
   pub same : w ≡ synced
+  pub reads : OnlyReads a b
   pub why : (synced.went ≢ []) ⊎ (is_settled synced ≡ true)
 
 -- superblocks were written
@@ -68,7 +69,11 @@ pub record IsCleaned (synced w : View) (a b : Seen) : Type 0 where
 pub record Cleans (v w : View) (a b : Seen) : Type 0 where
   pub synced : View
   pub notes : Notes v synced a b
-  pub either : IsSynced synced w ⊎ IsCleaned synced w a b
+  pub either : IsSynced synced w a b ⊎ IsCleaned synced w a b
+
+-- calls that write superblocks and nothing else
+abbrev pub KeepsOthers : Seen → Seen → Type 0
+KeepsOthers a b = (d t : ℕ) → IsLive a b d t → t ≢ super_sector → Keeps (a.held d t) (b.held d t)
 
 -- the array with a truth that leaves all rows to resync, of one more event
 abbrev pub unsynced : View → View

@@ -5,12 +5,14 @@ ghost use Rattle.rack.specs.Values.{Values};
 ghost use Rattle.rack.specs.Sequences.{OnlyReads};
 ghost use Rattle.pool_state.specs.declared.contents.State.{State};
 ghost use Rattle.array_image.specs.Arrays.{Shape};
+ghost use Rattle.array_image.specs.Held.{IsSettled};
 ghost use Rattle.commit_log.specs.Kept.{LogKept};
 ghost use Rattle.array_model.specs.View.{IsNoted, shape_of};
 ghost use Rattle.array_model.specs.ArrayCalls.{Covers, Keeping, SyncsArray};
 ghost use Rattle.array_model.specs.Members.{HasSlices};
+ghost use Rattle.array_model.specs.Says.{Holds};
 ghost use Rattle.commit_log.specs.View.{most_sectors};
-ghost use Rattle.array_core.specs.Settling.{Cleans, IsOwnSector, Settles, WritesSuper, WritesSupers};
+ghost use Rattle.array_core.specs.Settling.{Cleans, IsOwnSector, KeepsOthers, Settles, WritesSuper, WritesSupers};
 ghost use Rattle.array_core.specs.Pool.{Goes, MayRenew};
 ghost use Rattle.array_core.specs.Staging.{AddsSupersOf};
 ghost use Rattle.array_core.specs.Writing.{KeepsElsewhere};
@@ -52,6 +54,11 @@ impl Array {
         ensures noted { IsNoted self.old self.new (R.seen rack.old) (R.seen rack.new) }
         ensures goes { Goes (R.seen rack.old) (R.seen rack.new) }
         ensures elsewhere { (on : List ℕ) → KeepsElsewhere false self.old on (R.seen rack.old) (R.seen rack.new) }
+
+        // No other sectors than those of superblocks are written, and whoever is left has one value in each sector.
+        ensures others { KeepsOthers (R.seen rack.old) (R.seen rack.new) }
+        ensures settled { (s : State) (durable : Shape) (vals : ℕ → Values) (spent : ℕ → Bool) → Covers self.new spent
+            → Holds s durable self.old vals spent (R.seen rack.old) → IsSettled (shape_of self.new) self.new.number (R.seen rack.new).held }
         ensures kept { (s : State) (number : ℕ) → LogKept s number (λ place. false) (R.seen rack.old) → LogKept s number (λ place. false) (R.seen rack.new) }
         ensures runs { R.runs rack.old rack.new }
     {

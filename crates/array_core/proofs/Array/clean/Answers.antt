@@ -3,7 +3,7 @@ use Rattle.array_image.specs.SoundArray.{first_unsynced}
 use Rattle.array_model.specs.View.{View, IsArray}
 use Rattle.array_core.specs.Settling.{WritesSupers}
 use Rattle.array_core.proofs.LogFrames.{kept_logs}
-use Rattle.array_core.proofs.Cleaning.{clean_acts, clean_logs, cleans_view}
+use Rattle.array_core.proofs.Cleaning.{clean_acts, clean_logs, clean_others, clean_settled, cleans_view}
 use Rattle.array_core.proofs.Elsewhere.{clean_elsewhere, reads_elsewhere}
 use Rattle.array_core.proofs.Array.clean.Goals as goal
 
@@ -52,4 +52,25 @@ returns-clause-elsewhere g c = λ on.
     let d = g.R.Rack.seen c.renew_supers.new.rack in
     clean_elsewhere c.args.self.now c.sync.new.self c.renew_supers.new.self on (g.R.Rack.seen c.args.rack.now) b d c.settle_truth.new.self.truth.raid_disks c.rules.ensures.few
     c.sync.ensures.reads c.sync.ensures.notes
+    (subst (λ (w : View). WritesSupers w c.renew_supers.new.self b d c.settle_truth.new.self.truth.raid_disks) c.settle_truth.ensures c.renew_supers.ensures.writes)
+
+pub returns-then-has_lost-clause-others : goal.returns-then-has_lost-clause-others
+returns-then-has_lost-clause-others g c = λ d t live other. c.sync.ensures.reads.keeps.held d t live
+
+pub returns-clause-others : goal.returns-clause-others
+returns-clause-others g c =
+    let b = g.R.Rack.seen c.sync.new.rack in
+    let d = g.R.Rack.seen c.renew_supers.new.rack in
+    clean_others c.sync.new.self c.renew_supers.new.self (g.R.Rack.seen c.args.rack.now) b d c.settle_truth.new.self.truth.raid_disks c.sync.ensures.reads
+    (subst (λ (w : View). WritesSupers w c.renew_supers.new.self b d c.settle_truth.new.self.truth.raid_disks) c.settle_truth.ensures c.renew_supers.ensures.writes)
+
+pub returns-then-has_lost-clause-settled : goal.returns-then-has_lost-clause-settled
+returns-then-has_lost-clause-settled g c = λ s durable vals spent covers holds. (c.sync.ensures.syncs s durable vals spent covers).settled holds
+
+pub returns-clause-settled : goal.returns-clause-settled
+returns-clause-settled g c =
+    let b = g.R.Rack.seen c.sync.new.rack in
+    let d = g.R.Rack.seen c.renew_supers.new.rack in
+    clean_settled c.args.self.now c.sync.new.self c.renew_supers.new.self (g.R.Rack.seen c.args.rack.now) b d c.settle_truth.new.self.truth.raid_disks c.requires.slices.lasting
+    c.sync.ensures.reads c.sync.ensures.syncs
     (subst (λ (w : View). WritesSupers w c.renew_supers.new.self b d c.settle_truth.new.self.truth.raid_disks) c.settle_truth.ensures c.renew_supers.ensures.writes)
