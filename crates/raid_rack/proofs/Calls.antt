@@ -8,8 +8,6 @@ use Rattle.rack.specs.Joins.{leaves_weaker}
 use Rattle.rack.specs.Sequences.{OnlyReads}
 use Rattle.pool_state.specs.declared.contents.State.{State}
 use Rattle.array_image.specs.Arrays.{Shape}
-use Rattle.array_image.specs.Held.{Among}
-use Rattle.array_image.proofs.Marked.{among_lowered}
 use Rattle.array_image.specs.Supers.{is_unclean}
 use Rattle.array_model.specs.View.{View, IsArray, rows_of, shape_of}
 use Rattle.array_model.specs.ArrayCalls.{Covers, Keeping}
@@ -19,7 +17,7 @@ use Rattle.array_core.specs.Settling.{Settles}
 use Rattle.raid_rack.specs.Book.{after_same}
 use Rattle.raid_rack.specs.Raid.{Raid, gone_in, is_over}
 use Rattle.raid_rack.specs.Moves.{IsOfPool, IsSet, PartOf, Moves}
-use Rattle.raid_rack.proofs.Changed.{ViewsOne, MayRestate, further, marked_before, more_gone, same_shape, left_before, caused, part_if, views_notes, views_sectors, views_set, views_spent}
+use Rattle.raid_rack.proofs.Changed.{ViewsOne, MayRestate, further, marked_before, more_gone, same_shape, left_before, caused, part_if, views_counted, views_notes, views_sectors, views_set, views_spent}
 use Rattle.raid_rack.proofs.Over.{someone_left, over_still}
 use Rattle.raid_rack.proofs.Reading.{part_read, part_unread}
 use Rattle.raid_rack.proofs.Seated.{view_with}
@@ -69,14 +67,7 @@ module _ (v : Raid) (f : ℕ → View) (m : ℕ) (a b : Seen) (set : IsSet v a) 
         cause = caused v f m a b set views;
         still = λ n low goes. over_still v (with_arrays v f) (further v f m a b set views v.number (omega arith)) n low goes;
         spent = λ n y low alive. views_spent v f m a b set views n y alive;
-        counted = λ n k sector low among counts.
-            elim (cases_eq n m) [
-              | inl same ↦
-                  subst (λ j. Among k (shape_of (v.arrays j)).members) (sym same)
-                  (among_lowered views.lost sector (shape_of (v.arrays m)).members k
-                  (subst (λ (shape : Shape). Among k shape.members) (ap (λ j. shape_of (f j)) same ∙ views.lowered_is) among) counts)
-              | inr apart ↦ subst (λ (u : View). Among k (shape_of u).members) (views.others n apart) among
-            ];
+        counted = λ n k sector low among counts. views_counted v f m a b set views n k sector among counts;
         kept = λ d t live apart other. call.reads.keeps.held d t live;
         parts = λ n vals spent joined low goes covers. read_part n vals spent low goes covers;
       }
@@ -155,6 +146,24 @@ may_settle s z is_array pool =
           (λ unclean. ltb-true z.truth.resync_offset z.truth.size unclean);
     }
 
+-- places that went, where the array is settled as well
+pub settled_notes : (u z : View) (a b : Seen) → Notes u z a b → Notes (settled u) (settled z) a b
+settled_notes u z a b notes =
+    let same = view_with u z notes.same in
+    record {
+      same = record {
+        number = notes.same.number;
+        truth = ap settled_truth same;
+        devices = notes.same.devices;
+        resync = notes.same.resync;
+        young = notes.same.young;
+        marked = refl;
+      };
+      lost = notes.lost;
+      loses = record { seats = notes.loses.seats; went = notes.loses.went };
+      cause = notes.cause;
+    }
+
 pub reads_settled : (v : Raid) (f : ℕ → View) (m : ℕ) (a b : Seen) → IsSet v a → m < v.state.made → OnlyReads a b
     → ((n : ℕ) → (n ≡ m → ⊥) → f n ≡ v.arrays n) → Settles (v.arrays m) (f m) a b
     → ((s : State) (durable : Shape) (vals : ℕ → Values) (spent : ℕ → Bool) → Covers (f m) spent → Keeping s (v.arrays m) (f m) spent a b durable vals)
@@ -170,20 +179,3 @@ reads_settled v f m a b set low reads others settles keeps =
       reads = reads;
       keeps = keeps;
     }
-  where
-    settled_notes : (u z : View) (a b : Seen) → Notes u z a b → Notes (settled u) (settled z) a b
-    settled_notes u z a b notes =
-        let same = view_with u z notes.same in
-        record {
-          same = record {
-            number = notes.same.number;
-            truth = ap settled_truth same;
-            devices = notes.same.devices;
-            resync = notes.same.resync;
-            young = notes.same.young;
-            marked = refl;
-          };
-          lost = notes.lost;
-          loses = record { seats = notes.loses.seats; went = notes.loses.went };
-          cause = notes.cause;
-        }

@@ -12,7 +12,9 @@ use Rattle.pool_state.specs.declared.contents.State.{State}
 use Rattle.array_image.specs.Places.{log_slice, data_sector}
 use Rattle.array_image.specs.States.{is_current}
 use Rattle.array_image.specs.Arrays.{Member, Shape, first_layout}
+use Rattle.array_image.specs.Held.{Among}
 use Rattle.array_image.specs.Marks.{lower, lowered}
+use Rattle.array_image.proofs.Marked.{among_lowered}
 use Rattle.array_image.specs.Supers.{is_reshaping}
 use Rattle.array_model.specs.declared.Seat.{Seat}
 use Rattle.array_model.specs.declared.Seat.TheVariants.{Whole, Missing, Rebuilding}
@@ -261,6 +263,17 @@ module _ (v : Raid) (f : ℕ → View) (m : ℕ) (a b : Seen) (set : IsSet v a) 
         (λ apart. subst (λ (u : View). IsSeated v.state n u b) (sym (call.others n apart)) (seated_still v.state n (v.arrays n) a b call.stays (set.arrays n low)));
     marked = views_whole;
   }
+
+  -- a member counts where it counted
+  pub views_counted : (n : ℕ) (k : Member) (sector : ℕ) → Among k (shape_of (f n)).members → sector < k.reach → Among k (shape_of (v.arrays n)).members
+  views_counted n k sector among counts =
+      elim (cases_eq n m) [
+        | inl same ↦
+            subst (λ j. Among k (shape_of (v.arrays j)).members) (sym same)
+            (among_lowered call.lost sector (shape_of (v.arrays m)).members k
+            (subst (λ (shape : Shape). Among k shape.members) (ap (λ j. shape_of (f j)) same ∙ call.lowered_is) among) counts)
+        | inr apart ↦ subst (λ (u : View). Among k (shape_of u).members) (call.others n apart) among
+      ]
 
   pub views_sectors : (n : ℕ) → sectors_of (f n) ≡ sectors_of (v.arrays n)
   views_sectors n = by_number (λ k. sectors_of (f k) ≡ sectors_of (v.arrays k)) m n call.sectors (λ apart. ap sectors_of (call.others n apart))

@@ -27,6 +27,8 @@ pub mod Told
 pub mod Sourced
 pub mod Whole
 pub mod Written
+pub mod Cleaned
+pub mod Cleanings
 pub mod Sent
 pub mod Ended
 pub mod Serving

@@ -12,6 +12,7 @@ use Rattle.raid_rack.specs.declared.arrays.Arrays.{Arrays}
 use Rattle.raid_rack.specs.Raid.{Raid, gone_in, is_left}
 use Rattle.raid_rack.specs.Losses.{newly_gone}
 use Rattle.raid_rack.specs.Moves.{AreMarked, Moves, Mends}
+use Rattle.raid_rack.specs.Cleaning.{IsIdle}
 use Rattle.raid_rack.specs.RaidRack.{IsRunning, raid_by, no_array}
 use Rattle.raid_rack.proofs.Moving.{moves_then}
 use Rattle.raid_rack.proofs.Noted.{with_arrays, current_few, moves_heeded}
@@ -79,17 +80,21 @@ pub turns_first : (v : Raid) → HasTurns v 0
 unfolding HasTurns count_left
 turns_first v = inr (let few = few_of_range (is_left v) 0 16 in omega (arith, few))
 
+-- a place that newly went isn't marked
+pub newly_unmarked : (a : Arrays) (lost : List ℕ) (x : Seen) → IsRunning a x → lost ≡ newly_gone a.state a.all.items → 0 < length lost → AreMarked (raid_by a) → ⊥
+newly_unmarked a lost x running lost_are some are =
+    let first = first_named lost some in
+    let both = and_parts (is_current a.state first.0) (gone_in (raid_by a) first.0)
+    (sym (ap (λ ps. names ps first.0) lost_are ∙ newly_named a first.0 running.count running.set.few) ∙ first.1) in
+    both_ways (gone_in (raid_by a) first.0) (are first.0 both.0) both.1
+
 pub turns_next : (a e : Arrays) (lost : List ℕ) (i : ℕ) (x z : Seen) → IsRunning a x → lost ≡ newly_gone a.state a.all.items → 0 < length lost
     → Moves (raid_by a) (raid_by e) x z
     → AreMarked (raid_by e) ⊎ ((p : ℕ) × (is_left (raid_by a) p ≡ true) × (is_left (raid_by e) p ≡ false))
     → HasTurns (raid_by a) i → HasTurns (raid_by e) (i + 1)
 unfolding HasTurns count_left
 turns_next a e lost i x z running lost_are some moves (inl are) before = inl are
-turns_next a e lost i x z running lost_are some moves (inr one) (inl are) =
-    let first = first_named lost some in
-    let both = and_parts (is_current a.state first.0) (gone_in (raid_by a) first.0)
-    (sym (ap (λ ps. names ps first.0) lost_are ∙ newly_named a first.0 running.count running.set.few) ∙ first.1) in
-    absurd (both_ways (gone_in (raid_by a) first.0) (are first.0 both.0) both.1)
+turns_next a e lost i x z running lost_are some moves (inr one) (inl are) = absurd (newly_unmarked a lost x running lost_are some are)
 turns_next a e lost i x z running lost_are some moves (inr one) (inr room) =
     let current = (and_parts (is_current a.state one.0) (not (gone_in (raid_by a) one.0)) one.1).0 in
     let less = fewer_yet (is_left (raid_by a)) (is_left (raid_by e)) 0 16 one.0 moves.left (omega arith) (let few = current_few a.state one.0 running.set.few current in omega (arith, few)) one.1 one.2 in
@@ -123,6 +128,17 @@ heeds a b all x y moves running are each count =
       },
       record { count = count ∙ running.count; set = step.set },
     )
+
+-- where whoever went is marked, that is all
+pub idle_by : (a b : Arrays) (all : ArrayVec View) (y : Seen) → IsRunning b y → ((n : ℕ) → slice_get all.items n ≡ option_map heeded (slice_get b.all.items n))
+    → b ≡ a → IsIdle (raid_by a) (raid_by (record b { all = all }))
+idle_by a b all y running each same =
+    record {
+      state = ap (λ (c : Arrays). c.state) same;
+      arrays = λ n low.
+          each_get heeded b.all.items all.items n each (let count = running.count in let made = ap (λ (c : Arrays). c.state.made) same in omega (arith, low, count, made))
+          ∙ ap (λ (c : Arrays). heeded (get_or c.all.items n no_array)) same;
+    }
 
 -- ---- tests of lengths
 

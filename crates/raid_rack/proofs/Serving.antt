@@ -146,6 +146,19 @@ lose_stays a b place x y fit after inside current mends =
       keeps = keeps_raid v w x y acts;
     }
 
+-- ---- a call that moves no value
+
+pub moves_keep : {r : ℕ → ℕ} (a b : Arrays) (x y : Seen) → IsFit a x → IsFit b y → StopsInside y → Moves (raid_by a) (raid_by b) x y
+    → KeepsRack (raid_of (IsFit a x) r (raid_by a) x) (raid_of (IsFit b y) r (raid_by b) y)
+moves_keep a b x y fit after inside moves =
+    let v = raid_by a in
+    let w = raid_by b in
+    let acts = raid_acts v w x y (held_in v x) (keeps_call a b x y fit after moves inside) in
+    record {
+      stays = stays_raid v w x y (held_in v x) after (λ m. omega arith) acts;
+      keeps = keeps_raid v w x y acts;
+    }
+
 -- ---- what calls do to the book and to images
 
 pub runs_call : (a b : Arrays) (x y : Seen) (now : ℕ → (ℕ → Values) → ℕ → Values) → IsFit a x → IsFit b y → StopsInside y

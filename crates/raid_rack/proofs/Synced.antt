@@ -16,8 +16,8 @@ use Rattle.array_model.specs.Members.{HasSlices, Notes}
 use Rattle.array_model.specs.ArrayCalls.{Covers, ReadsArray, SyncsArray}
 use Rattle.array_model.proofs.Keeping.{settled_kept}
 use Rattle.raid_rack.specs.declared.arrays.Arrays.{Arrays}
-use Rattle.raid_rack.specs.Raid.{is_over}
-use Rattle.raid_rack.specs.Moves.{IsAmid, Moves, Mends, ReadsValue, SyncsOne}
+use Rattle.raid_rack.specs.Raid.{Raid, is_over}
+use Rattle.raid_rack.specs.Moves.{IsAmid, IsSet, Moves, Mends, ReadsValue, SyncsOne}
 use Rattle.raid_rack.specs.RaidRack.{IsRunning, raid_by, no_array}
 use Rattle.raid_rack.proofs.Moving.{moves_then}
 use Rattle.raid_rack.proofs.Calls.{reads_notes, moves_read}
@@ -59,6 +59,19 @@ has_synced a all x y n old u running low old_is all_is syncs reads notes =
           ((synced a.state amid.durable vals spent covers).settled amid.stood.holds);
     }
 
+-- the members of an array that are left have one value in each sector after parts that move none
+pub settled_moved : (v w : Raid) (y z : Seen) (n : ℕ) (vals : ℕ → Values) (spent : ℕ → Bool) → IsSet v y → Moves v w y z → n < v.state.made
+    → IsAmid v y n vals spent → IsSettled (shape_of (v.arrays n)) n y.held → IsSettled (shape_of (w.arrays n)) n z.held
+settled_moved v w y z n vals spent set moves made mid single =
+    let is_open : IsOpen (shape_of (v.arrays n)) n y = subst (λ k. IsOpen (shape_of (v.arrays n)) k y) mid.stood.number mid.stood.holds.shape.open_left in
+    settled_kept y.held z.held (shape_of (w.arrays n)) n
+    (λ m sector among counts.
+    moves.kept (member_slice m.place n) (data_sector + sector)
+    (live_on set.lasting moves.stays (is_open m sector (moves.counted n m sector made among counts) counts))
+    (λ none. absurd (let few = (set.arrays n made).is_array.few in let number = (set.arrays n made).number in omega (arith, none, few, number)))
+    (λ head. absurd (omega (arith, head))))
+    (λ m sector among counts. single m sector (moves.counted n m sector made among counts) counts)
+
 pub syncs_one : (a b c : Arrays) (x y z : Seen) (n : ℕ) → n < a.state.made → HasSynced a b x y n → b.state ≡ a.state → Mends (raid_by b) (raid_by c) y z
     → SyncsOne (raid_by a) (raid_by c) x z n
 syncs_one a b c x y z n low synced same mends =
@@ -69,16 +82,9 @@ syncs_one a b c x y z n low synced same mends =
       settled = λ vals spent joined goes covers amid.
           let still = mends.moves.still n made goes in
           let covered : Covers ((raid_by b).arrays n) spent = λ s alive. mends.moves.spent n s made (covers s alive) in
-          let mid = (synced.moves.parts n vals spent joined low still covered).holds amid in
-          let single = synced.settled vals spent joined still covered amid in
-          let is_open : IsOpen (shape_of ((raid_by b).arrays n)) n y = subst (λ k. IsOpen (shape_of ((raid_by b).arrays n)) k y) mid.stood.number mid.stood.holds.shape.open_left in
-          settled_kept y.held z.held (shape_of ((raid_by c).arrays n)) n
-          (λ m sector among counts.
-          mends.moves.kept (member_slice m.place n) (data_sector + sector)
-          (live_on synced.running.set.lasting mends.moves.stays (is_open m sector (mends.moves.counted n m sector made among counts) counts))
-          (λ none. absurd (let few = (synced.running.set.arrays n made).is_array.few in let number = (synced.running.set.arrays n made).number in omega (arith, none, few, number)))
-          (λ head. absurd (omega (arith, head))))
-          (λ m sector among counts. single m sector (mends.moves.counted n m sector made among counts) counts);
+          settled_moved (raid_by b) (raid_by c) y z n vals spent synced.running.set mends.moves made
+          ((synced.moves.parts n vals spent joined low still covered).holds amid)
+          (synced.settled vals spent joined still covered amid);
     }
 
 -- ---- a read

@@ -1,5 +1,5 @@
--- A call that writes to one array, as a part of a call of all.
-use Rattle.std.proofs.Common.{◌≡◌, ◌≢◌, ℕ, ◌+◌, ◌<◌, ◌≤◌, Bool, true, false, ◌&&◌, if◌then◌else◌, List, slice_get, Option, Some, None, refl, sym, ap, subst, ◌∙◌, inl, inr, eq-eqb, ne_eqb, arith}
+-- A call that may write to one array, as a part of a call of all.
+use Rattle.std.proofs.Common.{◌≡◌, ◌≢◌, ℕ, ◌+◌, ◌<◌, ◌≤◌, Bool, true, false, ◌==◌, ◌&&◌, if◌then◌else◌, List, slice_get, Option, Some, None, refl, sym, ap, subst, ◌∙◌, inl, inr, eq-eqb, ne_eqb, arith}
 use Rattle.std.proofs.lemmas.Bool.{cases_eq}
 use Rattle.std.specs.Option.{option_map_or}
 use Rattle.rack.specs.Values.{Values}
@@ -15,9 +15,9 @@ use Rattle.array_model.specs.declared.Seat.TheVariants.{Whole, Missing, Rebuildi
 use Rattle.array_model.specs.View.{View, has_gone, member_on, place_at, seat_reach, shape_of, spent_in}
 use Rattle.array_model.specs.Says.{IsOpen, Says}
 use Rattle.array_model.specs.Stages.{IsStateOf}
-use Rattle.array_model.specs.ArrayCalls.{Covers, WritesArray, appended_at}
+use Rattle.array_model.specs.ArrayCalls.{Acts, Covers, WritesArray, appended_at}
 use Rattle.array_model.proofs.Firsts.{position_of}
-use Rattle.array_core.specs.Pool.{Goes, MayCommit}
+use Rattle.array_core.specs.Pool.{Goes, MayCommit, MayRenew}
 use Rattle.raid_rack.specs.Book.{after_same}
 use Rattle.raid_rack.specs.Raid.{Raid, AreLive, gone_in, is_over, held_in}
 use Rattle.raid_rack.specs.Moves.{Brings, IsAmid, IsHeeded, IsSet, PartOf, written_at}
@@ -78,7 +78,100 @@ state_of v x n set heeded low =
           (λ current. ap (λ ps. names ps p) (heeded n low));
     }
 
--- ---- a write of array m, where whoever went is marked
+-- what superblocks that are written directly need
+pub may_renew : (v : Raid) (a : Seen) (m n : ℕ) → IsSet v a → IsHeeded v → m < v.state.made → AreLive v.state.made a → is_over v n ≡ false
+    → MayRenew v.state (v.arrays m) a
+may_renew v a m n set heeded low live goes =
+    let seated = set.arrays m low in
+    record {
+      state = state_of v a m set heeded low;
+      fresh = heeded m low;
+      supers = λ place few there.
+          subst (λ j. IsLive a a (member_slice place j) super_sector) (sym seated.number)
+          (live m place super_sector low few (subst (λ j. super_sector < a.sectors (member_slice place j)) seated.number there));
+      rows = seated.is_of_pool.rows;
+      events = let room = event_room v n m goes low in omega (arith, room);
+    }
+
+-- ---- a call of array m that may write it, where whoever went is marked
+
+-- `now` are its values after the call, by those before, and `Able` is what it needs of the pool.
+pub record ActsOne (v : Raid) (f : ℕ → View) (number m : ℕ) (a b : Seen) (now : (ℕ → Values) → ℕ → Values) (Able : Type 0) : Type 0 where
+  pub heeded : IsHeeded v
+  pub views : ViewsOne v f m a b
+  pub goes : Goes a b
+  pub later : v.number ≤ number
+  pub able : (n : ℕ) (vals : ℕ → Values) (spent : ℕ → Bool) → n < v.state.made → is_over (called v f number) n ≡ false → IsAmid v a n vals spent → Able
+  pub acts :
+      (vals : ℕ → Values) (spent : ℕ → Bool) → Covers (f m) spent → Able
+      → Acts v.state (v.arrays m) (f m) spent a b (shape_of (v.arrays m)) vals (Says v.state (v.arrays m).number (shape_of (v.arrays m)) (now vals) spent)
+      (shape_of (v.arrays m)) (now vals)
+  pub kept : Able → LogKept v.state v.number (λ place. false) a → LogKept v.state number (gone_in (called v f number)) b
+
+module _ (v : Raid) (f : ℕ → View) (number m : ℕ) (a b : Seen) (now : (ℕ → Values) → ℕ → Values) (Able : Type 0) (set : IsSet v a)
+    (call : ActsOne v f number m a b now Able) where
+  log_after : Able → LogKept v.state v.number (gone_in v) a → LogKept v.state number (gone_in (called v f number)) b
+  log_after able log = call.kept able (subst (λ g. LogKept v.state v.number g a) (λ i p. heeded_gone v call.heeded p i) log)
+
+  -- whoever went is marked before it
+  marked : (p : ℕ) → is_current v.state p ≡ true → gone_in v p ≡ false
+  marked p current = heeded_gone v call.heeded p
+
+  small : (n : ℕ) → n < v.state.made → n < 16
+  small n low = let most = set.most in omega (arith, low, most)
+
+  pub own_part : (vals : ℕ → Values) (spent : ℕ → Bool) → is_over (called v f number) m ≡ false → Covers (f m) spent
+      → PartOf v (called v f number) a b m vals (now vals) spent
+  own_part vals spent goes covers =
+      part_if v f number a b m vals (now vals) spent call.goes.stays set.lasting call.goes.leaves
+      (λ are. (marked_before v f m a b set call.views are, same_shape v f m a b set call.views are m))
+      (λ amid.
+      let able = call.able m vals spent call.views.low goes amid in
+      let shape = shape_of (v.arrays m) in
+      subst (λ (s : Shape). Part v.state v.state s s vals (now vals) spent (gone_in v) (gone_in (called v f number)) v (called v f number) a b m)
+      (sym (amid.marked marked))
+      (part_own v.state shape vals (now vals) spent (gone_in v) (gone_in (called v f number)) v (called v f number) a b m
+      (call.acts vals spent covers able) (λ log. log_after able log) (someone_left (called v f number) m goes)))
+
+  pub other_part : (n : ℕ) (vals : ℕ → Values) (spent : ℕ → Bool) → (n ≡ m → ⊥) → n < v.state.made → is_over (called v f number) n ≡ false
+      → PartOf v (called v f number) a b n vals vals spent
+  other_part n vals spent apart below goes =
+      part_if v f number a b n vals vals spent call.goes.stays set.lasting call.goes.leaves
+      (λ are. (marked_before v f m a b set call.views are, same_shape v f m a b set call.views are n))
+      (λ amid.
+      let able = call.able n vals spent below goes amid in
+      let shape = shape_of (v.arrays m) in
+      let own = held_in v a m in
+      part_other v.state amid.durable shape vals own (now own) spent (spent_in (f m)) (gone_in v) (gone_in (called v f number)) v (called v f number) a b n m
+      (Says v.state (v.arrays m).number shape (now own) (spent_in (f m)))
+      (small m call.views.low) (small n below) apart (set.arrays m call.views.low).number (call.views.others n apart) set.lasting marked
+      (call.acts own (spent_in (f m)) (λ y alive. alive) able) (λ log. log_after able log) (someone_left (called v f number) n goes))
+
+  pub one_still : (n : ℕ) → n < v.state.made → is_over (called v f number) n ≡ false → is_over v n ≡ false
+  one_still n low goes = over_still v (called v f number) (further v f m a b set call.views number call.later) n low goes
+
+  pub one_brings : Brings v (called v f number) a b (λ n vals. if n == m then now vals else vals)
+  one_brings =
+      record {
+        stays = call.goes.stays;
+        set = views_set v f m a b set call.views number;
+        book = after_same v.state;
+        leaves = call.goes.leaves;
+        sectors = views_sectors v f m a b set call.views;
+        still = one_still;
+        spent = λ n y low alive. views_spent v f m a b set call.views n y alive;
+        parts = λ n vals spent joined low goes covers.
+            let Goal : Bool → Type 0 = λ t. PartOf v (called v f number) a b n vals (if t then now vals else vals) spent in
+            elim (cases_eq n m) [
+              | inl same ↦
+                  subst Goal (sym (eq-eqb n m same))
+                  (subst (λ k. PartOf v (called v f number) a b k vals (now vals) spent) (sym same)
+                  (own_part vals spent (subst (λ k. is_over (called v f number) k ≡ false) same goes) (subst (λ k. Covers (f k) spent) same covers)))
+              | inr apart ↦ subst Goal (sym (ne_eqb n m apart)) (other_part n vals spent apart low goes)
+            ];
+      }
+
+-- ---- a write
 
 pub record WriteCall (v : Raid) (f : ℕ → View) (number m : ℕ) (a b : Seen) (on : List ℕ) (sector : ℕ) (from : List ℕ) : Type 0 where
   pub heeded : IsHeeded v
@@ -92,93 +185,38 @@ pub record WriteCall (v : Raid) (f : ℕ → View) (number m : ℕ) (a b : Seen)
       → WritesArray v.state (v.arrays m) (f m) spent a b (shape_of (v.arrays m)) vals sector from
   pub kept : MayCommit v.state (v.arrays m) (f m) v.number on a → LogKept v.state number (has_gone (f m)) b
 
-module _ (v : Raid) (f : ℕ → View) (number m : ℕ) (a b : Seen) (on : List ℕ) (sector : ℕ) (from : List ℕ) (set : IsSet v a)
-    (call : WriteCall v f number m a b on sector from) where
-  may : (n : ℕ) (vals : ℕ → Values) (spent : ℕ → Bool) → n < v.state.made → is_over (called v f number) n ≡ false → IsAmid v a n vals spent
-      → MayCommit v.state (v.arrays m) (f m) v.number on a
-  may n vals spent below goes amid =
-      let low = call.views.low in
-      let seated = set.arrays m low in
-      let before = over_still v (called v f number) (further v f m a b set call.views number call.later) n below goes in
-      let some = someone_left (called v f number) n goes in
-      record {
-        renew = record {
-          state = state_of v a m set call.heeded low;
-          fresh = call.heeded m low;
-          supers = λ place few there.
-              subst (λ j. IsLive a a (member_slice place j) super_sector) (sym seated.number)
-              (amid.slices m place super_sector low few (subst (λ j. super_sector < a.sectors (member_slice place j)) seated.number there));
-          rows = seated.is_of_pool.rows;
-          events = let room = event_room v n m before low in omega (arith, room);
-        };
-        opened = opened v a m set amid.slices low;
-        steady = heeded_whole v m call.heeded (set.marked m low);
-        log = subst (λ g. LogKept v.state v.number g a) (λ i p. heeded_gone v call.heeded p i) amid.stood.log;
-        room = let room = (number_room v n before).0 in omega (arith, room);
-        places = λ p. ap (λ ps. names ps p) call.on_is ∙ names_current v.state p ∙ sym (and_true (is_current v.state p));
-        someone = (some.0, some.1, gone_not (called v f number) some.0 m (current_few v.state some.0 set.few some.1) low some.2);
-      }
-    where
-      and_true : (c : Bool) → (c && true) ≡ c
-      and_true true = refl
-      and_true false = refl
+pub write_brings : (v : Raid) (f : ℕ → View) (number m : ℕ) (a b : Seen) (on : List ℕ) (sector : ℕ) (from : List ℕ) → IsSet v a
+    → WriteCall v f number m a b on sector from → Brings v (called v f number) a b (written_at m sector from)
+write_brings v f number m a b on sector from set call =
+    one_brings v f number m a b (appended_at sector from) (MayCommit v.state (v.arrays m) (f m) v.number on a) set
+    (record {
+      heeded = call.heeded;
+      views = call.views;
+      goes = call.goes;
+      later = call.later;
+      able = λ n vals spent below goes amid. may n vals spent below goes amid;
+      acts = λ vals spent covers given. call.writes vals spent covers given;
+      kept = λ given log.
+          kept_more v.state number (has_gone (f m)) (gone_in (called v f number)) b
+          (λ p is. gone_from (called v f number) p m (call.few p is) call.views.low is) (call.kept given);
+    })
+  where
+    and_true : (c : Bool) → (c && true) ≡ c
+    and_true true = refl
+    and_true false = refl
 
-  log_after : MayCommit v.state (v.arrays m) (f m) v.number on a → LogKept v.state number (gone_in (called v f number)) b
-  log_after given =
-      kept_more v.state number (has_gone (f m)) (gone_in (called v f number)) b
-      (λ p is. gone_from (called v f number) p m (call.few p is) call.views.low is) (call.kept given)
-
-  -- whoever went is marked before it
-  marked : (p : ℕ) → is_current v.state p ≡ true → gone_in v p ≡ false
-  marked p current = heeded_gone v call.heeded p
-
-  small : (n : ℕ) → n < v.state.made → n < 16
-  small n low = let most = set.most in omega (arith, low, most)
-
-  own_part : (vals : ℕ → Values) (spent : ℕ → Bool) → is_over (called v f number) m ≡ false → Covers (f m) spent
-      → PartOf v (called v f number) a b m vals (appended_at sector from vals) spent
-  own_part vals spent goes covers =
-      part_if v f number a b m vals (appended_at sector from vals) spent call.goes.stays set.lasting call.goes.leaves
-      (λ are. (marked_before v f m a b set call.views are, same_shape v f m a b set call.views are m))
-      (λ amid.
-      let given = may m vals spent call.views.low goes amid in
-      let shape = shape_of (v.arrays m) in
-      subst (λ (s : Shape). Part v.state v.state s s vals (appended_at sector from vals) spent (gone_in v) (gone_in (called v f number)) v (called v f number) a b m)
-      (sym (amid.marked marked))
-      (part_own v.state shape vals (appended_at sector from vals) spent (gone_in v) (gone_in (called v f number)) v (called v f number) a b m
-      (call.writes vals spent covers given) (λ log. log_after given) (someone_left (called v f number) m goes)))
-
-  other_part : (n : ℕ) (vals : ℕ → Values) (spent : ℕ → Bool) → (n ≡ m → ⊥) → n < v.state.made → is_over (called v f number) n ≡ false
-      → PartOf v (called v f number) a b n vals vals spent
-  other_part n vals spent apart below goes =
-      part_if v f number a b n vals vals spent call.goes.stays set.lasting call.goes.leaves
-      (λ are. (marked_before v f m a b set call.views are, same_shape v f m a b set call.views are n))
-      (λ amid.
-      let given = may n vals spent below goes amid in
-      let shape = shape_of (v.arrays m) in
-      let own = held_in v a m in
-      part_other v.state amid.durable shape vals own (appended_at sector from own) spent (spent_in (f m)) (gone_in v) (gone_in (called v f number)) v (called v f number) a b n m
-      (Says v.state (v.arrays m).number shape (appended_at sector from own) (spent_in (f m)))
-      (small m call.views.low) (small n below) apart (set.arrays m call.views.low).number (call.views.others n apart) set.lasting marked
-      (call.writes own (spent_in (f m)) (λ y alive. alive) given) (λ log. log_after given) (someone_left (called v f number) n goes))
-
-  pub write_brings : Brings v (called v f number) a b (written_at m sector from)
-  write_brings =
-      record {
-        stays = call.goes.stays;
-        set = views_set v f m a b set call.views number;
-        book = after_same v.state;
-        leaves = call.goes.leaves;
-        sectors = views_sectors v f m a b set call.views;
-        still = λ n low goes. over_still v (called v f number) (further v f m a b set call.views number call.later) n low goes;
-        spent = λ n y low alive. views_spent v f m a b set call.views n y alive;
-        parts = λ n vals spent joined low goes covers.
-            let Goal : Bool → Type 0 = λ t. PartOf v (called v f number) a b n vals (if t then appended_at sector from vals else vals) spent in
-            elim (cases_eq n m) [
-              | inl same ↦
-                  subst Goal (sym (eq-eqb n m same))
-                  (subst (λ k. PartOf v (called v f number) a b k vals (appended_at sector from vals) spent) (sym same)
-                  (own_part vals spent (subst (λ k. is_over (called v f number) k ≡ false) same goes) (subst (λ k. Covers (f k) spent) same covers)))
-              | inr apart ↦ subst Goal (sym (ne_eqb n m apart)) (other_part n vals spent apart low goes)
-            ];
-      }
+    may : (n : ℕ) (vals : ℕ → Values) (spent : ℕ → Bool) → n < v.state.made → is_over (called v f number) n ≡ false → IsAmid v a n vals spent
+        → MayCommit v.state (v.arrays m) (f m) v.number on a
+    may n vals spent below goes amid =
+        let low = call.views.low in
+        let before = over_still v (called v f number) (further v f m a b set call.views number call.later) n below goes in
+        let some = someone_left (called v f number) n goes in
+        record {
+          renew = may_renew v a m n set call.heeded low amid.slices before;
+          opened = opened v a m set amid.slices low;
+          steady = heeded_whole v m call.heeded (set.marked m low);
+          log = subst (λ g. LogKept v.state v.number g a) (λ i p. heeded_gone v call.heeded p i) amid.stood.log;
+          room = let room = (number_room v n before).0 in omega (arith, room);
+          places = λ p. ap (λ ps. names ps p) call.on_is ∙ names_current v.state p ∙ sym (and_true (is_current v.state p));
+          someone = (some.0, some.1, gone_not (called v f number) some.0 m (current_few v.state some.0 set.few some.1) low some.2);
+        }

@@ -6,6 +6,7 @@ pub mod Marking
 pub mod Losses
 pub mod Moves
 pub mod Settling
+pub mod Cleaning
 pub mod RaidRack
 pub mod Laws
 pub mod Runs

@@ -42,6 +42,8 @@ impl<R: Rack> RaidRack<R> {
     ghost use Rattle.array_image.specs.States.{is_current};
     ghost use Rattle.raid_rack.specs.Losses.{has_other};
     ghost use Rattle.raid_rack.specs.Moves.{Mends, noted_at};
+    ghost use Rattle.raid_rack.specs.Cleaning.{CleansAll};
+    ghost use Rattle.raid_rack.specs.Runs.{RaidRuns};
     ghost use Rattle.raid_rack.specs.RaidRack.{SliceRuns, IsFit, KeepsRack, arrays_in, arrays_of, raid_seen, raid_in, refused_in, slices_in, slices_seen};
 
     /// The rack of these arrays, which are those below the state's `made`, by number, over these slices. Nothing is added to the
@@ -102,6 +104,19 @@ impl<R: Rack> RaidRack<R> {
         }
         self.arrays.lose_place(&mut self.slices, place);
         Ok(())
+    }
+
+    /// Ends a run: each array's members are synced, and its superblocks leave no rows to resync but those that were left when the
+    /// pool was opened, less those resynced since. A superblock that says so already isn't written. Drives that go meanwhile are
+    /// marked.
+    pub fn clean(&mut self)
+        requires fit { IsFit (arrays_in self.old) (slices_seen R.seen self.old) }
+        ensures cleans { CleansAll (raid_in self.old) (raid_in self.new) (slices_seen R.seen self.old) (slices_seen R.seen self.new) }
+        ensures keeps { KeepsRack (raid_seen R.seen self.old) (raid_seen R.seen self.new) }
+        ensures runs { SliceRuns R.seen R.runs (slices_in self.old) (slices_in self.new) }
+        ensures book { RaidRuns (raid_in self.old) (raid_in self.new) (slices_seen R.seen self.old) (slices_seen R.seen self.new) }
+    {
+        self.arrays.clean_all(&mut self.slices);
     }
 
     /// The rack of slices, lent. The arrays, their state and their log stay as they are.

@@ -1,10 +1,11 @@
 //! Losses that calls met are marked: all arrays are settled, and one commit writes the marks.
 
-ghost use Rattle.std.specs.Prelude.{◌≡◌, ◌<◌, true, [], ◌∷◌, length};
+ghost use Rattle.std.specs.Prelude.{◌≡◌, ◌<◌, ◌==◌, true, [], ◌∷◌, length};
 ghost use Rattle.array_image.specs.States.{is_current};
 ghost use Rattle.raid_rack.specs.Moves.{AreMarked, Mends, Moves, IsHeeded, ReadsValue, SyncsOne, WritesOne, noted_at};
 ghost use Rattle.array_model.specs.View.{sectors_of};
 ghost use Rattle.raid_rack.specs.Settling.{SettlesTo};
+ghost use Rattle.raid_rack.specs.Cleaning.{Cleans, CleansAll, IsIdle};
 ghost use Rattle.raid_rack.specs.RaidRack.{EndsTurn, IsRunning, raid_by};
 ghost use Rattle.raid_rack.specs.Losses as spec;
 
@@ -64,6 +65,7 @@ impl Arrays {
         requires running { IsRunning self.old (S.seen rack.old) }
         ensures moves { Moves (raid_by self.old) (raid_by self.new) (S.seen rack.old) (S.seen rack.new) }
         ensures marked { AreMarked (raid_by self.new) }
+        ensures idle { AreMarked (raid_by self.old) → (self.new ≡ self.old) × (rack.new ≡ rack.old) }
         ensures running { IsRunning self.new (S.seen rack.new) }
         ensures runs { S.runs rack.old rack.new }
     {
@@ -81,6 +83,7 @@ impl Arrays {
     pub(crate) fn mend<S: Rack>(&mut self, rack: &mut S)
         requires running { IsRunning self.old (S.seen rack.old) }
         ensures mends { Mends (raid_by self.old) (raid_by self.new) (S.seen rack.old) (S.seen rack.new) }
+        ensures idle { AreMarked (raid_by self.old) → IsIdle (raid_by self.old) (raid_by self.new) × (rack.new ≡ rack.old) }
         ensures running { IsRunning self.new (S.seen rack.new) }
         ensures runs { S.runs rack.old rack.new }
     {
@@ -141,6 +144,33 @@ impl Arrays {
         let _ = array.write(rack, &mut self.log, &on, sector, from);
         let _places = array.went();
         self.mend(rack);
+    }
+
+    /// Cleans an array. Whoever goes is marked, and whoever is left has one value in each sector. Where no drive refuses a call, its
+    /// superblocks leave no rows to resync but those that are left in it.
+    fn clean_array<S: Rack>(&mut self, rack: &mut S, number: usize)
+        requires running { IsRunning self.old (S.seen rack.old) }
+        requires heeded { IsHeeded (raid_by self.old) }
+        requires number { number < self.old.state.made }
+        ensures cleans { Cleans (λ n. n == number) (raid_by self.old) (raid_by self.new) (S.seen rack.old) (S.seen rack.new) }
+        ensures running { IsRunning self.new (S.seen rack.new) }
+        ensures runs { S.runs rack.old rack.new }
+    {
+        self.all[number].clean(rack);
+        self.mend(rack);
+    }
+
+    /// Cleans all arrays, one after the other.
+    pub(crate) fn clean_all<S: Rack>(&mut self, rack: &mut S)
+        requires running { IsRunning self.old (S.seen rack.old) }
+        requires heeded { IsHeeded (raid_by self.old) }
+        ensures cleans { CleansAll (raid_by self.old) (raid_by self.new) (S.seen rack.old) (S.seen rack.new) }
+        ensures running { IsRunning self.new (S.seen rack.new) }
+        ensures runs { S.runs rack.old rack.new }
+    {
+        for n in 0..self.all.len() {
+            self.clean_array(rack, n);
+        }
     }
 
     /// Loses the drive of a place, whose member is missing in each array from then on, and marks it.

@@ -1,9 +1,11 @@
-use Rattle.std.proofs.Common.{ap, sym, ◌∙◌}
+use Rattle.std.proofs.Common.{ap, refl, subst, sym, ◌∙◌}
+use Rattle.raid_rack.specs.declared.arrays.Arrays.{Arrays}
 use Rattle.raid_rack.specs.Losses.{newly_gone}
+use Rattle.raid_rack.specs.Moves.{AreMarked}
 use Rattle.raid_rack.specs.RaidRack.{raid_by}
 use Rattle.raid_rack.proofs.Moving.{moves_same, moves_then}
 use Rattle.raid_rack.proofs.Turned.{none_newly}
-use Rattle.raid_rack.proofs.Rounds.{turns_first, turns_next, turns_done, no_length, some_length}
+use Rattle.raid_rack.proofs.Rounds.{newly_unmarked, turns_first, turns_next, turns_done, no_length, some_length}
 use Rattle.raid_rack.proofs.arrays.Arrays.mark_all.Goals as goal
 
 pub loop-turn-init : goal.loop-turn-init
@@ -11,6 +13,7 @@ loop-turn-init g c = record {
   moves = moves_same (raid_by c.args.self.now) (g.S.Rack.seen c.args.rack.now) c.requires.running.set;
   running = c.requires.running;
   turns = turns_first (raid_by c.args.self.now);
+  idle = λ are. (refl, refl);
   runs = g.met.S.Rack.runs_same c.args.rack.now;
 }
 
@@ -51,6 +54,11 @@ loop-turn-preserved g c =
           (c.newly_gone-lost.ensures ∙ ap (newly_gone s.state) c.as_slice.ensures.value)
           (some_length c.newly_gone-lost.result.items (sym c.if-is_empty.ensures))
           c.mark.ensures.ends.moves c.mark.ensures.ends.progress inv.turns;
+      idle = λ are.
+          absurd (newly_unmarked s c.newly_gone-lost.result.items (g.S.Rack.seen c.loop-turn.rack) inv.running
+          (c.newly_gone-lost.ensures ∙ ap (newly_gone s.state) c.as_slice.ensures.value)
+          (some_length c.newly_gone-lost.result.items (sym c.if-is_empty.ensures))
+          (subst (λ (a : Arrays). AreMarked (raid_by a)) (sym (inv.idle are).0) are));
       runs = g.met.S.Rack.runs_then _ _ _ inv.runs c.mark.ensures.runs;
     }
 
@@ -62,6 +70,12 @@ returns-clause-marked g c = turns_done (raid_by c.loop-turn.self) c.loop-turn._t
 
 pub returns-clause-running : goal.returns-clause-running
 returns-clause-running g c = c.loop-turn.invariant.running
+
+pub returns-then-is_empty-clause-idle : goal.returns-then-is_empty-clause-idle
+returns-then-is_empty-clause-idle g c = c.loop-turn.invariant.idle
+
+pub returns-clause-idle : goal.returns-clause-idle
+returns-clause-idle g c = c.loop-turn.invariant.idle
 
 pub returns-clause-runs : goal.returns-clause-runs
 returns-clause-runs g c = c.loop-turn.invariant.runs

@@ -1,0 +1,53 @@
+use Rattle.std.proofs.Common.{◌≡◌, ◌==◌, ℕ, get_or, slice_set, subst, sym, arith}
+use Rattle.arrayvec.specs.ArrayVec.{with_items}
+use Rattle.array_model.specs.View.{View}
+use Rattle.raid_rack.specs.Cleaning.{Ends}
+use Rattle.raid_rack.specs.RaidRack.{no_array, raid_by}
+use Rattle.raid_rack.proofs.Steps.{same_element, items_set}
+use Rattle.raid_rack.proofs.Cleanings.{clean_call, clean_running, cleans_one}
+use Rattle.raid_rack.proofs.arrays.Arrays.clean_array.Goals as goal
+
+pub mend-requires : goal.mend-requires
+mend-requires g c =
+    let a = c.args.self.now in
+    let n = c.args.number in
+    let x = g.S.Rack.seen c.args.rack.now in
+    let y = g.S.Rack.seen c.clean.new.rack in
+    let count = c.requires.running.count in
+    let low = c.requires.number in
+    let items = items_set a.all c.deref_mut.result.now n c.clean.new.self c.deref_mut.ensures.value in
+    let all = with_items a.all (slice_set c.deref_mut.result.now n c.clean.new.self) in
+    let e = c.clean.ensures in
+    record {
+      running = clean_running a all x y n c.clean.new.self c.requires.running items
+          (clean_call a all x y n _ c.clean.new.self c.requires.running c.requires.heeded low
+          (same_element c.deref_mut.result.now a.all.items n _ no_array c.deref_mut.ensures.value (omega (arith, count, low)))
+          items
+          (record { cleans = e.cleans; view = e.view; goes = e.goes; elsewhere = e.elsewhere; supers = e.others; settled = e.settled; kept = e.kept }));
+    }
+
+pub returns-clause-cleans : goal.returns-clause-cleans
+returns-clause-cleans g c =
+    let a = c.args.self.now in
+    let n = c.args.number in
+    let x = g.S.Rack.seen c.args.rack.now in
+    let y = g.S.Rack.seen c.clean.new.rack in
+    let count = c.requires.running.count in
+    let low = c.requires.number in
+    let items = items_set a.all c.deref_mut.result.now n c.clean.new.self c.deref_mut.ensures.value in
+    let all = with_items a.all (slice_set c.deref_mut.result.now n c.clean.new.self) in
+    let e = c.clean.ensures in
+    cleans_one (raid_by a) (raid_by c.mend.new.self) (λ k. get_or all.items k no_array) n x y (g.S.Rack.seen c.mend.new.rack) c.requires.running.set
+    (clean_call a all x y n _ c.clean.new.self c.requires.running c.requires.heeded low
+    (same_element c.deref_mut.result.now a.all.items n _ no_array c.deref_mut.ensures.value (omega (arith, count, low)))
+    items
+    (record { cleans = e.cleans; view = e.view; goes = e.goes; elsewhere = e.elsewhere; supers = e.others; settled = e.settled; kept = e.kept }))
+    c.mend.ensures.mends
+    (λ are.
+    let idle = c.mend.ensures.idle are in (
+      idle.0,
+      λ ends. subst (λ r. Ends (λ k. k == n) (raid_by a) (raid_by c.mend.new.self) x (g.S.Rack.seen r)) (sym idle.1) ends,
+    ))
+
+pub returns-clause-runs : goal.returns-clause-runs
+returns-clause-runs g c = g.met.S.Rack.runs_then _ _ _ c.clean.ensures.runs c.mend.ensures.runs

@@ -1,0 +1,16 @@
+use Rattle.slice_rack.specs.SliceRack.{tables, below_of}
+use Rattle.raid_rack.specs.Laws.{stops_inside}
+use Rattle.raid_rack.proofs.Serving.{moves_keep, runs_moves}
+use Rattle.raid_rack.proofs.arrays.RaidRack.clean.Goals as goal
+
+pub returns-clause-keeps : goal.returns-clause-keeps
+returns-clause-keeps g c =
+    moves_keep c.args.self.now.arrays c.clean_all.new.self _ _ c.requires.fit
+    (record { running = c.clean_all.ensures.running; heeded = c.clean_all.ensures.cleans.heeded })
+    (stops_inside (tables c.clean_all.new.rack) (g.R.Rack.seen (below_of c.clean_all.new.rack))) c.clean_all.ensures.cleans.moves
+
+pub returns-clause-book : goal.returns-clause-book
+returns-clause-book g c =
+    runs_moves c.args.self.now.arrays c.clean_all.new.self _ _ c.requires.fit
+    (record { running = c.clean_all.ensures.running; heeded = c.clean_all.ensures.cleans.heeded })
+    (stops_inside (tables c.clean_all.new.rack) (g.R.Rack.seen (below_of c.clean_all.new.rack))) c.clean_all.ensures.cleans.moves
