@@ -68,6 +68,7 @@ module _ (v : Raid) (f : ℕ → View) (m : ℕ) (a b : Seen) (set : IsSet v a) 
         still = λ n low goes. over_still v (with_arrays v f) (further v f m a b set views v.number (omega arith)) n low goes;
         spent = λ n y low alive. views_spent v f m a b set views n y alive;
         counted = λ n k sector low among counts. views_counted v f m a b set views n k sector among counts;
+        unwritten = λ d t live gone. call.reads.keeps.held d t live;
         kept = λ d t live apart other. call.reads.keeps.held d t live;
         parts = λ n vals spent joined low goes covers. read_part n vals spent low goes covers;
       }

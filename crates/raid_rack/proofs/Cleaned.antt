@@ -32,7 +32,7 @@ use Rattle.raid_rack.proofs.Changed.{ViewsOne, called, caused, further, left_bef
 use Rattle.raid_rack.proofs.Over.{over_still}
 use Rattle.raid_rack.proofs.Seated.{view_with, with_seats}
 use Rattle.raid_rack.proofs.Whole.{heeded_gone}
-use Rattle.raid_rack.proofs.Written.{ActsOne, may_renew, one_still, other_part, own_part}
+use Rattle.raid_rack.proofs.Written.{ActsOne, may_renew, one_still, one_unwritten, other_part, own_part}
 
 -- ---- what it makes of the array
 
@@ -153,6 +153,7 @@ module _ (v : Raid) (f : ℕ → View) (m : ℕ) (a b : Seen) (set : IsSet v a) 
     acts = λ vals spent covers able. call.cleans vals spent covers able;
     kept = λ able log.
         kept_more v.state v.number (λ place. false) (gone_in (called v f v.number)) b (λ p is. absurd (both_ways false refl is)) (call.kept log);
+    elsewhere = ([], λ p gone. refl, call.elsewhere);
   }
 
   pub moves_clean : Moves v (called v f v.number) a b
@@ -169,6 +170,7 @@ module _ (v : Raid) (f : ℕ → View) (m : ℕ) (a b : Seen) (set : IsSet v a) 
         still = one_still v f v.number m a b (λ vals. vals) (MayRenew v.state (v.arrays m) a) set acts;
         spent = λ n y low alive. views_spent v f m a b set views n y alive;
         counted = λ n k sector low among counts. views_counted v f m a b set views n k sector among counts;
+        unwritten = one_unwritten v f v.number m a b (λ vals. vals) (MayRenew v.state (v.arrays m) a) set acts;
         kept = λ d t live apart other. call.supers d t live other;
         parts = λ n vals spent joined low goes covers.
             elim (cases_eq n m) [

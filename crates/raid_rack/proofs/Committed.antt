@@ -1,14 +1,15 @@
 -- The commit that marks losses, as a part of a call: what holds of the arrays by the marked state.
-use Rattle.std.proofs.Common.{◌≡◌, ℕ, ◌+◌, ◌-◌, ◌^◌, ◌<◌, ◌≤◌, Bool, true, false, ◌==◌, ◌&&◌, ◌||◌, not, nat_lt, nat_le, if◌then◌else◌, List, [], ◌∷◌, map, Some, refl, sym, ap, subst, ◌∙◌, inl, inr, eqb-true, lt-ltb, le-ltb, ltb-true, arith}
-use Rattle.std.proofs.lemmas.Bool.{cases_Bool, cases_lt, both_ways, and_parts, and_from, le-leb, leb-true}
+use Rattle.std.proofs.Common.{◌≡◌, ℕ, zero, suc, ◌+◌, ◌-◌, ◌^◌, ◌<◌, ◌≤◌, Bool, true, false, ◌==◌, ◌&&◌, ◌||◌, not, nat_lt, nat_le, if◌then◌else◌, List, [], ◌∷◌, map, Some, None, refl, sym, ap, subst, ◌∙◌, inl, inr, eqb-true, lt-ltb, le-ltb, ltb-true, arith}
+use Rattle.std.proofs.lemmas.Bool.{cases_Bool, cases_eq, cases_lt, both_ways, and_parts, and_from, le-leb, leb-true}
 use Rattle.std.specs.List.{list_all}
-use Rattle.rack.specs.Seen.{Seen}
+use Rattle.rack.specs.Values.{Keeps}
+use Rattle.rack.specs.Seen.{Seen, IsLive}
 use Rattle.rack.specs.Joins.{stays_same}
-use Rattle.rack.specs.Targets.{Target}
+use Rattle.rack.specs.Targets.{Target, look}
 use Rattle.pool_state.specs.Valid.{is_valid, is_drive, is_extent, has_places, has_arrays, has_epoch, place_of as planned_place}
 use Rattle.pool_state.specs.declared.contents.Drive.{Drive}
 use Rattle.pool_state.specs.declared.contents.State.{State}
-use Rattle.array_image.specs.Places.{log_slice, place_of}
+use Rattle.array_image.specs.Places.{log_slice, place_of, slice_of}
 use Rattle.array_image.specs.States.{is_current}
 use Rattle.array_image.specs.Supers.{has_roles}
 use Rattle.commit_log.specs.View.{LogView, names, next_number}
@@ -27,7 +28,7 @@ use Rattle.raid_rack.proofs.Over.{IsFurther, not_true}
 use Rattle.raid_rack.proofs.Seated.{gone_losing, gone_fewer, gone_seated, names_joined}
 use Rattle.raid_rack.proofs.Noted.{current_few, gone_some, gone_from, gone_not, bool_same}
 use Rattle.raid_rack.proofs.Changed.{seated_still}
-use Rattle.raid_rack.proofs.Elements.{any_among}
+use Rattle.raid_rack.proofs.Elements.{any_among, look_lacks}
 use Rattle.raid_rack.proofs.Adding.{which, current_is, on_current, was_current, there_current, super_place}
 
 -- ---- the marked state
@@ -150,6 +151,43 @@ module _ (v : Raid) (lost on gone : List ℕ) (l : LogView) (xs : List Target) (
                   subst (λ q. is_current (state_after v lost) q ≡ true) same (sym (on_current v lost on l xs b commit.marking copy.place) ∙ copy.named)
             ]
       ]
+
+  -- a drive that is marked already isn't written
+  pub commit_unwritten : (d t : ℕ) → IsLive b c d t → is_current v.state (place_of d) ≡ false → Keeps (b.held d t) (c.held d t)
+  commit_unwritten d t live marked =
+      elim (cases_eq (slice_of d) 0) [ inl log ↦ of_log t refl log | inr apart ↦ commit.call.apart d t live (λ part. apart part.0) none ]
+    where
+      gone_now : (p : ℕ) → place_of d ≡ p → is_current (state_after v lost) p ≡ true → ⊥
+      gone_now p here is =
+          both_ways (is_current v.state p) (subst (λ q. is_current v.state q ≡ false) here marked) (was_current v lost on l xs b commit.marking p is)
+
+      none : look l.added d t ≡ None
+      none =
+          look_lacks l.added d t
+          (λ x among disk sector.
+          elim (which v lost on l xs b commit.marking x among) [
+            | inl super ↦
+                gone_now (place_of x.disk) (sym (ap place_of disk))
+                (subst (λ q. is_current (state_after v lost) q ≡ true) (sym (super_place v lost on l xs b commit.marking x super))
+                (there_current v lost on l xs b commit.marking x super))
+            | inr copy ↦
+                let at = copy.copy.disk in
+                gone_now copy.place (omega (arith, at, disk)) (sym (on_current v lost on l xs b commit.marking copy.place) ∙ copy.named)
+          ])
+
+      unnamed : names on (place_of d) ≡ false
+      unnamed =
+          elim (cases_Bool (names on (place_of d))) [
+            | inl is ↦ absurd (gone_now (place_of d) refl (sym (on_current v lost on l xs b commit.marking (place_of d)) ∙ is))
+            | inr not ↦ not
+          ]
+
+      of_log : (i : ℕ) → t ≡ i → slice_of d ≡ 0 → Keeps (b.held d t) (c.held d t)
+      of_log zero first log = commit.call.apart d t live (λ part. let later = part.1 in absurd (omega (arith, first, later))) none
+      of_log (suc i) later log =
+          let own : log_slice (place_of d) ≡ d = omega (arith, log) in
+          subst (λ e. Keeps (b.held e t) (c.held e t)) own
+          (commit.call.around (place_of d) t (subst (λ e. IsLive b c e t) (sym own) live) (omega (arith, later)) (inl unnamed))
 
   pub gone_few : (p : ℕ) → names gone p ≡ true → p < 16
   gone_few p is = current_few v.state p set_before.few (was_current v lost on l xs b commit.marking p (gone_current p is))

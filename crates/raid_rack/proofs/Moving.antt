@@ -6,12 +6,14 @@ use Rattle.rack.specs.Seen.{Image, Seen, Stays}
 use Rattle.rack.specs.Joins.{stays_same, stays_then, leaves_same, leaves_then, leaves_weaker, keeps_same, keeps_then, live_first, live_second, rose_later, rose_early}
 use Rattle.pool_state.specs.declared.contents.State.{State}
 use Rattle.array_image.specs.Arrays.{replayed}
+use Rattle.array_image.specs.Places.{place_of}
+use Rattle.array_image.specs.States.{is_current}
 use Rattle.array_image.specs.Left.{IsInside}
 use Rattle.array_model.specs.View.{HasFault}
-use Rattle.raid_rack.specs.Book.{after_same, after_then}
+use Rattle.raid_rack.specs.Book.{IsAfter, after_same, after_then}
 use Rattle.raid_rack.specs.Raid.{Raid, is_left}
 use Rattle.raid_rack.specs.Marking.{SaysBetween}
-use Rattle.raid_rack.specs.Moves.{IsSet, IsAmid, PartOf, AreCaused, Brings, Moves}
+use Rattle.raid_rack.specs.Moves.{IsSet, IsAmid, KeepsMarked, PartOf, AreCaused, Brings, Moves}
 
 -- ---- one array
 
@@ -63,6 +65,19 @@ says_later s t u n vals spent r after at =
 
 -- ---- all of them
 
+-- a mark stays
+pub marked_later : (s t : State) (p : ℕ) → IsAfter s t → is_current s p ≡ false → is_current t p ≡ false
+marked_later s t p after gone =
+    elim (cases_Bool (is_current t p)) [
+      | inl is ↦ absurd (both_ways (is_current s p) gone (after.current p is))
+      | inr not ↦ not
+    ]
+
+unwritten_then : (v w : Raid) (a b c : Seen) → IsAfter v.state w.state → Stays a b → Stays b c → KeepsMarked v a b → KeepsMarked w b c → KeepsMarked v a c
+unwritten_then v w a b c book first second one two d t live gone =
+    keeps_then (a.held d t) (b.held d t) (c.held d t) (one d t (live_first second live) gone)
+    (two d t (live_second first live) (marked_later v.state w.state (place_of d) book gone))
+
 pub moves_same : (v : Raid) (x : Seen) → IsSet v x → Moves v v x x
 moves_same v x set =
     record {
@@ -77,6 +92,7 @@ moves_same v x set =
       still = λ n made over. over;
       spent = λ n y made alive. alive;
       counted = λ n m sector made among counts. among;
+      unwritten = λ d t live gone. keeps_same (x.held d t);
       kept = λ d t live apart other. keeps_same (x.held d t);
       parts = λ n vals spent joined made goes covers. part_still v v x n vals spent (λ amid. amid);
     }
@@ -96,6 +112,7 @@ moves_then v w z a b c one two =
       spent = λ n y made alive. one.spent n y made (two.spent n y (still_made n made) alive);
       counted = λ n m sector made among counts.
           one.counted n m sector made (two.counted n m sector (still_made n made) among counts) counts;
+      unwritten = unwritten_then v w a b c one.book one.stays two.stays one.unwritten two.unwritten;
       kept = λ d t live apart other.
           keeps_then (a.held d t) (b.held d t) (c.held d t) (one.kept d t (live_first two.stays live) apart other) (two.kept d t (live_second one.stays live) apart other);
       parts = λ n vals spent joined made goes covers.
@@ -131,6 +148,7 @@ moves_bring v w a b moves =
       book = moves.book;
       leaves = moves.leaves;
       sectors = moves.sectors;
+      unwritten = moves.unwritten;
       still = moves.still;
       spent = moves.spent;
       parts = moves.parts;
@@ -145,6 +163,7 @@ brings_then v w z a b c now one two =
       book = after_then v.state w.state z.state one.book two.book;
       leaves = λ traced. leaves_then (λ i. Unit {0}) (one.leaves traced) (two.leaves (one.stays.traced traced));
       sectors = λ n. two.sectors n ∙ one.sectors n;
+      unwritten = unwritten_then v w a b c one.book one.stays two.stays one.unwritten two.unwritten;
       still = λ n made over. one.still n made (two.still n (still_made n made) over);
       spent = λ n y made alive. one.spent n y made (two.spent n y (still_made n made) alive);
       parts = λ n vals spent joined made goes covers.

@@ -244,6 +244,7 @@ moves_noted lost v f x set noting went sectors =
       counted = λ n m sector low among counts.
           among_lowered (names lost) sector (shape_of (v.arrays n)).members m
           (subst (λ (shape : Shape). Among m shape.members) (noted_losing lost v f n noting low (set.arrays n low).is_array).shape among) counts;
+      unwritten = λ d t live gone. keeps_same (x.held d t);
       kept = λ d t live apart other. keeps_same (x.held d t);
       parts = λ n vals spent joined low goes covers. part_still v (with_arrays v f) x n vals spent (noted_amid lost v f x n vals spent set noting low goes covers);
     }
@@ -258,6 +259,7 @@ noted_brings lost v f x set noting sectors =
       book = after_same v.state;
       leaves = λ traced. leaves_same x (λ c. Unit {0});
       sectors = sectors;
+      unwritten = λ d t live gone. keeps_same (x.held d t);
       still = λ n low goes. over_still v (with_arrays v f) (record {
         left = noted_before lost v f noting;
         number = omega arith;
@@ -388,6 +390,7 @@ moves_heeded v f x set arrays sectors are =
       spent = λ n y low alive. sym (ap (λ (u : View). spent_in u y) (arrays n low) ∙ heeded_spent (v.arrays n) y) ∙ alive;
       counted = λ n m sector low among counts.
           subst (λ (shape : Shape). Among m shape.members) (ap shape_of (arrays n low) ∙ heeded_shape (v.arrays n)) among;
+      unwritten = λ d t live gone. keeps_same (x.held d t);
       kept = λ d t live apart other. keeps_same (x.held d t);
       parts = λ n vals spent joined low goes covers. part_still v (with_arrays v f) x n vals spent (heeded_amid v f x n vals spent set arrays are low);
     }

@@ -13,7 +13,7 @@ use Rattle.array_model.specs.View.{View, has_gone, shape_of}
 use Rattle.array_model.specs.ArrayCalls.{Covers, WritesArray}
 use Rattle.array_core.specs.Pool.{Goes, MayCommit}
 use Rattle.array_core.specs.Superblocks.{raised}
-use Rattle.array_core.specs.Writing.{WritesView, as_it_was, newly_marked}
+use Rattle.array_core.specs.Writing.{KeepsElsewhere, WritesView, as_it_was, newly_marked}
 use Rattle.raid_rack.specs.declared.arrays.Arrays.{Arrays}
 use Rattle.raid_rack.specs.Raid.{Raid}
 use Rattle.raid_rack.specs.Moves.{AreCaused, Brings, IsHeeded, IsSet, Mends, WritesOne, written_at}
@@ -65,6 +65,7 @@ pub record WroteArray (old u : View) (number late : ℕ) (on : List ℕ) (x y : 
       → WritesArray s old u spent x y (shape_of old) vals sector from
   pub kept : (s : State) → MayCommit s old u number on x → LogKept s late (has_gone u) y
   pub view : WritesView old u x y
+  pub elsewhere : KeepsElsewhere false old on x y
 
 pub record HasWritten (a b : Arrays) (x y : Seen) (n sector : ℕ) (from : List ℕ) : Type 0 where
   pub brings : Brings (raid_by a) (raid_by b) x y (written_at n sector from)
@@ -95,6 +96,7 @@ has_written a all log x y n sector from on number old u running heeded low old_i
       few = λ p is. low_named u.went p few (sym (ap (λ (z : View). has_gone z p) own) ∙ is);
       writes = λ vals spent covers may. at.writes a.state vals spent covers may;
       kept = λ may. at.kept a.state may;
+      elsewhere = at.elsewhere;
     } in
     let brings = write_brings v f log.number n x y on sector from running.set call in
     record {

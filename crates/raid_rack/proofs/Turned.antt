@@ -172,6 +172,7 @@ moves_emptied v lost x set lost_is noted nobody unmarked =
       still = λ n low goes. absurd (over n goes);
       spent = λ n y low alive. alive;
       counted = λ n m sector low among counts. among;
+      unwritten = λ d t live gone. keeps_same (x.held d t);
       kept = λ d t live apart other. keeps_same (x.held d t);
       parts = λ n vals spent joined low goes covers. absurd (over n goes);
     }

@@ -6,6 +6,7 @@ use Rattle.rack.specs.Seen.{Seen, Stays}
 use Rattle.rack.specs.Moments.{Leaves}
 use Rattle.rack.specs.Joins.{stays_then, leaves_then, leaves_weaker, keeps_then, live_first, live_second, rose_later, rose_early}
 use Rattle.rack.specs.Targets.{Target}
+use Rattle.array_image.specs.Places.{place_of}
 use Rattle.array_image.specs.States.{is_current}
 use Rattle.array_image.specs.Arrays.{Shape, replayed}
 use Rattle.array_image.specs.Left.{IsInside}
@@ -21,11 +22,11 @@ use Rattle.raid_rack.specs.Marking.{SaysBetween}
 use Rattle.raid_rack.specs.Moves.{AreMarked, IsAmid, PartOf, Moves}
 use Rattle.raid_rack.specs.Settling.{SettlesTo, state_after}
 use Rattle.raid_rack.proofs.Over.{over_still, not_true}
-use Rattle.raid_rack.proofs.Moving.{says_sooner, says_later}
+use Rattle.raid_rack.proofs.Moving.{marked_later, says_sooner, says_later}
 use Rattle.raid_rack.proofs.Noted.{gone_some, losing_spent}
 use Rattle.raid_rack.proofs.Elements.{look_lacks}
 use Rattle.raid_rack.proofs.Adding.{which, current_is}
-use Rattle.raid_rack.proofs.Committed.{IsCommit, raid_after, after_gone, after_new, gone_current, after_set, after_left, after_cause, after_further, after_marked, commit_losing, next_later}
+use Rattle.raid_rack.proofs.Committed.{IsCommit, commit_unwritten, raid_after, after_gone, after_new, gone_current, after_set, after_left, after_cause, after_further, after_marked, commit_losing, next_later}
 use Rattle.raid_rack.proofs.Carried.{commit_part}
 
 -- a second part that depends on what stood before the first
@@ -92,6 +93,9 @@ moves_commit u v lost on gone l xs f a b c settles commit =
           (among_lowered (names gone) sector (shape_of (v.arrays n)).members m
           (subst (λ (shape : Shape). Among m shape.members) (commit_losing v lost on gone l xs f b c commit n (made_still n made)).shape among) counts)
           counts;
+      unwritten = λ d t live marked.
+          keeps_then (a.held d t) (b.held d t) (c.held d t) (one.unwritten d t (live_first call.stays live) marked)
+          (commit_unwritten v lost on gone l xs f b c commit d t (live_second one.stays live) (marked_later u.state v.state (place_of d) one.book marked));
       kept = λ d t live apart other.
           keeps_then (a.held d t) (b.held d t) (c.held d t) (one.kept d t (live_first call.stays live) apart other)
           (call.apart d t (live_second one.stays live) (λ part. apart part.0)

@@ -1,10 +1,11 @@
 -- A call that may write to one array, as a part of a call of all.
-use Rattle.std.proofs.Common.{◌≡◌, ◌≢◌, ℕ, ◌+◌, ◌<◌, ◌≤◌, Bool, true, false, ◌==◌, ◌&&◌, if◌then◌else◌, List, slice_get, Option, Some, None, refl, sym, ap, subst, ◌∙◌, inl, inr, eq-eqb, ne_eqb, arith}
-use Rattle.std.proofs.lemmas.Bool.{cases_eq}
+use Rattle.std.proofs.Common.{◌≡◌, ◌≢◌, ℕ, ◌+◌, ◌<◌, ◌≤◌, Bool, true, false, ◌==◌, ◌&&◌, not, if◌then◌else◌, List, slice_get, Option, Some, None, refl, sym, ap, subst, ◌∙◌, inl, inr, eq-eqb, ne_eqb, arith}
+use Rattle.std.proofs.lemmas.Bool.{both_ways, cases_eq}
 use Rattle.std.specs.Option.{option_map_or}
 use Rattle.rack.specs.Values.{Values}
 use Rattle.rack.specs.Seen.{Seen, IsLive}
-use Rattle.array_image.specs.Places.{member_slice, data_sector, super_sector}
+use Rattle.pool_state.specs.declared.contents.State.{State}
+use Rattle.array_image.specs.Places.{member_slice, data_sector, place_of, slice_of, super_sector}
 use Rattle.array_image.specs.States.{is_current, current_places}
 use Rattle.array_image.specs.Arrays.{Member, Shape}
 use Rattle.commit_log.specs.Kept.{LogKept}
@@ -12,15 +13,16 @@ use Rattle.commit_log.specs.View.{names}
 use Rattle.commit_log.proofs.KeptAfter.{kept_more}
 use Rattle.array_model.specs.declared.Seat.{Seat}
 use Rattle.array_model.specs.declared.Seat.TheVariants.{Whole, Missing, Rebuilding}
-use Rattle.array_model.specs.View.{View, has_gone, member_on, place_at, seat_reach, shape_of, spent_in}
+use Rattle.array_model.specs.View.{View, has_gone, is_missing_seat, member_on, place_at, seat_reach, shape_of, spent_in}
 use Rattle.array_model.specs.Says.{IsOpen, Says}
 use Rattle.array_model.specs.Stages.{IsStateOf}
 use Rattle.array_model.specs.ArrayCalls.{Acts, Covers, WritesArray, appended_at}
 use Rattle.array_model.proofs.Firsts.{position_of}
 use Rattle.array_core.specs.Pool.{Goes, MayCommit, MayRenew}
+use Rattle.array_core.specs.Writing.{IsElsewhere, KeepsElsewhere}
 use Rattle.raid_rack.specs.Book.{after_same}
 use Rattle.raid_rack.specs.Raid.{Raid, AreLive, gone_in, is_over, held_in}
-use Rattle.raid_rack.specs.Moves.{Brings, IsAmid, IsHeeded, IsSet, PartOf, written_at}
+use Rattle.raid_rack.specs.Moves.{Brings, IsAmid, IsHeeded, IsSeated, IsSet, KeepsMarked, PartOf, written_at}
 use Rattle.raid_rack.specs.Marking.{Part}
 use Rattle.raid_rack.proofs.Added.{names_current}
 use Rattle.raid_rack.proofs.Carried.{seat_marks}
@@ -28,7 +30,7 @@ use Rattle.raid_rack.proofs.Changed.{ViewsOne, called, part_if, marked_before, s
 use Rattle.raid_rack.proofs.Noted.{current_few, gone_from, gone_not}
 use Rattle.raid_rack.proofs.Over.{event_room, number_room, over_still, someone_left}
 use Rattle.raid_rack.proofs.Parts.{part_own, part_other}
-use Rattle.raid_rack.proofs.Seated.{place_few}
+use Rattle.raid_rack.proofs.Seated.{missing_of, place_few}
 use Rattle.raid_rack.proofs.Whole.{heeded_gone, heeded_whole}
 
 -- ---- what it needs
@@ -93,6 +95,21 @@ may_renew v a m n set heeded low live goes =
       events = let room = event_room v n m goes low in omega (arith, room);
     }
 
+-- the slices of a drive that is marked are none that a call of an array writes
+marked_elsewhere : (s : State) (n : ℕ) (u : View) (x : Seen) (on : List ℕ) (d : ℕ) → IsSeated s n u x → ((p : ℕ) → is_current s p ≡ false → names on p ≡ false)
+    → is_current s (place_of d) ≡ false → IsElsewhere false u on d
+marked_elsewhere s n u x on d seated unnamed gone =
+    elim (cases_eq (slice_of d) 0) [
+      | inl log ↦ inl (log, unnamed (place_of d) gone)
+      | inr some ↦
+          inr (some, λ k low there is.
+          let few = seated.is_array.few in
+          let here : place_of d ≡ place_at u k = omega (arith, is, few) in
+          let missing = missing_of (slice_get u.seats k) (is_current s (place_at u k)) (has_gone u (place_at u k))
+          (subst (λ p. is_current s p ≡ false) here gone) (seated.marks k low) in
+          both_ways true (sym there ∙ ap (λ (o : Option Seat). option_map_or (λ seat. not (is_missing_seat seat)) o true) missing) refl)
+    ]
+
 -- ---- a call of array m that may write it, where whoever went is marked
 
 -- `now` are its values after the call, by those before, and `Able` is what it needs of the pool.
@@ -107,6 +124,7 @@ pub record ActsOne (v : Raid) (f : ℕ → View) (number m : ℕ) (a b : Seen) (
       → Acts v.state (v.arrays m) (f m) spent a b (shape_of (v.arrays m)) vals (Says v.state (v.arrays m).number (shape_of (v.arrays m)) (now vals) spent)
       (shape_of (v.arrays m)) (now vals)
   pub kept : Able → LogKept v.state v.number (λ place. false) a → LogKept v.state number (gone_in (called v f number)) b
+  pub elsewhere : (on : List ℕ) × ((p : ℕ) → is_current v.state p ≡ false → names on p ≡ false) × KeepsElsewhere false (v.arrays m) on a b
 
 module _ (v : Raid) (f : ℕ → View) (number m : ℕ) (a b : Seen) (now : (ℕ → Values) → ℕ → Values) (Able : Type 0) (set : IsSet v a)
     (call : ActsOne v f number m a b now Able) where
@@ -150,6 +168,10 @@ module _ (v : Raid) (f : ℕ → View) (number m : ℕ) (a b : Seen) (now : (ℕ
   pub one_still : (n : ℕ) → n < v.state.made → is_over (called v f number) n ≡ false → is_over v n ≡ false
   one_still n low goes = over_still v (called v f number) (further v f m a b set call.views number call.later) n low goes
 
+  pub one_unwritten : KeepsMarked v a b
+  one_unwritten d t live gone =
+      call.elsewhere.2 d t live (marked_elsewhere v.state m (v.arrays m) a call.elsewhere.0 d (set.arrays m call.views.low) call.elsewhere.1 gone)
+
   pub one_brings : Brings v (called v f number) a b (λ n vals. if n == m then now vals else vals)
   one_brings =
       record {
@@ -158,6 +180,7 @@ module _ (v : Raid) (f : ℕ → View) (number m : ℕ) (a b : Seen) (now : (ℕ
         book = after_same v.state;
         leaves = call.goes.leaves;
         sectors = views_sectors v f m a b set call.views;
+        unwritten = one_unwritten;
         still = one_still;
         spent = λ n y low alive. views_spent v f m a b set call.views n y alive;
         parts = λ n vals spent joined low goes covers.
@@ -184,6 +207,7 @@ pub record WriteCall (v : Raid) (f : ℕ → View) (number m : ℕ) (a b : Seen)
       (vals : ℕ → Values) (spent : ℕ → Bool) → Covers (f m) spent → MayCommit v.state (v.arrays m) (f m) v.number on a
       → WritesArray v.state (v.arrays m) (f m) spent a b (shape_of (v.arrays m)) vals sector from
   pub kept : MayCommit v.state (v.arrays m) (f m) v.number on a → LogKept v.state number (has_gone (f m)) b
+  pub elsewhere : KeepsElsewhere false (v.arrays m) on a b
 
 pub write_brings : (v : Raid) (f : ℕ → View) (number m : ℕ) (a b : Seen) (on : List ℕ) (sector : ℕ) (from : List ℕ) → IsSet v a
     → WriteCall v f number m a b on sector from → Brings v (called v f number) a b (written_at m sector from)
@@ -199,6 +223,7 @@ write_brings v f number m a b on sector from set call =
       kept = λ given log.
           kept_more v.state number (has_gone (f m)) (gone_in (called v f number)) b
           (λ p is. gone_from (called v f number) p m (call.few p is) call.views.low is) (call.kept given);
+      elsewhere = (on, λ p gone. ap (λ ps. names ps p) call.on_is ∙ names_current v.state p ∙ gone, call.elsewhere);
     })
   where
     and_true : (c : Bool) → (c && true) ≡ c

@@ -7,7 +7,7 @@ use Rattle.rack.specs.Moments.{Leaves}
 use Rattle.md_super.specs.Profile.{profiled}
 use Rattle.pool_state.specs.Valid.{is_valid}
 use Rattle.pool_state.specs.declared.contents.State.{State}
-use Rattle.array_image.specs.Places.{log_slice, log_sectors, slice_of, super_sector, array_id}
+use Rattle.array_image.specs.Places.{log_slice, log_sectors, place_of, slice_of, super_sector, array_id}
 use Rattle.array_image.specs.States.{is_current}
 use Rattle.array_image.specs.Supers.{has_roles, has_whole_row}
 use Rattle.array_image.specs.SoundArray.{IsWrittenSuper, first_unsynced}
@@ -90,6 +90,10 @@ pub record PartOf (v w : Raid) (a b : Seen) (n : ℕ) (vals now : ℕ → Values
       → Leaves a b (λ c. IsInside a.sectors c → IsAmid v a n vals spent → SaysBetween v.state w.state n now spent (replayed a.sectors c))
   pub holds : IsAmid v a n vals spent → IsAmid w b n now spent
 
+-- the slices of drives that are marked missing stay as they are
+abbrev pub KeepsMarked : Raid → Seen → Seen → Type 0
+KeepsMarked v a b = (d t : ℕ) → IsLive a b d t → is_current v.state (place_of d) ≡ false → Keeps (a.held d t) (b.held d t)
+
 -- A part of a call that moves no value: reads, syncs, losses that are noted, and commits that mark them.
 pub record Moves (v w : Raid) (a b : Seen) : Type 0 where
   pub stays : Stays a b
@@ -106,6 +110,8 @@ pub record Moves (v w : Raid) (a b : Seen) : Type 0 where
   -- a member counts where it counted
   pub counted :
       (n : ℕ) (m : Member) (sector : ℕ) → n < v.state.made → Among m (shape_of (w.arrays n)).members → sector < m.reach → Among m (shape_of (v.arrays n)).members
+  -- a drive that was marked isn't written again
+  pub unwritten : KeepsMarked v a b
   -- members' data stays as it is
   pub kept : (d t : ℕ) → IsLive a b d t → (slice_of d ≡ 0 → ⊥) → (t ≡ super_sector → ⊥) → Keeps (a.held d t) (b.held d t)
   pub parts :
@@ -141,6 +147,7 @@ pub record Brings (v w : Raid) (a b : Seen) (now : ℕ → (ℕ → Values) → 
   pub book : IsAfter v.state w.state
   pub leaves : a.traced → Leaves a b (λ c. Unit {0})
   pub sectors : (n : ℕ) → sectors_of (w.arrays n) ≡ sectors_of (v.arrays n)
+  pub unwritten : KeepsMarked v a b
   -- what is spent stays so
   pub still : (n : ℕ) → n < v.state.made → is_over w n ≡ false → is_over v n ≡ false
   pub spent : (n y : ℕ) → n < v.state.made → spent_in (w.arrays n) y ≡ false → spent_in (v.arrays n) y ≡ false

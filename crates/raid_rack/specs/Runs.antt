@@ -1,17 +1,18 @@
 -- What calls in a row of a rack of arrays do to its book and to images of its slices.
-use Rattle.std.proofs.Common.{◌≡◌, ℕ, ◌≤◌, false, Some, refl, subst, inl, inr, ◌∙◌, arith}
+use Rattle.std.proofs.Common.{◌≡◌, ℕ, ◌<◌, ◌≤◌, Bool, true, false, Some, refl, subst, inl, inr, ◌∙◌, arith}
 use Rattle.std.proofs.lemmas.Bool.{cases_Bool, both_ways}
-use Rattle.rack.specs.Seen.{Image, Seen}
+use Rattle.rack.specs.Seen.{Image, IsLive, Seen}
 use Rattle.rack.specs.Moments.{Leaves}
-use Rattle.rack.specs.Joins.{leaves_same, leaves_then, leaves_weaker, rose_before, rose_since}
+use Rattle.rack.specs.Joins.{keeps_same, keeps_then, leaves_same, leaves_then, leaves_weaker, rose_before, rose_since}
 use Rattle.md_super.specs.declared.superblock.Super.{Super}
 use Rattle.pool_state.specs.declared.contents.State.{State}
-use Rattle.array_image.specs.States.{state_in}
+use Rattle.array_image.specs.Places.{place_of}
+use Rattle.array_image.specs.States.{is_current, state_in}
 use Rattle.array_image.specs.Supers.{truth_in}
 use Rattle.array_image.specs.SoundArray.{IsSoundArray}
 use Rattle.array_image.specs.Arrays.{Shape, shape_in, replayed}
 use Rattle.raid_rack.specs.Book.{IsAfter, after_same, after_then}
-use Rattle.raid_rack.specs.Moves.{AreCaused}
+use Rattle.raid_rack.specs.Moves.{AreCaused, KeepsMarked}
 use Rattle.raid_rack.specs.Raid.{Raid, is_left, is_over, IsTold}
 
 -- Replayed contents have a state between two, and by it an array whose superblocks agree.
@@ -31,6 +32,11 @@ pub record RaidRuns (v w : Raid) (a b : Seen) : Type 0 where
   pub sectors : (d : ℕ) → b.sectors d ≡ a.sectors d
   pub faults : (d : ℕ) → a.faults d ≤ b.faults d
   pub traced : a.traced → b.traced
+  pub disks : b.disks ≡ a.disks
+  pub told_below : (d : ℕ) → a.told d → b.told d
+  pub unspent : (d t : ℕ) → b.spent d t ≡ false → a.spent d t ≡ false
+  -- a drive that is marked missing isn't written again
+  pub unwritten : KeepsMarked v a b
   pub caused : AreCaused v w a b
   pub still : (n : ℕ) → is_over w n ≡ false → is_over v n ≡ false
   pub told : (n : ℕ) → IsTold v a n → IsTold w b n
@@ -46,6 +52,10 @@ raid_runs_same v x =
       sectors = λ d. refl;
       faults = λ d. omega arith;
       traced = λ traced. traced;
+      disks = refl;
+      told_below = λ d told. told;
+      unspent = λ d t unspent. unspent;
+      unwritten = λ d t live gone. keeps_same (x.held d t);
       caused = record { left = λ place is. is; cause = λ place was now. absurd (both_ways (is_left v place) now was) };
       still = λ n goes. goes;
       told = λ n told. told;
@@ -74,6 +84,10 @@ between_later s t u n r after at = record {
   is_sound = at.is_sound;
 }
 
+marked_still : (was is : Bool) → was ≡ false → (is ≡ true → was ≡ true) → is ≡ false
+marked_still was true gone before = absurd (both_ways was gone (before refl))
+marked_still was false gone before = refl
+
 -- runs in a row are one
 pub raid_runs_then : (v w z : Raid) (a b c : Seen) → RaidRuns v w a b → RaidRuns w z b c → RaidRuns v z a c
 raid_runs_then v w z a b c one two =
@@ -82,6 +96,21 @@ raid_runs_then v w z a b c one two =
       sectors = λ d. two.sectors d ∙ one.sectors d;
       faults = λ d. let first = one.faults d in let second = two.faults d in omega (arith, first, second);
       traced = λ traced. two.traced (one.traced traced);
+      disks = two.disks ∙ one.disks;
+      told_below = λ d told. two.told_below d (one.told_below d told);
+      unspent = λ d t unspent. one.unspent d t (two.unspent d t unspent);
+      unwritten = λ d t live gone.
+          keeps_then (a.held d t) (b.held d t) (c.held d t)
+          (one.unwritten d t
+          (record {
+            disk = subst (λ k. d < k) two.disks live.disk;
+            sector = subst (λ k. t < k) (two.sectors d) live.sector;
+            is_told = live.is_told;
+            unspent = two.unspent d t live.unspent;
+          }) gone)
+          (two.unwritten d t
+          (record { disk = live.disk; sector = live.sector; is_told = one.told_below d live.is_told; unspent = live.unspent })
+          (marked_still (is_current v.state (place_of d)) (is_current w.state (place_of d)) gone (one.book.current (place_of d))));
       caused = record {
         left = λ place is. one.caused.left place (two.caused.left place is);
         cause = λ place was gone.
