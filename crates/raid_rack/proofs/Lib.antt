@@ -3,6 +3,8 @@ pub mod Raid
 mod Ranges
 pub mod Dropped
 pub mod Synced
+pub mod Raises
+pub mod RaisedCalls
 pub mod Rounds
 pub mod Mended
 pub mod Turned

@@ -19,14 +19,15 @@ use Rattle.array_model.specs.View.{View, sectors_of, has_gone}
 use Rattle.array_core.specs.Seats.{gone as without}
 use Rattle.raid_rack.specs.declared.arrays.Arrays.{Arrays}
 use Rattle.raid_rack.specs.Raid.{Raid, gone_in, is_left}
-use Rattle.raid_rack.specs.Missing.{marked}
+use Rattle.raid_rack.specs.Missing.{marked, raised as raised_epoch}
 use Rattle.raid_rack.specs.Losses.{newly_gone, AreCopiesOn, AddsCopies}
-use Rattle.raid_rack.specs.Moves.{IsSet, AreMarked, Moves}
+use Rattle.raid_rack.specs.Moves.{IsSet, AreMarked, Moves, RaisesBy}
 use Rattle.raid_rack.specs.Settling.{SettlesTo, HasStaged, IsMarking, state_after}
 use Rattle.raid_rack.specs.RaidRack.{IsRunning, EndsTurn, raid_by, no_array}
 use Rattle.raid_rack.proofs.Missing.{current_marked}
 use Rattle.raid_rack.proofs.Added.{names_current}
 use Rattle.raid_rack.proofs.Moving.{moves_then}
+use Rattle.raid_rack.proofs.Raises.{raised_up}
 use Rattle.raid_rack.proofs.Noted.{IsNoting, with_arrays, moves_noted, noted_went, current_few}
 use Rattle.raid_rack.proofs.Committed.{IsCommit, raid_after, valid_marked}
 use Rattle.raid_rack.proofs.Turns.{moves_commit, commit_progress}
@@ -85,6 +86,7 @@ pub record HasNoted (a b : Arrays) (lost : List ℕ) (x : Seen) : Type 0 where
   pub moves : Moves (raid_by a) (raid_by b) x x
   pub running : IsRunning b x
   pub same : b.state ≡ a.state
+  pub raises : RaisesBy 0 (raid_by a) (raid_by b)
   pub noted : (n p : ℕ) → n < a.state.made → names lost p ≡ true → has_gone ((raid_by b).arrays n) p ≡ true
   pub one : ℕ
   pub named : names lost one ≡ true
@@ -120,6 +122,11 @@ has_noted a all log lost x turn each count number =
       moves = subst (λ (w : Raid). Moves (raid_by a) w x x) whole step;
       running = record { count = count ∙ turn.running.count; set = subst (λ (w : Raid). IsSet w x) whole step.set };
       same = refl;
+      raises = record {
+        number = omega (arith, number);
+        epoch = omega arith;
+        events = λ n low. let e = ap (λ (u : View). u.truth.events) (noting.arrays n low) in omega (arith, e);
+      };
       noted = λ n p low is.
           noted_went lost (raid_by a) f noting n p low (current_few a.state p turn.running.set.few (had p is).0)
           ∙ or_last (has_gone ((raid_by a).arrays n) p) (names lost p) is;
@@ -166,6 +173,15 @@ on_few lost s t p t_is few current =
 
 -- ---- all of a turn
 
+next_up : (n : ℕ) → next_number n ≤ n + 1
+next_up n = raised_up n
+
+epoch_up : (n : ℕ) → raised_epoch n ≤ n + 1
+epoch_up n = raised_up n
+
+made_still : (a b : Arrays) {lost : List ℕ} {x : Seen} → HasNoted a b lost x → (n : ℕ) → n < a.state.made → n < b.state.made
+made_still a b noted n low = subst (λ (s : State). n < s.made) (sym noted.same) low
+
 pub ends_turn : (a b c : Arrays) (all : ArrayVec View) (log l : LogView) (t : State) (lost on gone : List ℕ) (x y z : Seen)
     → HasNoted a b lost x → SettlesTo (raid_by b) (raid_by c) x y b.state.made c.log.added → IsRunning c y
     → t ≡ marked lost c.state → IsMarking (raid_by c) lost on l c.log.added y → CommitCall l on gone y z
@@ -196,6 +212,26 @@ ends_turn a b c all log l t lost on gone x y z noted settles running t_is markin
             | inl are ↦ inl are
             | inr some ↦ inr (some.0, noted.moves.left some.0 (settled.moves.left some.0 some.1), some.2)
           ]);
+      raises =
+          let next = next_up l.number in
+          let was = marking.number in
+          let stays = settles.number in
+          let first = noted.raises in
+          record {
+            number = let one = first.number in omega (arith, one, stays, was, next, number);
+            epoch =
+                let up = epoch_up c.state.epoch in
+                let is = ap (λ (s : State). s.epoch) t_is in
+                let same = ap (λ (s : State). s.epoch) settles.same in
+                let one = first.epoch in
+                omega (arith, up, is, same, one);
+            events = λ n low.
+                let made = made_still a b noted n low in
+                let e = ap (λ (u : View). u.truth.events) (commit.arrays n (subst (λ (s : State). n < s.made) (sym settles.same) made)) in
+                let up = settles.raised n made in
+                let one = first.events n low in
+                omega (arith, e, up, one);
+          };
       running = record {
         count = count ∙ running.count ∙ sym (ap (λ (s : State). s.made) t_is);
         set = subst (λ (w : Raid). IsSet w z) whole step.set;
@@ -227,6 +263,19 @@ ends_empty a b c t lost on x y noted settles running same t_is on_is empty =
       moves = subst (λ (w : Raid). Moves (raid_by a) w x y) whole joined;
       progress = inl (λ p current.
           absurd (both_ways (is_current t p) (sym (names_current t p) ∙ ap (λ ps. names ps p) (sym on_is ∙ none)) current));
+      raises =
+          let stays = settles.number in
+          let first = noted.raises in
+          record {
+            number = let one = first.number in omega (arith, one, stays);
+            epoch =
+                let up = epoch_up c.state.epoch in
+                let is = ap (λ (s : State). s.epoch) t_is in
+                let same = ap (λ (s : State). s.epoch) settles.same in
+                let one = first.epoch in
+                omega (arith, up, is, same, one);
+            events = λ n low. let up = settles.raised n (made_still a b noted n low) in let one = first.events n low in omega (arith, up, one);
+          };
       running = record { count = running.count ∙ sym (ap (λ (s : State). s.made) t_is); set = subst (λ (w : Raid). IsSet w y) whole joined.set };
     }
   where
@@ -251,6 +300,14 @@ ends_early a b c lost x y turn noted settles running other =
                 absurd (both_ways true (sym (and_parts (is_current a.state p) (not (gone_in (raid_by a) p)) before).1 ∙ ap not was) refl)
           ])
           (λ same. other (same ∙ sym turn.lost_are)));
+      raises =
+          let stays = settles.number in
+          let first = noted.raises in
+          record {
+            number = let one = first.number in omega (arith, one, stays);
+            epoch = let same = ap (λ (s : State). s.epoch) settles.same in let one = first.epoch in omega (arith, same, one);
+            events = λ n low. let up = settles.raised n (made_still a b noted n low) in let one = first.events n low in omega (arith, up, one);
+          };
       running = running;
     }
 

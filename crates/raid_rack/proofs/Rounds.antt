@@ -11,7 +11,7 @@ use Rattle.array_core.specs.Seats.{heeded}
 use Rattle.raid_rack.specs.declared.arrays.Arrays.{Arrays}
 use Rattle.raid_rack.specs.Raid.{Raid, gone_in, is_left}
 use Rattle.raid_rack.specs.Losses.{newly_gone}
-use Rattle.raid_rack.specs.Moves.{AreMarked, Moves, Mends}
+use Rattle.raid_rack.specs.Moves.{AreMarked, Moves, Mends, RaisesBy}
 use Rattle.raid_rack.specs.Cleaning.{IsIdle}
 use Rattle.raid_rack.specs.RaidRack.{IsRunning, raid_by, no_array}
 use Rattle.raid_rack.proofs.Moving.{moves_then}
@@ -128,6 +128,20 @@ heeds a b all x y moves running are each count =
       },
       record { count = count ∙ running.count; set = step.set },
     )
+
+pub heeds_raise : (k : ℕ) (a b : Arrays) (all : ArrayVec View) (x y : Seen) → Moves (raid_by a) (raid_by b) x y → IsRunning b y
+    → ((n : ℕ) → slice_get all.items n ≡ option_map heeded (slice_get b.all.items n)) → RaisesBy k (raid_by a) (raid_by b) → RaisesBy k (raid_by a) (raid_by (record b { all = all }))
+heeds_raise k a b all x y moves running each one =
+    record {
+      number = one.number;
+      epoch = one.epoch;
+      events = λ n low.
+          let made = moves.book.same.made in
+          let count = running.count in
+          let e = ap (λ (u : View). u.truth.events) (each_get heeded b.all.items all.items n each (omega (arith, low, made, count))) in
+          let was = one.events n low in
+          omega (arith, e, was);
+    }
 
 -- where whoever went is marked, that is all
 pub idle_by : (a b : Arrays) (all : ArrayVec View) (y : Seen) → IsRunning b y → ((n : ℕ) → slice_get all.items n ≡ option_map heeded (slice_get b.all.items n))

@@ -177,6 +177,8 @@ settles_first v x set =
       reads = record { stays = stays_same x set.fit; keeps = record { held = λ d s live. keeps_same (x.held d s); stops = λ traced. leaves_same x (IsPick x x x.held) } };
       same = refl;
       number = refl;
+      raised = λ n low. omega arith;
+      rest = λ n low past. refl;
       went = λ n p low is. is;
       staged = record { only = λ y among. absurd among; apart = refl; each = λ n low. absurd (omega (arith, low)); few = omega arith };
       settled = λ n vals spent low joined goes covers amid. absurd (omega (arith, low));
@@ -185,15 +187,28 @@ settles_first v x set =
 pub settles_more : (v w : Raid) (f : ℕ → View) (a b c : Seen) (m : ℕ) (xs ys : List Target) → w.state.made ≤ 16
     → SettlesTo v w a b m xs → ReadsOne w f m b c
     → ((s : State) (durable : Shape) (vals : ℕ → Values) (spent : ℕ → Bool) → Covers (f m) spent → SyncsArray s (w.arrays m) (f m) spent b c durable vals)
-    → AddsSupersOf (f m) xs ys → (f m).marked ≡ false
+    → AddsSupersOf (f m) xs ys → (f m).marked ≡ false → (f m).truth.events ≤ (w.arrays m).truth.events + 1
     → SettlesTo v (with_arrays w f) a c (m + 1) ys
-settles_more v w f a b c m xs ys few before call syncs adds unmarked =
+settles_more v w f a b c m xs ys few before call syncs adds unmarked raised =
     let step = moves_read w f m b c before.moves.set call in
     record {
       moves = moves_then v w (with_arrays w f) a b c before.moves step;
       reads = record { stays = stays_then before.reads.stays call.reads.stays; keeps = keeps_all_then before.reads.stays call.reads.stays before.reads.keeps call.reads.keeps };
       same = before.same;
       number = before.number;
+      raised = λ n low.
+          elim (cases_eq n m) [
+            | inl same ↦
+                subst (λ k. (f k).truth.events ≤ (v.arrays k).truth.events + 1) (sym same)
+                (let e = before.rest m (subst (λ k. k < v.state.made) same low) (omega arith) in omega (arith, raised, e))
+            | inr other ↦
+                let e = ap (λ (u : View). u.truth.events) (call.views.others n other) in
+                let was = before.raised n low in
+                omega (arith, e, was)
+          ];
+      rest = λ n low past.
+          ap (λ (u : View). u.truth.events) (call.views.others n (λ same. omega (arith, same, past)))
+          ∙ before.rest n low (omega (arith, past));
       went = λ n p low is.
           let had = before.went n p low is in
           elim (cases_eq n m) [

@@ -20,6 +20,7 @@ use Rattle.raid_rack.specs.Settling.{SettlesTo}
 use Rattle.raid_rack.specs.RaidRack.{IsRunning, raid_by, no_array}
 use Rattle.raid_rack.proofs.Noted.{with_arrays}
 use Rattle.raid_rack.proofs.Calls.{reads_settled}
+use Rattle.raid_rack.proofs.Raises.{settles_raise}
 use Rattle.raid_rack.proofs.Settling.{settles_more}
 
 -- ---- lists
@@ -81,4 +82,5 @@ settle_step a b all log x y z n old u running settles count low old_is all_is sy
     subst (λ (w : Raid). SettlesTo (raid_by a) w x z (n + 1) log.added) whole
     (settles_more (raid_by a) v f x y z n b.log.added log.added settles.moves.set.most settles call synced
     (subst (λ w. AddsSupersOf w b.log.added log.added) (sym own) adds)
-    (ap (λ (w : View). w.marked) settled.truth))
+    (ap (λ (w : View). w.marked) settled.truth)
+    (settles_raise (v.arrays n) (f n) y z settled))

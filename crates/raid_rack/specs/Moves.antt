@@ -1,6 +1,6 @@
 -- Parts of a call of a rack of arrays: what they keep and change, whatever the rack below tells, and what they do to each array
 -- that stands.
-use Rattle.std.specs.Prelude.{◌≡◌, ◌⊎◌, ℕ, ◌<◌, ◌≤◌, ◌^◌, [], Bool, true, false, ◌==◌, ◌&&◌, not, nat_lt, if◌then◌else◌, is_ok, List, length, slice_get, Some, option_map}
+use Rattle.std.specs.Prelude.{◌≡◌, ◌⊎◌, ℕ, ◌+◌, ◌<◌, ◌≤◌, ◌^◌, [], Bool, true, false, ◌==◌, ◌&&◌, not, nat_lt, if◌then◌else◌, is_ok, List, length, slice_get, Some, option_map}
 use Rattle.rack.specs.Values.{Values, Keeps}
 use Rattle.rack.specs.Seen.{Seen, IsLive, Stays}
 use Rattle.rack.specs.Moments.{Leaves}
@@ -117,6 +117,12 @@ pub record Moves (v w : Raid) (a b : Seen) : Type 0 where
   pub parts :
       (n : ℕ) (vals : ℕ → Values) (spent : ℕ → Bool) → n < v.state.joined → n < v.state.made → is_over w n ≡ false → Covers (w.arrays n) spent
       → PartOf v w a b n vals vals spent
+
+-- the log's number, the epoch and each array's events rise by so many at most
+pub record RaisesBy (k : ℕ) (v w : Raid) : Type 0 where
+  pub number : w.number ≤ v.number + k
+  pub epoch : w.state.epoch ≤ v.state.epoch + k
+  pub events : (n : ℕ) → n < v.state.made → (w.arrays n).truth.events ≤ (v.arrays n).truth.events + k
 
 -- Losses are mended: nobody went from then on, and who went is marked.
 pub record Mends (v w : Raid) (a b : Seen) : Type 0 where

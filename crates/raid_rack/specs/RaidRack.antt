@@ -11,7 +11,7 @@ use Rattle.array_model.specs.View.{View}
 use Rattle.raid_rack.specs.declared.arrays.RaidRack.{RaidRack}
 use Rattle.raid_rack.specs.declared.arrays.Arrays.{Arrays}
 use Rattle.raid_rack.specs.Raid.{Raid, is_left, raid_of}
-use Rattle.raid_rack.specs.Moves.{AreMarked, IsHeeded, IsSet, Moves}
+use Rattle.raid_rack.specs.Moves.{AreMarked, IsHeeded, IsSet, Moves, RaisesBy}
 
 -- a number without an array: nothing is said of it
 abbrev pub no_super : Super
@@ -74,6 +74,7 @@ pub record EndsTurn (a b : Arrays) (x y : Seen) : Type 0 where
   pub moves : Moves (raid_by a) (raid_by b) x y
   pub progress :
       AreMarked (raid_by b) ⊎ ((place : ℕ) × (is_left (raid_by a) place ≡ true) × (is_left (raid_by b) place ≡ false))
+  pub raises : RaisesBy 1 (raid_by a) (raid_by b)
   pub running : IsRunning b y
 
 -- the arrays of a rack of arrays, with their state and log

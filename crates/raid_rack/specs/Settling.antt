@@ -1,5 +1,5 @@
 -- All arrays are settled: what is added to the log.
-use Rattle.std.specs.Prelude.{◌≡◌, ℕ, ◌*◌, ◌<◌, ◌≤◌, ◌&&◌, Bool, true, false, List, length, slice_get, Some}
+use Rattle.std.specs.Prelude.{◌≡◌, ℕ, ◌+◌, ◌*◌, ◌<◌, ◌≤◌, ◌&&◌, Bool, true, false, List, length, slice_get, Some}
 use Rattle.rack.specs.Values.{Values}
 use Rattle.rack.specs.Seen.{Seen}
 use Rattle.rack.specs.Targets.{Target}
@@ -52,6 +52,9 @@ pub record SettlesTo (v w : Raid) (a b : Seen) (k : ℕ) (xs : List Target) : Ty
   pub reads : OnlyReads a b
   pub same : w.state ≡ v.state
   pub number : w.number ≡ v.number
+  -- with one more event each
+  pub raised : (n : ℕ) → n < v.state.made → (w.arrays n).truth.events ≤ (v.arrays n).truth.events + 1
+  pub rest : (n : ℕ) → n < v.state.made → k ≤ n → (w.arrays n).truth.events ≡ (v.arrays n).truth.events
   pub went : (n p : ℕ) → n < v.state.made → has_gone (v.arrays n) p ≡ true → has_gone (w.arrays n) p ≡ true
   pub staged : HasStaged w k xs
   pub settled :

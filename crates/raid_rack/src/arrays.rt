@@ -41,7 +41,7 @@ impl<R: Rack> RaidRack<R> {
     ghost use Rattle.slice_rack.specs.SliceRack.{below_of};
     ghost use Rattle.array_image.specs.States.{is_current};
     ghost use Rattle.raid_rack.specs.Losses.{has_other};
-    ghost use Rattle.raid_rack.specs.Moves.{Mends, noted_at};
+    ghost use Rattle.raid_rack.specs.Moves.{Mends, RaisesBy, noted_at};
     ghost use Rattle.raid_rack.specs.Cleaning.{CleansAll};
     ghost use Rattle.raid_rack.specs.Runs.{RaidRuns};
     ghost use Rattle.raid_rack.specs.RaidRack.{SliceRuns, IsFit, KeepsRack, arrays_in, arrays_of, raid_seen, raid_in, refused_in, slices_in, slices_seen};
@@ -97,6 +97,7 @@ impl<R: Rack> RaidRack<R> {
         ensures kept { OnErr result (self.new ≡ self.old) }
         ensures mends { OnOk result (Mends (noted_at (place ∷ []) (raid_in self.old)) (raid_in self.new) (slices_seen R.seen self.old) (slices_seen R.seen self.new)) }
         ensures keeps { OnOk result (KeepsRack (raid_seen R.seen self.old) (raid_seen R.seen self.new)) }
+        ensures raises { RaisesBy 17 (raid_in self.old) (raid_in self.new) }
         ensures runs { SliceRuns R.seen R.runs (slices_in self.old) (slices_in self.new) }
     {
         if !has_other(&self.arrays.state, place) {
@@ -113,6 +114,7 @@ impl<R: Rack> RaidRack<R> {
         requires fit { IsFit (arrays_in self.old) (slices_seen R.seen self.old) }
         ensures cleans { CleansAll (raid_in self.old) (raid_in self.new) (slices_seen R.seen self.old) (slices_seen R.seen self.new) }
         ensures keeps { KeepsRack (raid_seen R.seen self.old) (raid_seen R.seen self.new) }
+        ensures raises { RaisesBy 288 (raid_in self.old) (raid_in self.new) }
         ensures runs { SliceRuns R.seen R.runs (slices_in self.old) (slices_in self.new) }
         ensures book { RaidRuns (raid_in self.old) (raid_in self.new) (slices_seen R.seen self.old) (slices_seen R.seen self.new) }
     {

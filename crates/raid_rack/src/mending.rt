@@ -2,7 +2,7 @@
 
 ghost use Rattle.std.specs.Prelude.{◌≡◌, ◌<◌, ◌==◌, true, [], ◌∷◌, length};
 ghost use Rattle.array_image.specs.States.{is_current};
-ghost use Rattle.raid_rack.specs.Moves.{AreMarked, Mends, Moves, IsHeeded, ReadsValue, SyncsOne, WritesOne, noted_at};
+ghost use Rattle.raid_rack.specs.Moves.{AreMarked, Mends, Moves, IsHeeded, RaisesBy, ReadsValue, SyncsOne, WritesOne, noted_at};
 ghost use Rattle.array_model.specs.View.{sectors_of};
 ghost use Rattle.raid_rack.specs.Settling.{SettlesTo};
 ghost use Rattle.raid_rack.specs.Cleaning.{Cleans, CleansAll, IsIdle};
@@ -65,6 +65,7 @@ impl Arrays {
         requires running { IsRunning self.old (S.seen rack.old) }
         ensures moves { Moves (raid_by self.old) (raid_by self.new) (S.seen rack.old) (S.seen rack.new) }
         ensures marked { AreMarked (raid_by self.new) }
+        ensures raises { RaisesBy 17 (raid_by self.old) (raid_by self.new) }
         ensures idle { AreMarked (raid_by self.old) → (self.new ≡ self.old) × (rack.new ≡ rack.old) }
         ensures running { IsRunning self.new (S.seen rack.new) }
         ensures runs { S.runs rack.old rack.new }
@@ -84,6 +85,7 @@ impl Arrays {
         requires running { IsRunning self.old (S.seen rack.old) }
         ensures mends { Mends (raid_by self.old) (raid_by self.new) (S.seen rack.old) (S.seen rack.new) }
         ensures idle { AreMarked (raid_by self.old) → IsIdle (raid_by self.old) (raid_by self.new) × (rack.new ≡ rack.old) }
+        ensures raises { RaisesBy 17 (raid_by self.old) (raid_by self.new) }
         ensures running { IsRunning self.new (S.seen rack.new) }
         ensures runs { S.runs rack.old rack.new }
     {
@@ -96,6 +98,7 @@ impl Arrays {
         requires running { IsRunning self.old (S.seen rack.old) }
         requires number { number < self.old.state.made }
         ensures syncs { SyncsOne (raid_by self.old) (raid_by self.new) (S.seen rack.old) (S.seen rack.new) number }
+        ensures raises { RaisesBy 17 (raid_by self.old) (raid_by self.new) }
         ensures running { IsRunning self.new (S.seen rack.new) }
         ensures runs { S.runs rack.old rack.new }
     {
@@ -115,6 +118,7 @@ impl Arrays {
         requires number { number < self.old.state.made }
         requires sector { sector < sectors_of ((raid_by self.old).arrays number) }
         ensures reads { ReadsValue (raid_by self.old) (raid_by self.new) (S.seen rack.old) (S.seen rack.new) number sector into.new }
+        ensures raises { RaisesBy 17 (raid_by self.old) (raid_by self.new) }
         ensures running { IsRunning self.new (S.seen rack.new) }
         ensures runs { S.runs rack.old rack.new }
     {
@@ -135,6 +139,7 @@ impl Arrays {
         requires number { number < self.old.state.made }
         requires sector { sector < sectors_of ((raid_by self.old).arrays number) }
         ensures writes { WritesOne (raid_by self.old) (raid_by self.new) (S.seen rack.old) (S.seen rack.new) number sector from.now }
+        ensures raises { RaisesBy 18 (raid_by self.old) (raid_by self.new) }
         ensures running { IsRunning self.new (S.seen rack.new) }
         ensures runs { S.runs rack.old rack.new }
     {
@@ -153,6 +158,7 @@ impl Arrays {
         requires heeded { IsHeeded (raid_by self.old) }
         requires number { number < self.old.state.made }
         ensures cleans { Cleans (λ n. n == number) (raid_by self.old) (raid_by self.new) (S.seen rack.old) (S.seen rack.new) }
+        ensures raises { RaisesBy 18 (raid_by self.old) (raid_by self.new) }
         ensures running { IsRunning self.new (S.seen rack.new) }
         ensures runs { S.runs rack.old rack.new }
     {
@@ -165,6 +171,7 @@ impl Arrays {
         requires running { IsRunning self.old (S.seen rack.old) }
         requires heeded { IsHeeded (raid_by self.old) }
         ensures cleans { CleansAll (raid_by self.old) (raid_by self.new) (S.seen rack.old) (S.seen rack.new) }
+        ensures raises { RaisesBy 288 (raid_by self.old) (raid_by self.new) }
         ensures running { IsRunning self.new (S.seen rack.new) }
         ensures runs { S.runs rack.old rack.new }
     {
@@ -178,6 +185,7 @@ impl Arrays {
         requires running { IsRunning self.old (S.seen rack.old) }
         requires place { is_current self.old.state place ≡ true }
         ensures mends { Mends (noted_at (place ∷ []) (raid_by self.old)) (raid_by self.new) (S.seen rack.old) (S.seen rack.new) }
+        ensures raises { RaisesBy 17 (raid_by self.old) (raid_by self.new) }
         ensures running { IsRunning self.new (S.seen rack.new) }
         ensures runs { S.runs rack.old rack.new }
     {

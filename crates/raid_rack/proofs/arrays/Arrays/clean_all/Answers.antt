@@ -1,11 +1,13 @@
-use Rattle.std.proofs.Common.{◌==◌, ◌+◌, nat_lt, le-ltb, arith}
+use Rattle.std.proofs.Common.{◌==◌, ◌+◌, ◌*◌, nat_lt, le-ltb, arith}
 use Rattle.raid_rack.specs.RaidRack.{raid_by}
+use Rattle.raid_rack.proofs.Raises.{raises_more, raises_none, raises_then}
 use Rattle.raid_rack.proofs.Cleanings.{cleans_all, cleans_none, cleans_then, first_apart, first_more}
 use Rattle.raid_rack.proofs.arrays.Arrays.clean_all.Goals as goal
 
 pub loop-n-init : goal.loop-n-init
 loop-n-init g c = record {
   cleans = cleans_none (λ n. nat_lt n 0) (raid_by c.args.self.now) (g.S.Rack.seen c.args.rack.now) (λ n. le-ltb n 0 (omega arith)) c.requires.running.set c.requires.heeded;
+  raises = raises_none (raid_by c.args.self.now);
   running = c.requires.running;
   runs = g.met.S.Rack.runs_same c.args.rack.now;
 }
@@ -32,6 +34,8 @@ loop-n-preserved g c =
           (raid_by c.args.self.now) (raid_by c.loop-n.self) (raid_by c.clean_array.new.self)
           (g.S.Rack.seen c.args.rack.now) (g.S.Rack.seen c.loop-n.rack) (g.S.Rack.seen c.clean_array.new.rack)
           (λ n. first_more n c.loop-n.n) (λ n is. first_apart n c.loop-n.n is) inv.cleans c.clean_array.ensures.cleans;
+      raises = raises_more (c.loop-n.n * 18 + 18) ((c.loop-n.n + 1) * 18) (raid_by c.args.self.now) (raid_by c.clean_array.new.self) (omega arith)
+          (raises_then (c.loop-n.n * 18) 18 (raid_by c.args.self.now) (raid_by c.loop-n.self) (raid_by c.clean_array.new.self) inv.cleans.moves.book.same.made inv.raises c.clean_array.ensures.raises);
       running = c.clean_array.ensures.running;
       runs = g.met.S.Rack.runs_then _ _ _ inv.runs c.clean_array.ensures.runs;
     }
@@ -43,6 +47,13 @@ returns-clause-cleans g c =
     let count = c.requires.running.count in
     cleans_all (raid_by c.args.self.now) (raid_by c.loop-n.self) (g.S.Rack.seen c.args.rack.now) (g.S.Rack.seen c.loop-n.rack) c.loop-n.n
     (omega (arith, past, end, count)) c.loop-n.invariant.cleans
+
+pub returns-clause-raises : goal.returns-clause-raises
+returns-clause-raises g c =
+    let end = c.len-n-end.ensures.value in
+    let count = c.requires.running.count in
+    let most = c.requires.running.set.most in
+    raises_more (c.loop-n.n * 18) 288 (raid_by c.args.self.now) (raid_by c.loop-n.self) (omega (arith, end, count, most)) c.loop-n.invariant.raises
 
 pub returns-clause-running : goal.returns-clause-running
 returns-clause-running g c = c.loop-n.invariant.running

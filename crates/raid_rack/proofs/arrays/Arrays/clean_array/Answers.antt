@@ -3,6 +3,8 @@ use Rattle.arrayvec.specs.ArrayVec.{with_items}
 use Rattle.array_model.specs.View.{View}
 use Rattle.raid_rack.specs.Cleaning.{Ends}
 use Rattle.raid_rack.specs.RaidRack.{no_array, raid_by}
+use Rattle.raid_rack.proofs.Raises.{cleans_raise}
+use Rattle.raid_rack.proofs.RaisedCalls.{raises_call}
 use Rattle.raid_rack.proofs.Steps.{same_element, items_set}
 use Rattle.raid_rack.proofs.Cleanings.{clean_call, clean_running, cleans_one}
 use Rattle.raid_rack.proofs.arrays.Arrays.clean_array.Goals as goal
@@ -51,3 +53,17 @@ returns-clause-cleans g c =
 
 pub returns-clause-runs : goal.returns-clause-runs
 returns-clause-runs g c = g.met.S.Rack.runs_then _ _ _ c.clean.ensures.runs c.mend.ensures.runs
+
+pub returns-clause-raises : goal.returns-clause-raises
+returns-clause-raises g c =
+    let a = c.args.self.now in
+    let n = c.args.number in
+    let count = c.requires.running.count in
+    let low = c.requires.number in
+    raises_call 1 17 a c.mend.new.self (with_items a.all (slice_set c.deref_mut.result.now n c.clean.new.self)) a.log n _ c.clean.new.self
+    c.requires.running.count low
+    (same_element c.deref_mut.result.now a.all.items n _ no_array c.deref_mut.ensures.value (omega (arith, count, low)))
+    (items_set a.all c.deref_mut.result.now n c.clean.new.self c.deref_mut.ensures.value)
+    (omega arith)
+    (cleans_raise _ c.clean.new.self (g.S.Rack.seen c.args.rack.now) (g.S.Rack.seen c.clean.new.rack) c.clean.ensures.view)
+    c.mend.ensures.raises

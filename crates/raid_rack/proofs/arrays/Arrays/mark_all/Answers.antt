@@ -1,9 +1,10 @@
-use Rattle.std.proofs.Common.{ap, refl, subst, sym, ◌∙◌}
+use Rattle.std.proofs.Common.{ap, refl, subst, sym, ◌∙◌, arith}
 use Rattle.raid_rack.specs.declared.arrays.Arrays.{Arrays}
 use Rattle.raid_rack.specs.Losses.{newly_gone}
 use Rattle.raid_rack.specs.Moves.{AreMarked}
 use Rattle.raid_rack.specs.RaidRack.{raid_by}
 use Rattle.raid_rack.proofs.Moving.{moves_same, moves_then}
+use Rattle.raid_rack.proofs.Raises.{raises_more, raises_none, raises_then}
 use Rattle.raid_rack.proofs.Turned.{none_newly}
 use Rattle.raid_rack.proofs.Rounds.{newly_unmarked, turns_first, turns_next, turns_done, no_length, some_length}
 use Rattle.raid_rack.proofs.arrays.Arrays.mark_all.Goals as goal
@@ -13,6 +14,7 @@ loop-turn-init g c = record {
   moves = moves_same (raid_by c.args.self.now) (g.S.Rack.seen c.args.rack.now) c.requires.running.set;
   running = c.requires.running;
   turns = turns_first (raid_by c.args.self.now);
+  raises = raises_none (raid_by c.args.self.now);
   idle = λ are. (refl, refl);
   runs = g.met.S.Rack.runs_same c.args.rack.now;
 }
@@ -54,6 +56,7 @@ loop-turn-preserved g c =
           (c.newly_gone-lost.ensures ∙ ap (newly_gone s.state) c.as_slice.ensures.value)
           (some_length c.newly_gone-lost.result.items (sym c.if-is_empty.ensures))
           c.mark.ensures.ends.moves c.mark.ensures.ends.progress inv.turns;
+      raises = raises_then c.loop-turn._turn 1 (raid_by c.args.self.now) (raid_by s) (raid_by c.mark.new.self) inv.moves.book.same.made inv.raises c.mark.ensures.ends.raises;
       idle = λ are.
           absurd (newly_unmarked s c.newly_gone-lost.result.items (g.S.Rack.seen c.loop-turn.rack) inv.running
           (c.newly_gone-lost.ensures ∙ ap (newly_gone s.state) c.as_slice.ensures.value)
@@ -70,6 +73,15 @@ returns-clause-marked g c = turns_done (raid_by c.loop-turn.self) c.loop-turn._t
 
 pub returns-clause-running : goal.returns-clause-running
 returns-clause-running g c = c.loop-turn.invariant.running
+
+pub returns-then-is_empty-clause-raises : goal.returns-then-is_empty-clause-raises
+returns-then-is_empty-clause-raises g c =
+    let low = c.loop-turn-test.true in
+    raises_more c.loop-turn._turn 17 (raid_by c.args.self.now) (raid_by c.loop-turn.self) (omega (arith, low)) c.loop-turn.invariant.raises
+
+pub returns-clause-raises : goal.returns-clause-raises
+returns-clause-raises g c =
+    raises_more c.loop-turn._turn 17 (raid_by c.args.self.now) (raid_by c.loop-turn.self) (omega arith) c.loop-turn.invariant.raises
 
 pub returns-then-is_empty-clause-idle : goal.returns-then-is_empty-clause-idle
 returns-then-is_empty-clause-idle g c = c.loop-turn.invariant.idle

@@ -1,5 +1,5 @@
 use Rattle.std.proofs.Common.{◌≡◌}
-use Rattle.raid_rack.specs.Moves.{AreMarked, Moves}
+use Rattle.raid_rack.specs.Moves.{AreMarked, Moves, RaisesBy}
 use Rattle.raid_rack.specs.RaidRack.{IsRunning, raid_by}
 use Rattle.raid_rack.proofs.Rounds.{HasTurns}
 use Rattle.raid_rack.proofs.arrays.Arrays.mark_all.Given as goal
@@ -9,6 +9,7 @@ invariant-loop-turn g l = record {
   moves : Moves (raid_by l.fn.self) (raid_by l.self) (g.S.Rack.seen l.fn.rack) (g.S.Rack.seen l.rack);
   running : IsRunning l.self (g.S.Rack.seen l.rack);
   turns : HasTurns (raid_by l.self) l._turn;
+  raises : RaisesBy l._turn (raid_by l.fn.self) (raid_by l.self);
   idle : AreMarked (raid_by l.fn.self) → (l.self ≡ l.fn.self) × (l.rack ≡ l.fn.rack);
   runs : g.S.Rack.runs l.fn.rack l.rack;
 }

@@ -1,7 +1,7 @@
 use Rattle.arrayvec.specs.ArrayVec.{with_items}
 use Rattle.array_core.specs.Seats.{heeded}
 use Rattle.raid_rack.proofs.Mended.{each_items}
-use Rattle.raid_rack.proofs.Rounds.{heeds, idle_by}
+use Rattle.raid_rack.proofs.Rounds.{heeds, heeds_raise, idle_by}
 use Rattle.raid_rack.proofs.arrays.Arrays.mend.Goals as goal
 
 pub returns-clause-mends : goal.returns-clause-mends
@@ -24,3 +24,10 @@ returns-clause-idle g c = λ are.
     let each = each_items s.all c.as_mut_slice.result.now c.heed_all.new.arrays heeded c.as_mut_slice.ensures.value c.heed_all.ensures in
     let same = c.mark_all.ensures.idle are in
     (idle_by c.args.self.now s (with_items s.all c.heed_all.new.arrays) (g.S.Rack.seen c.mark_all.new.rack) c.mark_all.ensures.running each.0 same.0, same.1)
+
+pub returns-clause-raises : goal.returns-clause-raises
+returns-clause-raises g c =
+    let s = c.mark_all.new.self in
+    let each = each_items s.all c.as_mut_slice.result.now c.heed_all.new.arrays heeded c.as_mut_slice.ensures.value c.heed_all.ensures in
+    heeds_raise 17 c.args.self.now s (with_items s.all c.heed_all.new.arrays) (g.S.Rack.seen c.args.rack.now) (g.S.Rack.seen c.mark_all.new.rack)
+    c.mark_all.ensures.moves c.mark_all.ensures.running each.0 c.mark_all.ensures.raises

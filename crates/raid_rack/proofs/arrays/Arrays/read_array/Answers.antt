@@ -1,6 +1,8 @@
 use Rattle.std.proofs.Common.{refl, slice_set, arith}
 use Rattle.arrayvec.specs.ArrayVec.{with_items}
 use Rattle.raid_rack.specs.RaidRack.{no_array}
+use Rattle.raid_rack.proofs.Raises.{notes_raise}
+use Rattle.raid_rack.proofs.RaisedCalls.{raises_call}
 use Rattle.raid_rack.proofs.Steps.{same_element, items_set}
 use Rattle.raid_rack.proofs.Synced.{has_read, reads_value, read_only}
 use Rattle.raid_rack.proofs.arrays.Arrays.read_array.Goals as goal
@@ -40,3 +42,17 @@ returns-clause-reads g c =
 
 pub returns-clause-runs : goal.returns-clause-runs
 returns-clause-runs g c = g.met.S.Rack.runs_then _ _ _ c.read.ensures.runs c.mend.ensures.runs
+
+pub returns-clause-raises : goal.returns-clause-raises
+returns-clause-raises g c =
+    let a = c.args.self.now in
+    let n = c.args.number in
+    let count = c.requires.running.count in
+    let low = c.requires.number in
+    raises_call 0 17 a c.mend.new.self (with_items a.all (slice_set c.deref_mut.result.now n c.read.new.self)) a.log n _ c.read.new.self
+    c.requires.running.count low
+    (same_element c.deref_mut.result.now a.all.items n _ no_array c.deref_mut.ensures.value (omega (arith, count, low)))
+    (items_set a.all c.deref_mut.result.now n c.read.new.self c.deref_mut.ensures.value)
+    (omega arith)
+    (notes_raise _ c.read.new.self (g.S.Rack.seen c.args.rack.now) (g.S.Rack.seen c.read.new.rack) c.read.ensures.notes)
+    c.mend.ensures.raises

@@ -1,6 +1,8 @@
 use Rattle.std.proofs.Common.{refl, slice_set, arith}
 use Rattle.arrayvec.specs.ArrayVec.{with_items}
 use Rattle.raid_rack.specs.RaidRack.{no_array}
+use Rattle.raid_rack.proofs.Raises.{notes_raise}
+use Rattle.raid_rack.proofs.RaisedCalls.{raises_call}
 use Rattle.raid_rack.proofs.Steps.{same_element, items_set}
 use Rattle.raid_rack.proofs.Synced.{has_synced, syncs_one}
 use Rattle.raid_rack.proofs.arrays.Arrays.sync_array.Goals as goal
@@ -32,3 +34,17 @@ returns-clause-syncs g c =
     (items_set a.all c.deref_mut.result.now n c.sync.new.self c.deref_mut.ensures.value)
     c.sync.ensures.syncs c.sync.ensures.reads c.sync.ensures.notes)
     refl c.mend.ensures.mends
+
+pub returns-clause-raises : goal.returns-clause-raises
+returns-clause-raises g c =
+    let a = c.args.self.now in
+    let n = c.args.number in
+    let count = c.requires.running.count in
+    let low = c.requires.number in
+    raises_call 0 17 a c.mend.new.self (with_items a.all (slice_set c.deref_mut.result.now n c.sync.new.self)) a.log n _ c.sync.new.self
+    c.requires.running.count low
+    (same_element c.deref_mut.result.now a.all.items n _ no_array c.deref_mut.ensures.value (omega (arith, count, low)))
+    (items_set a.all c.deref_mut.result.now n c.sync.new.self c.deref_mut.ensures.value)
+    (omega arith)
+    (notes_raise _ c.sync.new.self (g.S.Rack.seen c.args.rack.now) (g.S.Rack.seen c.sync.new.rack) c.sync.ensures.notes)
+    c.mend.ensures.raises

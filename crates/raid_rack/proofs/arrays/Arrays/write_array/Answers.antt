@@ -6,6 +6,8 @@ use Rattle.raid_rack.specs.RaidRack.{no_array}
 use Rattle.raid_rack.proofs.Mended.{on_named}
 use Rattle.raid_rack.proofs.Noted.{current_few}
 use Rattle.raid_rack.proofs.Sent.{has_written, later_number, writes_one}
+use Rattle.raid_rack.proofs.Raises.{writes_raise}
+use Rattle.raid_rack.proofs.RaisedCalls.{logs_raise, raises_call}
 use Rattle.raid_rack.proofs.Steps.{same_element, items_set}
 use Rattle.raid_rack.proofs.arrays.Arrays.write_array.Goals as goal
 
@@ -52,3 +54,17 @@ returns-clause-writes g c =
 
 pub returns-clause-runs : goal.returns-clause-runs
 returns-clause-runs g c = g.met.S.Rack.runs_then _ _ _ c.write.ensures.runs c.mend.ensures.runs
+
+pub returns-clause-raises : goal.returns-clause-raises
+returns-clause-raises g c =
+    let a = c.args.self.now in
+    let n = c.args.number in
+    let count = c.requires.running.count in
+    let low = c.requires.number in
+    raises_call 1 17 a c.mend.new.self (with_items a.all (slice_set c.deref_mut.result.now n c.write.new.self)) c.write.new.log n _ c.write.new.self
+    c.requires.running.count low
+    (same_element c.deref_mut.result.now a.all.items n _ no_array c.deref_mut.ensures.value (omega (arith, count, low)))
+    (items_set a.all c.deref_mut.result.now n c.write.new.self c.deref_mut.ensures.value)
+    (let up = logs_raise c.clear.new.self c.write.new.log c.write.ensures.log in let e = ap (λ (l : LogView). l.number) c.clear.ensures in omega (arith, up, e))
+    (writes_raise _ c.write.new.self (g.S.Rack.seen c.args.rack.now) (g.S.Rack.seen c.write.new.rack) c.write.ensures.view)
+    c.mend.ensures.raises

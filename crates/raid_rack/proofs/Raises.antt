@@ -1,0 +1,80 @@
+-- How far a call raises the numbers that end: those of the log, of states and of superblocks.
+use Rattle.std.proofs.Common.{◌≡◌, ℕ, ◌+◌, ◌-◌, ◌^◌, ◌<◌, ◌≤◌, Bool, nat_lt, if◌then◌else◌, refl, sym, ap, subst, ◌∙◌, inl, inr, lt-ltb, le-ltb, arith}
+use Rattle.std.proofs.lemmas.Bool.{cases_eq, cases_lt}
+use Rattle.rack.specs.Seen.{Seen}
+use Rattle.array_model.specs.View.{View}
+use Rattle.array_model.specs.Members.{Notes}
+use Rattle.array_core.specs.Superblocks.{settled, raised}
+use Rattle.array_core.specs.Settling.{Cleans as ArrayCleans, Settles}
+use Rattle.array_core.specs.Writing.{WritesView, as_it_was, newly_marked}
+use Rattle.raid_rack.specs.Raid.{Raid}
+use Rattle.raid_rack.specs.Moves.{RaisesBy}
+use Rattle.raid_rack.proofs.Changed.{called}
+
+pub raises_none : (v : Raid) → RaisesBy 0 v v
+raises_none v = record { number = omega arith; epoch = omega arith; events = λ n low. omega arith }
+
+pub raises_more : (j k : ℕ) (v w : Raid) → j ≤ k → RaisesBy j v w → RaisesBy k v w
+raises_more j k v w more one = record {
+  number = let a = one.number in omega (arith, a, more);
+  epoch = let a = one.epoch in omega (arith, a, more);
+  events = λ n low. let a = one.events n low in omega (arith, a, more);
+}
+
+pub raises_then : (j k : ℕ) (v w z : Raid) → w.state.made ≡ v.state.made → RaisesBy j v w → RaisesBy k w z → RaisesBy (j + k) v z
+raises_then j k v w z made one two = record {
+  number = let a = one.number in let b = two.number in omega (arith, a, b);
+  epoch = let a = one.epoch in let b = two.epoch in omega (arith, a, b);
+  events = λ n low. let a = one.events n low in let b = two.events n (subst (λ i. n < i) (sym made) low) in omega (arith, a, b);
+}
+
+-- a call of array m alone
+pub raises_one : (k : ℕ) (v : Raid) (f : ℕ → View) (number m : ℕ) → ((n : ℕ) → (n ≡ m → ⊥) → f n ≡ v.arrays n) → number ≤ v.number + k
+    → (f m).truth.events ≤ (v.arrays m).truth.events + k → RaisesBy k v (called v f number)
+raises_one k v f number m others more events = record {
+  number = more;
+  epoch = omega arith;
+  events = λ n low.
+      elim (cases_eq n m) [
+        | inl same ↦ subst (λ j. (f j).truth.events ≤ (v.arrays j).truth.events + k) (sym same) events
+        | inr apart ↦ let e = ap (λ (u : View). u.truth.events) (others n apart) in omega (arith, e)
+      ];
+}
+
+-- one event more, or the last one
+pub raised_up : (n : ℕ) → raised n ≤ n + 1
+raised_up n = elim (cases_lt n (2 ^ 63 - 1)) [
+  | inl room ↦ let e : raised n ≡ n + 1 = ap (λ (b : Bool). if b then n + 1 else n) (lt-ltb n (2 ^ 63 - 1) room) in omega (arith, e)
+  | inr last ↦ let e : raised n ≡ n = ap (λ (b : Bool). if b then n + 1 else n) (le-ltb n (2 ^ 63 - 1) last) in omega (arith, e)
+]
+
+notes_events : (v w : View) (a b : Seen) → Notes v w a b → w.truth.events ≡ v.truth.events
+notes_events v w a b notes = ap (λ t. t.events) notes.same.truth
+
+pub notes_raise : (v w : View) (a b : Seen) → Notes v w a b → w.truth.events ≤ v.truth.events + 0
+notes_raise v w a b notes = let e = notes_events v w a b notes in omega (arith, e)
+
+pub settles_raise : (v w : View) (a b : Seen) → Settles v w a b → w.truth.events ≤ v.truth.events + 1
+settles_raise v w a b settles =
+    let e = ap (λ (u : View). u.truth.events) settles.truth in
+    let f = notes_events v settles.synced a b settles.notes in
+    let up = raised_up settles.synced.truth.events in
+    omega (arith, e, f, up)
+
+pub cleans_raise : (v w : View) (a b : Seen) → ArrayCleans v w a b → w.truth.events ≤ v.truth.events + 1
+cleans_raise v w a b cleans =
+    let first = notes_events v cleans.synced a b cleans.notes in
+    elim cleans.either [
+      | inl done ↦ let e = ap (λ (u : View). u.truth.events) done.same in omega (arith, e, first)
+      | inr now ↦
+          let e = notes_events (settled cleans.synced) w a b now.notes in
+          let up = raised_up cleans.synced.truth.events in
+          omega (arith, e, first, up)
+    ]
+
+pub writes_raise : (v w : View) (a b : Seen) → WritesView v w a b → w.truth.events ≤ v.truth.events + 1
+writes_raise v w a b (as_it_was why notes) = let e = notes_events v w a b notes in omega (arith, e)
+writes_raise v w a b (newly_marked whole fresh unmarked notes) =
+    let e = ap (λ t. t.events) notes.same.truth in
+    let up = raised_up v.truth.events in
+    omega (arith, e, up)
