@@ -62,6 +62,7 @@ module _ (v : Raid) (f : ℕ → View) (m : ℕ) (a b : Seen) (set : IsSet v a) 
         book = after_same v.state;
         leaves = read_leaves;
         number = omega arith;
+        events = (further v f m a b set views v.number (omega arith)).events;
         sectors = views_sectors v f m a b set views;
         left = left_before v f m a b set views;
         cause = caused v f m a b set views;

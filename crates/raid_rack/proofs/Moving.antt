@@ -86,6 +86,7 @@ moves_same v x set =
       book = after_same v.state;
       leaves = λ traced. leaves_same x (λ c. Unit {0});
       number = omega arith;
+      events = λ n low. omega arith;
       sectors = λ n. refl;
       left = λ place is. is;
       cause = λ place was now. absurd (both_ways (is_left v place) now was);
@@ -105,6 +106,7 @@ moves_then v w z a b c one two =
       book = after_then v.state w.state z.state one.book two.book;
       leaves = λ traced. leaves_then (λ c. Unit {0}) (one.leaves traced) (two.leaves (one.stays.traced traced));
       number = (let first = one.number in let second = two.number in omega (arith, first, second));
+      events = λ n low. (let first = one.events n low in let second = two.events n (still_made n low) in omega (arith, first, second));
       sectors = λ n. two.sectors n ∙ one.sectors n;
       left = λ place is. one.left place (two.left place is);
       cause = λ place was now. caused place was now;
@@ -147,6 +149,8 @@ moves_bring v w a b moves =
       set = moves.set;
       book = moves.book;
       leaves = moves.leaves;
+      number = moves.number;
+      events = moves.events;
       sectors = moves.sectors;
       unwritten = moves.unwritten;
       still = moves.still;
@@ -162,6 +166,8 @@ brings_then v w z a b c now one two =
       set = two.set;
       book = after_then v.state w.state z.state one.book two.book;
       leaves = λ traced. leaves_then (λ i. Unit {0}) (one.leaves traced) (two.leaves (one.stays.traced traced));
+      number = (let first = one.number in let second = two.number in omega (arith, first, second));
+      events = λ n low. (let first = one.events n low in let second = two.events n (still_made n low) in omega (arith, first, second));
       sectors = λ n. two.sectors n ∙ one.sectors n;
       unwritten = unwritten_then v w a b c one.book one.stays two.stays one.unwritten two.unwritten;
       still = λ n made over. one.still n made (two.still n (still_made n made) over);

@@ -235,6 +235,7 @@ moves_noted lost v f x set noting went sectors =
       book = after_same v.state;
       leaves = λ traced. leaves_same x (λ c. Unit {0});
       number = omega arith;
+      events = (noted_further lost v f x set noting went).events;
       sectors = sectors;
       left = λ p is. sym (noted_left lost v f noting went p) ∙ is;
       cause = λ p was now. absurd (both_ways (is_left v p) (sym (noted_left lost v f noting went p) ∙ now) was);
@@ -258,6 +259,8 @@ noted_brings lost v f x set noting sectors =
       set = set_noted lost v f x set noting;
       book = after_same v.state;
       leaves = λ traced. leaves_same x (λ c. Unit {0});
+      number = omega arith;
+      events = λ n low. let e = ap (λ (u : View). u.truth.events) (noting.arrays n low) in omega (arith, e);
       sectors = sectors;
       unwritten = λ d t live gone. keeps_same (x.held d t);
       still = λ n low goes. over_still v (with_arrays v f) (record {
@@ -376,6 +379,7 @@ moves_heeded v f x set arrays sectors are =
       book = after_same v.state;
       leaves = λ traced. leaves_same x (λ c. Unit {0});
       number = omega arith;
+      events = λ n low. let e = ap (λ (u : View). u.truth.events) (arrays n low) in omega (arith, e);
       sectors = sectors;
       left = λ p is. sym (heeded_left v f arrays are p) ∙ is;
       cause = λ p was now. absurd (both_ways (is_left v p) (sym (heeded_left v f arrays are p) ∙ now) was);

@@ -171,6 +171,8 @@ runs_call a b x y now fit after inside brings cause =
     let acts = raid_acts v w x y vals call in
     record {
       book = brings.book;
+      number = brings.number;
+      events = brings.events;
       sectors = brings.stays.sectors;
       faults = brings.stays.faults;
       traced = brings.stays.traced;

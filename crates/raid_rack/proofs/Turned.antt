@@ -162,6 +162,7 @@ moves_emptied v lost x set lost_is noted nobody unmarked =
       book = after_marked lost v.state;
       leaves = λ traced. leaves_same x (λ c. Unit {0});
       number = omega arith;
+      events = λ n low. omega arith;
       sectors = λ n. refl;
       left = λ p is. absurd (both_ways (is_left w p) (none p) is);
       cause = λ p was now.

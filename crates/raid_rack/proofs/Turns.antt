@@ -72,6 +72,7 @@ moves_commit u v lost on gone l xs f a b c settles commit =
       book = after_then u.state v.state w.state one.book second;
       leaves = λ traced. leaves_then (λ i. Unit {0}) (one.leaves traced) (call.leaves (one.stays.traced traced));
       number = (let more = one.number in let next = next_later l.number in let same = commit.marking.number in omega (arith, more, next, same));
+      events = λ n made. (let more = one.events n made in let next = (after_further v lost on gone l xs f b c commit).events n (made_still n made) in omega (arith, more, next));
       sectors = λ n. commit.sectors n ∙ one.sectors n;
       left = λ p is. one.left p (after_left v lost on gone l xs f b c commit p is);
       cause = λ p was now.

@@ -179,6 +179,8 @@ module _ (v : Raid) (f : ℕ → View) (number m : ℕ) (a b : Seen) (now : (ℕ
         set = views_set v f m a b set call.views number;
         book = after_same v.state;
         leaves = call.goes.leaves;
+        number = call.later;
+        events = (further v f m a b set call.views number call.later).events;
         sectors = views_sectors v f m a b set call.views;
         unwritten = one_unwritten;
         still = one_still;

@@ -101,6 +101,7 @@ pub record Moves (v w : Raid) (a b : Seen) : Type 0 where
   pub book : IsAfter v.state w.state
   pub leaves : a.traced → Leaves a b (λ c. Unit {0})
   pub number : v.number ≤ w.number
+  pub events : (n : ℕ) → n < v.state.made → (v.arrays n).truth.events ≤ (w.arrays n).truth.events
   pub sectors : (n : ℕ) → sectors_of (w.arrays n) ≡ sectors_of (v.arrays n)
   -- whoever isn't left any more has a fault, and what is spent stays so
   pub left : (place : ℕ) → is_left w place ≡ true → is_left v place ≡ true
@@ -152,6 +153,8 @@ pub record Brings (v w : Raid) (a b : Seen) (now : ℕ → (ℕ → Values) → 
   pub set : IsSet w b
   pub book : IsAfter v.state w.state
   pub leaves : a.traced → Leaves a b (λ c. Unit {0})
+  pub number : v.number ≤ w.number
+  pub events : (n : ℕ) → n < v.state.made → (v.arrays n).truth.events ≤ (w.arrays n).truth.events
   pub sectors : (n : ℕ) → sectors_of (w.arrays n) ≡ sectors_of (v.arrays n)
   pub unwritten : KeepsMarked v a b
   -- what is spent stays so

@@ -1,5 +1,5 @@
 -- What calls in a row of a rack of arrays do to its book and to images of its slices.
-use Rattle.std.proofs.Common.{◌≡◌, ℕ, ◌<◌, ◌≤◌, Bool, true, false, Some, refl, subst, inl, inr, ◌∙◌, arith}
+use Rattle.std.proofs.Common.{◌≡◌, ℕ, ◌<◌, ◌≤◌, Bool, true, false, Some, refl, sym, subst, inl, inr, ◌∙◌, arith}
 use Rattle.std.proofs.lemmas.Bool.{cases_Bool, both_ways}
 use Rattle.rack.specs.Seen.{Image, IsLive, Seen}
 use Rattle.rack.specs.Moments.{Leaves}
@@ -29,6 +29,9 @@ pub record IsBetween (s t : State) (n : ℕ) (r : Image) : Type 0 where
 -- those after. What is told stays so.
 pub record RaidRuns (v w : Raid) (a b : Seen) : Type 0 where
   pub book : IsAfter v.state w.state
+  -- nor do the log's number and events fall
+  pub number : v.number ≤ w.number
+  pub events : (n : ℕ) → n < v.state.made → (v.arrays n).truth.events ≤ (w.arrays n).truth.events
   pub sectors : (d : ℕ) → b.sectors d ≡ a.sectors d
   pub faults : (d : ℕ) → a.faults d ≤ b.faults d
   pub traced : a.traced → b.traced
@@ -49,6 +52,8 @@ pub raid_runs_same : (v : Raid) (x : Seen) → RaidRuns v v x x
 raid_runs_same v x =
     record {
       book = after_same v.state;
+      number = omega arith;
+      events = λ n low. omega arith;
       sectors = λ d. refl;
       faults = λ d. omega arith;
       traced = λ traced. traced;
@@ -93,6 +98,11 @@ pub raid_runs_then : (v w z : Raid) (a b c : Seen) → RaidRuns v w a b → Raid
 raid_runs_then v w z a b c one two =
     record {
       book = after_then v.state w.state z.state one.book two.book;
+      number = let first = one.number in let second = two.number in omega (arith, first, second);
+      events = λ n low.
+          let first = one.events n low in
+          let second = two.events n (subst (λ k. n < k) (sym one.book.same.made) low) in
+          omega (arith, first, second);
       sectors = λ d. two.sectors d ∙ one.sectors d;
       faults = λ d. let first = one.faults d in let second = two.faults d in omega (arith, first, second);
       traced = λ traced. two.traced (one.traced traced);
