@@ -1,5 +1,5 @@
 -- Calls of one array that write nothing, as parts of a call of all.
-use Rattle.std.proofs.Common.{◌≡◌, ℕ, ◌+◌, ◌-◌, ◌*◌, ◌/◌, ◌%◌, ◌^◌, ◌<◌, ◌≤◌, Bool, true, false, nat_lt, if◌then◌else◌, ◌⊎◌, refl, sym, ap, subst, ◌∙◌, inl, inr, ltb-true, lt-ltb, le-ltb, arith}
+use Rattle.std.proofs.Common.{◌≡◌, ℕ, ◌+◌, ◌-◌, ◌*◌, ◌/◌, ◌%◌, ◌^◌, ◌<◌, ◌≤◌, Bool, true, false, nat_lt, if◌then◌else◌, ◌⊎◌, refl, sym, ap, subst, inl, inr, ltb-true, lt-ltb, le-ltb, arith}
 use Rattle.std.proofs.lemmas.Bool.{cases_eq, cases_lt, both_ways, ltb-false}
 use Rattle.rack.specs.Values.{Values}
 use Rattle.rack.specs.Seen.{Seen, IsPick}
@@ -9,7 +9,7 @@ use Rattle.rack.specs.Sequences.{OnlyReads}
 use Rattle.pool_state.specs.declared.contents.State.{State}
 use Rattle.array_image.specs.Arrays.{Shape}
 use Rattle.array_image.specs.Supers.{is_unclean}
-use Rattle.array_model.specs.View.{View, IsArray, rows_of, shape_of}
+use Rattle.array_model.specs.View.{View, IsArray, rows_of}
 use Rattle.array_model.specs.ArrayCalls.{Covers, Keeping}
 use Rattle.array_model.specs.Members.{Notes}
 use Rattle.array_core.specs.Superblocks.{settled, settled_truth, left_offset, raised}

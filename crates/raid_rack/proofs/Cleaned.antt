@@ -1,11 +1,10 @@
 -- A cleaning of one array, as a part of a call of all.
-use Rattle.std.proofs.Common.{◌≡◌, ◌≢◌, ◌⊎◌, ℕ, ◌+◌, ◌*◌, ◌%◌, ◌<◌, Bool, true, false, ◌==◌, ◌||◌, if◌then◌else◌, List, [], ◌∷◌, slice_get, Option, Some, None, option_map, refl, sym, ap, subst, ◌∙◌, inl, inr, eq-eqb, eqb-true, arith}
+use Rattle.std.proofs.Common.{◌≡◌, ◌≢◌, ℕ, ◌+◌, ◌<◌, Bool, false, ◌==◌, ◌||◌, if◌then◌else◌, List, [], ◌∷◌, slice_get, Option, Some, None, option_map, refl, sym, ap, subst, ◌∙◌, inl, inr, eq-eqb, eqb-true, arith}
 use Rattle.std.proofs.lemmas.Bool.{cases_Bool, cases_eq, both_ways}
 use Rattle.rack.specs.Values.{Values, MayLeave, Keeps}
 use Rattle.rack.specs.Seen.{Seen, IsLive, Stays}
 use Rattle.array_image.specs.Places.{member_slice, slice_of, super_sector}
 use Rattle.array_image.specs.Arrays.{Shape}
-use Rattle.array_image.specs.States.{is_current}
 use Rattle.array_image.specs.Held.{IsSettled}
 use Rattle.commit_log.specs.Kept.{LogKept}
 use Rattle.commit_log.specs.View.{names}
@@ -30,7 +29,7 @@ use Rattle.raid_rack.specs.Cleaning.{Ends, HasSupersOn, IsEnded, IsIdle, NoneFai
 use Rattle.raid_rack.proofs.Calls.{may_settle, settled_notes}
 use Rattle.raid_rack.proofs.Changed.{ViewsOne, called, caused, further, left_before, new_gone, views_counted, views_notes, views_sectors, views_set, views_spent}
 use Rattle.raid_rack.proofs.Over.{over_still}
-use Rattle.raid_rack.proofs.Seated.{view_with, with_seats}
+use Rattle.raid_rack.proofs.Seated.{view_with}
 use Rattle.raid_rack.proofs.Whole.{heeded_gone}
 use Rattle.raid_rack.proofs.Written.{ActsOne, may_renew, one_still, one_unwritten, other_part, own_part}
 

@@ -1,6 +1,6 @@
 -- Cleanings in a row, and the mending of losses after each.
-use Rattle.std.proofs.Common.{◌≡◌, ◌≢◌, ℕ, ◌+◌, ◌<◌, ◌≤◌, Bool, true, false, ◌==◌, ◌||◌, nat_lt, List, [], set, length, get_or, refl, sym, ap, subst, ◌∙◌, inl, inr, eq-eqb, eqb-true, ne_eqb, lt-ltb, le-ltb, ltb-true, arith}
-use Rattle.std.proofs.lemmas.Bool.{cases_Bool, cases_lt, cases_eq, both_ways, ltb-false}
+use Rattle.std.proofs.Common.{◌≡◌, ℕ, ◌+◌, ◌<◌, ◌≤◌, Bool, true, false, ◌==◌, ◌||◌, nat_lt, List, [], set, length, get_or, refl, sym, ap, subst, ◌∙◌, inl, inr, eq-eqb, eqb-true, ne_eqb, lt-ltb, le-ltb, ltb-true, arith}
+use Rattle.std.proofs.lemmas.Bool.{cases_Bool, cases_lt, cases_eq, both_ways}
 use Rattle.arrayvec.specs.ArrayVec.{ArrayVec}
 use Rattle.rack.specs.Values.{Values, Keeps}
 use Rattle.rack.specs.Seen.{Seen, IsLive, Stays}
@@ -20,7 +20,7 @@ use Rattle.array_core.specs.Settling.{Cleans as ArrayCleans, KeepsOthers}
 use Rattle.array_core.specs.Pool.{Goes, MayRenew}
 use Rattle.array_core.specs.Writing.{KeepsElsewhere}
 use Rattle.raid_rack.specs.declared.arrays.Arrays.{Arrays}
-use Rattle.raid_rack.specs.Raid.{Raid, is_over}
+use Rattle.raid_rack.specs.Raid.{Raid}
 use Rattle.raid_rack.specs.Moves.{AreMarked, IsHeeded, IsSet, Mends}
 use Rattle.raid_rack.specs.Cleaning.{Cleans, CleansAll, Ends, IsEnded, IsIdle, NoneFails, as_it_was, restated}
 use Rattle.raid_rack.specs.RaidRack.{IsRunning, raid_by, no_array}

@@ -31,6 +31,7 @@ pub mod Whole
 pub mod Written
 pub mod Cleaned
 pub mod Cleanings
+pub mod CleanImages
 pub mod Sent
 pub mod Ended
 pub mod Serving

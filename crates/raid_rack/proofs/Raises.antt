@@ -1,5 +1,5 @@
 -- How far a call raises the numbers that end: those of the log, of states and of superblocks.
-use Rattle.std.proofs.Common.{◌≡◌, ℕ, ◌+◌, ◌-◌, ◌^◌, ◌<◌, ◌≤◌, Bool, nat_lt, if◌then◌else◌, refl, sym, ap, subst, ◌∙◌, inl, inr, lt-ltb, le-ltb, arith}
+use Rattle.std.proofs.Common.{◌≡◌, ℕ, ◌+◌, ◌-◌, ◌^◌, ◌<◌, ◌≤◌, Bool, if◌then◌else◌, sym, ap, subst, inl, inr, lt-ltb, le-ltb, arith}
 use Rattle.std.proofs.lemmas.Bool.{cases_eq, cases_lt}
 use Rattle.rack.specs.Seen.{Seen}
 use Rattle.array_model.specs.View.{View}

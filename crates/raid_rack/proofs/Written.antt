@@ -102,12 +102,15 @@ marked_elsewhere s n u x on d seated unnamed gone =
     elim (cases_eq (slice_of d) 0) [
       | inl log ↦ inl (log, unnamed (place_of d) gone)
       | inr some ↦
-          inr (some, λ k low there is.
-          let few = seated.is_array.few in
-          let here : place_of d ≡ place_at u k = omega (arith, is, few) in
-          let missing = missing_of (slice_get u.seats k) (is_current s (place_at u k)) (has_gone u (place_at u k))
-          (subst (λ p. is_current s p ≡ false) here gone) (seated.marks k low) in
-          both_ways true (sym there ∙ ap (λ (o : Option Seat). option_map_or (λ seat. not (is_missing_seat seat)) o true) missing) refl)
+          inr (
+            some,
+            λ k low there is.
+                let few = seated.is_array.few in
+                let here : place_of d ≡ place_at u k = omega (arith, is, few) in
+                let missing = missing_of (slice_get u.seats k) (is_current s (place_at u k)) (has_gone u (place_at u k))
+                (subst (λ p. is_current s p ≡ false) here gone) (seated.marks k low) in
+                both_ways true (sym there ∙ ap (λ (o : Option Seat). option_map_or (λ seat. not (is_missing_seat seat)) o true) missing) refl,
+          )
     ]
 
 -- ---- a call of array m that may write it, where whoever went is marked

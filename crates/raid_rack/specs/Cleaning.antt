@@ -1,17 +1,20 @@
 -- A clean end: arrays whose members are synced, and whose superblocks leave no rows to resync but those that are left in them.
 use Rattle.std.specs.Prelude.{◌≡◌, ◌≢◌, ◌+◌, ◌<◌, ℕ, Bool, true, false, nat_lt, List, slice_get, Some}
 use Rattle.rack.specs.Values.{Values, MayLeave, Keeps}
-use Rattle.rack.specs.Seen.{Seen, IsLive}
+use Rattle.rack.specs.Seen.{Image, Seen, IsLive}
+use Rattle.md_super.specs.declared.superblock.Super.{Super}
+use Rattle.array_image.specs.Left.{IsLeft}
+use Rattle.array_image.specs.Supers.{truth_in}
 use Rattle.array_image.specs.Places.{slice_of, super_sector}
 use Rattle.array_image.specs.Held.{IsSettled}
 use Rattle.array_model.specs.declared.Seat.TheVariants.{Missing}
 use Rattle.array_model.specs.View.{View, HasFault, shape_of}
 use Rattle.array_model.specs.Members.{IsSameButSeats, slice_on}
 use Rattle.array_model.specs.ArrayCalls.{Covers}
-use Rattle.array_core.specs.Superblocks.{is_settled, settled}
+use Rattle.array_core.specs.Superblocks.{is_settled, left_offset, settled}
 use Rattle.array_core.specs.Settling.{IsOwnSector}
 use Rattle.array_core.specs.Seats.{heeded}
-use Rattle.raid_rack.specs.Raid.{Raid, is_over}
+use Rattle.raid_rack.specs.Raid.{Raid, IsTold, is_over}
 use Rattle.raid_rack.specs.Moves.{IsAmid, IsHeeded, Moves}
 
 -- no drive refuses a call
@@ -52,6 +55,14 @@ pub record Cleans (on : ℕ → Bool) (v w : Raid) (a b : Seen) : Type 0 where
 -- all of them
 abbrev pub CleansAll : Raid → Raid → Seen → Seen → Type 0
 CleansAll v w a b = Cleans (λ n. nat_lt n v.state.made) v w a b
+
+-- Where no drive refused a call, an array whose superblocks were written leaves in each image the rows to resync that were left in it,
+-- and no others.
+abbrev pub LeavesItsRows : Raid → Raid → Seen → Seen → Type 0
+LeavesItsRows v w a b =
+    NoneFails a b
+    → (n : ℕ) → IsTold v a n → is_over w n ≡ false → is_settled (v.arrays n) ≡ false
+    → (r : Image) → IsLeft b r → (t : Super) → truth_in w.state r n ≡ Some t → t.resync_offset ≡ left_offset (v.arrays n)
 
 -- Where whoever went is marked, a mending calls nothing: what went in each array is heeded.
 pub record IsIdle (v w : Raid) : Type 0 where

@@ -1,7 +1,7 @@
 -- What calls in a row of a rack of arrays do to its book and to images of its slices.
 use Rattle.std.proofs.Common.{◌≡◌, ℕ, ◌<◌, ◌≤◌, Bool, true, false, Some, refl, sym, subst, inl, inr, ◌∙◌, arith}
 use Rattle.std.proofs.lemmas.Bool.{cases_Bool, both_ways}
-use Rattle.rack.specs.Seen.{Image, IsLive, Seen}
+use Rattle.rack.specs.Seen.{Image, Seen}
 use Rattle.rack.specs.Moments.{Leaves}
 use Rattle.rack.specs.Joins.{keeps_same, keeps_then, leaves_same, leaves_then, leaves_weaker, rose_before, rose_since}
 use Rattle.md_super.specs.declared.superblock.Super.{Super}

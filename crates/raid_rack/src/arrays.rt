@@ -42,7 +42,7 @@ impl<R: Rack> RaidRack<R> {
     ghost use Rattle.array_image.specs.States.{is_current};
     ghost use Rattle.raid_rack.specs.Losses.{has_other};
     ghost use Rattle.raid_rack.specs.Moves.{Mends, RaisesBy, noted_at};
-    ghost use Rattle.raid_rack.specs.Cleaning.{CleansAll};
+    ghost use Rattle.raid_rack.specs.Cleaning.{CleansAll, LeavesItsRows};
     ghost use Rattle.raid_rack.specs.Runs.{RaidRuns};
     ghost use Rattle.raid_rack.specs.RaidRack.{SliceRuns, IsFit, KeepsRack, arrays_in, arrays_of, raid_seen, raid_in, refused_in, slices_in, slices_seen};
 
@@ -113,6 +113,7 @@ impl<R: Rack> RaidRack<R> {
     pub fn clean(&mut self)
         requires fit { IsFit (arrays_in self.old) (slices_seen R.seen self.old) }
         ensures cleans { CleansAll (raid_in self.old) (raid_in self.new) (slices_seen R.seen self.old) (slices_seen R.seen self.new) }
+        ensures images { LeavesItsRows (raid_in self.old) (raid_in self.new) (slices_seen R.seen self.old) (slices_seen R.seen self.new) }
         ensures keeps { KeepsRack (raid_seen R.seen self.old) (raid_seen R.seen self.new) }
         ensures raises { RaisesBy 288 (raid_in self.old) (raid_in self.new) }
         ensures runs { SliceRuns R.seen R.runs (slices_in self.old) (slices_in self.new) }

@@ -175,8 +175,8 @@ impl Arrays {
         ensures running { IsRunning self.new (S.seen rack.new) }
         ensures runs { S.runs rack.old rack.new }
     {
-        for n in 0..self.all.len() {
-            self.clean_array(rack, n);
+        for number in 0..self.all.len() {
+            self.clean_array(rack, number);
         }
     }
 

@@ -4,10 +4,10 @@ use Rattle.raid_rack.specs.Moves.{RaisesBy}
 use Rattle.raid_rack.specs.RaidRack.{IsRunning, raid_by}
 use Rattle.raid_rack.proofs.arrays.Arrays.clean_all.Given as goal
 
-abbrev pub invariant-loop-n : goal.invariant-loop-n
-invariant-loop-n g l = record {
-  cleans : Cleans (λ n. nat_lt n l.n) (raid_by l.fn.self) (raid_by l.self) (g.S.Rack.seen l.fn.rack) (g.S.Rack.seen l.rack);
-  raises : RaisesBy (l.n * 18) (raid_by l.fn.self) (raid_by l.self);
+abbrev pub invariant-loop-number : goal.invariant-loop-number
+invariant-loop-number g l = record {
+  cleans : Cleans (λ n. nat_lt n l.number) (raid_by l.fn.self) (raid_by l.self) (g.S.Rack.seen l.fn.rack) (g.S.Rack.seen l.rack);
+  raises : RaisesBy (l.number * 18) (raid_by l.fn.self) (raid_by l.self);
   running : IsRunning l.self (g.S.Rack.seen l.rack);
   runs : g.S.Rack.runs l.fn.rack l.rack;
 }

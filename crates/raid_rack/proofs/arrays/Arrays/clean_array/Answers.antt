@@ -1,6 +1,5 @@
-use Rattle.std.proofs.Common.{◌≡◌, ◌==◌, ℕ, get_or, slice_set, subst, sym, arith}
+use Rattle.std.proofs.Common.{◌==◌, get_or, slice_set, subst, sym, arith}
 use Rattle.arrayvec.specs.ArrayVec.{with_items}
-use Rattle.array_model.specs.View.{View}
 use Rattle.raid_rack.specs.Cleaning.{Ends}
 use Rattle.raid_rack.specs.RaidRack.{no_array, raid_by}
 use Rattle.raid_rack.proofs.Raises.{cleans_raise}
