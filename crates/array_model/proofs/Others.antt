@@ -16,7 +16,7 @@ use Rattle.array_model.specs.Says.{IsOpen, HoldsShape, Holds}
 use Rattle.array_model.proofs.Keeping.{reading_live, reading_outside, inside_before, logs_of, KeepsData, live_on, live_after, open_after, same_value, held_kept, even_kept, settled_kept}
 
 -- the sectors of another array are apart
-other_apart : (n m place t : ℕ) → n < 16 → m < 16 → (m ≡ n → ⊥) → IsApart n (member_slice place m) t
+pub other_apart : (n m place t : ℕ) → n < 16 → m < 16 → (m ≡ n → ⊥) → IsApart n (member_slice place m) t
 other_apart n m place t few also other =
     (λ same. absurd (other (omega (arith, few, also, same))), inl (λ none. absurd (omega (arith, also, none))))
 
@@ -91,6 +91,24 @@ apart_picks {a} {b} n lasting stays keeps c picks =
           ];
     }
 
+-- Contents that a stop leaves after a call of array n are, apart from it, such as one before might leave.
+pub apart_left : {a b : Seen} (n : ℕ) → a.lasting → Stays a b
+    → ((d t : ℕ) → IsLive a b d t → IsApart n d t → Keeps (a.held d t) (b.held d t))
+    → IsCalm n a → IsCalm n b
+    → (r : Image) → IsLeft b r → (e : Image) × IsLeft a e × ((d t : ℕ) → IsApart n d t → r d t ≡ e d t)
+apart_left {a} {b} n lasting stays keeps calm calm_now r left =
+    let c = left.0 in
+    let before : Image = apart_only n a c in
+    let picks = apart_picks n lasting stays keeps c left.1 in (
+      replayed a.sectors before,
+      (before, picks, λ d t. refl),
+      λ d t apart.
+          left.2 d t
+          ∙ calm_now c (logs_of c left.1) d t apart
+          ∙ apart_kept n a c d t apart
+          ∙ sym (calm before (logs_of before picks) d t apart),
+    )
+
 -- Every other array m holds after a call of array n what it held before it.
 pub other_holds : {a b : Seen} (n m : ℕ) → n < 16 → m < 16 → (m ≡ n → ⊥)
     → a.lasting → Stays a b
@@ -102,22 +120,15 @@ other_holds {a} {b} n m few also other lasting stays keeps calm calm_now s durab
     let sectors_keep : (shape : Shape) → IsOpen shape m a → KeepsData shape m a.held b.held =
     λ shape is_open o sector among counts.
     keeps (member_slice o.place m) (data_sector + sector) (live_on lasting stays (is_open o sector among counts)) (other_apart n m o.place (data_sector + sector) few also other) in
-    let before : Image → Image = λ c. apart_only n a c in
-    let picks : (c : Image) → Picks b c → Picks a (before c) = λ c picks_b. apart_picks n lasting stays keeps c picks_b in
     let left = sectors_keep noted holds.open_left in
     record {
       open_slices = open_after lasting stays durable m holds.open_slices;
       open_left = open_after lasting stays noted m holds.open_left;
       says = λ r left_b.
-          let c = left_b.0 in
-          let e : Image = replayed a.sectors (before c) in
-          let agree : Agree m r e = λ place t.
-          let apart = other_apart n m place t few also other in
-          left_b.2 (member_slice place m) t
-          ∙ calm_now c (logs_of c left_b.1) (member_slice place m) t apart
-          ∙ apart_kept n a c (member_slice place m) t apart
-          ∙ sym (calm (before c) (logs_of (before c) (picks c left_b.1)) (member_slice place m) t apart) in
-          let says = holds.says e (before c, picks c left_b.1, λ d t. refl) in
+          let at = apart_left n lasting stays keeps calm calm_now r left_b in
+          let e : Image = at.0 in
+          let agree : Agree m r e = λ place t. at.2 (member_slice place m) t (other_apart n m place t few also other) in
+          let says = holds.says e at.1 in
           record {
             shape_is = shape_same s r e m agree ∙ says.shape_is;
             value = λ x unspent. subst (MayLeave (vals x)) (sym (value_same durable r e m x agree)) (says.value x unspent);

@@ -18,6 +18,7 @@ use Rattle.raid_rack.specs.Book.{after_same}
 use Rattle.raid_rack.specs.Raid.{Raid, gone_in, is_over}
 use Rattle.raid_rack.specs.Moves.{IsOfPool, IsSet, PartOf, Moves}
 use Rattle.raid_rack.proofs.Changed.{ViewsOne, MayRestate, further, marked_before, more_gone, same_shape, left_before, caused, part_if, views_counted, views_notes, views_sectors, views_set, views_spent}
+use Rattle.raid_rack.proofs.Rows.{KeepsClear, clear_same, clear_seats, clear_settled, rows_read}
 use Rattle.raid_rack.proofs.Over.{someone_left, over_still}
 use Rattle.raid_rack.proofs.Reading.{part_read, part_unread}
 use Rattle.raid_rack.proofs.Seated.{view_with}
@@ -28,6 +29,7 @@ use Rattle.raid_rack.proofs.Noted.{with_arrays}
 pub record ReadsOne (v : Raid) (f : ℕ → View) (m : ℕ) (a b : Seen) : Type 0 where
   pub views : ViewsOne v f m a b
   pub reads : OnlyReads a b
+  pub clear : KeepsClear (v.arrays m) (f m)
   pub keeps : (s : State) (durable : Shape) (vals : ℕ → Values) (spent : ℕ → Bool) → Covers (f m) spent → Keeping s (v.arrays m) (f m) spent a b durable vals
 
 module _ (v : Raid) (f : ℕ → View) (m : ℕ) (a b : Seen) (set : IsSet v a) (call : ReadsOne v f m a b) where
@@ -72,6 +74,12 @@ module _ (v : Raid) (f : ℕ → View) (m : ℕ) (a b : Seen) (set : IsSet v a) 
         unwritten = λ d t live gone. call.reads.keeps.held d t live;
         kept = λ d t live apart other. call.reads.keeps.held d t live;
         parts = λ n vals spent joined low goes covers. read_part n vals spent low goes covers;
+        rows = λ n vals spent joined low goes covers amid rows.
+            rows_read v (with_arrays v f) a b n set.lasting call.reads
+            (elim (cases_eq n m) [
+              | inl same ↦ subst (λ k. KeepsClear (v.arrays k) (f k)) (sym same) call.clear
+              | inr apart ↦ clear_same (v.arrays n) (f n) (views.others n apart)
+            ]) rows;
       }
 
 pub reads_notes : (v : Raid) (f : ℕ → View) (m : ℕ) (a b : Seen) → IsSet v a → m < v.state.made → OnlyReads a b
@@ -86,6 +94,7 @@ reads_notes v f m a b set low reads others notes keeps =
           (record { later = omega arith; some = pool.events; few = pool.events_end; whole = pool.written.resync; unsynced = pool.unsynced })
           (λ marked. inl marked) notes;
       reads = reads;
+      clear = clear_seats u (f m) notes.same;
       keeps = keeps;
     }
 
@@ -179,5 +188,6 @@ reads_settled v f m a b set low reads others settles keeps =
           (may_settle v.state u seated.is_array seated.is_of_pool) (λ marked. absurd (both_ways false refl marked))
           (subst (λ (k : View). Notes (settled u) k a b) (sym settles.truth) (settled_notes u z a b settles.notes));
       reads = reads;
+      clear = subst (λ (k : View). KeepsClear u k) (sym settles.truth) (clear_settled u z settles.notes.same);
       keeps = keeps;
     }

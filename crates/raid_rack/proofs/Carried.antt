@@ -1,19 +1,25 @@
 -- The commit that marks losses, seen from one array that stands.
-use Rattle.std.proofs.Common.{◌≡◌, ℕ, suc, ◌-◌, ◌^◌, ◌<◌, Bool, true, false, ◌&&◌, ◌||◌, not, if◌then◌else◌, List, [], ◌∷◌, length, slice_get, Option, Some, None, option_map, unwrap_or, refl, sym, ap, subst, ◌∙◌, inl, inr, arith}
+use Rattle.std.proofs.Common.{◌≡◌, ℕ, suc, ◌-◌, ◌^◌, ◌<◌, ◌≤◌, Bool, true, false, ◌&&◌, ◌||◌, not, if◌then◌else◌, List, [], ◌∷◌, length, slice_get, Option, Some, None, option_map, unwrap_or, refl, sym, ap, subst, ◌∙◌, inl, inr, arith}
 use Rattle.std.proofs.lemmas.Bool.{cases_Bool, both_ways, and_parts, and_from}
 use Rattle.rack.specs.Values.{Values}
-use Rattle.rack.specs.Seen.{Seen}
+use Rattle.rack.specs.Seen.{Image, Seen}
+use Rattle.md_super.specs.declared.superblock.Super.{Super}
+use Rattle.pool_state.specs.declared.contents.State.{State}
 use Rattle.rack.specs.Joins.{leaves_weaker}
-use Rattle.rack.specs.Targets.{Target}
-use Rattle.array_image.specs.Places.{member_slice, super_sector}
-use Rattle.array_image.specs.States.{is_current}
+use Rattle.rack.specs.Targets.{Target, put}
+use Rattle.array_image.specs.Places.{log_slice, member_slice, super_sector}
+use Rattle.array_image.specs.States.{is_current, state_in}
+use Rattle.array_image.specs.Supers.{truth_in}
+use Rattle.array_image.specs.SoundArray.{first_unsynced}
+use Rattle.array_image.proofs.Frames.{Agree, state_same, supers_same, truth_by_supers}
 use Rattle.array_image.specs.Arrays.{replayed}
 use Rattle.array_image.specs.Held.{IsSettled, current_in}
 use Rattle.array_image.specs.Marks.{lowered}
-use Rattle.array_image.specs.Left.{IsInside}
+use Rattle.array_image.specs.Left.{IsInside, LogsInside, Picks}
 use Rattle.commit_log.specs.View.{LogView, names, next_number}
 use Rattle.commit_log.specs.Kept.{LogKept, AreLeft, Brings, gone_with}
-use Rattle.commit_log.proofs.Kept.{kept_ready, kept_decides}
+use Rattle.commit_log.specs.Commits.{Commits}
+use Rattle.commit_log.proofs.Kept.{before_inside, brought_state, kept_ready, kept_decides, stands_of}
 use Rattle.array_model.specs.declared.Seat.{Seat}
 use Rattle.array_model.specs.declared.Seat.TheVariants.{Missing}
 use Rattle.array_model.specs.View.{View, has_gone, is_missing_seat, place_at, present, may_vary, shape_of}
@@ -25,12 +31,16 @@ use Rattle.array_model.proofs.Noting.{laid_out, unspent_then}
 use Rattle.raid_rack.specs.Raid.{Raid, gone_in, is_over, Stood}
 use Rattle.raid_rack.specs.Losses.{AddsCopies}
 use Rattle.array_model.specs.Says.{HoldsShape}
+use Rattle.array_core.specs.Superblocks.{is_settled}
+use Rattle.raid_rack.specs.Laws.{stood_left}
+use Rattle.raid_rack.specs.Rows.{KeepsRows, LeavesFrom, LeavesRows}
+use Rattle.raid_rack.proofs.Rows.{from_same, settled_rows}
 use Rattle.raid_rack.specs.Marking.{Restates, SaysBetween, Part}
 use Rattle.raid_rack.specs.Moves.{IsSeated, AreMarked, IsAmid, PartOf}
 use Rattle.raid_rack.specs.Settling.{HasSupers, state_after}
 use Rattle.raid_rack.proofs.Missing.{length_marked}
 use Rattle.raid_rack.proofs.Added.{marks_bring}
-use Rattle.raid_rack.proofs.Marking.{MarksCall, NotesLost, marks_part, shape_after}
+use Rattle.raid_rack.proofs.Marking.{MarksCall, alike_agree, alike_state, restated_after, NotesLost, marks_part, shape_after}
 use Rattle.raid_rack.proofs.Restated.{IsStaged, restates_staged}
 use Rattle.raid_rack.proofs.Over.{someone_left, member_left, number_room, not_true}
 use Rattle.raid_rack.proofs.Seated.{place_few}
@@ -252,6 +262,59 @@ module _ (v : Raid) (lost on gone : List ℕ) (l : LogView) (xs : List Target) (
       or_last : (x y : Bool) → y ≡ true → (x || y) ≡ true
       or_last true y is = refl
       or_last false y is = is
+
+  -- contents that have the new state and the superblocks of the commit
+  put_rows : LeavesRows v b n → (before r : Image) → Picks b before → state_in r ≡ Some (state_after v lost) → Agree n r (put b.sectors l.added before)
+      → LeavesFrom (v.arrays n).resync n r
+  put_rows rows before r picks state_is agree s t state truth =
+      let u = v.arrays n in
+      let e : Image = put b.sectors l.added before in
+      let same : s ≡ state_after v lost = ap (λ (o : Option State). unwrap_or o s) (sym state ∙ state_is) in
+      let fields = restates.truth before picks t
+      (sym (truth_by_supers (state_after v lost) r e n (supers_same (state_after v lost) r e n agree)) ∙ subst (λ k. truth_in k r n ≡ Some t) same truth) in
+      subst (λ k. u.resync ≤ k) (sym (ap first_unsynced fields)) (settled_rows u seated.is_array rows.young rows.settled)
+
+  -- so the commit leaves the rows that are left
+  pub commit_rows : LeavesRows v b n → KeepsRows v (raid_after v lost (next_number l.number) f) b c n
+  commit_rows rows =
+      let arrays = commit.arrays n low in
+      record {
+        same = ap (λ (u : View). u.resync) arrays;
+        leaves = λ traced.
+            leaves_weaker (λ i. LogsInside b.sectors i → Commits l.added b i)
+            (λ i. IsInside b.sectors i → LeavesFrom (v.arrays n).resync n (replayed b.sectors i))
+            (λ i commits inside. moment rows i inside (commits (λ place t out. inside (log_slice place) t out)))
+            (commit.call.stops traced marks_call.ready marks_call.decides);
+        after = record {
+          settled = ap is_settled arrays ∙ rows.settled;
+          young = ap (λ (u : View). u.young) arrays ∙ rows.young;
+          images = λ r left.
+              let at = restated_after v.state (state_after v lost) (shape_of (v.arrays n)) false (v.arrays n) (gone_in v) l on gone b c n r small marks_call restates left in
+              let stood = part.holds amid.stood in
+              let read = stood_left (state_after v lost) (shape_of (v.arrays n)) vals spent (gone_with (gone_in v) gone) (raid_after v lost (next_number l.number) f) c n left.0 stood left.1 in
+              subst (λ k. LeavesFrom k n r) (sym (ap (λ (u : View). u.resync) arrays))
+              (put_rows rows at.0 r at.1 (state_same r (replayed c.sectors left.0) (λ place. left.2 (log_slice place) 0) ∙ read.0) at.2);
+        };
+      }
+    where
+      moment : LeavesRows v b n → (i : Image) → IsInside b.sectors i → Commits l.added b i → LeavesFrom (v.arrays n).resync n (replayed b.sectors i)
+      moment rows i inside commits =
+          let before = commits.before in
+          let picks = before_inside l.added b i before inside commits.stands commits.either in
+          let r : Image = replayed b.sectors i in
+          let log = amid.stood.log in
+          elim commits.either [
+            | inl old ↦
+                let e : Image = replayed b.sectors before in
+                from_same (v.arrays n).resync n r e (alike_state r e old) (alike_agree n r e small old) (rows.images e (before, picks, λ d t. refl))
+            | inr new ↦
+                let e : Image = put b.sectors l.added before in
+                put_rows rows before r picks
+                (alike_state r e new
+                ∙ brought_state v.state (state_after v lost) (gone_in v) on l.added b before someone.0 log.logs log.copies brings (stands_of before picks)
+                (log.few someone.0 was_one) (log.there someone.0 was_one left_both.0) was_one left_both.0 someone.1)
+                (alike_agree n r e small new)
+          ]
 
   pub commit_part : PartOf v (raid_after v lost (next_number l.number) f) b c n vals vals spent
   commit_part =

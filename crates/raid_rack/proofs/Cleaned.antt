@@ -31,7 +31,9 @@ use Rattle.raid_rack.proofs.Changed.{ViewsOne, called, caused, further, left_bef
 use Rattle.raid_rack.proofs.Over.{over_still}
 use Rattle.raid_rack.proofs.Seated.{view_with}
 use Rattle.raid_rack.proofs.Whole.{heeded_gone}
-use Rattle.raid_rack.proofs.Written.{ActsOne, may_renew, one_still, one_unwritten, other_part, own_part}
+use Rattle.raid_rack.proofs.Written.{ActsOne, may_renew, one_still, one_unwritten, other_part, other_rows, own_part}
+use Rattle.raid_rack.specs.Rows.{KeepsRows, LeavesRows}
+use Rattle.raid_rack.proofs.Rows.{KeepsClear, clear_seats, rows_read}
 
 -- ---- what it makes of the array
 
@@ -155,6 +157,18 @@ module _ (v : Raid) (f : ℕ → View) (m : ℕ) (a b : Seen) (set : IsSet v a) 
     elsewhere = ([], λ p gone. refl, call.elsewhere);
   }
 
+  -- where its superblocks leave the rows that are left, none is written
+  own_rows : LeavesRows v a m → KeepsRows v (called v f v.number) a b m
+  own_rows rows =
+      let u = v.arrays m in
+      let z = call.view.synced in
+      elim call.view.either [
+        | inl done ↦
+            rows_read v (called v f v.number) a b m set.lasting done.reads
+            (subst (λ (k : View). KeepsClear u k) (sym done.same) (clear_seats u z call.view.notes.same)) rows
+        | inr now ↦ absurd (both_ways (is_settled u) (sym (settled_same u z call.view.notes.same) ∙ now.open_rows) rows.settled)
+      ]
+
   pub moves_clean : Moves v (called v f v.number) a b
   moves_clean =
       record {
@@ -179,6 +193,12 @@ module _ (v : Raid) (f : ℕ → View) (m : ℕ) (a b : Seen) (set : IsSet v a) 
                   (own_part v f v.number m a b (λ vals. vals) (MayRenew v.state (v.arrays m) a) set acts vals spent
                   (subst (λ k. is_over (called v f v.number) k ≡ false) same goes) (subst (λ k. Covers (f k) spent) same covers))
               | inr apart ↦ other_part v f v.number m a b (λ vals. vals) (MayRenew v.state (v.arrays m) a) set acts n vals spent apart low goes
+            ];
+        rows = λ n vals spent joined low goes covers amid rows.
+            elim (cases_eq n m) [
+              | inl same ↦
+                  subst (λ k. LeavesRows v a k → KeepsRows v (called v f v.number) a b k) (sym same) own_rows rows
+              | inr apart ↦ other_rows v f v.number m a b (λ vals. vals) (MayRenew v.state (v.arrays m) a) set acts n vals spent apart low goes amid rows
             ];
       }
 

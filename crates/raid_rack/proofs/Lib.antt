@@ -3,6 +3,7 @@ pub mod Raid
 mod Ranges
 pub mod Dropped
 pub mod Synced
+pub mod Rows
 pub mod Raises
 pub mod RaisedCalls
 pub mod Rounds

@@ -42,10 +42,10 @@ member_no_log n place t few part = absurd (omega (arith, few, part.0))
 state_no_log : (place : ℕ) → IsLogPart (log_slice place) 0 → ⊥
 state_no_log place part = absurd (omega (arith, part.1))
 
-alike_agree : (n : ℕ) (c e : Image) → n < 16 → IsAlike c e → Agree n c e
+pub alike_agree : (n : ℕ) (c e : Image) → n < 16 → IsAlike c e → Agree n c e
 alike_agree n c e few alike place t = alike (member_slice place n) t (member_no_log n place t few)
 
-alike_state : (c e : Image) → IsAlike c e → state_in c ≡ state_in e
+pub alike_state : (c e : Image) → IsAlike c e → state_in c ≡ state_in e
 alike_state c e alike = state_same c e (λ place. alike (log_slice place) 0 (state_no_log place))
 
 -- no target is for a member's data
@@ -157,7 +157,7 @@ still_after s t gone l on lost a b n place sector c few call picks =
     ])
 
 -- and replayed contents restate the array
-restated_after : (s t : State) (noted : Shape) (marked : Bool) (view : View) (gone : ℕ → Bool) (l : LogView) (on lost : List ℕ) (a b : Seen) (n : ℕ) (r : Image)
+pub restated_after : (s t : State) (noted : Shape) (marked : Bool) (view : View) (gone : ℕ → Bool) (l : LogView) (on lost : List ℕ) (a b : Seen) (n : ℕ) (r : Image)
     → n < 16 → MarksCall s t gone l on lost a b → Restates t noted marked view l.added a n → IsLeft b r
     → (before : Image) × Picks a before × Agree n r (put a.sectors l.added before)
 restated_after s t noted marked view gone l on lost a b n r few call restates left =

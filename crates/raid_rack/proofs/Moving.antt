@@ -12,7 +12,9 @@ use Rattle.array_image.specs.Left.{IsInside}
 use Rattle.array_model.specs.View.{HasFault}
 use Rattle.raid_rack.specs.Book.{IsAfter, after_same, after_then}
 use Rattle.raid_rack.specs.Raid.{Raid, is_left}
+use Rattle.array_model.specs.ArrayCalls.{Covers}
 use Rattle.raid_rack.specs.Marking.{SaysBetween}
+use Rattle.raid_rack.proofs.Rows.{clear_same, rows_still, rows_then}
 use Rattle.raid_rack.specs.Moves.{IsSet, IsAmid, KeepsMarked, PartOf, AreCaused, Brings, Moves}
 
 -- ---- one array
@@ -96,6 +98,7 @@ moves_same v x set =
       unwritten = λ d t live gone. keeps_same (x.held d t);
       kept = λ d t live apart other. keeps_same (x.held d t);
       parts = λ n vals spent joined made goes covers. part_still v v x n vals spent (λ amid. amid);
+      rows = λ n vals spent joined made goes covers amid rows. rows_still v v x n (clear_same (v.arrays n) (v.arrays n) refl) rows;
     }
 
 pub moves_then : (v w z : Raid) (a b c : Seen) → Moves v w a b → Moves w z b c → Moves v z a c
@@ -123,6 +126,13 @@ moves_then v w z a b c one two =
           (λ i says. says_later v.state w.state z.state n vals spent (replayed a.sectors i) one.book says)
           (one.parts n vals spent joined made (two.still n (still_made n made) goes) (λ y alive. two.spent n y (still_made n made) (covers y alive)))
           (two.parts n vals spent (subst (λ k. n < k) (sym one.book.same.joined) joined) (still_made n made) goes covers);
+      rows = λ n vals spent joined made goes covers amid rows.
+          let goes_w = two.still n (still_made n made) goes in
+          let covered : Covers (w.arrays n) spent = λ y alive. two.spent n y (still_made n made) (covers y alive) in
+          let first = one.rows n vals spent joined made goes_w covered amid rows in
+          rows_then v w z a b c n one.stays first
+          (two.rows n vals spent (subst (λ k. n < k) (sym one.book.same.joined) joined) (still_made n made) goes covers
+          ((one.parts n vals spent joined made goes_w covered).holds amid) first.after);
     }
   where
     still_made : (n : ℕ) → n < v.state.made → n < w.state.made
@@ -156,6 +166,7 @@ moves_bring v w a b moves =
       still = moves.still;
       spent = moves.spent;
       parts = moves.parts;
+      rows = λ n vals spent unwritten joined made goes covers amid rows. moves.rows n vals spent joined made goes covers amid rows;
     }
 
 -- a write, and what moves no value after it
@@ -178,6 +189,13 @@ brings_then v w z a b c now one two =
           (λ i says. says_later v.state w.state z.state n (now n vals) spent (replayed a.sectors i) one.book says)
           (one.parts n vals spent joined made (two.still n (still_made n made) goes) (λ y alive. two.spent n y (still_made n made) (covers y alive)))
           (two.parts n (now n vals) spent (subst (λ k. n < k) (sym one.book.same.joined) joined) (still_made n made) goes covers);
+      rows = λ n vals spent unwritten joined made goes covers amid rows.
+          let goes_w = two.still n (still_made n made) goes in
+          let covered : Covers (w.arrays n) spent = λ y alive. two.spent n y (still_made n made) (covers y alive) in
+          let first = one.rows n vals spent unwritten joined made goes_w covered amid rows in
+          rows_then v w z a b c n one.stays first
+          (two.rows n (now n vals) spent (subst (λ k. n < k) (sym one.book.same.joined) joined) (still_made n made) goes covers
+          ((one.parts n vals spent joined made goes_w covered).holds amid) first.after);
     }
   where
     still_made : (n : ℕ) → n < v.state.made → n < w.state.made

@@ -28,6 +28,7 @@ use Rattle.array_model.proofs.Losses.{IsLosing}
 use Rattle.array_model.proofs.Spared.{at_most_one, lost_value, wanting_more}
 use Rattle.array_model.proofs.Noting.{laid_out, unspent_then}
 use Rattle.array_core.specs.Seats.{names, gone, heeded}
+use Rattle.array_core.specs.Superblocks.{is_settled}
 use Rattle.raid_rack.specs.Book.{after_same}
 use Rattle.raid_rack.specs.Raid.{Raid, AreLive, gone_in, is_left, is_over}
 use Rattle.raid_rack.specs.Moves.{IsSet, IsSeated, IsMarkedWhole, AreMarked, IsAmid, Brings, Moves}
@@ -36,6 +37,7 @@ use Rattle.raid_rack.proofs.Ranges.{any_some, any_from}
 use Rattle.raid_rack.proofs.Over.{someone_left, not_true, over_still, IsFurther}
 use Rattle.raid_rack.proofs.Reading.{stood_noted, stood_heeded}
 use Rattle.raid_rack.proofs.Moving.{part_still}
+use Rattle.raid_rack.proofs.Rows.{KeepsClear, rows_still}
 use Rattle.raid_rack.proofs.Seated.{names_joined, gone_losing, gone_fewer, gone_seated, heeded_seated}
 
 -- ---- places that went
@@ -226,6 +228,13 @@ set_noted lost v f x set noting = record {
   marked = noted_whole lost v f noting;
 }
 
+-- what is noted and heeded isn't the truth
+noted_clear : (lost : List ℕ) (u w : View) → w ≡ gone lost u → KeepsClear u w
+noted_clear lost u w same = record { resync = ap (λ (z : View). z.resync) same; young = ap (λ (z : View). z.young) same; settled = λ young is. ap is_settled same ∙ is }
+
+heeded_clear : (u w : View) → w ≡ heeded u → KeepsClear u w
+heeded_clear u w same = record { resync = ap (λ (z : View). z.resync) same; young = ap (λ (z : View). z.young) same; settled = λ young is. ap is_settled same ∙ is }
+
 pub moves_noted : (lost : List ℕ) (v : Raid) (f : ℕ → View) (x : Seen) → IsSet v x → IsNoting lost v f → HaveGone lost v
     → ((n : ℕ) → sectors_of (f n) ≡ sectors_of (v.arrays n)) → Moves v (with_arrays v f) x x
 moves_noted lost v f x set noting went sectors =
@@ -248,6 +257,7 @@ moves_noted lost v f x set noting went sectors =
       unwritten = λ d t live gone. keeps_same (x.held d t);
       kept = λ d t live apart other. keeps_same (x.held d t);
       parts = λ n vals spent joined low goes covers. part_still v (with_arrays v f) x n vals spent (noted_amid lost v f x n vals spent set noting low goes covers);
+      rows = λ n vals spent joined low goes covers amid rows. rows_still v (with_arrays v f) x n (noted_clear lost (v.arrays n) (f n) (noting.arrays n low)) rows;
     }
 
 -- so they move no value
@@ -274,6 +284,7 @@ noted_brings lost v f x set noting sectors =
       spent = λ n y low alive.
           losing_spent (v.arrays n) (f n) (names lost) (set.arrays n low).is_array (noted_losing lost v f n noting low (set.arrays n low).is_array) y alive;
       parts = λ n vals spent joined low goes covers. part_still v (with_arrays v f) x n vals spent (noted_amid lost v f x n vals spent set noting low goes covers);
+      rows = λ n vals spent unwritten joined low goes covers amid rows. rows_still v (with_arrays v f) x n (noted_clear lost (v.arrays n) (f n) (noting.arrays n low)) rows;
     }
 
 -- ---- they are heeded
@@ -397,4 +408,5 @@ moves_heeded v f x set arrays sectors are =
       unwritten = λ d t live gone. keeps_same (x.held d t);
       kept = λ d t live apart other. keeps_same (x.held d t);
       parts = λ n vals spent joined low goes covers. part_still v (with_arrays v f) x n vals spent (heeded_amid v f x n vals spent set arrays are low);
+      rows = λ n vals spent joined low goes covers amid rows. rows_still v (with_arrays v f) x n (heeded_clear (v.arrays n) (f n) (arrays n low)) rows;
     }

@@ -27,7 +27,8 @@ use Rattle.raid_rack.proofs.Noted.{gone_some, losing_spent}
 use Rattle.raid_rack.proofs.Elements.{look_lacks}
 use Rattle.raid_rack.proofs.Adding.{which, current_is}
 use Rattle.raid_rack.proofs.Committed.{IsCommit, commit_unwritten, raid_after, after_gone, after_new, gone_current, after_set, after_left, after_cause, after_further, after_marked, commit_losing, next_later}
-use Rattle.raid_rack.proofs.Carried.{commit_part}
+use Rattle.raid_rack.proofs.Carried.{commit_part, commit_rows}
+use Rattle.raid_rack.proofs.Rows.{rows_then}
 
 -- a second part that depends on what stood before the first
 parts_within : (v w z : Raid) (a b c : Seen) (n : ℕ) (vals : ℕ → Values) (spent : ℕ → Bool)
@@ -116,6 +117,15 @@ moves_commit u v lost on gone l xs f a b c settles commit =
           (λ amid.
           commit_part v lost on gone l xs f b c commit n vals spent (subst (λ k. n < k) (sym one.book.same.joined) joined) low goes covers (first.holds amid)
           (settles.settled n vals spent low joined mid_goes covered amid));
+      rows = λ n vals spent joined made goes covers amid rows.
+          let low = made_still n made in
+          let mid_goes = over_still v w (after_further v lost on gone l xs f b c commit) n low goes in
+          let covered : Covers (v.arrays n) spent = λ y alive.
+          losing_spent (v.arrays n) (f n) (names gone) (commit.marking.set.arrays n low).is_array (commit_losing v lost on gone l xs f b c commit n low) y (covers y alive) in
+          let first = one.rows n vals spent joined made mid_goes covered amid rows in
+          rows_then u v w a b c n one.stays first
+          (commit_rows v lost on gone l xs f b c commit n vals spent (subst (λ k. n < k) (sym one.book.same.joined) joined) low goes covers
+          ((one.parts n vals spent joined made mid_goes covered).holds amid) (settles.settled n vals spent low joined mid_goes covered amid) first.after);
     }
 
 -- whoever was left and went in the commit

@@ -1,8 +1,8 @@
 -- A call that may write to one array, as a part of a call of all.
-use Rattle.std.proofs.Common.{◌≡◌, ◌≢◌, ℕ, ◌+◌, ◌<◌, ◌≤◌, Bool, true, false, ◌==◌, ◌&&◌, not, if◌then◌else◌, List, slice_get, Option, Some, None, refl, sym, ap, subst, ◌∙◌, inl, inr, eq-eqb, ne_eqb, arith}
+use Rattle.std.proofs.Common.{◌≡◌, ◌≢◌, ℕ, ◌+◌, ◌<◌, ◌≤◌, Bool, true, false, ◌==◌, ◌&&◌, not, if◌then◌else◌, List, [], ◌∷◌, ◌++◌, length, length-append, slice_get, Option, Some, None, refl, sym, ap, subst, ◌∙◌, inl, inr, eq-eqb, ne_eqb, arith}
 use Rattle.std.proofs.lemmas.Bool.{both_ways, cases_eq}
 use Rattle.std.specs.Option.{option_map_or}
-use Rattle.rack.specs.Values.{Values}
+use Rattle.rack.specs.Values.{Values, append}
 use Rattle.rack.specs.Seen.{Seen, IsLive}
 use Rattle.pool_state.specs.declared.contents.State.{State}
 use Rattle.array_image.specs.Places.{member_slice, data_sector, place_of, slice_of, super_sector}
@@ -29,7 +29,9 @@ use Rattle.raid_rack.proofs.Carried.{seat_marks}
 use Rattle.raid_rack.proofs.Changed.{ViewsOne, called, part_if, marked_before, same_shape, further, views_set, views_sectors, views_spent}
 use Rattle.raid_rack.proofs.Noted.{current_few, gone_from, gone_not}
 use Rattle.raid_rack.proofs.Over.{event_room, number_room, over_still, someone_left}
-use Rattle.raid_rack.proofs.Parts.{part_own, part_other}
+use Rattle.raid_rack.proofs.Parts.{kept_calm, part_own, part_other}
+use Rattle.raid_rack.specs.Rows.{KeepsRows, LeavesRows}
+use Rattle.raid_rack.proofs.Rows.{rows_other}
 use Rattle.raid_rack.proofs.Seated.{missing_of, place_few}
 use Rattle.raid_rack.proofs.Whole.{heeded_gone, heeded_whole}
 
@@ -175,8 +177,20 @@ module _ (v : Raid) (f : ℕ → View) (number m : ℕ) (a b : Seen) (now : (ℕ
   one_unwritten d t live gone =
       call.elsewhere.2 d t live (marked_elsewhere v.state m (v.arrays m) a call.elsewhere.0 d (set.arrays m call.views.low) call.elsewhere.1 gone)
 
-  pub one_brings : Brings v (called v f number) a b (λ n vals. if n == m then now vals else vals)
-  one_brings =
+  -- an array that isn't called leaves the rows that it left
+  pub other_rows : (n : ℕ) (vals : ℕ → Values) (spent : ℕ → Bool) → (n ≡ m → ⊥) → n < v.state.made → is_over (called v f number) n ≡ false
+      → IsAmid v a n vals spent → LeavesRows v a n → KeepsRows v (called v f number) a b n
+  other_rows n vals spent apart low goes amid rows =
+      let able = call.able n vals spent low goes amid in
+      let own = held_in v a m in
+      let shape = shape_of (v.arrays m) in
+      rows_other v.state v (called v f number) a b n m (spent_in (f m)) shape shape own (now own) (Says v.state (v.arrays m).number shape (now own) (spent_in (f m)))
+      (small m call.views.low) (small n low) apart (set.arrays m call.views.low).number (call.views.others n apart) set.lasting
+      (call.acts own (spent_in (f m)) (λ y alive. alive) able)
+      (kept_calm v.state v.number (gone_in v) a (v.arrays m).number amid.stood.log marked) rows
+
+  pub one_brings : ((was : ℕ → Values) → now was ≡ was → ⊥) → Brings v (called v f number) a b (λ n vals. if n == m then now vals else vals)
+  one_brings writes =
       record {
         stays = call.goes.stays;
         set = views_set v f m a b set call.views number;
@@ -196,6 +210,12 @@ module _ (v : Raid) (f : ℕ → View) (number m : ℕ) (a b : Seen) (now : (ℕ
                   (subst (λ k. PartOf v (called v f number) a b k vals (now vals) spent) (sym same)
                   (own_part vals spent (subst (λ k. is_over (called v f number) k ≡ false) same goes) (subst (λ k. Covers (f k) spent) same covers)))
               | inr apart ↦ subst Goal (sym (ne_eqb n m apart)) (other_part n vals spent apart low goes)
+            ];
+        rows = λ n vals spent unwritten joined low goes covers amid rows.
+            elim (cases_eq n m) [
+              | inl same ↦
+                  absurd (writes vals (sym (ap (λ (t : Bool). if t then now vals else vals) (eq-eqb n m same)) ∙ unwritten vals))
+              | inr apart ↦ other_rows n vals spent apart low goes amid rows
             ];
       }
 
@@ -230,7 +250,16 @@ write_brings v f number m a b on sector from set call =
           (λ p is. gone_from (called v f number) p m (call.few p is) call.views.low is) (call.kept given);
       elsewhere = (on, λ p gone. ap (λ ps. names ps p) call.on_is ∙ names_current v.state p ∙ gone, call.elsewhere);
     })
+    (λ was same. longer (was sector) (sym (ap (λ (t : Bool). if t then append (was sector) from else was sector) (eq-eqb sector sector refl)) ∙ ap (λ (h : ℕ → Values). h sector) same))
   where
+    length_more : (xs ys : List (List ℕ)) → xs ≡ xs ++ ys → length ys ≡ 0
+    length_more xs ys same = let sum = ap length same ∙ length-append xs ys in omega (arith, sum)
+
+    longer : (h : Values) → append h from ≡ h → ⊥
+    longer h same =
+        let none = length_more h.older (h.current ∷ []) (sym (ap (λ (k : Values). k.older) same)) in
+        absurd (omega (arith, none))
+
     and_true : (c : Bool) → (c && true) ≡ c
     and_true true = refl
     and_true false = refl

@@ -4,6 +4,7 @@ pub mod Missing
 pub mod Acts
 pub mod Marking
 pub mod Losses
+pub mod Rows
 pub mod Moves
 pub mod Settling
 pub mod Cleaning

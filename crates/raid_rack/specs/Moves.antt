@@ -22,6 +22,7 @@ use Rattle.array_core.specs.Seats.{gone}
 use Rattle.raid_rack.specs.Raid.{Raid, AreLive, gone_in, is_left, is_over, Stood}
 use Rattle.raid_rack.specs.Book.{IsAfter}
 use Rattle.raid_rack.specs.Marking.{SaysBetween}
+use Rattle.raid_rack.specs.Rows.{KeepsRows, LeavesRows}
 
 -- ---- what holds at each point of a call, whatever the rack below tells
 
@@ -118,6 +119,9 @@ pub record Moves (v w : Raid) (a b : Seen) : Type 0 where
   pub parts :
       (n : ℕ) (vals : ℕ → Values) (spent : ℕ → Bool) → n < v.state.joined → n < v.state.made → is_over w n ≡ false → Covers (w.arrays n) spent
       → PartOf v w a b n vals vals spent
+  pub rows :
+      (n : ℕ) (vals : ℕ → Values) (spent : ℕ → Bool) → n < v.state.joined → n < v.state.made → is_over w n ≡ false → Covers (w.arrays n) spent
+      → IsAmid v a n vals spent → LeavesRows v a n → KeepsRows v w a b n
 
 -- the log's number, the epoch and each array's events rise by so many at most
 pub record RaisesBy (k : ℕ) (v w : Raid) : Type 0 where
@@ -163,6 +167,10 @@ pub record Brings (v w : Raid) (a b : Seen) (now : ℕ → (ℕ → Values) → 
   pub parts :
       (n : ℕ) (vals : ℕ → Values) (spent : ℕ → Bool) → n < v.state.joined → n < v.state.made → is_over w n ≡ false → Covers (w.arrays n) spent
       → PartOf v w a b n vals (now n vals) spent
+  -- arrays that aren't written
+  pub rows :
+      (n : ℕ) (vals : ℕ → Values) (spent : ℕ → Bool) → ((was : ℕ → Values) → now n was ≡ was) → n < v.state.joined → n < v.state.made → is_over w n ≡ false
+      → Covers (w.arrays n) spent → IsAmid v a n vals spent → LeavesRows v a n → KeepsRows v w a b n
 
 -- whoever isn't left any more has a fault
 pub record AreCaused (v w : Raid) (a b : Seen) : Type 0 where

@@ -1,10 +1,24 @@
 use Rattle.arrayvec.specs.ArrayVec.{with_items}
 use Rattle.raid_rack.specs.declared.arrays.Arrays.{Arrays}
-use Rattle.std.proofs.Common.{◌<◌, length, slice_set, ap, ◌∙◌, arith}
+use Rattle.std.proofs.Common.{◌<◌, length, slice_set, ap, refl, subst, sym, ◌∙◌, arith}
 use Rattle.commit_log.specs.View.{LogView}
-use Rattle.raid_rack.specs.RaidRack.{no_array}
+use Rattle.raid_rack.specs.Settling.{SettlesTo}
+use Rattle.raid_rack.specs.RaidRack.{no_array, raid_by}
+use Rattle.raid_rack.proofs.Settling.{settles_first}
 use Rattle.raid_rack.proofs.Steps.{same_element, items_set, length_set, settle_slices, settle_step}
 use Rattle.raid_rack.proofs.arrays.Arrays.settle_all.Goals as goal
+
+pub loop-n-init : goal.loop-n-init
+loop-n-init g c =
+    let v = raid_by c.args.self.now in
+    let x = g.S.Rack.seen c.args.rack.now in
+    record {
+      settles = subst (λ xs. SettlesTo v v x x 0 xs) (sym c.requires.empty) (settles_first v x c.requires.running.set);
+      count = c.requires.running.count;
+      same = refl;
+      log = refl;
+      runs = g.met.S.Rack.runs_same c.args.rack.now;
+    }
 
 pub settle-requires-clause-slices : goal.settle-requires-clause-slices
 settle-requires-clause-slices g c =
