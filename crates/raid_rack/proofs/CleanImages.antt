@@ -1,5 +1,5 @@
 -- What images leave to resync after a clean end.
-use Rattle.std.proofs.Common.{◌≡◌, ◌≢◌, ◌⊎◌, ℕ, ◌+◌, ◌<◌, ◌≤◌, Bool, true, false, ◌==◌, ◌&&◌, not, if◌then◌else◌, [], length, slice_get, unwrap_or, Option, Some, None, option_map, refl, sym, ap, subst, ◌∙◌, inl, inr, eq-eqb, eqb-true, lt-ltb, arith}
+use Rattle.std.proofs.Common.{◌≡◌, ◌≢◌, ◌⊎◌, ℕ, ◌<◌, ◌≤◌, Bool, true, false, ◌==◌, ◌&&◌, not, if◌then◌else◌, [], length, slice_get, unwrap_or, Option, Some, None, option_map, refl, sym, ap, subst, ◌∙◌, inl, inr, eq-eqb, eqb-true, lt-ltb, arith}
 use Rattle.std.proofs.lemmas.Bool.{cases_Bool, cases_lt, both_ways}
 use Rattle.std.specs.List.{list_any, range_with_len}
 use Rattle.std.specs.Option.{option_map_or}
@@ -21,7 +21,7 @@ use Rattle.array_model.proofs.Keeping.{live_after, live_on, logs_of}
 use Rattle.array_core.specs.Superblocks.{is_settled, left_offset, member_super}
 use Rattle.array_core.proofs.Opened.{current_is, truth_leads}
 use Rattle.raid_rack.specs.declared.arrays.Arrays.{Arrays}
-use Rattle.raid_rack.specs.Raid.{Raid, AreLive, is_over, held_in, spent_of, Stood}
+use Rattle.raid_rack.specs.Raid.{AreLive, is_over, held_in, spent_of, Stood}
 use Rattle.raid_rack.specs.Moves.{IsSeated}
 use Rattle.raid_rack.specs.Cleaning.{CleansAll, HasSupersOn, IsEnded, LeavesItsRows, as_it_was, restated}
 use Rattle.raid_rack.specs.RaidRack.{IsFit, raid_by}

@@ -3,7 +3,7 @@
 //! The arrays of a pool share its drives, its state and its commit log. A drive that answers `Gone` in a call of one array is gone
 //! for all of them: the loss is noted in each array, all arrays are settled on the drives that are left, and one commit has its
 //! mark and their superblocks. A [`RaidRack`] holds the arrays with their state, their log and the slices below. It is a rack of
-//! them over any rack of drives: disk n is array n. It loses a drive ([`RaidRack::lose`]). It can't end a run cleanly yet.
+//! them over any rack of drives: disk n is array n. It loses a drive ([`RaidRack::lose`]) and ends a run ([`RaidRack::clean`]).
 //!
 //! **Its model.** `Raid` is what contracts see of it: the state, each array's `View`, the number of the log. `raid_of` is the rack
 //! that it shows: disk n is array n, a sector is held where no loss spent it, what a stop leaves is what the slices say once their
@@ -17,8 +17,10 @@
 //! | `Losses` | the places that went, and the copies of a state in a log |
 //! | `Missing` | the state that marks some places missing |
 //! | `Marking` | a part of a call, seen from one array; superblocks that restate an array under a new state |
+//! | `Rows` | rows that images leave to resync |
 //! | `Moves` | a part of a call that moves no value, for all arrays: what it keeps whatever the rack below tells, what each array that stands gives at each moment and after it; losses that are mended |
 //! | `Settling` | all arrays settled, and the commit that marks losses |
+//! | `Cleaning` | arrays that are ended: settled, with superblocks that leave their rows and no others |
 //! | `RaidRack` | the model of the struct |
 //! | `Runs` | what calls in a row do to the book and to images: marks have their cause |
 //! | `Laws` | what holds of the rack at any moment |
@@ -28,6 +30,16 @@
 //! an array, or goes meanwhile, is marked when it returns, each with its cause, and nobody else is; down to the last drive. At each
 //! moment stops leave a state with marks between those before and those after it, and by it each array gives its values; afterwards
 //! images go by the shape that the run goes by. No value moves.
+//!
+//! **A clean end** is the cleaning of each array, with a mending after each. Whoever is left has one value in each sector. Where no
+//! drive refused a call, each array's superblocks leave the rows to resync that are left in it and no others, durably; nothing else
+//! is written, and no superblock that says so already.
+//!
+//! **Rows to resync.** An array that isn't young and whose truth leaves just the rows that are left in it (`LeavesRows`) does so in
+//! every image at each moment of a call and after it (`KeepsRows`), unless the call writes it.
+//!
+//! **What never falls.** Epochs, events and log numbers rise by a bounded number in a call (`RaisesBy`), and the slices of a drive
+//! that is marked missing stay as they are (`KeepsMarked`).
 //!
 //! **A read, a sync and a write** are a call of one array and the mending after it. The sector is refused exactly where it is spent
 //! once that is done (`Arrays::is_spent`), and the refusal is counted. A write is one part more (`Brings`): each array gives the
