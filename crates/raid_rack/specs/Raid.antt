@@ -62,6 +62,12 @@ live_of v n y = spent_of v n y ≡ false
 abbrev pub held_in : Raid → Seen → Held
 held_in v x n = held_by (shape_of (v.arrays n)) x.held n
 
+-- The superblocks of an array are those that a pool writes: the fields of its truth, and members that are rebuilt by whole rows. An
+-- array that was opened on sound contents is so; of others nothing is promised.
+pub record IsPoolArray (v : View) : Type 0 where
+  pub written : IsWrittenSuper v.number v.truth
+  pub rows : HasRowRebuilds v
+
 -- An array in the middle of a call: images have the state s, and go by `durable`, the array's shape by the marks of s; its sectors
 -- hold `vals`. `gone` are the places that are noted and not yet marked.
 pub record Stood (s : State) (durable : Shape) (vals : ℕ → Values) (spent : ℕ → Bool) (gone : ℕ → Bool) (v : Raid) (x : Seen) (n : ℕ) : Type 0 where
@@ -71,6 +77,7 @@ pub record Stood (s : State) (durable : Shape) (vals : ℕ → Values) (spent : 
   pub log : LogKept s v.number gone x
   -- a place is left that images have as current
   pub someone : (place : ℕ) × (is_current s place ≡ true) × (gone place ≡ false)
+  pub own : IsPoolArray (v.arrays n)
   pub holds : Holds s durable (v.arrays n) vals spent x
 
 -- each sector of the arrays' slices is told
