@@ -134,6 +134,7 @@ renew_then s v u a b lasting stays is_array now notes fresh may =
           let before = subst (λ n. super_sector < a.sectors (member_slice place n)) number
           (subst (λ k. super_sector < k) (stays.sectors (member_slice place u.number)) inside) in
           subst (λ n. IsLive b b (member_slice place n) super_sector) (sym number) (live_after stays (live_on lasting stays (may.supers place few before)));
+      rows = λ n to is. subst (λ (t : Super). (to % 128 ≡ 0) × (to < t.size)) (sym truth) (may.rows n to (sym (seats n) ∙ is));
       events = subst (λ (t : Super). t.events < 2 ^ 63 - 1) (sym truth) may.events;
     }
 
@@ -219,7 +220,7 @@ clean_acts v u w a b c lasting is_array now later reads notes syncs fresh unsett
     let raise = raised_more u.truth.events may_u.events in
     let lasting_b = reads.stays.lasting lasting in
     let second : Moves u.number b c Middle (Says s u.number (shape_of u) vals spent) (Holds s (shape_of u) (settled u) vals spent c) =
-    renew_moves s u (raised u.truth.events) (left_offset u) false b c now may_u.state raise.0 raise.1 (left_offset_rows u unsettled) lasting_b may_u.supers writes.only
+    renew_moves s u (raised u.truth.events) (left_offset u) false b c now may_u.state may_u.rows raise.0 raise.1 (left_offset_rows u unsettled) lasting_b may_u.supers writes.only
     false Middle vals spent fresh (λ q. q.0)
     (λ q i inside mix.
     even_settled u (settled u) b c i lasting_b writes.only.stays now.few q.0.shape.open_left (q.0.closed fresh) q.1 q.0.shape.even inside mix refl

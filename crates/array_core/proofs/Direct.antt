@@ -1,9 +1,8 @@
 -- Superblocks that are written directly, one by one: at each moment images say the array by the old truth or by the new one, and
 -- its shape and values stay.
-use Rattle.std.proofs.Common.{◌≡◌, ◌≢◌, ◌⊎◌, ℕ, ◌+◌, ◌-◌, ◌%◌, ◌<◌, ◌≤◌, ◌^◌, Bool, true, false, ◌==◌, ◌&&◌, not, nat_lt, List, [], map, length, slice_get, Option, Some, None, option_map, unwrap_or, refl, sym, ap, ap₂, subst, ◌∙◌, inl, inr, if◌then◌else◌, eq-eqb, eqb-true, lt-ltb, ltb-true, arith}
+use Rattle.std.proofs.Common.{◌≡◌, ◌≢◌, ◌⊎◌, ℕ, ◌+◌, ◌-◌, ◌%◌, ◌<◌, ◌≤◌, ◌^◌, Bool, true, false, ◌==◌, ◌&&◌, not, nat_lt, List, [], map, length, slice_get, Option, Some, None, option_map, unwrap_or, refl, sym, ap, ap₂, subst, ◌∙◌, inl, inr, eq-eqb, eqb-true, lt-ltb, ltb-true, arith}
 use Rattle.std.proofs.lemmas.Bool.{and_parts, and_from, both_ways}
 use Rattle.std.specs.List.{range_with_len}
-use Rattle.std.specs.Option.{option_map_or}
 use Rattle.rack.specs.Values.{Values, MayLeave, Keeps}
 use Rattle.rack.specs.Seen.{Image, Seen, IsLive, Stays}
 use Rattle.rack.specs.Sequences.{WritesOnly, IsMix}
@@ -24,7 +23,7 @@ use Rattle.array_image.proofs.Frames.{super_of_sector, value_by_data}
 use Rattle.array_image.proofs.Replays.{SameLogs, replayed_same}
 use Rattle.array_model.specs.declared.Seat.{Seat}
 use Rattle.array_model.specs.declared.Seat.TheVariants.{Whole, Missing, Rebuilding}
-use Rattle.array_model.specs.View.{View, IsArray, shape_of, place_at, member_on, may_vary, is_missing_seat, is_whole_seat, seat_reach}
+use Rattle.array_model.specs.View.{View, IsArray, shape_of, place_at, member_on, may_vary, is_missing_seat}
 use Rattle.array_model.specs.Says.{Says, IsOpen, Holds, IsEarlier, HasNoOthers}
 use Rattle.array_model.specs.ArrayCalls.{Turns}
 use Rattle.array_model.specs.Stages.{IsStateOf}
@@ -35,6 +34,7 @@ use Rattle.array_model.proofs.Renewed.{Renews, AreNewer, NewTruth, old, renewed,
 use Rattle.array_core.specs.declared.slots.Slot.{Slot}
 use Rattle.array_core.specs.Superblocks.{member_super, rebuilt_to, IsSectorOf}
 use Rattle.array_core.specs.Stands.{IsSlot}
+use Rattle.array_core.specs.Staging.{HasRowRebuilds}
 use Rattle.array_core.specs.Settling.{IsOwnSector, IsNewSuper}
 use Rattle.array_core.proofs.Truths.{rule_holds}
 use Rattle.array_core.proofs.Rules.{get_map, get_range, zero_more}
@@ -48,7 +48,7 @@ abbrev pub restated : ℕ → ℕ → Bool → View → View
 restated events offset marked v = record v { truth = record v.truth { events = events; resync_offset = offset }; marked = marked }
 
 module _ (s : State) (v : View) (e o : ℕ) (m : Bool) (a b : Seen)
-    (is_array : IsArray v) (state : IsStateOf v s) (more : v.truth.events < e) (end : e < 2 ^ 63)
+    (is_array : IsArray v) (state : IsStateOf v s) (rows : HasRowRebuilds v) (more : v.truth.events < e) (end : e < 2 ^ 63)
     (offset : (o ≡ 2 ^ 64 - 1) ⊎ (o % 128 ≡ 0)) (lasting : a.lasting)
     (supers : (place : ℕ) → place < 16 → super_sector < a.sectors (member_slice place v.number) → IsLive a a (member_slice place v.number) super_sector)
     (only : WritesOnly a b (IsNewSuper (restated e o m v))) where
@@ -237,70 +237,29 @@ module _ (s : State) (v : View) (e o : ℕ) (m : Bool) (a b : Seen)
       renews : Renews s v.number q r NewOn
       renews = record { either = λ p current. super_or p }
 
-      -- the member of a position by its old superblock
-      member_before : (k : ℕ) → k < v.truth.raid_disks → member_in s q v.number t0 k ≡ member_on v k
-      unfolding shape_by shape_of
-      member_before k low =
-          let disks : t0.raid_disks ≡ v.truth.raid_disks = ap (λ (x : Super). x.raid_disks) earlier.fields in
-          let at : (f : ℕ → Member) (n : ℕ) → k < n → slice_get (map f (range_with_len 0 n)) k ≡ Some (f k) =
-          λ f n inside. get_map f (range_with_len 0 n) k ∙ ap (option_map f) (get_range 0 n k inside) ∙ ap (λ (j : ℕ). Some (f j)) (zero_more k) in
-          some_same _ _
-          (sym (at (member_in s q v.number t0) t0.raid_disks (omega (arith, low, disks)))
-          ∙ ap (λ (shape : Shape). slice_get shape.members k) truth_there.shape
-          ∙ at (member_on v) v.truth.raid_disks low)
-
-      place_before : (k : ℕ) → unwrap_or (place_with t0.roles.items k) 16 ≡ place_at v k
-      place_before k = ap (λ (x : Super). unwrap_or (place_with x.roles.items k) 16) earlier.fields
-
-      -- A member that is being rebuilt has whole rows, by its old superblock.
-      rows_before : (k to : ℕ) → k < v.truth.raid_disks → slice_get v.seats k ≡ Some (Rebuilding to) → (to % 128 ≡ 0) × (to < v.truth.size)
-      rows_before k to low seat =
-          let p = place_at v k in
-          let count = is_array.seats in
-          let current : is_current s p ≡ true =
-          some_same _ _ (sym (state.marks k (omega (arith, low, count))) ∙ ap (option_map (λ o. not (is_missing_seat o))) seat) in
-          let same : member_by t0.size p true (super_in s q v.number p) ≡ member_on v k =
-          ap (λ (x : Bool). member_by t0.size p x (super_in s q v.number p)) (sym current)
-          ∙ ap (λ (n : ℕ). member_by t0.size n (is_current s n) (super_in s q v.number n)) (sym (place_before k))
-          ∙ member_before k low in
-          of (super_in s q v.number p) refl
-          (ap (λ (m : Member). m.reach) same ∙ ap (λ (o : Option Seat). option_map_or (seat_reach v.truth.size) o 0) seat)
-          (ap (λ (m : Member). m.is_whole) same ∙ ap (λ (o : Option Seat). option_map_or is_whole_seat o false) seat)
-        where
-          some_rows : 2048 < v.truth.size
-          some_rows = ltb-true 2048 v.truth.size (and_parts (nat_lt 2048 v.truth.size) _ (and_parts _ (v.truth.size == v.truth.data_size) (rule_holds 5 (rules v.truth s.extent) state.profile)).0).0
-
-          of : (o : Option Super) → super_in s q v.number (place_at v k) ≡ o → (member_by t0.size (place_at v k) true o).reach ≡ to
-              → (member_by t0.size (place_at v k) true o).is_whole ≡ false → (to % 128 ≡ 0) × (to < v.truth.size)
-          of None is reach whole = let some = some_rows in (omega (arith, reach), omega (arith, reach, some))
-          of (Some x) is reach whole =
-              let count = is_array.seats in
-              let current : is_current s (place_at v k) ≡ true =
-              some_same _ _ (sym (state.marks k (omega (arith, low, count))) ∙ ap (option_map (λ o. not (is_missing_seat o))) seat) in
-              let Goal : Bool → Type 0 = λ b. is_rebuilding x ≡ b → (if b then x.recovery_offset else t0.size) ≡ to → not b ≡ false
-              → (to % 128 ≡ 0) × (to < v.truth.size) in
-              let goal : Goal (is_rebuilding x) = elim (is_rebuilding x) as Goal [
-                | true ↦ λ now here none.
-                    let rows = (says.is_sound t0 truth_there.is).rebuilt (place_at v k) x current is now in
-                    subst (λ n. (n % 128 ≡ 0) × (n < v.truth.size)) here
-                    (rows.0, subst (λ n. x.recovery_offset < n) (ap (λ (y : Super). y.size) earlier.fields) rows.1)
-                | false ↦ λ now here none. absurd (both_ways true none refl)
-              ] in
-              goal refl reach whole
-
       -- the member of a place by its old superblock
       member_old : (p : ℕ) (t : Super) → is_current s p ≡ true → NewOn p t
           → member_by t0.size p true (Some t) ≡ member_by t0.size p true (super_in s q v.number p)
       unfolding shape_by shape_of
       member_old p t current new =
           let k = new.position in
+          let disks : t0.raid_disks ≡ v.truth.raid_disks = ap (λ (x : Super). x.raid_disks) earlier.fields in
           let size : t0.size ≡ v.truth.size = ap (λ (x : Super). x.size) earlier.fields in
-          let place : unwrap_or (place_with t0.roles.items k) 16 ≡ p = place_before k ∙ sym new.is.place ∙ new.place in
+          let low : k < v.truth.raid_disks = new.low in
+          let at : (f : ℕ → Member) (n : ℕ) → k < n → slice_get (map f (range_with_len 0 n)) k ≡ Some (f k) =
+          λ f n inside. get_map f (range_with_len 0 n) k ∙ ap (option_map f) (get_range 0 n k inside) ∙ ap (λ (j : ℕ). Some (f j)) (zero_more k) in
+          let same : member_in s q v.number t0 k ≡ member_on v k =
+          some_same _ _
+          (sym (at (member_in s q v.number t0) t0.raid_disks (omega (arith, low, disks)))
+          ∙ ap (λ (shape : Shape). slice_get shape.members k) truth_there.shape
+          ∙ at (member_on v) v.truth.raid_disks low) in
+          let place : unwrap_or (place_with t0.roles.items k) 16 ≡ p =
+          ap (λ (x : Super). unwrap_or (place_with x.roles.items k) 16) earlier.fields ∙ sym new.is.place ∙ new.place in
           ap (λ (x : Super). member_by t0.size p true (Some x)) new.truth
           ∙ own_member u.truth new.slot t0.size p new.present
           ∙ ap₂ (λ (n : ℕ) (o : Option Seat). member_at n p o) size (sym new.is.seat)
           ∙ ap (λ (n : ℕ). member_at v.truth.size n (slice_get v.seats k)) (sym new.place ∙ new.is.place)
-          ∙ sym (member_before k new.low)
+          ∙ sym same
           ∙ ap (λ (n : ℕ). member_by t0.size n (is_current s n) (super_in s q v.number n)) place
           ∙ ap (λ (x : Bool). member_by t0.size p x (super_in s q v.number p)) current
 
@@ -330,7 +289,7 @@ module _ (s : State) (v : View) (e o : ℕ) (m : Bool) (a b : Seen)
               let goal : Goal new.slot.seat = elim new.slot.seat as Goal [
                 | Missing ↦ λ is. absurd (new.present is)
                 | Whole ↦ λ is. absurd (both_ways (is_rebuilding (member_super u.truth new.slot)) (own_whole u.truth new.slot is) now)
-                | Rebuilding to ↦ λ is. rows_before new.position to new.low (new.is.seat ∙ ap (λ (seat : Seat). Some seat) is)
+                | Rebuilding to ↦ λ is. rows new.position to (new.is.seat ∙ ap (λ (seat : Seat). Some seat) is)
               ] in
               subst (λ (x : Super). (x.recovery_offset % 128 ≡ 0) × (x.recovery_offset < t0.size)) (sym new.truth)
               (subst (λ k. (rebuilt_to new.slot.seat % 128 ≡ 0) × (rebuilt_to new.slot.seat < k)) size (goal refl))

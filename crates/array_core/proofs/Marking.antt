@@ -122,7 +122,7 @@ mark_moves s v w a b is_array slices whole unmarked marks may vals spent =
     let few = is_array.least in
     let first : 0 < v.truth.raid_disks = omega (arith, few) in
     let there : slice_get v.seats 0 ≡ Some Whole = whole_seat v 0 is_array whole first in
-    renew_moves s v (raised v.truth.events) 0 false a b is_array may.state raise.0 raise.1 (inr refl) slices.lasting may.supers marks.writes.only
+    renew_moves s v (raised v.truth.events) 0 false a b is_array may.state may.rows raise.0 raise.1 (inr refl) slices.lasting may.supers marks.writes.only
     w.marked (Holds s (shape_of v) v vals spent a) vals spent may.fresh (λ h. h)
     (λ h c inside mix. even_unsynced (shape_of v) v.number (unsynced v).truth (replayed a.sectors c) refl)
     (λ h steady. h.shape.settled (steady_before v w unmarked steady))

@@ -9,13 +9,15 @@ use Rattle.commit_log.specs.Kept.{LogKept, AreLeft}
 use Rattle.array_model.specs.View.{View, has_gone, is_whole_array, shape_of}
 use Rattle.array_model.specs.Says.{IsOpen}
 use Rattle.array_model.specs.Stages.{IsStateOf}
+use Rattle.array_core.specs.Staging.{HasRowRebuilds}
 
 -- What superblocks that are written directly need: images go by the run's marks, nobody went since they were last heeded, each
--- superblock is told, and one more event can be told from the one before.
+-- superblock is told, members are rebuilt by whole rows, and one more event can be told from the one before.
 pub record MayRenew (s : State) (v : View) (a : Seen) : Type 0 where
   pub state : IsStateOf v s
   pub fresh : v.went ≡ []
   pub supers : (place : ℕ) → place < 16 → super_sector < a.sectors (member_slice place v.number) → IsLive a a (member_slice place v.number) super_sector
+  pub rows : HasRowRebuilds v
   pub events : v.truth.events < 2 ^ 63 - 1
 
 -- What a write needs, where v and w are the array before it and after it: images go by the run's marks, nobody went since they were

@@ -88,7 +88,6 @@ pool_with s u seats went lost are pool =
       events_end = pool.events_end;
       row = pool.row;
       roles = pool.roles;
-      written = pool.written;
       unsynced = pool.unsynced;
       rows = λ k to is. pool.rows k to (rebuilding_before (lost (place_at u k)) (slice_get u.seats k) to (sym (are k) ∙ is));
     }

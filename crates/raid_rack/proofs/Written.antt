@@ -146,7 +146,7 @@ module _ (v : Raid) (f : ℕ → View) (number m : ℕ) (a b : Seen) (on : List 
       subst (λ (s : Shape). Part v.state v.state s s vals (appended_at sector from vals) spent (gone_in v) (gone_in (called v f number)) v (called v f number) a b m)
       (sym (amid.marked marked))
       (part_own v.state shape vals (appended_at sector from vals) spent (gone_in v) (gone_in (called v f number)) v (called v f number) a b m
-      (call.writes vals spent covers given) (λ log. log_after given) (someone_left (called v f number) m goes)))
+      (call.writes vals spent covers given) (λ log. log_after given) (someone_left (called v f number) m goes) call.views.written))
 
   other_part : (n : ℕ) (vals : ℕ → Values) (spent : ℕ → Bool) → (n ≡ m → ⊥) → n < v.state.made → is_over (called v f number) n ≡ false
       → PartOf v (called v f number) a b n vals vals spent

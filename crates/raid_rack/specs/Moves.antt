@@ -10,7 +10,7 @@ use Rattle.pool_state.specs.declared.contents.State.{State}
 use Rattle.array_image.specs.Places.{log_slice, log_sectors, slice_of, super_sector, array_id}
 use Rattle.array_image.specs.States.{is_current}
 use Rattle.array_image.specs.Supers.{has_roles, has_whole_row}
-use Rattle.array_image.specs.SoundArray.{IsWrittenSuper, first_unsynced}
+use Rattle.array_image.specs.SoundArray.{first_unsynced}
 use Rattle.array_image.specs.Arrays.{Member, Shape, replayed}
 use Rattle.array_image.specs.Held.{Among, IsSettled}
 use Rattle.array_image.specs.Left.{IsInside}
@@ -34,6 +34,7 @@ pub record IsOfPool (s : State) (v : View) : Type 0 where
   pub row : has_whole_row v.truth ≡ true
   pub roles : has_roles (length s.drives.items) v.truth ≡ true
   pub unsynced : first_unsynced v.truth ≤ v.resync
+  pub rows : HasRowRebuilds v
 
 -- Array n: it has the slices of its members, and the members that are missing are those whose drive is marked, or has gone in a
 -- call of this array.
