@@ -35,3 +35,4 @@ pub mod Restated
 pub mod Copies
 pub mod Brought
 pub mod Added
+pub mod Opening

@@ -56,7 +56,7 @@ told_amid v x n spent heeded told goes fewer =
     }
 
 -- and the other way round, by its own shape
-amid_stood : (v : Raid) (x : Seen) (n : ℕ) (vals : ℕ → Values) (spent : ℕ → Bool) → IsHeeded v → IsAmid v x n vals spent
+pub amid_stood : (v : Raid) (x : Seen) (n : ℕ) (vals : ℕ → Values) (spent : ℕ → Bool) → IsHeeded v → IsAmid v x n vals spent
     → Stood v.state (shape_of (v.arrays n)) vals spent (λ place. false) v x n
 amid_stood v x n vals spent heeded amid =
     subst (λ g. Stood v.state (shape_of (v.arrays n)) vals spent g v x n) (λ i p. heeded_gone v heeded p i)

@@ -9,3 +9,4 @@ pub mod Settling
 pub mod RaidRack
 pub mod Laws
 pub mod Runs
+pub mod Opening
