@@ -36,3 +36,4 @@ pub mod Copies
 pub mod Brought
 pub mod Added
 pub mod Opening
+pub mod Founding
