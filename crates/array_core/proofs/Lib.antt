@@ -2,6 +2,7 @@ pub mod Lists
 pub mod Truths
 pub mod Rules
 pub mod Seating
+pub mod Restarting
 pub mod Adopting
 pub mod Leading
 pub mod SlotMembers

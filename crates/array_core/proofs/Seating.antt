@@ -17,7 +17,7 @@ use Rattle.array_core.specs.declared.slots.Slot.{Slot}
 use Rattle.array_core.specs.declared.Array.TheInside.{Inside}
 use Rattle.array_core.specs.Model.{view_of, IsMade, is_truth}
 use Rattle.array_core.specs.Slots.{slot_with, slots_of, places_by}
-use Rattle.array_core.specs.Seats.{names, slot_at, seat_of, reseated, losing, gone, joined, renewed, data_disks}
+use Rattle.array_core.specs.Seats.{names, slot_at, seat_of, reseated, losing, gone, joined, renewed, restart, restarted, restarted_slot, data_disks}
 use Rattle.array_core.proofs.Lists.{filter_within}
 use Rattle.array_core.proofs.Truths.{truth_facts}
 
@@ -100,6 +100,27 @@ module _ (a : Inside) (slots : ArrayVec Slot) (places : List ℕ) (made : IsMade
         synced = others.synced;
         went = ap (list_all (λ place. nat_lt place 16)) noted ∙ filter_within (λ p. names a.went.items p || names places p) 0 16 16 (lit≤ tt);
       }
+
+-- rebuilds begin again
+pub restarted_made : (a : Inside) (slots : ArrayVec Slot) → IsMade a → slots.items ≡ map (restarted_slot a.truth.size) a.slots.items → IsMade (record a { slots = slots })
+restarted_made a slots made changed = record {
+  few = made.few;
+  truth = made.truth;
+  slots = ap (map (λ s. s.place)) changed ∙ map_made (restarted_slot a.truth.size) (λ s. s.place) (λ s. s.place) (λ s. refl) a.slots.items ∙ made.slots;
+  unsynced = made.unsynced;
+  synced = made.synced;
+  went = made.went;
+}
+
+pub restarted_view : (a : Inside) (slots : ArrayVec Slot) → slots.items ≡ map (restarted_slot a.truth.size) a.slots.items
+    → view_of (record a { slots = slots }) ≡ restarted (view_of a)
+restarted_view a slots changed =
+    let size = a.truth.size in
+    let seats = ap (map (λ s. s.seat)) changed
+    ∙ map_made (restarted_slot size) (λ s. s.seat) (λ s. restart size s.seat) (λ s. refl) a.slots.items
+    ∙ sym (map_made (λ s. s.seat) (restart size) (λ s. restart size s.seat) (λ s. refl) a.slots.items) in
+    let devices = ap (map (λ s. s.device)) changed ∙ map_made (restarted_slot size) (λ s. s.device) (λ s. s.device) (λ s. refl) a.slots.items in
+    λ i. record (view_of a) { seats = seats i; devices = devices i }
 
 -- a member is on a new drive
 pub renewed_view : (a : Inside) (slots : ArrayVec Slot) (place : ℕ) (drive device : Id) → IsMade a

@@ -1,5 +1,5 @@
 -- What an array knows of its members, and how that changes.
-use Rattle.std.specs.Prelude.{ℕ, ◌-◌, Bool, ◌==◌, ◌||◌, if◌then◌else◌, List, [], ◌∷◌, map, filter, find, Option, option_map, unwrap_or}
+use Rattle.std.specs.Prelude.{ℕ, ◌-◌, ◌%◌, Bool, nat_lt, ◌==◌, ◌&&◌, ◌||◌, if◌then◌else◌, List, [], ◌∷◌, map, filter, find, Option, option_map, unwrap_or}
 use Rattle.std.specs.List.{list_any, range_with_len}
 use Rattle.shr_base.specs.declared.Id.{Id}
 use Rattle.md_super.specs.declared.superblock.Super.{Super}
@@ -7,7 +7,7 @@ use Rattle.md_super.specs.Profile.{is_mirror}
 use Rattle.array_image.specs.Places.{member_id}
 use Rattle.array_image.specs.Supers.{is_reshaping}
 use Rattle.array_model.specs.declared.Seat.{Seat}
-use Rattle.array_model.specs.declared.Seat.TheVariants.{Rebuilding}
+use Rattle.array_model.specs.declared.Seat.TheVariants.{Whole, Missing, Rebuilding}
 use Rattle.array_model.specs.View.{View, seat_unless}
 use Rattle.array_core.specs.declared.slots.Slot.{Slot}
 use Rattle.array_core.specs.Slots.{slots_of}
@@ -46,6 +46,18 @@ renewed place drive v = record v {
   seats = map (λ s. if names (place ∷ []) s.place then Rebuilding 0 else s.seat) (slots_of v);
   devices = map (λ s. if names (place ∷ []) s.place then record { 0 = member_id drive.0 v.number } else s.device) (slots_of v);
 }
+
+-- a rebuild that doesn't stand between two rows of a member's data begins again
+abbrev pub restart : ℕ → Seat → Seat
+restart size Whole = Whole
+restart size Missing = Missing
+restart size (Rebuilding to) = if (to % 128 == 0) && nat_lt to size then Rebuilding to else Rebuilding 0
+
+abbrev pub restarted_slot : ℕ → Slot → Slot
+restarted_slot size s = record { place = s.place; seat = restart size s.seat; device = s.device }
+
+abbrev pub restarted : View → View
+restarted v = record v { seats = map (restart v.truth.size) v.seats }
 
 -- the places of both lists, in order and each once
 abbrev pub joined : List ℕ → List ℕ → List ℕ

@@ -3,7 +3,7 @@
 ghost use Rattle.std.specs.List.{list_all};
 ghost use Rattle.std.specs.Option.{option_copied};
 ghost use Rattle.arrayvec.specs.ArrayVec.{array_vec_len};
-ghost use Rattle.std.specs.Prelude.{nat_lt, ◌++◌, ◌||◌, ◌<◌, ◌+◌, if◌then◌else◌, ◌≡◌, ◌≤◌, ◌∷◌, [], map, option_map, length, Some, None, Option, true};
+ghost use Rattle.std.specs.Prelude.{nat_lt, ◌++◌, ◌||◌, ◌&&◌, ◌==◌, ◌%◌, ◌<◌, ◌+◌, if◌then◌else◌, ◌≡◌, ◌≤◌, ◌∷◌, [], map, option_map, length, Some, None, Option, true};
 ghost use Rattle.array_model.specs.declared.Seat.TheVariants.{Missing};
 ghost use Rattle.array_model.specs.View.{sectors_of, rows_of};
 ghost use Rattle.array_image.specs.Places.{member_id};
@@ -93,6 +93,13 @@ impl Array {
         );
     }
 
+    /// Rebuilds that don't stand between two rows of their member's data begin again from row 0. On sound contents none is such.
+    pub fn restart_rebuilds(&mut self)
+        ensures { self.new ≡ spec.restarted self.old }
+    {
+        self.slots = restarted(self.slots.as_slice(), self.truth.size);
+    }
+
     /// The members of these places, which are below 16, are missing from then on, and the places went.
     pub fn gone(&mut self, places: &Places)
         ensures { self.new ≡ spec.gone places.now.items self.old }
@@ -160,6 +167,41 @@ fn with_seat(slot: Slot, places: &[u32], seat: Seat, device: Option<Id>) -> Slot
     } else {
         slot
     }
+}
+
+/// The members, with rebuilds begun again that don't stand between two rows.
+fn restarted(slots: &[Slot], size: u64) -> ArrayVec<Slot, 16>
+    requires { length slots.now ≤ 16 }
+    ensures { result.items ≡ map (spec.restarted_slot size) slots.now }
+{
+    let mut changed = ArrayVec::new();
+    for slot in slots {
+        changed.push(Slot {
+            place: slot.place,
+            seat: restart(slot.seat, size),
+            device: slot.device,
+        });
+    }
+    changed
+}
+
+/// A rebuild that doesn't stand between two rows of a member's data begins again.
+fn restart(seat: Seat, size: u64) -> Seat
+    ensures { result ≡ spec.restart size seat }
+{
+    match seat {
+        Seat::Rebuilding { to } => Seat::Rebuilding {
+            to: row_start(to, size),
+        },
+        other => other,
+    }
+}
+
+/// A sector where a row of a member's data begins; any other sector is taken for the first one.
+fn row_start(to: u64, size: u64) -> u64
+    ensures { result ≡ (if (to % 128 == 0) && nat_lt to size then to else 0) }
+{
+    if to % CHUNK == 0 && to < size { to } else { 0 }
 }
 
 /// The places of two lists, in order.

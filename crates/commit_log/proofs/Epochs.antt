@@ -105,6 +105,37 @@ front_all t c e a (suc n) each low =
       | inr new ↦ inr (new.0, at_c ∙ new.1, new.2)
     ]
 
+low_all : (t : State) (c : Image) (a n p : ℕ) (copy : Copied) → IsLow t (foremost epoch_of (map (copy_in c) (range_with_len a n)))
+    → a ≤ p → p < a + n → copy_in c p ≡ Some copy → copy.state.epoch ≤ t.epoch
+low_all t c a zero p copy low from past is = absurd (omega (arith, from, past))
+low_all t c a (suc n) p copy low from past is =
+    let later = foremost epoch_of (map (copy_in c) (range_with_len (a + 1) n)) in
+    let joined_low : IsLow t (joined (copy_in c a) later) = λ z now. low z (foremost_joined (copy_in c a) (map (copy_in c) (range_with_len (a + 1) n)) ∙ now) in
+    elim (cases_lt a p) [
+      | inl below ↦ low_all t c (a + 1) n p copy (of_rest (copy_in c a) later joined_low) (omega arith) (omega arith) is
+      | inr same ↦
+          let here : a ≡ p = omega (arith, from, same) in
+          of_first copy later (subst (λ (o : Option Copied). IsLow t (joined o later)) (ap (copy_in c) here ∙ is) joined_low)
+    ]
+  where
+    of_rest : (o later : Option Copied) → IsLow t (joined o later) → IsLow t later
+    of_rest None later low = low
+    of_rest (Some k) later low = (low_parts t k later low).1
+
+    of_first : (k : Copied) (later : Option Copied) → IsLow t (joined (Some k) later) → k.state.epoch ≤ t.epoch
+    of_first k later low = (low_parts t k later low).0
+
+-- no copy is of a later epoch than the state that contents have
+pub state_latest : (s : State) (c : Image) (p : ℕ) (copy : Copied) → state_in c ≡ Some s → p < 16 → copy_in c p ≡ Some copy → copy.state.epoch ≤ s.epoch
+unfolding state_in
+state_latest s c p copy is small at =
+    low_all s c 0 16 p copy
+    (λ z front. let same : z.state ≡ s = state_of z.state (ap (option_map (λ copy. copy.state)) (sym front) ∙ is) in omega (arith, ap (λ (u : State). u.epoch) same))
+    (omega arith) (omega (arith, small)) at
+  where
+    state_of : (x : State) → Some x ≡ Some s → x ≡ s
+    state_of x same = (cc)
+
 -- Contents in which copies of a state came, which is no earlier, have this state or the one from before.
 pub state_either : (s t : State) (c e : Image) → state_in e ≡ Some s → s.epoch ≤ t.epoch
     → ((p : ℕ) → p < 16 → (c (log_slice p) 0 ≡ e (log_slice p) 0) ⊎ IsCopyOf t (c (log_slice p) 0))

@@ -35,3 +35,4 @@ pub mod LeftPlaces
 pub mod Fewer
 pub mod Epochs
 pub mod Replayable
+pub mod RestKept

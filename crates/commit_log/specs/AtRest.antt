@@ -1,12 +1,13 @@
 -- Slices as an opening finds them, and what a record that is pending there may bring of a state.
-use Rattle.std.specs.Prelude.{◌≡◌, ◌⊎◌, ℕ, ◌<◌, nat_lt, Bool, true, ◌&&◌, List, [], Some, None}
+use Rattle.std.specs.Prelude.{◌≡◌, ◌⊎◌, ℕ, ◌<◌, nat_lt, Bool, true, false, ◌&&◌, List, [], Some, None}
 use Rattle.rack.specs.Values.{IsSingle}
 use Rattle.rack.specs.Seen.{Image, Seen, IsLive}
 use Rattle.rack.specs.Targets.{Target, look}
+use Rattle.pool_state.specs.declared.contents.Copied.{Copied}
 use Rattle.pool_state.specs.declared.contents.State.{State}
 use Rattle.array_image.specs.Places.{log_slice}
 use Rattle.array_image.specs.Record.{GateAt, pending_at}
-use Rattle.array_image.specs.States.{state_in, is_current, current_places}
+use Rattle.array_image.specs.States.{copy_in, state_in, is_current, current_places}
 use Rattle.array_image.specs.Left.{reading}
 use Rattle.commit_log.specs.View.{LogView, names, left_of}
 use Rattle.commit_log.specs.Phases.{AreLogs}
@@ -40,3 +41,8 @@ pub record Opened (s t : State) (l : LogView) (on : List ℕ) (x : Seen) : Type 
   pub is_pending : Bool
   pub finds : Finds l on (left_of on []) is_pending None (reading x)
   pub brings : BringsCopies s t l.pending (reading x)
+
+-- The copies of the state on slices at rest: on each current place that is there this state, and no other one of its epoch.
+pub record CopiesAgree (s : State) (gone : ℕ → Bool) (x : Seen) : Type 0 where
+  pub own : (p : ℕ) → is_current s p ≡ true → gone p ≡ false → (k : ℕ) × (copy_in (reading x) p ≡ Some (record { state = s; own = k }))
+  pub same : (p : ℕ) (copy : Copied) → p < 16 → copy_in (reading x) p ≡ Some copy → copy.state.epoch ≡ s.epoch → copy.state ≡ s

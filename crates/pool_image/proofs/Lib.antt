@@ -1,5 +1,8 @@
 pub mod Truths
 pub mod Composed
+pub mod Rows
+pub mod Parts
+pub mod Groups
 mod SeatExamples
 mod SoundExamples
 mod VolumeExamples

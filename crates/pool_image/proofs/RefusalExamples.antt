@@ -25,19 +25,22 @@ use Rattle.array_image.specs.Arrays.{shape_by, value_by}
 use Rattle.pool_image.specs.Disks.{seat_of}
 use Rattle.pool_image.specs.Replay.{extents_below, extent_by, standing}
 use Rattle.pool_image.specs.Drives.{found, first_of, extent_of, slices_of}
-use Rattle.pool_image.specs.Volumes.{part_of, group_in as the_group_in, is_bad, place_by, extent_at, volumes_in}
+use Rattle.pool_image.specs.Volumes.{group_on, group_in as the_group_in, is_bad}
+use Rattle.lvm_group.specs.Group.{highest, runs_from, differ, follow, all_apart}
+use Rattle.lvm_group.specs.Ids.{parted}
+use Rattle.hex.specs.Hex.{encode_with}
 use Rattle.pool_image.specs.Meaning.{in_table, in_state, in_log, in_superblock, no_pool, two_pools, absent, damaged, too_few, dirty_degraded, bad_volume, damage_of, refused_by, refusal_of, meaning}
 use Rattle.pool_image.specs.Sound.{disks_without, image_without}
 use Rattle.pool_image.proofs.WrittenPool.{digit, from_hex, sector, the_text, chunk, drive, pool, disks, but, header_0, entries_0, state_0, super_0, header_1, entries_1, state_1, super_1, header_2, entries_2, state_2, super_2, gate, label, text_header}
 
 -- nothing refuses the pool as it is made
 opens : refusal_of disks pool ≡ None
-unfolding digits sha1 first_words schedule rounds compress hash_after digest_bytes bytes_at number_at put_at times_x times_x_to entries_bytes slice_of entries_of fields_of super_sum drive_at copied_of has_zeros is_canonical sum_of member_of parity_of row_of column_of sector_of xor xor_all label_of label_in areas_at fields_at header_of locations_at past_blanks string_at integer_at item_at body_at value_at first_value_at separator_at words_at found_at name_of number_in text_number_at text_in text_at section_in section_at logical_volumes each_at pv_at stripe_in kind_at segment_at numbered segment_numbered segments_at lv_at group_at group_in foremost look gate_of record_of pending_at pending current_places truth_in there at_position given shape_by value_by seat_of extents_below extent_by standing found first_of extent_of slices_of part_of the_group_in is_bad place_by extent_at volumes_in damage_of refused_by refusal_of meaning lib.Count.ones digit from_hex sector the_text chunk drive pool disks but header_0 entries_0 state_0 super_0 header_1 entries_1 state_1 super_1 header_2 entries_2 state_2 super_2 gate label text_header
+unfolding digits sha1 first_words schedule rounds compress hash_after digest_bytes bytes_at number_at put_at times_x times_x_to entries_bytes slice_of entries_of fields_of super_sum drive_at copied_of has_zeros is_canonical sum_of member_of parity_of row_of column_of sector_of xor xor_all label_of label_in areas_at fields_at header_of locations_at past_blanks string_at integer_at item_at body_at value_at first_value_at separator_at words_at found_at name_of number_in text_number_at text_in text_at section_in section_at logical_volumes each_at pv_at stripe_in kind_at segment_at numbered segment_numbered segments_at lv_at group_at group_in foremost look gate_of record_of pending_at pending current_places truth_in there at_position given shape_by value_by seat_of extents_below extent_by standing found first_of extent_of slices_of group_on the_group_in highest runs_from differ follow all_apart parted encode_with is_bad damage_of refused_by refusal_of meaning lib.Count.ones digit from_hex sector the_text chunk drive pool disks but header_0 entries_0 state_0 super_0 header_1 entries_1 state_1 super_1 header_2 entries_2 state_2 super_2 gate label text_header
 opens = refl
 
 -- no disk has a state
 no_state : refusal_of disks (but 0 2048 (replicate 512 0) (but 1 2048 (replicate 512 0) (but 2 2048 (replicate 512 0) pool))) ≡ Some no_pool
-unfolding digits sha1 first_words schedule rounds compress hash_after digest_bytes bytes_at number_at put_at times_x times_x_to entries_bytes slice_of entries_of fields_of super_sum drive_at copied_of has_zeros is_canonical sum_of member_of parity_of row_of column_of sector_of xor xor_all label_of label_in areas_at fields_at header_of locations_at past_blanks string_at integer_at item_at body_at value_at first_value_at separator_at words_at found_at name_of number_in text_number_at text_in text_at section_in section_at logical_volumes each_at pv_at stripe_in kind_at segment_at numbered segment_numbered segments_at lv_at group_at group_in foremost look gate_of record_of pending_at pending current_places truth_in there at_position given shape_by value_by seat_of extents_below extent_by standing found first_of extent_of slices_of part_of the_group_in is_bad place_by extent_at volumes_in damage_of refused_by refusal_of meaning lib.Count.ones digit from_hex sector the_text chunk drive pool disks but header_0 entries_0 state_0 super_0 header_1 entries_1 state_1 super_1 header_2 entries_2 state_2 super_2 gate label text_header
+unfolding digits sha1 first_words schedule rounds compress hash_after digest_bytes bytes_at number_at put_at times_x times_x_to entries_bytes slice_of entries_of fields_of super_sum drive_at copied_of has_zeros is_canonical sum_of member_of parity_of row_of column_of sector_of xor xor_all label_of label_in areas_at fields_at header_of locations_at past_blanks string_at integer_at item_at body_at value_at first_value_at separator_at words_at found_at name_of number_in text_number_at text_in text_at section_in section_at logical_volumes each_at pv_at stripe_in kind_at segment_at numbered segment_numbered segments_at lv_at group_at group_in foremost look gate_of record_of pending_at pending current_places truth_in there at_position given shape_by value_by seat_of extents_below extent_by standing found first_of extent_of slices_of group_on the_group_in highest runs_from differ follow all_apart parted encode_with is_bad damage_of refused_by refusal_of meaning lib.Count.ones digit from_hex sector the_text chunk drive pool disks but header_0 entries_0 state_0 super_0 header_1 entries_1 state_1 super_1 header_2 entries_2 state_2 super_2 gate label text_header
 no_state = refl
 
 -- the state of another pool, on drive 1
@@ -46,12 +49,12 @@ other_state = sector (from_hex (codes "534852504f4f4c310100000043cd4dc5000000000
 
 -- two pools
 other_pool : refusal_of disks (but 1 2048 other_state pool) ≡ Some two_pools
-unfolding digits sha1 first_words schedule rounds compress hash_after digest_bytes bytes_at number_at put_at times_x times_x_to entries_bytes slice_of entries_of fields_of super_sum drive_at copied_of has_zeros is_canonical sum_of member_of parity_of row_of column_of sector_of xor xor_all label_of label_in areas_at fields_at header_of locations_at past_blanks string_at integer_at item_at body_at value_at first_value_at separator_at words_at found_at name_of number_in text_number_at text_in text_at section_in section_at logical_volumes each_at pv_at stripe_in kind_at segment_at numbered segment_numbered segments_at lv_at group_at group_in foremost look gate_of record_of pending_at pending current_places truth_in there at_position given shape_by value_by seat_of extents_below extent_by standing found first_of extent_of slices_of part_of the_group_in is_bad place_by extent_at volumes_in damage_of refused_by refusal_of meaning lib.Count.ones digit from_hex sector the_text chunk drive pool disks but header_0 entries_0 state_0 super_0 header_1 entries_1 state_1 super_1 header_2 entries_2 state_2 super_2 gate label text_header other_state
+unfolding digits sha1 first_words schedule rounds compress hash_after digest_bytes bytes_at number_at put_at times_x times_x_to entries_bytes slice_of entries_of fields_of super_sum drive_at copied_of has_zeros is_canonical sum_of member_of parity_of row_of column_of sector_of xor xor_all label_of label_in areas_at fields_at header_of locations_at past_blanks string_at integer_at item_at body_at value_at first_value_at separator_at words_at found_at name_of number_in text_number_at text_in text_at section_in section_at logical_volumes each_at pv_at stripe_in kind_at segment_at numbered segment_numbered segments_at lv_at group_at group_in foremost look gate_of record_of pending_at pending current_places truth_in there at_position given shape_by value_by seat_of extents_below extent_by standing found first_of extent_of slices_of group_on the_group_in highest runs_from differ follow all_apart parted encode_with is_bad damage_of refused_by refusal_of meaning lib.Count.ones digit from_hex sector the_text chunk drive pool disks but header_0 entries_0 state_0 super_0 header_1 entries_1 state_1 super_1 header_2 entries_2 state_2 super_2 gate label text_header other_state
 other_pool = refl
 
 -- drive 1 alone
 two_absent : refusal_of (record { count = 1; sectors = λ d. 79104 }) (λ d. pool 1) ≡ Some (absent 2)
-unfolding digits sha1 first_words schedule rounds compress hash_after digest_bytes bytes_at number_at put_at times_x times_x_to entries_bytes slice_of entries_of fields_of super_sum drive_at copied_of has_zeros is_canonical sum_of member_of parity_of row_of column_of sector_of xor xor_all label_of label_in areas_at fields_at header_of locations_at past_blanks string_at integer_at item_at body_at value_at first_value_at separator_at words_at found_at name_of number_in text_number_at text_in text_at section_in section_at logical_volumes each_at pv_at stripe_in kind_at segment_at numbered segment_numbered segments_at lv_at group_at group_in foremost look gate_of record_of pending_at pending current_places truth_in there at_position given shape_by value_by seat_of extents_below extent_by standing found first_of extent_of slices_of part_of the_group_in is_bad place_by extent_at volumes_in damage_of refused_by refusal_of meaning lib.Count.ones digit from_hex sector the_text chunk drive pool disks but header_0 entries_0 state_0 super_0 header_1 entries_1 state_1 super_1 header_2 entries_2 state_2 super_2 gate label text_header other_state
+unfolding digits sha1 first_words schedule rounds compress hash_after digest_bytes bytes_at number_at put_at times_x times_x_to entries_bytes slice_of entries_of fields_of super_sum drive_at copied_of has_zeros is_canonical sum_of member_of parity_of row_of column_of sector_of xor xor_all label_of label_in areas_at fields_at header_of locations_at past_blanks string_at integer_at item_at body_at value_at first_value_at separator_at words_at found_at name_of number_in text_number_at text_in text_at section_in section_at logical_volumes each_at pv_at stripe_in kind_at segment_at numbered segment_numbered segments_at lv_at group_at group_in foremost look gate_of record_of pending_at pending current_places truth_in there at_position given shape_by value_by seat_of extents_below extent_by standing found first_of extent_of slices_of group_on the_group_in highest runs_from differ follow all_apart parted encode_with is_bad damage_of refused_by refusal_of meaning lib.Count.ones digit from_hex sector the_text chunk drive pool disks but header_0 entries_0 state_0 super_0 header_1 entries_1 state_1 super_1 header_2 entries_2 state_2 super_2 gate label text_header other_state
 two_absent = refl
 
 -- a table of drive 1 whose second entry has another type
@@ -63,17 +66,17 @@ other_entries = sector (from_hex (codes "523c1f6b849d0a4ea7c152e8d03f9b763032725
 
 -- the table comes before the state of one drive, and the lower drive before both of a higher one
 other_type : refusal_of disks (but 1 1 other_header (but 1 2 other_entries (but 1 2048 (replicate 512 0) (but 2 1 (replicate 512 0) pool)))) ≡ Some (damaged 1 in_table)
-unfolding digits sha1 first_words schedule rounds compress hash_after digest_bytes bytes_at number_at put_at times_x times_x_to entries_bytes slice_of entries_of fields_of super_sum drive_at copied_of has_zeros is_canonical sum_of member_of parity_of row_of column_of sector_of xor xor_all label_of label_in areas_at fields_at header_of locations_at past_blanks string_at integer_at item_at body_at value_at first_value_at separator_at words_at found_at name_of number_in text_number_at text_in text_at section_in section_at logical_volumes each_at pv_at stripe_in kind_at segment_at numbered segment_numbered segments_at lv_at group_at group_in foremost look gate_of record_of pending_at pending current_places truth_in there at_position given shape_by value_by seat_of extents_below extent_by standing found first_of extent_of slices_of part_of the_group_in is_bad place_by extent_at volumes_in damage_of refused_by refusal_of meaning lib.Count.ones digit from_hex sector the_text chunk drive pool disks but header_0 entries_0 state_0 super_0 header_1 entries_1 state_1 super_1 header_2 entries_2 state_2 super_2 gate label text_header other_state other_header other_entries
+unfolding digits sha1 first_words schedule rounds compress hash_after digest_bytes bytes_at number_at put_at times_x times_x_to entries_bytes slice_of entries_of fields_of super_sum drive_at copied_of has_zeros is_canonical sum_of member_of parity_of row_of column_of sector_of xor xor_all label_of label_in areas_at fields_at header_of locations_at past_blanks string_at integer_at item_at body_at value_at first_value_at separator_at words_at found_at name_of number_in text_number_at text_in text_at section_in section_at logical_volumes each_at pv_at stripe_in kind_at segment_at numbered segment_numbered segments_at lv_at group_at group_in foremost look gate_of record_of pending_at pending current_places truth_in there at_position given shape_by value_by seat_of extents_below extent_by standing found first_of extent_of slices_of group_on the_group_in highest runs_from differ follow all_apart parted encode_with is_bad damage_of refused_by refusal_of meaning lib.Count.ones digit from_hex sector the_text chunk drive pool disks but header_0 entries_0 state_0 super_0 header_1 entries_1 state_1 super_1 header_2 entries_2 state_2 super_2 gate label text_header other_state other_header other_entries
 other_type = refl
 
 -- the state comes before the log
 bad_state : refusal_of disks (but 1 2048 (replicate 512 0) (but 1 2049 (replicate 512 0) pool)) ≡ Some (damaged 1 in_state)
-unfolding digits sha1 first_words schedule rounds compress hash_after digest_bytes bytes_at number_at put_at times_x times_x_to entries_bytes slice_of entries_of fields_of super_sum drive_at copied_of has_zeros is_canonical sum_of member_of parity_of row_of column_of sector_of xor xor_all label_of label_in areas_at fields_at header_of locations_at past_blanks string_at integer_at item_at body_at value_at first_value_at separator_at words_at found_at name_of number_in text_number_at text_in text_at section_in section_at logical_volumes each_at pv_at stripe_in kind_at segment_at numbered segment_numbered segments_at lv_at group_at group_in foremost look gate_of record_of pending_at pending current_places truth_in there at_position given shape_by value_by seat_of extents_below extent_by standing found first_of extent_of slices_of part_of the_group_in is_bad place_by extent_at volumes_in damage_of refused_by refusal_of meaning lib.Count.ones digit from_hex sector the_text chunk drive pool disks but header_0 entries_0 state_0 super_0 header_1 entries_1 state_1 super_1 header_2 entries_2 state_2 super_2 gate label text_header other_state other_header other_entries
+unfolding digits sha1 first_words schedule rounds compress hash_after digest_bytes bytes_at number_at put_at times_x times_x_to entries_bytes slice_of entries_of fields_of super_sum drive_at copied_of has_zeros is_canonical sum_of member_of parity_of row_of column_of sector_of xor xor_all label_of label_in areas_at fields_at header_of locations_at past_blanks string_at integer_at item_at body_at value_at first_value_at separator_at words_at found_at name_of number_in text_number_at text_in text_at section_in section_at logical_volumes each_at pv_at stripe_in kind_at segment_at numbered segment_numbered segments_at lv_at group_at group_in foremost look gate_of record_of pending_at pending current_places truth_in there at_position given shape_by value_by seat_of extents_below extent_by standing found first_of extent_of slices_of group_on the_group_in highest runs_from differ follow all_apart parted encode_with is_bad damage_of refused_by refusal_of meaning lib.Count.ones digit from_hex sector the_text chunk drive pool disks but header_0 entries_0 state_0 super_0 header_1 entries_1 state_1 super_1 header_2 entries_2 state_2 super_2 gate label text_header other_state other_header other_entries
 bad_state = refl
 
 -- the log comes before the superblock
 bad_log : refusal_of disks (but 1 2049 (replicate 512 0) (but 1 10248 (replicate 512 0) pool)) ≡ Some (damaged 1 in_log)
-unfolding digits sha1 first_words schedule rounds compress hash_after digest_bytes bytes_at number_at put_at times_x times_x_to entries_bytes slice_of entries_of fields_of super_sum drive_at copied_of has_zeros is_canonical sum_of member_of parity_of row_of column_of sector_of xor xor_all label_of label_in areas_at fields_at header_of locations_at past_blanks string_at integer_at item_at body_at value_at first_value_at separator_at words_at found_at name_of number_in text_number_at text_in text_at section_in section_at logical_volumes each_at pv_at stripe_in kind_at segment_at numbered segment_numbered segments_at lv_at group_at group_in foremost look gate_of record_of pending_at pending current_places truth_in there at_position given shape_by value_by seat_of extents_below extent_by standing found first_of extent_of slices_of part_of the_group_in is_bad place_by extent_at volumes_in damage_of refused_by refusal_of meaning lib.Count.ones digit from_hex sector the_text chunk drive pool disks but header_0 entries_0 state_0 super_0 header_1 entries_1 state_1 super_1 header_2 entries_2 state_2 super_2 gate label text_header other_state other_header other_entries
+unfolding digits sha1 first_words schedule rounds compress hash_after digest_bytes bytes_at number_at put_at times_x times_x_to entries_bytes slice_of entries_of fields_of super_sum drive_at copied_of has_zeros is_canonical sum_of member_of parity_of row_of column_of sector_of xor xor_all label_of label_in areas_at fields_at header_of locations_at past_blanks string_at integer_at item_at body_at value_at first_value_at separator_at words_at found_at name_of number_in text_number_at text_in text_at section_in section_at logical_volumes each_at pv_at stripe_in kind_at segment_at numbered segment_numbered segments_at lv_at group_at group_in foremost look gate_of record_of pending_at pending current_places truth_in there at_position given shape_by value_by seat_of extents_below extent_by standing found first_of extent_of slices_of group_on the_group_in highest runs_from differ follow all_apart parted encode_with is_bad damage_of refused_by refusal_of meaning lib.Count.ones digit from_hex sector the_text chunk drive pool disks but header_0 entries_0 state_0 super_0 header_1 entries_1 state_1 super_1 header_2 entries_2 state_2 super_2 gate label text_header other_state other_header other_entries
 bad_log = refl
 
 -- a superblock of another set, of most events, with no roles
@@ -82,12 +85,12 @@ foreign_super = from_hex (codes "fc4e2ba9010000000000000000000000000000000000000
 
 -- it says nothing of the array
 foreign : refusal_of disks (but 1 10248 foreign_super pool) ≡ Some (damaged 1 in_superblock)
-unfolding digits sha1 first_words schedule rounds compress hash_after digest_bytes bytes_at number_at put_at times_x times_x_to entries_bytes slice_of entries_of fields_of super_sum drive_at copied_of has_zeros is_canonical sum_of member_of parity_of row_of column_of sector_of xor xor_all label_of label_in areas_at fields_at header_of locations_at past_blanks string_at integer_at item_at body_at value_at first_value_at separator_at words_at found_at name_of number_in text_number_at text_in text_at section_in section_at logical_volumes each_at pv_at stripe_in kind_at segment_at numbered segment_numbered segments_at lv_at group_at group_in foremost look gate_of record_of pending_at pending current_places truth_in there at_position given shape_by value_by seat_of extents_below extent_by standing found first_of extent_of slices_of part_of the_group_in is_bad place_by extent_at volumes_in damage_of refused_by refusal_of meaning lib.Count.ones digit from_hex sector the_text chunk drive pool disks but header_0 entries_0 state_0 super_0 header_1 entries_1 state_1 super_1 header_2 entries_2 state_2 super_2 gate label text_header other_state other_header other_entries foreign_super
+unfolding digits sha1 first_words schedule rounds compress hash_after digest_bytes bytes_at number_at put_at times_x times_x_to entries_bytes slice_of entries_of fields_of super_sum drive_at copied_of has_zeros is_canonical sum_of member_of parity_of row_of column_of sector_of xor xor_all label_of label_in areas_at fields_at header_of locations_at past_blanks string_at integer_at item_at body_at value_at first_value_at separator_at words_at found_at name_of number_in text_number_at text_in text_at section_in section_at logical_volumes each_at pv_at stripe_in kind_at segment_at numbered segment_numbered segments_at lv_at group_at group_in foremost look gate_of record_of pending_at pending current_places truth_in there at_position given shape_by value_by seat_of extents_below extent_by standing found first_of extent_of slices_of group_on the_group_in highest runs_from differ follow all_apart parted encode_with is_bad damage_of refused_by refusal_of meaning lib.Count.ones digit from_hex sector the_text chunk drive pool disks but header_0 entries_0 state_0 super_0 header_1 entries_1 state_1 super_1 header_2 entries_2 state_2 super_2 gate label text_header other_state other_header other_entries foreign_super
 foreign = refl
 
 -- an array without a valid superblock
 no_truth : refusal_of disks (but 0 10248 foreign_super (but 1 10248 foreign_super (but 2 10248 foreign_super pool))) ≡ Some (too_few 0)
-unfolding digits sha1 first_words schedule rounds compress hash_after digest_bytes bytes_at number_at put_at times_x times_x_to entries_bytes slice_of entries_of fields_of super_sum drive_at copied_of has_zeros is_canonical sum_of member_of parity_of row_of column_of sector_of xor xor_all label_of label_in areas_at fields_at header_of locations_at past_blanks string_at integer_at item_at body_at value_at first_value_at separator_at words_at found_at name_of number_in text_number_at text_in text_at section_in section_at logical_volumes each_at pv_at stripe_in kind_at segment_at numbered segment_numbered segments_at lv_at group_at group_in foremost look gate_of record_of pending_at pending current_places truth_in there at_position given shape_by value_by seat_of extents_below extent_by standing found first_of extent_of slices_of part_of the_group_in is_bad place_by extent_at volumes_in damage_of refused_by refusal_of meaning lib.Count.ones digit from_hex sector the_text chunk drive pool disks but header_0 entries_0 state_0 super_0 header_1 entries_1 state_1 super_1 header_2 entries_2 state_2 super_2 gate label text_header other_state other_header other_entries foreign_super
+unfolding digits sha1 first_words schedule rounds compress hash_after digest_bytes bytes_at number_at put_at times_x times_x_to entries_bytes slice_of entries_of fields_of super_sum drive_at copied_of has_zeros is_canonical sum_of member_of parity_of row_of column_of sector_of xor xor_all label_of label_in areas_at fields_at header_of locations_at past_blanks string_at integer_at item_at body_at value_at first_value_at separator_at words_at found_at name_of number_in text_number_at text_in text_at section_in section_at logical_volumes each_at pv_at stripe_in kind_at segment_at numbered segment_numbered segments_at lv_at group_at group_in foremost look gate_of record_of pending_at pending current_places truth_in there at_position given shape_by value_by seat_of extents_below extent_by standing found first_of extent_of slices_of group_on the_group_in highest runs_from differ follow all_apart parted encode_with is_bad damage_of refused_by refusal_of meaning lib.Count.ones digit from_hex sector the_text chunk drive pool disks but header_0 entries_0 state_0 super_0 header_1 entries_1 state_1 super_1 header_2 entries_2 state_2 super_2 gate label text_header other_state other_header other_entries foreign_super
 no_truth = refl
 
 -- the superblock of drive 1 while it is being rebuilt, as far as its whole size
@@ -96,7 +99,7 @@ rebuilding_super = from_hex (codes "fc4e2ba9010000000200000000000000f96c74b3065e
 
 -- a member is rebuilding until its superblock says that it isn't: one more is too few
 rebuilding : refusal_of (disks_without 0 disks) (image_without 0 (but 1 10248 rebuilding_super pool)) ≡ Some (too_few 0)
-unfolding digits sha1 first_words schedule rounds compress hash_after digest_bytes bytes_at number_at put_at times_x times_x_to entries_bytes slice_of entries_of fields_of super_sum drive_at copied_of has_zeros is_canonical sum_of member_of parity_of row_of column_of sector_of xor xor_all label_of label_in areas_at fields_at header_of locations_at past_blanks string_at integer_at item_at body_at value_at first_value_at separator_at words_at found_at name_of number_in text_number_at text_in text_at section_in section_at logical_volumes each_at pv_at stripe_in kind_at segment_at numbered segment_numbered segments_at lv_at group_at group_in foremost look gate_of record_of pending_at pending current_places truth_in there at_position given shape_by value_by seat_of extents_below extent_by standing found first_of extent_of slices_of part_of the_group_in is_bad place_by extent_at volumes_in damage_of refused_by refusal_of meaning lib.Count.ones digit from_hex sector the_text chunk drive pool disks but header_0 entries_0 state_0 super_0 header_1 entries_1 state_1 super_1 header_2 entries_2 state_2 super_2 gate label text_header other_state other_header other_entries foreign_super rebuilding_super
+unfolding digits sha1 first_words schedule rounds compress hash_after digest_bytes bytes_at number_at put_at times_x times_x_to entries_bytes slice_of entries_of fields_of super_sum drive_at copied_of has_zeros is_canonical sum_of member_of parity_of row_of column_of sector_of xor xor_all label_of label_in areas_at fields_at header_of locations_at past_blanks string_at integer_at item_at body_at value_at first_value_at separator_at words_at found_at name_of number_in text_number_at text_in text_at section_in section_at logical_volumes each_at pv_at stripe_in kind_at segment_at numbered segment_numbered segments_at lv_at group_at group_in foremost look gate_of record_of pending_at pending current_places truth_in there at_position given shape_by value_by seat_of extents_below extent_by standing found first_of extent_of slices_of group_on the_group_in highest runs_from differ follow all_apart parted encode_with is_bad damage_of refused_by refusal_of meaning lib.Count.ones digit from_hex sector the_text chunk drive pool disks but header_0 entries_0 state_0 super_0 header_1 entries_1 state_1 super_1 header_2 entries_2 state_2 super_2 gate label text_header other_state other_header other_entries foreign_super rebuilding_super
 rebuilding = refl
 
 -- the superblock of drive 1 with all rows left to resync, of more events
@@ -105,12 +108,12 @@ dirty_super = from_hex (codes "fc4e2ba9010000000000000000000000f96c74b3065e5150a
 
 -- one member is wanting, and rows are left to resync
 dirty : refusal_of (disks_without 0 disks) (image_without 0 (but 1 10248 dirty_super pool)) ≡ Some (dirty_degraded 0)
-unfolding digits sha1 first_words schedule rounds compress hash_after digest_bytes bytes_at number_at put_at times_x times_x_to entries_bytes slice_of entries_of fields_of super_sum drive_at copied_of has_zeros is_canonical sum_of member_of parity_of row_of column_of sector_of xor xor_all label_of label_in areas_at fields_at header_of locations_at past_blanks string_at integer_at item_at body_at value_at first_value_at separator_at words_at found_at name_of number_in text_number_at text_in text_at section_in section_at logical_volumes each_at pv_at stripe_in kind_at segment_at numbered segment_numbered segments_at lv_at group_at group_in foremost look gate_of record_of pending_at pending current_places truth_in there at_position given shape_by value_by seat_of extents_below extent_by standing found first_of extent_of slices_of part_of the_group_in is_bad place_by extent_at volumes_in damage_of refused_by refusal_of meaning lib.Count.ones digit from_hex sector the_text chunk drive pool disks but header_0 entries_0 state_0 super_0 header_1 entries_1 state_1 super_1 header_2 entries_2 state_2 super_2 gate label text_header other_state other_header other_entries foreign_super rebuilding_super dirty_super
+unfolding digits sha1 first_words schedule rounds compress hash_after digest_bytes bytes_at number_at put_at times_x times_x_to entries_bytes slice_of entries_of fields_of super_sum drive_at copied_of has_zeros is_canonical sum_of member_of parity_of row_of column_of sector_of xor xor_all label_of label_in areas_at fields_at header_of locations_at past_blanks string_at integer_at item_at body_at value_at first_value_at separator_at words_at found_at name_of number_in text_number_at text_in text_at section_in section_at logical_volumes each_at pv_at stripe_in kind_at segment_at numbered segment_numbered segments_at lv_at group_at group_in foremost look gate_of record_of pending_at pending current_places truth_in there at_position given shape_by value_by seat_of extents_below extent_by standing found first_of extent_of slices_of group_on the_group_in highest runs_from differ follow all_apart parted encode_with is_bad damage_of refused_by refusal_of meaning lib.Count.ones digit from_hex sector the_text chunk drive pool disks but header_0 entries_0 state_0 super_0 header_1 entries_1 state_1 super_1 header_2 entries_2 state_2 super_2 gate label text_header other_state other_header other_entries foreign_super rebuilding_super dirty_super
 dirty = refl
 
 -- the text on member 0, and its parity on member 2, are lost
 no_group : refusal_of disks (but 0 12297 (replicate 512 0) (but 2 12297 (replicate 512 0) pool)) ≡ Some (bad_volume 0)
-unfolding digits sha1 first_words schedule rounds compress hash_after digest_bytes bytes_at number_at put_at times_x times_x_to entries_bytes slice_of entries_of fields_of super_sum drive_at copied_of has_zeros is_canonical sum_of member_of parity_of row_of column_of sector_of xor xor_all label_of label_in areas_at fields_at header_of locations_at past_blanks string_at integer_at item_at body_at value_at first_value_at separator_at words_at found_at name_of number_in text_number_at text_in text_at section_in section_at logical_volumes each_at pv_at stripe_in kind_at segment_at numbered segment_numbered segments_at lv_at group_at group_in foremost look gate_of record_of pending_at pending current_places truth_in there at_position given shape_by value_by seat_of extents_below extent_by standing found first_of extent_of slices_of part_of the_group_in is_bad place_by extent_at volumes_in damage_of refused_by refusal_of meaning lib.Count.ones digit from_hex sector the_text chunk drive pool disks but header_0 entries_0 state_0 super_0 header_1 entries_1 state_1 super_1 header_2 entries_2 state_2 super_2 gate label text_header other_state other_header other_entries foreign_super rebuilding_super dirty_super
+unfolding digits sha1 first_words schedule rounds compress hash_after digest_bytes bytes_at number_at put_at times_x times_x_to entries_bytes slice_of entries_of fields_of super_sum drive_at copied_of has_zeros is_canonical sum_of member_of parity_of row_of column_of sector_of xor xor_all label_of label_in areas_at fields_at header_of locations_at past_blanks string_at integer_at item_at body_at value_at first_value_at separator_at words_at found_at name_of number_in text_number_at text_in text_at section_in section_at logical_volumes each_at pv_at stripe_in kind_at segment_at numbered segment_numbered segments_at lv_at group_at group_in foremost look gate_of record_of pending_at pending current_places truth_in there at_position given shape_by value_by seat_of extents_below extent_by standing found first_of extent_of slices_of group_on the_group_in highest runs_from differ follow all_apart parted encode_with is_bad damage_of refused_by refusal_of meaning lib.Count.ones digit from_hex sector the_text chunk drive pool disks but header_0 entries_0 state_0 super_0 header_1 entries_1 state_1 super_1 header_2 entries_2 state_2 super_2 gate label text_header other_state other_header other_entries foreign_super rebuilding_super dirty_super
 no_group = refl
 
 -- tables whose second entry has another type, on all drives
@@ -134,7 +137,7 @@ typed_entries_2 = sector (from_hex (codes "523c1f6b849d0a4ea7c152e8d03f9b767c1fa
 
 -- superblocks stand where the heights of the arrays put them, whatever the tables say
 other_types : refusal_of disks (but 2 1 typed_header_2 (but 2 2 typed_entries_2 (but 1 1 typed_header_1 (but 1 2 typed_entries_1 (but 0 1 typed_header_0 (but 0 2 typed_entries_0 pool)))))) ≡ Some (damaged 0 in_table)
-unfolding digits sha1 first_words schedule rounds compress hash_after digest_bytes bytes_at number_at put_at times_x times_x_to entries_bytes slice_of entries_of fields_of super_sum drive_at copied_of has_zeros is_canonical sum_of member_of parity_of row_of column_of sector_of xor xor_all label_of label_in areas_at fields_at header_of locations_at past_blanks string_at integer_at item_at body_at value_at first_value_at separator_at words_at found_at name_of number_in text_number_at text_in text_at section_in section_at logical_volumes each_at pv_at stripe_in kind_at segment_at numbered segment_numbered segments_at lv_at group_at group_in foremost look gate_of record_of pending_at pending current_places truth_in there at_position given shape_by value_by seat_of extents_below extent_by standing found first_of extent_of slices_of part_of the_group_in is_bad place_by extent_at volumes_in damage_of refused_by refusal_of meaning lib.Count.ones digit from_hex sector the_text chunk drive pool disks but header_0 entries_0 state_0 super_0 header_1 entries_1 state_1 super_1 header_2 entries_2 state_2 super_2 gate label text_header typed_header_0 typed_entries_0 typed_header_1 typed_entries_1 typed_header_2 typed_entries_2
+unfolding digits sha1 first_words schedule rounds compress hash_after digest_bytes bytes_at number_at put_at times_x times_x_to entries_bytes slice_of entries_of fields_of super_sum drive_at copied_of has_zeros is_canonical sum_of member_of parity_of row_of column_of sector_of xor xor_all label_of label_in areas_at fields_at header_of locations_at past_blanks string_at integer_at item_at body_at value_at first_value_at separator_at words_at found_at name_of number_in text_number_at text_in text_at section_in section_at logical_volumes each_at pv_at stripe_in kind_at segment_at numbered segment_numbered segments_at lv_at group_at group_in foremost look gate_of record_of pending_at pending current_places truth_in there at_position given shape_by value_by seat_of extents_below extent_by standing found first_of extent_of slices_of group_on the_group_in highest runs_from differ follow all_apart parted encode_with is_bad damage_of refused_by refusal_of meaning lib.Count.ones digit from_hex sector the_text chunk drive pool disks but header_0 entries_0 state_0 super_0 header_1 entries_1 state_1 super_1 header_2 entries_2 state_2 super_2 gate label text_header typed_header_0 typed_entries_0 typed_header_1 typed_entries_1 typed_header_2 typed_entries_2
 other_types = refl
 
 -- drives of 79104, 80384 and 80384 sectors with two arrays, and no superblock of the lower one
@@ -173,7 +176,7 @@ wiped d =
 
 -- where the slices of the upper array lie is not known then, so no table lacks it
 wiped_below : refusal_of (record { count = 3; sectors = λ d. if d == 0 then 79104 else 80384 }) wiped ≡ Some (too_few 0)
-unfolding digits sha1 first_words schedule rounds compress hash_after digest_bytes bytes_at number_at put_at times_x times_x_to entries_bytes slice_of entries_of fields_of super_sum drive_at copied_of has_zeros is_canonical sum_of member_of parity_of row_of column_of sector_of xor xor_all label_of label_in areas_at fields_at header_of locations_at past_blanks string_at integer_at item_at body_at value_at first_value_at separator_at words_at found_at name_of number_in text_number_at text_in text_at section_in section_at logical_volumes each_at pv_at stripe_in kind_at segment_at numbered segment_numbered segments_at lv_at group_at group_in foremost look gate_of record_of pending_at pending current_places truth_in there at_position given shape_by value_by seat_of extents_below extent_by standing found first_of extent_of slices_of part_of the_group_in is_bad place_by extent_at volumes_in damage_of refused_by refusal_of meaning lib.Count.ones digit from_hex sector the_text chunk drive pool disks but header_0 entries_0 state_0 super_0 header_1 entries_1 state_1 super_1 header_2 entries_2 state_2 super_2 gate label text_header two_layers_header_0 two_layers_entries_0 two_layers_state_0 two_layers_header_1 two_layers_entries_1 two_layers_state_1 two_layers_header_2 two_layers_entries_2 two_layers_state_2 wiped
+unfolding digits sha1 first_words schedule rounds compress hash_after digest_bytes bytes_at number_at put_at times_x times_x_to entries_bytes slice_of entries_of fields_of super_sum drive_at copied_of has_zeros is_canonical sum_of member_of parity_of row_of column_of sector_of xor xor_all label_of label_in areas_at fields_at header_of locations_at past_blanks string_at integer_at item_at body_at value_at first_value_at separator_at words_at found_at name_of number_in text_number_at text_in text_at section_in section_at logical_volumes each_at pv_at stripe_in kind_at segment_at numbered segment_numbered segments_at lv_at group_at group_in foremost look gate_of record_of pending_at pending current_places truth_in there at_position given shape_by value_by seat_of extents_below extent_by standing found first_of extent_of slices_of group_on the_group_in highest runs_from differ follow all_apart parted encode_with is_bad damage_of refused_by refusal_of meaning lib.Count.ones digit from_hex sector the_text chunk drive pool disks but header_0 entries_0 state_0 super_0 header_1 entries_1 state_1 super_1 header_2 entries_2 state_2 super_2 gate label text_header two_layers_header_0 two_layers_entries_0 two_layers_state_0 two_layers_header_1 two_layers_entries_1 two_layers_state_1 two_layers_header_2 two_layers_entries_2 two_layers_state_2 wiped
 wiped_below = refl
 
 -- the superblock of drive 1 while it is being rebuilt, as far as its whole size, with all rows left to resync
@@ -182,5 +185,5 @@ dirty_rebuilding_super = from_hex (codes "fc4e2ba9010000000200000000000000f96c74
 
 -- a rebuilding member is wanting where rows are left to resync
 dirty_rebuilding : refusal_of disks (but 1 10248 dirty_rebuilding_super pool) ≡ Some (dirty_degraded 0)
-unfolding digits sha1 first_words schedule rounds compress hash_after digest_bytes bytes_at number_at put_at times_x times_x_to entries_bytes slice_of entries_of fields_of super_sum drive_at copied_of has_zeros is_canonical sum_of member_of parity_of row_of column_of sector_of xor xor_all label_of label_in areas_at fields_at header_of locations_at past_blanks string_at integer_at item_at body_at value_at first_value_at separator_at words_at found_at name_of number_in text_number_at text_in text_at section_in section_at logical_volumes each_at pv_at stripe_in kind_at segment_at numbered segment_numbered segments_at lv_at group_at group_in foremost look gate_of record_of pending_at pending current_places truth_in there at_position given shape_by value_by seat_of extents_below extent_by standing found first_of extent_of slices_of part_of the_group_in is_bad place_by extent_at volumes_in damage_of refused_by refusal_of meaning lib.Count.ones digit from_hex sector the_text chunk drive pool disks but header_0 entries_0 state_0 super_0 header_1 entries_1 state_1 super_1 header_2 entries_2 state_2 super_2 gate label text_header dirty_rebuilding_super
+unfolding digits sha1 first_words schedule rounds compress hash_after digest_bytes bytes_at number_at put_at times_x times_x_to entries_bytes slice_of entries_of fields_of super_sum drive_at copied_of has_zeros is_canonical sum_of member_of parity_of row_of column_of sector_of xor xor_all label_of label_in areas_at fields_at header_of locations_at past_blanks string_at integer_at item_at body_at value_at first_value_at separator_at words_at found_at name_of number_in text_number_at text_in text_at section_in section_at logical_volumes each_at pv_at stripe_in kind_at segment_at numbered segment_numbered segments_at lv_at group_at group_in foremost look gate_of record_of pending_at pending current_places truth_in there at_position given shape_by value_by seat_of extents_below extent_by standing found first_of extent_of slices_of group_on the_group_in highest runs_from differ follow all_apart parted encode_with is_bad damage_of refused_by refusal_of meaning lib.Count.ones digit from_hex sector the_text chunk drive pool disks but header_0 entries_0 state_0 super_0 header_1 entries_1 state_1 super_1 header_2 entries_2 state_2 super_2 gate label text_header dirty_rebuilding_super
 dirty_rebuilding = refl

@@ -11,7 +11,10 @@ use Rattle.lvm_label.specs.Header.{header_of, locations_at}
 use Rattle.lvm_text.specs.Words.{past_blanks, string_at, integer_at, item_at, body_at, value_at, first_value_at, separator_at, words_at}
 use Rattle.lvm_text.specs.Group.{found_at, name_of, number_in, number_at, text_in, text_at, section_in, section_at, logical_volumes, each_at, pv_at, stripe_in, kind_at, segment_at, numbered, segment_numbered, segments_at, lv_at, group_at, group_in}
 use Rattle.array_image.specs.Foremost.{foremost}
-use Rattle.pool_image.specs.Volumes.{Arrays, part_of, group_in as the_group_in, is_bad, first_bad, spot_in, place_by, extent_at}
+use Rattle.pool_image.specs.Volumes.{Arrays, group_on, group_in as the_group_in, is_bad, first_bad, linear_of, spot_in}
+use Rattle.lvm_group.specs.Group.{highest, runs_from, differ, follow, all_apart}
+use Rattle.lvm_group.specs.Ids.{parted}
+use Rattle.hex.specs.Hex.{encode_with}
 
 digit : ℕ → ℕ
 digit code = if nat_lt code 58 then code - 48 else code - 87
@@ -77,51 +80,51 @@ alone : Image
 alone = held first_label alone_header alone_text
 
 -- the volume has 20 extents of array 0, and behind them 10 of array 1
-spots : map (λ v. option_map (λ g. spot_in g 0 v) (the_group_in (arrays whole))) (0 ∷ 2559 ∷ 2560 ∷ 3839 ∷ 3840 ∷ []) ≡ map (λ s. Some s) (Some (record { array = 0; sector = 2048 }) ∷ Some (record { array = 0; sector = 4607 }) ∷ Some (record { array = 1; sector = 2048 }) ∷ Some (record { array = 1; sector = 3327 }) ∷ None ∷ [])
-unfolding is_bad the_group_in part_of label_in label_of areas_at fields_at header_of locations_at past_blanks string_at integer_at item_at body_at value_at first_value_at separator_at words_at found_at name_of number_in number_at text_in text_at section_in section_at logical_volumes each_at pv_at stripe_in kind_at segment_at numbered segment_numbered segments_at lv_at group_at group_in digits foremost times_x times_x_to arrays whole held sector from_hex digit first_label second_label the_text the_header place_by extent_at
+spots : map (λ v. option_map (λ g. spot_in (linear_of (arrays whole) g) v) (the_group_in (arrays whole))) (0 ∷ 2559 ∷ 2560 ∷ 3839 ∷ 3840 ∷ []) ≡ map (λ s. Some s) (Some (record { array = 0; sector = 2048 }) ∷ Some (record { array = 0; sector = 4607 }) ∷ Some (record { array = 1; sector = 2048 }) ∷ Some (record { array = 1; sector = 3327 }) ∷ None ∷ [])
+unfolding is_bad the_group_in highest runs_from differ follow all_apart parted encode_with group_on label_in label_of areas_at fields_at header_of locations_at past_blanks string_at integer_at item_at body_at value_at first_value_at separator_at words_at found_at name_of number_in number_at text_in text_at section_in section_at logical_volumes each_at pv_at stripe_in kind_at segment_at numbered segment_numbered segments_at lv_at group_at group_in digits foremost times_x times_x_to arrays whole held sector from_hex digit first_label second_label the_text the_header
 spots = refl
 
 -- nothing is bad
 none_bad : first_bad (arrays whole) ≡ None
-unfolding is_bad the_group_in part_of label_in label_of areas_at fields_at header_of locations_at past_blanks string_at integer_at item_at body_at value_at first_value_at separator_at words_at found_at name_of number_in number_at text_in text_at section_in section_at logical_volumes each_at pv_at stripe_in kind_at segment_at numbered segment_numbered segments_at lv_at group_at group_in digits foremost times_x times_x_to arrays whole held sector from_hex digit first_label second_label the_text the_header sha1 first_words schedule rounds compress hash_after digest_bytes
+unfolding is_bad the_group_in highest runs_from differ follow all_apart parted encode_with group_on label_in label_of areas_at fields_at header_of locations_at past_blanks string_at integer_at item_at body_at value_at first_value_at separator_at words_at found_at name_of number_in number_at text_in text_at section_in section_at logical_volumes each_at pv_at stripe_in kind_at segment_at numbered segment_numbered segments_at lv_at group_at group_in digits foremost times_x times_x_to arrays whole held sector from_hex digit first_label second_label the_text the_header sha1 first_words schedule rounds compress hash_after digest_bytes
 none_bad = refl
 
 -- array 0 without a text
 no_text : first_bad (arrays (held first_label the_header [])) ≡ Some 0
-unfolding is_bad the_group_in part_of label_in label_of areas_at fields_at header_of locations_at past_blanks string_at integer_at item_at body_at value_at first_value_at separator_at words_at found_at name_of number_in number_at text_in text_at section_in section_at logical_volumes each_at pv_at stripe_in kind_at segment_at numbered segment_numbered segments_at lv_at group_at group_in digits foremost times_x times_x_to arrays whole held sector from_hex digit first_label second_label the_text the_header sha1 first_words schedule rounds compress hash_after digest_bytes
+unfolding is_bad the_group_in highest runs_from differ follow all_apart parted encode_with group_on label_in label_of areas_at fields_at header_of locations_at past_blanks string_at integer_at item_at body_at value_at first_value_at separator_at words_at found_at name_of number_in number_at text_in text_at section_in section_at logical_volumes each_at pv_at stripe_in kind_at segment_at numbered segment_numbered segments_at lv_at group_at group_in digits foremost times_x times_x_to arrays whole held sector from_hex digit first_label second_label the_text the_header sha1 first_words schedule rounds compress hash_after digest_bytes
 no_text = refl
 
 -- array 0 without a header: the text of array 1 is read, and names it
 no_header : first_bad (arrays (λ n x. if (n == 0) && (x == 8) then replicate 512 0 else whole n x)) ≡ Some 0
-unfolding is_bad the_group_in part_of label_in label_of areas_at fields_at header_of locations_at past_blanks string_at integer_at item_at body_at value_at first_value_at separator_at words_at found_at name_of number_in number_at text_in text_at section_in section_at logical_volumes each_at pv_at stripe_in kind_at segment_at numbered segment_numbered segments_at lv_at group_at group_in digits foremost times_x times_x_to arrays whole held sector from_hex digit first_label second_label the_text the_header sha1 first_words schedule rounds compress hash_after digest_bytes
+unfolding is_bad the_group_in highest runs_from differ follow all_apart parted encode_with group_on label_in label_of areas_at fields_at header_of locations_at past_blanks string_at integer_at item_at body_at value_at first_value_at separator_at words_at found_at name_of number_in number_at text_in text_at section_in section_at logical_volumes each_at pv_at stripe_in kind_at segment_at numbered segment_numbered segments_at lv_at group_at group_in digits foremost times_x times_x_to arrays whole held sector from_hex digit first_label second_label the_text the_header sha1 first_words schedule rounds compress hash_after digest_bytes
 no_header = refl
 
 -- array 1 without a label, named by the text
 no_second_label : first_bad (arrays (λ n x. if (n == 1) && (x == 1) then replicate 512 0 else whole n x)) ≡ Some 1
-unfolding is_bad the_group_in part_of label_in label_of areas_at fields_at header_of locations_at past_blanks string_at integer_at item_at body_at value_at first_value_at separator_at words_at found_at name_of number_in number_at text_in text_at section_in section_at logical_volumes each_at pv_at stripe_in kind_at segment_at numbered segment_numbered segments_at lv_at group_at group_in digits foremost times_x times_x_to arrays whole held sector from_hex digit first_label second_label the_text the_header sha1 first_words schedule rounds compress hash_after digest_bytes
+unfolding is_bad the_group_in highest runs_from differ follow all_apart parted encode_with group_on label_in label_of areas_at fields_at header_of locations_at past_blanks string_at integer_at item_at body_at value_at first_value_at separator_at words_at found_at name_of number_in number_at text_in text_at section_in section_at logical_volumes each_at pv_at stripe_in kind_at segment_at numbered segment_numbered segments_at lv_at group_at group_in digits foremost times_x times_x_to arrays whole held sector from_hex digit first_label second_label the_text the_header sha1 first_words schedule rounds compress hash_after digest_bytes
 no_second_label = refl
 
 -- array 1 without a header
 no_second_header : first_bad (arrays (λ n x. if (n == 1) && (x == 8) then replicate 512 0 else whole n x)) ≡ Some 1
-unfolding is_bad the_group_in part_of label_in label_of areas_at fields_at header_of locations_at past_blanks string_at integer_at item_at body_at value_at first_value_at separator_at words_at found_at name_of number_in number_at text_in text_at section_in section_at logical_volumes each_at pv_at stripe_in kind_at segment_at numbered segment_numbered segments_at lv_at group_at group_in digits foremost times_x times_x_to arrays whole held sector from_hex digit first_label second_label the_text the_header sha1 first_words schedule rounds compress hash_after digest_bytes
+unfolding is_bad the_group_in highest runs_from differ follow all_apart parted encode_with group_on label_in label_of areas_at fields_at header_of locations_at past_blanks string_at integer_at item_at body_at value_at first_value_at separator_at words_at found_at name_of number_in number_at text_in text_at section_in section_at logical_volumes each_at pv_at stripe_in kind_at segment_at numbered segment_numbered segments_at lv_at group_at group_in digits foremost times_x times_x_to arrays whole held sector from_hex digit first_label second_label the_text the_header sha1 first_words schedule rounds compress hash_after digest_bytes
 no_second_header = refl
 
 -- a location of another sum
 bad_sum : first_bad (arrays (λ n x. if (n == 1) && (x == 8) then bad_header else whole n x)) ≡ Some 1
-unfolding is_bad the_group_in part_of label_in label_of areas_at fields_at header_of locations_at past_blanks string_at integer_at item_at body_at value_at first_value_at separator_at words_at found_at name_of number_in number_at text_in text_at section_in section_at logical_volumes each_at pv_at stripe_in kind_at segment_at numbered segment_numbered segments_at lv_at group_at group_in digits foremost times_x times_x_to arrays whole held sector from_hex digit first_label second_label the_text the_header sha1 first_words schedule rounds compress hash_after digest_bytes bad_header
+unfolding is_bad the_group_in highest runs_from differ follow all_apart parted encode_with group_on label_in label_of areas_at fields_at header_of locations_at past_blanks string_at integer_at item_at body_at value_at first_value_at separator_at words_at found_at name_of number_in number_at text_in text_at section_in section_at logical_volumes each_at pv_at stripe_in kind_at segment_at numbered segment_numbered segments_at lv_at group_at group_in digits foremost times_x times_x_to arrays whole held sector from_hex digit first_label second_label the_text the_header sha1 first_words schedule rounds compress hash_after digest_bytes bad_header
 bad_sum = refl
 
 -- and one of a text of 262145 bytes
 long_text : first_bad (arrays (λ n x. if (n == 1) && (x == 8) then long_header else whole n x)) ≡ Some 1
-unfolding is_bad the_group_in part_of label_in label_of areas_at fields_at header_of locations_at past_blanks string_at integer_at item_at body_at value_at first_value_at separator_at words_at found_at name_of number_in number_at text_in text_at section_in section_at logical_volumes each_at pv_at stripe_in kind_at segment_at numbered segment_numbered segments_at lv_at group_at group_in digits foremost times_x times_x_to arrays whole held sector from_hex digit first_label second_label the_text the_header sha1 first_words schedule rounds compress hash_after digest_bytes long_header
+unfolding is_bad the_group_in highest runs_from differ follow all_apart parted encode_with group_on label_in label_of areas_at fields_at header_of locations_at past_blanks string_at integer_at item_at body_at value_at first_value_at separator_at words_at found_at name_of number_in number_at text_in text_at section_in section_at logical_volumes each_at pv_at stripe_in kind_at segment_at numbered segment_numbered segments_at lv_at group_at group_in digits foremost times_x times_x_to arrays whole held sector from_hex digit first_label second_label the_text the_header sha1 first_words schedule rounds compress hash_after digest_bytes long_header
 long_text = refl
 
 -- a location that gives no text is bad in an array without a label too, which no text names
 bad_beside : first_bad (arrays (λ n x. if n == 0 then alone n x else if x == 8 then bad_header else replicate 512 0)) ≡ Some 1
-unfolding is_bad the_group_in part_of label_in label_of areas_at fields_at header_of locations_at past_blanks string_at integer_at item_at body_at value_at first_value_at separator_at words_at found_at name_of number_in number_at text_in text_at section_in section_at logical_volumes each_at pv_at stripe_in kind_at segment_at numbered segment_numbered segments_at lv_at group_at group_in digits foremost times_x times_x_to arrays whole held sector from_hex digit first_label second_label the_text the_header sha1 first_words schedule rounds compress hash_after digest_bytes alone alone_header alone_text bad_header
+unfolding is_bad the_group_in highest runs_from differ follow all_apart parted encode_with group_on label_in label_of areas_at fields_at header_of locations_at past_blanks string_at integer_at item_at body_at value_at first_value_at separator_at words_at found_at name_of number_in number_at text_in text_at section_in section_at logical_volumes each_at pv_at stripe_in kind_at segment_at numbered segment_numbered segments_at lv_at group_at group_in digits foremost times_x times_x_to arrays whole held sector from_hex digit first_label second_label the_text the_header sha1 first_words schedule rounds compress hash_after digest_bytes alone alone_header alone_text bad_header
 bad_beside = refl
 
 -- without a header it is left out
 not_in_group : first_bad (arrays (λ n x. if n == 0 then alone n x else replicate 512 0)) ≡ None
-unfolding is_bad the_group_in part_of label_in label_of areas_at fields_at header_of locations_at past_blanks string_at integer_at item_at body_at value_at first_value_at separator_at words_at found_at name_of number_in number_at text_in text_at section_in section_at logical_volumes each_at pv_at stripe_in kind_at segment_at numbered segment_numbered segments_at lv_at group_at group_in digits foremost times_x times_x_to arrays whole held sector from_hex digit first_label second_label the_text the_header sha1 first_words schedule rounds compress hash_after digest_bytes alone alone_header alone_text
+unfolding is_bad the_group_in highest runs_from differ follow all_apart parted encode_with group_on label_in label_of areas_at fields_at header_of locations_at past_blanks string_at integer_at item_at body_at value_at first_value_at separator_at words_at found_at name_of number_in number_at text_in text_at section_in section_at logical_volumes each_at pv_at stripe_in kind_at segment_at numbered segment_numbered segments_at lv_at group_at group_in digits foremost times_x times_x_to arrays whole held sector from_hex digit first_label second_label the_text the_header sha1 first_words schedule rounds compress hash_after digest_bytes alone alone_header alone_text
 not_in_group = refl

@@ -12,8 +12,8 @@ use Rattle.array_image.specs.Supers.{is_rebuilding, is_reshaping, named_places, 
 use Rattle.array_image.specs.SoundArray.{first_unsynced}
 use Rattle.array_image.specs.Spent.{spent_by}
 use Rattle.pool_image.specs.Drives.{Found}
-use Rattle.pool_image.specs.Volumes.{all_segments, run_on, spot_in}
-use Rattle.pool_image.specs.Meaning.{truth_of, shape_of, super_at, group_of}
+use Rattle.pool_image.specs.Volumes.{all_segments, extents_on, linear_of, spot_in}
+use Rattle.pool_image.specs.Meaning.{truth_of, shape_of, super_at, joined_arrays, group_of}
 
 -- ---- arrays
 
@@ -78,7 +78,7 @@ array_now f n t = record {
 
 -- how many extents of an array the volumes use
 abbrev pub used_by : Group → ℕ → ℕ
-used_by g n = sum (map (λ segment. option_map_or (λ run. run.count) (run_on n segment) 0) (all_segments g))
+used_by g n = sum (map (extents_on n) (all_segments g))
 
 abbrev pub used_in : Found → ℕ → ℕ
 used_in f n = option_map_or (λ g. used_by g n) (group_of f) 0
@@ -107,9 +107,9 @@ abbrev pub is_spent_in : Found → ℕ → ℕ → Bool
 is_spent_in f n x = option_map_or (λ shape. option_map_or (λ t. spent_by shape (resync_from f n t) x) (truth_of f n) true) (shape_of f n) true
 
 -- a volume's sector is spent where that of its array is
-abbrev pub is_spent : Found → ℕ → ℕ → Bool
-is_spent f volume v =
-    option_map_or (λ g. option_map_or (λ spot. is_spent_in f spot.array spot.sector) (spot_in g volume v) true) (group_of f) true
+abbrev pub is_spent : Found → ℕ → Bool
+is_spent f v =
+    option_map_or (λ g. option_map_or (λ spot. is_spent_in f spot.array spot.sector) (spot_in (linear_of (joined_arrays f) g) v) true) (group_of f) true
 
 -- ---- plans
 

@@ -1,5 +1,5 @@
 -- The meaning of contents: the volumes that they hold, or why they are refused.
-use Rattle.std.specs.Prelude.{ℕ, ◌+◌, ◌*◌, Bool, false, true, ◌==◌, ◌&&◌, ◌||◌, not, nat_lt, bytes_eq, if◌then◌else◌, List, [], map, length, find, count_by, slice_get, Option, Some, None, option_map, is_some, is_none}
+use Rattle.std.specs.Prelude.{ℕ, ◌+◌, ◌*◌, Bool, false, true, ◌==◌, ◌&&◌, ◌||◌, not, nat_lt, bytes_eq, if◌then◌else◌, List, [], ◌∷◌, length, find, count_by, slice_get, Option, Some, None, option_map, is_some, is_none}
 use Rattle.std.specs.Option.{option_and_then, option_map_or, option_or}
 use Rattle.std.specs.List.{list_all, list_any, range_with_len}
 use Rattle.rack.specs.Seen.{Image}
@@ -14,7 +14,9 @@ use Rattle.array_image.specs.Arrays.{Shape, shape_in, sectors_by, array_in}
 use Rattle.pool_image.specs.Disks.{Disks, all_disks, id_at}
 use Rattle.pool_image.specs.Replay.{Extent, Standing, standing}
 use Rattle.pool_image.specs.Drives.{Found, end_of, found, extent_of, slices_of}
-use Rattle.pool_image.specs.Volumes.{Arrays, extents_of, first_bad, group_in, volumes_in}
+use Rattle.lvm_group.specs.Runs.{Linear, sectors_in}
+use Rattle.lvm_group.specs.Shown.{contents_of}
+use Rattle.pool_image.specs.Volumes.{Arrays, first_bad, group_in, linear_of}
 
 -- a part of a drive
 pub data Part : Type 0 where
@@ -167,18 +169,15 @@ pub record Volume : Type 0 where
   pub sectors : ℕ
   pub contents : ℕ → List ℕ
 
-abbrev pub volume_of : Group → Image → ℕ → Volume
-volume_of g c k = record { sectors = g.extent_size * option_map_or extents_of (slice_get g.lvs k) 0; contents = volumes_in g c k }
-
-abbrev pub volumes_by : Group → Image → List Volume
-volumes_by g c = map (volume_of g c) (range_with_len 0 (length g.lvs))
+abbrev pub volume_by : Linear → Image → Volume
+volume_by l c = record { sectors = sectors_in l; contents = contents_of l c 0 }
 
 -- the group of the joined arrays
 abbrev pub group_of : Found → Option Group
 group_of f = group_in (joined_arrays f)
 
 abbrev pub volumes_of : Found → List Volume
-volumes_of f = option_map_or (λ g. volumes_by g (arrays_held f)) (group_of f) []
+volumes_of f = option_map_or (λ g. volume_by (linear_of (joined_arrays f) g) (arrays_held f) ∷ []) (group_of f) []
 
 -- the meaning of contents: none exactly where they are refused
 unfoldable pub meaning : Disks → Image → Option (List Volume)

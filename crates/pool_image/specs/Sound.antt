@@ -1,5 +1,5 @@
 -- Contents that agree with themselves, rule by rule, and those that are excused.
-use Rattle.std.specs.Prelude.{◌≡◌, ◌↔◌, ◌⊎◌, ℕ, ◌+◌, ◌-◌, ◌*◌, ◌%◌, ◌<◌, ◌≤◌, ◌^◌, Bool, true, false, ◌==◌, ◌&&◌, ◌||◌, not, nat_lt, nat_eq, if◌then◌else◌, List, [], ◌∷◌, length, count_by, slice_get, Option, Some, is_some, is_none}
+use Rattle.std.specs.Prelude.{◌≡◌, ◌↔◌, ◌⊎◌, ℕ, ◌+◌, ◌-◌, ◌*◌, ◌%◌, ◌<◌, ◌≤◌, ◌^◌, Bool, true, false, ◌==◌, ◌&&◌, ◌||◌, not, nat_lt, nat_eq, if◌then◌else◌, List, [], ◌∷◌, length, count_by, slice_get, Option, Some, is_some, is_none, IfSome}
 use Rattle.std.specs.Option.{option_map_or}
 use Rattle.std.specs.List.{range_with_len, starts_with, AllByRecursion}
 use Rattle.rack.specs.Seen.{Image}
@@ -20,7 +20,9 @@ use Rattle.array_image.specs.Arrays.{Shape}
 use Rattle.array_image.specs.SoundArray.{IsSoundArray}
 use Rattle.pool_image.specs.Disks.{Disks}
 use Rattle.pool_image.specs.Drives.{Found, found, slices_of}
-use Rattle.pool_image.specs.Volumes.{Run, header_at, header_sector, hex_of, label_on, part_of, run_on, all_segments, text_limit}
+use Rattle.lvm_group.specs.Group.{run_in}
+use Rattle.lvm_group.specs.Ids.{label_id}
+use Rattle.pool_image.specs.Volumes.{group_on, header_at, header_sector, label_on, all_segments, text_limit}
 use Rattle.pool_image.specs.Meaning.{Volume, meaning, truth_of, shape_of, super_at, is_member, has_slice_of, arrays_held, array_sectors, joined_arrays, group_of}
 use Rattle.pool_image.specs.Book.{Book, book_of, is_planned, is_rebuilding_at, planned, top_of, used_by, used_in}
 
@@ -87,7 +89,7 @@ pub record Growth : Type 0 where
 -- a label as the pool writes it, but for the device's size
 abbrev pub written_label : Found → ℕ → ℕ → Label
 written_label f n size = record {
-  pv_id = hex_of (pv_id f.state.pool.0 n);
+  pv_id = label_id (pv_id f.state.pool.0 n);
   device_size = size;
   areas = record { items = record { offset = 1048576; size = 0 } ∷ [] };
   metadata = record { items = record { offset = 4096; size = 1044480 } ∷ [] };
@@ -121,7 +123,7 @@ pub record HasSoundVolume (growth : Growth) (f : Found) : Type 0 where
   -- the extents of an array in the volume are its first ones
   pub first_extents :
       (g : Group) → group_of f ≡ Some g → (n : ℕ)
-      → AllByRecursion (λ segment. (run : Run) → run_on n segment ≡ Some run → 0 < run.count → run.first + run.count ≤ used_by g n) (all_segments g)
+      → AllByRecursion (λ segment. IfSome (run_in segment) (λ run. run.array ≡ n → 0 < run.count → run.first + run.count ≤ used_by g n)) (all_segments g)
   pub heads : (n : ℕ) → n < f.state.joined → HasSoundHead f n
 
 -- 5. The plan's drive alone is rebuilding or joining. While it is current its table has its slice of each array that it has still to
@@ -141,7 +143,7 @@ pub record HasRoomInNumbers (f : Found) : Type 0 where
   pub epoch : f.state.epoch < 2 ^ 62
   pub events : (n place : ℕ) (t : Super) → n < f.state.made → is_current f.state place ≡ true → super_at f n place ≡ Some t → t.events < 2 ^ 62
   pub gates : (place : ℕ) (g : Gate) → is_current f.state place ≡ true → gate_in (slices_of f) place ≡ Some g → g.number < 2 ^ 62
-  pub seqno : (n : ℕ) (g : Group) → n < f.state.joined → (part_of (joined_arrays f) n).group ≡ Some g → g.seqno < 2 ^ 62
+  pub seqno : (n : ℕ) (g : Group) → n < f.state.joined → group_on (joined_arrays f) n ≡ Some g → g.seqno < 2 ^ 62
 
 -- 8. Sectors that no extent uses hold zeros: of a joined array behind its extents, in a reshape up to the rows that are moved; and of a
 -- young array the rows that aren't left to zero, on each current member. (Rule 7, that rows agree, is one of each array's.)

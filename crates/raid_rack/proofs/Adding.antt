@@ -221,7 +221,7 @@ module _ (v : Raid) (lost on : List ℕ) (l : LogView) (xs : List Target) (x : S
             let disk = copy.copy.disk in
             let here = at.2 in
             let disks = marking.set.disks in
-            let sectors = marking.set.logs copy.place current in
+            let sectors = marking.set.logs copy.place (sym (current_is copy.place) ∙ sym (on_current copy.place) ∙ copy.named) in
             let zero_sector = copy.copy.sector in
             let sector = at.3 in (
               omega (arith, disk, here, few, disks),
@@ -240,7 +240,7 @@ module _ (v : Raid) (lost on : List ℕ) (l : LogView) (xs : List Target) (x : S
             (super_live v x super.array super.position marking.set live super.low super.inside super.there))
         | inr copy ↦
             let current = was_current copy.place (sym (on_current copy.place) ∙ copy.named) in
-            let sectors = marking.set.logs copy.place current in
+            let sectors = marking.set.logs copy.place (sym (current_is copy.place) ∙ sym (on_current copy.place) ∙ copy.named) in
             subst (λ e. IsLive x x e s) (sym copy.copy.disk ∙ at.2)
             (subst (λ u. IsLive x x (log_slice copy.place) u) (sym copy.copy.sector ∙ at.3)
             (logs copy.place 0 (current_few v.state copy.place marking.set.few current) (omega (arith, sectors))))

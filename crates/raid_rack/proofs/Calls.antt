@@ -15,7 +15,7 @@ use Rattle.array_model.specs.Members.{Notes}
 use Rattle.array_core.specs.Superblocks.{settled, settled_truth, left_offset, raised}
 use Rattle.array_core.specs.Settling.{Settles}
 use Rattle.raid_rack.specs.Book.{after_same}
-use Rattle.raid_rack.specs.Raid.{Raid, gone_in, is_over}
+use Rattle.raid_rack.specs.Raid.{Raid, gone_in, is_over, IsWritten}
 use Rattle.raid_rack.specs.Moves.{IsOfPool, IsSet, PartOf, Moves}
 use Rattle.raid_rack.proofs.Changed.{ViewsOne, MayRestate, further, marked_before, more_gone, same_shape, left_before, caused, part_if, views_counted, views_notes, views_sectors, views_set, views_spent}
 use Rattle.raid_rack.proofs.Rows.{KeepsClear, clear_same, clear_seats, clear_settled, rows_read}
@@ -50,6 +50,7 @@ module _ (v : Raid) (f : ℕ → View) (m : ℕ) (a b : Seen) (set : IsSet v a) 
       elim (cases_eq n m) [
         | inl same ↦
             part_read v.state amid.durable vals spent (gone_in v) (gone_in (with_arrays v f)) v (with_arrays v f) a b n set.lasting call.reads refl more someone
+            (subst (λ k. IsWritten (v.arrays k) → IsWritten (f k)) (sym same) views.written)
             (subst (λ k. Keeping v.state (v.arrays k) (f k) spent a b amid.durable vals) (sym same)
             (call.keeps v.state amid.durable vals spent (subst (λ k. Covers (f k) spent) same covers)))
         | inr apart ↦
@@ -91,7 +92,7 @@ reads_notes v f m a b set low reads others notes keeps =
     let pool = (set.arrays m low).is_of_pool in
     record {
       views = views_notes v f m a b u.truth.events u.truth.resync_offset u.marked set low reads.stays others
-          (record { later = omega arith; some = pool.events; few = pool.events_end; whole = pool.written.resync; unsynced = pool.unsynced })
+          (record { later = omega arith; some = pool.events; few = pool.events_end; whole = λ was. was; unsynced = pool.unsynced })
           (λ marked. inl marked) notes;
       reads = reads;
       clear = clear_seats u (f m) notes.same;
@@ -150,7 +151,7 @@ may_settle s z is_array pool =
       later = events.0;
       some = let more = events.0 in let some = pool.events in omega (arith, more, some);
       few = events.1;
-      whole = offset_whole z.young (is_unclean z.truth) (nat_lt z.resync (rows_of z)) z.truth.resync_offset z.resync pool.written.resync;
+      whole = λ was. offset_whole z.young (is_unclean z.truth) (nat_lt z.resync (rows_of z)) z.truth.resync_offset z.resync was;
       unsynced = offset_rows z.young (is_unclean z.truth) (nat_lt z.resync (rows_of z)) z.truth.resync_offset z.resync z.truth.size is_array.small
           pool.unsynced
           (λ none. ltb-false z.resync (rows_of z) none)

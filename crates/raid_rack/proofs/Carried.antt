@@ -27,7 +27,7 @@ use Rattle.array_model.specs.Stages.{IsStateOf, AmongTargets}
 use Rattle.array_model.proofs.Losses.{IsLosing}
 use Rattle.array_model.proofs.Spared.{lost_value}
 use Rattle.array_model.proofs.Noting.{laid_out, unspent_then}
-use Rattle.raid_rack.specs.Raid.{Raid, gone_in, is_over, Stood}
+use Rattle.raid_rack.specs.Raid.{Raid, gone_in, is_over, Stood, IsWritten}
 use Rattle.raid_rack.specs.Losses.{AddsCopies}
 use Rattle.array_model.specs.Says.{HoldsShape}
 use Rattle.array_core.specs.Superblocks.{is_settled}
@@ -215,7 +215,7 @@ module _ (v : Raid) (lost on gone : List ℕ) (l : LogView) (xs : List Target) (
         low = (let below = member.1 in let count = seated.is_array.seats in omega (arith, below, count));
         left = member.2;
         rows = pool.rows;
-        written = pool.written;
+        written = amid.stood.written;
         unsynced = pool.unsynced;
         settled = settled;
         unmarked = has.unmarked;
@@ -236,6 +236,7 @@ module _ (v : Raid) (lost on gone : List ℕ) (l : LogView) (xs : List Target) (
     marked_is = λ is. absurd (both_ways (v.arrays n).marked has.unmarked (losing.marked is));
     view_number = seated.number;
     truth = losing.truth;
+    written = subst IsWritten (sym (commit.arrays n low)) amid.stood.written;
     went = λ none. absurd (never_empty none);
   }
 

@@ -22,7 +22,7 @@ use Rattle.array_model.specs.View.{View, IsArray, HasFault, LosesPlaces, has_gon
 use Rattle.array_model.specs.Members.{IsSameButSeats, Notes, slice_on}
 use Rattle.array_model.proofs.Views.{shape_then, fewer_left}
 use Rattle.array_model.proofs.Noting.{losing_by}
-use Rattle.raid_rack.specs.Raid.{Raid, gone_in, is_left}
+use Rattle.raid_rack.specs.Raid.{Raid, gone_in, is_left, IsWritten}
 use Rattle.raid_rack.specs.Marking.{Part}
 use Rattle.raid_rack.specs.Moves.{IsAmid, IsSet, IsSeated, IsMarkedWhole, AreMarked, PartOf}
 use Rattle.raid_rack.proofs.Over.{IsFurther, not_true}
@@ -77,6 +77,7 @@ pub record ViewsOne (v : Raid) (f : ℕ → View) (m : ℕ) (a b : Seen) : Type 
   pub cause : (place : ℕ) → lost place ≡ true → HasFault a b place
   pub spent : (y : ℕ) → spent_in (f m) y ≡ false → spent_in (v.arrays m) y ≡ false
   pub sectors : sectors_of (f m) ≡ sectors_of (v.arrays m)
+  pub written : IsWritten (v.arrays m) → IsWritten (f m)
   pub events : (v.arrays m).truth.events ≤ (f m).truth.events
   pub seats : present (f m).seats ≤ present (v.arrays m).seats
   pub lowered_is : shape_of (f m) ≡ lowered lost (shape_of (v.arrays m))
@@ -258,7 +259,7 @@ module _ (v : Raid) (f : ℕ → View) (m : ℕ) (a b : Seen) (set : IsSet v a) 
     few = set.few;
     most = set.most;
     valid = set.valid;
-    logs = λ p current. call.stays.sectors (log_slice p) ∙ set.logs p current;
+    logs = λ p left. call.stays.sectors (log_slice p) ∙ set.logs p (left_before p left);
     arrays = λ n low. by_number (λ k. IsSeated v.state k (f k) b) m n call.seated
         (λ apart. subst (λ (u : View). IsSeated v.state n u b) (sym (call.others n apart)) (seated_still v.state n (v.arrays n) a b call.stays (set.arrays n low)));
     marked = views_whole;
@@ -381,7 +382,7 @@ pub record MayRestate (u : View) (events offset : ℕ) : Type 0 where
   pub later : u.truth.events ≤ events
   pub some : 0 < events
   pub few : events < 2 ^ 63
-  pub whole : (offset ≡ 2 ^ 64 - 1) ⊎ (offset % 128 ≡ 0)
+  pub whole : ((u.truth.resync_offset ≡ 2 ^ 64 - 1) ⊎ (u.truth.resync_offset % 128 ≡ 0)) → (offset ≡ 2 ^ 64 - 1) ⊎ (offset % 128 ≡ 0)
   pub unsynced : (if nat_lt offset u.truth.size then offset / 128 else u.truth.size / 128) ≤ u.resync
 
 pub seated_restated : (s : State) (n : ℕ) (u : View) (events offset : ℕ) (mark : Bool) (x : Seen) → MayRestate u events offset
@@ -413,22 +414,25 @@ seated_restated s n u events offset mark x may seated =
         events_end = may.few;
         row = pool.row;
         roles = pool.roles;
-        written = record {
-          name = pool.written.name;
-          times = pool.written.times;
-          roles = pool.written.roles;
-          step = pool.written.step;
-          next_level = pool.written.next_level;
-          next_layout = pool.written.next_layout;
-          next_chunk = pool.written.next_chunk;
-          position = pool.written.position;
-          last_position = pool.written.last_position;
-          no_position = pool.written.no_position;
-          resync = may.whole;
-        };
         unsynced = may.unsynced;
         rows = pool.rows;
       };
+    }
+
+written_restated : (u : View) (events offset : ℕ) (mark : Bool) → MayRestate u events offset → IsWritten u → IsWritten (restated u events offset mark)
+written_restated u events offset mark may written =
+    record {
+      name = written.name;
+      times = written.times;
+      roles = written.roles;
+      step = written.step;
+      next_level = written.next_level;
+      next_layout = written.next_layout;
+      next_chunk = written.next_chunk;
+      position = written.position;
+      last_position = written.last_position;
+      no_position = written.no_position;
+      resync = may.whole written.resync;
     }
 
 restated_shape : (u : View) (events offset : ℕ) (mark : Bool) → shape_of (restated u events offset mark) ≡ shape_of u
@@ -461,6 +465,7 @@ views_notes v f m a b events offset mark set low stays others may was notes =
       lost = notes.lost;
       loses = loses;
       cause = notes.cause;
+      written = λ was. subst IsWritten (sym (view_with z w notes.same)) (written_restated u events offset mark may was);
       spent = λ y alive. sym (restated_spent u events offset mark y) ∙ losing_spent z w notes.lost at.is_array (losing_by z w a b notes) y alive;
       sectors = ap (λ (t : Super). capacity (first_layout t) t.size) notes.same.truth;
       events = subst (λ (t : Super). u.truth.events ≤ t.events) (sym notes.same.truth) may.later;

@@ -56,7 +56,7 @@ views_clean v f m a b set low stays others cleans =
     elim cleans.either [
       | inl done ↦
           views_notes v f m a b u.truth.events u.truth.resync_offset u.marked set low stays others
-          (record { later = omega arith; some = pool.events; few = pool.events_end; whole = pool.written.resync; unsynced = pool.unsynced })
+          (record { later = omega arith; some = pool.events; few = pool.events_end; whole = λ was. was; unsynced = pool.unsynced })
           (λ marked. inl marked) (subst (λ (k : View). Notes u k a b) (sym done.same) cleans.notes)
       | inr now ↦
           views_notes v f m a b (raised u.truth.events) (left_offset u) false set low stays others

@@ -97,7 +97,6 @@ seated_marked s lost n u x noted seated =
         events_end = pool.events_end;
         row = pool.row;
         roles = ap (λ k. has_roles k u.truth) (length_marked lost 0 s.drives.items) ∙ pool.roles;
-        written = pool.written;
         unsynced = pool.unsynced;
         rows = pool.rows;
       };
@@ -250,7 +249,7 @@ module _ (v : Raid) (lost on gone : List ℕ) (l : LogView) (xs : List Target) (
     few = subst (λ k. k ≤ 16) (sym (length_marked lost 0 v.state.drives.items)) set_before.few;
     most = set_before.most;
     valid = λ p low. valid_marked lost v.state p (set_before.valid p (subst (λ k. p < k) (length_marked lost 0 v.state.drives.items) low));
-    logs = λ p current. commit.call.stays.sectors (log_slice p) ∙ set_before.logs p (was_current v lost on l xs b commit.marking p current);
+    logs = λ p left. commit.call.stays.sectors (log_slice p) ∙ set_before.logs p (after_left p left);
     arrays = λ n low.
         subst (λ (u : View). IsSeated (state_after v lost) n u c) (sym (commit.arrays n low))
         (gone_seated (state_after v lost) n (v.arrays n) gone c (stays_same c commit.call.stays.fit)

@@ -10,7 +10,7 @@ use Rattle.array_core.specs.Seats.{names, gone}
 use Rattle.raid_rack.specs.declared.arrays.Arrays.{Arrays}
 use Rattle.raid_rack.specs.Moves.{noted_at}
 use Rattle.raid_rack.specs.RaidRack.{IsRunning, raid_by, no_array}
-use Rattle.raid_rack.proofs.Noted.{IsNoting, current_few, noted_seated, noted_whole}
+use Rattle.raid_rack.proofs.Noted.{IsNoting, current_few, noted_before, noted_seated, noted_whole}
 use Rattle.raid_rack.proofs.Mended.{each_get}
 
 -- the arrays that the code notes are those
@@ -62,7 +62,7 @@ dropped_running a all places one x running each same named current =
         few = set.few;
         most = set.most;
         valid = set.valid;
-        logs = set.logs;
+        logs = λ p left. set.logs p (noted_before places (raid_by a) f noting p left);
         arrays = noted_seated places (raid_by a) f x noting set;
         marked = noted_whole places (raid_by a) f noting;
       };

@@ -41,3 +41,5 @@ pub mod Restated
 pub mod Copies
 pub mod Brought
 pub mod Added
+pub mod Opening
+pub mod Founding

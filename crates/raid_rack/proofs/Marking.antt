@@ -28,7 +28,7 @@ use Rattle.array_model.specs.View.{View, shape_of, may_vary}
 use Rattle.array_model.specs.Says.{Says, IsOpen, HoldsShape, IsEarlier}
 use Rattle.array_model.proofs.Keeping.{live_on, inside_before, logs_of, KeepsData}
 use Rattle.array_model.proofs.Losses.{noted_holds, marked_holds}
-use Rattle.raid_rack.specs.Raid.{Raid, Stood}
+use Rattle.raid_rack.specs.Raid.{Raid, Stood, IsWritten}
 use Rattle.raid_rack.specs.Marking.{NoData, Restates, SaysBetween, Part}
 use Rattle.raid_rack.specs.Book.{IsAfter, after_same}
 use Rattle.raid_rack.specs.Laws.{stood_left}
@@ -205,6 +205,7 @@ pub record NotesLost (u : View) (noted : Shape) (resync : ℕ) (marked : Bool) (
   pub view_number : view.number ≡ n
   pub truth : u.truth ≡ view.truth
   pub went : u.went ≡ [] → lost ≡ []
+  pub written : IsWritten u
 
 -- what the commit leaves pending is nothing, where nobody went
 closed_after : (s t : State) (gone : ℕ → Bool) (l : LogView) (on lost : List ℕ) (a b : Seen) (n : ℕ)
@@ -252,6 +253,7 @@ marks_part s t durable noted vary marked view vals spent gone v w l on lost a b 
             number = notes.number;
             log = subst (λ k. LogKept t k (gone_with gone lost) b) (sym number_now)
                 (kept_after s t gone l on lost a b call.commit (subst (λ k. LogKept s k gone a) (sym number) stood.log) call.brings call.are_left call.ready call.decides);
+            written = notes.written;
             someone = (call.place, call.now, ap₂ (λ (x : Bool) (y : Bool). x || y) call.left call.stays);
             holds = record {
               shape =

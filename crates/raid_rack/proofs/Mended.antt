@@ -311,13 +311,13 @@ ends_early a b c lost x y turn noted settles running other =
       running = running;
     }
 
--- a state that marks losses is valid on the places that are left, whose log slices are there
+-- a state that marks losses is valid on the places that are left
 pub on_valid : (lost : List ℕ) (c : Arrays) (t : State) (on : List ℕ) (j p : ℕ) (y : Seen) → IsRunning c y → t ≡ marked lost c.state → on ≡ current_places t
-    → slice_get on j ≡ Some p → (is_valid t p ≡ true) × (p < 16) × (y.sectors (log_slice p) ≡ log_sectors)
+    → slice_get on j ≡ Some p → (is_valid t p ≡ true) × (p < 16)
 on_valid lost c t on j p y running t_is on_is at =
     let current = on_named t on j p on_is at in
     let was = on_few lost c.state t p t_is running.set.few current in
-    (ap (λ (s : State). is_valid s p) t_is ∙ valid_marked lost c.state p (running.set.valid p (current_low c.state p was.0)), was.1, running.set.logs p was.0)
+    (ap (λ (s : State). is_valid s p) t_is ∙ valid_marked lost c.state p (running.set.valid p (current_low c.state p was.0)), was.1)
   where
     current_low : (s : State) (q : ℕ) → is_current s q ≡ true → q < length s.drives.items
     current_low s q current =
@@ -325,6 +325,21 @@ on_valid lost c t on j p y running t_is on_is at =
           | inl below ↦ below
           | inr past ↦ absurd (both_ways (is_current s q) (ap (λ o. option_map_or (λ drive. not drive.missing) o false) (slice_get_past s.drives.items q past)) current)
         ]
+
+-- their log slices are there
+pub on_logs : (lost : List ℕ) (c : Arrays) (t : State) (p : ℕ) (y : Seen) → IsRunning c y → newly_gone c.state c.all.items ≡ lost → t ≡ marked lost c.state
+    → is_current t p ≡ true → y.sectors (log_slice p) ≡ log_sectors
+on_logs lost c t p y running same t_is current =
+    let both = and_parts (is_current c.state p) (not (names lost p)) (sym (current_marked lost c.state p) ∙ ap (λ (u : State). is_current u p) (sym t_is) ∙ current) in
+    running.set.logs p (and_from (is_current c.state p) (not (gone_in (raid_by c) p)) both.0
+    (elim (cases_Bool (gone_in (raid_by c) p)) [
+      | inl is ↦
+          let named : names lost p ≡ true =
+          ap (λ ps. names ps p) (sym same) ∙ newly_named c p running.count running.set.few
+          ∙ and_from (is_current c.state p) (gone_in (raid_by c) p) both.0 is in
+          absurd (both_ways (not (names lost p)) (ap not named) both.1)
+      | inr none ↦ ap not none
+    ]))
 
 -- copies on some place are some
 pub some_copies : (t : State) (on : List ℕ) (before added : List Target) → AddsCopies t on before added → (length on ≡ 0 → ⊥) → 0 < length added

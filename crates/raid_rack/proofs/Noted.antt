@@ -30,7 +30,7 @@ use Rattle.array_model.proofs.Noting.{laid_out, unspent_then}
 use Rattle.array_core.specs.Seats.{names, gone, heeded}
 use Rattle.array_core.specs.Superblocks.{is_settled}
 use Rattle.raid_rack.specs.Book.{after_same}
-use Rattle.raid_rack.specs.Raid.{Raid, AreLive, gone_in, is_left, is_over}
+use Rattle.raid_rack.specs.Raid.{Raid, AreLive, gone_in, is_left, is_over, IsWritten}
 use Rattle.raid_rack.specs.Moves.{IsSet, IsSeated, IsMarkedWhole, AreMarked, IsAmid, Brings, Moves}
 use Rattle.raid_rack.proofs.Own.{look_nothing}
 use Rattle.raid_rack.proofs.Ranges.{any_some, any_from}
@@ -146,6 +146,7 @@ noted_amid lost v f x n vals spent set noting low goes covers amid =
           (noted_more lost v f noting)
           (someone_left (with_arrays v f) n goes)
           losing
+          (λ is. subst IsWritten (sym (noting.arrays n low)) is)
           (λ y alive.
           lost_value (names lost) (shape_of (v.arrays n)) (v.arrays n).number (v.arrays n).resync (current_in x.held) y (laid_out (v.arrays n) (set.arrays n low).is_array)
           amid.stood.holds.shape.even amid.stood.holds.shape.sized
@@ -157,7 +158,7 @@ noted_amid lost v f x n vals spent set noting low goes covers amid =
           (gone_from (with_arrays v f) noting.one n noting.few low (noted_one lost v f noting n low)));
     }
 
-noted_before : (lost : List ℕ) (v : Raid) (f : ℕ → View) → IsNoting lost v f → (p : ℕ) → is_left (with_arrays v f) p ≡ true → is_left v p ≡ true
+pub noted_before : (lost : List ℕ) (v : Raid) (f : ℕ → View) → IsNoting lost v f → (p : ℕ) → is_left (with_arrays v f) p ≡ true → is_left v p ≡ true
 noted_before lost v f noting p is =
     let both = and_parts (is_current v.state p) (not (gone_in (with_arrays v f) p)) is in
     and_from (is_current v.state p) (not (gone_in v p)) both.0
@@ -223,7 +224,7 @@ set_noted lost v f x set noting = record {
   few = set.few;
   most = set.most;
   valid = set.valid;
-  logs = set.logs;
+  logs = λ p left. set.logs p (noted_before lost v f noting p left);
   arrays = noted_seated lost v f x noting set;
   marked = noted_whole lost v f noting;
 }
@@ -355,6 +356,7 @@ heeded_amid v f x n vals spent set arrays are low amid =
         number = stood.number;
         log = kept_marked v.state v.number (gone_in v) (gone_in (with_arrays v f)) x are stood.log;
         someone = (stood.someone.0, stood.someone.1, heeded_none v f arrays stood.someone.0);
+        written = stood.written;
         holds = stood.holds;
       };
       slices = amid.slices;
@@ -381,7 +383,7 @@ moves_heeded v f x set arrays sectors are =
         few = set.few;
         most = set.most;
         valid = set.valid;
-        logs = set.logs;
+        logs = λ p left. set.logs p (sym (heeded_left v f arrays are p) ∙ left);
         arrays = λ n low. subst (λ (u : View). IsSeated v.state n u x) (sym (arrays n low))
             (heeded_seated v.state n (v.arrays n) x (stays_same x set.fit) (set.arrays n low)
             (λ p current. gone_not v p n (current_few v.state p set.few current) low (are p current)));

@@ -18,7 +18,7 @@ use Rattle.array_model.specs.Says.{Says, Holds}
 use Rattle.array_model.specs.ArrayCalls.{Acts, Turns}
 use Rattle.array_model.proofs.Others.{other_holds_all}
 use Rattle.raid_rack.specs.Book.{after_same, after_then}
-use Rattle.raid_rack.specs.Raid.{Raid, Stood}
+use Rattle.raid_rack.specs.Raid.{Raid, Stood, IsWritten}
 use Rattle.raid_rack.specs.Marking.{SaysBetween, Part}
 use Rattle.raid_rack.specs.Laws.{stood_left}
 use Rattle.raid_rack.proofs.Own.{look_nothing, says_at, says_same}
@@ -70,8 +70,9 @@ pub part_own : (s : State) (durable : Shape) (vals now : ℕ → Values) (spent 
     → Acts s (v.arrays n) (w.arrays n) spent a b durable vals (Says s (v.arrays n).number durable now spent) durable now
     → (LogKept s v.number gone a → LogKept s w.number gone_now b)
     → ((place : ℕ) × (is_current s place ≡ true) × (gone_now place ≡ false))
+    → (IsWritten (v.arrays n) → IsWritten (w.arrays n))
     → Part s s durable durable vals now spent gone gone_now v w a b n
-part_own s durable vals now spent gone gone_now v w a b n acts log someone =
+part_own s durable vals now spent gone gone_now v w a b n acts log someone written =
     record {
       stays = acts.stays;
       book = after_same s;
@@ -92,6 +93,7 @@ part_own s durable vals now spent gone gone_now v w a b n acts log someone =
             number = acts.noted.same.number ∙ stood.number;
             log = log stood.log;
             someone = someone;
+            written = written stood.written;
             holds = acts.holds stood.holds;
           };
     }
@@ -147,6 +149,7 @@ part_other s durable durable_m vals vals_m now_m spent spent_m gone gone_now v w
             number = ap (λ (u : View). u.number) same ∙ stood.number;
             log = log stood.log;
             someone = someone;
+            written = subst IsWritten (sym same) stood.written;
             holds = subst (λ (u : View). Holds s durable u vals spent b) (sym same)
                 (other_holds_all (v.arrays m).number (v.arrays n) (subst (λ k. k < 16) (sym number) few) (subst (λ k. k < 16) (sym stood.number) also)
                 (λ is. other (sym stood.number ∙ is ∙ number)) lasting acts.stays acts.apart calm (acts.calm calm) s durable vals spent stood.holds);

@@ -16,7 +16,7 @@ use Rattle.array_model.specs.Says.{Holds}
 use Rattle.array_model.specs.ArrayCalls.{Keeping}
 use Rattle.array_model.proofs.Keeping.{keeping_calls}
 use Rattle.array_model.proofs.Losses.{IsLosing, losing_holds}
-use Rattle.raid_rack.specs.Raid.{Raid, Stood}
+use Rattle.raid_rack.specs.Raid.{Raid, Stood, IsWritten}
 use Rattle.raid_rack.specs.Marking.{Part}
 use Rattle.raid_rack.proofs.Parts.{part_own}
 
@@ -32,10 +32,11 @@ pub part_read : (s : State) (durable : Shape) (vals : ℕ → Values) (spent gon
     → a.lasting → OnlyReads a b → w.number ≡ v.number
     → ((p : ℕ) → gone p ≡ true → now p ≡ true)
     → ((place : ℕ) × (is_current s place ≡ true) × (now place ≡ false))
+    → (IsWritten (v.arrays n) → IsWritten (w.arrays n))
     → Keeping s (v.arrays n) (w.arrays n) spent a b durable vals
     → Part s s durable durable vals vals spent gone now v w a b n
-part_read s durable vals spent gone now v w a b n lasting reads same more someone kept =
-    part_own s durable vals vals spent gone now v w a b n kept (log_after s gone now v w a b lasting reads same more) someone
+part_read s durable vals spent gone now v w a b n lasting reads same more someone written kept =
+    part_own s durable vals vals spent gone now v w a b n kept (log_after s gone now v w a b lasting reads same more) someone written
 
 -- and every other one
 pub part_unread : (s : State) (durable : Shape) (vals : ℕ → Values) (spent gone now : ℕ → Bool) (v w : Raid) (a b : Seen) (n : ℕ)
@@ -45,6 +46,7 @@ pub part_unread : (s : State) (durable : Shape) (vals : ℕ → Values) (spent g
     → Part s s durable durable vals vals spent gone now v w a b n
 part_unread s durable vals spent gone now v w a b n lasting reads same view more someone =
     part_read s durable vals spent gone now v w a b n lasting reads same more someone
+    (λ is. subst IsWritten (sym view) is)
     (subst (λ (u : View). Keeping s (v.arrays n) u spent a b durable vals) (sym view)
     (keeping_calls a b lasting reads.stays reads.keeps s durable (v.arrays n) vals spent))
 
@@ -56,16 +58,18 @@ pub stood_noted : (s : State) (durable : Shape) (vals : ℕ → Values) (spent g
     → ((p : ℕ) → gone p ≡ true → now p ≡ true)
     → ((place : ℕ) × (is_current s place ≡ true) × (now place ≡ false))
     → IsLosing (v.arrays n) (w.arrays n) lost
+    → (IsWritten (v.arrays n) → IsWritten (w.arrays n))
     → ((y : ℕ) → spent y ≡ false
     → value_by (lowered lost (shape_of (v.arrays n))) (current_in x.held) (v.arrays n).number y ≡ value_by (shape_of (v.arrays n)) (current_in x.held) (v.arrays n).number y)
     → Stood s durable vals spent gone v x n → Stood s durable vals spent now w x n
-stood_noted s durable vals spent gone now lost v w x n same more someone losing value stood =
+stood_noted s durable vals spent gone now lost v w x n same more someone losing written value stood =
     record {
       joined = stood.joined;
       few = stood.few;
       number = losing.number ∙ stood.number;
       log = subst (λ k. LogKept s k now x) (sym same) (kept_more s v.number gone now x more stood.log);
       someone = someone;
+      written = written stood.written;
       holds = losing_holds s durable (v.arrays n) (w.arrays n) vals spent x lost losing value stood.holds;
     }
 
@@ -88,6 +92,7 @@ stood_heeded s durable vals spent gone v w x n same view closed stood =
       number = ap (λ (u : View). u.number) view ∙ stood.number;
       log = subst (λ k. LogKept s k gone x) (sym same) stood.log;
       someone = stood.someone;
+      written = subst IsWritten (sym view) stood.written;
       holds = subst (λ (u : View). Holds s durable u vals spent x) (sym view)
           (heeded_holds s durable (v.arrays n) vals spent x (subst (λ k. IsClosed k x) (sym stood.number) closed) stood.holds);
     }

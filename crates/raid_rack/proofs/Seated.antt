@@ -22,7 +22,7 @@ use Rattle.raid_rack.specs.Moves.{IsOfPool, IsSeated}
 
 -- ---- seats after losses
 
-seats_length : (ws vs : List Seat) (f : ℕ → Seat → Seat) → ((n : ℕ) → slice_get ws n ≡ option_map (f n) (slice_get vs n)) → length ws ≡ length vs
+pub seats_length : (ws vs : List Seat) (f : ℕ → Seat → Seat) → ((n : ℕ) → slice_get ws n ≡ option_map (f n) (slice_get vs n)) → length ws ≡ length vs
 seats_length [] [] f same = refl
 seats_length [] (v ∷ vs) f same = let bad : None ≡ Some (f 0 v) = same 0 in absurd (cc)
 seats_length (w ∷ ws) [] f same = let bad : Some w ≡ None = same 0 in absurd (cc)
@@ -32,7 +32,7 @@ pub missing_then : (lost : Bool) (o : Option Seat) → o ≡ Some Missing → op
 missing_then true o is = ap (option_map (λ seat. Missing)) is
 missing_then false o is = ap (option_map (λ seat. seat)) is
 
-rebuilding_before : (lost : Bool) (o : Option Seat) (to : ℕ) → option_map (λ seat. if lost then Missing else seat) o ≡ Some (Rebuilding to) → o ≡ Some (Rebuilding to)
+pub rebuilding_before : (lost : Bool) (o : Option Seat) (to : ℕ) → option_map (λ seat. if lost then Missing else seat) o ≡ Some (Rebuilding to) → o ≡ Some (Rebuilding to)
 rebuilding_before lost None to is = absurd (cc)
 rebuilding_before true (Some seat) to is = absurd (cc)
 rebuilding_before false (Some seat) to is = is
@@ -88,12 +88,11 @@ pool_with s u seats went lost are pool =
       events_end = pool.events_end;
       row = pool.row;
       roles = pool.roles;
-      written = pool.written;
       unsynced = pool.unsynced;
       rows = λ k to is. pool.rows k to (rebuilding_before (lost (place_at u k)) (slice_get u.seats k) to (sym (are k) ∙ is));
     }
 
-array_with : (u : View) (seats : List Seat) (went : List ℕ) → length seats ≡ length u.seats → IsArray u → IsArray (with_seats u seats went)
+pub array_with : (u : View) (seats : List Seat) (went : List ℕ) → length seats ≡ length u.seats → IsArray u → IsArray (with_seats u seats went)
 array_with u seats went count is_array =
     record {
       few = is_array.few;

@@ -32,7 +32,7 @@ views_write v f m a b set low stays others (as_it_was why notes) =
     let u = v.arrays m in
     let pool = (set.arrays m low).is_of_pool in
     views_notes v f m a b u.truth.events u.truth.resync_offset u.marked set low stays others
-    (record { later = omega arith; some = pool.events; few = pool.events_end; whole = pool.written.resync; unsynced = pool.unsynced })
+    (record { later = omega arith; some = pool.events; few = pool.events_end; whole = λ was. was; unsynced = pool.unsynced })
     (λ marked. inl marked) notes
 views_write v f m a b set low stays others (newly_marked whole fresh unmarked notes) =
     let u = v.arrays m in
@@ -43,7 +43,7 @@ views_write v f m a b set low stays others (newly_marked whole fresh unmarked no
       later = events.0;
       some = let more = events.0 in let some = pool.events in omega (arith, more, some);
       few = events.1;
-      whole = inr refl;
+      whole = λ was. inr refl;
       unsynced = unsynced_by 0 u.truth.size u.resync (λ below. omega arith) (λ above. omega (arith, above));
     })
     (λ marked. inr whole) notes

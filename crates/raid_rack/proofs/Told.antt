@@ -96,5 +96,6 @@ fewer_stood s durable vals spent now gone v x n fewer stood =
       number = stood.number;
       log = stood.log;
       someone = stood.someone;
+      written = stood.written;
       holds = fewer_holds s durable (v.arrays n) vals spent now x fewer stood.holds;
     }

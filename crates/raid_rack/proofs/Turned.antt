@@ -155,7 +155,7 @@ moves_emptied v lost x set lost_is noted nobody unmarked =
         few = subst (λ k. k ≤ 16) (sym (length_marked lost 0 v.state.drives.items)) set.few;
         most = set.most;
         valid = λ p low. valid_marked lost v.state p (set.valid p (subst (λ k. p < k) (length_marked lost 0 v.state.drives.items) low));
-        logs = λ p current. absurd (both_ways (is_current (state_after v lost) p) (nobody p) current);
+        logs = λ p left. absurd (both_ways (is_left w p) (none p) left);
         arrays = λ n low. seated_marked v.state lost n (v.arrays n) x (λ p is. noted n p low is) (set.arrays n low);
         marked = λ n low is. absurd (both_ways (v.arrays n).marked (unmarked n low) is);
       };

@@ -1,15 +1,16 @@
 -- A whole call, from what it does to each array.
-use Rattle.std.proofs.Common.{◌≡◌, ℕ, ◌<◌, ◌≤◌, Bool, true, false, refl, sym, ap, subst, inl, inr}
-use Rattle.std.proofs.lemmas.Bool.{cases_Bool, cases_lt, both_ways}
+use Rattle.std.proofs.Common.{◌≡◌, ℕ, ◌<◌, ◌≤◌, Bool, true, false, not, refl, sym, ap, subst, inl, inr}
+use Rattle.std.proofs.lemmas.Bool.{cases_Bool, cases_lt, both_ways, and_from}
 use Rattle.rack.specs.Values.{Values, Keeps}
 use Rattle.rack.specs.Seen.{Held, Seen}
 use Rattle.rack.specs.Moments.{Leaves}
 use Rattle.array_image.specs.Arrays.{Shape, replayed}
 use Rattle.array_image.specs.Held.{held_by}
+use Rattle.array_image.specs.States.{is_current}
 use Rattle.array_model.specs.View.{has_gone, is_whole_array, shape_of, spent_in}
 use Rattle.array_model.specs.Says.{Holds}
 use Rattle.array_core.specs.Seats.{names}
-use Rattle.raid_rack.specs.Raid.{Raid, gone_in, is_over, spent_of, held_in, Stood, StopsInside, IsTold}
+use Rattle.raid_rack.specs.Raid.{Raid, gone_in, is_left, is_over, spent_of, held_in, Stood, StopsInside, IsTold}
 use Rattle.raid_rack.specs.Acts.{RaidStays, RaidActs}
 use Rattle.raid_rack.specs.Moves.{IsAmid, IsHeeded, IsMarkedWhole, IsSet, Brings, PartOf}
 use Rattle.raid_rack.proofs.Noted.{gone_some}
@@ -29,6 +30,10 @@ heeded_gone v heeded p =
           absurd (both_ways (has_gone (v.arrays at.1.0) p) (ap (λ ps. names ps p) (heeded at.1.0 at.1.1)) at.1.2)
       | inr none ↦ none
     ]
+
+-- so a current place is left
+pub heeded_left : (v : Raid) (p : ℕ) → IsHeeded v → is_current v.state p ≡ true → is_left v p ≡ true
+heeded_left v p heeded current = and_from (is_current v.state p) (not (gone_in v p)) current (ap not (heeded_gone v heeded p))
 
 -- so an array that this run has marked is whole
 pub heeded_whole : (v : Raid) (n : ℕ) → IsHeeded v → IsMarkedWhole v n → (v.arrays n).marked ≡ true → is_whole_array (v.arrays n) ≡ true
@@ -51,7 +56,7 @@ told_amid v x n spent heeded told goes fewer =
     }
 
 -- and the other way round, by its own shape
-amid_stood : (v : Raid) (x : Seen) (n : ℕ) (vals : ℕ → Values) (spent : ℕ → Bool) → IsHeeded v → IsAmid v x n vals spent
+pub amid_stood : (v : Raid) (x : Seen) (n : ℕ) (vals : ℕ → Values) (spent : ℕ → Bool) → IsHeeded v → IsAmid v x n vals spent
     → Stood v.state (shape_of (v.arrays n)) vals spent (λ place. false) v x n
 amid_stood v x n vals spent heeded amid =
     subst (λ g. Stood v.state (shape_of (v.arrays n)) vals spent g v x n) (λ i p. heeded_gone v heeded p i)
@@ -96,6 +101,7 @@ module _ (v w : Raid) (a b : Seen) (vals : Held) (call : IsWholeCall v w a b val
         number = stood.number;
         log = stood.log;
         someone = stood.someone;
+        written = stood.written;
         holds = subst (λ k. Holds w.state (shape_of (w.arrays n)) (w.arrays n) (held_by (shape_of (w.arrays n)) b.held k) (spent_of w n) b) stood.number
             (own_holds w.state (w.arrays n) (vals n) (spent_of w n) b source stood.holds);
       }

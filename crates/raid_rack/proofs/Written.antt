@@ -154,7 +154,7 @@ module _ (v : Raid) (f : ℕ → View) (number m : ℕ) (a b : Seen) (now : (ℕ
       subst (λ (s : Shape). Part v.state v.state s s vals (now vals) spent (gone_in v) (gone_in (called v f number)) v (called v f number) a b m)
       (sym (amid.marked marked))
       (part_own v.state shape vals (now vals) spent (gone_in v) (gone_in (called v f number)) v (called v f number) a b m
-      (call.acts vals spent covers able) (λ log. log_after able log) (someone_left (called v f number) m goes)))
+      (call.acts vals spent covers able) (λ log. log_after able log) (someone_left (called v f number) m goes) call.views.written))
 
   pub other_part : (n : ℕ) (vals : ℕ → Values) (spent : ℕ → Bool) → (n ≡ m → ⊥) → n < v.state.made → is_over (called v f number) n ≡ false
       → PartOf v (called v f number) a b n vals vals spent

@@ -10,7 +10,7 @@ use Rattle.pool_state.specs.declared.contents.State.{State}
 use Rattle.array_image.specs.Places.{log_slice, log_sectors, place_of, slice_of, super_sector, array_id}
 use Rattle.array_image.specs.States.{is_current}
 use Rattle.array_image.specs.Supers.{has_roles, has_whole_row}
-use Rattle.array_image.specs.SoundArray.{IsWrittenSuper, first_unsynced}
+use Rattle.array_image.specs.SoundArray.{first_unsynced}
 use Rattle.array_image.specs.Arrays.{Member, Shape, replayed}
 use Rattle.array_image.specs.Held.{Among, IsSettled}
 use Rattle.array_image.specs.Left.{IsInside}
@@ -26,7 +26,7 @@ use Rattle.raid_rack.specs.Rows.{KeepsRows, LeavesRows}
 
 -- ---- what holds at each point of a call, whatever the rack below tells
 
--- The truth of an array is one of a pool's superblocks, with the rows that are left to resync.
+-- The truth of an array is a valid superblock of the pool, with the rows that are left to resync.
 pub record IsOfPool (s : State) (v : View) : Type 0 where
   pub set : v.truth.set_id.0 ≡ array_id s.pool.0 v.number
   pub profile : is_ok (profiled v.truth s.extent) ≡ true
@@ -34,7 +34,6 @@ pub record IsOfPool (s : State) (v : View) : Type 0 where
   pub events_end : v.truth.events < 2 ^ 63
   pub row : has_whole_row v.truth ≡ true
   pub roles : has_roles (length s.drives.items) v.truth ≡ true
-  pub written : IsWrittenSuper v.number v.truth
   pub unsynced : first_unsynced v.truth ≤ v.resync
   pub rows : HasRowRebuilds v
 
@@ -63,7 +62,7 @@ pub record IsSet (v : Raid) (x : Seen) : Type 0 where
   pub few : length v.state.drives.items ≤ 16
   pub most : v.state.made ≤ 16
   pub valid : (place : ℕ) → place < length v.state.drives.items → is_valid v.state place ≡ true
-  pub logs : (place : ℕ) → is_current v.state place ≡ true → x.sectors (log_slice place) ≡ log_sectors
+  pub logs : (place : ℕ) → is_left v place ≡ true → x.sectors (log_slice place) ≡ log_sectors
   pub arrays : (n : ℕ) → n < v.state.made → IsSeated v.state n (v.arrays n) x
   pub marked : (n : ℕ) → n < v.state.made → IsMarkedWhole v n
 

@@ -8,6 +8,7 @@ use Rattle.array_image.specs.Arrays.{Shape, arrays_in, replayed}
 use Rattle.array_image.specs.Places.{member_slice}
 use Rattle.array_image.specs.States.{is_current}
 use Rattle.array_image.specs.Left.{IsInside}
+use Rattle.array_image.specs.SoundArray.{IsWrittenSuper}
 use Rattle.array_image.specs.Held.{held_by}
 use Rattle.commit_log.specs.Kept.{LogKept}
 use Rattle.array_model.specs.View.{View, shape_of, sectors_of, spent_in, present, has_gone}
@@ -62,6 +63,10 @@ live_of v n y = spent_of v n y ≡ false
 abbrev pub held_in : Raid → Seen → Held
 held_in v x n = held_by (shape_of (v.arrays n)) x.held n
 
+-- An array's truth has the fields that a pool writes. So it is where it was opened on sound contents; nothing is promised of others.
+abbrev pub IsWritten : View → Type 0
+IsWritten v = IsWrittenSuper v.number v.truth
+
 -- An array in the middle of a call: images have the state s, and go by `durable`, the array's shape by the marks of s; its sectors
 -- hold `vals`. `gone` are the places that are noted and not yet marked.
 pub record Stood (s : State) (durable : Shape) (vals : ℕ → Values) (spent : ℕ → Bool) (gone : ℕ → Bool) (v : Raid) (x : Seen) (n : ℕ) : Type 0 where
@@ -71,6 +76,7 @@ pub record Stood (s : State) (durable : Shape) (vals : ℕ → Values) (spent : 
   pub log : LogKept s v.number gone x
   -- a place is left that images have as current
   pub someone : (place : ℕ) × (is_current s place ≡ true) × (gone place ≡ false)
+  pub written : IsWritten (v.arrays n)
   pub holds : Holds s durable (v.arrays n) vals spent x
 
 -- each sector of the arrays' slices is told

@@ -44,7 +44,7 @@ impl<R: Rack> RaidRack<R> {
     ghost use Rattle.raid_rack.specs.Moves.{Mends, RaisesBy, noted_at};
     ghost use Rattle.raid_rack.specs.Cleaning.{CleansAll, LeavesItsRows};
     ghost use Rattle.raid_rack.specs.Runs.{RaidRuns};
-    ghost use Rattle.raid_rack.specs.RaidRack.{SliceRuns, IsFit, KeepsRack, arrays_in, arrays_of, raid_seen, raid_in, refused_in, slices_in, slices_seen};
+    ghost use Rattle.raid_rack.specs.RaidRack.{SliceRuns, IsFit, IsRunning, KeepsRack, arrays_in, arrays_of, raid_seen, raid_in, refused_in, slices_in, slices_seen};
 
     /// The rack of these arrays, which are those below the state's `made`, by number, over these slices. Nothing is added to the
     /// log, and nothing is pending in it.
@@ -120,6 +120,18 @@ impl<R: Rack> RaidRack<R> {
         ensures book { RaidRuns (raid_in self.old) (raid_in self.new) (slices_seen R.seen self.old) (slices_seen R.seen self.new) }
     {
         self.arrays.clean_all(&mut self.slices);
+    }
+
+    /// Marks the places that are noted as gone in the arrays: those that an opening found absent. Their marks are durable when this
+    /// returns, where a drive is left to write them on, and nobody went from then on.
+    pub fn mark_gone(&mut self)
+        requires running { IsRunning (arrays_in self.old) (slices_seen R.seen self.old) }
+        ensures mends { Mends (raid_in self.old) (raid_in self.new) (slices_seen R.seen self.old) (slices_seen R.seen self.new) }
+        ensures fit { IsFit (arrays_in self.new) (slices_seen R.seen self.new) }
+        ensures refused { (n : ℕ) → refused_in self.new n ≡ refused_in self.old n }
+        ensures runs { SliceRuns R.seen R.runs (slices_in self.old) (slices_in self.new) }
+    {
+        self.arrays.mend(&mut self.slices);
     }
 
     /// The rack of slices, lent. The arrays, their state and their log stay as they are.

@@ -7,7 +7,7 @@ use Rattle.commit_log.specs.View.{LogView}
 use Rattle.array_core.specs.Seats.{gone as without}
 use Rattle.raid_rack.specs.Losses.{newly_gone}
 use Rattle.raid_rack.proofs.Adding.{are_valid, all_apart, all_had}
-use Rattle.raid_rack.proofs.Mended.{IsTurn, each_items, has_noted, marking_of, ends_turn, ends_empty, ends_early, on_valid, some_copies, not_of_true, not_of_false}
+use Rattle.raid_rack.proofs.Mended.{IsTurn, each_items, has_noted, marking_of, ends_turn, ends_empty, ends_early, on_named, on_valid, on_logs, some_copies, not_of_true, not_of_false}
 use Rattle.raid_rack.specs.RaidRack.{raid_by}
 use Rattle.raid_rack.proofs.arrays.Arrays.mark.Goals as goal
 
@@ -69,10 +69,21 @@ add_copies-requires-clause-places g c n place at =
 
 pub commit-gone-requires-clause-logs : goal.commit-gone-requires-clause-logs
 commit-gone-requires-clause-logs g c j low =
+    let lost = c.args.lost.now.items in
+    let s = c.settle_all.new.self in
+    let t = c.mark_missing.new.state in
+    let y = g.S.Rack.seen c.settle_all.new.rack in
     let on = c.current_places-on.result.items in
-    let at = on_valid c.args.lost.now.items c.settle_all.new.self c.mark_missing.new.state on j (get_or on j 0) (g.S.Rack.seen c.settle_all.new.rack)
-    c.settle_all.ensures.running c.mark_missing.ensures c.current_places-on.ensures (slice_get-get_or on j 0 low) in
-    (at.1, at.2)
+    let here = slice_get-get_or on j 0 low in
+    let gone_is : c.newly_gone-gone.result.items ≡ newly_gone s.state s.all.items = c.newly_gone-gone.ensures ∙ ap (newly_gone s.state) c.as_slice.ensures.value in
+    let same : newly_gone s.state s.all.items ≡ lost =
+    sym gone_is ∙ sym c.as_slice-2.ensures.value
+    ∙ same_text c.as_slice-2.result.now c.as_slice-3.result.now (sym (not_of_false _ (sym c.ne.ensures ∙ c.if-ne.false)))
+    ∙ c.as_slice-3.ensures.value in (
+      (on_valid lost s t on j (get_or on j 0) y c.settle_all.ensures.running c.mark_missing.ensures c.current_places-on.ensures here).1,
+      on_logs lost s t (get_or on j 0) y c.settle_all.ensures.running same c.mark_missing.ensures
+          (on_named t on j (get_or on j 0) c.current_places-on.ensures here),
+    )
 
 pub commit-gone-requires-clause-some : goal.commit-gone-requires-clause-some
 commit-gone-requires-clause-some g c =

@@ -2,13 +2,14 @@ use Rattle.std.proofs.Common.{get_or, slice_set, ap, arith}
 use Rattle.std.proofs.lemmas.Option.{slice_get-get_or}
 use Rattle.arrayvec.specs.ArrayVec.{with_items}
 use Rattle.commit_log.specs.View.{LogView}
-use Rattle.raid_rack.specs.RaidRack.{no_array}
+use Rattle.raid_rack.specs.RaidRack.{no_array, raid_by}
 use Rattle.raid_rack.proofs.Mended.{on_named}
 use Rattle.raid_rack.proofs.Noted.{current_few}
 use Rattle.raid_rack.proofs.Sent.{has_written, later_number, writes_one}
 use Rattle.raid_rack.proofs.Raises.{writes_raise}
 use Rattle.raid_rack.proofs.RaisedCalls.{logs_raise, raises_call}
 use Rattle.raid_rack.proofs.Steps.{same_element, items_set}
+use Rattle.raid_rack.proofs.Whole.{heeded_left}
 use Rattle.raid_rack.proofs.arrays.Arrays.write_array.Goals as goal
 
 pub write-requires-clause-logs : goal.write-requires-clause-logs
@@ -16,7 +17,7 @@ write-requires-clause-logs g c j low =
     let s = c.args.self.now.state in
     let on = c.current_places-on.result.items in
     let current = on_named s on j (get_or on j 0) c.current_places-on.ensures (slice_get-get_or on j 0 low) in
-    (current_few s (get_or on j 0) c.requires.running.set.few current, c.requires.running.set.logs (get_or on j 0) current)
+    (current_few s (get_or on j 0) c.requires.running.set.few current, c.requires.running.set.logs (get_or on j 0) (heeded_left (raid_by c.args.self.now) (get_or on j 0) c.requires.heeded current))
 
 pub mend-requires : goal.mend-requires
 mend-requires g c =
