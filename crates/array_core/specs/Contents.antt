@@ -42,7 +42,7 @@ pub record AreSlicesOf (s : State) (number : ℕ) (t : Super) (found : List Foun
   pub sound : IsSoundArray s (reading x) number t
   pub alone : HasNoOthers (view_found number false found t) s (reading x)
   pub closed : IsClosed number x
-  pub single : (d i : ℕ) → IsLive x x d i → IsSingle (x.held d i)
+  pub single : (place i : ℕ) → IsLive x x (member_slice place number) i → IsSingle (x.held (member_slice place number) i)
   pub open_slices : IsOpen (shape_by s (reading x) number t) number x
   pub supers : (place : ℕ) → place < 16 → super_sector < x.sectors (member_slice place number) → IsLive x x (member_slice place number) super_sector
   pub sized :

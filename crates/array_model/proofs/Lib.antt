@@ -29,3 +29,4 @@ pub mod SideParity
 pub mod Copies
 pub mod Alone
 pub mod Sides
+pub mod OpenedKept

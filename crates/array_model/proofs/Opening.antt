@@ -53,7 +53,7 @@ module _ (s : State) (v : View) (x : Seen) (opens : OpensOn s v x) where
   e = reading x
 
   settled : IsSettled shape n x.held
-  settled m t among counts = opens.single (member_slice m.place n) (data_sector + t) (opens.open_slices m t among counts)
+  settled m t among counts = opens.single m.place (data_sector + t) (opens.open_slices m t among counts)
 
   module _ (r : Image) (left : IsLeft x r) where
     abbrev c : Image
@@ -62,8 +62,9 @@ module _ (s : State) (v : View) (x : Seen) (opens : OpensOn s v x) where
     own : (place t : ℕ) → r (member_slice place n) t ≡ c (member_slice place n) t
     own place t = left.2 (member_slice place n) t ∙ opens.closed c (logs_of c left.1) place t
 
-    live_same : (d t : ℕ) → IsLive x x d t → c d t ≡ e d t
-    live_same d t live = opens.single d t live (c d t) (left.1.picks d t live) ∙ sym (reading_live x d t live)
+    live_same : (place t : ℕ) → IsLive x x (member_slice place n) t → c (member_slice place n) t ≡ e (member_slice place n) t
+    live_same place t live =
+        opens.single place t live (c (member_slice place n) t) (left.1.picks (member_slice place n) t live) ∙ sym (reading_live x (member_slice place n) t live)
 
     picks : PicksData shape n x.held r
     picks m t among counts =
@@ -71,14 +72,14 @@ module _ (s : State) (v : View) (x : Seen) (opens : OpensOn s v x) where
         subst (MayLeave (x.held (member_slice m.place n) (data_sector + t))) (sym (own m.place (data_sector + t))) (left.1.picks (member_slice m.place n) (data_sector + t) live)
 
     counted : (m : Member) (t : ℕ) → Among m shape.members → t < m.reach → r (member_slice m.place n) (data_sector + t) ≡ e (member_slice m.place n) (data_sector + t)
-    counted m t among counts = own m.place (data_sector + t) ∙ live_same (member_slice m.place n) (data_sector + t) (opens.open_slices m t among counts)
+    counted m t among counts = own m.place (data_sector + t) ∙ live_same m.place (data_sector + t) (opens.open_slices m t among counts)
 
     super_same : (place : ℕ) → is_current s place ≡ true → super_in s r n place ≡ super_in s e n place
     super_same place current =
         super_of_sector s r e n place
         (own place super_sector
         ∙ elim (cases_lt super_sector (x.sectors (member_slice place n))) [
-          | inl inside ↦ live_same (member_slice place n) super_sector (opens.supers place (opens.few place current) inside)
+          | inl inside ↦ live_same place super_sector (opens.supers place (opens.few place current) inside)
           | inr outside ↦ left.1.inside (member_slice place n) super_sector outside ∙ sym (reading_outside x (member_slice place n) super_sector outside)
         ])
 

@@ -13,7 +13,7 @@ use Rattle.array_image.specs.Left.{reading, IsClosed}
 use Rattle.array_model.specs.View.{View, shape_of}
 use Rattle.array_model.specs.Says.{IsOpen, HasNoOthers}
 
--- Slices with one value a sector, as attaching leaves them, whose contents say an array: its shape, its truth, superblocks that agree,
+-- Slices of members with one value a sector, as attaching leaves them, whose contents say an array: its shape, its truth, superblocks that agree,
 -- and rows that agree but for those that are left to resync. Nothing is pending in them.
 pub record OpensOn (s : State) (v : View) (x : Seen) : Type 0 where
   pub few : (place : ℕ) → is_current s place ≡ true → place < 16
@@ -25,7 +25,7 @@ pub record OpensOn (s : State) (v : View) (x : Seen) : Type 0 where
   pub resync : v.resync ≤ first_unsynced v.truth
   pub unmarked : v.marked ≡ false
   pub closed : IsClosed v.number x
-  pub single : (d t : ℕ) → IsLive x x d t → IsSingle (x.held d t)
+  pub single : (place t : ℕ) → IsLive x x (member_slice place v.number) t → IsSingle (x.held (member_slice place v.number) t)
   pub open_slices : IsOpen (shape_of v) v.number x
   pub supers : (place : ℕ) → place < 16 → super_sector < x.sectors (member_slice place v.number) → IsLive x x (member_slice place v.number) super_sector
   pub sized :
