@@ -1,13 +1,27 @@
 -- A pool that is opened on slices at rest.
-use Rattle.std.proofs.Common.{◌≡◌, ℕ, ◌<◌, ◌≤◌, Bool, true, false, refl, sym, subst, arith}
+use Rattle.std.proofs.Common.{◌≡◌, ℕ, ◌<◌, ◌≤◌, Bool, true, false, nat_lt, List, [], refl, sym, ap, subst, ◌∙◌, inl, inr, lt-ltb, arith}
+use Rattle.std.proofs.lemmas.Bool.{cases_lt, and_from}
 use Rattle.rack.specs.Values.{Values, Keeps}
-use Rattle.rack.specs.Seen.{Seen}
+use Rattle.rack.specs.Seen.{Seen, IsLive}
+use Rattle.rack.specs.Targets.{look}
 use Rattle.rack.specs.Joins.{leaves_weaker}
+use Rattle.array_image.specs.Places.{log_slice, member_slice}
+use Rattle.array_image.specs.States.{is_current}
 use Rattle.array_image.specs.Arrays.{replayed}
 use Rattle.array_image.specs.SoundArray.{IsWrittenSuper}
 use Rattle.array_image.specs.Left.{IsInside}
 use Rattle.array_image.specs.Held.{held_by}
+use Rattle.commit_log.specs.View.{LogView, names}
+use Rattle.commit_log.specs.Opening.{ReplayCall}
+use Rattle.commit_log.specs.Kept.{LogKept}
+use Rattle.commit_log.specs.AtRest.{CopiesAgree, Opened}
+use Rattle.commit_log.proofs.KeptReplayed.{replayed_same}
+use Rattle.commit_log.proofs.Replayable.{opened_can_replay, opened_someone}
+use Rattle.commit_log.proofs.RestKept.{rest_kept}
 use Rattle.array_model.specs.View.{shape_of}
+use Rattle.array_model.specs.Opened.{OpensOn}
+use Rattle.array_model.proofs.Keeping.{live_on, live_after}
+use Rattle.array_model.proofs.OpenedKept.{opens_kept}
 use Rattle.array_model.specs.Says.{Holds}
 use Rattle.array_model.proofs.Opening.{opens_holds}
 use Rattle.raid_rack.specs.Raid.{Raid, gone_in, held_in, is_over, live_of, spent_of, IsTold, Stood}
@@ -38,6 +52,67 @@ opened_amid v x n spent opens joined =
       };
       slices = opens.slices;
       marked = λ are. refl;
+    }
+
+-- What an opening knows of slices at rest, before it closes the gates that are open: nothing is pending, each current place that isn't
+-- noted as gone has its log slice with this state, one of them is left, and each array that is ready for the volume is that of its
+-- superblocks.
+pub record IsAtRest (v : Raid) (l : LogView) (on : List ℕ) (a : Seen) : Type 0 where
+  pub opened : Opened v.state v.state l on a
+  pub idle : l.pending ≡ []
+  -- no slice is past those of the places
+  pub none : (d : ℕ) → 272 ≤ d → a.sectors d ≡ 0
+  pub number : v.number ≡ l.number
+  pub there : (p : ℕ) → is_current v.state p ≡ true → gone_in v p ≡ false → 0 < a.sectors (log_slice p)
+  pub copies : CopiesAgree v.state (gone_in v) a
+  pub someone : (place : ℕ) × (is_current v.state place ≡ true) × (gone_in v place ≡ false)
+  pub few : v.state.joined < 17
+  pub made : v.state.made ≤ 16
+  pub ready : v.state.joined ≤ v.state.made
+  pub numbers : (n : ℕ) → n < v.state.joined → (v.arrays n).number ≡ n
+  pub arrays : (n : ℕ) → n < v.state.joined → OpensOn v.state (v.arrays n) a
+
+-- Once the gates are closed the slices hold the arrays.
+pub opens_raid : (v : Raid) (l : LogView) (on : List ℕ) (a b : Seen) → IsAtRest v l on a → ReplayCall l on [] a b → OpensRaid v b
+unfolding look
+opens_raid v l on a b at replay =
+    let s = v.state in
+    let rest = at.opened.rest in
+    let can = opened_can_replay s s l on a at.opened in
+    let one = at.someone.0 in
+    let named : names on one ≡ true =
+    rest.places one ∙ and_from (is_current s one) (nat_lt 0 (a.sectors (log_slice one))) at.someone.1
+    (lt-ltb 0 (a.sectors (log_slice one)) (at.there one at.someone.1 at.someone.2)) in
+    let some = opened_someone s s l on a one at.opened named in
+    let low : (n : ℕ) → n < s.joined → n < 16 = λ n joined. (let ready = at.ready in let made = at.made in omega (arith, joined, ready, made)) in
+    let live : (n place t : ℕ) → n < 16 → place < 16 → t < a.sectors (member_slice place n) → IsLive a a (member_slice place n) t =
+    λ n place t few small inside. rest.live (member_slice place n) t (omega (arith, few, small)) inside in
+    record {
+      few = at.few;
+      log = subst (λ k. LogKept s k (gone_in v) b) (sym at.number) (rest_kept s (gone_in v) l on one a b at.opened at.idle named replay at.there at.copies);
+      someone = at.someone;
+      slices = λ n place t below small inside.
+          let made = at.made in
+          live_after replay.stays (live_on rest.lasting replay.stays
+          (live n place t (omega (arith, below, made)) small (subst (λ k. t < k) (replay.stays.sectors (member_slice place n)) inside)));
+      numbers = at.numbers;
+      arrays = λ n joined.
+          let u = v.arrays n in
+          let few : u.number < 16 = let number = at.numbers n joined in let below = low n joined in omega (arith, number, below) in
+          opens_kept s u a b few rest.lasting replay.stays
+          (λ place t inside.
+          elim (cases_lt place 16) [
+            | inl small ↦ live u.number place t few small inside
+            | inr past ↦
+                let nothing = at.none (member_slice place u.number) (omega (arith, past)) in
+                absurd (omega (arith, inside, nothing))
+          ])
+          (λ place t both.
+          replay.apart (member_slice place u.number) t both
+          (λ shutting. let slice = shutting.slice in absurd (omega (arith, slice, few)))
+          (ap (λ xs. look xs (member_slice place u.number) t) at.idle))
+          (λ c picks place t. replayed_same l on a b c (member_slice place u.number) t replay can some picks)
+          (at.arrays n joined);
     }
 
 -- an array between calls, where whoever went is heeded
