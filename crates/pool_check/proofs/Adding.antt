@@ -27,7 +27,7 @@ use Rattle.pool_check.specs.declared.ArraysRead.{ArraysRead}
 use Rattle.pool_check.specs.Drives.{HasFewPlaces}
 use Rattle.pool_check.specs.Layers.{AreLayers, AreOpened, IsExtent, IsLayer, IsNext, IsOpened, Opens, all_found, extent_by, fault_by, fault_of, is_usable, sight_of, sights_by}
 use Rattle.pool_check.proofs.Begins.{IsUnknown, unknown_by}
-use Rattle.pool_check.proofs.Finding.{found_any, found_is_truth}
+use Rattle.pool_check.proofs.Finding.{found_any, found_is_truth, found_once}
 use Rattle.pool_check.proofs.Layered.{all_strange, far_fault, known_extent, known_next, known_sights, known_super, known_truth, named, opens_as, unknown_fault}
 
 pub length_more : {X : Type 0} (xs : List X) (x : X) (n : ℕ) → length xs ≡ n → length (xs ++ x ∷ []) ≡ suc n
@@ -146,7 +146,8 @@ module _ (f : Found) (array first : ℕ) (t : Super) (low : array < 16) (begins 
       truth = t;
       found = all_found f array first;
       truth_is = known_truth f array first t low begins is;
-      are_found = λ place inside. found_any f array first low few place ∙ sym (known_super f array first t low begins is place);
+      are_found = λ place. found_any f array first low few place ∙ sym (known_super f array first t low begins is place);
+      once = λ k s at. found_once f array first low few k s at;
       view = refl;
       shape = named_shape f.state (slices_of f) array t (all_found f array first) holds (named f array first t low begins is few holds) (not (nat_lt array f.state.joined));
     }
@@ -163,24 +164,27 @@ module _ (f : Found) (array first : ℕ) (t : Super) (low : array < 16) (begins 
         by : (short unclean : Bool)
             → fault_of f array ≡ (if short then Some TooFew else if unclean then Some DirtyDegraded else None)
             → Opens a b e (if short then Err TooFew else if unclean then Err DirtyDegraded
-              else Ok (view_found array (not (nat_lt array f.state.joined)) (all_found f array first) t)) fault
+            else Ok (view_found array (not (nat_lt array f.state.joined)) (all_found f array first) t)) fault
             → (fault ≡ fault_of f array)
             × (fault_of f array ≡ None → AreOpened f array a.arrays.items a.extents.items → AreOpened f (suc array) b.arrays.items b.extents.items)
         by true unclean said done = (done.2 ∙ sym said, λ none old. none_differs TooFew (sym said ∙ none))
         by false true said done = (done.2 ∙ sym said, λ none old. none_differs DirtyDegraded (sym said ∙ none))
-        by false false said done = (done.2 ∙ sym said, λ none old.
-            let v = view_found array (not (nat_lt array f.state.joined)) (all_found f array first) t in
-            record {
-              count = ap length done.0 ∙ length_more a.arrays.items v array old.count;
-              lengths = ap length done.1 ∙ length_more a.extents.items e array old.lengths;
-              each =
-                  subst (λ (xs : List View). (n : ℕ) (w : View) → slice_get xs n ≡ Some w → IsOpened f n w) (sym done.0)
-                  (each_push (IsOpened f) a.arrays.items v old.each (subst (λ n. IsOpened f n v) (sym old.count) opened_is));
-              lies =
-                  subst (λ (xs : List Extent). (n : ℕ) (x : Extent) → slice_get xs n ≡ Some x → extent_of f (suc n) ≡ Some (extent_by x)) (sym done.1)
-                  (each_push (λ n x. extent_of f (suc n) ≡ Some (extent_by x)) a.extents.items e old.lies
-                  (subst (λ n. extent_of f (suc n) ≡ Some (extent_by e)) (sym old.lengths) (known_extent f array first t low begins is ∙ ap Some (sym lies))));
-            })
+        by false false said done = (
+          done.2 ∙ sym said,
+          λ none old.
+              let v = view_found array (not (nat_lt array f.state.joined)) (all_found f array first) t in
+              record {
+                count = ap length done.0 ∙ length_more a.arrays.items v array old.count;
+                lengths = ap length done.1 ∙ length_more a.extents.items e array old.lengths;
+                each =
+                    subst (λ (xs : List View). (n : ℕ) (w : View) → slice_get xs n ≡ Some w → IsOpened f n w) (sym done.0)
+                    (each_push (IsOpened f) a.arrays.items v old.each (subst (λ n. IsOpened f n v) (sym old.count) opened_is));
+                lies =
+                    subst (λ (xs : List Extent). (n : ℕ) (x : Extent) → slice_get xs n ≡ Some x → extent_of f (suc n) ≡ Some (extent_by x)) (sym done.1)
+                    (each_push (λ n x. extent_of f (suc n) ≡ Some (extent_by x)) a.extents.items e old.lies
+                    (subst (λ n. extent_of f (suc n) ≡ Some (extent_by e)) (sym old.lengths) (known_extent f array first t low begins is ∙ ap Some (sym lies))));
+              },
+        )
 
     pub near_layer : (layer : Layer) (e : Extent) → extent_by e ≡ record { first = first; sectors = data_sector + t.size }
         → layer.number ≡ array → layer.extent ≡ Some e

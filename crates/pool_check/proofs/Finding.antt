@@ -5,6 +5,7 @@ use Rattle.std.specs.List.{range_with_len, list_all}
 use Rattle.std.proofs.lemmas.Bool.{cases_Bool, cases_eq, cases_lt, both_ways, and_from, and_parts, eq-eqb, eqb-true}
 use Rattle.std.proofs.lemmas.Bool.Decides.{nat_tests}
 use Rattle.std.proofs.lemmas.Slice.Eq.{bytes_eq-Decides}
+use Rattle.std.proofs.lemmas.Option.{none-some}
 use Rattle.rack.specs.Seen.{Image}
 use Rattle.md_super.specs.declared.superblock.Super.{Super}
 use Rattle.pool_state.specs.declared.contents.State.{State}
@@ -61,6 +62,12 @@ got_at h a (suc n) (suc k) inside =
 
 pub got_from : {X : Type 0} (h : ℕ → X) (n k : ℕ) → k < n → slice_get (map h (range_with_len 0 n)) k ≡ Some (h k)
 got_from h n k inside = let same : 0 + k ≡ k = omega arith in got_at h 0 n k inside ∙ ap (λ m. Some (h m)) same
+
+pub got_past : {X : Type 0} (h : ℕ → X) (a n k : ℕ) → n ≤ k → slice_get (map h (range_with_len a n)) k ≡ None
+got_past h a zero zero past = refl
+got_past h a zero (suc k) past = refl
+got_past h a (suc n) zero past = absurd (omega (arith, past))
+got_past h a (suc n) (suc k) past = got_past h (a + 1) n k (omega (arith, past))
 
 -- values past a number are none, and add nothing
 pub foremost_padded : {X : Type 0} (measure : X → ℕ) (f : ℕ → Option X) (a n k : ℕ) → ((m : ℕ) → a + n ≤ m → f m ≡ None)
@@ -125,6 +132,17 @@ module _ (f : Found) (array first : ℕ) (low : array < 16) (few : HasFewPlaces 
         | inr past ↦
             ap (option_and_then (λ (g : FoundSuper). g.seen)) (found_past (found_on f array first) (λ k. refl) 0 16 place (omega (arith, past)))
             ∙ sym (past_listed place (let most = few.few in omega (arith, most, past)))
+      ]
+
+  -- each place is listed once
+  pub found_once : (k : ℕ) (s : FoundSuper) → slice_get found k ≡ Some s → super_found found s.place ≡ s.seen
+  found_once k s at =
+      elim (cases_lt k 16) [
+        | inl inside ↦
+            let same : Some (found_on f array first k) ≡ Some s = sym (got_from (found_on f array first) 16 k inside) ∙ at in
+            let is : found_on f array first k ≡ s = cc in
+            subst (λ (g : FoundSuper). super_found found g.place ≡ g.seen) is (found_any k)
+        | inr past ↦ absurd (let none = got_past (found_on f array first) 0 16 k past in none-some s (sym none ∙ at))
       ]
 
   -- the truth of what was found is that of the drives

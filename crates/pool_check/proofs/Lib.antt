@@ -9,3 +9,5 @@ pub mod Parts
 pub mod Refused
 pub mod Ends
 pub mod Losing
+pub mod Meant
+pub mod Opened

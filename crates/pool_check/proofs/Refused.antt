@@ -1,5 +1,5 @@
 -- The refusals of arrays, as the superblocks that were read say them.
-use Rattle.std.proofs.Common.{◌≡◌, ℕ, zero, suc, ◌+◌, ◌-◌, ◌*◌, ◌<◌, ◌≤◌, ◌^◌, ◌==◌, Bool, true, false, ◌&&◌, ◌||◌, not, nat_lt, nat_le, is_ok, if◌then◌else◌, List, [], ◌∷◌, map, filter, find, length, slice_get, Option, Some, None, option_map, is_some, is_none, unwrap_or, inl, inr, refl, sym, ap, ap₂, subst, ◌∙◌, lt-ltb, le-ltb, arith}
+use Rattle.std.proofs.Common.{◌≡◌, ℕ, zero, suc, ◌+◌, ◌-◌, ◌*◌, ◌<◌, ◌≤◌, ◌^◌, ◌==◌, Bool, true, false, ◌&&◌, ◌||◌, not, nat_lt, nat_le, bytes_eq, is_ok, if◌then◌else◌, List, [], ◌∷◌, map, filter, find, length, slice_get, Option, Some, None, option_map, is_some, is_none, unwrap_or, inl, inr, refl, sym, ap, ap₂, subst, ◌∙◌, lt-ltb, le-ltb, arith}
 use Rattle.std.specs.Prelude.{count_by}
 use Rattle.std.specs.Option.{option_and_then, option_map_or, option_or}
 use Rattle.std.specs.List.{list_all, range_with_len}
@@ -18,6 +18,7 @@ use Rattle.array_core.specs.declared.ArrayFault.{ArrayFault}
 use Rattle.array_core.specs.declared.ArrayFault.TheVariants.{Foreign, TooFew, DirtyDegraded}
 use Rattle.array_core.proofs.Opened.{current_below, current_is, named_place, super_passes, truth_leads}
 use Rattle.array_core.proofs.Truths.{rule_at, rule_holds}
+use Rattle.pool_image.specs.Disks.{id_at}
 use Rattle.pool_image.specs.Replay.{Extent as ImageExtent}
 use Rattle.pool_image.specs.Drives.{Found, end_of, extent_from, extent_of, first_of, slices_from, slices_of, truth_from}
 use Rattle.pool_image.specs.Meaning.{Refusal, arrays_of, dirty_degraded, has_entry, has_slice, has_slice_of, has_table, in_table, is_dirty_degraded, is_member, is_table, is_too_few, kind_of, lacking_of, shape_of, too_few, truth_of}
@@ -110,7 +111,7 @@ module _ (well : ℕ → Bool) (f : Found) (few : HasFewPlaces f.state f.seats) 
       of_table None has = absurd (both_ways false refl has)
       of_table (Some table) has =
           let sectors = f.disks.sectors d in
-          let one = and_parts _ _ has in
+          let one = and_parts (option_map_or (bytes_eq table.disk_id.0) (id_at f.state place) false) (has_slice_of f sectors table 0 && list_all (λ n. not (is_member f n place) || has_slice_of f sectors table (n + 1)) (arrays_of f)) has in
           let two = and_parts (has_slice_of f sectors table 0) (list_all (λ n. not (is_member f n place) || has_slice_of f sectors table (n + 1)) (arrays_of f)) one.1 in
           let here = list_all_at (λ n. not (is_member f n place) || has_slice_of f sectors table (n + 1)) 0 f.state.made array two.1 (omega arith) (omega (arith, made)) in
           let has_it : has_slice_of f sectors table (array + 1) ≡ true = sym (ap (λ b. not b || has_slice_of f sectors table (array + 1)) member) ∙ here in
@@ -305,10 +306,12 @@ layers_refuse well f layers few small sixteen sound are = by (find (λ (l : Laye
     dirty_same : find (λ (l : Layer). is_few l.fault) layers ≡ None → first_number is_dirty layers ≡ find (is_dirty_degraded f) (arrays_of f)
     dirty_same none =
         find_layers (λ (l : Layer). is_dirty l.fault) (is_dirty_degraded f) layers 0
-        (λ k layer at. let same : k ≡ 0 + k = omega arith in
-        (ap is_dirty (are.each k layer at).fault
-        ∙ dirty_is f k (sym (ap is_few (are.each k layer at).fault) ∙ find_none_at (λ (l : Layer). is_few l.fault) layers none k layer at)
-        ∙ ap (is_dirty_degraded f) same, (are.each k layer at).number ∙ same))
+        (λ k layer at. let same : k ≡ 0 + k = omega arith in (
+          ap is_dirty (are.each k layer at).fault
+              ∙ dirty_is f k (sym (ap is_few (are.each k layer at).fault) ∙ find_none_at (λ (l : Layer). is_few l.fault) layers none k layer at)
+              ∙ ap (is_dirty_degraded f) same,
+          (are.each k layer at).number ∙ same,
+        ))
         ∙ ap (λ n. find (is_dirty_degraded f) (range_with_len 0 n)) are.count
 
     or_none : (o : Option Refusal) → option_or o None ≡ o

@@ -138,7 +138,8 @@ pub record IsOpened (f : Found) (array : ℕ) (v : View) : Type 0 where
   pub truth : Super
   pub found : List FoundSuper
   pub truth_is : truth_of f array ≡ Some truth
-  pub are_found : (place : ℕ) → place < 16 → super_found found place ≡ super_at f array place
+  pub are_found : (place : ℕ) → super_found found place ≡ super_at f array place
+  pub once : (k : ℕ) (s : FoundSuper) → slice_get found k ≡ Some s → super_found found s.place ≡ s.seen
   pub view : v ≡ view_found array (not (nat_lt array f.state.joined)) found truth
   pub shape : shape_of v ≡ shape_by f.state (slices_of f) array truth
 

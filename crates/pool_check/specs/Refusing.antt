@@ -1,9 +1,9 @@
 -- Why drives are refused, with the test of their logs handed in, and the faults that say so.
-use Rattle.std.specs.Prelude.{◌≡◌, ℕ, Bool, ◌==◌, not, nat_lt, false, if◌then◌else◌, find, Option, Some, None, option_map, is_some, is_none}
+use Rattle.std.specs.Prelude.{◌≡◌, ℕ, ◌<◌, Bool, ◌==◌, not, nat_lt, true, false, if◌then◌else◌, find, Option, Some, None, option_map, is_some, is_none}
 use Rattle.std.specs.Option.{option_and_then, option_map_or, option_or}
 use Rattle.array_image.specs.States.{current_places}
 use Rattle.pool_image.specs.Drives.{Found}
-use Rattle.pool_image.specs.Meaning.{Part as MeaningPart, in_table, in_state, in_log, in_superblock, Refusal, absent, damaged, too_few, dirty_degraded, absent_count, arrays_of, has_supers, has_table, is_dirty_degraded, is_too_few}
+use Rattle.pool_image.specs.Meaning.{Part as MeaningPart, has_log, in_table, in_state, in_log, in_superblock, Refusal, absent, damaged, too_few, dirty_degraded, absent_count, arrays_of, has_supers, has_table, is_dirty_degraded, is_too_few}
 use Rattle.rack.specs.Seen.{Seen}
 use Rattle.pool_image.specs.Disks.{Seats}
 use Rattle.pool_check.specs.declared.Halt.{Halt}
@@ -60,6 +60,13 @@ unfoldable pub refused_with : (ℕ → Bool) → Option Refusal → Found → Op
 refused_with well last f =
     if nat_lt 1 (absent_count f) then Some (absent (absent_count f))
     else option_or (first_with well f) (refused_arrays last f)
+
+-- the lowest place with a disk whose log isn't well formed, if there is one
+abbrev pub IsLowestBad : Found → Option ℕ → Type 0
+IsLowestBad f None = (place d : ℕ) → f.seats place ≡ Some d → has_log f place ≡ true
+IsLowestBad f (Some bad) =
+    (has_log f bad ≡ false) × ((d : ℕ) × (f.seats bad ≡ Some d))
+    × ((place d : ℕ) → place < bad → f.seats place ≡ Some d → has_log f place ≡ true)
 
 -- ---- the faults that say so
 

@@ -16,7 +16,7 @@ ghost use Rattle.pool_check.specs.Drives.{AreDrivesOf, Drives, Goes, HasFewPlace
 ghost use Rattle.pool_check.specs.Layers.{AreKept, AreLayers, Opens, all_found, is_usable, sight_by, sights_by};
 
 use crate::superblocks::{is_named, read_supers};
-use crate::{Checked, Extent, Layer, ArraysRead, Seats, Sight};
+use crate::{ArraysRead, Checked, Extent, Layer, Seats, Sight};
 use array_core::{Array, ArrayFault, Found, truth_of};
 use arrayvec::ArrayVec;
 use md_super::Super;
