@@ -77,7 +77,7 @@ super_truth s c number place k t is extent few small =
     valid_truth t k (length s.drives.items) (subst (λ (n : ℕ). is_ok (profiled t n) ≡ true) extent one.0) six.0 six.1 few small
 
 -- and has the array's set id
-super_set : (s : State) (c : Image) (number place : ℕ) (t : Super) → super_in s c number place ≡ Some t → t.set_id.0 ≡ array_id s.pool.0 number
+pub super_set : (s : State) (c : Image) (number place : ℕ) (t : Super) → super_in s c number place ≡ Some t → t.set_id.0 ≡ array_id s.pool.0 number
 super_set s c number place t is =
     let one = and_parts (is_ok (profiled t s.extent)) _ (super_passes s c number place t is) in
     (bytes_eq-Decides t.set_id.0 (array_id s.pool.0 number)).0 (and_parts (bytes_eq t.set_id.0 (array_id s.pool.0 number)) _ one.1).0
@@ -169,25 +169,30 @@ module _ (s : State) (c : Image) (number : ℕ) (t : Super) (found : List Found)
           let goal : Goal f.seen = elim f.seen as Goal [ None ↦ λ is. refl | Some u ↦ λ is. shares f.place u is ] in
           goal (are.once k f at)
 
--- where each superblock that was found is one that an array can go by, so is the truth
-pub all_truths : (found : List Found) → list_all (λ f. option_map_or is_truth f.seen true) found ≡ true
-    → (t : Super) → truth_of found ≡ Some t → is_truth t ≡ true
-all_truths found all t is =
+-- what holds of each superblock that was found holds of the truth
+pub all_pass : (p : Super → Bool) (found : List Found) → list_all (λ f. option_map_or p f.seen true) found ≡ true
+    → (t : Super) → truth_of found ≡ Some t → p t ≡ true
+all_pass p found all t is =
     let leads = foremost_leads (λ u. u.events) (super_at found) 0 16 t is in
-    found_truths found all leads.at t leads.here
+    found_pass found all leads.at t leads.here
   where
-    found_truths : (found : List Found) → list_all (λ f. option_map_or is_truth f.seen true) found ≡ true
-        → (place : ℕ) (t : Super) → super_at found place ≡ Some t → is_truth t ≡ true
-    found_truths [] all place t is = cc
-    found_truths (f ∷ found) all place t is =
-        let parts = and_parts (option_map_or is_truth f.seen true) (list_all (λ f. option_map_or is_truth f.seen true) found) all in
-        let rest = found_truths found parts.1 place t in
-        let Goal : Bool → Type 0 = λ b. option_and_then (λ f. f.seen) (if b then Some f else find (λ f. f.place == place) found) ≡ Some t → is_truth t ≡ true in
+    found_pass : (found : List Found) → list_all (λ f. option_map_or p f.seen true) found ≡ true
+        → (place : ℕ) (t : Super) → super_at found place ≡ Some t → p t ≡ true
+    found_pass [] all place t is = cc
+    found_pass (f ∷ found) all place t is =
+        let parts = and_parts (option_map_or p f.seen true) (list_all (λ f. option_map_or p f.seen true) found) all in
+        let rest = found_pass found parts.1 place t in
+        let Goal : Bool → Type 0 = λ b. option_and_then (λ f. f.seen) (if b then Some f else find (λ f. f.place == place) found) ≡ Some t → p t ≡ true in
         let goal : Goal (f.place == place) = elim (f.place == place) as Goal [
-          | true ↦ λ here. sym (ap (λ o. option_map_or is_truth o true) here) ∙ parts.0
+          | true ↦ λ here. sym (ap (λ o. option_map_or p o true) here) ∙ parts.0
           | false ↦ λ there. rest there
         ] in
         goal is
+
+-- where each superblock that was found is one that an array can go by, so is the truth
+pub all_truths : (found : List Found) → list_all (λ f. option_map_or is_truth f.seen true) found ≡ true
+    → (t : Super) → truth_of found ≡ Some t → is_truth t ≡ true
+all_truths = all_pass is_truth
 
 -- ---- the shape
 
@@ -226,8 +231,8 @@ pub length_mapped : {X Y : Type 0} (f : X → Y) (xs : List X) → length (map f
 length_mapped f [] = refl
 length_mapped f (x ∷ xs) = ap suc (length_mapped f xs)
 
-module _ (s : State) (c : Image) (number : ℕ) (t : Super) (found : List Found) (are : AreFound s c number t found)
-    (holds : is_truth t ≡ true) where
+module _ (s : State) (c : Image) (number : ℕ) (t : Super) (found : List Found) (holds : is_truth t ≡ true)
+    (are_named : (place : ℕ) → is_named t place ≡ true → super_at found place ≡ current_super s c number place) where
   abbrev slots : List Slot
   slots = slots_found found t
 
@@ -245,7 +250,7 @@ module _ (s : State) (c : Image) (number : ℕ) (t : Super) (found : List Found)
           let few = (truth_facts t holds).few in
           let place : there.0 ≡ place_by t n = ap (λ o. unwrap_or o 16) (sym there.1) in
           let named : is_named t (place_by t n) ≡ true = subst (λ p. is_named t p ≡ true) place (named_place t n there.0 (omega (arith, below, few)) there.1) in
-          ap (λ o. member_of_slot t.size (slot_by (place_by t n) o)) (are.named (place_by t n) named)
+          ap (λ o. member_of_slot t.size (slot_by (place_by t n) o)) (are_named (place_by t n) named)
           ∙ slot_member t.size (place_by t n) (is_current s (place_by t n)) (super_in s c number (place_by t n))
 
   found_places : map (λ s. s.place) slots ≡ places_by t
@@ -254,10 +259,10 @@ module _ (s : State) (c : Image) (number : ℕ) (t : Super) (found : List Found)
   found_count : length slots ≡ t.raid_disks
   found_count = length_mapped (λ place. slot_by place (super_at found place)) (places_by t) ∙ length_ranged (place_by t) 0 t.raid_disks
 
-  -- the shape of the opened array is that of the contents
-  pub found_shape : (young : Bool) → shape_of (view_found number young found t) ≡ shape_by s c number t
+  -- the shape of the opened array is that of the contents, whatever was found on places that the truth doesn't name
+  pub named_shape : (young : Bool) → shape_of (view_found number young found t) ≡ shape_by s c number t
   unfolding shape_of shape_by
-  found_shape young =
+  named_shape young =
       let v = view_found number young found t in
       let members : map (member_on v) (range_with_len 0 t.raid_disks) ≡ map (member_in s c number t) (range_with_len 0 t.raid_disks)
       = members_slots v (length_mapped (λ s. s.seat) slots ∙ found_count) (length_mapped (λ s. s.device) slots ∙ found_count)
@@ -273,9 +278,19 @@ module _ (s : State) (c : Image) (number : ℕ) (t : Super) (found : List Found)
       }
 
   -- as many members are missing or rebuilding
-  pub found_lacking : lacking slots ≡ lacking_in (shape_by s c number t)
+  pub named_lacking : lacking slots ≡ lacking_in (shape_by s c number t)
   unfolding shape_by
-  found_lacking = lacking_members t.size slots ∙ ap (count_by (λ m. not m.is_whole)) found_members
+  named_lacking = lacking_members t.size slots ∙ ap (count_by (λ m. not m.is_whole)) found_members
+
+module _ (s : State) (c : Image) (number : ℕ) (t : Super) (found : List Found) (are : AreFound s c number t found)
+    (holds : is_truth t ≡ true) where
+  -- the shape of the opened array is that of the contents
+  pub found_shape : (young : Bool) → shape_of (view_found number young found t) ≡ shape_by s c number t
+  found_shape = named_shape s c number t found holds are.named
+
+  -- as many members are missing or rebuilding
+  pub found_lacking : lacking (slots_found found t) ≡ lacking_in (shape_by s c number t)
+  found_lacking = named_lacking s c number t found holds are.named
 
   -- what the opening of these answers: the array of the contents, or the refusal that they have
   pub opened_contents : (young : Bool)

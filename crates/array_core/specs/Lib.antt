@@ -11,3 +11,4 @@ pub mod Settling
 pub mod Pool
 pub mod Logging
 pub mod Writing
+pub mod Blank

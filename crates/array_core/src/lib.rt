@@ -27,6 +27,7 @@
 //! members that counted there when the call began, whoever went since. The log is kept for the next commit.
 #![tactic(auto)]
 
+mod blank;
 mod logged;
 mod members;
 mod opening;
@@ -41,12 +42,13 @@ mod writing;
 pub use array_model::Seat;
 use arrayvec::ArrayVec;
 use md_super::Super;
+pub use opening::truth_of;
 use rack::Places;
 use slots::Slot;
 use std::marker::Model;
 
 /// A place, and the valid superblock of the array that was found there.
-#[derive(Debug, Drop)]
+#[derive(Debug, Default, Drop)]
 pub struct Found {
     /// The place of the drive.
     pub place: u32,

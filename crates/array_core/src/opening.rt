@@ -86,8 +86,8 @@ fn ahead<'a>(first: Option<&'a Super>, second: Option<&'a Super>) -> Option<&'a 
     }
 }
 
-/// The superblock of most events, of equal ones that of the lowest place.
-fn truth_of(found: &[Found]) -> Option<&Super>
+/// The superblock of most events, of equal ones that of the lowest place; none where none was found.
+pub fn truth_of(found: &[Found]) -> Option<&Super>
     ensures { option_copied result ≡ spec.truth_of found.now }
 {
     let mut truth = None;

@@ -1,0 +1,13 @@
+pub mod AfterReads
+pub mod Begins
+pub mod Finding
+pub mod Layered
+pub mod Adding
+pub mod Supers
+pub mod Outcomes
+pub mod Parts
+pub mod Refused
+pub mod Ends
+pub mod Losing
+pub mod Meant
+pub mod Opened

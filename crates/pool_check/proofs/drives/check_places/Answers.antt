@@ -1,0 +1,35 @@
+use Rattle.std.proofs.Common.{◌≡◌, ℕ, None, ap, subst, sym, ◌∙◌, inl, inr, arith}
+use Rattle.std.proofs.lemmas.Bool.{cases_eq}
+use Rattle.rack.proofs.Reading.{only_reads_join}
+use Rattle.pool_check.specs.Drives.{found_with, seats_by}
+use Rattle.pool_check.specs.Refusing.{damage_with, is_well}
+use Rattle.pool_check.proofs.AfterReads.{drives_then, halts_later}
+use Rattle.pool_check.proofs.Parts.{first_is}
+use Rattle.pool_check.proofs.drives.check_places.Goals as goal
+
+pub loop-place-preserved : goal.loop-place-preserved
+loop-place-preserved g c =
+    let s = c.args.state.now in
+    let seats = seats_by c.args.seats.now in
+    record {
+      only = only_reads_join c.loop-place.invariant.only c.in_default.ensures.only;
+      sound = λ o are copied read p below.
+          elim (cases_eq p c.loop-place.place) [
+            | inl same ↦
+                subst (λ (q : ℕ). damage_with (is_well c.args.bad) (found_with s seats o) q ≡ None) (sym same)
+                (c.in_default.ensures.sound o (drives_then s seats o c.loop-place.invariant.only c.requires.seating are) copied read)
+            | inr other ↦ c.loop-place.invariant.sound o are copied read p (omega (arith, below, other))
+          ];
+      runs = g.met.R.Rack.runs_then _ _ _ c.loop-place.invariant.runs c.in_default.ensures.runs;
+    }
+
+pub returns-in-Err-clause-halts : goal.returns-in-Err-clause-halts
+returns-in-Err-clause-halts g c =
+    let s = c.args.state.now in
+    let seats = seats_by c.args.seats.now in
+    halts_later (g.R.Rack.seen c.args.rack.now) (g.R.Rack.seen c.loop-place.rack) (g.R.Rack.seen c.check_place.new.rack) seats c.in-Err.halt c.loop-place.invariant.only.stays
+    (λ fault damage o are copied read.
+    first_is (is_well c.args.bad) (found_with s seats o) (record { few = c.requires.state.few; current = c.requires.seating.current }) c.loop-place.place fault
+    (c.loop-place.invariant.sound o are copied read)
+    (damage o (drives_then s seats o c.loop-place.invariant.only c.requires.seating are) copied read))
+    c.in-Err.ensures.halts

@@ -1,0 +1,16 @@
+use Rattle.std.proofs.Common.{◌≡◌, ℕ, ◌<◌, None}
+use Rattle.rack.specs.Sequences.{OnlyReads}
+use Rattle.pool_check.specs.Drives.{AreCopied, AreDrivesOf, Drives, found_with, seats_by}
+use Rattle.pool_check.specs.Layers.{AreRead}
+use Rattle.pool_check.specs.Refusing.{damage_with, is_well}
+use Rattle.pool_check.proofs.drives.check_places.Given as goal
+
+abbrev pub invariant-loop-place : goal.invariant-loop-place
+invariant-loop-place g l = record {
+  only : OnlyReads (g.R.Rack.seen l.initial.rack) (g.R.Rack.seen l.rack);
+  sound :
+      (o : Drives) → AreDrivesOf (g.R.Rack.seen l.initial.rack) (seats_by l.seats) o → AreCopied l.scan.disks.items (seats_by l.seats) o
+      → AreRead (found_with l.state (seats_by l.seats) o) l.layers
+      → (p : ℕ) → p < l.place → damage_with (is_well l.bad) (found_with l.state (seats_by l.seats) o) p ≡ None;
+  runs : g.R.Rack.runs l.initial.rack l.rack;
+}

@@ -1,0 +1,4 @@
+pub mod Refusing
+pub mod Drives
+pub mod Layers
+pub mod Checking
