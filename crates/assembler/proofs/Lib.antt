@@ -1,3 +1,4 @@
 mod Laid
 mod Stood
 pub mod Meant
+mod Cut

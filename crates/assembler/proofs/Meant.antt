@@ -79,7 +79,6 @@ clean_meant : (a b : Seen) (known : List Known) (s : State) (t : Slices) (on : L
     → IsNewest a b known s → IsLaid a known s t on → HasLooked a b t on [] m is_pending damaged → AllTold a → IsUnfaulted a b → StandsAs a s t m
 clean_meant a b known s t on m is_pending damaged is_new laid looked told free = record {
   stands = stands_so a b known s is_new.scan told free (is_new.newest told);
-  one_pool = sym (other_meant a b s.pool.0 known is_new.scan told free) ∙ is_new.one_pool told;
   logs = same_logs;
   targets = λ lasts. (looked.finds told lasts).targets ∙ same_pending few;
 }

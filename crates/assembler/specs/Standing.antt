@@ -9,7 +9,7 @@ use Rattle.array_image.specs.States.{is_current}
 use Rattle.array_image.specs.Left.{reading}
 use Rattle.pool_image.specs.Disks.{disks_of, newest}
 use Rattle.pool_image.specs.Replay.{logs_of, standing, standing_by}
-use Rattle.pool_image.specs.Meaning.{no_pool, two_pools, has_other_pool, refusal_of}
+use Rattle.pool_image.specs.Meaning.{no_pool, two_pools, refusal_of}
 use Rattle.commit_log.specs.View.{LogView, names, left_of, in_order}
 use Rattle.commit_log.specs.Phases.{AreLogs}
 use Rattle.commit_log.specs.Opening.{Finds}
@@ -34,11 +34,10 @@ pub record IsLaid (a : Seen) (known : List Known) (s : State) (t : Slices) (on :
   pub places : (p : ℕ) → names on p ≡ (is_current s p && nat_lt 0 (sectors_of t (log_slice p)))
   pub whole : AreLogs (sectors_of t) on
 
--- The state is the newest of what was read, of one pool.
+-- The state is the newest of what was read.
 pub record IsNewest (a b : Seen) (known : List Known) (s : State) : Type 0 where
   pub scan : IsScan a b known
   pub newest : AllTold a → newest (disks_of a) (as_read a known) ≡ Some s
-  pub one_pool : AllTold a → has_pool_other_than s.pool.0 (disks_of a) (as_read a known) ≡ false
 
 -- What was found of the pending record on these slices; `gone` are the places that refused a call in it.
 pub record HasLooked (a b : Seen) (t : Slices) (on gone : List ℕ) (m : LogView) (is_pending : Bool) (damaged : Option ℕ) : Type 0 where
@@ -54,7 +53,6 @@ pub record HasLooked (a b : Seen) (t : Slices) (on gone : List ℕ) (m : LogView
 -- slices, and the log has the record that is pending there.
 pub record StandsAs (a : Seen) (s : State) (t : Slices) (m : LogView) : Type 0 where
   pub stands : standing (disks_of a) (now_in a) ≡ Some (standing_by (disks_of a) (now_in a) s)
-  pub one_pool : has_other_pool (disks_of a) (standing_by (disks_of a) (now_in a) s) ≡ false
   pub logs : (k u : ℕ) → k < 272 → reading (slices_of t a) k u ≡ (standing_by (disks_of a) (now_in a) s).logs k u
   pub targets : IsLasting a → m.pending ≡ (standing_by (disks_of a) (now_in a) s).targets
 
