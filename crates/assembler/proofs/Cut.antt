@@ -1,5 +1,5 @@
 -- Members' slices that are added one array after another are those of the table.
-use Rattle.std.proofs.Common.{◌≡◌, ◌≢◌, ◌⊎◌, ℕ, zero, suc, ◌+◌, ◌*◌, ◌-◌, ◌<◌, ◌≤◌, ◌==◌, ◌&&◌, ◌||◌, Bool, true, false, nat_lt, nat_le, bytes_eq, if◌then◌else◌, find, List, [], ◌∷◌, ◌++◌, length, slice_get, Option, Some, None, refl, sym, ap, subst, ◌∙◌, inl, inr, arith, eq-eqb, lt-ltb, ltb-true, leb-true, le-ltb, add-one, All, eqb-true}
+use Rattle.std.proofs.Common.{◌≡◌, ◌≢◌, ◌⊎◌, ℕ, zero, suc, ◌+◌, ◌*◌, ◌-◌, ◌<◌, ◌≤◌, ◌==◌, ◌&&◌, ◌||◌, Bool, true, false, nat_lt, nat_le, bytes_eq, if◌then◌else◌, find, List, [], ◌∷◌, ◌++◌, length, slice_get, Option, Some, None, refl, sym, ap, subst, ◌∙◌, inl, inr, arith, eq-eqb, lt-ltb, ltb-true, leb-true, le-ltb, add-one, All, eqb-true, Result, Ok, Err, OnOk, OnErr}
 use Rattle.std.specs.Option.{option_map_or, option_and_then}
 use Rattle.std.specs.List.{list_any}
 use Rattle.std.proofs.lemmas.List.{length-append}
@@ -11,6 +11,8 @@ use Rattle.gpt_table.specs.declared.Table.{Table}
 use Rattle.gpt_table.specs.declared.Entry.{Entry}
 use Rattle.gpt_table.specs.Format.{IsWritable, is_inside}
 use Rattle.slice_rack.specs.Slices.{Slices, seat_of, first_of, sectors_of}
+use Rattle.slice_rack.specs.declared.SliceFault.{SliceFault}
+use Rattle.slice_rack.specs.declared.SliceFault.TheVariants.{Unseated, Outside, Overlap}
 use Rattle.slice_rack.specs.Changes.{Adds, IsPast, IsFree, Overlaps}
 use Rattle.array_image.specs.Places.{place_of, slice_of, log_slice, member_slice, arrays_first, raid_kind}
 use Rattle.pool_image.specs.Replay.{Extent, share, shares_any, free_of, slice_entry, entry_extent, extents_below, extent_by}
@@ -107,16 +109,16 @@ shared_sector a b s u inside within same =
 
 -- ---- entries of a valid table
 
-found_all : (P : Entry → Type 0) (test : Entry → Bool) (xs : List Entry) (y : Entry) → All P xs → find test xs ≡ Some y → P y
+pub found_all : (P : Entry → Type 0) (test : Entry → Bool) (xs : List Entry) (y : Entry) → All P xs → find test xs ≡ Some y → P y
 found_all P test [] y all is = absurd (none-some y is)
-found_all P test (x ∷ xs) y all is = of_test (test x) is
+found_all P test (x ∷ xs) y all is = of_test (λ other. found_all P test xs y (λ k d low. all (suc k) d (omega (arith, low))) other) (test x) is
   where
     some_entry : (v w : Entry) → Some v ≡ Some w → v ≡ w
     some_entry v w same = (cc)
 
-    of_test : (b : Bool) → (if b then Some x else find test xs) ≡ Some y → P y
-    of_test true here = subst P (some_entry x y here) all.0
-    of_test false other = found_all P test xs y all.1 other
+    of_test : (find test xs ≡ Some y → P y) → (b : Bool) → (if b then Some x else find test xs) ≡ Some y → P y
+    of_test rest true here = subst P (some_entry x y here) (all 0 x (omega arith))
+    of_test rest false other = rest other
 
 -- an extent of an entry has a sector, and lies in the arrays' part of a disk
 pub record IsRoomy (sectors : ℕ) (e : Extent) : Type 0 where
@@ -332,6 +334,22 @@ not_past x t table place n e valid cut is past =
 
 pub not_unseated : (x : Seen) (t : Slices) (table : Table) (place n : ℕ) → IsCutTo x t table place n → seat_of t place ≡ None → ⊥
 not_unseated x t table place n cut none = none-some cut.disk (sym none ∙ cut.seat)
+
+-- whatever the slices answered
+pub cut_by : (x : Seen) (t u : Slices) (table : Table) (place n at : ℕ) (e : Extent) (r : Result (Unit {0}) SliceFault) → IsWritable table → IsCutTo x t table place n → n < 16
+    → at ≡ member_slice place n → entry_extent table.sectors table n ≡ Some e
+    → (r ≡ Err Unseated → seat_of t place ≡ None)
+    → (r ≡ Err Outside → IsPast t x place e.first e.sectors)
+    → (r ≡ Err Overlap → Overlaps t at e.first e.sectors)
+    → OnOk r (IsFree t at e.first e.sectors)
+    → OnOk r (Adds t u at e.first e.sectors)
+    → OnErr r (u ≡ t)
+    → IsCutTo x u table place (n + 1)
+cut_by x t u table place n at e (Ok done) valid cut few is_at is unseated outside overlap free adds same = cut_added x t u table place n at e valid cut few is_at is adds free
+cut_by x t u table place n at e (Err Unseated) valid cut few is_at is unseated outside overlap free adds same = absurd (not_unseated x t table place n cut (unseated refl))
+cut_by x t u table place n at e (Err Outside) valid cut few is_at is unseated outside overlap free adds same = absurd (not_past x t table place n e valid cut is (outside refl))
+cut_by x t u table place n at e (Err Overlap) valid cut few is_at is unseated outside overlap free adds same =
+    subst (λ w. IsCutTo x w table place (n + 1)) (sym same) (cut_refused x t table place n at e valid cut few is_at is (overlap refl))
 
 -- ---- other places
 

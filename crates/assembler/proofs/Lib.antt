@@ -1,4 +1,6 @@
+mod Foremost
+mod Cut
+mod CutDrives
 mod Laid
 mod Stood
 pub mod Meant
-mod Cut

@@ -4,7 +4,7 @@ use Rattle.std.specs.Option.{option_map_or}
 use Rattle.rack.specs.Seen.{Seen, Rose}
 use Rattle.gpt_table.specs.declared.Table.{Table}
 use Rattle.gpt_table.specs.Changes.{the_table}
-use Rattle.gpt_table.specs.Disk.{now_on}
+use Rattle.gpt_table.specs.Disk.{Contents, AgreesUnspent, now_on}
 use Rattle.slice_rack.specs.Slices.{Slices, seat_of, first_of, sectors_of, disk_of}
 use Rattle.array_image.specs.Places.{place_of, slice_of, log_slice, member_slice, arrays_first}
 use Rattle.pool_image.specs.Replay.{Extent, extent_by}
@@ -39,11 +39,11 @@ pub record IsInArrays (x : Seen) (t : Slices) (k : ℕ) : Type 0 where
   pub behind : arrays_first ≤ first_of t k
   pub before : first_of t k + sectors_of t k + 33 ≤ x.sectors (disk_of t k)
 
--- The members' slices of a place are those of its disk's table. Where this can't be read the disk refused a call, and they aren't there.
+-- The members' slices of a place are those of its disk's table, whatever its spent sectors held. Where this can't be read the disk refused a call, and they aren't there.
 pub record IsCut (x y : Seen) (t : Slices) (place : ℕ) (read : Bool) : Type 0 where
   pub lies :
-      (n disk : ℕ) → n < 16 → read ≡ true → seat_of t place ≡ Some disk → x.told disk
-      → Lies t (member_slice place n) (extent_by (x.sectors disk) (the_table (x.sectors disk) (now_on x disk)) (n + 1))
+      (n disk : ℕ) → n < 16 → read ≡ true → seat_of t place ≡ Some disk → x.told disk → (contents : Contents) → AgreesUnspent x disk contents
+      → Lies t (member_slice place n) (extent_by (x.sectors disk) (the_table (x.sectors disk) contents) (n + 1))
   pub within : (n : ℕ) → n < 16 → 0 < sectors_of t (member_slice place n) → IsInArrays x t (member_slice place n)
   pub refused : read ≡ false → (disk : ℕ) × (seat_of t place ≡ Some disk) × Rose (x.faults disk) (y.faults disk)
 

@@ -1,13 +1,13 @@
 //! The state that a pending record brings.
 
-ghost use Rattle.std.specs.Prelude.{◌≡◌, ◌<◌, List, length, Option, option_map, slice_get};
+ghost use Rattle.std.specs.Prelude.{◌≡◌, ◌<◌, length, option_map, slice_get};
 ghost use Rattle.std.specs.Option.{option_and_then, option_map_or};
 ghost use Rattle.array_image.specs.Foremost.{ahead as ahead_by};
 ghost use Rattle.array_image.specs.States.{epoch_of};
 ghost use Rattle.pool_image.specs.Replay.{brought as brought_by, brought_state as state_of};
 
 use commit_log::Log;
-use pool_state::{Copied, Drive, State, decode_state};
+use pool_state::{Copied, State, decode_state};
 
 /// Slices of a place; the first one is its log slice, whose first sector is the copy of the state.
 const SLICES: u32 = 17;
@@ -51,5 +51,15 @@ pub(crate) fn brought_state(log: &Log) -> Option<State>
     for after in 0..count {
         newest = newer(copy_at(log, count - 1 - after), newest);
     }
-    newest.map(|copied| copied.state)
+    state_in(newest)
+}
+
+/// The state of a copy.
+fn state_in(copied: Option<Copied>) -> Option<State>
+    ensures { result ≡ option_map (λ copy. copy.state) copied }
+{
+    match copied {
+        Some(copied) => Some(copied.state),
+        None => None,
+    }
 }

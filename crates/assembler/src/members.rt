@@ -1,6 +1,6 @@
 //! The slices of arrays' members on a drive, by its own table.
 
-ghost use Rattle.std.specs.Prelude.{◌≡◌, ◌<◌, ◌+◌, ◌==◌, ◌^◌, ℕ, length, MatchOption, true, find, Some, None};
+ghost use Rattle.std.specs.Prelude.{◌≡◌, ◌<◌, ◌+◌, ◌++◌, ◌∷◌, [], ◌==◌, ◌^◌, ℕ, length, MatchOption, true, find, Some, None, if◌then◌else◌};
 ghost use Rattle.std.specs.Option.{option_copied};
 ghost use Rattle.rack.specs.Sequences.{OnlyReads};
 ghost use Rattle.gpt_table.specs.Format.{IsWritable, is_inside};
@@ -134,6 +134,16 @@ fn lay_drive<R: Rack>(slices: &mut SliceRack<R>, scan: &Scan, state: &State, pla
     }
 }
 
+/// Appends a place unless it is to be left out.
+pub(crate) fn push_unless(places: &mut Places, place: u32, left_out: bool)
+    requires { length places.old.items < 16 }
+    ensures { places.new.items ≡ (if left_out then places.old.items else places.old.items ++ place ∷ []) }
+{
+    if !left_out {
+        places.push(place);
+    }
+}
+
 /// Adds the members' slices of all seated drives, each by its own table. Answers the places whose table couldn't be read.
 pub(crate) fn lay_drives<R: Rack>(slices: &mut SliceRack<R>, scan: &Scan, state: &State) -> Places
     requires few { length scan.now.disks.items < 2 ^ 32 }
@@ -148,9 +158,8 @@ pub(crate) fn lay_drives<R: Rack>(slices: &mut SliceRack<R>, scan: &Scan, state:
 {
     let mut unread = Places::new();
     for place in 0..16 {
-        if !lay_drive(slices, scan, state, place) {
-            unread.push(place);
-        }
+        let read = lay_drive(slices, scan, state, place);
+        push_unless(&mut unread, place, read);
     }
     unread
 }

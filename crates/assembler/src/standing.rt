@@ -161,25 +161,15 @@ pub fn stand<R: Rack>(alloc: Global, rack: R) -> Result<Standing<R>, Back<R, Ref
     let Ok(log) = Log::make(alloc) else {
         return Err(Back { rack, why });
     };
-    match look(rack, scan, log) {
-        Ok(found) => one_pool(found),
-        Err(rack) => Err(Back {
-            rack,
-            why: Refusal::NoPool,
-        }),
-    }
-}
-
-/// A pool as it stands, unless another one is on the disks too.
-fn one_pool<R: Rack>(found: Standing<R>) -> Result<Standing<R>, Back<R, Refusal>>
-    ensures same { IfOk result (λ st. st ≡ found) }
-    ensures one { IfOk result (λ st. (disks : Disks) (identities : Identities) → AreOf disks identities found.scan.disks.items
-        → has_pool_other_than found.state.pool.0 disks identities ≡ false) }
-    ensures back { IfErr result (λ back. back.rack ≡ below_of found.slices) }
-    ensures why { IfErr result (λ back. back.why ≡ Refusal.TwoPools) }
-    ensures two { IfErr result (λ back. (disks : Disks) (identities : Identities) → AreOf disks identities found.scan.disks.items
-        → has_pool_other_than found.state.pool.0 disks identities ≡ true) }
-{
+    let found = match look(rack, scan, log) {
+        Ok(found) => found,
+        Err(rack) => {
+            return Err(Back {
+                rack,
+                why: Refusal::NoPool,
+            });
+        }
+    };
     if found.scan.has_other_pool(&found.state.pool) {
         return Err(Back {
             rack: found.slices.into_inner(),

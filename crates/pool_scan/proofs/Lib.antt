@@ -1,6 +1,6 @@
 pub mod Chosen
 mod Decoding
 mod Ranges
-mod Sights
+pub mod Sights
 pub mod Seated
 pub mod Meant

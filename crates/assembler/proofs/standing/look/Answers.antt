@@ -54,3 +54,7 @@ returns-clause-meant g c = λ told free.
     stand_meant (g.R.Rack.seen c.args.rack) (g.R.Rack.seen (below_of c.pending-looked.new.rack)) c.read.new.self.disks.items c.in-Some.state
     (tables c.pending-looked.new.rack) c.seat_drives-on.result.items c.pending-looked.result.gone.items c.pending-looked.new.self c.pending-looked.result.pending
     c.pending-looked.result.damaged (returns-clause-newest g c) (returns-clause-laid g c) (returns-clause-looked g c) told free
+
+pub returns-in_default-clause-none : goal.returns-in_default-clause-none
+returns-in_default-clause-none g c =
+    (c.read.new.self.disks.items, c.read.ensures.scanned, λ told. sym (c.in_default.ensures _ _ (c.read.ensures.identities told)))
