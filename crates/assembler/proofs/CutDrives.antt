@@ -113,7 +113,7 @@ cut_start x t none = record {
 abbrev pub with_unread : Bool → ℕ → List ℕ → List ℕ
 with_unread read many unread = if read then unread else unread ++ many ∷ []
 
-names_more : (on : List ℕ) (m p : ℕ) → names (on ++ m ∷ []) p ≡ (names on p || (m == p))
+pub names_more : (on : List ℕ) (m p : ℕ) → names (on ++ m ∷ []) p ≡ (names on p || (m == p))
 names_more [] m p = or_false (m == p)
   where
     or_false : (b : Bool) → (b || false) ≡ b

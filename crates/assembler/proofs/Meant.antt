@@ -131,7 +131,7 @@ clean_meant a b known s t on m is_pending damaged is_new laid looked told free =
 
 -- ---- nobody is passed over
 
-none_listed : (f : ℕ → Bool) (ks : List ℕ) → ((p : ℕ) → f p ≡ false) → filter f ks ≡ []
+pub none_listed : (f : ℕ → Bool) (ks : List ℕ) → ((p : ℕ) → f p ≡ false) → filter f ks ≡ []
 none_listed f [] none = refl
 none_listed f (k ∷ ks) none = filter_out f k ks (none k) ∙ none_listed f ks none
 

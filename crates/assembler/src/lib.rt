@@ -12,6 +12,7 @@
 mod brought;
 mod laying;
 mod members;
+mod resting;
 mod standing;
 
 pub use standing::{Refusal, Standing, stand};

@@ -1,0 +1,54 @@
+-- What the disks of a pool hold once its pending record is replayed.
+use Rattle.std.specs.Prelude.{◌≡◌, ◌≢◌, ◌⊎◌, ℕ, ◌+◌, ◌<◌, ◌≤◌, Bool, true, false, ◌==◌, ◌&&◌, List, Option, Some}
+use Rattle.std.specs.List.{filter_map}
+use Rattle.rack.specs.Values.{IsSingle, Keeps}
+use Rattle.rack.specs.Seen.{Image, Seen, IsLive, Rose}
+use Rattle.rack.specs.Targets.{Target, put}
+use Rattle.pool_state.specs.declared.contents.State.{State}
+use Rattle.array_image.specs.Places.{state_sector, arrays_first}
+use Rattle.array_image.specs.Record.{Gate, gate_sector, gate_of}
+use Rattle.pool_image.specs.Disks.{Disks, disks_of, identities_of, seat_of}
+use Rattle.pool_image.specs.Replay.{landed}
+use Rattle.commit_log.specs.View.{names}
+use Rattle.pool_scan.specs.declared.Known.{Known}
+use Rattle.pool_scan.specs.Scanning.{now_in}
+use Rattle.pool_scan.specs.Choosing.{seat_by}
+
+-- where the gate stands on a drive
+abbrev pub drive_gate : ℕ
+drive_gate = 2049
+
+-- a sector that a replay may write: of a drive of the state, in its log slice or in the arrays' part of its disk
+pub record IsOfDrive (x : Seen) (known : List Known) (s : State) (d t : ℕ) (v : List ℕ) : Type 0 where
+  pub place : ℕ
+  pub seat : seat_by s known place ≡ Some d
+  pub behind : state_sector ≤ t
+  pub before : (t < arrays_first) ⊎ (t + 33 < x.sectors d)
+
+-- each sector of a disk has one value
+abbrev pub AreSingle : Seen → Type 0
+AreSingle x = (d t : ℕ) → d < x.disks → t < x.sectors d → IsSingle (x.held d t)
+
+-- contents with targets written whose places are those of a state
+abbrev pub replayed_on : Disks → State → List Target → Image → Image
+replayed_on disks s xs c = put disks.sectors (filter_map (landed disks (identities_of disks c) (seat_of s disks (identities_of disks c))) xs) c
+
+-- a gate is as it was, or closed on a disk that has the same place by both states
+pub record IsClosedOn (before s : State) (x y : Seen) (d : ℕ) : Type 0 where
+  pub place : ℕ
+  pub was : seat_of before (disks_of x) (identities_of (disks_of x) (now_in x)) place ≡ Some d
+  pub is : seat_of s (disks_of x) (identities_of (disks_of x) (now_in x)) place ≡ Some d
+  pub room : arrays_first ≤ x.sectors d
+  pub gate : Gate
+  pub has : gate_of (now_in y d drive_gate) ≡ Some gate
+  pub closed : gate.is_open ≡ false
+
+-- The targets are written where the drives have them, and all else is as it was but for gates.
+pub record IsReplayed (x y : Seen) (before s : State) (xs : List Target) : Type 0 where
+  pub contents : (d t : ℕ) → d < x.disks → t < x.sectors d → t ≢ drive_gate → now_in y d t ≡ replayed_on (disks_of x) s xs (now_in x) d t
+  pub single : (d t : ℕ) → d < x.disks → t < x.sectors d → t ≢ drive_gate → IsSingle (x.held d t) → IsSingle (y.held d t)
+  pub gates : (d : ℕ) → d < x.disks → drive_gate < x.sectors d → (now_in y d drive_gate ≡ now_in x d drive_gate) ⊎ IsClosedOn before s x y d
+
+-- the places of a list whose disk refused a call
+abbrev pub HaveCause : Seen → Seen → List Known → State → List ℕ → Type 0
+HaveCause x y known s places = (p : ℕ) → names places p ≡ true → (d : ℕ) × (seat_by s known p ≡ Some d) × Rose (x.faults d) (y.faults d)

@@ -1,0 +1,143 @@
+//! A pool at rest: its pending record is replayed.
+
+ghost use Rattle.std.specs.Prelude.{◌≡◌, ◌<◌, ◌^◌, ◌==◌, ◌&&◌, ◌||◌, ℕ, List, true, false, length, [], Some};
+ghost use Rattle.std.specs.List.{list_all};
+ghost use Rattle.rack.specs.Values.{Keeps};
+ghost use Rattle.rack.specs.Seen.{IsLive};
+ghost use Rattle.rack.specs.Sequences.{WritesOnly};
+ghost use Rattle.slice_rack.specs.Slices.{seat_of as has_seat};
+ghost use Rattle.slice_rack.specs.SliceRack.{tables, below_of};
+ghost use Rattle.slice_rack.specs.Sliced.{slices_of};
+ghost use Rattle.array_image.specs.Places.{arrays_first};
+ghost use Rattle.array_image.specs.Record.{is_target};
+ghost use Rattle.pool_image.specs.Disks.{disks_of, identities_of};
+ghost use Rattle.commit_log.specs.View.{names, settled};
+ghost use Rattle.pool_scan.specs.Scanning.{AllTold, IsUnfaulted, now_in};
+ghost use Rattle.pool_scan.specs.Choosing.{AreOf, seat_by};
+ghost use Rattle.assembler.specs.Standing.{IsLasting};
+ghost use Rattle.assembler.specs.Resting.{drive_gate, IsOfDrive, IsReplayed, HaveCause};
+
+use crate::laying::seat_drives;
+use crate::members::{lay_drives, push_unless};
+use commit_log::Log;
+use pool_scan::Scan;
+use pool_state::State;
+use rack::{Places, Rack};
+use slice_rack::SliceRack;
+
+/// Whether a list has this place.
+fn is_among(places: &Places, place: u32) -> bool
+    ensures { result ≡ names places.now.items place }
+{
+    places.contains(&place)
+}
+
+/// Whether a place of a list has the same disk by two states.
+fn is_kept(scan: &Scan, before: &State, state: &State, on: &Places, place: u32) -> bool
+    requires { length scan.now.disks.items < 2 ^ 32 }
+    ensures { result ≡ true
+        → (names on.now.items place ≡ true) × (seat_by before.now scan.now.disks.items place ≡ seat_by state.now scan.now.disks.items place) }
+{
+    is_among(on, place) && scan.seat(before, place) == scan.seat(state, place)
+}
+
+/// The places of a list that have the disk that they had before, where their gates were found to be well formed.
+fn judged(scan: &Scan, before: &State, state: &State, on: &Places) -> Places
+    requires { length scan.now.disks.items < 2 ^ 32 }
+    ensures { (p : ℕ) → names result.items p ≡ true
+        → (names on.now.items p ≡ true) × (seat_by before.now scan.now.disks.items p ≡ seat_by state.now scan.now.disks.items p) }
+{
+    let mut places = Places::new();
+    for place in 0..16 {
+        let kept = is_kept(scan, before, state, on, place);
+        push_unless(&mut places, place, !kept);
+    }
+    places
+}
+
+/// The places whose gates are closed: none where a disk has refused a call.
+fn closing_of(
+    whole: bool,
+    unread: &Places,
+    scan: &Scan,
+    before: &State,
+    state: &State,
+    on: &Places,
+) -> Places
+    requires { length scan.now.disks.items < 2 ^ 32 }
+    ensures { (p : ℕ) → names result.items p ≡ true
+        → (names on.now.items p ≡ true) × (seat_by before.now scan.now.disks.items p ≡ seat_by state.now scan.now.disks.items p) }
+{
+    if whole && unread.is_empty() {
+        judged(scan, before, state, on)
+    } else {
+        Places::new()
+    }
+}
+
+/// Whether a place stands in one of two lists.
+fn is_in_either(first: &Places, second: &Places, place: u32) -> bool
+    ensures { result ≡ (names first.now.items place || names second.now.items place) }
+{
+    is_among(first, place) || is_among(second, place)
+}
+
+/// The places of two lists.
+fn both(first: &Places, second: &Places) -> Places
+    ensures either { (p : ℕ) → p < 16 → names result.items p ≡ (names first.now.items p || names second.now.items p) }
+    ensures few { (p : ℕ) → names result.items p ≡ true → p < 16 }
+{
+    let mut places = Places::new();
+    for place in 0..16 {
+        let either = is_in_either(first, second, place);
+        push_unless(&mut places, place, !either);
+    }
+    places
+}
+
+/// The disks once a record was replayed.
+#[derive(Drop)]
+pub(crate) struct Replayed<R> {
+    pub(crate) rack: R,
+    pub(crate) log: Log,
+    /// The places whose disk refused a call.
+    pub(crate) lost: Places,
+}
+
+/// Replays the pending record on the drives of a state, each slice as its drive's table has it. Gates are closed only where `whole`
+/// says that no disk has refused a call so far, and where none does here: else the next commit takes the record's place.
+pub(crate) fn replay_on<R: Rack>(
+    rack: R,
+    log: Log,
+    scan: &Scan,
+    before: &State,
+    state: &State,
+    whole: bool,
+) -> Replayed<R>
+    requires fit { (R.seen rack).fit }
+    requires small { (d : ℕ) → d < (R.seen rack).disks → (R.seen rack).sectors d < 2 ^ 48 }
+    requires count { length scan.now.disks.items ≡ (R.seen rack).disks }
+    requires few { length scan.now.disks.items < 2 ^ 32 }
+    ensures only { WritesOnly (R.seen rack) (R.seen result.rack) (IsOfDrive (R.seen rack) scan.now.disks.items state.now) }
+    // Halves of logs stay as they are.
+    ensures halves { (d t : ℕ) → IsLive (R.seen rack) (R.seen result.rack) d t → drive_gate < t → t < arrays_first
+        → list_all is_target log.pending ≡ true → Keeps ((R.seen rack).held d t) ((R.seen result.rack).held d t) }
+    ensures replayed { AllTold (R.seen rack) → IsLasting (R.seen rack) → IsUnfaulted (R.seen rack) (R.seen result.rack)
+        → AreOf (disks_of (R.seen rack)) (identities_of (disks_of (R.seen rack)) (now_in (R.seen rack))) scan.now.disks.items
+        → list_all is_target log.pending ≡ true
+        → IsReplayed (R.seen rack) (R.seen result.rack) before.now state.now log.pending }
+    ensures log { result.log ≡ settled log }
+    ensures runs { R.runs rack result.rack }
+{
+    let mut log = log;
+    let mut slices = SliceRack::new(rack);
+    let on = seat_drives(&mut slices, scan, state);
+    let unread = lay_drives(&mut slices, scan, state);
+    let closing = closing_of(whole, &unread, scan, before, state, &on);
+    let gone = log.replay(&mut slices, &closing);
+    Replayed {
+        rack: slices.into_inner(),
+        log,
+        lost: both(&unread, &gone),
+    }
+}
