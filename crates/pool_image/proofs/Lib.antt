@@ -1,5 +1,7 @@
 pub mod Truths
 pub mod Composed
+pub mod Identities
+pub mod Founds
 mod SeatExamples
 mod SoundExamples
 mod VolumeExamples
