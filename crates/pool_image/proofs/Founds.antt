@@ -17,16 +17,7 @@ use Rattle.pool_image.specs.Replay.{Extent}
 use Rattle.pool_image.specs.Drives.{Found, end_of, extent_from, truth_from, slices_from, drive_sector, first_of, extent_of, slices_of}
 use Rattle.pool_image.specs.Volumes.{Arrays, first_bad, group_in}
 use Rattle.pool_image.specs.Meaning.{Part, Refusal, absent, damaged, too_few, dirty_degraded, bad_volume, arrays_of, truth_of, shape_of, super_at, is_member, has_slice, kind_of, has_slice_of, has_table, has_log, has_supers, in_table, in_state, in_log, in_superblock, damage_on, damage_of, first_damaged, absent_count, lacking_of, is_too_few, is_dirty_degraded, arrays_held, array_sectors, joined_arrays, refused_by, Volume, volumes_by, group_of, volumes_of}
-use Rattle.pool_image.specs.Alike.{drive_gate}
-
--- the same pool: as the state and the seats are, so is what the seated disks say and hold but for gates, and which logs are well formed
-pub record IsSamePool (f g : Found) : Type 0 where
-  pub disks : g.disks ≡ f.disks
-  pub state : g.state ≡ f.state
-  pub seats : (p : ℕ) → g.seats p ≡ f.seats p
-  pub identities : (p d : ℕ) → f.seats p ≡ Some d → g.identities d ≡ f.identities d
-  pub contents : (p d t : ℕ) → f.seats p ≡ Some d → t < f.disks.sectors d → t ≢ drive_gate → g.contents d t ≡ f.contents d t
-  pub logs : (p d : ℕ) → f.seats p ≡ Some d → has_log g p ≡ has_log f p
+use Rattle.pool_image.specs.Alike.{drive_gate, IsSamePool}
 
 -- the table of a drive, by the extents of slices and the arrays that it is a member of
 abbrev is_table_by : (ℕ → Option Extent) → (ℕ → Bool) → Option (List ℕ) → ℕ → ℕ → Table → Bool
