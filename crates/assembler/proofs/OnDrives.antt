@@ -40,7 +40,8 @@ use Rattle.assembler.proofs.Meant.{none_listed}
 use Rattle.assembler.specs.Laying.{laid_sectors, IsLaidBelow}
 use Rattle.assembler.specs.Members.{Lies, IsCutBelow}
 use Rattle.assembler.specs.Standing.{IsLasting}
-use Rattle.assembler.specs.Resting.{drive_gate, IsOfDrive, replayed_on, IsClosedOn, IsReplayed}
+use Rattle.pool_image.specs.Alike.{drive_gate}
+use Rattle.assembler.specs.Resting.{IsOfDrive, replayed_on, IsClosedOn, IsReplayed}
 
 -- The parts of a replay: seats and log slices, members' slices by tables, and the log's call.
 pub record OnDrives (x w y : Seen) (known : List Known) (s : State) (t u : Slices) (on unread closing lost : List ℕ) (l : LogView) : Type 0 where
@@ -348,6 +349,41 @@ pub all_stays : {x w y : Seen} {known : List Known} {s : State} {t u : Slices} {
     → OnDrives x w y known s t u on unread closing lost l → Stays x y
 all_stays parts = stays_then parts.reads.stays parts.apart.stays
 
+-- gates and halves of logs have no target
+pub no_target : {x w y : Seen} {known : List Known} {s : State} {t u : Slices} {on unread closing lost : List ℕ} {l : LogView}
+    → OnDrives x w y known s t u on unread closing lost l → list_all is_target l.pending ≡ true
+    → (d i : ℕ) → state_sector < i → i < arrays_first → look (filter_map (landing u) l.pending) d i ≡ None
+no_target {x} {w} {y} {known} {s} {t} {u} {on} {unread} {closing} {lost} {l} parts valid d i past before = none (sliced_or u d i (past_none parts))
+  where
+    none : ((is : (v : List ℕ) → IsSliced u d i v) × ((v : List ℕ) → (is v).slice < 272)) ⊎ ((v : List ℕ) → IsSliced u d i v → ⊥)
+        → look (filter_map (landing u) l.pending) d i ≡ None
+    none (inr nowhere) =
+        look_nowhere u l.pending d i (λ k j inside disk sector. nowhere [] (record { slice = k; at = j; within = inside; disk_is = disk; sector_is = sector }))
+    none (inl some) =
+        let is : IsSliced u d i [] = some.0 [] in
+        ap₂ (λ e j. look (filter_map (landing u) l.pending) e j) is.disk_is is.sector_is
+        ∙ look_landed u parts.orderly l.pending is.slice is.at is.within
+        ∙ elim (cases_eq (slice_of is.slice) 0) [
+          | inl log ↦
+              let first : first_of u is.slice ≡ state_sector = log_first parts is.slice log (omega (arith, is.within)) in
+              of_look log (omega (arith, first, is.sector_is, past)) (look l.pending is.slice is.at) refl
+          | inr member ↦
+              let within = parts.cut.within is.slice (omega (arith, member)) (omega (arith, is.within)) in
+              absurd (omega (arith, within.behind, is.sector_is, before))
+        ]
+      where
+        of_look : slice_of (some.0 []).slice ≡ 0 → 0 < (some.0 []).at → (o : Option (List ℕ)) → look l.pending (some.0 []).slice (some.0 []).at ≡ o
+            → look l.pending (some.0 []).slice (some.0 []).at ≡ None
+        of_look log behind None is = is
+        of_look log behind (Some v) is = absurd (valid_apart l.pending (some.0 []).slice (some.0 []).at v valid is (log, behind))
+
+-- halves of logs keep their values
+pub halves_kept : {x w y : Seen} {known : List Known} {s : State} {t u : Slices} {on unread closing lost : List ℕ} {l : LogView}
+    → OnDrives x w y known s t u on unread closing lost l → list_all is_target l.pending ≡ true
+    → (d i : ℕ) → IsLive x y d i → drive_gate < i → i < arrays_first → Keeps (x.held d i) (y.held d i)
+halves_kept parts valid d i live past before =
+    untouched parts d i live (λ same. absurd (omega (arith, same, past))) (no_target parts valid d i (omega (arith, past)) before)
+
 pub replayed_drives : {x w y : Seen} {known : List Known} {before s : State} {t u : Slices} {on unread closing lost : List ℕ} {l : LogView}
     → OnDrives x w y known s t u on unread closing lost l → AllTold x → IsLasting x → IsUnfaulted x y
     → AreOf (disks_of x) (identities_of (disks_of x) (now_in x)) known
@@ -358,6 +394,7 @@ replayed_drives {x} {w} {y} {known} {before} {s} {t} {u} {on} {unread} {closing}
   contents = λ d i disk sector no_gate.
       contents d i disk sector no_gate (look (filter_map (landing u) l.pending) d i) refl;
   single = λ d i disk sector no_gate is. single d i disk sector no_gate is (look (filter_map (landing u) l.pending) d i) refl;
+  no_gate = λ d disk there. put_is d drive_gate there ∙ ap (λ o. unwrap_or o (now_in x d drive_gate)) (no_target parts valid d drive_gate (omega arith) (omega arith));
   gates = λ d disk there. gates d disk there;
 }
   where
@@ -490,35 +527,6 @@ pub only_drives : {x w y : Seen} {known : List Known} {s : State} {t u : Slices}
 only_drives {x} {w} {y} {known} {s} {t} {u} parts =
     only_then (IsOfDrive x known s) (only_quiet (IsOfDrive x known s) parts.reads.stays parts.reads.keeps)
     (only_weaker (IsSliced u) (IsOfDrive x known s) (λ d i v is. of_drive parts d i v is) parts.apart)
-
--- halves of logs keep their values
-pub halves_kept : {x w y : Seen} {known : List Known} {s : State} {t u : Slices} {on unread closing lost : List ℕ} {l : LogView}
-    → OnDrives x w y known s t u on unread closing lost l → list_all is_target l.pending ≡ true
-    → (d i : ℕ) → IsLive x y d i → drive_gate < i → i < arrays_first → Keeps (x.held d i) (y.held d i)
-halves_kept {x} {w} {y} {known} {s} {t} {u} {on} {unread} {closing} {lost} {l} parts valid d i live past before =
-    untouched parts d i live (λ same. absurd (omega (arith, same, past))) (none (sliced_or u d i (past_none parts)))
-  where
-    none : ((is : (v : List ℕ) → IsSliced u d i v) × ((v : List ℕ) → (is v).slice < 272)) ⊎ ((v : List ℕ) → IsSliced u d i v → ⊥)
-        → look (filter_map (landing u) l.pending) d i ≡ None
-    none (inr nowhere) =
-        look_nowhere u l.pending d i (λ k j inside disk sector. nowhere [] (record { slice = k; at = j; within = inside; disk_is = disk; sector_is = sector }))
-    none (inl some) =
-        let is : IsSliced u d i [] = some.0 [] in
-        ap₂ (λ e j. look (filter_map (landing u) l.pending) e j) is.disk_is is.sector_is
-        ∙ look_landed u parts.orderly l.pending is.slice is.at is.within
-        ∙ elim (cases_eq (slice_of is.slice) 0) [
-          | inl log ↦
-              let first : first_of u is.slice ≡ state_sector = log_first parts is.slice log (omega (arith, is.within)) in
-              of_look log (omega (arith, first, is.sector_is, past)) (look l.pending is.slice is.at) refl
-          | inr member ↦
-              let within = parts.cut.within is.slice (omega (arith, member)) (omega (arith, is.within)) in
-              absurd (omega (arith, within.behind, is.sector_is, before))
-        ]
-      where
-        of_look : slice_of (some.0 []).slice ≡ 0 → 0 < (some.0 []).at → (o : Option (List ℕ)) → look l.pending (some.0 []).slice (some.0 []).at ≡ o
-            → look l.pending (some.0 []).slice (some.0 []).at ≡ None
-        of_look log behind None is = is
-        of_look log behind (Some v) is = absurd (valid_apart l.pending (some.0 []).slice (some.0 []).at v valid is (log, behind))
 
 -- by the calls of a replay
 pub on_drives : {R : Type 0} (seen : R → Seen) (r0 r1 r2 r3 r4 r5 : R) (own : Type 0) (known : List Known) (s : State) (t u v : Slices) (on unread closing lost : List ℕ) (l : LogView)

@@ -8,15 +8,12 @@ use Rattle.pool_state.specs.declared.contents.State.{State}
 use Rattle.array_image.specs.Places.{state_sector, arrays_first}
 use Rattle.array_image.specs.Record.{Gate, gate_sector, gate_of}
 use Rattle.pool_image.specs.Disks.{Disks, disks_of, identities_of, seat_of}
-use Rattle.pool_image.specs.Replay.{landed}
+use Rattle.pool_image.specs.Replay.{Standing, landed, written}
+use Rattle.pool_image.specs.Alike.{drive_gate}
 use Rattle.commit_log.specs.View.{names}
 use Rattle.pool_scan.specs.declared.Known.{Known}
 use Rattle.pool_scan.specs.Scanning.{now_in}
 use Rattle.pool_scan.specs.Choosing.{seat_by}
-
--- where the gate stands on a drive
-abbrev pub drive_gate : ℕ
-drive_gate = 2049
 
 -- a sector that a replay may write: of a drive of the state, in its log slice or in the arrays' part of its disk
 pub record IsOfDrive (x : Seen) (known : List Known) (s : State) (d t : ℕ) (v : List ℕ) : Type 0 where
@@ -47,8 +44,25 @@ pub record IsClosedOn (before s : State) (x y : Seen) (d : ℕ) : Type 0 where
 pub record IsReplayed (x y : Seen) (before s : State) (xs : List Target) : Type 0 where
   pub contents : (d t : ℕ) → d < x.disks → t < x.sectors d → t ≢ drive_gate → now_in y d t ≡ replayed_on (disks_of x) s xs (now_in x) d t
   pub single : (d t : ℕ) → d < x.disks → t < x.sectors d → t ≢ drive_gate → IsSingle (x.held d t) → IsSingle (y.held d t)
+  pub no_gate : (d : ℕ) → d < x.disks → drive_gate < x.sectors d → replayed_on (disks_of x) s xs (now_in x) d drive_gate ≡ now_in x d drive_gate
   pub gates : (d : ℕ) → d < x.disks → drive_gate < x.sectors d → (now_in y d drive_gate ≡ now_in x d drive_gate) ⊎ IsClosedOn before s x y d
 
 -- the places of a list whose disk refused a call
 abbrev pub HaveCause : Seen → Seen → List Known → State → List ℕ → Type 0
 HaveCause x y known s places = (p : ℕ) → names places p ≡ true → (d : ℕ) × (seat_by s known p ≡ Some d) × Rose (x.faults d) (y.faults d)
+
+-- a gate was closed that had been well formed: it is that of a place of the state from before
+pub record IsShutOn (before : Standing) (a b : Seen) (d : ℕ) : Type 0 where
+  pub place : ℕ
+  pub seat : seat_of before.state (disks_of a) before.identities place ≡ Some d
+  pub room : arrays_first ≤ a.sectors d
+  pub gate : Gate
+  pub has : gate_of (now_in b d drive_gate) ≡ Some gate
+  pub closed : gate.is_open ≡ false
+
+-- The disks hold what they held with the pending record written, but for gates: none of them was opened, and none was mended.
+pub record Rests (a b : Seen) (before : Standing) : Type 0 where
+  pub contents : (d t : ℕ) → d < a.disks → t < a.sectors d → t ≢ drive_gate → now_in b d t ≡ written (disks_of a) before (now_in a) d t
+  pub single : (d t : ℕ) → d < a.disks → t < a.sectors d → t ≢ drive_gate → IsSingle (a.held d t) → IsSingle (b.held d t)
+  pub no_gate : (d : ℕ) → d < a.disks → drive_gate < a.sectors d → written (disks_of a) before (now_in a) d drive_gate ≡ now_in a d drive_gate
+  pub gates : (d : ℕ) → d < a.disks → drive_gate < a.sectors d → (now_in b d drive_gate ≡ now_in a d drive_gate) ⊎ IsShutOn before a b d

@@ -15,7 +15,8 @@ ghost use Rattle.commit_log.specs.View.{names, settled};
 ghost use Rattle.pool_scan.specs.Scanning.{AllTold, IsUnfaulted, now_in};
 ghost use Rattle.pool_scan.specs.Choosing.{AreOf, seat_by};
 ghost use Rattle.assembler.specs.Standing.{IsLasting};
-ghost use Rattle.assembler.specs.Resting.{drive_gate, IsOfDrive, IsReplayed, HaveCause};
+ghost use Rattle.pool_image.specs.Alike.{drive_gate};
+ghost use Rattle.assembler.specs.Resting.{IsOfDrive, IsReplayed, HaveCause};
 
 use crate::laying::seat_drives;
 use crate::members::{lay_drives, push_unless};

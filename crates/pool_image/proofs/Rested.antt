@@ -14,7 +14,7 @@ use Rattle.pool_image.specs.Disks.{Disks, Identities, identities_of, newest, sea
 use Rattle.pool_image.specs.Replay.{Extent, Standing, log_extent, logs_of, landed, brought_state, standing, standing_by, written}
 use Rattle.pool_image.specs.Drives.{Found, found_by, found, drive_sector, slices_from, extent_of, slices_of}
 use Rattle.pool_image.specs.Meaning.{Refusal, no_pool, two_pools, has_log, has_other_pool, refused_by, refused_at, refusal_of, Volume, volumes_of, meaning}
-use Rattle.pool_image.specs.Alike.{drive_gate, IsSameButGates, IsSamePool, is_bad_block, IsRested}
+use Rattle.pool_image.specs.Alike.{drive_gate, IsSameButGates, IsSamePool, is_bad_block, IsRested, MeansTheSame}
 use Rattle.pool_image.proofs.Identities.{newest_same, seat_same, seat_inside}
 use Rattle.pool_image.proofs.Founds.{refused_same, volumes_same}
 
@@ -188,27 +188,14 @@ module _ (disks : Disks) (c e : Image) (before after : Standing) (rests : IsRest
   refusal_same =
       ap (λ o. option_map_or (refused_at disks e) o (Some no_pool)) rests.stands_now
       ∙ ap₂ (λ b (o : Option Refusal). if b then Some two_pools else o) rests.pools
-      (ap (λ o. option_map_or refused_by o (Some no_pool)) found_now ∙ refused_same_some (refused_same f g same_pool) ∙ sym (ap (λ o. option_map_or refused_by o (Some no_pool)) found_before))
+      (ap (λ o. option_map_or refused_by o (Some no_pool)) found_now ∙ refused_same f g same_pool ∙ sym (ap (λ o. option_map_or refused_by o (Some no_pool)) found_before))
       ∙ sym (ap (λ o. option_map_or (refused_at disks c) o (Some no_pool)) rests.stands)
-    where
-      refused_same_some : refused_by g ≡ refused_by f → refused_by g ≡ refused_by f
-      refused_same_some same = same
 
   meaning_same : meaning disks e ≡ meaning disks c
   unfolding meaning
   meaning_same =
       ap₂ (λ (why : Option Refusal) (volumes : Option (List Volume)). option_map_or (λ w. None) why volumes) refusal_same
       (ap (option_map volumes_of) found_now ∙ ap Some (volumes_same f g same_pool) ∙ sym (ap (option_map volumes_of) found_before))
-
--- the same pool, refused for the same, with the same volumes
-pub record MeansTheSame (disks : Disks) (c e : Image) : Type 0 where
-  pub before : Found
-  pub now : Found
-  pub found_before : found disks c ≡ Some before
-  pub found_now : found disks e ≡ Some now
-  pub pool : IsSamePool before now
-  pub refusal : refusal_of disks e ≡ refusal_of disks c
-  pub meaning : meaning disks e ≡ meaning disks c
 
 pub rested_means : (disks : Disks) (c e : Image) (before after : Standing) → IsRested disks c e before after → MeansTheSame disks c e
 rested_means disks c e before after rests =

@@ -5,8 +5,8 @@ use Rattle.array_image.specs.Record.{gate_of, is_there, pending_at, is_bad_log}
 use Rattle.array_image.specs.States.{current_places}
 use Rattle.pool_image.specs.Disks.{Disks, identities_of}
 use Rattle.pool_image.specs.Replay.{Standing, standing, written}
-use Rattle.pool_image.specs.Drives.{Found}
-use Rattle.pool_image.specs.Meaning.{has_log, has_other_pool}
+use Rattle.pool_image.specs.Drives.{Found, found}
+use Rattle.pool_image.specs.Meaning.{has_log, has_other_pool, refusal_of, meaning}
 
 -- where the gate stands on a drive
 abbrev pub drive_gate : ℕ
@@ -44,3 +44,13 @@ pub record IsRested (disks : Disks) (c e : Image) (before after : Standing) : Ty
   pub gates : (d : ℕ) → d < disks.count → drive_gate < disks.sectors d → is_bad_block (e d drive_gate) ≡ is_bad_block (written disks before c d drive_gate)
   pub logs : (p : ℕ) → is_bad_log (current_places before.state) before.logs p ≡ false
   pub pools : has_other_pool disks after ≡ has_other_pool disks before
+
+-- the same pool, refused for the same, with the same volumes
+pub record MeansTheSame (disks : Disks) (c e : Image) : Type 0 where
+  pub before : Found
+  pub now : Found
+  pub found_before : found disks c ≡ Some before
+  pub found_now : found disks e ≡ Some now
+  pub pool : IsSamePool before now
+  pub refusal : refusal_of disks e ≡ refusal_of disks c
+  pub meaning : meaning disks e ≡ meaning disks c
