@@ -1,5 +1,5 @@
 -- A replay on slices that are cut by the drives' tables, as it is on the disks.
-use Rattle.std.proofs.Common.{◌≡◌, ◌≢◌, ◌⊎◌, ℕ, zero, suc, ◌+◌, ◌-◌, ◌<◌, ◌≤◌, ◌==◌, ◌&&◌, Bool, true, false, not, nat_lt, nat_le, if◌then◌else◌, List, [], ◌∷◌, Option, Some, None, unwrap_or, refl, sym, ap, ap₂, subst, ◌∙◌, inl, inr, arith, eq-eqb, lt-ltb, le-ltb, ltb-true}
+use Rattle.std.proofs.Common.{◌≡◌, ◌≢◌, ◌⊎◌, ℕ, zero, suc, ◌+◌, ◌-◌, ◌<◌, ◌≤◌, ◌==◌, ◌&&◌, ◌||◌, Bool, true, false, not, nat_lt, nat_le, if◌then◌else◌, List, [], ◌∷◌, Option, Some, None, unwrap_or, refl, sym, ap, ap₂, subst, ◌∙◌, inl, inr, arith, eq-eqb, lt-ltb, le-ltb, ltb-true}
 use Rattle.std.specs.Option.{option_map_or, option_and_then}
 use Rattle.std.specs.List.{filter_map, cons_option, list_all, range_with_len, slice_index}
 use Rattle.std.proofs.lemmas.List.Folds.{list_any_at}
@@ -546,3 +546,26 @@ on_drives seen r0 r1 r2 r3 r4 r5 own known s t u v on unread closing lost l one 
       subst (λ r. ReplayCall l closing lost (slices_of u (seen r3)) (slices_of u (seen r))) (sym five)
       (subst (λ k. ReplayCall l closing lost (slices_of u (seen r3)) (slices_of k (seen r4))) runs.tables call);
 }
+
+-- the places that went, each with its cause
+pub lost_cause : {x w y : Seen} {known : List Known} {s : State} {t u : Slices} {on unread closing lost : List ℕ} {l : LogView}
+    → OnDrives x w y known s t u on unread closing lost l → (p d : ℕ) → p < 16 → (names unread p || names lost p) ≡ true → seat_by s known p ≡ Some d
+    → Rose (x.faults d) (y.faults d)
+lost_cause {x} {w} {y} {known} {s} {t} {u} {on} {unread} {closing} {lost} parts p d few named seat =
+    of_list (names unread p) refl (subst (λ b. (b || names lost p) ≡ true) refl named)
+  where
+    has : seat_of u p ≡ Some d
+    has = parts.cut.seats p ∙ parts.laid.seats p few ∙ seat
+
+    some_same : (m n : ℕ) → Some m ≡ Some n → m ≡ n
+    some_same m n same = (cc)
+
+    of_list : (b : Bool) → names unread p ≡ b → (b || names lost p) ≡ true → Rose (x.faults d) (y.faults d)
+    of_list true is either =
+        let gone = parts.cut.refused p is in
+        let same : gone.1 ≡ d = some_same gone.1 d (sym gone.2 ∙ has) in
+        subst (λ e. Rose (x.faults e) (y.faults e)) same (rose_early x w y gone.1 parts.apart.stays gone.3)
+    of_list false is either =
+        let gone = parts.call.gone.cause p either in
+        let same : disk_of u gone.0 ≡ d = ap (λ q. unwrap_or (seat_of u q) 0) gone.1 ∙ ap (λ o. unwrap_or o 0) has in
+        subst (λ e. Rose (x.faults e) (y.faults e)) same (rose_later x w y (disk_of u gone.0) parts.reads.stays gone.2)

@@ -1,5 +1,5 @@
 -- What the disks of a pool hold once its pending record is replayed.
-use Rattle.std.specs.Prelude.{◌≡◌, ◌≢◌, ◌⊎◌, ℕ, ◌+◌, ◌<◌, ◌≤◌, Bool, true, false, ◌==◌, ◌&&◌, List, Option, Some}
+use Rattle.std.specs.Prelude.{◌≡◌, ◌≢◌, ◌⊎◌, ℕ, ◌+◌, ◌<◌, ◌≤◌, Bool, true, false, ◌==◌, ◌&&◌, List, slice_get, Option, Some}
 use Rattle.std.specs.List.{filter_map}
 use Rattle.rack.specs.Values.{IsSingle, Keeps}
 use Rattle.rack.specs.Seen.{Image, Seen, IsLive, Rose}
@@ -47,9 +47,21 @@ pub record IsReplayed (x y : Seen) (before s : State) (xs : List Target) : Type 
   pub no_gate : (d : ℕ) → d < x.disks → drive_gate < x.sectors d → replayed_on (disks_of x) s xs (now_in x) d drive_gate ≡ now_in x d drive_gate
   pub gates : (d : ℕ) → d < x.disks → drive_gate < x.sectors d → (now_in y d drive_gate ≡ now_in x d drive_gate) ⊎ IsClosedOn before s x y d
 
--- the places of a list whose disk refused a call
+-- the disk of each place of a list refused a call
 abbrev pub HaveCause : Seen → Seen → List Known → State → List ℕ → Type 0
-HaveCause x y known s places = (p : ℕ) → names places p ≡ true → (d : ℕ) × (seat_by s known p ≡ Some d) × Rose (x.faults d) (y.faults d)
+HaveCause x y known s places = (p d : ℕ) → names places p ≡ true → seat_by s known p ≡ Some d → Rose (x.faults d) (y.faults d)
+
+-- a disk refused a call of a scan
+abbrev pub IsFlagged : List Known → ℕ → Type 0
+IsFlagged known d = (k : Known) × (slice_get known d ≡ Some k) × (k.gone ≡ true)
+
+-- one of some places has this disk
+abbrev pub HasDisk : List Known → State → List ℕ → ℕ → Type 0
+HasDisk known s places d = (p : ℕ) × (names places p ≡ true) × (seat_by s known p ≡ Some d)
+
+-- a disk refused a call of a replay or before it
+abbrev pub HasRefused : List Known → State → List ℕ → State → List ℕ → ℕ → Type 0
+HasRefused known before gone s lost d = IsFlagged known d ⊎ (HasDisk known before gone d ⊎ HasDisk known s lost d)
 
 -- a gate was closed that had been well formed: it is that of a place of the state from before
 pub record IsShutOn (before : Standing) (a b : Seen) (d : ℕ) : Type 0 where

@@ -1,6 +1,6 @@
 //! A pool at rest: its pending record is replayed.
 
-ghost use Rattle.std.specs.Prelude.{◌≡◌, ◌<◌, ◌^◌, ◌==◌, ◌&&◌, ◌||◌, ℕ, List, true, false, length, [], Some};
+ghost use Rattle.std.specs.Prelude.{◌≡◌, ◌<◌, ◌⊎◌, ◌^◌, ◌==◌, ◌&&◌, ◌||◌, ℕ, List, true, false, length, [], Some};
 ghost use Rattle.std.specs.List.{list_all};
 ghost use Rattle.rack.specs.Values.{Keeps};
 ghost use Rattle.rack.specs.Seen.{IsLive};
@@ -16,7 +16,7 @@ ghost use Rattle.pool_scan.specs.Scanning.{AllTold, IsUnfaulted, now_in};
 ghost use Rattle.pool_scan.specs.Choosing.{AreOf, seat_by};
 ghost use Rattle.assembler.specs.Standing.{IsLasting};
 ghost use Rattle.pool_image.specs.Alike.{drive_gate};
-ghost use Rattle.assembler.specs.Resting.{IsOfDrive, IsReplayed, HaveCause};
+ghost use Rattle.assembler.specs.Resting.{IsOfDrive, IsReplayed, HaveCause, IsFlagged, HasDisk, HasRefused};
 
 use crate::laying::seat_drives;
 use crate::members::{lay_drives, push_unless};
@@ -96,6 +96,129 @@ fn both(first: &Places, second: &Places) -> Places
     places
 }
 
+/// Whether a disk refused a call of a scan.
+fn is_flagged(scan: &Scan, disk: u32) -> bool
+    ensures { result ≡ true → IsFlagged scan.now.disks.items disk }
+{
+    match scan.disks.as_slice().get(disk as usize) {
+        Some(known) => known.gone,
+        None => false,
+    }
+}
+
+/// Whether no disk refused a call of a scan.
+fn are_there(scan: &Scan) -> bool {
+    scan.disks.as_slice().iter().all(|known| !known.gone)
+}
+
+/// Whether a place of a list has this disk.
+fn is_disk_of(scan: &Scan, state: &State, places: &Places, place: u32, disk: u32) -> bool
+    requires { length scan.now.disks.items < 2 ^ 32 }
+    ensures { result ≡ true → (names places.now.items place ≡ true) × (seat_by state.now scan.now.disks.items place ≡ Some disk) }
+{
+    is_among(places, place) && scan.seat(state, place) == Some(disk)
+}
+
+/// Whether one of these places has this disk.
+fn has_disk(scan: &Scan, state: &State, places: &Places, disk: u32) -> bool
+    requires { length scan.now.disks.items < 2 ^ 32 }
+    ensures { result ≡ true → HasDisk scan.now.disks.items state.now places.now.items disk }
+{
+    for place in 0..16 {
+        if is_disk_of(scan, state, places, place, disk) {
+            return true;
+        }
+    }
+    false
+}
+
+/// Which disks have refused a call up to the end of a replay.
+#[derive(Drop)]
+pub(crate) struct Refused {
+    /// What was read before it.
+    pub(crate) scan: Scan,
+    /// The state from before, and the places by it that had gone.
+    pub(crate) before: State,
+    pub(crate) gone: Places,
+    /// The state by which the record's places were seated, and those of them that went.
+    pub(crate) seated: State,
+    pub(crate) lost: Places,
+}
+
+impl Refused {
+    /// Whether a disk has refused a call.
+    fn has(&self, disk: u32) -> bool
+        requires { length self.now.scan.disks.items < 2 ^ 32 }
+        ensures { result ≡ true → HasRefused self.now.scan.disks.items self.now.before self.now.gone.items self.now.seated self.now.lost.items disk }
+    {
+        is_flagged(&self.scan, disk)
+            || has_disk(&self.scan, &self.before, &self.gone, disk)
+            || has_disk(&self.scan, &self.seated, &self.lost, disk)
+    }
+}
+
+/// Whether the disk of a place refused a call of a scan.
+fn is_seat_flagged(scan: &Scan, state: &State, place: u32) -> bool
+    requires { length scan.now.disks.items < 2 ^ 32 }
+    ensures { result ≡ true → (d : ℕ) → seat_by state.now scan.now.disks.items place ≡ Some d → IsFlagged scan.now.disks.items d }
+{
+    match scan.seat(state, place) {
+        Some(disk) => is_flagged(scan, disk),
+        None => false,
+    }
+}
+
+/// Whether a place has gone, or its disk refused a call of the scan.
+fn has_gone(scan: &Scan, state: &State, gone: &Places, place: u32) -> bool
+    requires { length scan.now.disks.items < 2 ^ 32 }
+    ensures { result ≡ true → (d : ℕ) → seat_by state.now scan.now.disks.items place ≡ Some d
+        → (names gone.now.items place ≡ true) ⊎ IsFlagged scan.now.disks.items d }
+{
+    is_among(gone, place) || is_seat_flagged(scan, state, place)
+}
+
+/// The places that have gone, and those whose disk refused a call of the scan.
+pub(crate) fn gone_of(scan: &Scan, state: &State, gone: &Places) -> Places
+    requires { length scan.now.disks.items < 2 ^ 32 }
+    ensures { (p d : ℕ) → names result.items p ≡ true → seat_by state.now scan.now.disks.items p ≡ Some d
+        → (names gone.now.items p ≡ true) ⊎ IsFlagged scan.now.disks.items d }
+{
+    let mut places = Places::new();
+    for place in 0..16 {
+        let has_gone = has_gone(scan, state, gone, place);
+        push_unless(&mut places, place, !has_gone);
+    }
+    places
+}
+
+/// Whether the disk of a place has refused a call up to the end of a replay.
+fn has_refused(scan: &Scan, state: &State, refused: &Refused, place: u32) -> bool
+    requires few { length scan.now.disks.items < 2 ^ 32 }
+    requires early { length refused.now.scan.disks.items < 2 ^ 32 }
+    ensures { result ≡ true → (d : ℕ) → seat_by state.now scan.now.disks.items place ≡ Some d
+        → HasRefused refused.now.scan.disks.items refused.now.before refused.now.gone.items refused.now.seated refused.now.lost.items d }
+{
+    match scan.seat(state, place) {
+        Some(disk) => refused.has(disk),
+        None => false,
+    }
+}
+
+/// The places whose disk has.
+fn refused_of(scan: &Scan, state: &State, refused: &Refused) -> Places
+    requires few { length scan.now.disks.items < 2 ^ 32 }
+    requires early { length refused.now.scan.disks.items < 2 ^ 32 }
+    ensures { (p d : ℕ) → names result.items p ≡ true → seat_by state.now scan.now.disks.items p ≡ Some d
+        → HasRefused refused.now.scan.disks.items refused.now.before refused.now.gone.items refused.now.seated refused.now.lost.items d }
+{
+    let mut places = Places::new();
+    for place in 0..16 {
+        let has = has_refused(scan, state, refused, place);
+        push_unless(&mut places, place, !has);
+    }
+    places
+}
+
 /// The disks once a record was replayed.
 #[derive(Drop)]
 pub(crate) struct Replayed<R> {
@@ -127,6 +250,7 @@ pub(crate) fn replay_on<R: Rack>(
         → AreOf (disks_of (R.seen rack)) (identities_of (disks_of (R.seen rack)) (now_in (R.seen rack))) scan.now.disks.items
         → list_all is_target log.pending ≡ true
         → IsReplayed (R.seen rack) (R.seen result.rack) before.now state.now log.pending }
+    ensures lost { HaveCause (R.seen rack) (R.seen result.rack) scan.now.disks.items state.now result.lost.items }
     ensures log { result.log ≡ settled log }
     ensures runs { R.runs rack result.rack }
 {
