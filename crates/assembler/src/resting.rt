@@ -1,6 +1,6 @@
 //! A pool at rest: its pending record is replayed.
 
-ghost use Rattle.std.specs.Prelude.{◌≡◌, ◌<◌, ◌⊎◌, ◌^◌, ◌==◌, ◌&&◌, ◌||◌, ℕ, List, true, false, length, [], Some};
+ghost use Rattle.std.specs.Prelude.{◌≡◌, ◌<◌, ◌⊎◌, ◌^◌, ◌==◌, ◌&&◌, ◌||◌, ℕ, List, true, false, length, [], Some, unwrap_or};
 ghost use Rattle.std.specs.List.{list_all};
 ghost use Rattle.rack.specs.Values.{Keeps};
 ghost use Rattle.rack.specs.Seen.{IsLive};
@@ -16,10 +16,13 @@ ghost use Rattle.pool_scan.specs.Scanning.{AllTold, IsUnfaulted, now_in};
 ghost use Rattle.pool_scan.specs.Choosing.{AreOf, seat_by};
 ghost use Rattle.assembler.specs.Standing.{IsLasting};
 ghost use Rattle.pool_image.specs.Alike.{drive_gate};
+ghost use Rattle.pool_image.specs.Replay.{brought_state};
 ghost use Rattle.assembler.specs.Resting.{IsOfDrive, IsReplayed, HaveCause, IsFlagged, HasDisk, HasRefused};
 
+use crate::brought::brought_state as brought_by;
 use crate::laying::seat_drives;
 use crate::members::{lay_drives, push_unless};
+use crate::standing::{Standing, copy_of};
 use commit_log::Log;
 use pool_scan::Scan;
 use pool_state::State;
@@ -264,5 +267,62 @@ pub(crate) fn replay_on<R: Rack>(
         rack: slices.into_inner(),
         log,
         lost: both(&unread, &gone),
+    }
+}
+
+/// A pool at rest: what its disks say, with no record left to replay but where a log is damaged or a drive has gone.
+#[derive(Drop)]
+pub struct AtRest<R> {
+    /// The log slices of the current places, over the rack of the disks.
+    pub slices: SliceRack<R>,
+    /// What each disk says.
+    pub scan: Scan,
+    /// The state of highest epoch, of equal ones that of the lowest disk.
+    pub state: State,
+    /// The current places that have a log slice, the lowest first.
+    pub on: Places,
+    /// The log, which may have gates to close.
+    pub log: Log,
+    /// Whether a record is pending still: it is damaged, or a drive has gone and the next commit takes its place.
+    pub pending: bool,
+    /// The lowest current place whose gate or pending record isn't well formed.
+    pub damaged: Option<u32>,
+    /// The current places whose disk has refused a call.
+    pub gone: Places,
+}
+
+/// A pool of which nothing is to be replayed.
+fn as_it_stands<R: Rack>(found: Standing<R>) -> AtRest<R>
+    requires { length found.scan.disks.items < 2 ^ 32 }
+    ensures slices { result.slices ≡ found.slices }
+    ensures scan { result.scan ≡ found.scan }
+    ensures state { result.state ≡ found.state }
+    ensures on { result.on ≡ found.on }
+    ensures log { result.log ≡ found.log }
+    ensures pending { result.pending ≡ found.looked.pending }
+    ensures damaged { result.damaged ≡ found.looked.damaged }
+    ensures gone { (p d : ℕ) → names result.gone.items p ≡ true → seat_by found.state found.scan.disks.items p ≡ Some d
+        → (names found.looked.gone.items p ≡ true) ⊎ IsFlagged found.scan.disks.items d }
+{
+    let gone = gone_of(&found.scan, &found.state, &found.looked.gone);
+    AtRest {
+        slices: found.slices,
+        scan: found.scan,
+        state: found.state,
+        on: found.on,
+        log: found.log,
+        pending: found.looked.pending,
+        damaged: found.looked.damaged,
+        gone,
+    }
+}
+
+/// The state whose drives a pending record is for: that which it brings, or else the one that stands.
+fn seated_by(log: &Log, state: &State) -> State
+    ensures { result ≡ unwrap_or (brought_state log.now.pending) state.now }
+{
+    match brought_by(log) {
+        Some(brought) => brought,
+        None => copy_of(state),
     }
 }

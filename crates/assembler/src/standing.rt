@@ -101,7 +101,7 @@ pub(crate) fn look<R: Rack>(rack: R, scan: Scan, log: Log) -> Result<Standing<R>
     ensures laid { IfOk result (λ st. IsLaid (R.seen rack) st.scan.disks.items st.state (tables st.slices) st.on.items) }
     ensures looked { IfOk result (λ st. HasLooked (R.seen rack) (R.seen (below_of st.slices)) (tables st.slices) st.on.items st.looked.gone.items st.log st.looked.pending st.looked.damaged) }
     ensures meant { IfOk result (λ st. AllTold (R.seen rack) → IsUnfaulted (R.seen rack) (R.seen (below_of st.slices))
-        → StandsAs (R.seen rack) st.state (tables st.slices) st.log) }
+        → StandsAs (R.seen rack) st.state (tables st.slices) st.log st.looked.pending st.looked.damaged) }
     ensures runs { IfOk result (λ st. R.runs rack (below_of st.slices)) }
     ensures kept { IfErr result (λ back. OnlyReads (R.seen rack) (R.seen back)) }
     ensures none { IfErr result (λ back. IsCause (R.seen rack) (R.seen back) Refusal.NoPool) }
@@ -144,7 +144,7 @@ pub fn stand<R: Rack>(alloc: Global, rack: R) -> Result<Standing<R>, Back<R, Ref
     ensures looked { IfOk result (λ st. HasLooked (R.seen rack) (R.seen (below_of st.slices)) (tables st.slices) st.on.items st.looked.gone.items st.log st.looked.pending st.looked.damaged) }
     // Where no disk refused a call, all of it is as the meaning of images says.
     ensures meant { IfOk result (λ st. AllTold (R.seen rack) → IsUnfaulted (R.seen rack) (R.seen (below_of st.slices))
-        → StandsAs (R.seen rack) st.state (tables st.slices) st.log) }
+        → StandsAs (R.seen rack) st.state (tables st.slices) st.log st.looked.pending st.looked.damaged) }
     ensures single { IfOk result (λ st. AllTold (R.seen rack) → IsUnfaulted (R.seen rack) (R.seen (below_of st.slices))
         → has_other_pool (disks_of (R.seen rack)) (standing_by (disks_of (R.seen rack)) (now_in (R.seen rack)) st.state) ≡ false) }
     ensures runs { IfOk result (λ st. R.runs rack (below_of st.slices)) }
