@@ -3,6 +3,8 @@ mod Cut
 mod CutDrives
 mod Listed
 mod OnDrives
+mod Agreeing
+mod Again
 mod Laid
 mod Stood
 pub mod Meant

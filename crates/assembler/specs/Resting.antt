@@ -1,16 +1,17 @@
 -- What the disks of a pool hold once its pending record is replayed.
-use Rattle.std.specs.Prelude.{◌≡◌, ◌≢◌, ◌⊎◌, ℕ, ◌+◌, ◌<◌, ◌≤◌, Bool, true, false, ◌==◌, ◌&&◌, List, slice_get, Option, Some}
+use Rattle.std.specs.Prelude.{◌≡◌, ◌≢◌, ◌⊎◌, ℕ, ◌+◌, ◌<◌, ◌≤◌, Bool, true, false, ◌==◌, ◌&&◌, List, slice_get, Option, Some, None, is_some, unwrap_or}
 use Rattle.std.specs.List.{filter_map}
 use Rattle.rack.specs.Values.{IsSingle, Keeps}
 use Rattle.rack.specs.Seen.{Image, Seen, IsLive, Rose}
 use Rattle.rack.specs.Targets.{Target, put}
 use Rattle.pool_state.specs.declared.contents.State.{State}
 use Rattle.array_image.specs.Places.{state_sector, arrays_first}
-use Rattle.array_image.specs.Record.{Gate, gate_sector, gate_of}
+use Rattle.array_image.specs.Record.{Gate, gate_sector, gate_of, pending_at, damaged_log}
+use Rattle.array_image.specs.States.{current_places}
 use Rattle.pool_image.specs.Disks.{Disks, disks_of, identities_of, seat_of}
-use Rattle.pool_image.specs.Replay.{Standing, landed, written}
+use Rattle.pool_image.specs.Replay.{Standing, standing, standing_by, brought_state, landed, written}
 use Rattle.pool_image.specs.Alike.{drive_gate}
-use Rattle.commit_log.specs.View.{names}
+use Rattle.commit_log.specs.View.{LogView, names}
 use Rattle.pool_scan.specs.declared.Known.{Known}
 use Rattle.pool_scan.specs.Scanning.{now_in}
 use Rattle.pool_scan.specs.Choosing.{seat_by}
@@ -78,3 +79,15 @@ pub record Rests (a b : Seen) (before : Standing) : Type 0 where
   pub single : (d t : ℕ) → d < a.disks → t < a.sectors d → t ≢ drive_gate → IsSingle (a.held d t) → IsSingle (b.held d t)
   pub no_gate : (d : ℕ) → d < a.disks → drive_gate < a.sectors d → written (disks_of a) before (now_in a) d drive_gate ≡ now_in a d drive_gate
   pub gates : (d : ℕ) → d < a.disks → drive_gate < a.sectors d → (now_in b d drive_gate ≡ now_in a d drive_gate) ⊎ IsShutOn before a b d
+
+-- The pool stands so on what the disks hold now: its newest state, the record that is pending there, and no log is damaged where none
+-- is said to be.
+pub record StandsNow (b : Seen) (s : State) (m : LogView) (is_pending : Bool) (damaged : Option ℕ) : Type 0 where
+  pub stands : standing (disks_of b) (now_in b) ≡ Some (standing_by (disks_of b) (now_in b) s)
+  pub targets : m.pending ≡ (standing_by (disks_of b) (now_in b) s).targets
+  pub pending : is_pending ≡ is_some (pending_at (current_places s) (standing_by (disks_of b) (now_in b) s).logs)
+  pub whole : damaged ≡ None → damaged_log (current_places s) (standing_by (disks_of b) (now_in b) s).logs ≡ None
+
+-- the state whose drives a pending record is for
+abbrev pub seated_state : List Target → State → State
+seated_state xs s = unwrap_or (brought_state xs) s

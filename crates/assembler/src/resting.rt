@@ -1,6 +1,6 @@
 //! A pool at rest: its pending record is replayed.
 
-ghost use Rattle.std.specs.Prelude.{◌≡◌, ◌<◌, ◌⊎◌, ◌^◌, ◌==◌, ◌&&◌, ◌||◌, ℕ, List, true, false, length, [], Some, unwrap_or};
+ghost use Rattle.std.specs.Prelude.{◌≡◌, ◌<◌, ◌⊎◌, ◌^◌, ◌==◌, ◌&&◌, ◌||◌, ℕ, List, true, false, length, [], Some, unwrap_or, IfOk, IfErr};
 ghost use Rattle.std.specs.List.{list_all};
 ghost use Rattle.rack.specs.Values.{Keeps};
 ghost use Rattle.rack.specs.Seen.{IsLive};
@@ -14,15 +14,15 @@ ghost use Rattle.pool_image.specs.Disks.{disks_of, identities_of};
 ghost use Rattle.commit_log.specs.View.{names, settled};
 ghost use Rattle.pool_scan.specs.Scanning.{AllTold, IsUnfaulted, now_in};
 ghost use Rattle.pool_scan.specs.Choosing.{AreOf, seat_by};
-ghost use Rattle.assembler.specs.Standing.{IsLasting};
+ghost use Rattle.assembler.specs.Standing.{IsLasting, IsLaid};
 ghost use Rattle.pool_image.specs.Alike.{drive_gate};
 ghost use Rattle.pool_image.specs.Replay.{brought_state};
-ghost use Rattle.assembler.specs.Resting.{IsOfDrive, IsReplayed, HaveCause, IsFlagged, HasDisk, HasRefused};
+ghost use Rattle.assembler.specs.Resting.{IsOfDrive, IsReplayed, HaveCause, IsFlagged, HasDisk, HasRefused, StandsNow, seated_state};
 
 use crate::brought::brought_state as brought_by;
 use crate::laying::seat_drives;
 use crate::members::{lay_drives, push_unless};
-use crate::standing::{Standing, copy_of};
+use crate::standing::{Standing, copy_of, look};
 use commit_log::Log;
 use pool_scan::Scan;
 use pool_state::State;
@@ -325,4 +325,56 @@ fn seated_by(log: &Log, state: &State) -> State
         Some(brought) => brought,
         None => copy_of(state),
     }
+}
+
+/// Replays the record of a pool as it stands, and looks at the disks once more. It answers the rack alone where no disk has a state
+/// then. It takes no memory.
+fn replay_found<R: Rack>(found: Standing<R>, room: Scan) -> Result<AtRest<R>, R>
+    requires fit { (slices_of (tables found.slices) (R.seen (below_of found.slices))).fit }
+    requires count { length found.scan.disks.items ≡ (R.seen (below_of found.slices)).disks }
+    requires few { length found.scan.disks.items < 2 ^ 32 }
+    requires room { length room.disks.items ≡ (R.seen (below_of found.slices)).disks }
+    ensures fit { IfOk result (λ r. (slices_of (tables r.slices) (R.seen (below_of r.slices))).fit) }
+    ensures few { IfOk result (λ r. length r.scan.disks.items < 2 ^ 32) }
+    ensures only { IfOk result (λ r. WritesOnly (R.seen (below_of found.slices)) (R.seen (below_of r.slices))
+        (IsOfDrive (R.seen (below_of found.slices)) found.scan.disks.items (seated_state found.log.pending found.state))) }
+    ensures replayed { IfOk result (λ r. AllTold (R.seen (below_of found.slices)) → IsLasting (R.seen (below_of found.slices))
+        → IsUnfaulted (R.seen (below_of found.slices)) (R.seen (below_of r.slices))
+        → AreOf (disks_of (R.seen (below_of found.slices))) (identities_of (disks_of (R.seen (below_of found.slices))) (now_in (R.seen (below_of found.slices)))) found.scan.disks.items
+        → list_all is_target found.log.pending ≡ true
+        → IsReplayed (R.seen (below_of found.slices)) (R.seen (below_of r.slices)) found.state (seated_state found.log.pending found.state) found.log.pending) }
+    ensures stands { IfOk result (λ r. AllTold (R.seen (below_of found.slices)) → IsLasting (R.seen (below_of found.slices))
+        → IsUnfaulted (R.seen (below_of found.slices)) (R.seen (below_of r.slices))
+        → StandsNow (R.seen (below_of r.slices)) r.state r.log r.pending r.damaged) }
+    ensures laid { IfOk result (λ r. IsLaid (R.seen (below_of r.slices)) r.scan.disks.items r.state (tables r.slices) r.on.items) }
+    ensures runs { IfOk result (λ r. R.runs (below_of found.slices) (below_of r.slices)) }
+    ensures back { IfErr result (λ back. WritesOnly (R.seen (below_of found.slices)) (R.seen back)
+        (IsOfDrive (R.seen (below_of found.slices)) found.scan.disks.items (seated_state found.log.pending found.state))) }
+    ensures returned { IfErr result (λ back. R.runs (below_of found.slices) back) }
+{
+    let seated = seated_by(&found.log, &found.state);
+    let whole = found.looked.gone.is_empty() && are_there(&found.scan);
+    let done = replay_on(
+        found.slices.into_inner(),
+        found.log,
+        &found.scan,
+        &found.state,
+        &seated,
+        whole,
+    );
+    let again = match look(done.rack, room, done.log) {
+        Ok(again) => again,
+        Err(rack) => return Err(rack),
+    };
+    let refused = Refused {
+        scan: found.scan,
+        before: found.state,
+        gone: found.looked.gone,
+        seated,
+        lost: done.lost,
+    };
+    let early = refused_of(&again.scan, &again.state, &refused);
+    let mut rest = as_it_stands(again);
+    rest.gone = both(&rest.gone, &early);
+    Ok(rest)
 }
