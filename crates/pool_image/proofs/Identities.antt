@@ -2,7 +2,7 @@
 use Rattle.std.proofs.Common.{◌≡◌, ◌≢◌, ◌⊎◌, ℕ, zero, suc, ◌+◌, ◌-◌, ◌<◌, ◌≤◌, ◌==◌, ◌&&◌, ◌||◌, not, Bool, true, false, nat_lt, nat_le, bytes_eq, if◌then◌else◌, List, [], ◌∷◌, ◌++◌, map, Option, Some, None, option_map, refl, sym, ap, ap₂, ◌∙◌, inl, inr, arith, lt-ltb, le-ltb, ltb-true}
 use Rattle.std.specs.Option.{option_map_or}
 use Rattle.std.specs.Result.{result_ok}
-use Rattle.std.specs.List.{range_with_len, flat_map, list_all}
+use Rattle.std.specs.List.{range_with_len, flat_map, list_all, list_any}
 use Rattle.std.proofs.lemmas.Option.{none-some, cond_some}
 use Rattle.std.proofs.lemmas.Bool.{cases_Bool, cases_lt, cases_eq, both_ways, lt-leb, cond-true, cond-false}
 use Rattle.rack.specs.Seen.{Image}
@@ -178,3 +178,16 @@ seat_inside s disks i p d is = of_current (is_current s p) is
     of_current : (b : Bool) → (if b then option_map (λ k. k.disk) (foremost (λ k. k.epoch) (map (candidate s i p) (range_with_len 0 disks.count))) else None) ≡ Some d → d < disks.count
     of_current true at = of_foremost (foremost (λ k. k.epoch) (map (candidate s i p) (range_with_len 0 disks.count))) refl at
     of_current false at = absurd (none-some d at)
+
+any_same : (f g : ℕ → Bool) (a n : ℕ) → ((d : ℕ) → a ≤ d → d < a + n → f d ≡ g d) → list_any f (range_with_len a n) ≡ list_any g (range_with_len a n)
+any_same f g a zero same = refl
+any_same f g a (suc n) same =
+    ap₂ (λ x y. x || y) (same a (omega arith) (omega arith)) (any_same f g (a + 1) n (λ d from below. same d (omega (arith, from)) (omega (arith, below))))
+
+-- whether a disk has another pool's state
+pub other_same : (disks : Disks) (i j : Identities) → ((d : ℕ) → d < disks.count → i d ≡ j d) → (pool : List ℕ)
+    → list_any (λ d. option_map_or (λ copy. not (bytes_eq copy.state.pool.0 pool)) (i d).copied false) (all_disks disks)
+    ≡ list_any (λ d. option_map_or (λ copy. not (bytes_eq copy.state.pool.0 pool)) (j d).copied false) (all_disks disks)
+other_same disks i j same pool =
+    any_same _ _ 0 disks.count
+    (λ d from below. ap (λ (id : Identity). option_map_or (λ copy. not (bytes_eq copy.state.pool.0 pool)) id.copied false) (same d (omega (arith, below))))

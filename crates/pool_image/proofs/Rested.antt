@@ -14,8 +14,8 @@ use Rattle.pool_image.specs.Disks.{Disks, Identities, identities_of, newest, sea
 use Rattle.pool_image.specs.Replay.{Extent, Standing, log_extent, logs_of, landed, brought_state, standing, standing_by, written}
 use Rattle.pool_image.specs.Drives.{Found, found_by, found, drive_sector, slices_from, extent_of, slices_of}
 use Rattle.pool_image.specs.Meaning.{Refusal, no_pool, two_pools, has_log, has_other_pool, refused_by, refused_at, refusal_of, Volume, volumes_of, meaning}
-use Rattle.pool_image.specs.Alike.{drive_gate, IsSameButGates, IsSamePool, is_bad_block, IsRested, MeansTheSame}
-use Rattle.pool_image.proofs.Identities.{newest_same, seat_same, seat_inside}
+use Rattle.pool_image.specs.Alike.{drive_gate, Agree, IsSameButGates, IsSamePool, is_bad_block, IsRested, MeansTheSame}
+use Rattle.pool_image.proofs.Identities.{agree_identities, newest_same, seat_same, seat_inside, other_same}
 use Rattle.pool_image.proofs.Founds.{refused_same, volumes_same}
 
 -- ---- nothing pending
@@ -209,3 +209,88 @@ rested_means disks c e before after rests =
       refusal = refusal_same disks c e before after rests by.0 by.1 by.2;
       meaning = meaning_same disks c e before after rests by.0 by.1 by.2;
     }
+
+-- ---- contents that agree inside the disks
+
+module _ (disks : Disks) (c e : Image) (s : State) (stands : standing disks c ≡ Some (standing_by disks c s)) (stands_now : standing disks e ≡ Some (standing_by disks e s))
+    (agree : Agree disks e c) (logs : (standing_by disks e s).logs ≡ (standing_by disks c s).logs) (none : (standing_by disks c s).targets ≡ []) where
+  abbrev early : Found
+  early = record { disks = disks; before = standing_by disks c s; contents = c; identities = identities_of disks c; state = s; seats = seat_of s disks (identities_of disks c) }
+
+  abbrev late : Found
+  late = record { disks = disks; before = standing_by disks e s; contents = e; identities = identities_of disks e; state = s; seats = seat_of s disks (identities_of disks e) }
+
+  ids : (d : ℕ) → d < disks.count → identities_of disks e d ≡ identities_of disks c d
+  ids = agree_identities disks e c agree
+
+  newest_of : newest disks (identities_of disks c) ≡ Some s
+  newest_of =
+      let by = stood_by disks c (standing_by disks c s) stands in
+      by.1 ∙ ap (λ (x : Standing). Some x.state) (sym by.2)
+
+  late_seats : (p : ℕ) → seat_of s disks (identities_of disks e) p ≡ seat_of s disks (identities_of disks c) p
+  late_seats p = seat_same disks (identities_of disks e) (identities_of disks c) ids s p
+
+  late_block : (p d : ℕ) → early.seats p ≡ Some d → is_bad_gate (slices_of late) p ≡ is_bad_gate (slices_of early) p
+  late_block p d seat =
+      ap is_bad_block (gate_block late p)
+      ∙ ap (λ o. is_bad_block (option_map_or (λ d. if nat_lt drive_gate (disks.sectors d) then e d drive_gate else []) o [])) (late_seats p ∙ seat)
+      ∙ of_room (nat_lt drive_gate (disks.sectors d)) refl
+      ∙ sym (ap is_bad_block (gate_block early p) ∙ ap (λ o. is_bad_block (option_map_or (λ d. if nat_lt drive_gate (disks.sectors d) then c d drive_gate else []) o [])) seat)
+    where
+      of_room : (b : Bool) → nat_lt drive_gate (disks.sectors d) ≡ b → is_bad_block (if b then e d drive_gate else []) ≡ is_bad_block (if b then c d drive_gate else [])
+      of_room true room = ap is_bad_block (agree d drive_gate (seat_inside s disks (identities_of disks c) p d seat) (ltb-true drive_gate (disks.sectors d) room))
+      of_room false room = refl
+
+  late_pool : IsSamePool early late
+  late_pool = record {
+    disks = refl;
+    state = refl;
+    seats = late_seats;
+    identities = λ p d seat. ids d (seat_inside s disks (identities_of disks c) p d seat);
+    contents = λ p d t seat within no_gate. agree d t (seat_inside s disks (identities_of disks c) p d seat) within;
+    logs = λ p d seat. ap₂ (λ b (l : Image). not b && not (is_bad_log (current_places s) l p)) (late_block p d seat) logs;
+  }
+
+  late_targets : (standing_by disks e s).targets ≡ []
+  late_targets = ap (pending (current_places s)) logs ∙ none
+
+  early_found : found disks c ≡ Some early
+  unfolding found
+  early_found =
+      ap (option_and_then (λ x. found_by disks x (written disks x c))) stands
+      ∙ ap (found_by disks (standing_by disks c s)) (written_none disks (standing_by disks c s) c none)
+      ∙ ap (option_map (λ (z : State). record { disks = disks; before = standing_by disks c s; contents = c; identities = identities_of disks c; state = z; seats = seat_of z disks (identities_of disks c) })) newest_of
+
+  late_found : found disks e ≡ Some late
+  unfolding found
+  late_found =
+      ap (option_and_then (λ x. found_by disks x (written disks x e))) stands_now
+      ∙ ap (found_by disks (standing_by disks e s)) (written_none disks (standing_by disks e s) e late_targets)
+      ∙ ap (option_map (λ (z : State). record { disks = disks; before = standing_by disks e s; contents = e; identities = identities_of disks e; state = z; seats = seat_of z disks (identities_of disks e) }))
+      (newest_same disks (identities_of disks e) (identities_of disks c) ids ∙ newest_of)
+
+  late_refusal : refusal_of disks e ≡ refusal_of disks c
+  unfolding refusal_of
+  late_refusal =
+      ap (λ o. option_map_or (refused_at disks e) o (Some no_pool)) stands_now
+      ∙ ap₂ (λ b (o : Option Refusal). if b then Some two_pools else o) (other_same disks (identities_of disks e) (identities_of disks c) ids s.pool.0)
+      (ap (λ o. option_map_or refused_by o (Some no_pool)) late_found ∙ refused_same early late late_pool ∙ sym (ap (λ o. option_map_or refused_by o (Some no_pool)) early_found))
+      ∙ sym (ap (λ o. option_map_or (refused_at disks c) o (Some no_pool)) stands)
+
+  late_meaning : meaning disks e ≡ meaning disks c
+  unfolding meaning
+  late_meaning =
+      ap₂ (λ (why : Option Refusal) (volumes : Option (List Volume)). option_map_or (λ w. None) why volumes) late_refusal
+      (ap (option_map volumes_of) late_found ∙ ap Some (volumes_same early late late_pool) ∙ sym (ap (option_map volumes_of) early_found))
+
+  pub agree_means : MeansTheSame disks c e
+  agree_means = record {
+    before = early;
+    now = late;
+    found_before = early_found;
+    found_now = late_found;
+    pool = late_pool;
+    refusal = late_refusal;
+    meaning = late_meaning;
+  }
