@@ -1,3 +1,10 @@
+mod Foremost
+mod Cut
+mod CutDrives
+mod Listed
+mod OnDrives
+mod Agreeing
+mod Again
 mod Laid
 mod Stood
 pub mod Meant

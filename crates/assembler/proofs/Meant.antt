@@ -1,5 +1,5 @@
 -- Where no disk refused a call, what was found is what the meaning of images says.
-use Rattle.std.proofs.Common.{◌≡◌, ◌∙◌, ℕ, ◌<◌, ◌≤◌, ◌&&◌, Bool, true, false, nat_lt, if◌then◌else◌, is_none, List, [], length, map, filter, Option, Some, None, option_map, refl, sym, ap, subst, inl, inr, arith, lt-ltb, le-ltb, ◌∷◌}
+use Rattle.std.proofs.Common.{◌≡◌, ◌∙◌, ℕ, ◌<◌, ◌≤◌, ◌&&◌, Bool, true, false, nat_lt, if◌then◌else◌, is_none, is_some, List, [], length, map, filter, Option, Some, None, option_map, refl, sym, ap, subst, inl, inr, arith, lt-ltb, le-ltb, ◌∷◌}
 use Rattle.std.specs.Option.{option_map_or}
 use Rattle.std.specs.Result.{result_ok}
 use Rattle.std.specs.List.{range_with_len}
@@ -19,14 +19,15 @@ use Rattle.pool_image.specs.Disks.{disks_of, newest, identities_of, seat_of}
 use Rattle.pool_image.specs.Replay.{logs_of, standing, standing_by}
 use Rattle.pool_image.specs.Meaning.{no_pool, two_pools, has_other_pool, refused_by, refused_at, refusal_of}
 use Rattle.pool_image.specs.Drives.{found}
-use Rattle.array_image.specs.Record.{gate_sector, gate_of, is_there, record_of, pending}
+use Rattle.array_image.specs.Record.{GateAt, gate_sector, gate_of, gate_in, is_bad_gate, is_there, record_of, record_in, pending_at, pending, damaged_log}
 use Rattle.commit_log.specs.View.{LogView, names, is_left, left_of}
 use Rattle.commit_log.proofs.Amid.{no_gate_in_nothing}
 use Rattle.commit_log.proofs.Counting.{few_drives, is_listed}
 use Rattle.commit_log.proofs.LeftPlaces.{filter_out}
-use Rattle.commit_log.proofs.Fewer.{names_filter, filter_both, current_of_all, pending_left}
+use Rattle.commit_log.proofs.Fewer.{names_filter, filter_names, filter_both, current_of_all, pending_left, pending_at_left}
+use Rattle.commit_log.proofs.Undamaged.{whole_from, whole_gates, whole_record, whole_by}
 use Rattle.commit_log.proofs.Replayable.{pending_named}
-use Rattle.commit_log.proofs.Restored.{pending_by}
+use Rattle.commit_log.proofs.Restored.{pending_by, pending_at_by}
 use Rattle.pool_scan.specs.declared.Known.{Known}
 use Rattle.pool_scan.specs.Scanning.{AllTold, IsUnfaulted, IsScan, as_read, now_in}
 use Rattle.pool_scan.specs.Choosing.{seat_by}
@@ -76,12 +77,13 @@ few_newest a s is = of_front (foremost epoch_of (map (λ d. (identities_of (disk
         (of_disk at.0 copy (nat_lt state_sector (a.sectors at.0)) at.2)
 
 clean_meant : (a b : Seen) (known : List Known) (s : State) (t : Slices) (on : List ℕ) (m : LogView) (is_pending : Bool) (damaged : Option ℕ)
-    → IsNewest a b known s → IsLaid a known s t on → HasLooked a b t on [] m is_pending damaged → AllTold a → IsUnfaulted a b → StandsAs a s t m
+    → IsNewest a b known s → IsLaid a known s t on → HasLooked a b t on [] m is_pending damaged → AllTold a → IsUnfaulted a b → StandsAs a s t m is_pending damaged
 clean_meant a b known s t on m is_pending damaged is_new laid looked told free = record {
   stands = stands_so a b known s is_new.scan told free (is_new.newest told);
-  one_pool = sym (other_meant a b s.pool.0 known is_new.scan told free) ∙ is_new.one_pool told;
   logs = same_logs;
   targets = λ lasts. (looked.finds told lasts).targets ∙ same_pending few;
+  pending = λ lasts. (looked.finds told lasts).is_pending_is ∙ ap is_some (same_pending_at few);
+  whole = λ lasts none. whole_logs few (sym (looked.finds told lasts).damaged_is ∙ none);
 }
   where
     seats : (p : ℕ) → seat_by s known p ≡ seat_of s (disks_of a) (identities_of (disks_of a) (now_in a)) p
@@ -130,9 +132,53 @@ clean_meant a b known s t on m is_pending damaged is_new laid looked told free =
         and_true true = refl
         and_true false = refl
 
+    -- the places that were asked are the current ones, but for those that have nothing
+    asked : left_of on [] ≡ filter (λ p. nat_lt 0 (sectors_of t (log_slice p))) (filter (is_current s) (range_with_len 0 16))
+    asked = sym (filter_both (λ p. nat_lt 0 (sectors_of t (log_slice p))) (is_current s) (is_left on []) (range_with_len 0 16) (λ p. both_true (names on p) ∙ laid.places p))
+      where
+        both_true : (b : Bool) → (b && true) ≡ b
+        both_true true = refl
+        both_true false = refl
+
+    no_gate : (p : ℕ) → nat_lt 0 (sectors_of t (log_slice p)) ≡ false → gate_in (reading (slices_of t a)) p ≡ None
+    no_gate p out = ap gate_of (nothing p out) ∙ no_gate_in_nothing
+
+    not_bad : (p : ℕ) → nat_lt 0 (sectors_of t (log_slice p)) ≡ false → is_bad_gate (reading (slices_of t a)) p ≡ false
+    not_bad p out = ap (λ (block : List ℕ). is_there block && is_none (gate_of block)) (nothing p out)
+
+    gates_same : length s.drives.items ≤ 16 → (p : ℕ) → names (current_places s) p ≡ true → (reading (slices_of t a)) (log_slice p) gate_sector ≡ ((standing_by (disks_of a) (now_in a) s).logs) (log_slice p) gate_sector
+    gates_same few p named = same_logs (log_slice p) gate_sector (let low = small few p named in omega (arith, low))
+
+    records_same : length s.drives.items ≤ 16 → (g : GateAt) → pending_at (current_places s) ((standing_by (disks_of a) (now_in a) s).logs) ≡ Some g
+        → record_in (reading (slices_of t a)) g.place g.gate.number ≡ record_in ((standing_by (disks_of a) (now_in a) s).logs) g.place g.gate.number
+    records_same few g is =
+        let low = small few g.place (pending_named (current_places s) ((standing_by (disks_of a) (now_in a) s).logs) g is).0 in
+        ap (record_of g.gate.number) (λ i u. same_logs (log_slice g.place) u (omega (arith, low)) i)
+
+    same_pending_at : length s.drives.items ≤ 16 → pending_at (left_of on []) (reading (slices_of t a)) ≡ pending_at (current_places s) ((standing_by (disks_of a) (now_in a) s).logs)
+    same_pending_at few =
+        ap (λ ps. pending_at ps (reading (slices_of t a))) asked ∙ pending_at_left (λ p. nat_lt 0 (sectors_of t (log_slice p))) (reading (slices_of t a)) (filter (is_current s) (range_with_len 0 16)) no_gate
+        ∙ ap (λ ps. pending_at ps (reading (slices_of t a))) (sym (current_of_all s few))
+        ∙ pending_at_by (reading (slices_of t a)) ((standing_by (disks_of a) (now_in a) s).logs) (current_places s) (gates_same few)
+
+    whole_logs : length s.drives.items ≤ 16 → damaged_log (left_of on []) (reading (slices_of t a)) ≡ None → damaged_log (current_places s) ((standing_by (disks_of a) (now_in a) s).logs) ≡ None
+    whole_logs few whole =
+        let fewer : damaged_log (filter (λ p. nat_lt 0 (sectors_of t (log_slice p))) (filter (is_current s) (range_with_len 0 16))) (reading (slices_of t a)) ≡ None = ap (λ ps. damaged_log ps (reading (slices_of t a))) (sym asked) ∙ whole in
+        let all : damaged_log (filter (is_current s) (range_with_len 0 16)) (reading (slices_of t a)) ≡ None =
+        whole_from (reading (slices_of t a)) (filter (is_current s) (range_with_len 0 16))
+        (λ p named. elim (cases_Bool (nat_lt 0 (sectors_of t (log_slice p)))) [
+          | inr out ↦ not_bad p out
+          | inl is ↦ whole_gates (reading (slices_of t a)) (filter (λ p. nat_lt 0 (sectors_of t (log_slice p))) (filter (is_current s) (range_with_len 0 16))) p fewer (filter_names (λ p. nat_lt 0 (sectors_of t (log_slice p))) (filter (is_current s) (range_with_len 0 16)) p is named)
+        ])
+        (λ g is. whole_record (reading (slices_of t a)) (filter (λ p. nat_lt 0 (sectors_of t (log_slice p))) (filter (is_current s) (range_with_len 0 16))) fewer g (pending_at_left (λ p. nat_lt 0 (sectors_of t (log_slice p))) (reading (slices_of t a)) (filter (is_current s) (range_with_len 0 16)) no_gate ∙ is)) in
+        whole_by ((standing_by (disks_of a) (now_in a) s).logs) (reading (slices_of t a)) (current_places s) (λ p named. sym (gates_same few p named))
+        (λ g is.
+        sym (records_same few g (sym (pending_at_by (reading (slices_of t a)) ((standing_by (disks_of a) (now_in a) s).logs) (current_places s) (gates_same few)) ∙ is)))
+        (ap (λ ps. damaged_log ps (reading (slices_of t a))) (current_of_all s few) ∙ all)
+
 -- ---- nobody is passed over
 
-none_listed : (f : ℕ → Bool) (ks : List ℕ) → ((p : ℕ) → f p ≡ false) → filter f ks ≡ []
+pub none_listed : (f : ℕ → Bool) (ks : List ℕ) → ((p : ℕ) → f p ≡ false) → filter f ks ≡ []
 none_listed f [] none = refl
 none_listed f (k ∷ ks) none = filter_out f k ks (none k) ∙ none_listed f ks none
 
@@ -147,7 +193,7 @@ gone_none a b t on gone m is_pending damaged looked free =
     ])
 
 pub stand_meant : (a b : Seen) (known : List Known) (s : State) (t : Slices) (on gone : List ℕ) (m : LogView) (is_pending : Bool) (damaged : Option ℕ)
-    → IsNewest a b known s → IsLaid a known s t on → HasLooked a b t on gone m is_pending damaged → AllTold a → IsUnfaulted a b → StandsAs a s t m
+    → IsNewest a b known s → IsLaid a known s t on → HasLooked a b t on gone m is_pending damaged → AllTold a → IsUnfaulted a b → StandsAs a s t m is_pending damaged
 stand_meant a b known s t on gone m is_pending damaged is_new laid looked told free =
     clean_meant a b known s t on m is_pending damaged is_new laid
     (subst (λ g. HasLooked a b t on g m is_pending damaged) (gone_none a b t on gone m is_pending damaged looked free) looked) told free

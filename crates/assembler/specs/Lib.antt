@@ -1,2 +1,4 @@
 pub mod Laying
+pub mod Members
+pub mod Resting
 pub mod Standing

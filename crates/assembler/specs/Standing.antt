@@ -1,15 +1,16 @@
 -- A pool as it stands on disks, before its pending record is replayed: what was read of it.
-use Rattle.std.specs.Prelude.{◌≡◌, ℕ, ◌<◌, ◌≤◌, Bool, true, false, ◌&&◌, nat_lt, List, [], Option, Some, None}
+use Rattle.std.specs.Prelude.{◌≡◌, ℕ, ◌<◌, ◌≤◌, Bool, true, false, ◌&&◌, nat_lt, List, [], Option, Some, None, is_some}
 use Rattle.rack.specs.Seen.{Image, Seen, Rose}
 use Rattle.pool_state.specs.declared.contents.State.{State}
 use Rattle.slice_rack.specs.Slices.{Slices, seat_of, sectors_of}
 use Rattle.slice_rack.specs.Sliced.{sliced, slices_of}
 use Rattle.array_image.specs.Places.{log_slice}
-use Rattle.array_image.specs.States.{is_current}
+use Rattle.array_image.specs.Record.{pending_at, damaged_log}
+use Rattle.array_image.specs.States.{is_current, current_places}
 use Rattle.array_image.specs.Left.{reading}
 use Rattle.pool_image.specs.Disks.{disks_of, newest}
 use Rattle.pool_image.specs.Replay.{logs_of, standing, standing_by}
-use Rattle.pool_image.specs.Meaning.{no_pool, two_pools, has_other_pool, refusal_of}
+use Rattle.pool_image.specs.Meaning.{no_pool, two_pools, refusal_of}
 use Rattle.commit_log.specs.View.{LogView, names, left_of, in_order}
 use Rattle.commit_log.specs.Phases.{AreLogs}
 use Rattle.commit_log.specs.Opening.{Finds}
@@ -34,11 +35,10 @@ pub record IsLaid (a : Seen) (known : List Known) (s : State) (t : Slices) (on :
   pub places : (p : ℕ) → names on p ≡ (is_current s p && nat_lt 0 (sectors_of t (log_slice p)))
   pub whole : AreLogs (sectors_of t) on
 
--- The state is the newest of what was read, of one pool.
+-- The state is the newest of what was read.
 pub record IsNewest (a b : Seen) (known : List Known) (s : State) : Type 0 where
   pub scan : IsScan a b known
   pub newest : AllTold a → newest (disks_of a) (as_read a known) ≡ Some s
-  pub one_pool : AllTold a → has_pool_other_than s.pool.0 (disks_of a) (as_read a known) ≡ false
 
 -- What was found of the pending record on these slices; `gone` are the places that refused a call in it.
 pub record HasLooked (a b : Seen) (t : Slices) (on gone : List ℕ) (m : LogView) (is_pending : Bool) (damaged : Option ℕ) : Type 0 where
@@ -52,11 +52,12 @@ pub record HasLooked (a b : Seen) (t : Slices) (on gone : List ℕ) (m : LogView
 
 -- By the meaning of images, where no disk refused a call: the pool stands so on what the disks hold, the slices show its log
 -- slices, and the log has the record that is pending there.
-pub record StandsAs (a : Seen) (s : State) (t : Slices) (m : LogView) : Type 0 where
+pub record StandsAs (a : Seen) (s : State) (t : Slices) (m : LogView) (is_pending : Bool) (damaged : Option ℕ) : Type 0 where
   pub stands : standing (disks_of a) (now_in a) ≡ Some (standing_by (disks_of a) (now_in a) s)
-  pub one_pool : has_other_pool (disks_of a) (standing_by (disks_of a) (now_in a) s) ≡ false
   pub logs : (k u : ℕ) → k < 272 → reading (slices_of t a) k u ≡ (standing_by (disks_of a) (now_in a) s).logs k u
   pub targets : IsLasting a → m.pending ≡ (standing_by (disks_of a) (now_in a) s).targets
+  pub pending : IsLasting a → is_pending ≡ is_some (pending_at (current_places s) (standing_by (disks_of a) (now_in a) s).logs)
+  pub whole : IsLasting a → damaged ≡ None → damaged_log (current_places s) (standing_by (disks_of a) (now_in a) s).logs ≡ None
 
 -- and no pool is found where the meaning has this refusal
 abbrev pub IsMeant : Seen → Refusal → Type 0

@@ -9,7 +9,10 @@
 //! finds is what they hold (`Looked`), all in specs/Standing.antt. A refusal has its cause in what was read (`IsCause`).
 #![tactic(auto)]
 
+mod brought;
 mod laying;
+mod members;
+mod resting;
 mod standing;
 
 pub use standing::{Refusal, Standing, stand};

@@ -1,19 +1,22 @@
 //! A pool as it stands on disks, before its pending record is replayed.
 
-ghost use Rattle.std.specs.Prelude.{◌≡◌, ◌<◌, ◌^◌, ℕ, length, IfOk, IfErr};
+ghost use Rattle.std.specs.Prelude.{◌≡◌, ◌<◌, ◌≤◌, ◌^◌, ℕ, length, IfOk, IfErr, true, false, []};
 ghost use Rattle.rack.specs.Sequences.{OnlyReads};
 ghost use Rattle.slice_rack.specs.Sliced.{slices_of};
 ghost use Rattle.slice_rack.specs.SliceRack.{tables, below_of};
-ghost use Rattle.pool_image.specs.Disks.{Disks, Identities, newest};
-ghost use Rattle.pool_scan.specs.Choosing.{AreOf};
+ghost use Rattle.pool_image.specs.Disks.{Disks, Identities, newest, disks_of};
+ghost use Rattle.pool_image.specs.Meaning.{has_other_pool};
+ghost use Rattle.pool_image.specs.Replay.{standing_by};
+ghost use Rattle.pool_scan.specs.Choosing.{AreOf, has_pool_other_than};
 ghost use Rattle.assembler.specs.Standing.{IsNewest, IsLaid, HasLooked, StandsAs, IsCause, IsMeant};
-ghost use Rattle.pool_scan.specs.Scanning.{AllTold, IsUnfaulted};
+ghost use Rattle.pool_scan.specs.Scanning.{AllTold, IsUnfaulted, as_read, now_in};
 
 use crate::laying::seat_drives;
+use arrayvec::ArrayVec;
 use commit_log::{Log, Looked};
-use pool_scan::{Scan, scan_disks};
-use pool_state::State;
-use rack::{Back, NoMemory, Places, Rack};
+use pool_scan::Scan;
+use pool_state::{Drive, State};
+use rack::{Back, Places, Rack};
 use slice_rack::SliceRack;
 use std::alloc::Global;
 
@@ -45,49 +48,83 @@ pub struct Standing<R> {
     pub looked: Looked,
 }
 
-/// What was read of the disks, and the newest state.
-#[derive(Drop)]
-struct Newest {
-    scan: Scan,
-    state: State,
+/// A copy of the drives of a state. It takes no memory.
+fn copy_of_drives(drives: &[Drive]) -> ArrayVec<Drive, 16>
+    requires { length drives.now ≤ 16 }
+    ensures { result.items ≡ drives.now }
+{
+    let mut copy = ArrayVec::new();
+    for place in 0..drives.len() {
+        copy.push(drives[place]);
+    }
+    copy
+}
+
+/// A copy of a state. It takes no memory.
+pub(crate) fn copy_of(state: &State) -> State
+    ensures { result ≡ state.now }
+{
+    State {
+        pool: state.pool,
+        epoch: state.epoch,
+        extent: state.extent,
+        drives: copy_of_drives(state.drives.as_slice()),
+        plan: state.plan,
+        made: state.made,
+        joined: state.joined,
+        serial: state.serial,
+    }
 }
 
 /// The state of highest epoch of a scan.
-fn newest_of(scan: &Scan) -> Result<Option<State>, NoMemory>
-    ensures { IfOk result (λ found. (disks : Disks) (identities : Identities) → AreOf disks identities scan.now.disks.items
-        → found ≡ newest disks identities) }
+fn newest_of(scan: &Scan) -> Option<State>
+    ensures { (disks : Disks) (identities : Identities) → AreOf disks identities scan.now.disks.items
+        → result ≡ newest disks identities }
 {
     match scan.newest() {
-        Some(state) => match state.clone() {
-            Ok(copy) => Ok(Some(copy)),
-            Err(_) => Err(NoMemory),
-        },
-        None => Ok(None),
+        Some(state) => Some(copy_of(state)),
+        None => None,
     }
 }
 
-/// Finds the newest state on the disks of a rack. Nothing is written.
-fn find_newest<R: Rack>(alloc: Global, rack: &mut R) -> Result<Newest, Refusal>
-    requires { (R.seen rack.old).fit }
-    ensures only { OnlyReads (R.seen rack.old) (R.seen rack.new) }
-    ensures newest { IfOk result (λ found. IsNewest (R.seen rack.old) (R.seen rack.new) found.scan.disks.items found.state) }
-    ensures few { IfOk result (λ found. length found.scan.disks.items < 2 ^ 32) }
-    ensures refused { IfErr result (IsCause (R.seen rack.old) (R.seen rack.new)) }
-    ensures runs { R.runs rack.old rack.new }
+/// Looks at the disks of a rack with a scan and a log that have their memory: finds the newest state, and the record that is pending
+/// by it. Nothing is written. It answers the rack alone where no disk has a state.
+pub(crate) fn look<R: Rack>(rack: R, scan: Scan, log: Log) -> Result<Standing<R>, R>
+    requires fit { (R.seen rack).fit }
+    requires small { (d : ℕ) → d < (R.seen rack).disks → (R.seen rack).sectors d < 2 ^ 48 }
+    requires room { length scan.disks.items ≡ (R.seen rack).disks }
+    requires empty { log.added ≡ [] }
+    ensures only { IfOk result (λ st. OnlyReads (R.seen rack) (R.seen (below_of st.slices))) }
+    ensures fit { IfOk result (λ st. (slices_of (tables st.slices) (R.seen (below_of st.slices))).fit) }
+    ensures few { IfOk result (λ st. length st.scan.disks.items < 2 ^ 32) }
+    ensures newest { IfOk result (λ st. IsNewest (R.seen rack) (R.seen (below_of st.slices)) st.scan.disks.items st.state) }
+    ensures laid { IfOk result (λ st. IsLaid (R.seen rack) st.scan.disks.items st.state (tables st.slices) st.on.items) }
+    ensures looked { IfOk result (λ st. HasLooked (R.seen rack) (R.seen (below_of st.slices)) (tables st.slices) st.on.items st.looked.gone.items st.log st.looked.pending st.looked.damaged) }
+    ensures meant { IfOk result (λ st. AllTold (R.seen rack) → IsUnfaulted (R.seen rack) (R.seen (below_of st.slices))
+        → StandsAs (R.seen rack) st.state (tables st.slices) st.log st.looked.pending st.looked.damaged) }
+    ensures runs { IfOk result (λ st. R.runs rack (below_of st.slices)) }
+    ensures kept { IfErr result (λ back. OnlyReads (R.seen rack) (R.seen back)) }
+    ensures none { IfErr result (λ back. IsCause (R.seen rack) (R.seen back) Refusal.NoPool) }
+    ensures returned { IfErr result (λ back. R.runs rack back) }
 {
-    let scan = match scan_disks(alloc, rack) {
-        Ok(scan) => scan,
-        Err(_) => return Err(Refusal::Memory),
+    let mut rack = rack;
+    let mut scan = scan;
+    let mut log = log;
+    scan.read(&mut rack);
+    let Some(state) = newest_of(&scan) else {
+        return Err(rack);
     };
-    let state = match newest_of(&scan) {
-        Ok(Some(state)) => state,
-        Ok(None) => return Err(Refusal::NoPool),
-        Err(_) => return Err(Refusal::Memory),
-    };
-    if scan.has_other_pool(&state.pool) {
-        return Err(Refusal::TwoPools);
-    }
-    Ok(Newest { scan, state })
+    let mut slices = SliceRack::new(rack);
+    let on = seat_drives(&mut slices, &scan, &state);
+    let looked = log.pending(&mut slices, &on);
+    Ok(Standing {
+        slices,
+        scan,
+        state,
+        on,
+        log,
+        looked,
+    })
 }
 
 /// Finds the pool on the disks of a rack as it stands, with the record that is pending there. Nothing is written. Disks have
@@ -100,41 +137,44 @@ pub fn stand<R: Rack>(alloc: Global, rack: R) -> Result<Standing<R>, Back<R, Ref
     requires small { (d : ℕ) → d < (R.seen rack).disks → (R.seen rack).sectors d < 2 ^ 48 }
     ensures only { IfOk result (λ st. OnlyReads (R.seen rack) (R.seen (below_of st.slices))) }
     ensures fit { IfOk result (λ st. (slices_of (tables st.slices) (R.seen (below_of st.slices))).fit) }
+    ensures few { IfOk result (λ st. length st.scan.disks.items < 2 ^ 32) }
     ensures newest { IfOk result (λ st. IsNewest (R.seen rack) (R.seen (below_of st.slices)) st.scan.disks.items st.state) }
+    ensures one_pool { IfOk result (λ st. AllTold (R.seen rack) → has_pool_other_than st.state.pool.0 (disks_of (R.seen rack)) (as_read (R.seen rack) st.scan.disks.items) ≡ false) }
     ensures laid { IfOk result (λ st. IsLaid (R.seen rack) st.scan.disks.items st.state (tables st.slices) st.on.items) }
     ensures looked { IfOk result (λ st. HasLooked (R.seen rack) (R.seen (below_of st.slices)) (tables st.slices) st.on.items st.looked.gone.items st.log st.looked.pending st.looked.damaged) }
     // Where no disk refused a call, all of it is as the meaning of images says.
     ensures meant { IfOk result (λ st. AllTold (R.seen rack) → IsUnfaulted (R.seen rack) (R.seen (below_of st.slices))
-        → StandsAs (R.seen rack) st.state (tables st.slices) st.log) }
+        → StandsAs (R.seen rack) st.state (tables st.slices) st.log st.looked.pending st.looked.damaged) }
+    ensures single { IfOk result (λ st. AllTold (R.seen rack) → IsUnfaulted (R.seen rack) (R.seen (below_of st.slices))
+        → has_other_pool (disks_of (R.seen rack)) (standing_by (disks_of (R.seen rack)) (now_in (R.seen rack)) st.state) ≡ false) }
     ensures runs { IfOk result (λ st. R.runs rack (below_of st.slices)) }
     ensures kept { IfErr result (λ back. OnlyReads (R.seen rack) (R.seen back.rack)) }
     ensures refused { IfErr result (λ back. IsCause (R.seen rack) (R.seen back.rack) back.why) }
     ensures exact { IfErr result (λ back. AllTold (R.seen rack) → IsUnfaulted (R.seen rack) (R.seen back.rack) → IsMeant (R.seen rack) back.why) }
     ensures returned { IfErr result (λ back. R.runs rack back.rack) }
 {
-    let mut rack = rack;
-    let mut log = match Log::make(alloc) {
-        Ok(log) => log,
-        Err(_) => {
+    let disks = rack.disks();
+    let why = Refusal::Memory;
+    let Ok(scan) = Scan::blank(alloc, disks) else {
+        return Err(Back { rack, why });
+    };
+    let Ok(log) = Log::make(alloc) else {
+        return Err(Back { rack, why });
+    };
+    let found = match look(rack, scan, log) {
+        Ok(found) => found,
+        Err(rack) => {
             return Err(Back {
                 rack,
-                why: Refusal::Memory,
+                why: Refusal::NoPool,
             });
         }
     };
-    let found = match find_newest(alloc, &mut rack) {
-        Ok(found) => found,
-        Err(why) => return Err(Back { rack, why }),
-    };
-    let mut slices = SliceRack::new(rack);
-    let on = seat_drives(&mut slices, &found.scan, &found.state);
-    let looked = log.pending(&mut slices, &on);
-    Ok(Standing {
-        slices,
-        scan: found.scan,
-        state: found.state,
-        on,
-        log,
-        looked,
-    })
+    if found.scan.has_other_pool(&found.state.pool) {
+        return Err(Back {
+            rack: found.slices.into_inner(),
+            why: Refusal::TwoPools,
+        });
+    }
+    Ok(found)
 }

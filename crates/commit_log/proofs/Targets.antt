@@ -1,11 +1,12 @@
 -- The targets of a record's bytes.
-use Rattle.std.proofs.Common.{◌==◌, sym, eqb-true, ◌≡◌, ℕ, zero, suc, ◌+◌, ◌<◌, true, false, List, [], ◌∷◌, ◌++◌, length, Some, None, refl, ap, ap₂, ◌∙◌, inl, inr, arith}
+use Rattle.std.proofs.Common.{◌==◌, sym, eqb-true, ◌≡◌, ℕ, zero, suc, ◌+◌, ◌<◌, true, false, List, [], ◌∷◌, ◌++◌, length, map, slice_get, Some, None, refl, ap, ap₂, ◌∙◌, inl, inr, arith}
 use Rattle.std.specs.Option.{option_or}
 use Rattle.std.proofs.lemmas.Bool.{cases_lt, cases_Bool, and_parts, cond-true, cond-false}
-use Rattle.std.proofs.lemmas.Option.{none-some}
+use Rattle.std.specs.List.{range_with_len}
+use Rattle.std.proofs.lemmas.Option.{none-some, slice_get-get_or}
 use Rattle.rack.specs.Targets.{is_at, look}
 use Rattle.rack.proofs.Phases.{look-append}
-use Rattle.std.proofs.lemmas.List.FromFn.{map-range_with_len_more, length-map-range_with_len}
+use Rattle.std.proofs.lemmas.List.FromFn.{map-range_with_len_more, length-map-range_with_len, get_or-map-range_with_len}
 use Rattle.commit_log.specs.Bytes.{target_in, targets_in}
 
 pub no_targets : (bytes : List ℕ) → targets_in bytes 0 ≡ []
@@ -71,3 +72,10 @@ look_at bytes (suc n) d s v is =
           let found = look_at bytes n d s v rest in
           (found.0, omega (arith, found.1), found.2, found.3)
     ]
+
+-- the target of a number
+pub target_of : (bytes : List ℕ) (count k : ℕ) → k < count → slice_get (targets_in bytes count) k ≡ Some (target_in bytes k)
+unfolding targets_in
+target_of bytes count k below =
+    slice_get-get_or (map (target_in bytes) (range_with_len 0 count)) k (target_in bytes k) (omega (arith, below, length-map-range_with_len (target_in bytes) 0 count))
+    ∙ ap Some (get_or-map-range_with_len (target_in bytes) 0 count k k (target_in bytes k) below (omega arith))

@@ -1,6 +1,6 @@
 //! The log of a pool, and its calls.
 
-ghost use Rattle.std.specs.Prelude.{◌≡◌, ◌<◌, ◌-◌, ◌++◌, ◌∷◌, [], ℕ, List, length, IfOk, true, false, MatchOption, Some, None};
+ghost use Rattle.std.specs.Prelude.{◌≡◌, ◌<◌, ◌-◌, ◌++◌, ◌∷◌, [], ℕ, List, length, IfOk, true, false, MatchOption, Some, None, option_map, slice_get};
 ghost use Rattle.std.specs.List.{list_all};
 ghost use Rattle.rack.specs.Targets.{target, look};
 ghost use Rattle.array_image.specs.Record.{is_target, are_apart, half_of};
@@ -12,7 +12,7 @@ ghost use Rattle.commit_log.specs.Opening.{PendingCall, ReplayCall, HasWork, IsS
 
 use crate::gates::Gate;
 use crate::lost::Lost;
-use crate::record::{MOST, Record};
+use crate::record::{HEAD, MOST, Record};
 use crate::scan::Scan;
 use crate::writing::{close_gates, settle_each, settle_record, settle_targets};
 use rack::{NoMemory, Places, Rack};
@@ -180,6 +180,33 @@ impl Log {
         } else {
             None
         }
+    }
+
+    /// How many targets the pending record has that was found and isn't replayed yet.
+    pub fn pending_count(&self) -> u32
+        ensures { result ≡ length self.now.pending }
+    {
+        self.pending.count()
+    }
+
+    /// One of them, in the record's order.
+    #[tactic(auto, using(crate::proofs::Targets::target_of, crate::proofs::Targets::length_targets))]
+    pub fn pending_target(&self, at: u32) -> Target
+        requires { at < length self.now.pending }
+        ensures disk { option_map (λ t. t.disk) (slice_get self.now.pending at) ≡ Some result.disk }
+        ensures sector { option_map (λ t. t.sector) (slice_get self.now.pending at) ≡ Some result.sector }
+    {
+        let (disk, sector) = self.pending.target(at);
+        Target { disk, sector }
+    }
+
+    /// Its payload.
+    #[tactic(auto, using(crate::proofs::Targets::target_of, crate::proofs::Targets::length_targets))]
+    pub fn pending_payload(&self, at: u32) -> &[u8; 512]
+        requires { at < length self.now.pending }
+        ensures { option_map (λ t. t.bytes) (slice_get self.now.pending at) ≡ Some result.now }
+    {
+        self.pending.sector(HEAD + at)
     }
 
     /// Writes the pending record's targets that the rack has, as the commit would have, and closes the gates

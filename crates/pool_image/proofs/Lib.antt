@@ -3,6 +3,9 @@ pub mod Composed
 pub mod Rows
 pub mod Parts
 pub mod Groups
+pub mod Identities
+pub mod Founds
+pub mod Rested
 mod SeatExamples
 mod SoundExamples
 mod VolumeExamples

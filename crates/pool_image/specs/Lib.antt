@@ -5,3 +5,4 @@ pub mod Volumes
 pub mod Meaning
 pub mod Book
 pub mod Sound
+pub mod Alike

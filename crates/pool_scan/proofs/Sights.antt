@@ -1,5 +1,8 @@
 -- What was read of a disk, over several calls.
-use Rattle.std.proofs.Common.{◌≡◌, ℕ, zero, suc, ◌<◌, List, [], ◌∷◌, ◌++◌, length, slice_get, Option, Some, Ok, true, refl, sym, subst, ◌∙◌, inl, inr, false}
+use Rattle.std.proofs.Common.{◌≡◌, ℕ, zero, suc, ◌+◌, ◌<◌, arith, ap, slice_set, List, [], ◌∷◌, ◌++◌, length, slice_get, Option, Some, Ok, true, refl, sym, subst, ◌∙◌, inl, inr, false}
+use Rattle.std.proofs.lemmas.Bool.{cases_eq}
+use Rattle.std.proofs.lemmas.Option.{slice_get-get_or}
+use Rattle.std.proofs.lemmas.List.{get_or-set_same, get_or-set_other, length-set}
 use Rattle.rack.specs.Seen.{Seen, Rose, Stays}
 use Rattle.rack.specs.Calls.{Reads}
 use Rattle.rack.specs.Sequences.{OnlyReads}
@@ -128,3 +131,33 @@ known_since x y z d s reads inside sees gone valid =
       gone = λ is. rose_later x y z d reads.stays (gone is);
       valid = valid;
     }
+
+-- a fact of the first elements, and of the next one that is set
+pub each_set :
+    {X : Type 0} (P : ℕ → X → Type 0) (xs : List X) (n : ℕ) (y : X)
+    → n < length xs
+    → ((d : ℕ) (x : X) → d < n → slice_get xs d ≡ Some x → P d x)
+    → P n y
+    → (d : ℕ) (x : X)
+    → d < n + 1
+    → slice_get (slice_set xs n y) d ≡ Some x
+    → P d x
+each_set {X} P xs n y inside old new d x below is =
+    elim (cases_eq d n) [
+      | inl same ↦
+          let at : Some x ≡ Some y =
+          sym is ∙ ap (slice_get (slice_set xs n y)) same
+          ∙ slice_get-get_or (slice_set xs n y) n y (omega (arith, inside, length-set xs n y))
+          ∙ ap Some (get_or-set_same xs n y y inside) in
+          subst (λ e. P e x) (sym same) (subst (P n) (sym (one x y at)) new)
+      | inr other ↦
+          let low : d < n = omega (arith, below, other) in
+          old d x low
+          (slice_get-get_or xs d y (omega (arith, low, inside))
+          ∙ ap Some (sym (get_or-set_other xs n d y y other))
+          ∙ sym (slice_get-get_or (slice_set xs n y) d y (omega (arith, low, inside, length-set xs n y)))
+          ∙ is)
+    ]
+  where
+    one : (v w : X) → Some v ≡ Some w → v ≡ w
+    one v w same = (cc)

@@ -127,14 +127,49 @@ pub fn scan_disks<R: Rack>(alloc: Global, rack: &mut R) -> Result<Scan, NoMemory
         → AreOf (disks_of (R.seen rack.old)) (as_read (R.seen rack.old) scan.disks.items) scan.disks.items) }
     ensures runs { R.runs rack.old rack.new }
 {
-    let mut disks = Vec::new(alloc);
-    for disk in 0..rack.disks() {
-        let known = know(rack, disk);
-        if disks.push(known).is_err() {
-            return Err(NoMemory);
+    let mut scan = match Scan::blank(alloc, rack.disks()) {
+        Ok(scan) => scan,
+        Err(why) => return Err(why),
+    };
+    scan.read(rack);
+    Ok(scan)
+}
+
+impl Scan {
+    /// Room for what so many disks say, of which nothing was read yet.
+    pub fn blank(alloc: Global, disks: u32) -> Result<Scan, NoMemory>
+        ensures { IfOk result (λ scan. length scan.disks.items ≡ disks) }
+    {
+        let mut room = Vec::new(alloc);
+        for _ in 0..disks {
+            let nothing = Known {
+                copied: None,
+                id: None,
+                gone: false,
+            };
+            if room.push(nothing).is_err() {
+                return Err(NoMemory);
+            }
+        }
+        Ok(Scan { disks: room })
+    }
+
+    /// Reads what each disk of a rack says, in place of what was read before. It takes no memory.
+    pub fn read<R: Rack>(&mut self, rack: &mut R)
+        requires fit { (R.seen rack.old).fit }
+        requires room { length self.old.disks.items ≡ (R.seen rack.old).disks }
+        ensures only { OnlyReads (R.seen rack.old) (R.seen rack.new) }
+        ensures few { length self.new.disks.items < 2 ^ 32 }
+        ensures scanned { IsScan (R.seen rack.old) (R.seen rack.new) self.new.disks.items }
+        // What the disks say, as far as it was read, is what the list says.
+        ensures identities { AllTold (R.seen rack.old)
+            → AreOf (disks_of (R.seen rack.old)) (as_read (R.seen rack.old) self.new.disks.items) self.new.disks.items }
+        ensures runs { R.runs rack.old rack.new }
+    {
+        for disk in 0..rack.disks() {
+            self.disks[disk as usize] = know(rack, disk);
         }
     }
-    Ok(Scan { disks })
 }
 
 /// The id of a place's drive.

@@ -66,7 +66,7 @@ seat_at t d s orderly within =
     seat refl
 
 -- one sector below belongs to one sector of a slice alone
-one_sector : (t : Slices) (d s e u : ℕ) → IsOrderly t → s < sectors_of t d → u < sectors_of t e
+pub one_sector : (t : Slices) (d s e u : ℕ) → IsOrderly t → s < sectors_of t d → u < sectors_of t e
     → disk_of t d ≡ disk_of t e → first_of t d + s ≡ first_of t e + u → (d ≡ e) × (s ≡ u)
 one_sector t d s e u orderly d_within e_within same_disk same_sector =
     let d_seat : (disk : ℕ) × (seat_of t (place_of d) ≡ Some disk) = seat_at t d s orderly d_within in
@@ -81,7 +81,7 @@ one_sector t d s e u orderly d_within e_within same_disk same_sector =
     ]
 
 -- two tests with the same answer
-same_test : (p q : Bool) → (p ≡ true → q ≡ true) → (q ≡ true → p ≡ true) → p ≡ q
+pub same_test : (p q : Bool) → (p ≡ true → q ≡ true) → (q ≡ true → p ≡ true) → p ≡ q
 same_test true q there back = sym (there refl)
 same_test false true there back = back refl
 same_test false false there back = refl

@@ -2,3 +2,4 @@ pub mod Below
 pub mod Blank
 pub mod Tables
 pub mod Running
+pub mod Landed

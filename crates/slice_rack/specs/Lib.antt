@@ -4,3 +4,4 @@ pub mod Sliced
 pub mod Laws
 pub mod Changes
 pub mod Runs
+pub mod Landing

@@ -1,63 +1,36 @@
-use Rattle.std.proofs.Common.{sym, ap, subst, ◌∙◌}
-use Rattle.rack.specs.Seen.{Stays}
-use Rattle.rack.specs.Sequences.{OnlyReads}
+use Rattle.std.proofs.Common.{sym, subst, ◌∙◌}
 use Rattle.slice_rack.specs.SliceRack.{tables, below_of}
-use Rattle.commit_log.specs.View.{LogView}
-use Rattle.pool_scan.proofs.Seated.{scan_later}
-use Rattle.assembler.specs.Standing.{IsLaid}
-use Rattle.assembler.proofs.Laid.{laid_all, laid_logs, laid_none}
-use Rattle.assembler.proofs.Meant.{cause_meant, stand_meant}
-use Rattle.assembler.proofs.Stood.{only_reads_all, looked_so}
+use Rattle.assembler.specs.declared.standing.Refusal.TheVariants.{NoPool, TwoPools}
+use Rattle.pool_scan.specs.Scanning.{IsScan}
+use Rattle.pool_scan.proofs.Chosen.{scan_says}
+use Rattle.pool_scan.proofs.Meant.{other_meant}
+use Rattle.assembler.proofs.Meant.{cause_meant}
 use Rattle.assembler.proofs.standing.stand.Goals as goal
 
-pub pending-looked-requires-clause-logs : goal.pending-looked-requires-clause-logs
-pending-looked-requires-clause-logs g c = laid_logs _ _ _ _ _ c.seat_drives-on.ensures.laid
+pub returns-in-Err-clause-exact : goal.returns-in-Err-clause-exact
+returns-in-Err-clause-exact g c = λ told free.
+    cause_meant (g.R.Rack.seen c.args.rack) (g.R.Rack.seen c.in-Err.rack) NoPool c.in-Err.ensures.none told free
 
-pub returns-clause-only : goal.returns-clause-only
-returns-clause-only g c =
-    let same = c.seat_drives-on.ensures.below ∙ c.new-slices.ensures.below in
-    let reads = subst (λ r. OnlyReads (g.R.Rack.seen c.args.rack) (g.R.Rack.seen r)) (sym same) c.in-Ok-find_newest.ensures.only in
-    only_reads_all _ _ _ _ _ _ c.seat_drives-on.ensures.fit.0 c.seat_drives-on.ensures.fit.1 (laid_none _ _ _ _ _ c.seat_drives-on.ensures.laid) reads
-    c.pending-looked.ensures.runs c.pending-looked.ensures.looks.reads
+pub returns-then-has_other_pool-clause-refused : goal.returns-then-has_other_pool-clause-refused
+returns-then-has_other_pool-clause-refused g c =
+    let found = c.in-Ok-look.found in
+    let newest = c.in-Ok-look.ensures.newest in
+    (found.scan.disks.items, subst (λ r. IsScan (g.R.Rack.seen c.args.rack) (g.R.Rack.seen r) found.scan.disks.items) (sym c.into_inner.ensures) newest.scan,
+    λ told. (found.state, newest.newest told,
+    sym (c.has_other_pool.ensures _ _ (scan_says (g.R.Rack.seen c.args.rack) (g.R.Rack.seen (below_of found.slices)) found.scan.disks.items newest.scan told)) ∙ c.if-has_other_pool.true))
 
-pub returns-clause-newest : goal.returns-clause-newest
-returns-clause-newest g c =
-    let same = c.seat_drives-on.ensures.below ∙ c.new-slices.ensures.below in
-    let newest = c.in-Ok-find_newest.ensures.newest in
-    let later = (c.pending-looked.ensures.runs.apart c.seat_drives-on.ensures.fit.0 c.seat_drives-on.ensures.fit.1).stays in
-    record {
-      scan = scan_later _ _ _ _ newest.scan (subst (λ r. Stays (g.R.Rack.seen r) (g.R.Rack.seen (below_of c.pending-looked.new.rack))) same later);
-      newest = newest.newest;
-      one_pool = newest.one_pool;
-    }
+pub returns-then-has_other_pool-clause-exact : goal.returns-then-has_other_pool-clause-exact
+returns-then-has_other_pool-clause-exact g c = λ told free.
+    cause_meant (g.R.Rack.seen c.args.rack) (g.R.Rack.seen c.into_inner.result) TwoPools (returns-then-has_other_pool-clause-refused g c) told free
 
-pub returns-clause-laid : goal.returns-clause-laid
-returns-clause-laid g c =
-    let stays = c.in-Ok-find_newest.ensures.only.stays in
-    subst (λ t. IsLaid (g.R.Rack.seen c.args.rack) c.in-Ok-find_newest.found.scan.disks.items c.in-Ok-find_newest.found.state t c.seat_drives-on.result.items)
-    (sym c.pending-looked.ensures.runs.tables)
-    (laid_all _ _ _ _ _ _ (λ d. ap (λ r. (g.R.Rack.seen r).sectors d) c.new-slices.ensures.below ∙ stays.sectors d) c.seat_drives-on.ensures.laid)
+pub returns-clause-one_pool : goal.returns-clause-one_pool
+returns-clause-one_pool g c = λ told.
+    let found = c.in-Ok-look.found in
+    sym (c.has_other_pool.ensures _ _ (scan_says (g.R.Rack.seen c.args.rack) (g.R.Rack.seen (below_of found.slices)) found.scan.disks.items c.in-Ok-look.ensures.newest.scan told))
+    ∙ c.if-has_other_pool.false
 
-pub returns-clause-looked : goal.returns-clause-looked
-returns-clause-looked g c =
-    let same = c.seat_drives-on.ensures.below ∙ c.new-slices.ensures.below in
-    let reads = subst (λ r. OnlyReads (g.R.Rack.seen c.args.rack) (g.R.Rack.seen r)) (sym same) c.in-Ok-find_newest.ensures.only in
-    let empty = ap (λ (l : LogView). l.added) c.in-Ok.ensures in
-    looked_so _ _ _ _ _ _ _ _ _ _ _ _ c.seat_drives-on.new.slices.orderly c.seat_drives-on.ensures.fit.1 (laid_logs _ _ _ _ _ c.seat_drives-on.ensures.laid) reads
-    c.pending-looked.ensures.runs empty c.pending-looked.ensures.looks
-
-pub returns-clause-runs : goal.returns-clause-runs
-returns-clause-runs g c =
-    let same = c.seat_drives-on.ensures.below ∙ c.new-slices.ensures.below in
-    g.met.R.Rack.runs_then _ _ _ c.in-Ok-find_newest.ensures.runs
-    (subst (λ r. g.R.Rack.runs r (below_of c.pending-looked.new.rack)) same c.pending-looked.ensures.runs.below)
-
-pub returns-in-Err-find_newest-clause-exact : goal.returns-in-Err-find_newest-clause-exact
-returns-in-Err-find_newest-clause-exact g c = λ told free.
-    cause_meant (g.R.Rack.seen c.args.rack) (g.R.Rack.seen c.find_newest.new.rack) c.in-Err-find_newest.why c.in-Err-find_newest.ensures.refused told free
-
-pub returns-clause-meant : goal.returns-clause-meant
-returns-clause-meant g c = λ told free.
-    stand_meant (g.R.Rack.seen c.args.rack) (g.R.Rack.seen (below_of c.pending-looked.new.rack)) c.in-Ok-find_newest.found.scan.disks.items c.in-Ok-find_newest.found.state
-    (tables c.pending-looked.new.rack) c.seat_drives-on.result.items c.pending-looked.result.gone.items c.pending-looked.new.self c.pending-looked.result.pending
-    c.pending-looked.result.damaged (returns-clause-newest g c) (returns-clause-laid g c) (returns-clause-looked g c) told free
+pub returns-clause-single : goal.returns-clause-single
+returns-clause-single g c = λ told free.
+    let found = c.in-Ok-look.found in
+    sym (other_meant (g.R.Rack.seen c.args.rack) (g.R.Rack.seen (below_of found.slices)) found.state.pool.0 found.scan.disks.items c.in-Ok-look.ensures.newest.scan told free)
+    ∙ returns-clause-one_pool g c told
