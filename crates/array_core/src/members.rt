@@ -135,6 +135,14 @@ impl Array {
         17 * place + self.number + 1
     }
 
+    /// The slice of a member.
+    pub fn slice_at(&self, position: u32) -> u32
+        requires { position < self.now.truth.raid_disks }
+        ensures { result ≡ slice_on self.now position }
+    {
+        self.slice(position as usize)
+    }
+
     /// Whether a member is missing.
     pub(crate) fn is_missing(&self, position: usize) -> bool
         requires { position < self.now.truth.raid_disks }
@@ -197,7 +205,7 @@ impl Array {
     }
 
     /// How many members don't count at a sector of their data.
-    pub(crate) fn wanting(&self, sector: u64) -> usize
+    pub fn wanting(&self, sector: u64) -> usize
         ensures { result ≡ wanting sector (members_of self.now) }
     {
         let mut wanting = 0;
@@ -334,7 +342,7 @@ impl Array {
     }
 
     /// How a row of the members' data is spread.
-    fn row_spread(&self, sector: u64) -> Spread
+    pub(crate) fn row_spread(&self, sector: u64) -> Spread
         requires { sector < self.now.truth.size }
         ensures { layout_of result ≡ row_layout self.now sector }
     {
