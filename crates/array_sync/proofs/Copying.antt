@@ -1,6 +1,6 @@
 -- The targets of a row that are made of the others, one after the other.
-use Rattle.std.proofs.Common.{◌≡◌, ◌⊎◌, ℕ, zero, suc, ◌+◌, ◌-◌, ◌*◌, ◌<◌, ◌≤◌, Bool, true, false, ◌==◌, ◌&&◌, ◌||◌, not, List, [], ◌∷◌, ◌++◌, length, refl, sym, ap, subst, ◌∙◌, inl, inr, append_assoc, append-nil, arith}
-use Rattle.std.proofs.lemmas.Bool.{both_ways, and_parts, cases_lt, cases_eq}
+use Rattle.std.proofs.Common.{◌≡◌, ◌⊎◌, ℕ, ◌+◌, ◌-◌, ◌*◌, ◌<◌, ◌≤◌, Bool, true, false, ◌&&◌, ◌||◌, not, List, [], ◌∷◌, ◌++◌, length, refl, sym, ap, subst, ◌∙◌, inl, inr, append_assoc, append-nil, arith}
+use Rattle.std.proofs.lemmas.Bool.{both_ways, and_parts, cases_lt}
 use Rattle.std.proofs.lemmas.List.{length-append}
 use Rattle.std.specs.List.{list_any}
 use Rattle.rack.specs.Seen.{Seen}
@@ -10,15 +10,14 @@ use Rattle.array_image.specs.Places.{data_sector}
 use Rattle.array_image.specs.Record.{are_apart}
 use Rattle.array_image.specs.Stripes.{Layout, width}
 use Rattle.array_image.specs.Held.{current_in}
-use Rattle.array_model.specs.View.{View, IsArray, place_at, shape_of}
-use Rattle.array_model.specs.Says.{IsOpen}
+use Rattle.array_model.specs.View.{View, IsArray}
 use Rattle.array_model.specs.Members.{Notes, IsSameButSeats, row_layout, slice_on}
 use Rattle.array_model.proofs.Parts.{at_is, is_at_own}
 use Rattle.array_model.proofs.Layouts.{row_layout_is}
 use Rattle.array_model.proofs.Reading.{slice_same, row_layout_then, open_calls}
 use Rattle.array_model.proofs.RowWrites.{places_apart}
 use Rattle.array_core.proofs.RowLists.{payload_or, payload_left, payload_right}
-use Rattle.array_sync.specs.Rows.{AddsCopies, AreCopies, IsCopy, IsRowSum, OfRow, OfSector, SourcesCount, is_source, makes_others, row_sum}
+use Rattle.array_sync.specs.Rows.{AddsCopies, IsCopy, IsRowSum, OfRow, OfSector, SourcesCount, is_source, makes_others, row_sum}
 use Rattle.array_sync.proofs.Summing.{count_same, counted_before, sum_kept}
 
 -- ---- lists of targets

@@ -1,8 +1,7 @@
 -- What the members that make the others of a row give together, one after the other.
-use Rattle.std.proofs.Common.{◌≡◌, ℕ, zero, suc, ◌+◌, ◌*◌, ◌/◌, ◌<◌, ◌≤◌, Bool, true, false, ◌&&◌, ◌||◌, not, nat_lt, if◌then◌else◌, List, [], ◌∷◌, ◌++◌, map, take, length, Some, refl, sym, ap, ap₂, subst, ◌∙◌, inl, inr, ltb-true, lt-ltb, le-ltb, append-nil, arith}
+use Rattle.std.proofs.Common.{◌≡◌, ℕ, zero, suc, ◌+◌, ◌*◌, ◌/◌, ◌<◌, ◌≤◌, Bool, true, false, ◌&&◌, not, nat_lt, if◌then◌else◌, List, [], ◌∷◌, ◌++◌, map, length, refl, sym, ap, ap₂, subst, ◌∙◌, inl, inr, ltb-true, lt-ltb, le-ltb, append-nil, arith}
 use Rattle.std.proofs.lemmas.Bool.{both_ways, cases_lt}
 use Rattle.std.specs.List.{range_with_len}
-use Rattle.std.specs.Option.{option_map_or}
 use Rattle.rack.specs.Seen.{Image, Seen}
 use Rattle.rack.specs.Sequences.{OnlyReads}
 use Rattle.md_super.specs.declared.superblock.Super.{Super}
@@ -11,7 +10,7 @@ use Rattle.parity.specs.Xor.{xor, xor_all, zeros}
 use Rattle.parity.proofs.Laws.{xor_is_a_group, parity_restores}
 use Rattle.array_image.specs.Places.{data_sector}
 use Rattle.array_image.specs.Stripes.{Layout, width}
-use Rattle.array_image.specs.Arrays.{Member, column}
+use Rattle.array_image.specs.Arrays.{Member}
 use Rattle.array_image.specs.Held.{Among, current_in}
 use Rattle.array_image.specs.Spent.{wanting, spent_with}
 use Rattle.array_image.proofs.Losing.{column_there, map_join}
@@ -19,7 +18,7 @@ use Rattle.array_model.specs.View.{View, IsArray, member_on, shape_of}
 use Rattle.array_model.specs.Says.{IsOpen}
 use Rattle.array_model.specs.Members.{Notes, IsSameButSeats, members_of, row_layout, row_of, restored, member_spent, slice_on}
 use Rattle.array_model.proofs.Filled.{one_wants, xor_zeros}
-use Rattle.array_model.proofs.Firsts.{member_among, firsts_split}
+use Rattle.array_model.proofs.Firsts.{member_among}
 use Rattle.array_model.proofs.Keeping.{live_on}
 use Rattle.array_model.proofs.Layouts.{row_layout_is}
 use Rattle.array_model.proofs.Noting.{length_members}
@@ -132,7 +131,7 @@ pub no_sum : (v : View) (c : Image) (sector : ℕ) → row_sum v c sector 0 ≡ 
 unfolding row_sum xor_all
 no_sum v c sector = refl
 
-range_more : (k : ℕ) → range_with_len 0 (k + 1) ≡ range_with_len 0 k ++ k ∷ []
+pub range_more : (k : ℕ) → range_with_len 0 (k + 1) ≡ range_with_len 0 k ++ k ∷ []
 range_more k = more 0 k ∙ ap (λ (j : ℕ). range_with_len 0 k ++ j ∷ []) (zero_more k)
   where
     zero_more : (k : ℕ) → 0 + k ≡ k

@@ -1,11 +1,9 @@
 -- What a step of maintenance does to an array.
-use Rattle.std.specs.Prelude.{◌≡◌, ◌⊎◌, ℕ, ◌+◌, ◌-◌, ◌*◌, ◌^◌, Bool, true, false, ◌&&◌, nat_lt, if◌then◌else◌, List, []}
+use Rattle.std.specs.Prelude.{◌≡◌, ℕ, ◌+◌, ◌-◌, ◌*◌, ◌^◌, Bool, true, false, nat_lt, if◌then◌else◌, List}
 use Rattle.rack.specs.Values.{Values}
 use Rattle.rack.specs.Seen.{Image, Seen}
 use Rattle.pool_state.specs.declared.contents.State.{State}
-use Rattle.array_image.specs.Arrays.{Shape}
 use Rattle.array_image.specs.Left.{IsLeft}
-use Rattle.commit_log.specs.View.{LogView, committed, emptied}
 use Rattle.commit_log.specs.Kept.{LogKept}
 use Rattle.array_model.specs.View.{View, has_gone, rows_of, shape_of}
 use Rattle.array_model.specs.Says.{Holds}

@@ -59,6 +59,7 @@ pub fn resync_row<R: Rack>(
     requires disks { (R.seen rack.old).disks ≡ 272 }
     requires logs { AreLogs (R.seen rack.old).sectors on.now.items }
     requires empty { log.old.added ≡ [] }
+    requires grown { array.old.young ≡ false }
     requires row { array.old.resync < rows_of array.old }
     ensures steps { Steps array.old (resynced array.old) array.new log.old.number log.new.number on.now.items (R.seen rack.old) (R.seen rack.new) (is_ok result) }
     ensures elsewhere { KeepsElsewhere false array.old on.now.items (R.seen rack.old) (R.seen rack.new) }
@@ -74,12 +75,13 @@ pub fn resync_row<R: Rack>(
     let row = array.resync_from();
     let change = array.resynced_to(offset_after(array, row + 1));
     array.stage(log, &change);
-    if !stage_row(array, rack, log, row) || lacks_row(array, row) {
+    if !stage_row(array, rack, log, row) {
         log.clear();
         return answer(array, row);
     }
     let lost = log.commit(rack, on);
     array.note_all(&lost);
+    array.rules();
     let answered = answer(array, row);
     array.adopt(&change);
     answered

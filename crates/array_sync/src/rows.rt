@@ -206,8 +206,8 @@ fn stage_sector<R: Rack>(array: &mut Array, rack: &mut R, log: &mut Log, sector:
     true
 }
 
-/// Adds to the log what a resync changes of a row. The answer is false where a member can't be had.
-pub(crate) fn stage_row<R: Rack>(array: &mut Array, rack: &mut R, log: &mut Log, row: u64) -> bool
+/// Adds to the log what a resync changes of the sectors of a row. The answer is false where a member can't be had.
+fn stage_sectors<R: Rack>(array: &mut Array, rack: &mut R, log: &mut Log, row: u64) -> bool
     requires slices { HasSlices array.old (R.seen rack.old) }
     requires row { row < rows_of array.old }
     requires left { array.old.resync ≤ row }
@@ -226,4 +226,23 @@ pub(crate) fn stage_row<R: Rack>(array: &mut Array, rack: &mut R, log: &mut Log,
         }
     }
     true
+}
+
+/// Adds to the log what a resync changes of a row. The answer is false where a member is missing, or not rebuilt past the row.
+pub(crate) fn stage_row<R: Rack>(array: &mut Array, rack: &mut R, log: &mut Log, row: u64) -> bool
+    requires slices { HasSlices array.old (R.seen rack.old) }
+    requires row { row < rows_of array.old }
+    requires left { array.old.resync ≤ row }
+    requires room { length log.old.added + 2048 ≤ most_sectors }
+    ensures reads { OnlyReads (R.seen rack.old) (R.seen rack.new) }
+    ensures notes { Notes array.old array.new (R.seen rack.old) (R.seen rack.new) }
+    ensures runs { R.runs rack.old rack.new }
+    ensures added { result ≡ true → AddsCopies array.old (OfRow array.old (row * 128) 128) (IsRowSum array.old (R.seen rack.old)) 2048 log.old.added log.new.added }
+    ensures answer { result ≡ not (lacks_row array.new row) }
+    ensures log { log.new ≡ record log.old { added = log.new.added } }
+{
+    if !stage_sectors(array, rack, log, row) {
+        return false;
+    }
+    !lacks_row(array, row)
 }

@@ -1,8 +1,5 @@
-use Rattle.std.proofs.Common.{sym, subst, ◌≡◌, ℕ, arith, ap, ◌∙◌}
-use Rattle.array_image.specs.Stripes.{Layout, width}
-use Rattle.array_model.specs.Members.{row_layout}
-use Rattle.array_model.proofs.Reading.{row_layout_then}
-use Rattle.array_sync.specs.Rows.{AddsCopies, IsRowSum, OfSector, SourcesCount}
+use Rattle.std.proofs.Common.{subst, ◌≡◌, ℕ}
+use Rattle.array_sync.specs.Rows.{AddsCopies, OfSector, SourcesCount}
 use Rattle.array_sync.proofs.Copying.{sector_copies}
 use Rattle.array_sync.proofs.Summing.{members_then, sector_then}
 use Rattle.array_sync.proofs.rows.stage_sector.Goals as goal

@@ -1,13 +1,9 @@
-use Rattle.std.proofs.Common.{sym, ap, subst, ◌∙◌, arith}
+use Rattle.std.proofs.Common.{arith}
 use Rattle.rack.proofs.Reading.{only_reads_start, only_reads_join}
-use Rattle.array_image.specs.Stripes.{width}
 use Rattle.array_image.specs.Held.{current_in}
-use Rattle.array_model.specs.View.{shape_of}
-use Rattle.array_model.specs.Members.{row_layout}
 use Rattle.array_model.proofs.Layouts.{row_layout_is}
-use Rattle.array_model.proofs.Reading.{slices_then, row_layout_then}
+use Rattle.array_model.proofs.Reading.{slices_then}
 use Rattle.array_model.proofs.Views.{notes_none, notes_then}
-use Rattle.array_sync.specs.Rows.{row_sum, SourcesCount}
 use Rattle.array_sync.proofs.Summing.{counts_next, members_then, row_left, sector_then, sum_next}
 use Rattle.array_sync.proofs.rows.sum_sources.Goals as goal
 

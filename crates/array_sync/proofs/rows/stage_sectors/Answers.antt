@@ -1,15 +1,12 @@
-use Rattle.std.proofs.Common.{ap, ◌≡◌, ◌+◌, ◌-◌, ◌*◌, ℕ, ◌∙◌, sym, subst, refl, arith}
+use Rattle.std.proofs.Common.{ap, ◌≡◌, ◌-◌, ◌*◌, ℕ, ◌∙◌, subst, refl, arith}
 use Rattle.rack.proofs.Reading.{only_reads_start, only_reads_join}
 use Rattle.commit_log.specs.View.{LogView}
-use Rattle.array_image.specs.Stripes.{Layout, width}
-use Rattle.array_model.specs.Members.{row_layout}
-use Rattle.array_model.proofs.Layouts.{row_layout_is}
 use Rattle.array_model.proofs.Reading.{slices_then}
-use Rattle.array_model.proofs.Views.{notes_none, notes_then, same_view}
-use Rattle.array_sync.specs.Rows.{AddsCopies, IsRowSum, OfRow, OfSector, SourcesCount}
-use Rattle.array_sync.proofs.Copying.{added_length, copies_by, no_copies, row_step}
+use Rattle.array_model.proofs.Views.{notes_none, notes_then}
+use Rattle.array_sync.specs.Rows.{AddsCopies, IsRowSum, OfRow}
+use Rattle.array_sync.proofs.Copying.{added_length, no_copies, row_step}
 use Rattle.array_sync.proofs.Summing.{row_left, sector_then, sector_in_row, lacks_at_last}
-use Rattle.array_sync.proofs.rows.stage_row.Goals as goal
+use Rattle.array_sync.proofs.rows.stage_sectors.Goals as goal
 
 pub loop-sector-init : goal.loop-sector-init
 loop-sector-init g c = (
