@@ -82,6 +82,10 @@ settled v = record v { truth = settled_truth v; marked = false }
 abbrev pub resynced_to : View → ℕ → Change
 resynced_to v offset = record { truth = record v.truth { events = raised v.truth.events; resync_offset = offset }; place = None; to = 0 }
 
+-- the member of a place is rebuilt up to a sector of its data
+abbrev pub rebuilt_by : View → ℕ → ℕ → Change
+rebuilt_by v place to = record { truth = v.truth; place = Some place; to = to }
+
 -- ---- superblocks
 
 -- feature bits 4 of a reshape and 2 of a rebuild

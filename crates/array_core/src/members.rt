@@ -1,6 +1,6 @@
 //! The members of an array: who counts where, and where a sector stands.
 
-ghost use Rattle.std.specs.Prelude.{count_by, not, ◌≢◌, ◌==◌, ◌&&◌, false, slice_get, ◌≡◌, ◌<◌, ◌≤◌, ◌^◌, ℕ, Some, None, nat_lt, true, IfSome, IfNone};
+ghost use Rattle.std.specs.Prelude.{count_by, not, ◌≢◌, ◌==◌, ◌&&◌, false, slice_get, ◌≡◌, ◌<◌, ◌≤◌, ◌^◌, ℕ, Some, None, nat_lt, true, IfSome, IfNone, ◌+◌};
 ghost use Rattle.std.specs.List.{list_all};
 ghost use Rattle.raid_map.specs.LeftSymmetric.{parity_at, row_at, sector_of};
 ghost use Rattle.array_image.specs.Stripes.{mirror, parity, width, position_in, sector_in};
@@ -133,6 +133,29 @@ impl Array {
     {
         let place = self.place_on(position);
         17 * place + self.number + 1
+    }
+
+    /// The position of a member's place.
+    pub fn position(&self, place: u32) -> u32
+        requires { (k : ℕ) × (k < self.now.truth.raid_disks) × (place_at self.now k ≡ place) }
+        ensures position { result < self.now.truth.raid_disks }
+        ensures place { place_at self.now result ≡ place }
+    {
+        self.rules();
+        for position in 0..self.truth.raid_disks {
+            if self.place_on(position as usize) == place {
+                return position;
+            }
+        }
+        0
+    }
+
+    /// The seat of the member at a position.
+    pub fn seat_on(&self, position: u32) -> Seat
+        requires { position < self.now.truth.raid_disks }
+        ensures { slice_get self.now.seats position ≡ Some result }
+    {
+        self.slot(position as usize).seat
     }
 
     /// The slice of a member.

@@ -51,6 +51,18 @@ impl Array {
         }
     }
 
+    /// The change by which the member of a place is rebuilt up to a sector of its data.
+    pub fn rebuilt_to(&self, place: u32, to: u64) -> Change
+        ensures change { result ≡ spec.rebuilt_by self.now place to }
+        ensures truth { is_truth result.truth ≡ true }
+    {
+        Change {
+            truth: copied(&self.truth),
+            place: Some(place),
+            to,
+        }
+    }
+
     /// The member sector from which rows are left to resync, or in a young array to zero; all ones where none is.
     pub(crate) fn left_from(&self) -> u64
         ensures { result ≡ spec.left_offset self.now }

@@ -35,7 +35,7 @@ use Rattle.commit_log.proofs.Kept.{stands_of, before_inside, put_none, put_some}
 use Rattle.commit_log.proofs.Story.{payload_is}
 use Rattle.array_model.specs.declared.Seat.{Seat}
 use Rattle.array_model.specs.View.{View, IsArray, shape_of, spent_in, may_vary, is_missing_seat, place_at}
-use Rattle.array_model.specs.Says.{Says, IsOpen, HoldsShape, Holds, IsEarlier, HasNoOthers}
+use Rattle.array_model.specs.Says.{Says, IsOpen, KeepsSource, HoldsShape, Holds, IsEarlier, HasNoOthers}
 use Rattle.array_model.specs.Stages.{IsStateOf, NoOthers, AmongTargets, HasTargets}
 use Rattle.array_model.specs.ArrayCalls.{Turns, Covers, KeepsSupers, HasFields}
 use Rattle.array_model.specs.Rows.{written, source_at, sector_at}
@@ -57,12 +57,12 @@ use Rattle.array_core.proofs.Staged.{slot_on, alone_others, staged_shape, staged
 use Rattle.array_core.proofs.Stripped.{strip_written, whole_written}
 
 -- an array with another truth of its members, other seats and other rows left to resync
-abbrev pub restated : View → (events offset resync : ℕ) → List Seat → View
-restated v events offset resync seats = record v {
+abbrev pub restated : View → (events offset resync : ℕ) → List Seat → Bool → View
+restated v events offset resync seats marked = record v {
   truth = record v.truth { events = events; resync_offset = offset };
   seats = seats;
   resync = resync;
-  marked = false;
+  marked = marked;
 }
 
 -- contents say the array before a step or after it
@@ -81,8 +81,9 @@ pub record RowMoves (v : View) (g : Shape) (resync : ℕ) (cur : Image) (own_dat
   pub value : (y : ℕ) → spent_in v y ≡ false → value_by g (written own_data cur) v.number y ≡ value_by (shape_of v) cur v.number y
   pub source :
       (y : ℕ) (m : Member) → spent_in v y ≡ false → source_at g y ≡ Some m
-      → (source_at (shape_of v) y ≡ Some m) × (sector_at g y ≡ sector_at (shape_of v) y)
-      × (look own_data (member_slice m.place v.number) (data_sector + sector_at g y) ≡ None)
+      → ((o : Member) × (source_at (shape_of v) y ≡ Some o) × (o.place ≡ m.place) × (sector_at g y ≡ sector_at (shape_of v) y)
+      × (look own_data (member_slice m.place v.number) (data_sector + sector_at g y) ≡ None))
+      ⊎ (look own_data (member_slice m.place v.number) (data_sector + sector_at g y) ≡ Some (value_by (shape_of v) cur v.number y))
   pub even : AreEven (shape_of v) v.number v.resync cur → AreEven g v.number resync (written own_data cur)
 
 -- ---- targets
@@ -137,31 +138,31 @@ none_or (Some u) lacks = absurd (lacks u refl)
 
 -- ---- the commit
 
-module _ (s : State) (v w : View) (events offset resync : ℕ) (seats : List Seat) (a b c : Seen) (l : LogView) (on lost : List ℕ) (gone : ℕ → Bool) (supers own_data : List Target)
-    (is_array : IsArray v) (later_array : IsArray (restated v events offset resync seats)) (fresh : v.went ≡ []) (steady : may_vary v ≡ false)
-    (commit : CommitCall l on lost b c) (ready : IsReady l on b) (decides : SomeoneDecides l.added on lost b)
+module _ (s : State) (v w : View) (events offset resync : ℕ) (seats : List Seat) (marked : Bool) (a b c : Seen) (l : LogView) (on lost : List ℕ) (gone : ℕ → Bool) (supers own_data : List Target)
+    (is_array : IsArray v) (later_array : IsArray (restated v events offset resync seats marked)) (fresh : v.went ≡ []) (steady : may_vary v ≡ false)
+    (unmarked : marked ≡ false) (commit : CommitCall l on lost b c) (ready : IsReady l on b) (decides : SomeoneDecides l.added on lost b)
     (kept : LogKept s (next_number l.number) (gone_with (λ place. false) lost) c)
     (quiet : (i : Image) → PicksLogs b i → (d t : ℕ) → replayed b.sectors i d t ≡ i d t)
     (early : (r : Image) → IsLeft b r → IsLeft a r)
     (added : l.added ≡ supers ++ own_data) (apart : are_apart l.added ≡ true)
-    (adds : AddsSupersOf (restated v events offset resync seats) [] supers)
+    (adds : AddsSupersOf (restated v events offset resync seats marked) [] supers)
     (apart_supers : are_apart supers ≡ true)
     (of_supers : (d t : ℕ) (u : List ℕ) → look supers d t ≡ Some u → (k : ℕ) × (k < v.truth.raid_disks) × (d ≡ member_slice (place_at v k) v.number) × (t ≡ super_sector))
     (own : IsOwnData v.number own_data)
-    (state : IsStateOf (restated v events offset resync seats) s) (rows : HasRowRebuilds (restated v events offset resync seats))
+    (state : IsStateOf (restated v events offset resync seats marked) s) (rows : HasRowRebuilds (restated v events offset resync seats marked))
     (events_more : v.truth.events ≤ events) (whole_offset : (offset ≡ 2 ^ 64 - 1) ⊎ (offset % 128 ≡ 0))
     (unsynced : first_unsynced (record v.truth { events = events; resync_offset = offset }) ≤ resync)
-    (some : ℕ) (some_low : some < v.truth.raid_disks) (some_there : is_missing_seat (slot_on (restated v events offset resync seats) some).seat ≡ false)
-    (losing : IsLosing (restated v events offset resync seats) w gone) (left_too : (place : ℕ) → gone place ≡ false → names lost place ≡ false) (nobody : w.went ≡ [] → lost ≡ [])
+    (some : ℕ) (some_low : some < v.truth.raid_disks) (some_there : is_missing_seat (slot_on (restated v events offset resync seats marked) some).seat ≡ false)
+    (losing : IsLosing (restated v events offset resync seats marked) w gone) (left_too : (place : ℕ) → gone place ≡ false → names lost place ≡ false) (nobody : w.went ≡ [] → lost ≡ [])
     (vals : ℕ → Values) (spent : ℕ → Bool) (covers : Covers w spent) (unspent : (y : ℕ) → spent y ≡ false → spent_in v y ≡ false)
     (H : Type 0) (begins : H → Holds s (shape_of v) v vals spent b)
-    (opened : H → IsOpen (shape_of (restated v events offset resync seats)) v.number b)
-    (moves : H → RowMoves v (shape_of (restated v events offset resync seats)) resync (current_in b.held) own_data) where
+    (opened : H → IsOpen (shape_of (restated v events offset resync seats marked)) v.number b)
+    (moves : H → RowMoves v (shape_of (restated v events offset resync seats marked)) resync (current_in b.held) own_data) where
   abbrev n : ℕ
   n = v.number
 
   abbrev g : View
-  g = restated v events offset resync seats
+  g = restated v events offset resync seats marked
 
   few : v.number < 16
   few = is_array.few
@@ -204,7 +205,7 @@ module _ (s : State) (v w : View) (events offset resync : ℕ) (seats : List Sea
     holds : Holds s (shape_of v) v vals spent b
     holds = begins h
 
-    move : RowMoves v (shape_of (restated v events offset resync seats)) resync (current_in b.held) own_data
+    move : RowMoves v (shape_of (restated v events offset resync seats marked)) resync (current_in b.held) own_data
     move = moves h
 
     -- contents with all data written, by what the members hold
@@ -212,7 +213,7 @@ module _ (s : State) (v w : View) (events offset resync : ℕ) (seats : List Sea
     now = written own_data (current_in b.held)
 
     -- a sector that counts after it, in a pick with all targets
-    data_put : (before : Image) → Picks b before → (m : Member) (t : ℕ) → Among m (shape_of (restated v events offset resync seats)).members → t < m.reach
+    data_put : (before : Image) → Picks b before → (m : Member) (t : ℕ) → Among m (shape_of (restated v events offset resync seats marked)).members → t < m.reach
         → put b.sectors l.added before (member_slice m.place v.number) (data_sector + t) ≡ written own_data (current_in b.held) (member_slice m.place v.number) (data_sector + t)
     data_put before picks m t among counts =
         let d = member_slice m.place n in
@@ -236,10 +237,10 @@ module _ (s : State) (v w : View) (events offset resync : ℕ) (seats : List Sea
         none_some : {u : List ℕ} → None ≡ Some u → ⊥
         none_some same = cc
 
-    value_now : (y : ℕ) → spent y ≡ false → value_by (shape_of (restated v events offset resync seats)) (written own_data (current_in b.held)) v.number y ≡ (vals y).current
+    value_now : (y : ℕ) → spent y ≡ false → value_by (shape_of (restated v events offset resync seats marked)) (written own_data (current_in b.held)) v.number y ≡ (vals y).current
     value_now y alive = move.value y (unspent y alive) ∙ holds.shape.current y alive
 
-    even_now : AreEven (shape_of (restated v events offset resync seats)) v.number resync (written own_data (current_in b.held))
+    even_now : AreEven (shape_of (restated v events offset resync seats marked)) v.number resync (written own_data (current_in b.held))
     even_now = move.even holds.shape.even
 
     -- ---- contents that are those before it with all targets
@@ -259,7 +260,7 @@ module _ (s : State) (v w : View) (events offset resync : ℕ) (seats : List Sea
       old : Says s v.number (shape_of v) vals spent (replayed b.sectors all.before)
       old = holds.shape.says (replayed b.sectors all.before) left
 
-      counted : (m : Member) (t : ℕ) → Among m (shape_of (restated v events offset resync seats)).members → t < m.reach
+      counted : (m : Member) (t : ℕ) → Among m (shape_of (restated v events offset resync seats marked)).members → t < m.reach
           → r (member_slice m.place v.number) (data_sector + t) ≡ written own_data (current_in b.held) (member_slice m.place v.number) (data_sector + t)
       counted m t among counts = all.alike m.place (data_sector + t) ∙ data_put all.before all.picks m t among counts
 
@@ -280,7 +281,7 @@ module _ (s : State) (v w : View) (events offset resync : ℕ) (seats : List Sea
           (put_some b.sectors l.added all.before x.disk x.sector x.bytes live.sector all_found))
 
       -- on the places of members alone
-      alone : HasNoOthers (restated v events offset resync seats) s r
+      alone : HasNoOthers (restated v events offset resync seats marked) s r
       alone place current other =
           super_of_sector s r (replayed b.sectors all.before) n place
           (all.alike place super_sector
@@ -299,10 +300,10 @@ module _ (s : State) (v w : View) (events offset resync : ℕ) (seats : List Sea
       placed : (k : ℕ) → k < v.truth.raid_disks → place_at v k < 16
       placed k low = let there = is_array.placed k low in subst (λ (p : ℕ). p < 16) (sym (ap (λ o. unwrap_or o 16) there.1)) there.2
 
-      others : NoOthers (restated v events offset resync seats) s r
+      others : NoOthers (restated v events offset resync seats marked) s r
       others = alone_others g s r later_array.seats alone
 
-      shape_now : shape_in s r v.number ≡ Some (shape_of (restated v events offset resync seats))
+      shape_now : shape_in s r v.number ≡ Some (shape_of (restated v events offset resync seats marked))
       shape_now = staged_shape g s r later_array.seats later_array.devices placed state [] supers adds has some some_low some_there others
 
       fields_now : HasFields s v.number (record v.truth { events = events; resync_offset = offset }) r
@@ -331,10 +332,10 @@ module _ (s : State) (v w : View) (events offset resync : ℕ) (seats : List Sea
           whole_written n (record v.truth { events = events; resync_offset = offset }) whole_offset
           (subst (IsWrittenSuper n) earlier.fields (strip_written n t before))
 
-      even_r : AreEven (shape_of (restated v events offset resync seats)) v.number resync r
+      even_r : AreEven (shape_of (restated v events offset resync seats marked)) v.number resync r
       even_r = even_counted (shape_of g) n resync r now counted even_now
 
-      all_says : Says s v.number (shape_of (restated v events offset resync seats)) vals spent r
+      all_says : Says s v.number (shape_of (restated v events offset resync seats marked)) vals spent r
       all_says = record {
         shape_is = shape_now;
         value = λ y alive.
@@ -354,7 +355,7 @@ module _ (s : State) (v w : View) (events offset resync : ℕ) (seats : List Sea
     -- ---- moments
 
     old_says : (i before : Image) → Picks b before → IsAlike (replayed b.sectors i) (replayed b.sectors before)
-        → SaysEither s v (restated v events offset resync seats) a vals spent (replayed b.sectors i)
+        → SaysEither s v (restated v events offset resync seats marked) a vals spent (replayed b.sectors i)
     old_says i before picks alike =
         let r = replayed b.sectors i in
         let e = replayed b.sectors before in
@@ -387,7 +388,7 @@ module _ (s : State) (v w : View) (events offset resync : ℕ) (seats : List Sea
         }
 
     -- whoever is left has what was written, or what it had
-    kept_now : (m : Member) (t : ℕ) → Among m (shape_of (restated v events offset resync seats)).members → t < m.reach → gone m.place ≡ false
+    kept_now : (m : Member) (t : ℕ) → Among m (shape_of (restated v events offset resync seats marked)).members → t < m.reach → gone m.place ≡ false
         → current_in c.held (member_slice m.place v.number) (data_sector + t) ≡ written own_data (current_in b.held) (member_slice m.place v.number) (data_sector + t)
     kept_now m t among counts here =
         let d = member_slice m.place n in
@@ -400,7 +401,7 @@ module _ (s : State) (v w : View) (events offset resync : ℕ) (seats : List Sea
         ] in
         goal refl
 
-    sized_now : (m : Member) (t : ℕ) → Among m (shape_of (restated v events offset resync seats)).members → t < m.reach
+    sized_now : (m : Member) (t : ℕ) → Among m (shape_of (restated v events offset resync seats marked)).members → t < m.reach
         → length (written own_data (current_in b.held) (member_slice m.place v.number) (data_sector + t)) ≡ 512
     sized_now m t among counts =
         let d = member_slice m.place n in
@@ -416,8 +417,8 @@ module _ (s : State) (v w : View) (events offset resync : ℕ) (seats : List Sea
         goal refl
 
     -- a sector without a source has its value of members that are all left
-    unsourced : (y : ℕ) → spent y ≡ false → source_at (shape_of (restated v events offset resync seats)) y ≡ None
-        → value_by (shape_of (restated v events offset resync seats)) (current_in c.held) v.number y ≡ (vals y).current
+    unsourced : (y : ℕ) → spent y ≡ false → source_at (shape_of (restated v events offset resync seats marked)) y ≡ None
+        → value_by (shape_of (restated v events offset resync seats marked)) (current_in c.held) v.number y ≡ (vals y).current
     unsourced y alive none =
         let shape = shape_of g in
         let t = sector_at shape y in
@@ -436,9 +437,10 @@ module _ (s : State) (v w : View) (events offset resync : ℕ) (seats : List Sea
         (λ (z : gone m.place ≡ false). z) (goal refl)))
         ∙ value_now y alive
 
-    within_now : (y : ℕ) → spent y ≡ false → (u : List ℕ) → MayLeave (held_by (shape_of (restated v events offset resync seats)) c.held v.number y) u → MayLeave (vals y) u
+    within_now : (y : ℕ) → spent y ≡ false → (u : List ℕ) → MayLeave (held_by (shape_of (restated v events offset resync seats marked)) c.held v.number y) u
+        → KeepsSource (shape_of (restated v events offset resync seats marked)) (lowered gone (shape_of (restated v events offset resync seats marked))) y → MayLeave (vals y) u
     unfolding held_by
-    within_now y alive u may =
+    within_now y alive u may keeps_source =
         let shape = shape_of g in
         let Goal : Option Member → Type 0 = λ o. source_at shape y ≡ o
         → MayLeave (option_map_or (held_of c.held n (sector_at shape y)) o (only (value_by shape (current_in c.held) n y))) u
@@ -447,17 +449,27 @@ module _ (s : State) (v w : View) (events offset resync : ℕ) (seats : List Sea
           | None ↦ λ none may_be. elim may_be [ inl is ↦ inl (is ∙ unsourced y alive none) | inr older ↦ absurd older ]
           | Some m ↦ λ is may_be.
               let found = source_counts shape y m is in
-              let from = move.source y m (unspent y alive) is in
               let d = member_slice m.place n in
-              let i = data_sector + sector_at shape y in
-              let keeps = commit.apart d i (live_on lasting commit.stays (opened h m (sector_at shape y) found.among found.counts)) (not_log m.place i) (look_data d (sector_at shape y) ∙ from.2) in
-              holds.shape.within y alive u
-              (subst (λ values. MayLeave values u) (sym (own_held (shape_of v) n y b.held m from.0))
-              (subst (λ t. MayLeave (held_of b.held n t m) u) from.1 (keeps.within u may_be)))
+              let t = sector_at shape y in
+              let i = data_sector + t in
+              let live = live_on lasting commit.stays (opened h m t found.among found.counts) in
+              elim (move.source y m (unspent y alive) is) [
+                | inl from ↦
+                    let keeps = commit.apart d i live (not_log m.place i) (look_data d t ∙ from.4) in
+                    holds.shape.within y alive u
+                    (subst (λ values. MayLeave values u) (sym (own_held (shape_of v) n y b.held from.0 from.1))
+                    (subst (λ p. MayLeave (b.held (member_slice p n) (data_sector + sector_at (shape_of v) y)) u) (sym from.2)
+                    (subst (λ j. MayLeave (b.held d (data_sector + j)) u) from.3 (keeps.within u may_be))))
+                    (λ o at. (source_counts (shape_of v) y o at).among)
+                | inr made ↦
+                    let here = among_kept gone t shape.members m (keeps_source m is) found.counts in
+                    inl (commit.written d i (value_by (shape_of v) (current_in b.held) n y) u live (ap (names lost) (place_is m.place) ∙ left_too m.place here) (look_data d t ∙ made) may_be
+                    ∙ holds.shape.current y alive)
+              ]
         ] in
         goal refl may
 
-    settled_now : IsSettled (lowered gone (shape_of (restated v events offset resync seats))) v.number c.held
+    settled_now : IsSettled (lowered gone (shape_of (restated v events offset resync seats marked))) v.number c.held
     settled_now m t among counts u may =
         let shape = shape_of g in
         let of = among_lowered gone t shape.members m among counts in
@@ -483,7 +495,7 @@ module _ (s : State) (v w : View) (events offset resync : ℕ) (seats : List Sea
         ] in
         goal refl
 
-    shape_held : HoldsShape s v.number (shape_of (restated v events offset resync seats)) (lowered gone (shape_of (restated v events offset resync seats))) resync (may_vary w) vals spent c
+    shape_held : HoldsShape s v.number (shape_of (restated v events offset resync seats marked)) (lowered gone (shape_of (restated v events offset resync seats marked))) resync (may_vary w) vals spent c
     shape_held =
         let shape = shape_of g in
         let left_now : (m : Member) (t : ℕ) → Among m (lowered gone shape).members → t < m.reach → current_in c.held (member_slice m.place n) (data_sector + t) ≡ now (member_slice m.place n) (data_sector + t) =
@@ -505,13 +517,13 @@ module _ (s : State) (v w : View) (events offset resync : ℕ) (seats : List Sea
           settled = λ same. settled_now;
         }
 
-    holds_now : Holds s (shape_of (restated v events offset resync seats)) w vals spent c
+    holds_now : Holds s (shape_of (restated v events offset resync seats marked)) w vals spent c
     holds_now = record {
       shape =
           subst (λ k. HoldsShape s k (shape_of g) (shape_of w) w.resync (may_vary w) vals spent c) (sym losing.number)
           (subst (λ k. HoldsShape s n (shape_of g) (shape_of w) k (may_vary w) vals spent c) (sym losing.resync)
           (subst (λ (f : Shape). HoldsShape s n (shape_of g) f resync (may_vary w) vals spent c) (sym losing.shape) shape_held));
-      mark = λ marked. absurd (both_ways false refl (losing.marked marked));
+      mark = λ is_marked. absurd (both_ways marked unmarked (losing.marked is_marked));
       alone = λ r left place current other.
           subst (λ k. super_in s r k place ≡ None) (sym losing.number)
           (alone r (all_after r left) place current
@@ -537,7 +549,7 @@ module _ (s : State) (v w : View) (events offset resync : ℕ) (seats : List Sea
   no_log : (d t : ℕ) → IsApart v.number d t → IsLogPart d t → ⊥
   no_log d t apart_from part = elim apart_from.1 [ inl other ↦ other part.0 | inr first ↦ (let later = part.1 in absurd (omega (arith, first, later))) ]
 
-  pub moved : Moves v.number b c H (SaysEither s v (restated v events offset resync seats) a vals spent) (Holds s (shape_of (restated v events offset resync seats)) w vals spent c)
+  pub moved : Moves v.number b c H (SaysEither s v (restated v events offset resync seats marked) a vals spent) (Holds s (shape_of (restated v events offset resync seats marked)) w vals spent c)
   moved = record {
     stays = commit.stays;
     leaves = λ traced.

@@ -265,6 +265,6 @@ module _ (v : View) (a b : Seen) (xs : List Target) (is_array : IsArray v) (last
   row_moves = record {
     counted = λ m t among counts. inl (m, among, refl, counts);
     value = λ y alive. value_kept y;
-    source = λ y m alive is. (is, refl, source_none y m is);
+    source = λ y m alive is. inl (m, is, refl, refl, source_none y m is);
     even = even_kept;
   }

@@ -50,6 +50,7 @@ commit-lost-requires-clause-some g c =
     (record { is_array = c.rules.ensures; grown = c.requires.grown; row = c.requires.row; unsynced = c.unsynced_rows.ensures })
     c.resync_from-row.ensures c.offset_after.ensures c.resynced_to-change.ensures.change c.requires.empty c.stage.ensures.added
     (c.stage_row.ensures.added c.if-not-stage_row.false) c.stage_row.ensures.notes (sym c.stage_row.ensures.answer ∙ c.if-not-stage_row.false))
+    c.requires.slices.lasting c.stage_row.ensures.reads
 
 pub commit-lost-requires-clause-valid : goal.commit-lost-requires-clause-valid
 commit-lost-requires-clause-valid g c =
@@ -58,6 +59,7 @@ commit-lost-requires-clause-valid g c =
     (record { is_array = c.rules.ensures; grown = c.requires.grown; row = c.requires.row; unsynced = c.unsynced_rows.ensures })
     c.resync_from-row.ensures c.offset_after.ensures c.resynced_to-change.ensures.change c.requires.empty c.stage.ensures.added
     (c.stage_row.ensures.added c.if-not-stage_row.false) c.stage_row.ensures.notes (sym c.stage_row.ensures.answer ∙ c.if-not-stage_row.false))
+    c.requires.slices.lasting c.stage_row.ensures.reads
 
 pub commit-lost-requires-clause-apart : goal.commit-lost-requires-clause-apart
 commit-lost-requires-clause-apart g c =
@@ -66,6 +68,7 @@ commit-lost-requires-clause-apart g c =
     (record { is_array = c.rules.ensures; grown = c.requires.grown; row = c.requires.row; unsynced = c.unsynced_rows.ensures })
     c.resync_from-row.ensures c.offset_after.ensures c.resynced_to-change.ensures.change c.requires.empty c.stage.ensures.added
     (c.stage_row.ensures.added c.if-not-stage_row.false) c.stage_row.ensures.notes (sym c.stage_row.ensures.answer ∙ c.if-not-stage_row.false))
+    c.requires.slices.lasting c.stage_row.ensures.reads
 
 pub commit-lost-requires-clause-had : goal.commit-lost-requires-clause-had
 commit-lost-requires-clause-had g c =
@@ -73,7 +76,8 @@ commit-lost-requires-clause-had g c =
     (staged c.args.array.now c.stage_row.new.array (g.R.Rack.seen c.args.rack.now) (g.R.Rack.seen c.stage_row.new.rack) c.resync_from-row.result c.offset_after.result c.resynced_to-change.result c.args.log.now.added c.stage.new.log.added c.stage_row.new.log.added
     (record { is_array = c.rules.ensures; grown = c.requires.grown; row = c.requires.row; unsynced = c.unsynced_rows.ensures })
     c.resync_from-row.ensures c.offset_after.ensures c.resynced_to-change.ensures.change c.requires.empty c.stage.ensures.added
-    (c.stage_row.ensures.added c.if-not-stage_row.false) c.stage_row.ensures.notes (sym c.stage_row.ensures.answer ∙ c.if-not-stage_row.false)) c.requires.slices c.stage_row.ensures.reads
+    (c.stage_row.ensures.added c.if-not-stage_row.false) c.stage_row.ensures.notes (sym c.stage_row.ensures.answer ∙ c.if-not-stage_row.false))
+    c.requires.slices.lasting c.stage_row.ensures.reads c.requires.slices
 
 pub note_all-requires : goal.note_all-requires
 note_all-requires g c = few_in_order c.commit-lost.result.items c.commit-lost.ensures.commits.gone.ordered
@@ -97,7 +101,7 @@ returns-clause-elsewhere g c =
     (staged c.args.array.now c.stage_row.new.array (g.R.Rack.seen c.args.rack.now) (g.R.Rack.seen c.stage_row.new.rack) c.resync_from-row.result c.offset_after.result c.resynced_to-change.result c.args.log.now.added c.stage.new.log.added c.stage_row.new.log.added
     (record { is_array = c.rules.ensures; grown = c.requires.grown; row = c.requires.row; unsynced = c.unsynced_rows.ensures })
     c.resync_from-row.ensures c.offset_after.ensures c.resynced_to-change.ensures.change c.requires.empty c.stage.ensures.added
-    (c.stage_row.ensures.added c.if-not-stage_row.false) c.stage_row.ensures.notes (sym c.stage_row.ensures.answer ∙ c.if-not-stage_row.false)) c.stage_row.ensures.reads c.commit-lost.ensures.commits
+    (c.stage_row.ensures.added c.if-not-stage_row.false) c.stage_row.ensures.notes (sym c.stage_row.ensures.answer ∙ c.if-not-stage_row.false)) c.requires.slices.lasting c.stage_row.ensures.reads c.commit-lost.ensures.commits
 
 pub returns-clause-goes : goal.returns-clause-goes
 returns-clause-goes g c =
