@@ -321,7 +321,7 @@ module _ (s : State) (v w : View) (a b : Seen) (l : LogView) (on lost : List ℕ
               let d = member_slice m.place n in
               let i = data_sector + sector_at shape y in
               elim (commit.within d i u (live_on lasting commit.stays (holds.shape.open_slices m (sector_at shape y) found.among found.counts)) (not_log m.place i) now) [
-                | inl old ↦ old_may (y == x) (vals y) u (holds.shape.within y alive u (subst (λ h. MayLeave h u) (sym (own_held shape n y a.held m is)) old))
+                | inl old ↦ old_may (y == x) (vals y) u (holds.shape.within y alive u (subst (λ h. MayLeave h u) (sym (own_held shape n y a.held m is)) old) (λ o at. (source_counts shape y o at).among))
                 | inr new ↦ let alone = (change h).alone y m u is new in new_may (y == x) (eq-eqb y x alone.0) (vals y) u alone.1
               ]
         ] in
@@ -366,7 +366,7 @@ module _ (s : State) (v w : View) (a b : Seen) (l : LogView) (on lost : List ℕ
           still = λ c picks m t among counts.
               kept.quiet c (stands_of c picks) (member_slice m.place n) (data_sector + t)
               (ap (names lost) (place_is m.place) ∙ left_too m.place (among_kept gone t shape.members m among counts));
-          within = within_now;
+          within = λ y alive u may keeps. within_now y alive u may;
           current = λ y alive.
               value_by_data (lowered gone shape) (current_in b.held) now n y (λ m among counts. left_now m (sector_in (layout_at shape y) y) among counts)
               ∙ lost_value gone shape n v.resync now y (laid_out v is_array) even_now sized_now (unspent_then v w gone losing y (covers y alive))

@@ -1,5 +1,5 @@
 -- The superblocks of an array's members, and how the array changes with them.
-use Rattle.std.specs.Prelude.{◌≡◌, ℕ, ◌+◌, ◌-◌, ◌*◌, ◌^◌, Bool, false, ◌==◌, ◌&&◌, nat_lt, if◌then◌else◌, List, map, length, Some}
+use Rattle.std.specs.Prelude.{◌≡◌, ℕ, ◌+◌, ◌-◌, ◌*◌, ◌^◌, Bool, false, ◌==◌, ◌&&◌, nat_lt, if◌then◌else◌, List, map, length, Some, None}
 use Rattle.std.specs.Option.{option_map_or}
 use Rattle.md_super.specs.declared.superblock.Super.{Super}
 use Rattle.md_super.specs.Layout.{LeavesZeros}
@@ -77,6 +77,14 @@ settled_truth v = record v.truth { events = raised v.truth.events; resync_offset
 -- the array once that is its truth; a mark that its own writes made is taken back
 abbrev pub settled : View → View
 settled v = record v { truth = settled_truth v; marked = false }
+
+-- rows are left to resync from a sector of the members' data on, with one more event
+abbrev pub resynced_to : View → ℕ → Change
+resynced_to v offset = record { truth = record v.truth { events = raised v.truth.events; resync_offset = offset }; place = None; to = 0 }
+
+-- the member of a place is rebuilt up to a sector of its data
+abbrev pub rebuilt_by : View → ℕ → ℕ → Change
+rebuilt_by v place to = record { truth = v.truth; place = Some place; to = to }
 
 -- ---- superblocks
 

@@ -1,6 +1,6 @@
 //! The members of an array: who counts where, and where a sector stands.
 
-ghost use Rattle.std.specs.Prelude.{count_by, not, ◌≢◌, ◌==◌, ◌&&◌, false, slice_get, ◌≡◌, ◌<◌, ◌≤◌, ◌^◌, ℕ, Some, None, nat_lt, true, IfSome, IfNone};
+ghost use Rattle.std.specs.Prelude.{count_by, not, ◌≢◌, ◌==◌, ◌&&◌, false, slice_get, ◌≡◌, ◌<◌, ◌≤◌, ◌^◌, ℕ, Some, None, nat_lt, true, IfSome, IfNone, ◌+◌};
 ghost use Rattle.std.specs.List.{list_all};
 ghost use Rattle.raid_map.specs.LeftSymmetric.{parity_at, row_at, sector_of};
 ghost use Rattle.array_image.specs.Stripes.{mirror, parity, width, position_in, sector_in};
@@ -135,6 +135,37 @@ impl Array {
         17 * place + self.number + 1
     }
 
+    /// The position of a member's place.
+    pub fn position(&self, place: u32) -> u32
+        requires { (k : ℕ) × (k < self.now.truth.raid_disks) × (place_at self.now k ≡ place) }
+        ensures position { result < self.now.truth.raid_disks }
+        ensures place { place_at self.now result ≡ place }
+    {
+        self.rules();
+        for position in 0..self.truth.raid_disks {
+            if self.place_on(position as usize) == place {
+                return position;
+            }
+        }
+        0
+    }
+
+    /// The seat of the member at a position.
+    pub fn seat_on(&self, position: u32) -> Seat
+        requires { position < self.now.truth.raid_disks }
+        ensures { slice_get self.now.seats position ≡ Some result }
+    {
+        self.slot(position as usize).seat
+    }
+
+    /// The slice of a member.
+    pub fn slice_at(&self, position: u32) -> u32
+        requires { position < self.now.truth.raid_disks }
+        ensures { result ≡ slice_on self.now position }
+    {
+        self.slice(position as usize)
+    }
+
     /// Whether a member is missing.
     pub(crate) fn is_missing(&self, position: usize) -> bool
         requires { position < self.now.truth.raid_disks }
@@ -197,7 +228,7 @@ impl Array {
     }
 
     /// How many members don't count at a sector of their data.
-    pub(crate) fn wanting(&self, sector: u64) -> usize
+    pub fn wanting(&self, sector: u64) -> usize
         ensures { result ≡ wanting sector (members_of self.now) }
     {
         let mut wanting = 0;
@@ -334,7 +365,7 @@ impl Array {
     }
 
     /// How a row of the members' data is spread.
-    fn row_spread(&self, sector: u64) -> Spread
+    pub(crate) fn row_spread(&self, sector: u64) -> Spread
         requires { sector < self.now.truth.size }
         ensures { layout_of result ≡ row_layout self.now sector }
     {

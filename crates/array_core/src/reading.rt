@@ -59,7 +59,7 @@ fn first_of_row(spread: Spread, sector: u64) -> u64
 
 impl Array {
     /// Notes places that answered `Gone`: their members are missing from then on.
-    pub(crate) fn note_all(&mut self, places: &Places)
+    pub fn note_all(&mut self, places: &Places)
         requires { list_all (λ p. nat_lt p 16) places.now.items ≡ true }
         ensures same { IsSameButSeats self.old self.new }
         ensures loses { LosesPlaces self.old self.new (names places.now.items) }
@@ -312,6 +312,24 @@ impl Array {
                 sector: first_of_row(at.spread, sector),
             })
         }
+    }
+
+    /// How many members a row of their data is spread over.
+    pub fn row_members(&self, sector: u64) -> u32
+        requires { sector < self.now.truth.size }
+        ensures { result ≡ width (row_layout self.now sector) }
+    {
+        width(self.row_spread(sector))
+    }
+
+    /// The first sector that the array has in a row of its members' data.
+    pub fn first_in_row(&self, sector: u64) -> u64
+        requires { sector < self.now.truth.size }
+        ensures { result ≡ first_of_row (row_layout self.now sector) sector }
+    {
+        self.rules();
+        let at = self.in_row(0, sector);
+        first_of_row(at.spread, sector)
     }
 
     /// Reads a member's own sector, if it counts there.

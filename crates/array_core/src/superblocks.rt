@@ -35,6 +35,34 @@ impl Array {
         self.truth = copied(&change.truth);
     }
 
+    /// The change by which rows are left to resync, or in a young array to zero, from a sector of the members' data on, with one
+    /// more event.
+    pub fn resynced_to(&self, offset: u64) -> Change
+        ensures change { result ≡ spec.resynced_to self.now offset }
+        ensures truth { is_truth result.truth ≡ true }
+    {
+        let mut truth = copied(&self.truth);
+        truth.events = raised(truth.events);
+        truth.resync_offset = offset;
+        Change {
+            truth,
+            place: None,
+            to: 0,
+        }
+    }
+
+    /// The change by which the member of a place is rebuilt up to a sector of its data.
+    pub fn rebuilt_to(&self, place: u32, to: u64) -> Change
+        ensures change { result ≡ spec.rebuilt_by self.now place to }
+        ensures truth { is_truth result.truth ≡ true }
+    {
+        Change {
+            truth: copied(&self.truth),
+            place: Some(place),
+            to,
+        }
+    }
+
     /// The member sector from which rows are left to resync, or in a young array to zero; all ones where none is.
     pub(crate) fn left_from(&self) -> u64
         ensures { result ≡ spec.left_offset self.now }
@@ -100,7 +128,7 @@ impl Array {
     }
 
     /// Each row that its truth leaves to resync is left.
-    pub(crate) fn unsynced_rows(&self)
+    pub fn unsynced_rows(&self)
         ensures { first_unsynced self.now.truth ≤ self.now.resync }
     {
         let _number = self.number;

@@ -14,7 +14,7 @@ use Rattle.array_image.specs.Even.{AreEven}
 use Rattle.array_image.specs.SoundArray.{IsSoundArray}
 use Rattle.array_image.specs.Marks.{unless_gone, lower, lowered}
 use Rattle.array_image.proofs.Settled.{settled_value, among_take}
-use Rattle.array_image.proofs.Sources.{held_single, held_current}
+use Rattle.array_image.proofs.Sources.{held_single, held_current, source_counts}
 use Rattle.array_image.proofs.Marked.{among_lowered}
 use Rattle.array_image.proofs.Noted.{AllButOne, take_lower, noted_value}
 use Rattle.array_model.specs.View.{View, IsNoted, shape_of, may_vary}
@@ -69,7 +69,9 @@ noted_holds s n durable noted resync marked vals spent spent_now x lost holds fe
           let says = holds.says r left in
           record { shape_is = says.shape_is; value = λ y unspent. says.value y (fewer y unspent); is_sound = says.is_sound };
       still = λ c picks m sector among counts. holds.still c picks m sector (among_lowered lost sector noted.members m among counts) counts;
-      within = λ y unspent. holds.within y (fewer y unspent);
+      within = λ y unspent u left keeps.
+          holds.within y (fewer y unspent) u left
+          (λ m is. let found = source_counts durable y m is in among_lowered lost (sector_in (layout_at durable y) y) noted.members m (keeps m is) found.counts);
       current = λ y unspent. same y unspent ∙ holds.current y (fewer y unspent);
       sized = λ m sector among counts. holds.sized m sector (among_lowered lost sector noted.members m among counts) counts;
       even = even_noted lost noted n resync (current_in x.held) holds.even;
@@ -115,7 +117,7 @@ marked_holds s t n durable noted resync marked marked_now vals spent x y holds s
             is_sound = (staged r left).1;
           };
       still = still;
-      within = λ z unspent u left. inl (held_single noted n y.held z now_y u left ∙ held_current noted n y.held z ∙ current z unspent);
+      within = λ z unspent u left keeps. inl (held_single noted n y.held z now_y u left ∙ held_current noted n y.held z ∙ current z unspent);
       current = current;
       sized = λ m sector among counts. ap length (keeps m sector among counts).current ∙ holds.sized m sector among counts;
       even = even_kept x.held y.held noted n resync keeps holds.even;

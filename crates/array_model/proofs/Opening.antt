@@ -124,7 +124,7 @@ module _ (s : State) (v : View) (x : Seen) (opens : OpensOn s v x) where
       open_left = opens.open_slices;
       says = λ r left. says r left spent;
       still = λ c picks m t among counts. opens.closed c (logs_of c picks) m.place (data_sector + t);
-      within = λ y alive u may. may;
+      within = λ y alive u may keeps. may;
       current = λ y alive. sym (held_current shape n x.held y);
       sized = opens.sized;
       even = λ y inside synced counts.

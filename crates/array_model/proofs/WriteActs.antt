@@ -118,7 +118,7 @@ mixed_value s v vals spent a b x from xs lasting stays begins write c inside mix
     (mix d t (live_on lasting stays (begins.holds.open_slices m (sector_at shape z) found.among found.counts))))
     (λ z m u is payload. write.row.alone z m u is payload)
     y at.0 at.1
-    (begins.holds.within y alive)
+    (λ u may. begins.holds.within y alive u may (λ m is. (source_counts shape y m is).among))
 
 -- its superblocks are those of contents that a stop before the write might leave
 mixed_supers : (a b : Seen) (shape : Shape) (n x : ℕ) (from : List ℕ) (xs : List Target) (c : Image) → a.lasting → Stays a b → n < 16 → IsRow shape n x from xs
@@ -275,14 +275,14 @@ written_holds s v w vals spent a b x from xs went_now lost lasting puts begins w
       still = λ c picks m sector among counts.
           closed_after n lasting puts.only.stays (λ place t live. puts.only.others (log_slice place) t live (payload_none xs (log_slice place) t (log_free shape n x from xs write.few write.row place t))) begins.closed
           c (logs_of c picks) m.place (data_sector + sector);
-      within = λ y alive u now.
+      within = λ y alive u now keeps.
           let at = write.sources y alive in
           let m = at.0 in
           let found = source_counts shape y m at.1 in
           let d = member_slice m.place n in
           let t = data_sector + sector_at shape y in
           elim (puts.only.within d t u (live_on lasting puts.only.stays (holds.open_slices m (sector_at shape y) found.among found.counts)) (subst (λ h. MayLeave h u) (own_held shape n y b.held m at.1) now)) [
-            | inl old ↦ old_may (y == x) (vals y) u (holds.within y alive u (subst (λ h. MayLeave h u) (sym (own_held shape n y a.held m at.1)) old))
+            | inl old ↦ old_may (y == x) (vals y) u (holds.within y alive u (subst (λ h. MayLeave h u) (sym (own_held shape n y a.held m at.1)) old) (λ o is. (source_counts shape y o is).among))
             | inr new ↦ let alone = write.row.alone y m u at.1 new in new_may (y == x) (eq-eqb y x alone.0) (vals y) u alone.1
           ];
       current = λ y alive.

@@ -2,12 +2,16 @@
 --
 -- `s` is the state whose marks the images go by, `durable` the array's shape by these marks, and vals what its sectors hold.
 -- A call that meets Gone notes the place and goes on; the images go by the old marks until somebody commits new ones.
-use Rattle.std.specs.Prelude.{◌≡◌, ◌⊎◌, ℕ, Bool, false, ◌==◌, if◌then◌else◌, List}
+use Rattle.std.specs.Prelude.{◌≡◌, ◌⊎◌, ℕ, Bool, false, ◌==◌, if◌then◌else◌, List, Some}
 use Rattle.rack.specs.Values.{Values, Keeps, append}
 use Rattle.rack.specs.Seen.{Image, Seen, IsLive, Stays}
 use Rattle.rack.specs.Moments.{Leaves}
 use Rattle.rack.specs.Calls.{KeepsAll}
+use Rattle.md_super.specs.declared.superblock.Super.{Super}
 use Rattle.pool_state.specs.declared.contents.State.{State}
+use Rattle.array_image.specs.Places.{member_slice, super_sector}
+use Rattle.array_image.specs.Supers.{truth_in}
+use Rattle.array_image.specs.SoundArray.{array_fields}
 use Rattle.array_image.specs.Arrays.{Shape}
 use Rattle.array_image.specs.Held.{IsSettled}
 use Rattle.array_image.specs.Arrays.{replayed}
@@ -70,9 +74,24 @@ pub record SyncsArray (s : State) (v w : View) (spent : ℕ → Bool) (a b : See
   pub keeps : KeepsAll a b
   pub settled : Holds s durable v vals spent a → IsSettled (shape_of w) w.number b.held
 
--- one row of maintenance, or a step of it: at each moment the shape and values are those before or those after it
-abbrev pub Moving : (s : State) (v w : View) (spent : ℕ → Bool) (a b : Seen) (durable : Shape) (vals : ℕ → Values) (after : Shape) (vals_after : ℕ → Values) → Type 0
-Moving s v w spent a b durable vals after vals_after =
-    Acts s v w spent a b durable vals
-    (λ r. Says s v.number durable vals spent r ⊎ Says s v.number after vals_after spent r)
-    after vals_after
+-- superblocks of array n are those of contents that a stop before might leave
+abbrev pub KeepsSupers : ℕ → Seen → Image → Type 0
+KeepsSupers n a r = (before : Image) × IsLeft a before × ((place : ℕ) → r (member_slice place n) super_sector ≡ before (member_slice place n) super_sector)
+
+-- the truth of array n has these fields of an array
+abbrev pub HasFields : State → ℕ → Super → Image → Type 0
+HasFields s n t r = (u : Super) → truth_in s r n ≡ Some u → array_fields u ≡ array_fields t
+
+-- One row of maintenance, or a step of it, of an array of which w is seen after it and `next` once the row is done and nobody went: at
+-- each moment shape, values and superblocks are those before or those after it, and after it the ones it ended with.
+pub record Moving (s : State) (v next w : View) (spent : ℕ → Bool) (a b : Seen) (vals : ℕ → Values) (after : Shape) (vals_after : ℕ → Values) : Type 0 where
+  pub stays : Stays a b
+  pub leaves :
+      a.traced
+      → Leaves a b (λ c. IsInside a.sectors c → Turns v.number a b
+      (λ r. Holds s (shape_of v) v vals spent a
+      → (Says s v.number (shape_of v) vals spent r × KeepsSupers v.number a r)
+      ⊎ (Says s v.number (shape_of next) vals_after spent r × HasFields s v.number next.truth r)) c)
+  pub holds : Holds s (shape_of v) v vals spent a → Holds s after w vals_after spent b
+  pub apart : (d t : ℕ) → IsLive a b d t → IsApart v.number d t → Keeps (a.held d t) (b.held d t)
+  pub calm : IsCalm v.number a → IsCalm v.number b

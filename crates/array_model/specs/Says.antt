@@ -5,10 +5,11 @@ use Rattle.rack.specs.Seen.{Image, Seen, IsLive}
 use Rattle.md_super.specs.declared.superblock.Super.{Super}
 use Rattle.pool_state.specs.declared.contents.State.{State}
 use Rattle.array_image.specs.Places.{member_slice, data_sector}
-use Rattle.array_image.specs.Arrays.{Member, Shape, replayed, shape_in, value_by}
+use Rattle.array_image.specs.Arrays.{Member, Shape, layout_at, replayed, shape_in, value_by}
+use Rattle.array_image.specs.Stripes.{position_in, sector_in}
 use Rattle.array_image.specs.States.{is_current}
 use Rattle.array_image.specs.Supers.{super_in, truth_in}
-use Rattle.array_image.specs.Held.{Among, current_in, IsSettled, held_by}
+use Rattle.array_image.specs.Held.{Among, current_in, source_in, IsSettled, held_by}
 use Rattle.array_image.specs.Even.{AreEven}
 use Rattle.array_image.specs.SoundArray.{array_fields, IsSoundArray}
 use Rattle.array_model.specs.View.{View, place_at, shape_of, may_vary}
@@ -26,6 +27,11 @@ abbrev pub IsOpen : Shape → ℕ → Seen → Type 0
 IsOpen shape array x =
     (m : Member) (sector : ℕ) → Among m shape.members → sector < m.reach → IsLive x x (member_slice m.place array) (data_sector + sector)
 
+-- the member whose own sector an array's sector is, by one shape, is a member by another
+abbrev pub KeepsSource : Shape → Shape → ℕ → Type 0
+KeepsSource durable noted y =
+    (m : Member) → source_in (layout_at durable y) (sector_in (layout_at durable y) y) (position_in (layout_at durable y) y) durable.members ≡ Some m → Among m noted.members
+
 -- What is kept between calls of array n, where its slices and the log slices are told. Images go by `durable`, its shape by the
 -- marks of s; the run goes by `noted`, which lacks the places that answered Gone since. The first row left to resync is `resync`,
 -- and `vary` tells whether its sectors may have several values.
@@ -39,8 +45,8 @@ pub record HoldsShape (s : State) (n : ℕ) (durable noted : Shape) (resync : �
   pub still :
       (c : Image) → Picks x c → (m : Member) (sector : ℕ) → Among m noted.members → sector < m.reach
       → replayed x.sectors c (member_slice m.place n) (data_sector + sector) ≡ c (member_slice m.place n) (data_sector + sector)
-  -- what its members hold by the marks is what its sectors hold
-  pub within : (y : ℕ) → spent y ≡ false → (u : List ℕ) → MayLeave (held_by durable x.held n y) u → MayLeave (vals y) u
+  -- what its members hold by the marks is what its sectors hold, but those that answered Gone
+  pub within : (y : ℕ) → spent y ≡ false → (u : List ℕ) → MayLeave (held_by durable x.held n y) u → KeepsSource durable noted y → MayLeave (vals y) u
   -- the members that are left give each sector's current value
   pub current : (y : ℕ) → spent y ≡ false → value_by noted (current_in x.held) n y ≡ (vals y).current
   -- they have whole sectors

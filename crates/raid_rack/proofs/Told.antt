@@ -5,7 +5,7 @@ use Rattle.rack.specs.Seen.{Seen}
 use Rattle.pool_state.specs.declared.contents.State.{State}
 use Rattle.array_image.specs.Arrays.{Shape}
 use Rattle.array_image.specs.Held.{held_by, IsSettled}
-use Rattle.array_image.proofs.Sources.{source_of, picked_value, held_current}
+use Rattle.array_image.proofs.Sources.{source_of, picked_value, held_current, source_counts}
 use Rattle.array_model.specs.View.{View, shape_of, may_vary}
 use Rattle.array_model.specs.Says.{HoldsShape, Holds}
 use Rattle.array_model.proofs.Losses.{left_picks}
@@ -32,7 +32,7 @@ own_shape s v vals spent x sourced holds =
             is_sound = says.is_sound;
           };
       still = holds.still;
-      within = λ y alive u left. left;
+      within = λ y alive u left keeps. left;
       current = λ y alive. sym (held_current shape n x.held y);
       sized = holds.sized;
       even = holds.even;
@@ -46,7 +46,7 @@ pub own_keeps : (s : State) (v : View) (vals : ℕ → Values) (spent : ℕ → 
 own_keeps s v vals spent x y holds alive =
     record {
       current = held_current (shape_of v) v.number x.held y ∙ holds.current y alive;
-      within = λ u left. holds.within y alive u left;
+      within = λ u left. holds.within y alive u left (λ m is. (source_counts (shape_of v) y m is).among);
     }
 
 pub own_holds : (s : State) (v : View) (vals : ℕ → Values) (spent : ℕ → Bool) (x : Seen) → IsSourced v spent x

@@ -1,0 +1,12 @@
+pub mod Summing
+pub mod Copying
+pub mod Moved
+pub mod Agreeing
+pub mod Resynced
+pub mod Supers
+pub mod Logged
+pub mod Adopted
+pub mod Views
+pub mod Stepping
+pub mod Answering
+pub mod RowStaged

@@ -1,0 +1,77 @@
+use Rattle.std.proofs.Common.{ap, ◌≡◌, ◌-◌, ◌*◌, ℕ, ◌∙◌, subst, refl, arith}
+use Rattle.rack.proofs.Reading.{only_reads_start, only_reads_join}
+use Rattle.commit_log.specs.View.{LogView}
+use Rattle.array_model.proofs.Reading.{slices_then}
+use Rattle.array_model.proofs.Views.{notes_none, notes_then}
+use Rattle.array_sync.specs.Rows.{AddsCopies, IsRowSum, OfRow}
+use Rattle.array_sync.proofs.Copying.{added_length, no_copies, row_step}
+use Rattle.array_sync.proofs.Summing.{row_left, sector_then, sector_in_row, lacks_at_last}
+use Rattle.array_sync.proofs.rows.stage_sectors.Goals as goal
+
+pub loop-sector-init : goal.loop-sector-init
+loop-sector-init g c = (
+  only_reads_start (g.R.Rack.seen c.args.rack.now) c.requires.slices.fit,
+  notes_none c.args.array.now _ _,
+  g.met.R.Rack.runs_same c.args.rack.now,
+  no_copies c.args.array.now _ _ ((c.args.row * 128 - c.args.row * 128) * 16) c.args.log.now.added (λ t j is. let least = is.0 in let most = is.1 in omega (arith, least, most)),
+  refl,
+)
+
+pub stage_sector-requires : goal.stage_sector-requires
+stage_sector-requires g c =
+    let v = c.args.array.now in
+    let u = c.loop-sector.array in
+    let same = c.loop-sector.invariant.1.same in
+    let low = c.loop-sector-test.true in
+    let least = c.loop-sector.auto.sector in
+    let left = c.requires.left in
+    let room = c.requires.room in
+    let long = added_length v _ _ ((c.loop-sector.sector - c.args.row * 128) * 16) c.args.log.now.added c.loop-sector.log.added c.loop-sector.invariant.3 in
+    record {
+      slices = slices_then v u (g.R.Rack.seen c.args.rack.now) (g.R.Rack.seen c.loop-sector.rack) c.loop-sector.invariant.0.stays c.loop-sector.invariant.1 c.requires.slices;
+      sector = sector_then v u c.loop-sector.sector same (sector_in_row v c.args.row c.loop-sector.sector c.rules.ensures c.requires.row (omega (arith, low)));
+      left = row_left v u c.loop-sector.sector same (omega (arith, left, least));
+      room = omega (arith, room, long, low, least);
+    }
+
+pub returns-then-not-stage_sector-clause-reads : goal.returns-then-not-stage_sector-clause-reads
+returns-then-not-stage_sector-clause-reads g c = only_reads_join c.loop-sector.invariant.0 c.stage_sector.ensures.reads
+
+pub returns-then-not-stage_sector-clause-notes : goal.returns-then-not-stage_sector-clause-notes
+returns-then-not-stage_sector-clause-notes g c =
+    notes_then c.args.array.now c.loop-sector.array c.stage_sector.new.array (g.R.Rack.seen c.args.rack.now) (g.R.Rack.seen c.loop-sector.rack) (g.R.Rack.seen c.stage_sector.new.rack)
+    c.loop-sector.invariant.0.stays c.stage_sector.ensures.reads.stays c.loop-sector.invariant.1 c.stage_sector.ensures.notes
+
+pub returns-then-not-stage_sector-clause-lost : goal.returns-then-not-stage_sector-clause-lost
+returns-then-not-stage_sector-clause-lost g c = λ is.
+    let low = c.loop-sector-test.true in
+    lacks_at_last c.stage_sector.new.array c.args.row c.loop-sector.sector (omega (arith, low)) (c.stage_sector.ensures.lost c.if-not-stage_sector.true)
+
+pub returns-then-not-stage_sector-clause-log : goal.returns-then-not-stage_sector-clause-log
+returns-then-not-stage_sector-clause-log g c =
+    c.stage_sector.ensures.log ∙ ap (λ (l : LogView). record l { added = c.stage_sector.new.log.added }) c.loop-sector.invariant.4
+
+pub loop-sector-preserved : goal.loop-sector-preserved
+loop-sector-preserved g c =
+    let v = c.args.array.now in
+    let u = c.loop-sector.array in
+    let a = g.R.Rack.seen c.args.rack.now in
+    let b = g.R.Rack.seen c.loop-sector.rack in
+    let reads = c.loop-sector.invariant.0 in
+    let notes = c.loop-sector.invariant.1 in
+    let least = c.loop-sector.auto.sector in (
+      only_reads_join reads c.stage_sector.ensures.reads,
+      notes_then v u c.stage_sector.new.array a b (g.R.Rack.seen c.stage_sector.new.rack) reads.stays c.stage_sector.ensures.reads.stays notes c.stage_sector.ensures.notes,
+      g.met.R.Rack.runs_then _ _ _ c.loop-sector.invariant.2 c.stage_sector.ensures.runs,
+      row_step v u a b (c.args.row * 128) c.loop-sector.sector c.args.log.now.added c.loop-sector.log.added c.stage_sector.new.log.added c.rules.ensures c.requires.slices.lasting reads notes
+          (omega (arith, least)) c.loop-sector.invariant.3 (c.stage_sector.ensures.added c.if-not-stage_sector.false) (c.stage_sector.ensures.counts c.if-not-stage_sector.false),
+      c.stage_sector.ensures.log ∙ ap (λ (l : LogView). record l { added = c.stage_sector.new.log.added }) c.loop-sector.invariant.4,
+    )
+
+pub returns-clause-added : goal.returns-clause-added
+returns-clause-added g c = λ is.
+    let v = c.args.array.now in
+    let end = c.loop-sector-test.false in
+    let last = c.loop-sector.auto.sector-end in
+    let at : c.loop-sector.sector - c.args.row * 128 ≡ 128 = omega (arith, end, last) in
+    subst (λ (n : ℕ). AddsCopies v (OfRow v (c.args.row * 128) n) (IsRowSum v (g.R.Rack.seen c.args.rack.now)) (n * 16) c.args.log.now.added c.loop-sector.log.added) at c.loop-sector.invariant.3

@@ -1,0 +1,78 @@
+-- Rows of the members' data: which members make the others of their row, and the sectors that are written for these.
+use Rattle.std.specs.Prelude.{◌≡◌, ℕ, ◌+◌, ◌*◌, ◌<◌, ◌≤◌, Bool, true, false, ◌==◌, not, nat_lt, if◌then◌else◌, List, ◌++◌, map, length}
+use Rattle.std.specs.List.{range_with_len}
+use Rattle.rack.specs.Seen.{Image, Seen}
+use Rattle.rack.specs.Targets.{Target}
+use Rattle.rack.specs.Sequences.{IsPayload}
+use Rattle.raid_map.specs.LeftSymmetric.{parity_at}
+use Rattle.parity.specs.Xor.{xor_all, zeros}
+use Rattle.array_image.specs.Places.{data_sector}
+use Rattle.array_image.specs.Record.{are_apart}
+use Rattle.array_image.specs.Stripes.{Layout, mirror, parity, width}
+use Rattle.array_image.specs.Spent.{wanting}
+use Rattle.array_image.specs.Held.{current_in}
+use Rattle.array_model.specs.View.{View, member_on, shape_of}
+use Rattle.array_model.specs.Says.{IsOpen}
+use Rattle.array_model.specs.Members.{members_of, row_layout, slice_on}
+
+-- a member's sector is one of those that make the others of its row: of a mirror the first member's, of RAID-5 the data
+abbrev pub makes_others : Layout → ℕ → ℕ → Bool
+makes_others (mirror n) sector position = position == 0
+makes_others (parity n) sector position = not (position == parity_at n sector)
+
+abbrev pub is_source : View → ℕ → ℕ → Bool
+is_source v sector position = makes_others (row_layout v sector) sector position
+
+-- a member is missing or not rebuilt past a row
+abbrev pub lacks_row : View → ℕ → Bool
+lacks_row v row = nat_lt 0 (wanting (row * 128 + 127) (members_of v))
+
+-- a member's sector if it makes the others, and zeros if it doesn't
+abbrev pub source_sector : View → Image → ℕ → ℕ → List ℕ
+source_sector v c sector position = if is_source v sector position then c (slice_on v position) (data_sector + sector) else zeros 512
+
+-- what the first members that make the others give together
+unfoldable pub row_sum : View → Image → ℕ → ℕ → List ℕ
+row_sum v c sector many = xor_all 512 (map (source_sector v c sector) (range_with_len 0 many))
+
+-- the members that make the others count at a sector
+abbrev pub SourcesCount : View → ℕ → ℕ → Type 0
+SourcesCount v sector many = (j : ℕ) → j < many → is_source v sector j ≡ true → sector < (member_on v j).reach
+
+-- what the row's members hold makes these bytes, where they are told
+abbrev pub IsRowSum : View → Seen → ℕ → List ℕ → Type 0
+IsRowSum v a sector bytes = IsOpen (shape_of v) v.number a → bytes ≡ row_sum v (current_in a.held) sector (width (row_layout v sector))
+
+-- ---- the sectors that are written
+
+-- a sector of the first members that is made of others
+abbrev pub OfSector : View → ℕ → ℕ → ℕ → ℕ → Type 0
+OfSector v sector many t j = (t ≡ sector) × (j < many) × (is_source v t j ≡ false)
+
+-- those of a row, up to some sector
+abbrev pub OfRow : View → ℕ → ℕ → ℕ → ℕ → Type 0
+OfRow v first many t j = (first ≤ t) × (t < first + many) × (j < width (row_layout v t)) × (is_source v t j ≡ false)
+
+-- a target is such a sector, with such bytes
+pub record IsCopy (v : View) (within : ℕ → ℕ → Type 0) (has_bytes : ℕ → List ℕ → Type 0) (d s : ℕ) (u : List ℕ) : Type 0 where
+  pub sector : ℕ
+  pub position : ℕ
+  pub low : position < v.truth.raid_disks
+  pub disk : d ≡ slice_on v position
+  pub at : s ≡ data_sector + sector
+  pub inside : within sector position
+  pub bytes : has_bytes sector u
+  pub long : length u ≡ 512
+
+-- targets are all such sectors, each once
+pub record AreCopies (v : View) (within : ℕ → ℕ → Type 0) (has_bytes : ℕ → List ℕ → Type 0) (xs : List Target) : Type 0 where
+  pub on : (d s : ℕ) (u : List ℕ) → IsPayload xs d s u → IsCopy v within has_bytes d s u
+  pub has : (t j : ℕ) → within t j → (u : List ℕ) × IsPayload xs (slice_on v j) (data_sector + t) u
+  pub apart : are_apart xs ≡ true
+
+-- they are added to the targets of a log
+pub record AddsCopies (v : View) (within : ℕ → ℕ → Type 0) (has_bytes : ℕ → List ℕ → Type 0) (many : ℕ) (before after : List Target) : Type 0 where
+  pub targets : List Target
+  pub appended : after ≡ before ++ targets
+  pub few : length targets ≤ many
+  pub copies : AreCopies v within has_bytes targets

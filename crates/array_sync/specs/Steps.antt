@@ -1,0 +1,57 @@
+-- What a step of maintenance does to an array.
+use Rattle.std.specs.Prelude.{◌≡◌, ◌⊎◌, ℕ, ◌+◌, ◌-◌, ◌*◌, ◌%◌, ◌^◌, Bool, true, false, nat_lt, if◌then◌else◌, List}
+use Rattle.rack.specs.Values.{Values}
+use Rattle.rack.specs.Seen.{Image, Seen}
+use Rattle.pool_state.specs.declared.contents.State.{State}
+use Rattle.array_image.specs.Left.{IsLeft}
+use Rattle.commit_log.specs.Kept.{LogKept}
+use Rattle.array_model.specs.View.{View, has_gone, rows_of, shape_of}
+use Rattle.array_model.specs.Says.{Holds, IsOpen}
+use Rattle.array_model.specs.Members.{Notes}
+use Rattle.array_model.specs.ArrayCalls.{Covers, Moving, HasFields}
+use Rattle.array_core.specs.Pool.{MayCommit}
+use Rattle.array_core.specs.Superblocks.{raised}
+
+-- the member sector from which rows are left to resync once so many aren't, and all ones where none is
+abbrev pub offset_after : View → ℕ → ℕ
+offset_after v rows = if nat_lt rows (rows_of v) then rows * 128 else 2 ^ 64 - 1
+
+-- the array once its first row left to resync is resynced
+abbrev pub resynced : View → View
+resynced v = record v {
+  truth = record v.truth { events = raised v.truth.events; resync_offset = offset_after v (v.resync + 1) };
+  resync = v.resync + 1;
+  marked = false;
+}
+
+-- The array is as it was, or its step is done; places that went are noted, and nothing else has changed.
+pub data Stepped (v next w : View) (a b : Seen) : Bool → Type 0 where
+  as_it_was : Notes v w a b → Stepped v next w a b false
+  done : Notes next w a b → Stepped v next w a b true
+
+-- what an array's sectors hold after it
+abbrev pub if_done : {X : Type 0} → Bool → X → X → X
+if_done is_done before after = if is_done then after else before
+
+-- What a step needs of the pool, where `next` is the array once it is done: what a commit needs, each sector that counts after it can
+-- be called and is told, and its rows left to resync begin with a whole one.
+pub record MayStep (s : State) (v next w : View) (number : ℕ) (on : List ℕ) (a : Seen) : Type 0 where
+  pub commit : MayCommit s v w number on a
+  pub opened : IsOpen (shape_of next) v.number a
+  pub whole : (next.truth.resync_offset ≡ 2 ^ 64 - 1) ⊎ (next.truth.resync_offset % 128 ≡ 0)
+
+-- A step of an array by one commit, which makes `next` of it: its values stay.
+pub record Steps (v next w : View) (number next_number : ℕ) (on : List ℕ) (a b : Seen) (answered : Bool) : Type 0 where
+  pub is_done : Bool
+  pub answer : answered ≡ true → is_done ≡ true
+  pub view : Stepped v next w a b is_done
+  -- images go by the array before it or after it, and then the array holds what it held
+  pub moving :
+      (s : State) (vals : ℕ → Values) (spent : ℕ → Bool) → Covers w spent → MayStep s v next w number on a
+      → Moving s v next w spent a b vals (if_done is_done (shape_of v) (shape_of next)) vals
+  -- once it is done it is durable
+  pub durable :
+      is_done ≡ true → (s : State) (vals : ℕ → Values) (spent : ℕ → Bool) → Covers w spent → MayStep s v next w number on a
+      → Holds s (shape_of v) v vals spent a → (r : Image) → IsLeft b r → HasFields s v.number next.truth r
+  -- the log is kept for the next commit
+  pub kept : (s : State) → MayStep s v next w number on a → LogKept s next_number (has_gone w) b

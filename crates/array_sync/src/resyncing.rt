@@ -1,0 +1,88 @@
+//! Rows of an array that are left to resync.
+
+ghost use Rattle.std.specs.Prelude.{◌≡◌, ◌⊎◌, ◌<◌, ◌≤◌, ◌+◌, ◌*◌, ℕ, List, [], length, true, false, is_ok, OnOk, IfErr};
+ghost use Rattle.array_model.specs.View.{View, rows_of};
+ghost use Rattle.array_model.specs.Members.{HasSlices, first_of_row, row_layout};
+ghost use Rattle.commit_log.specs.View.{committed, emptied};
+ghost use Rattle.commit_log.specs.Phases.{AreLogs};
+ghost use Rattle.array_core.specs.Pool.{Goes};
+ghost use Rattle.array_core.specs.Writing.{KeepsElsewhere};
+ghost use Rattle.array_sync.specs.Rows.{lacks_row};
+ghost use Rattle.array_sync.specs.Steps.{Steps, offset_after, resynced};
+
+use crate::rows::{lacks_row, stage_row};
+use array_core::{Array, Spent};
+use commit_log::Log;
+use rack::{Places, Rack};
+use raid_map::CHUNK_SECTORS;
+
+/// The member sector from which rows are left to resync once so many aren't.
+fn offset_after(array: &Array, rows: u64) -> u64
+    requires { rows ≤ rows_of array.now }
+    ensures { result ≡ offset_after array.now rows }
+{
+    array.rules();
+    if rows < array.rows() {
+        rows * CHUNK_SECTORS
+    } else {
+        u64::MAX
+    }
+}
+
+/// The answer to a row of resync: it is refused where a member is missing.
+fn answer(array: &Array, row: u64) -> Result<(), Spent>
+    requires { row < rows_of array.now }
+    ensures served { OnOk result (lacks_row array.now row ≡ false) }
+    ensures refused { IfErr result (λ e. (e.sector ≡ first_of_row (row_layout array.now (row * 128)) (row * 128)) × (lacks_row array.now row ≡ true)) }
+{
+    array.rules();
+    if lacks_row(array, row) {
+        Err(Spent {
+            sector: array.first_in_row(row * CHUNK_SECTORS),
+        })
+    } else {
+        Ok(())
+    }
+}
+
+/// Resyncs the first row that is left: a mirror's other members get the chunk of its first one, and of RAID-5 the parity is
+/// computed from the data. One commit of the log has the sectors of each member that is changed and the superblocks that leave the
+/// next row; the last row's say that none is left. It is durable when the call returns, and no value of the array has changed.
+/// It is refused exactly where a member is missing after the losses of this call, or isn't rebuilt past the row.
+pub fn resync_row<R: Rack>(
+    array: &mut Array,
+    rack: &mut R,
+    log: &mut Log,
+    on: &Places,
+) -> Result<(), Spent>
+    requires slices { HasSlices array.old (R.seen rack.old) }
+    requires disks { (R.seen rack.old).disks ≡ 272 }
+    requires logs { AreLogs (R.seen rack.old).sectors on.now.items }
+    requires empty { log.old.added ≡ [] }
+    requires grown { array.old.young ≡ false }
+    requires row { array.old.resync < rows_of array.old }
+    ensures steps { Steps array.old (resynced array.old) array.new log.old.number log.new.number on.now.items (R.seen rack.old) (R.seen rack.new) (is_ok result) }
+    ensures elsewhere { KeepsElsewhere false array.old on.now.items (R.seen rack.old) (R.seen rack.new) }
+    ensures goes { Goes (R.seen rack.old) (R.seen rack.new) }
+    ensures log { (log.new ≡ emptied log.old) ⊎ (log.new ≡ committed log.old) }
+    ensures runs { R.runs rack.old rack.new }
+    ensures served { OnOk result (lacks_row array.new array.old.resync ≡ false) }
+    ensures refused { IfErr result (λ e. (e.sector ≡ first_of_row (row_layout array.old (array.old.resync * 128)) (array.old.resync * 128))
+        × (lacks_row array.new array.old.resync ≡ true)) }
+{
+    array.rules();
+    array.unsynced_rows();
+    let row = array.resync_from();
+    let change = array.resynced_to(offset_after(array, row + 1));
+    array.stage(log, &change);
+    if !stage_row(array, rack, log, row) {
+        log.clear();
+        return answer(array, row);
+    }
+    let lost = log.commit(rack, on);
+    array.note_all(&lost);
+    array.rules();
+    let answered = answer(array, row);
+    array.adopt(&change);
+    answered
+}
