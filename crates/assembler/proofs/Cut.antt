@@ -297,8 +297,12 @@ cut_refused x t table place n at e valid cut few is_at is overlaps =
         let is_slice : d ≡ member_slice place m = omega (arith, some, overlaps.1, is_at, few) in
         elim (cases_lt m n) [
           | inr from ↦
-              absurd (omega (arith, within, ap (sectors_of t) is_slice,
-              cut.upper m from (omega arith)))
+              absurd (omega (
+                arith,
+                within,
+                ap (sectors_of t) is_slice,
+                cut.upper m from (omega arith),
+              ))
           | inl low ↦ of_extent m low is_slice (extent_at table.sectors table m) refl
         ]
       where

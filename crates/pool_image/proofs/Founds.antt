@@ -15,8 +15,8 @@ use Rattle.array_image.proofs.Frames.{SameSupers, super_of_sector, truth_by_supe
 use Rattle.pool_image.specs.Disks.{Disks, Identity, id_at}
 use Rattle.pool_image.specs.Replay.{Extent}
 use Rattle.pool_image.specs.Drives.{Found, end_of, extent_from, truth_from, slices_from, drive_sector, first_of, extent_of, slices_of}
-use Rattle.pool_image.specs.Volumes.{Arrays, first_bad, group_in}
-use Rattle.pool_image.specs.Meaning.{Part, Refusal, absent, damaged, too_few, dirty_degraded, bad_volume, arrays_of, truth_of, shape_of, super_at, is_member, has_slice, kind_of, has_slice_of, has_table, has_log, has_supers, in_table, in_state, in_log, in_superblock, damage_on, damage_of, first_damaged, absent_count, lacking_of, is_too_few, is_dirty_degraded, arrays_held, array_sectors, joined_arrays, refused_by, Volume, volumes_by, group_of, volumes_of}
+use Rattle.pool_image.specs.Volumes.{Arrays, first_bad, group_in, linear_of}
+use Rattle.pool_image.specs.Meaning.{Part, Refusal, absent, damaged, too_few, dirty_degraded, bad_volume, arrays_of, truth_of, shape_of, super_at, is_member, has_slice, kind_of, has_slice_of, has_table, has_log, has_supers, in_table, in_state, in_log, in_superblock, damage_on, damage_of, first_damaged, absent_count, lacking_of, is_too_few, is_dirty_degraded, arrays_held, array_sectors, joined_arrays, refused_by, Volume, volume_by, group_of, volumes_of}
 use Rattle.pool_image.specs.Alike.{drive_gate, IsSamePool}
 
 -- the table of a drive, by the extents of slices and the arrays that it is a member of
@@ -217,4 +217,4 @@ module _ (f g : Found) (same : IsSamePool f g) where
       (ap₂ option_or first_damaged_same (ap₂ option_or too_few_same (ap₂ option_or dirty_same (ap (λ a. option_map bad_volume (first_bad a)) joined_same))))
 
   pub volumes_same : volumes_of g ≡ volumes_of f
-  volumes_same = ap₂ (λ a (held : Image). option_map_or (λ group. volumes_by group held) (group_in a) []) joined_same held_same
+  volumes_same = ap₂ (λ a (held : Image). option_map_or (λ group. volume_by (linear_of a group) held ∷ []) (group_in a) []) joined_same held_same
