@@ -8,7 +8,7 @@ ghost use Rattle.slice_rack.specs.Runs.{runs_join, runs_none};
 ghost use Rattle.raid_rack.specs.Laws.{raid_sound, stops_inside};
 ghost use Rattle.raid_rack.specs.Raid.{spent_of};
 ghost use Rattle.raid_rack.specs.Runs.{RaidRuns, raid_runs_same, raid_runs_then};
-ghost use Rattle.raid_rack.specs.RaidRack.{IsFit, SliceRuns, arrays_in, raid_in, raid_seen, refused_in, slices_in, slices_seen};
+ghost use Rattle.raid_rack.specs.RaidRack.{IsFit, is_written, SliceRuns, arrays_in, raid_in, raid_seen, refused_in, slices_in, slices_seen, written_in};
 
 use crate::arrays::RaidRack;
 use rack::{Gone, Rack};
@@ -19,7 +19,7 @@ impl<R: Rack> Rack for RaidRack<R> {
     ghost seen = { λ rack. raid_seen R.seen rack };
 
     ghost runs = { λ old new. SliceRuns R.seen R.runs (slices_in old) (slices_in new)
-        × RaidRuns (raid_in old) (raid_in new) (slices_seen R.seen old) (slices_seen R.seen new) };
+        × RaidRuns (written_in old) (written_in new) (raid_in old) (raid_in new) (slices_seen R.seen old) (slices_seen R.seen new) };
 
     ghost lenders = { λ rack. R.lenders (below_of (slices_in rack)) };
 
@@ -37,6 +37,7 @@ impl<R: Rack> Rack for RaidRack<R> {
     }
 
     fn write(&mut self, disk: u32, sector: u64, from: &[u8; 512]) -> Result<(), Gone> {
+        note_written(&mut self.written, disk);
         self.arrays
             .write_array(&mut self.slices, disk, sector, from);
         self.answer(disk, sector)
@@ -54,7 +55,7 @@ impl<R: Rack> Rack for RaidRack<R> {
     ghost runs_same = { λ rack. (
       runs_none (tables (slices_in rack)) (R.seen (below_of (slices_in rack))) (R.runs (below_of (slices_in rack)) (below_of (slices_in rack)))
           (R.runs_same (below_of (slices_in rack))),
-      raid_runs_same (raid_in rack) (slices_seen R.seen rack),
+      raid_runs_same (written_in rack) (raid_in rack) (slices_seen R.seen rack),
     ) };
 
     ghost runs_then = { λ x y z one two. (
@@ -63,7 +64,7 @@ impl<R: Rack> Rack for RaidRack<R> {
           (R.runs (below_of (slices_in x)) (below_of (slices_in y))) (R.runs (below_of (slices_in y)) (below_of (slices_in z)))
           (R.runs (below_of (slices_in x)) (below_of (slices_in z))) one.0 two.0
           (R.runs_then (below_of (slices_in x)) (below_of (slices_in y)) (below_of (slices_in z)) one.0.below two.0.below),
-      raid_runs_then (raid_in x) (raid_in y) (raid_in z) (slices_seen R.seen x) (slices_seen R.seen y) (slices_seen R.seen z) one.1 two.1,
+      raid_runs_then (written_in x) (written_in y) (written_in z) (raid_in x) (raid_in y) (raid_in z) (slices_seen R.seen x) (slices_seen R.seen y) (slices_seen R.seen z) one.1 two.1,
     ) };
 
     ghost runs_lenders = { λ x y runs. R.runs_lenders (below_of (slices_in x)) (below_of (slices_in y)) runs.0.below };
@@ -98,4 +99,13 @@ impl<R: Rack> RaidRack<R> {
         let count = self.refused[disk as usize];
         self.refused[disk as usize] = count.saturating_add(1);
     }
+}
+
+/// Notes that this run has written an array.
+fn note_written(written: &mut [bool; 16], disk: u32)
+    requires { disk < 16 }
+    ensures noted { is_written written.new disk ≡ true }
+    ensures others { (n : ℕ) → (n ≡ disk → ⊥) → is_written written.new n ≡ is_written written.old n }
+{
+    written[disk as usize] = true;
 }
