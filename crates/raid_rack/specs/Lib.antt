@@ -11,3 +11,4 @@ pub mod Cleaning
 pub mod RaidRack
 pub mod Laws
 pub mod Runs
+pub mod AllRuns

@@ -2,6 +2,9 @@
 
 ghost use Rattle.std.specs.Prelude.{◌≡◌, ℕ, ◌<◌, ◌≤◌, true, false, OnOk, IfErr};
 ghost use Rattle.rack.specs.Seen.{Rose};
+ghost use Rattle.rack.specs.Calls.{Reads, Syncs, Writes};
+ghost use Rattle.raid_rack.specs.Moves.{RaisesBy};
+ghost use Rattle.raid_rack.specs.AllRuns.{AreRuns};
 ghost use Rattle.slice_rack.specs.SliceRack.{below_of, tables};
 ghost use Rattle.slice_rack.specs.Laws.{is_sound};
 ghost use Rattle.slice_rack.specs.Runs.{runs_join, runs_none};
@@ -18,8 +21,7 @@ use rack::{Gone, Rack};
 impl<R: Rack> Rack for RaidRack<R> {
     ghost seen = { λ rack. raid_seen R.seen rack };
 
-    ghost runs = { λ old new. SliceRuns R.seen R.runs (slices_in old) (slices_in new)
-        × RaidRuns (written_in old) (written_in new) (raid_in old) (raid_in new) (slices_seen R.seen old) (slices_seen R.seen new) };
+    ghost runs = { λ old new. AreRuns R.seen R.runs old new };
 
     ghost lenders = { λ rack. R.lenders (below_of (slices_in rack)) };
 
@@ -31,19 +33,42 @@ impl<R: Rack> Rack for RaidRack<R> {
         self.arrays.all[disk as usize].sectors()
     }
 
-    fn read(&mut self, disk: u32, sector: u64, into: &mut [u8; 512]) -> Result<(), Gone> {
+    fn read(&mut self, disk: u32, sector: u64, into: &mut [u8; 512]) -> Result<(), Gone>
+        requires fit { (raid_seen R.seen self.old).fit }
+        requires disk { disk < (raid_seen R.seen self.old).disks }
+        requires sector { sector < (raid_seen R.seen self.old).sectors disk }
+        ensures reads { Reads (raid_seen R.seen self.old) (raid_seen R.seen self.new) disk sector into.new result }
+        ensures runs { AreRuns R.seen R.runs self.old self.new }
+        ensures raises { RaisesBy 17 (raid_in self.old) (raid_in self.new) }
+        ensures written { self.new.written ≡ self.old.written }
+    {
         self.arrays.read_array(&mut self.slices, disk, sector, into);
         self.answer(disk, sector)
     }
 
-    fn write(&mut self, disk: u32, sector: u64, from: &[u8; 512]) -> Result<(), Gone> {
+    fn write(&mut self, disk: u32, sector: u64, from: &[u8; 512]) -> Result<(), Gone>
+        requires fit { (raid_seen R.seen self.old).fit }
+        requires disk { disk < (raid_seen R.seen self.old).disks }
+        requires sector { sector < (raid_seen R.seen self.old).sectors disk }
+        ensures writes { Writes (raid_seen R.seen self.old) (raid_seen R.seen self.new) disk sector from.now result }
+        ensures runs { AreRuns R.seen R.runs self.old self.new }
+        ensures raises { RaisesBy 18 (raid_in self.old) (raid_in self.new) }
+        ensures written { (n : ℕ) → (n ≡ disk → ⊥) → written_in self.new n ≡ written_in self.old n }
+    {
         note_written(&mut self.written, disk);
         self.arrays
             .write_array(&mut self.slices, disk, sector, from);
         self.answer(disk, sector)
     }
 
-    fn sync(&mut self, disk: u32) -> Result<(), Gone> {
+    fn sync(&mut self, disk: u32) -> Result<(), Gone>
+        requires fit { (raid_seen R.seen self.old).fit }
+        requires disk { disk < (raid_seen R.seen self.old).disks }
+        ensures syncs { Syncs (raid_seen R.seen self.old) (raid_seen R.seen self.new) disk result }
+        ensures runs { AreRuns R.seen R.runs self.old self.new }
+        ensures raises { RaisesBy 17 (raid_in self.old) (raid_in self.new) }
+        ensures written { self.new.written ≡ self.old.written }
+    {
         self.arrays.sync_array(&mut self.slices, disk);
         Ok(())
     }

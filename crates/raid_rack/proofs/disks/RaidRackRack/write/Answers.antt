@@ -1,4 +1,4 @@
-use Rattle.std.proofs.Common.{◌<◌, sym, subst}
+use Rattle.std.proofs.Common.{◌<◌, ap, sym, subst, ◌∙◌}
 use Rattle.rack.specs.Calls.{Writes}
 use Rattle.slice_rack.specs.SliceRack.{tables, below_of}
 use Rattle.raid_rack.specs.Moves.{written_at}
@@ -31,3 +31,6 @@ returns-clause-runs g c =
           (record { running = c.write_array.ensures.running; heeded = c.write_array.ensures.writes.heeded })
           (stops_inside (tables c.write_array.new.rack) (g.R.Rack.seen (below_of c.write_array.new.rack))) c.write_array.ensures.writes.brings c.write_array.ensures.writes.caused,
     )
+
+pub returns-clause-written : goal.returns-clause-written
+returns-clause-written g c n apart = ap (λ r. written_in r n) c.answer.ensures.same ∙ c.note_written.ensures.others n apart
