@@ -120,7 +120,7 @@ impl<R: Rack> RaidRack<R> {
         ensures images { LeavesItsRows (raid_in self.old) (raid_in self.new) (slices_seen R.seen self.old) (slices_seen R.seen self.new) }
         ensures keeps { KeepsRack (raid_seen R.seen self.old) (raid_seen R.seen self.new) }
         ensures raises { RaisesBy 288 (raid_in self.old) (raid_in self.new) }
-        ensures written { self.new.written ≡ self.old.written }
+        ensures written { (n : ℕ) → written_in self.new n ≡ written_in self.old n }
         ensures runs { SliceRuns R.seen R.runs (slices_in self.old) (slices_in self.new) }
         ensures book { RaidRuns (written_in self.old) (written_in self.new) (raid_in self.old) (raid_in self.new) (slices_seen R.seen self.old) (slices_seen R.seen self.new) }
     {

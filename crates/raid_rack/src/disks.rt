@@ -40,7 +40,7 @@ impl<R: Rack> Rack for RaidRack<R> {
         ensures reads { Reads (raid_seen R.seen self.old) (raid_seen R.seen self.new) disk sector into.new result }
         ensures runs { AreRuns R.seen R.runs self.old self.new }
         ensures raises { RaisesBy 17 (raid_in self.old) (raid_in self.new) }
-        ensures written { self.new.written ≡ self.old.written }
+        ensures written { (n : ℕ) → written_in self.new n ≡ written_in self.old n }
     {
         self.arrays.read_array(&mut self.slices, disk, sector, into);
         self.answer(disk, sector)
@@ -67,7 +67,7 @@ impl<R: Rack> Rack for RaidRack<R> {
         ensures syncs { Syncs (raid_seen R.seen self.old) (raid_seen R.seen self.new) disk result }
         ensures runs { AreRuns R.seen R.runs self.old self.new }
         ensures raises { RaisesBy 17 (raid_in self.old) (raid_in self.new) }
-        ensures written { self.new.written ≡ self.old.written }
+        ensures written { (n : ℕ) → written_in self.new n ≡ written_in self.old n }
     {
         self.arrays.sync_array(&mut self.slices, disk);
         Ok(())
