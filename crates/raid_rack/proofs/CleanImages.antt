@@ -90,9 +90,9 @@ module _ (s : State) (n : ℕ) (v : View) (durable : Shape) (vals : ℕ → Valu
 
 -- ---- after a clean end
 
-pub clean_images : (a b : Arrays) (x y : Seen) → IsFit a x → IsFit b y → CleansAll (raid_by a) (raid_by b) x y → RaidRuns (raid_by a) (raid_by b) x y
+pub clean_images : (p q : ℕ → Bool) (a b : Arrays) (x y : Seen) → IsFit a x → IsFit b y → CleansAll (raid_by a) (raid_by b) x y → RaidRuns p q (raid_by a) (raid_by b) x y
     → LeavesItsRows (raid_by a) (raid_by b) x y
-clean_images a b x y fit after cleans runs none n told goes unsettled r left u truth =
+clean_images p q a b x y fit after cleans runs none n told goes unsettled r left u truth =
     let v = raid_by a in
     let w = raid_by b in
     let low = by (cases_lt n v.state.made) in

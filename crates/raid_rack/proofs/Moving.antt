@@ -14,7 +14,8 @@ use Rattle.raid_rack.specs.Book.{IsAfter, after_same, after_then}
 use Rattle.raid_rack.specs.Raid.{Raid, is_left}
 use Rattle.array_model.specs.ArrayCalls.{Covers}
 use Rattle.raid_rack.specs.Marking.{SaysBetween}
-use Rattle.raid_rack.proofs.Rows.{clear_same, rows_still, rows_then}
+use Rattle.raid_rack.proofs.Rows.{clear_same, rows_still}
+use Rattle.raid_rack.specs.Rows.{rows_then}
 use Rattle.raid_rack.specs.Moves.{IsSet, IsAmid, KeepsMarked, PartOf, AreCaused, Brings, Moves}
 
 -- ---- one array
@@ -130,7 +131,7 @@ moves_then v w z a b c one two =
           let goes_w = two.still n (still_made n made) goes in
           let covered : Covers (w.arrays n) spent = λ y alive. two.spent n y (still_made n made) (covers y alive) in
           let first = one.rows n vals spent joined made goes_w covered amid rows in
-          rows_then v w z a b c n one.stays first
+          rows_then v w z a b c n one.stays.sectors one.stays.traced first
           (two.rows n vals spent (subst (λ k. n < k) (sym one.book.same.joined) joined) (still_made n made) goes covers
           ((one.parts n vals spent joined made goes_w covered).holds amid) first.after);
     }
@@ -193,7 +194,7 @@ brings_then v w z a b c now one two =
           let goes_w = two.still n (still_made n made) goes in
           let covered : Covers (w.arrays n) spent = λ y alive. two.spent n y (still_made n made) (covers y alive) in
           let first = one.rows n vals spent unwritten joined made goes_w covered amid rows in
-          rows_then v w z a b c n one.stays first
+          rows_then v w z a b c n one.stays.sectors one.stays.traced first
           (two.rows n (now n vals) spent (subst (λ k. n < k) (sym one.book.same.joined) joined) (still_made n made) goes covers
           ((one.parts n vals spent joined made goes_w covered).holds amid) first.after);
     }

@@ -2,8 +2,8 @@
 use Rattle.std.proofs.Common.{◌≡◌, ℕ, ◌-◌, ◌*◌, ◌/◌, ◌^◌, ◌<◌, ◌≤◌, Bool, true, false, nat_lt, if◌then◌else◌, refl, sym, ap, subst, ◌∙◌, inl, inr, eq-eqb, eqb-true, lt-ltb, le-ltb, arith}
 use Rattle.std.proofs.lemmas.Bool.{cases_lt}
 use Rattle.rack.specs.Values.{Values}
-use Rattle.rack.specs.Seen.{Image, Seen, IsPick, Stays}
-use Rattle.rack.specs.Joins.{leaves_same, leaves_then, leaves_weaker}
+use Rattle.rack.specs.Seen.{Image, Seen, IsPick}
+use Rattle.rack.specs.Joins.{leaves_same, leaves_weaker}
 use Rattle.rack.specs.Sequences.{OnlyReads}
 use Rattle.pool_state.specs.declared.contents.State.{State}
 use Rattle.array_image.specs.Arrays.{Shape, replayed}
@@ -99,23 +99,6 @@ rows_still v w x n clear rows = record {
   same = clear.resync;
   leaves = λ traced. leaves_same x (λ c. IsInside x.sectors c → LeavesFrom (v.arrays n).resync n (replayed x.sectors c));
   after = rows_after v w x x n clear rows rows.images;
-}
-
-pub rows_then : (v w z : Raid) (a b c : Seen) (n : ℕ) → Stays a b → KeepsRows v w a b n → KeepsRows w z b c n → KeepsRows v z a c n
-rows_then v w z a b c n stays one two = record {
-  same = two.same ∙ one.same;
-  leaves = λ traced.
-      leaves_then
-      (λ i. IsInside a.sectors i → LeavesFrom (v.arrays n).resync n (replayed a.sectors i))
-      (one.leaves traced)
-      (leaves_weaker
-      (λ i. IsInside b.sectors i → LeavesFrom (w.arrays n).resync n (replayed b.sectors i))
-      (λ i. IsInside a.sectors i → LeavesFrom (v.arrays n).resync n (replayed a.sectors i))
-      (λ i from inside.
-      subst (λ (sectors : ℕ → ℕ). LeavesFrom (v.arrays n).resync n (replayed sectors i)) (λ k d. stays.sectors d k)
-      (subst (λ k. LeavesFrom k n (replayed b.sectors i)) one.same (from (λ d t out. inside d t (subst (λ k. k ≤ t) (stays.sectors d) out)))))
-      (two.leaves (stays.traced traced)));
-  after = two.after;
 }
 
 -- calls that write nothing

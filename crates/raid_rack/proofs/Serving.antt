@@ -1,7 +1,7 @@
 -- Calls of a rack of arrays that move no value, as calls of a rack.
 use Rattle.std.specs.Prelude.{Result, OnOk, IfErr}
-use Rattle.std.proofs.lemmas.Bool.{cases_eq, both_ways}
-use Rattle.std.proofs.Common.{◌≡◌, ℕ, ◌<◌, ◌≤◌, Bool, true, false, ◌==◌, ◌&&◌, nat_lt, List, [], ◌∷◌, Ok, Err, refl, sym, ap, subst, ◌∙◌, inl, inr, lt-ltb, if◌then◌else◌, arith}
+use Rattle.std.proofs.lemmas.Bool.{cases_eq, cases_lt, both_ways}
+use Rattle.std.proofs.Common.{◌≡◌, ℕ, ◌<◌, ◌≤◌, Bool, true, false, ◌==◌, ◌&&◌, nat_lt, List, [], ◌∷◌, length, Ok, Err, refl, sym, ap, subst, ◌∙◌, inl, inr, lt-ltb, ne_eqb, if◌then◌else◌, arith}
 use Rattle.rack.specs.declared.Gone.{Gone}
 use Rattle.rack.specs.Values.{Values, Keeps, append}
 use Rattle.rack.specs.Seen.{Held, Seen, Rose, appended}
@@ -14,7 +14,7 @@ use Rattle.array_core.specs.Seats.{gone}
 use Rattle.array_model.specs.View.{View, shape_of, sectors_of as array_sectors}
 use Rattle.array_model.specs.ArrayCalls.{appended_at}
 use Rattle.raid_rack.specs.declared.arrays.Arrays.{Arrays}
-use Rattle.raid_rack.specs.Raid.{Raid, live_of, spent_of, held_in, StopsInside, raid_of}
+use Rattle.raid_rack.specs.Raid.{Raid, is_over, live_of, spent_of, held_in, StopsInside, raid_of}
 use Rattle.raid_rack.specs.Acts.{RaidActs}
 use Rattle.raid_rack.specs.Moves.{AreCaused, Brings, Mends, Moves, ReadsValue, SyncsOne, WritesOne, noted_at, written_at}
 use Rattle.raid_rack.specs.Runs.{RaidRuns}
@@ -161,9 +161,18 @@ moves_keep a b x y fit after inside moves =
 
 -- ---- what calls do to the book and to images
 
-pub runs_call : (a b : Arrays) (x y : Seen) (now : ℕ → (ℕ → Values) → ℕ → Values) → IsFit a x → IsFit b y → StopsInside y
-    → Brings (raid_by a) (raid_by b) x y now → AreCaused (raid_by a) (raid_by b) x y → RaidRuns (raid_by a) (raid_by b) x y
-runs_call a b x y now fit after inside brings cause =
+-- an array that isn't over is one of those that are made
+made_by : (a b : Arrays) (n : ℕ) → length b.all.items ≡ b.state.made → b.state.made ≡ a.state.made → is_over (raid_by b) n ≡ false → n < a.state.made
+made_by a b n count same goes =
+    elim (cases_lt n a.state.made) [
+      | inl low ↦ low
+      | inr past ↦ absurd (both_ways (is_over (raid_by b) n) goes (none_past b n count (omega (arith, past, same))))
+    ]
+
+pub runs_call : (p q : ℕ → Bool) (a b : Arrays) (x y : Seen) (now : ℕ → (ℕ → Values) → ℕ → Values)
+    → ((n : ℕ) → q n ≡ false → (p n ≡ false) × ((was : ℕ → Values) → now n was ≡ was)) → IsFit a x → IsFit b y → StopsInside y
+    → Brings (raid_by a) (raid_by b) x y now → AreCaused (raid_by a) (raid_by b) x y → RaidRuns p q (raid_by a) (raid_by b) x y
+runs_call p q a b x y now unwritten fit after inside brings cause =
     let v = raid_by a in
     let w = raid_by b in
     let vals : Held = λ n. now n (held_in v x n) in
@@ -183,6 +192,10 @@ runs_call a b x y now fit after inside brings cause =
       caused = cause;
       still = call.still;
       told = acts.told;
+      written = λ n not. (unwritten n not).0;
+      rows = λ n not told goes rows.
+          brings.rows n (held_in v x n) (spent_of w n) (unwritten n not).1 told.joined (made_by a b n after.running.count brings.book.same.made goes) goes
+          (λ z unspent. (live_parts w n z unspent).1) (before_amid v w x y vals call n told goes) rows;
       images = λ n told goes traced.
           let all = brings.leaves traced in
           record {
@@ -205,6 +218,15 @@ runs_call a b x y now fit after inside brings cause =
           };
     }
 
-pub runs_moves : (a b : Arrays) (x y : Seen) → IsFit a x → IsFit b y → StopsInside y → Moves (raid_by a) (raid_by b) x y → RaidRuns (raid_by a) (raid_by b) x y
-runs_moves a b x y fit after inside moves =
-    runs_call a b x y (λ n vals. vals) fit after inside (moves_bring (raid_by a) (raid_by b) x y moves) (record { left = moves.left; cause = moves.cause })
+-- only the array that is written is noted so
+pub flags_kept : (p q : ℕ → Bool) (m sector : ℕ) (from : List ℕ) → q m ≡ true → ((n : ℕ) → (n ≡ m → ⊥) → q n ≡ p n)
+    → (n : ℕ) → q n ≡ false → (p n ≡ false) × ((was : ℕ → Values) → written_at m sector from n was ≡ was)
+flags_kept p q m sector from noted others n not =
+    let apart : n ≡ m → ⊥ = λ same. both_ways (q n) not (ap q same ∙ noted) in (
+      sym (others n apart) ∙ not,
+      λ was. ap (λ (t : Bool). if t then appended_at sector from was else was) (ne_eqb n m apart),
+    )
+
+pub runs_moves : (p : ℕ → Bool) (a b : Arrays) (x y : Seen) → IsFit a x → IsFit b y → StopsInside y → Moves (raid_by a) (raid_by b) x y → RaidRuns p p (raid_by a) (raid_by b) x y
+runs_moves p a b x y fit after inside moves =
+    runs_call p p a b x y (λ n vals. vals) (λ n not. (not, λ was. refl)) fit after inside (moves_bring (raid_by a) (raid_by b) x y moves) (record { left = moves.left; cause = moves.cause })

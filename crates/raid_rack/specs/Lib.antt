@@ -12,3 +12,4 @@ pub mod RaidRack
 pub mod Laws
 pub mod Runs
 pub mod Opening
+pub mod AllRuns

@@ -1,5 +1,5 @@
 -- A rack of arrays, as contracts see it.
-use Rattle.std.specs.Prelude.{◌≡◌, ◌⊎◌, ℕ, pos, true, false, List, [], length, get_or, slice_get, unwrap_or}
+use Rattle.std.specs.Prelude.{◌≡◌, ◌⊎◌, ℕ, Bool, pos, true, false, List, [], length, get_or, slice_get, unwrap_or}
 use Rattle.rack.specs.Seen.{Seen, Stays}
 use Rattle.rack.specs.Calls.{KeepsAll}
 use Rattle.slice_rack.specs.declared.SliceRack.{SliceRack}
@@ -84,6 +84,13 @@ arrays_in rack = rack.arrays
 -- the spent answers of each array so far
 abbrev pub refused_in : {R : Type 0} → RaidRack R → ℕ → ℕ
 refused_in rack n = unwrap_or (slice_get rack.refused n) 0
+
+-- the arrays that it has written
+abbrev pub is_written : List Bool → ℕ → Bool
+is_written written n = unwrap_or (slice_get written n) false
+
+abbrev pub written_in : {R : Type 0} → RaidRack R → ℕ → Bool
+written_in rack = is_written rack.written
 
 -- what its slices show
 abbrev pub slices_seen : {R : Type 0} → (R → Seen) → RaidRack R → Seen

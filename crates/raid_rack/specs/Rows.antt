@@ -1,7 +1,8 @@
 -- Rows that images leave to resync.
-use Rattle.std.specs.Prelude.{◌≡◌, ℕ, ◌≤◌, true, false, Some}
+use Rattle.std.proofs.Common.{◌≡◌, ℕ, ◌≤◌, true, false, Some, subst, ◌∙◌}
 use Rattle.rack.specs.Seen.{Image, Seen}
 use Rattle.rack.specs.Moments.{Leaves}
+use Rattle.rack.specs.Joins.{leaves_then, leaves_weaker}
 use Rattle.md_super.specs.declared.superblock.Super.{Super}
 use Rattle.pool_state.specs.declared.contents.State.{State}
 use Rattle.array_image.specs.States.{state_in}
@@ -28,3 +29,21 @@ pub record KeepsRows (v w : Raid) (a b : Seen) (n : ℕ) : Type 0 where
   pub same : (w.arrays n).resync ≡ (v.arrays n).resync
   pub leaves : a.traced → Leaves a b (λ c. IsInside a.sectors c → LeavesFrom (v.arrays n).resync n (replayed a.sectors c))
   pub after : LeavesRows w b n
+
+-- parts in a row
+pub rows_then : (v w z : Raid) (a b c : Seen) (n : ℕ) → ((d : ℕ) → b.sectors d ≡ a.sectors d) → (a.traced → b.traced) → KeepsRows v w a b n → KeepsRows w z b c n → KeepsRows v z a c n
+rows_then v w z a b c n sectors traced_on one two = record {
+  same = two.same ∙ one.same;
+  leaves = λ traced.
+      leaves_then
+      (λ i. IsInside a.sectors i → LeavesFrom (v.arrays n).resync n (replayed a.sectors i))
+      (one.leaves traced)
+      (leaves_weaker
+      (λ i. IsInside b.sectors i → LeavesFrom (w.arrays n).resync n (replayed b.sectors i))
+      (λ i. IsInside a.sectors i → LeavesFrom (v.arrays n).resync n (replayed a.sectors i))
+      (λ i from inside.
+      subst (λ (size : ℕ → ℕ). LeavesFrom (v.arrays n).resync n (replayed size i)) (λ k d. sectors d k)
+      (subst (λ k. LeavesFrom k n (replayed b.sectors i)) one.same (from (λ d t out. inside d t (subst (λ k. k ≤ t) (sectors d) out)))))
+      (two.leaves (traced_on traced)));
+  after = two.after;
+}

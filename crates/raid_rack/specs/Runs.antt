@@ -7,6 +7,7 @@ use Rattle.rack.specs.Joins.{keeps_same, keeps_then, leaves_same, leaves_then, l
 use Rattle.md_super.specs.declared.superblock.Super.{Super}
 use Rattle.pool_state.specs.declared.contents.State.{State}
 use Rattle.array_image.specs.Places.{place_of}
+use Rattle.array_image.specs.Left.{IsInside}
 use Rattle.array_image.specs.States.{is_current, state_in}
 use Rattle.array_image.specs.Supers.{truth_in}
 use Rattle.array_image.specs.SoundArray.{IsSoundArray}
@@ -14,6 +15,7 @@ use Rattle.array_image.specs.Arrays.{Shape, shape_in, replayed}
 use Rattle.raid_rack.specs.Book.{IsAfter, after_same, after_then}
 use Rattle.raid_rack.specs.Moves.{AreCaused, KeepsMarked}
 use Rattle.raid_rack.specs.Raid.{Raid, is_left, is_over, IsTold}
+use Rattle.raid_rack.specs.Rows.{KeepsRows, LeavesFrom, LeavesRows, rows_then}
 
 -- Replayed contents have a state between two, and by it an array whose superblocks agree.
 pub record IsBetween (s t : State) (n : ℕ) (r : Image) : Type 0 where
@@ -26,8 +28,8 @@ pub record IsBetween (s t : State) (n : ℕ) (r : Image) : Type 0 where
   pub is_sound : (u : Super) → truth_in state r n ≡ Some u → IsSoundArray state r n u
 
 -- Marks are added and nothing else of the book, each with its cause; what stops leave meanwhile has marks between those before and
--- those after. What is told stays so.
-pub record RaidRuns (v w : Raid) (a b : Seen) : Type 0 where
+-- those after. What is told stays so. `p` and `q` are the arrays that were written before it and after it.
+pub record RaidRuns (p q : ℕ → Bool) (v w : Raid) (a b : Seen) : Type 0 where
   pub book : IsAfter v.state w.state
   -- nor do the log's number and events fall
   pub number : v.number ≤ w.number
@@ -43,13 +45,16 @@ pub record RaidRuns (v w : Raid) (a b : Seen) : Type 0 where
   pub caused : AreCaused v w a b
   pub still : (n : ℕ) → is_over w n ≡ false → is_over v n ≡ false
   pub told : (n : ℕ) → IsTold v a n → IsTold w b n
+  -- an array that isn't written leaves no rows to resync but those that are left in it
+  pub written : (n : ℕ) → q n ≡ false → p n ≡ false
+  pub rows : (n : ℕ) → q n ≡ false → IsTold v a n → is_over w n ≡ false → LeavesRows v a n → KeepsRows v w a b n
   pub images :
       (n : ℕ) → IsTold v a n → is_over w n ≡ false → a.traced
       → Leaves a b (λ c. IsBetween v.state w.state n (replayed a.sectors c))
 
 -- no call is a run
-pub raid_runs_same : (v : Raid) (x : Seen) → RaidRuns v v x x
-raid_runs_same v x =
+pub raid_runs_same : (p : ℕ → Bool) (v : Raid) (x : Seen) → RaidRuns p p v v x x
+raid_runs_same p v x =
     record {
       book = after_same v.state;
       number = omega arith;
@@ -64,6 +69,12 @@ raid_runs_same v x =
       caused = record { left = λ place is. is; cause = λ place was now. absurd (both_ways (is_left v place) now was) };
       still = λ n goes. goes;
       told = λ n told. told;
+      written = λ n not. not;
+      rows = λ n not told goes rows. record {
+        same = refl;
+        leaves = λ traced. leaves_same x (λ c. IsInside x.sectors c → LeavesFrom (v.arrays n).resync n (replayed x.sectors c));
+        after = rows;
+      };
       images = λ n told goes traced. leaves_same x (λ c. IsBetween v.state v.state n (replayed x.sectors c));
     }
 
@@ -94,8 +105,8 @@ marked_still was true gone before = absurd (both_ways was gone (before refl))
 marked_still was false gone before = refl
 
 -- runs in a row are one
-pub raid_runs_then : (v w z : Raid) (a b c : Seen) → RaidRuns v w a b → RaidRuns w z b c → RaidRuns v z a c
-raid_runs_then v w z a b c one two =
+pub raid_runs_then : (p q r : ℕ → Bool) (v w z : Raid) (a b c : Seen) → RaidRuns p q v w a b → RaidRuns q r w z b c → RaidRuns p r v z a c
+raid_runs_then p q r v w z a b c one two =
     record {
       book = after_then v.state w.state z.state one.book two.book;
       number = let first = one.number in let second = two.number in omega (arith, first, second);
@@ -131,6 +142,10 @@ raid_runs_then v w z a b c one two =
       };
       still = λ n goes. one.still n (two.still n goes);
       told = λ n told. two.told n (one.told n told);
+      written = λ n not. one.written n (two.written n not);
+      rows = λ n not told goes rows.
+          let first = one.rows n (two.written n not) told (two.still n goes) rows in
+          rows_then v w z a b c n one.sectors one.traced first (two.rows n not (one.told n told) goes first.after);
       images = λ n told goes traced.
           leaves_then
           (λ i. IsBetween v.state z.state n (replayed a.sectors i))

@@ -26,6 +26,8 @@ pub struct RaidRack<R> {
     pub(crate) arrays: Arrays,
     /// The spent answers of each array so far.
     pub(crate) refused: [u64; 16],
+    /// The arrays that this run has written, by number. Images leave no rows of others to resync but those that were left before.
+    pub(crate) written: [bool; 16],
     /// When the pool was opened, in seconds since 1970: the times in superblocks of new arrays.
     seconds: u64,
 }
@@ -44,7 +46,7 @@ impl<R: Rack> RaidRack<R> {
     ghost use Rattle.raid_rack.specs.Moves.{Mends, RaisesBy, noted_at};
     ghost use Rattle.raid_rack.specs.Cleaning.{CleansAll, LeavesItsRows};
     ghost use Rattle.raid_rack.specs.Runs.{RaidRuns};
-    ghost use Rattle.raid_rack.specs.RaidRack.{SliceRuns, IsFit, IsRunning, KeepsRack, arrays_in, arrays_of, raid_seen, raid_in, refused_in, slices_in, slices_seen};
+    ghost use Rattle.raid_rack.specs.RaidRack.{SliceRuns, IsFit, IsRunning, KeepsRack, arrays_in, arrays_of, raid_seen, raid_in, refused_in, slices_in, slices_seen, written_in};
 
     /// The rack of these arrays, which are those below the state's `made`, by number, over these slices. Nothing is added to the
     /// log, and nothing is pending in it.
@@ -60,6 +62,7 @@ impl<R: Rack> RaidRack<R> {
         ensures arrays { arrays_of result ≡ arrays.items }
         ensures number { (raid_in result).number ≡ log.number }
         ensures refused { (n : ℕ) → refused_in result n ≡ 0 }
+        ensures written { (n : ℕ) → written_in result n ≡ false }
     {
         RaidRack {
             slices,
@@ -69,6 +72,7 @@ impl<R: Rack> RaidRack<R> {
                 log,
             },
             refused: [0; 16],
+            written: [false; 16],
             seconds,
         }
     }
@@ -116,8 +120,9 @@ impl<R: Rack> RaidRack<R> {
         ensures images { LeavesItsRows (raid_in self.old) (raid_in self.new) (slices_seen R.seen self.old) (slices_seen R.seen self.new) }
         ensures keeps { KeepsRack (raid_seen R.seen self.old) (raid_seen R.seen self.new) }
         ensures raises { RaisesBy 288 (raid_in self.old) (raid_in self.new) }
+        ensures written { (n : ℕ) → written_in self.new n ≡ written_in self.old n }
         ensures runs { SliceRuns R.seen R.runs (slices_in self.old) (slices_in self.new) }
-        ensures book { RaidRuns (raid_in self.old) (raid_in self.new) (slices_seen R.seen self.old) (slices_seen R.seen self.new) }
+        ensures book { RaidRuns (written_in self.old) (written_in self.new) (raid_in self.old) (raid_in self.new) (slices_seen R.seen self.old) (slices_seen R.seen self.new) }
     {
         self.arrays.clean_all(&mut self.slices);
     }

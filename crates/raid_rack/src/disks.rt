@@ -2,13 +2,16 @@
 
 ghost use Rattle.std.specs.Prelude.{◌≡◌, ℕ, ◌<◌, ◌≤◌, true, false, OnOk, IfErr};
 ghost use Rattle.rack.specs.Seen.{Rose};
+ghost use Rattle.rack.specs.Calls.{Reads, Syncs, Writes};
+ghost use Rattle.raid_rack.specs.Moves.{RaisesBy};
+ghost use Rattle.raid_rack.specs.AllRuns.{AreRuns};
 ghost use Rattle.slice_rack.specs.SliceRack.{below_of, tables};
 ghost use Rattle.slice_rack.specs.Laws.{is_sound};
 ghost use Rattle.slice_rack.specs.Runs.{runs_join, runs_none};
 ghost use Rattle.raid_rack.specs.Laws.{raid_sound, stops_inside};
 ghost use Rattle.raid_rack.specs.Raid.{spent_of};
 ghost use Rattle.raid_rack.specs.Runs.{RaidRuns, raid_runs_same, raid_runs_then};
-ghost use Rattle.raid_rack.specs.RaidRack.{IsFit, SliceRuns, arrays_in, raid_in, raid_seen, refused_in, slices_in, slices_seen};
+ghost use Rattle.raid_rack.specs.RaidRack.{IsFit, is_written, SliceRuns, arrays_in, raid_in, raid_seen, refused_in, slices_in, slices_seen, written_in};
 
 use crate::arrays::RaidRack;
 use rack::{Gone, Rack};
@@ -18,8 +21,7 @@ use rack::{Gone, Rack};
 impl<R: Rack> Rack for RaidRack<R> {
     ghost seen = { λ rack. raid_seen R.seen rack };
 
-    ghost runs = { λ old new. SliceRuns R.seen R.runs (slices_in old) (slices_in new)
-        × RaidRuns (raid_in old) (raid_in new) (slices_seen R.seen old) (slices_seen R.seen new) };
+    ghost runs = { λ old new. AreRuns R.seen R.runs old new };
 
     ghost lenders = { λ rack. R.lenders (below_of (slices_in rack)) };
 
@@ -31,18 +33,42 @@ impl<R: Rack> Rack for RaidRack<R> {
         self.arrays.all[disk as usize].sectors()
     }
 
-    fn read(&mut self, disk: u32, sector: u64, into: &mut [u8; 512]) -> Result<(), Gone> {
+    fn read(&mut self, disk: u32, sector: u64, into: &mut [u8; 512]) -> Result<(), Gone>
+        requires fit { (raid_seen R.seen self.old).fit }
+        requires disk { disk < (raid_seen R.seen self.old).disks }
+        requires sector { sector < (raid_seen R.seen self.old).sectors disk }
+        ensures reads { Reads (raid_seen R.seen self.old) (raid_seen R.seen self.new) disk sector into.new result }
+        ensures runs { AreRuns R.seen R.runs self.old self.new }
+        ensures raises { RaisesBy 17 (raid_in self.old) (raid_in self.new) }
+        ensures written { (n : ℕ) → written_in self.new n ≡ written_in self.old n }
+    {
         self.arrays.read_array(&mut self.slices, disk, sector, into);
         self.answer(disk, sector)
     }
 
-    fn write(&mut self, disk: u32, sector: u64, from: &[u8; 512]) -> Result<(), Gone> {
+    fn write(&mut self, disk: u32, sector: u64, from: &[u8; 512]) -> Result<(), Gone>
+        requires fit { (raid_seen R.seen self.old).fit }
+        requires disk { disk < (raid_seen R.seen self.old).disks }
+        requires sector { sector < (raid_seen R.seen self.old).sectors disk }
+        ensures writes { Writes (raid_seen R.seen self.old) (raid_seen R.seen self.new) disk sector from.now result }
+        ensures runs { AreRuns R.seen R.runs self.old self.new }
+        ensures raises { RaisesBy 18 (raid_in self.old) (raid_in self.new) }
+        ensures written { (n : ℕ) → (n ≡ disk → ⊥) → written_in self.new n ≡ written_in self.old n }
+    {
+        note_written(&mut self.written, disk);
         self.arrays
             .write_array(&mut self.slices, disk, sector, from);
         self.answer(disk, sector)
     }
 
-    fn sync(&mut self, disk: u32) -> Result<(), Gone> {
+    fn sync(&mut self, disk: u32) -> Result<(), Gone>
+        requires fit { (raid_seen R.seen self.old).fit }
+        requires disk { disk < (raid_seen R.seen self.old).disks }
+        ensures syncs { Syncs (raid_seen R.seen self.old) (raid_seen R.seen self.new) disk result }
+        ensures runs { AreRuns R.seen R.runs self.old self.new }
+        ensures raises { RaisesBy 17 (raid_in self.old) (raid_in self.new) }
+        ensures written { (n : ℕ) → written_in self.new n ≡ written_in self.old n }
+    {
         self.arrays.sync_array(&mut self.slices, disk);
         Ok(())
     }
@@ -54,7 +80,7 @@ impl<R: Rack> Rack for RaidRack<R> {
     ghost runs_same = { λ rack. (
       runs_none (tables (slices_in rack)) (R.seen (below_of (slices_in rack))) (R.runs (below_of (slices_in rack)) (below_of (slices_in rack)))
           (R.runs_same (below_of (slices_in rack))),
-      raid_runs_same (raid_in rack) (slices_seen R.seen rack),
+      raid_runs_same (written_in rack) (raid_in rack) (slices_seen R.seen rack),
     ) };
 
     ghost runs_then = { λ x y z one two. (
@@ -63,7 +89,7 @@ impl<R: Rack> Rack for RaidRack<R> {
           (R.runs (below_of (slices_in x)) (below_of (slices_in y))) (R.runs (below_of (slices_in y)) (below_of (slices_in z)))
           (R.runs (below_of (slices_in x)) (below_of (slices_in z))) one.0 two.0
           (R.runs_then (below_of (slices_in x)) (below_of (slices_in y)) (below_of (slices_in z)) one.0.below two.0.below),
-      raid_runs_then (raid_in x) (raid_in y) (raid_in z) (slices_seen R.seen x) (slices_seen R.seen y) (slices_seen R.seen z) one.1 two.1,
+      raid_runs_then (written_in x) (written_in y) (written_in z) (raid_in x) (raid_in y) (raid_in z) (slices_seen R.seen x) (slices_seen R.seen y) (slices_seen R.seen z) one.1 two.1,
     ) };
 
     ghost runs_lenders = { λ x y runs. R.runs_lenders (below_of (slices_in x)) (below_of (slices_in y)) runs.0.below };
@@ -98,4 +124,13 @@ impl<R: Rack> RaidRack<R> {
         let count = self.refused[disk as usize];
         self.refused[disk as usize] = count.saturating_add(1);
     }
+}
+
+/// Notes that this run has written an array.
+fn note_written(written: &mut [bool; 16], disk: u32)
+    requires { disk < 16 }
+    ensures noted { is_written written.new disk ≡ true }
+    ensures others { (n : ℕ) → (n ≡ disk → ⊥) → is_written written.new n ≡ is_written written.old n }
+{
+    written[disk as usize] = true;
 }

@@ -22,7 +22,8 @@
 //! | `Settling` | all arrays settled, and the commit that marks losses |
 //! | `Cleaning` | arrays that are ended: settled, with superblocks that leave their rows and no others |
 //! | `RaidRack` | the model of the struct |
-//! | `Runs` | what calls in a row do to the book and to images: marks have their cause |
+//! | `Runs` | what calls in a row do to the book and to images: marks have their cause, and arrays that aren't written leave their rows |
+//! | `AllRuns` | the same, with what calls keep of the slices below |
 //! | `Laws` | what holds of the rack at any moment |
 //! | `Acts` | what a whole call does |
 //!
@@ -36,7 +37,8 @@
 //! is written, and no superblock that says so already.
 //!
 //! **Rows to resync.** An array that isn't young and whose truth leaves just the rows that are left in it (`LeavesRows`) does so in
-//! every image at each moment of a call and after it (`KeepsRows`), unless the call writes it.
+//! every image at each moment of a call and after it (`KeepsRows`), unless the call writes it. The rack keeps which arrays a run has
+//! written, so all others do so in every image of the run (`RaidRuns`).
 //!
 //! **What never falls.** Epochs, events and log numbers rise by a bounded number in a call (`RaisesBy`), and the slices of a drive
 //! that is marked missing stay as they are (`KeepsMarked`).

@@ -2,7 +2,7 @@ use Rattle.std.proofs.Common.{sym, subst}
 use Rattle.rack.specs.Calls.{Reads}
 use Rattle.slice_rack.specs.SliceRack.{tables, below_of}
 use Rattle.raid_rack.specs.Runs.{RaidRuns}
-use Rattle.raid_rack.specs.RaidRack.{SliceRuns, raid_in, raid_seen, slices_in, slices_seen}
+use Rattle.raid_rack.specs.RaidRack.{SliceRuns, raid_in, raid_seen, slices_in, slices_seen, written_in}
 use Rattle.raid_rack.specs.Laws.{stops_inside}
 use Rattle.raid_rack.proofs.Serving.{read_call, runs_moves}
 use Rattle.raid_rack.proofs.disks.RaidRackRack.read.Goals as goal
@@ -18,9 +18,9 @@ returns-clause-reads g c =
 pub returns-clause-runs : goal.returns-clause-runs
 returns-clause-runs g c =
     subst (λ r. SliceRuns g.R.Rack.seen g.R.Rack.runs (slices_in c.args.self.now) (slices_in r)
-    × RaidRuns (raid_in c.args.self.now) (raid_in r) (slices_seen g.R.Rack.seen c.args.self.now) (slices_seen g.R.Rack.seen r)) (sym c.answer.ensures.same) (
+    × RaidRuns (written_in c.args.self.now) (written_in r) (raid_in c.args.self.now) (raid_in r) (slices_seen g.R.Rack.seen c.args.self.now) (slices_seen g.R.Rack.seen r)) (sym c.answer.ensures.same) (
       c.read_array.ensures.runs,
-      runs_moves c.args.self.now.arrays c.read_array.new.self _ _ c.requires.fit
+      runs_moves (written_in c.args.self.now) c.args.self.now.arrays c.read_array.new.self _ _ c.requires.fit
           (record { running = c.read_array.ensures.running; heeded = c.read_array.ensures.reads.heeded })
           (stops_inside (tables c.read_array.new.rack) (g.R.Rack.seen (below_of c.read_array.new.rack))) c.read_array.ensures.reads.moves,
     )

@@ -1,4 +1,5 @@
 use Rattle.slice_rack.specs.SliceRack.{tables, below_of}
+use Rattle.raid_rack.specs.RaidRack.{written_in}
 use Rattle.raid_rack.specs.Laws.{stops_inside}
 use Rattle.raid_rack.proofs.Serving.{sync_call, runs_moves}
 use Rattle.raid_rack.proofs.disks.RaidRackRack.sync.Goals as goal
@@ -12,7 +13,7 @@ returns-clause-syncs g c =
 pub returns-clause-runs : goal.returns-clause-runs
 returns-clause-runs g c = (
   c.sync_array.ensures.runs,
-  runs_moves c.args.self.now.arrays c.sync_array.new.self _ _ c.requires.fit
+  runs_moves (written_in c.args.self.now) c.args.self.now.arrays c.sync_array.new.self _ _ c.requires.fit
       (record { running = c.sync_array.ensures.running; heeded = c.sync_array.ensures.syncs.heeded })
       (stops_inside (tables c.sync_array.new.rack) (g.R.Rack.seen (below_of c.sync_array.new.rack))) c.sync_array.ensures.syncs.moves,
 )
