@@ -221,6 +221,14 @@ next_near end first is =
       | inr far ↦ none_differs first (sym (sym (ap (λ (b : Bool). if b then Some end else None) (le-ltb end (2 ^ 48) far)) ∙ is))
     ]
 
+-- and that sector is the next one
+pub next_same : (end first : ℕ) → (if nat_lt end (2 ^ 48) then Some end else None) ≡ Some first → end ≡ first
+next_same end first is =
+    elim (cases_lt end (2 ^ 48)) [
+      | inl near ↦ some_same end first (sym (ap (λ (b : Bool). if b then Some end else None) (lt-ltb end (2 ^ 48) near)) ∙ is)
+      | inr far ↦ none_differs first (sym (sym (ap (λ (b : Bool). if b then Some end else None) (le-ltb end (2 ^ 48) far)) ∙ is))
+    ]
+
 -- an array of which no superblock was found
 pub none_from : (f : Found) (array first : ℕ) (found : List FoundSuper) → array < 16 → HasFewPlaces f.state f.seats
     → found ≡ all_found f array first → first_of f array ≡ Some first → found_truth found ≡ None → IsUnknown f array

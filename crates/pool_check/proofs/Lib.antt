@@ -11,3 +11,6 @@ pub mod Ends
 pub mod Losing
 pub mod Meant
 pub mod Opened
+pub mod Slotted
+pub mod Laid
+pub mod Shown

@@ -157,13 +157,6 @@ Opens a b e (Ok v) fault =
 Opens a b e (Err why) fault =
     (b.arrays.items ≡ a.arrays.items) × (b.extents.items ≡ a.extents.items) × (fault ≡ Some why)
 
--- as many layers, and no more arrays than these, each with its extent
-pub record AreKept (many : ℕ) (layers : ArraysRead) : Type 0 where
-  pub count : length layers.all.items ≡ many
-  pub lengths : length layers.opened.extents.items ≡ length layers.opened.arrays.items
-  pub fewer : length layers.opened.arrays.items ≤ many
-  pub near : (first : ℕ) → layers.next ≡ Some first → first < 2 ^ 48
-
 -- the arrays below a number are read
 pub record AreLayers (f : Found) (many : ℕ) (layers : ArraysRead) : Type 0 where
   pub count : length layers.all.items ≡ many

@@ -2,3 +2,5 @@ pub mod Refusing
 pub mod Drives
 pub mod Layers
 pub mod Checking
+pub mod Slots
+pub mod Laying

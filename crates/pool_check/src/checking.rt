@@ -7,6 +7,7 @@ ghost use Rattle.pool_scan.specs.Choosing.{seat_by};
 ghost use Rattle.array_core.specs.Seats.{names};
 ghost use Rattle.pool_check.specs.Drives.{AreCopied, AreDrivesOf, Drives, IsFitState, IsSeating, Loses, found_with, seats_by};
 ghost use Rattle.pool_check.specs.Refusing.{Halts, is_well, refusal_by, refused_with};
+ghost use Rattle.pool_check.specs.Slots.{AreSlots};
 ghost use Rattle.pool_check.specs.Checking.{IsChecked, first_number, is_dirty, is_few, refused_by_layers};
 
 use crate::drives::check_places;
@@ -152,6 +153,7 @@ fn check_seated<R: Rack>(
     ensures only { OnlyReads (R.seen rack.old) (R.seen rack.new) }
     ensures checked { IfOk result (λ checked. (o : Drives) → AreDrivesOf (R.seen rack.old) (seats_by seats.now) o
         → AreCopied scan.now.disks.items (seats_by seats.now) o → IsChecked (is_well bad) (found_with state.now (seats_by seats.now) o) checked) }
+    ensures slots { IfOk result (λ checked. AreSlots (R.seen rack.old).sectors (seats_by seats.now) checked.arrays.items checked.extents.items) }
     ensures halts { IfErr result (λ halt. Halts (R.seen rack.old) (R.seen rack.new) (seats_by seats.now)
         (λ fault. (o : Drives) → AreDrivesOf (R.seen rack.old) (seats_by seats.now) o → AreCopied scan.now.disks.items (seats_by seats.now) o
         → refused_with (is_well bad) None (found_with state.now (seats_by seats.now) o) ≡ Some (refusal_by fault)) halt) }
@@ -195,6 +197,8 @@ pub fn check_drives<R: Rack>(
     ensures exact { (o : Drives) → AreDrivesOf (R.seen rack.old) (seats_by seats.new) o → AreCopied scan.now.disks.items (seats_by seats.new) o
         → MatchResult result (IsChecked (is_well bad) (found_with state.now (seats_by seats.new) o))
         (λ fault. refused_with (is_well bad) None (found_with state.now (seats_by seats.new) o) ≡ Some (refusal_by fault)) }
+    // Whatever the disks tell, the members' slices lie one behind the other, and on their disks.
+    ensures slots { IfOk result (λ checked. AreSlots (R.seen rack.old).sectors (seats_by seats.new) checked.arrays.items checked.extents.items) }
     ensures runs { R.runs rack.old rack.new }
 {
     'again: loop {

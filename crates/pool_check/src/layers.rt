@@ -13,7 +13,8 @@ ghost use Rattle.pool_image.specs.Disks.{Seats as PlaceSeats};
 ghost use Rattle.pool_image.specs.Drives.{Found as Pool, extent_of, first_of};
 ghost use Rattle.pool_image.specs.Meaning.{truth_of};
 ghost use Rattle.pool_check.specs.Drives.{AreDrivesOf, Drives, Goes, HasFewPlaces, IsFitState, IsSeating, found_with, seats_by};
-ghost use Rattle.pool_check.specs.Layers.{AreKept, AreLayers, Opens, all_found, is_usable, sight_by, sights_by};
+ghost use Rattle.pool_check.specs.Slots.{AreKept, IsBehind};
+ghost use Rattle.pool_check.specs.Layers.{AreLayers, Opens, all_found, is_usable, sight_by, sights_by};
 
 use crate::superblocks::{is_named, read_supers};
 use crate::{ArraysRead, Checked, Extent, Layer, Seats, Sight};
@@ -171,6 +172,7 @@ fn add_near(
     requires few { number < 16 }
     requires kept { AreKept number layers.old }
     requires first { first < 2 ^ 48 }
+    requires past { IsBehind layers.old.opened.extents.items first }
     requires near { truth.now.size < 2 ^ 48 }
     requires truth { found_truth found.now ≡ Some truth.now }
     requires usable { is_truth truth.now ≡ true }
@@ -201,6 +203,7 @@ fn add_array(layers: &mut ArraysRead, state: &State, number: u32, first: u64, fo
     requires few { number < 16 }
     requires kept { AreKept number layers.old }
     requires first { first < 2 ^ 48 }
+    requires past { IsBehind layers.old.opened.extents.items first }
     requires usable { list_all (λ f. option_map_or is_usable f.seen true) found.now ≡ true }
     ensures kept { AreKept (suc number) layers.new }
     ensures layers { (seats : PlaceSeats) (o : Drives) → found.now ≡ all_found (found_with state.now seats o) number first
@@ -273,6 +276,7 @@ pub(crate) fn read_layers<R: Rack>(
     requires seating { IsSeating (R.seen rack.old) state.now (seats_by seats.now) }
     requires state { IsFitState state.now }
     ensures only { OnlyReads (R.seen rack.old) (R.seen rack.new) }
+    ensures kept { IfOk result (AreKept state.now.made) }
     ensures layers { IfOk result (λ layers. (o : Drives) → AreDrivesOf (R.seen rack.old) (seats_by seats.now) o
         → AreLayers (found_with state.now (seats_by seats.now) o) state.now.made layers) }
     ensures went { IfErr result (Goes (R.seen rack.old) (R.seen rack.new) (seats_by seats.now)) }

@@ -17,11 +17,13 @@ ghost use Rattle.std.specs.Prelude.{◌+◌, ◌<◌, ◌^◌};
 mod checking;
 mod drives;
 mod layers;
+mod laying;
 mod superblocks;
 
 use array_core::{Array, ArrayFault};
 use arrayvec::ArrayVec;
 pub use checking::{check_drives, seats_of};
+pub use laying::lay_members;
 
 /// A part of a drive, in the order in which they are checked.
 #[derive(Clone, Copy, Debug, PartialEq, Eq)]

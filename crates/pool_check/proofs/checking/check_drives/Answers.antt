@@ -1,7 +1,8 @@
-use Rattle.std.proofs.Common.{◌≡◌, ◌<◌, arith}
+use Rattle.std.proofs.Common.{◌≡◌, ℕ, ◌+◌, ◌<◌, subst, arith}
 use Rattle.rack.proofs.Reading.{only_reads_join}
 use Rattle.array_core.proofs.Opened.{current_below}
 use Rattle.pool_check.specs.Drives.{seats_by}
+use Rattle.pool_check.specs.Slots.{behind}
 use Rattle.pool_check.proofs.AfterReads.{drives_then, seating_then}
 use Rattle.pool_check.proofs.Losing.{fewer_seated, loses_more, seating_without}
 use Rattle.pool_check.proofs.checking.check_drives.Goals as goal
@@ -48,4 +49,15 @@ again-preserved g c =
           c.put_seat.ensures goes c.again.invariant.seats;
       seating = seating_without x c.args.state.now before after place c.put_seat.ensures c.again.invariant.seating;
       runs = g.met.R.Rack.runs_then _ _ _ c.again.invariant.runs c.in-Err-Went.ensures.runs;
+    }
+
+pub returns-in-Ok-clause-slots : goal.returns-in-Ok-clause-slots
+returns-in-Ok-clause-slots g c =
+    let slots = c.in-Ok.ensures.slots in
+    record {
+      lengths = slots.lengths;
+      ordered = slots.ordered;
+      sizes = slots.sizes;
+      fits = λ n v e place d at_v at_e named seat.
+          subst (λ (m : ℕ). behind e + 32 < m) (c.again.invariant.only.stays.sectors d) (slots.fits n v e place d at_v at_e named seat);
     }

@@ -4,6 +4,9 @@ use Rattle.pool_image.specs.Meaning.{absent, absent_count}
 use Rattle.pool_check.specs.declared.Layer.{Layer}
 use Rattle.pool_check.specs.Drives.{AreDrivesOf, Drives, HasFewPlaces, found_with, seats_by}
 use Rattle.pool_check.specs.Layers.{AreRead}
+use Rattle.array_core.proofs.Opened.{current_below}
+use Rattle.pool_check.specs.Slots.{FitsOn}
+use Rattle.pool_check.proofs.Slotted.{slots_are}
 use Rattle.pool_check.specs.Refusing.{is_well}
 use Rattle.pool_check.specs.Checking.{refused_by_layers}
 use Rattle.pool_check.proofs.AfterReads.{drives_then, goes_early, halts_later, seating_then}
@@ -70,3 +73,18 @@ returns-in-None-clause-checked g c o are copied =
     λ place d seat. subst (λ (n : ℕ). n < 2 ^ 48) (sym (are.sectors place d seat)) (c.requires.seating.small d (c.requires.seating.inside place d seat)) in
     arrays_open (is_well c.args.bad) f few small c.requires.state.made (subst (λ (n : ℕ). n ≤ 1) count c.if-count-gt1.false) sound {layers = c.in-Ok.layers} layers
     (ap refused_by_layers (sym c.as_slice-2.ensures.value) ∙ sym c.in-None.ensures)
+
+pub returns-in-None-clause-slots : goal.returns-in-None-clause-slots
+returns-in-None-clause-slots g c =
+    let x = g.R.Rack.seen c.args.rack.now in
+    let y = g.R.Rack.seen c.read_layers.new.rack in
+    let seats = seats_by c.args.seats.now in
+    slots_are x.sectors seats c.args.state.now.made c.in-Ok.layers
+    (λ place d seat.
+    let listed = current_below c.args.state.now place (c.requires.seating.current place d seat) in
+    let few = c.requires.state.few in
+    omega (arith, listed, few))
+    c.in-Ok.ensures.kept
+    (λ place d low seat.
+    subst (FitsOn c.in-Ok.layers.all.items place) (c.in-Ok.ensures.only.stays.sectors d)
+    (subst (λ (xs : List Layer). FitsOn xs place (y.sectors d)) c.as_slice.ensures.value (c.in_default.ensures.fits place d low seat)))

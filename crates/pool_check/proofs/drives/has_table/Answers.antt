@@ -1,6 +1,8 @@
-use Rattle.std.proofs.Common.{◌≡◌, ℕ, false, ap, sym, ◌∙◌}
+use Rattle.std.proofs.Common.{◌≡◌, ℕ, true, false, ap, subst, sym, ◌∙◌}
 use Rattle.std.specs.Option.{option_map_or}
 use Rattle.pool_check.specs.Layers.{is_table_by}
+use Rattle.pool_check.specs.Slots.{FitsOn}
+use Rattle.pool_check.proofs.Slotted.{table_fits}
 use Rattle.pool_check.proofs.Parts.{table_found}
 use Rattle.pool_check.proofs.drives.has_table.Goals as goal
 
@@ -15,3 +17,13 @@ returns-clause-has g c seats o seat are read =
     let says = c.in-Ok.ensures.found.value (are.told place d seat) (o.contents d) (are.contents place d seat) in
     c.is_found.ensures ∙ ap (λ (n : ℕ). option_map_or (is_table_by s layers place n) found false) c.sectors-sectors.ensures.number
     ∙ table_found x s seats o layers place d c.requires.place c.requires.small seat are read found (sym says)
+
+pub returns-clause-fits : goal.returns-clause-fits
+returns-clause-fits g c is =
+    let s = c.args.state.now in
+    let layers = c.args.layers.now in
+    let place = c.args.place in
+    let found = c.in-Ok.found in
+    let passes : c.is_found.result ≡ true = cc in
+    subst (FitsOn layers place) c.sectors-sectors.ensures.number
+    (table_fits s layers place c.sectors-sectors.result found (sym c.is_found.ensures ∙ passes))

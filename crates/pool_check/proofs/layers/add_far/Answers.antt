@@ -1,8 +1,11 @@
-use Rattle.std.proofs.Common.{◌≡◌, map, ap, sym, ◌∙◌, refl, arith}
+use Rattle.std.proofs.Common.{◌≡◌, map, ap, sym, ◌∙◌, refl, arith, List, subst}
 use Rattle.std.specs.Prelude.{length}
 use Rattle.std.specs.List.{range_with_len}
 use Rattle.array_core.specs.declared.ArrayFault.TheVariants.{TooFew}
 use Rattle.pool_check.specs.Layers.{sights_by}
+use Rattle.pool_check.specs.declared.Layer.{Layer}
+use Rattle.pool_check.specs.Slots.{AreMatched}
+use Rattle.pool_check.proofs.Slotted.{matched_layer}
 use Rattle.pool_check.proofs.Adding.{far_layer, far_next, found_from, length_more, more_layers, none_differs}
 use Rattle.pool_check.proofs.Layered.{far_fault}
 use Rattle.pool_check.proofs.layers.add_far.Goals as goal
@@ -15,6 +18,11 @@ returns-clause-kept c =
       lengths = c.requires.kept.lengths;
       fewer = omega (arith, fewer);
       near = λ first at. none_differs first (sym at);
+      ordered = c.requires.kept.ordered;
+      behind_all = λ first at. none_differs first (sym at);
+      matched =
+          subst (λ (xs : List Layer). AreMatched xs c.args.layers.now.opened.arrays.items c.args.layers.now.opened.extents.items) (sym c.push.ensures.items)
+          (matched_layer c.args.layers.now.all.items _ c.args.layers.now.opened.arrays.items c.args.layers.now.opened.extents.items c.requires.kept.matched);
     }
 
 pub returns-clause-layers : goal.returns-clause-layers

@@ -7,18 +7,33 @@ use Rattle.array_core.specs.Opening.{opened}
 use Rattle.pool_image.specs.Replay.{Extent}
 use Rattle.pool_check.specs.Drives.{found_with}
 use Rattle.pool_check.specs.Layers.{IsNext, Opens, extent_by, sights_by}
-use Rattle.pool_check.proofs.Adding.{found_from, length_more, more_layers, more_opened, near_layer, near_next, next_near, opens_kept}
+use Rattle.pool_check.specs.declared.Layer.{Layer}
+use Rattle.pool_check.specs.Slots.{AreMatched, IsBehind}
+use Rattle.pool_check.proofs.Slotted.{opens_keeps}
+use Rattle.pool_check.proofs.Adding.{found_from, length_more, more_layers, more_opened, near_layer, near_next, next_near, next_same, opens_kept}
 use Rattle.pool_check.proofs.layers.add_near.Goals as goal
 
 pub returns-clause-kept : goal.returns-clause-kept
 returns-clause-kept c =
     let kept = c.requires.kept in
+    let e = c.extent_at-extent.result in
+    let keeps =
+    opens_keeps c.args.layers.now.opened c.open_array-fault.new.opened e c.args.number c.is_young.result c.args.found.now c.args.truth.now
+    c.open_array-fault.result c.args.layers.now.all.items _ c.open_array-fault.ensures c.requires.truth kept.lengths c.sights.ensures refl
+    c.extent_at-extent.ensures.sectors kept.ordered
+    (subst (IsBehind c.args.layers.now.opened.extents.items) (sym c.extent_at-extent.ensures.first) c.requires.past) kept.matched in
     let more = opens_kept c.args.layers.now.opened c.open_array-fault.new.opened c.extent_at-extent.result _ c.open_array-fault.result c.open_array-fault.ensures kept.lengths in
     record {
       count = ap length c.push.ensures.items ∙ length_more _ _ _ kept.count;
       lengths = more.0;
       fewer = (let fewer = kept.fewer in let most = more.1 in omega (arith, fewer, most));
       near = λ first at. next_near (c.extent_at-extent.result.first + c.extent_at-extent.result.sectors) first (sym c.next_of-layers.ensures ∙ at);
+      ordered = keeps.ordered;
+      behind_all = λ first at.
+          subst (IsBehind c.open_array-fault.new.opened.extents.items) (next_same (e.first + e.sectors) first (sym c.next_of-layers.ensures ∙ at)) keeps.past;
+      matched =
+          subst (λ (xs : List Layer). AreMatched xs c.open_array-fault.new.opened.arrays.items c.open_array-fault.new.opened.extents.items) (sym c.push.ensures.items)
+          keeps.matched;
     }
 
 pub returns-clause-layers : goal.returns-clause-layers

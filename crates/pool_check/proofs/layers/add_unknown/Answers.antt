@@ -1,6 +1,9 @@
-use Rattle.std.proofs.Common.{◌≡◌, ap, sym, ◌∙◌, refl, arith}
+use Rattle.std.proofs.Common.{◌≡◌, ap, sym, ◌∙◌, refl, arith, List, subst}
 use Rattle.std.specs.Prelude.{length}
 use Rattle.array_core.specs.declared.ArrayFault.TheVariants.{Foreign}
+use Rattle.pool_check.specs.declared.Layer.{Layer}
+use Rattle.pool_check.specs.Slots.{AreMatched}
+use Rattle.pool_check.proofs.Slotted.{matched_layer}
 use Rattle.pool_check.proofs.Adding.{length_more, more_layers, none_differs, nowhere, unknown_layer}
 use Rattle.pool_check.proofs.Begins.{IsUnknown}
 use Rattle.pool_check.proofs.Layered.{all_strange, unknown_fault}
@@ -14,6 +17,11 @@ returns-clause-kept c =
       lengths = c.requires.kept.lengths;
       fewer = omega (arith, fewer);
       near = λ first at. none_differs first (sym at);
+      ordered = c.requires.kept.ordered;
+      behind_all = λ first at. none_differs first (sym at);
+      matched =
+          subst (λ (xs : List Layer). AreMatched xs c.args.layers.now.opened.arrays.items c.args.layers.now.opened.extents.items) (sym c.push.ensures.items)
+          (matched_layer c.args.layers.now.all.items _ c.args.layers.now.opened.arrays.items c.args.layers.now.opened.extents.items c.requires.kept.matched);
     }
 
 pub returns-clause-layers : goal.returns-clause-layers

@@ -21,3 +21,6 @@ returns-in-Ok-clause-layers g c o are old =
     let next = subst (IsNext f c.args.number) c.in-Some.is old.next in
     c.add_array.ensures.layers seats o (c.as_slice.ensures.value ∙ c.in-Ok.ensures.found o are) next.0
     (record { few = c.requires.state.few; current = c.requires.seating.current }) old
+
+pub add_array-requires-clause-past : goal.add_array-requires-clause-past
+add_array-requires-clause-past g c = c.requires.kept.behind_all c.in-Some.first c.in-Some.is

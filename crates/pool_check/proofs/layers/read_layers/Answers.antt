@@ -1,7 +1,8 @@
 use Rattle.std.proofs.Common.{◌≡◌, suc, ◌+◌, subst, arith}
 use Rattle.rack.proofs.Reading.{only_reads_join, only_reads_start}
 use Rattle.pool_check.specs.Drives.{found_with, seats_by}
-use Rattle.pool_check.specs.Layers.{AreKept, AreLayers}
+use Rattle.pool_check.specs.Layers.{AreLayers}
+use Rattle.pool_check.specs.Slots.{AreKept}
 use Rattle.pool_check.proofs.AfterReads.{drives_then, goes_later, seating_then}
 use Rattle.pool_check.proofs.layers.read_layers.Goals as goal
 

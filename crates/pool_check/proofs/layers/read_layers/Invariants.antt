@@ -1,6 +1,7 @@
 use Rattle.rack.specs.Sequences.{OnlyReads}
 use Rattle.pool_check.specs.Drives.{AreDrivesOf, Drives, found_with, seats_by}
-use Rattle.pool_check.specs.Layers.{AreKept, AreLayers}
+use Rattle.pool_check.specs.Layers.{AreLayers}
+use Rattle.pool_check.specs.Slots.{AreKept}
 use Rattle.pool_check.proofs.layers.read_layers.Given as goal
 
 abbrev pub invariant-loop-number : goal.invariant-loop-number
