@@ -5,6 +5,8 @@ mod Listed
 mod OnDrives
 mod Agreeing
 mod Again
+mod SameMeaning
+mod Joined
 mod Laid
 mod Stood
 pub mod Meant

@@ -58,7 +58,7 @@ cause_meant a b TwoPools cause told free =
 cause_meant a b Memory cause told free = tt
 
 -- a state has at most 16 drives
-few_newest : (a : Seen) (s : State) → newest (disks_of a) (identities_of (disks_of a) (now_in a)) ≡ Some s → length s.drives.items ≤ 16
+pub few_newest : (a : Seen) (s : State) → newest (disks_of a) (identities_of (disks_of a) (now_in a)) ≡ Some s → length s.drives.items ≤ 16
 few_newest a s is = of_front (foremost epoch_of (map (λ d. (identities_of (disks_of a) (now_in a) d).copied) (range_with_len 0 a.disks))) refl is
   where
     some_state : (x y : State) → Some x ≡ Some y → x ≡ y

@@ -13,7 +13,8 @@ use Rattle.pool_image.specs.Replay.{Standing, standing, standing_by, brought_sta
 use Rattle.pool_image.specs.Alike.{drive_gate}
 use Rattle.commit_log.specs.View.{LogView, names}
 use Rattle.pool_scan.specs.declared.Known.{Known}
-use Rattle.pool_scan.specs.Scanning.{now_in}
+use Rattle.rack.specs.Sequences.{WritesOnly}
+use Rattle.pool_scan.specs.Scanning.{IsScan, now_in}
 use Rattle.pool_scan.specs.Choosing.{seat_by}
 
 -- a sector that a replay may write: of a drive of the state, in its log slice or in the arrays' part of its disk
@@ -91,3 +92,16 @@ pub record StandsNow (b : Seen) (s : State) (m : LogView) (is_pending : Bool) (d
 -- the state whose drives a pending record is for
 abbrev pub seated_state : List Target → State → State
 seated_state xs s = unwrap_or (brought_state xs) s
+
+-- By the meaning of images: the pool stood so on what the disks held, and they hold it with its record written, but for gates.
+pub record RestsSo (a b : Seen) : Type 0 where
+  pub before : Standing
+  pub stands : standing (disks_of a) (now_in a) ≡ Some before
+  pub rests : Rests a b before
+
+-- only drives of a state were written, by what was read of the disks
+pub record WritesDrives (a b : Seen) : Type 0 where
+  pub known : List Known
+  pub state : State
+  pub scan : IsScan a b known
+  pub only : WritesOnly a b (IsOfDrive a known state)

@@ -15,4 +15,5 @@ mod members;
 mod resting;
 mod standing;
 
+pub use resting::{AtRest, bring_to_rest};
 pub use standing::{Refusal, Standing, stand};

@@ -1,10 +1,10 @@
 //! A pool at rest: its pending record is replayed.
 
-ghost use Rattle.std.specs.Prelude.{◌≡◌, ◌<◌, ◌⊎◌, ◌^◌, ◌==◌, ◌&&◌, ◌||◌, ℕ, List, true, false, length, [], Some, unwrap_or, IfOk, IfErr};
+ghost use Rattle.std.specs.Prelude.{◌≡◌, ◌≢◌, ◌<◌, ◌⊎◌, ◌^◌, ◌==◌, ◌&&◌, ◌||◌, ℕ, List, true, false, length, [], Some, None, unwrap_or, IfOk, IfErr};
 ghost use Rattle.std.specs.List.{list_all};
 ghost use Rattle.rack.specs.Values.{Keeps};
 ghost use Rattle.rack.specs.Seen.{IsLive};
-ghost use Rattle.rack.specs.Sequences.{WritesOnly};
+ghost use Rattle.rack.specs.Sequences.{OnlyReads, WritesOnly};
 ghost use Rattle.slice_rack.specs.Slices.{seat_of as has_seat};
 ghost use Rattle.slice_rack.specs.SliceRack.{tables, below_of};
 ghost use Rattle.slice_rack.specs.Sliced.{slices_of};
@@ -15,19 +15,21 @@ ghost use Rattle.commit_log.specs.View.{names, settled};
 ghost use Rattle.pool_scan.specs.Scanning.{AllTold, IsUnfaulted, now_in};
 ghost use Rattle.pool_scan.specs.Choosing.{AreOf, seat_by};
 ghost use Rattle.assembler.specs.Standing.{IsLasting, IsLaid};
-ghost use Rattle.pool_image.specs.Alike.{drive_gate};
-ghost use Rattle.pool_image.specs.Replay.{brought_state};
-ghost use Rattle.assembler.specs.Resting.{IsOfDrive, IsReplayed, HaveCause, IsFlagged, HasDisk, HasRefused, StandsNow, seated_state};
+ghost use Rattle.pool_image.specs.Alike.{drive_gate, MeansTheSame};
+ghost use Rattle.pool_image.specs.Replay.{brought_state, standing_by};
+ghost use Rattle.pool_image.specs.Meaning.{has_other_pool};
+ghost use Rattle.assembler.specs.Resting.{IsOfDrive, IsReplayed, HaveCause, IsFlagged, HasDisk, HasRefused, StandsNow, RestsSo, WritesDrives, seated_state};
 
 use crate::brought::brought_state as brought_by;
 use crate::laying::seat_drives;
 use crate::members::{lay_drives, push_unless};
-use crate::standing::{Standing, copy_of, look};
+use crate::standing::{Refusal, Standing, copy_of, look, stand};
 use commit_log::Log;
 use pool_scan::Scan;
 use pool_state::State;
-use rack::{Places, Rack};
+use rack::{Back, Places, Rack};
 use slice_rack::SliceRack;
+use std::alloc::Global;
 
 /// Whether a list has this place.
 fn is_among(places: &Places, place: u32) -> bool
@@ -377,4 +379,55 @@ fn replay_found<R: Rack>(found: Standing<R>, room: Scan) -> Result<AtRest<R>, R>
     let mut rest = as_it_stands(again);
     rest.gone = both(&rest.gone, &early);
     Ok(rest)
+}
+
+/// Finds the pool on the disks of a rack and brings it to rest: replays its pending record, if it has one and no log is damaged.
+/// Nothing else is written, and disks that are no drives of the pool never. Disks have fewer than 2^48 sectors.
+///
+/// Gates are closed where a record was replayed and no disk has refused a call. Where one has, the record stays pending on whoever
+/// is left, and the next commit takes its place; its drive stands in `gone`.
+pub fn bring_to_rest<R: Rack>(alloc: Global, rack: R) -> Result<AtRest<R>, Back<R, Refusal>>
+    requires fit { (R.seen rack).fit }
+    requires small { (d : ℕ) → d < (R.seen rack).disks → (R.seen rack).sectors d < 2 ^ 48 }
+    ensures fit { IfOk result (λ r. (slices_of (tables r.slices) (R.seen (below_of r.slices))).fit) }
+    ensures few { IfOk result (λ r. length r.scan.disks.items < 2 ^ 32) }
+    ensures only { IfOk result (λ r. WritesDrives (R.seen rack) (R.seen (below_of r.slices))) }
+    ensures laid { IfOk result (λ r. IsLaid (R.seen (below_of r.slices)) r.scan.disks.items r.state (tables r.slices) r.on.items) }
+    // Where no disk refused a call, the record is written and nothing else has changed but gates.
+    ensures rests { IfOk result (λ r. AllTold (R.seen rack) → IsLasting (R.seen rack) → IsUnfaulted (R.seen rack) (R.seen (below_of r.slices))
+        → RestsSo (R.seen rack) (R.seen (below_of r.slices))) }
+    ensures stands { IfOk result (λ r. AllTold (R.seen rack) → IsLasting (R.seen rack) → IsUnfaulted (R.seen rack) (R.seen (below_of r.slices))
+        → StandsNow (R.seen (below_of r.slices)) r.state r.log r.pending r.damaged) }
+    // So where nothing is pending any more and no other pool came, the pool means what it meant.
+    ensures means { IfOk result (λ r. AllTold (R.seen rack) → IsLasting (R.seen rack) → IsUnfaulted (R.seen rack) (R.seen (below_of r.slices))
+        → r.pending ≡ false → r.damaged ≡ None
+        → has_other_pool (disks_of (R.seen (below_of r.slices))) (standing_by (disks_of (R.seen (below_of r.slices))) (now_in (R.seen (below_of r.slices))) r.state) ≡ false
+        → MeansTheSame (disks_of (R.seen rack)) (now_in (R.seen rack)) (now_in (R.seen (below_of r.slices)))) }
+    ensures runs { IfOk result (λ r. R.runs rack (below_of r.slices)) }
+    ensures back { IfErr result (λ back. OnlyReads (R.seen rack) (R.seen back.rack) ⊎ WritesDrives (R.seen rack) (R.seen back.rack)) }
+    // Want of memory is found before anything is written.
+    ensures memory { IfErr result (λ back. back.why ≢ Refusal.NoPool → OnlyReads (R.seen rack) (R.seen back.rack)) }
+    ensures returned { IfErr result (λ back. R.runs rack back.rack) }
+{
+    let disks = rack.disks();
+    let Ok(room) = Scan::blank(alloc, disks) else {
+        return Err(Back {
+            rack,
+            why: Refusal::Memory,
+        });
+    };
+    let found = match stand(alloc, rack) {
+        Ok(found) => found,
+        Err(back) => return Err(back),
+    };
+    if found.log.pending_count() == 0 {
+        return Ok(as_it_stands(found));
+    }
+    match replay_found(found, room) {
+        Ok(rest) => Ok(rest),
+        Err(rack) => Err(Back {
+            rack,
+            why: Refusal::NoPool,
+        }),
+    }
 }
