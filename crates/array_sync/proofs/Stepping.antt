@@ -9,10 +9,9 @@ use Rattle.rack.specs.Sequences.{IsPayload, OnlyReads}
 use Rattle.pool_state.specs.declared.contents.State.{State}
 use Rattle.array_image.specs.Places.{member_slice, super_sector, data_sector}
 use Rattle.array_image.specs.Record.{are_apart}
-use Rattle.array_image.specs.Arrays.{Member, Shape, replayed}
+use Rattle.array_image.specs.Arrays.{Member, replayed}
 use Rattle.array_image.specs.Even.{AreEven}
 use Rattle.array_image.specs.SoundArray.{first_unsynced}
-use Rattle.md_super.specs.declared.superblock.Super.{Super}
 use Rattle.array_image.specs.Held.{Among, current_in}
 use Rattle.array_image.specs.Left.{IsInside, IsLeft, PicksLogs}
 use Rattle.array_image.specs.Spent.{wanting}
@@ -44,7 +43,7 @@ use Rattle.array_core.proofs.RowLists.{payload_or}
 use Rattle.array_sync.specs.Rows.{lacks_row}
 use Rattle.array_sync.specs.Steps.{MayStep, Steps, as_it_was, done}
 use Rattle.array_sync.proofs.Copying.{apart_joined}
-use Rattle.array_sync.proofs.Logged.{AreOnMembers, IsOnMember, log_decides, log_kept, log_quiet, log_ready, nobody}
+use Rattle.array_sync.proofs.Logged.{AreOnMembers, log_decides, log_kept, log_quiet, log_ready, nobody}
 use Rattle.array_sync.proofs.Moved.{RowMoves, SaysEither, durable_now, moved, restated}
 use Rattle.array_sync.proofs.Supers.{IsMemberSuper, supers_apart, supers_on}
 
