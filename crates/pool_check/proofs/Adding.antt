@@ -1,11 +1,11 @@
 -- One more array is read.
-use Rattle.std.proofs.Common.{◌≡◌, ℕ, zero, suc, ◌+◌, ◌<◌, ◌≤◌, ◌^◌, Bool, true, false, ◌&&◌, ◌||◌, not, nat_lt, nat_le, if◌then◌else◌, List, [], ◌∷◌, ◌++◌, map, length, slice_get, Option, Some, None, Result, Ok, Err, option_map, inl, inr, refl, sym, ap, ap₂, subst, ◌∙◌, lt-ltb, le-ltb, arith, length-append}
+use Rattle.std.proofs.Common.{◌≡◌, ℕ, zero, suc, ◌+◌, ◌<◌, ◌≤◌, ◌^◌, Bool, true, false, ◌&&◌, ◌||◌, not, nat_lt, nat_le, if◌then◌else◌, List, [], ◌∷◌, ◌++◌, map, length, slice_get, Option, Some, None, Result, Ok, Err, inl, inr, refl, sym, ap, subst, ◌∙◌, lt-ltb, le-ltb, arith}
 use Rattle.std.specs.Option.{option_map_or}
 use Rattle.std.specs.List.{range_with_len}
 use Rattle.std.proofs.lemmas.Bool.{both_ways, cases_lt}
 use Rattle.std.proofs.lemmas.Bool.Decides.{nat_tests}
 use Rattle.md_super.specs.declared.superblock.Super.{Super}
-use Rattle.array_image.specs.Supers.{is_unclean, super_in}
+use Rattle.array_image.specs.Supers.{is_unclean}
 use Rattle.array_image.specs.Places.{data_sector}
 use Rattle.array_image.specs.Arrays.{shape_by}
 use Rattle.array_model.specs.View.{View}
@@ -18,8 +18,7 @@ use Rattle.array_core.specs.Contents.{lacking_in}
 use Rattle.array_core.proofs.Opened.{named_shape}
 use Rattle.pool_scan.proofs.Sights.{each_push}
 use Rattle.pool_image.specs.Replay.{Extent as ImageExtent}
-use Rattle.pool_image.specs.Drives.{Found, extent_of, first_of, slices_from, slices_of, truth_from}
-use Rattle.pool_image.specs.Meaning.{super_at, truth_of}
+use Rattle.pool_image.specs.Drives.{Found, extent_of, first_of, slices_of, truth_from}
 use Rattle.pool_check.specs.declared.Checked.{Checked}
 use Rattle.pool_check.specs.declared.Extent.{Extent}
 use Rattle.pool_check.specs.declared.Layer.{Layer}
@@ -28,7 +27,7 @@ use Rattle.pool_check.specs.Drives.{HasFewPlaces}
 use Rattle.pool_check.specs.Layers.{AreLayers, AreOpened, IsExtent, IsLayer, IsNext, IsOpened, Opens, all_found, extent_by, fault_by, fault_of, is_usable, sight_of, sights_by}
 use Rattle.pool_check.proofs.Begins.{IsUnknown, unknown_by}
 use Rattle.pool_check.proofs.Finding.{found_any, found_is_truth, found_once}
-use Rattle.pool_check.proofs.Layered.{all_strange, far_fault, known_extent, known_next, known_sights, known_super, known_truth, named, opens_as, unknown_fault}
+use Rattle.pool_check.proofs.Layered.{far_fault, known_extent, known_next, known_sights, known_super, known_truth, named, opens_as, unknown_fault}
 
 pub length_more : {X : Type 0} (xs : List X) (x : X) (n : ℕ) → length xs ≡ n → length (xs ++ x ∷ []) ≡ suc n
 length_more [] x n is = ap suc is

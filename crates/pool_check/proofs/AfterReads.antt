@@ -1,5 +1,5 @@
 -- What holds of seats and drives after reads, and what went since.
-use Rattle.std.proofs.Common.{◌≡◌, ℕ, ◌<◌, ◌^◌, List, sym, subst, ◌∙◌, inl, inr, refl}
+use Rattle.std.proofs.Common.{◌≡◌, ℕ, ◌<◌, ◌^◌, sym, subst, ◌∙◌}
 use Rattle.rack.specs.Seen.{Seen, Stays}
 use Rattle.rack.specs.Sequences.{OnlyReads}
 use Rattle.rack.specs.Joins.{rose_early, rose_later}

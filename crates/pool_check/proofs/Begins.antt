@@ -1,20 +1,15 @@
 -- Where the slices of arrays begin, and the superblocks that stand there.
-use Rattle.std.proofs.Common.{◌≡◌, ℕ, zero, suc, ◌+◌, ◌<◌, ◌≤◌, ◌^◌, Bool, true, false, nat_lt, if◌then◌else◌, List, [], ◌∷◌, map, length, Option, Some, None, option_map, inl, inr, refl, sym, ap, subst, ◌∙◌, le-ltb, arith}
+use Rattle.std.proofs.Common.{◌≡◌, ℕ, suc, ◌+◌, ◌<◌, ◌≤◌, ◌^◌, Bool, nat_lt, if◌then◌else◌, List, [], ◌∷◌, map, length, Option, Some, None, option_map, refl, ap, ◌∙◌, le-ltb, arith}
 use Rattle.std.specs.Option.{option_map_or, option_and_then}
-use Rattle.std.specs.List.{range_with_len}
-use Rattle.std.proofs.lemmas.Bool.{cases_Bool, both_ways}
-use Rattle.std.proofs.lemmas.Option.{none-some}
 use Rattle.rack.specs.Seen.{Image}
 use Rattle.shr_base.specs.Blocks.{number_at, bytes_at}
 use Rattle.md_super.specs.declared.superblock.Super.{Super}
 use Rattle.pool_state.specs.declared.contents.State.{State}
 use Rattle.array_image.specs.Foremost.{foremost}
 use Rattle.array_image.specs.Places.{member_slice, super_sector, place_of, data_sector}
-use Rattle.array_image.specs.States.{is_current, current_places}
+use Rattle.array_image.specs.States.{current_places}
 use Rattle.array_image.specs.Supers.{is_super_of, only_if, super_of, super_in, truth_in}
-use Rattle.pool_image.specs.Disks.{Seats}
-use Rattle.pool_image.specs.Replay.{Extent}
-use Rattle.pool_image.specs.Drives.{Found, drive_sector, end_of, extent_from, extent_of, first_of, slices_from, slices_of, truth_from}
+use Rattle.pool_image.specs.Drives.{Found, drive_sector, end_of, extent_from, extent_of, first_of, slices_from, truth_from}
 use Rattle.pool_image.specs.Meaning.{truth_of}
 use Rattle.pool_image.proofs.Truths.{no_truth}
 use Rattle.pool_check.specs.Layers.{IsNext}

@@ -1,5 +1,5 @@
 -- How a check ends: the first refusal, or none.
-use Rattle.std.proofs.Common.{◌≡◌, ℕ, zero, suc, List, [], ◌∷◌, ◌+◌, ◌<◌, ◌≤◌, ◌^◌, Bool, true, false, nat_lt, if◌then◌else◌, Option, Some, None, option_map, refl, sym, ap, subst, ◌∙◌, lt-ltb, le-ltb, arith}
+use Rattle.std.proofs.Common.{◌≡◌, ℕ, zero, suc, List, [], ◌∷◌, ◌<◌, ◌≤◌, Bool, if◌then◌else◌, Option, Some, None, refl, sym, ap, ◌∙◌, lt-ltb, le-ltb, arith}
 use Rattle.std.specs.Prelude.{count_by, filter, is_none, length, slice_get}
 use Rattle.std.specs.Option.{option_or}
 use Rattle.std.specs.List.{range_with_len}
@@ -14,7 +14,7 @@ use Rattle.pool_check.specs.declared.Layer.{Layer}
 use Rattle.pool_check.specs.declared.ArraysRead.{ArraysRead}
 use Rattle.pool_check.specs.Drives.{HasFewPlaces}
 use Rattle.pool_check.specs.Refusing.{damage_with, first_with, refused_arrays, refused_with}
-use Rattle.pool_check.specs.Layers.{AreLayers, AreOpened, AreRead, fault_of}
+use Rattle.pool_check.specs.Layers.{AreLayers}
 use Rattle.pool_check.specs.Checking.{IsChecked, refused_by_layers}
 use Rattle.pool_check.proofs.Begins.{AreSmall}
 use Rattle.pool_check.proofs.Parts.{none_is}

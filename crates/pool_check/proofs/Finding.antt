@@ -1,24 +1,21 @@
 -- What was found on the places of an array, as a list.
-use Rattle.std.proofs.Common.{◌≡◌, ℕ, zero, suc, ◌+◌, ◌-◌, ◌<◌, ◌≤◌, ◌^◌, ◌==◌, Bool, true, false, nat_lt, bytes_eq, if◌then◌else◌, List, [], ◌∷◌, map, find, length, slice_get, Option, Some, None, is_some, option_map, inl, inr, refl, sym, ap, ap₂, subst, ◌∙◌, arith}
+use Rattle.std.proofs.Common.{◌≡◌, ℕ, zero, suc, ◌+◌, ◌-◌, ◌<◌, ◌≤◌, ◌==◌, Bool, true, false, bytes_eq, if◌then◌else◌, List, ◌∷◌, map, find, length, slice_get, Option, Some, None, inl, inr, refl, sym, ap, subst, ◌∙◌, arith}
 use Rattle.std.specs.Option.{option_map_or, option_and_then}
 use Rattle.std.specs.List.{range_with_len, list_all}
-use Rattle.std.proofs.lemmas.Bool.{cases_Bool, cases_eq, cases_lt, both_ways, and_from, and_parts, eq-eqb, eqb-true}
+use Rattle.std.proofs.lemmas.Bool.{cases_Bool, cases_eq, cases_lt, both_ways, and_from, eq-eqb}
 use Rattle.std.proofs.lemmas.Bool.Decides.{nat_tests}
 use Rattle.std.proofs.lemmas.Slice.Eq.{bytes_eq-Decides}
 use Rattle.std.proofs.lemmas.Option.{none-some}
-use Rattle.rack.specs.Seen.{Image}
 use Rattle.md_super.specs.declared.superblock.Super.{Super}
-use Rattle.pool_state.specs.declared.contents.State.{State}
 use Rattle.array_image.specs.Foremost.{ahead, foremost}
 use Rattle.array_image.specs.Places.{array_id}
 use Rattle.array_image.specs.States.{is_current}
-use Rattle.array_image.specs.Supers.{super_in, truth_in}
+use Rattle.array_image.specs.Supers.{super_in}
 use Rattle.array_core.specs.declared.Found.{Found as FoundSuper}
 use Rattle.array_core.specs.Opening.{super_at as super_found, truth_of as found_truth, share_set}
 use Rattle.array_core.specs.Contents.{current_super}
 use Rattle.array_core.proofs.Opened.{current_below, current_is, map_ranged, super_set, truth_leads, truth_ranged}
 use Rattle.pool_image.specs.Drives.{Found, slices_from, truth_from}
-use Rattle.pool_image.specs.Meaning.{super_at}
 use Rattle.pool_check.specs.Drives.{HasFewPlaces}
 use Rattle.pool_check.specs.Layers.{all_found, found_on}
 use Rattle.pool_check.proofs.Begins.{unseated_none}

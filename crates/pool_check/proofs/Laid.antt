@@ -1,20 +1,20 @@
 -- One more slice is laid.
-use Rattle.std.proofs.Common.{◌≡◌, ◌≢◌, ℕ, ◌+◌, ◌-◌, ◌*◌, ◌<◌, ◌≤◌, ◌==◌, Bool, true, false, ◌&&◌, ◌||◌, nat_lt, if◌then◌else◌, List, length, slice_get, Option, Some, None, Result, Ok, Err, is_some, inl, inr, refl, sym, ap, ap₂, subst, ◌∙◌, lt-ltb, le-ltb, arith}
+use Rattle.std.proofs.Common.{◌≡◌, ◌≢◌, ℕ, ◌+◌, ◌-◌, ◌*◌, ◌<◌, ◌==◌, Bool, true, false, ◌&&◌, ◌||◌, nat_lt, if◌then◌else◌, List, slice_get, Option, Some, None, Result, Ok, Err, is_some, inl, inr, refl, sym, ap, ap₂, subst, ◌∙◌, lt-ltb, le-ltb, arith}
 use Rattle.std.specs.Prelude.{OnOk}
 use Rattle.std.specs.Option.{option_and_then, option_map_or}
-use Rattle.std.proofs.lemmas.Bool.{both_ways, cases_eq, cases_lt, and_parts, eq-eqb}
+use Rattle.std.proofs.lemmas.Bool.{both_ways, cases_eq, cases_lt, eq-eqb}
 use Rattle.std.proofs.lemmas.Option.{none-some}
 use Rattle.rack.specs.Seen.{Seen}
 use Rattle.slice_rack.specs.declared.SliceFault.{SliceFault}
 use Rattle.slice_rack.specs.declared.SliceFault.TheVariants.{Unseated, Outside, Overlap}
 use Rattle.slice_rack.specs.Slices.{Slices, seat_of, first_of, sectors_of}
 use Rattle.slice_rack.specs.Changes.{Adds, IsPast, IsWithin, Overlaps}
-use Rattle.array_image.specs.Places.{arrays_first, member_slice, place_of, slice_of}
+use Rattle.array_image.specs.Places.{member_slice, place_of, slice_of}
 use Rattle.array_image.specs.Supers.{is_named}
 use Rattle.array_model.specs.View.{View}
 use Rattle.pool_image.specs.Disks.{Seats}
 use Rattle.pool_check.specs.declared.Extent.{Extent}
-use Rattle.pool_check.specs.Slots.{AreSlots, behind}
+use Rattle.pool_check.specs.Slots.{AreSlots}
 use Rattle.pool_check.specs.Laying.{HasLogsOnly, HasMembers, HasNoMembers, IsLaidTo, KeepsLogs, is_before, laid_at}
 use Rattle.pool_check.proofs.Finding.{differs}
 

@@ -1,32 +1,27 @@
 -- What is read of one array is what the drives say of it.
-use Rattle.std.proofs.Common.{◌≡◌, ℕ, zero, suc, ◌+◌, ◌-◌, ◌<◌, ◌≤◌, ◌^◌, Bool, true, false, ◌&&◌, ◌||◌, not, nat_lt, nat_le, if◌then◌else◌, List, [], ◌∷◌, ◌++◌, map, length, slice_get, Option, Some, None, Result, Ok, Err, is_some, option_map, inl, inr, refl, sym, ap, ap₂, subst, ◌∙◌, lt-ltb, le-ltb, arith}
+use Rattle.std.proofs.Common.{◌≡◌, ℕ, zero, suc, ◌+◌, ◌<◌, ◌≤◌, ◌^◌, Bool, true, false, ◌&&◌, ◌||◌, not, nat_lt, nat_le, if◌then◌else◌, List, ◌∷◌, map, Option, Some, None, Ok, Err, is_some, option_map, refl, sym, ap, ap₂, ◌∙◌, arith}
 use Rattle.std.specs.Prelude.{replicate}
 use Rattle.std.specs.Option.{option_map_or, option_and_then}
 use Rattle.std.specs.List.{range_with_len}
 use Rattle.std.proofs.lemmas.Bool.{le-leb}
 use Rattle.md_super.specs.declared.superblock.Super.{Super}
-use Rattle.array_image.specs.Places.{member_slice, super_sector, data_sector, slice_of}
+use Rattle.array_image.specs.Places.{member_slice, super_sector, data_sector}
 use Rattle.array_image.specs.States.{is_current}
-use Rattle.array_image.specs.Supers.{is_named, is_unclean, super_in, truth_in}
+use Rattle.array_image.specs.Supers.{is_named, is_unclean, super_in}
 use Rattle.array_image.specs.Arrays.{shape_by}
 use Rattle.array_image.proofs.Frames.{super_of_sector}
-use Rattle.array_model.specs.View.{View}
 use Rattle.array_core.specs.declared.Found.{Found as FoundSuper}
-use Rattle.array_core.specs.declared.ArrayFault.{ArrayFault}
 use Rattle.array_core.specs.declared.ArrayFault.TheVariants.{Foreign, TooFew, DirtyDegraded}
 use Rattle.array_core.specs.Model.{is_truth}
-use Rattle.array_core.specs.Opening.{lacking, opened, opened_by, share_set, slots_found, super_at as super_found, truth_of as found_truth, view_found}
+use Rattle.array_core.specs.Opening.{opened, opened_by, super_at as super_found, view_found}
 use Rattle.array_core.specs.Contents.{current_super, lacking_in}
-use Rattle.array_core.proofs.Opened.{map_ranged, named_lacking, named_shape}
-use Rattle.pool_image.specs.Replay.{Extent as ImageExtent}
+use Rattle.array_core.proofs.Opened.{map_ranged, named_lacking}
 use Rattle.pool_image.specs.Drives.{Found, end_of, extent_from, extent_of, first_of, slices_from, slices_of, truth_from}
-use Rattle.pool_image.specs.Meaning.{is_member, super_at, truth_of}
+use Rattle.pool_image.specs.Meaning.{super_at, truth_of}
 use Rattle.pool_image.proofs.Truths.{extent_found, slice_of_member, slice_sector, truth_found}
-use Rattle.pool_check.specs.declared.Sight.{Sight}
 use Rattle.pool_check.specs.declared.Sight.TheVariants.{Stranger}
 use Rattle.pool_check.specs.Drives.{HasFewPlaces}
 use Rattle.pool_check.specs.Layers.{all_found, fault_by, fault_of, found_on, sight_by, sight_of, sights_by}
-use Rattle.pool_check.proofs.Begins.{IsUnknown}
 use Rattle.pool_check.proofs.Finding.{current_same, found_any, found_is_truth, found_share, got_from}
 
 -- ---- no truth

@@ -14,3 +14,4 @@ pub mod Opened
 pub mod Slotted
 pub mod Laid
 pub mod Shown
+pub mod Valid

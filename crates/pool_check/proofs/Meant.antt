@@ -1,8 +1,8 @@
 -- The check's answer is that of the meaning of images.
-use Rattle.std.proofs.Common.{◌≡◌, ◌⊎◌, ℕ, zero, suc, ◌+◌, ◌<◌, ◌≤◌, ◌==◌, Bool, true, false, not, nat_lt, if◌then◌else◌, List, [], ◌∷◌, filter, find, slice_get, length, Option, Some, None, option_map, is_some, is_none, unwrap_or, inl, inr, refl, sym, ap, ap₂, subst, ◌∙◌, arith}
+use Rattle.std.proofs.Common.{◌≡◌, ℕ, zero, suc, ◌+◌, ◌<◌, ◌≤◌, Bool, true, false, not, nat_lt, if◌then◌else◌, List, [], ◌∷◌, filter, find, length, Option, Some, None, option_map, is_some, is_none, unwrap_or, inl, inr, refl, sym, ap, ◌∙◌, arith}
 use Rattle.std.specs.Option.{option_and_then, option_map_or, option_or}
 use Rattle.std.specs.List.{range_with_len}
-use Rattle.std.proofs.lemmas.Bool.{both_ways, cases_Bool, cases_eq, cases_lt, eq-eqb}
+use Rattle.std.proofs.lemmas.Bool.{both_ways, cases_eq, eq-eqb}
 use Rattle.std.proofs.lemmas.Option.{none-some}
 use Rattle.rack.specs.Seen.{Seen}
 use Rattle.pool_state.specs.declared.contents.State.{State}
@@ -16,7 +16,7 @@ use Rattle.pool_image.specs.Drives.{Found, found, found_by}
 use Rattle.pool_image.specs.Meaning.{Part, Refusal, absent, absent_count, arrays_of, bad_volume, damage_of, damaged, dirty_degraded, has_log, has_other_pool, has_supers, has_table, in_log, in_state, in_superblock, in_table, is_dirty_degraded, is_too_few, joined_arrays, no_pool, refusal_of, refused_at, refused_by, too_few, two_pools}
 use Rattle.pool_image.specs.Volumes.{first_bad}
 use Rattle.pool_scan.specs.declared.Known.{Known}
-use Rattle.pool_scan.specs.Scanning.{AllTold, IsScan, IsUnfaulted, copied_at, now_in}
+use Rattle.pool_scan.specs.Scanning.{AllTold, IsScan, IsUnfaulted, now_in}
 use Rattle.pool_scan.proofs.Meant.{scan_meant}
 use Rattle.pool_check.specs.Drives.{AreCopied, AreDrivesOf, Drives, HasFewPlaces, IsSeating, found_with}
 use Rattle.pool_check.specs.Refusing.{IsLowestBad, damage_by, damage_with, first_with, is_well, refused_arrays, refused_with}

@@ -1,11 +1,8 @@
 -- An array that was opened, where no place but its members has a superblock.
-use Rattle.std.proofs.Common.{◌≡◌, ℕ, ◌≤◌, Bool, true, false, if◌then◌else◌, length, Option, Some, None, inl, inr, refl, sym, ap, ◌∙◌}
-use Rattle.std.proofs.lemmas.Bool.{both_ways, cases_Bool}
-use Rattle.std.proofs.lemmas.Option.{none-some}
-use Rattle.md_super.specs.declared.superblock.Super.{Super}
+use Rattle.std.proofs.Common.{◌≡◌, ℕ, ◌≤◌, Bool, true, false, if◌then◌else◌, length, None, inl, inr, sym, ap, ◌∙◌}
+use Rattle.std.proofs.lemmas.Bool.{cases_Bool}
 use Rattle.array_image.specs.Supers.{is_named}
 use Rattle.array_image.specs.States.{is_current}
-use Rattle.array_image.specs.Places.{member_slice, place_of}
 use Rattle.array_model.specs.View.{View}
 use Rattle.array_core.specs.Contents.{AreFound, current_super}
 use Rattle.pool_image.specs.Drives.{Found, slices_of}

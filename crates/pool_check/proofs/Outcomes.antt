@@ -1,6 +1,6 @@
 -- What holds of a result, from what held of it.
 use Rattle.std.proofs.Common.{Result, Ok, Err}
-use Rattle.std.specs.Prelude.{IfOk, IfErr, OnErr, OnOk}
+use Rattle.std.specs.Prelude.{IfOk, IfErr, OnErr}
 
 pub if_ok : {X E : Type 0} {P Q : X → Type 0} (r : Result X E) → ((x : X) → P x → Q x) → IfOk r P → IfOk r Q
 if_ok (Ok x) says holds = says x holds

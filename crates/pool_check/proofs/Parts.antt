@@ -1,5 +1,5 @@
 -- The parts of one drive, as the arrays that were read say them.
-use Rattle.std.proofs.Common.{◌≡◌, ℕ, zero, suc, ◌+◌, ◌<◌, ◌≤◌, ◌^◌, ◌==◌, Bool, true, false, ◌&&◌, ◌||◌, not, nat_lt, bytes_eq, if◌then◌else◌, List, [], ◌∷◌, map, filter, find, length, slice_get, Option, Some, None, option_map, is_some, is_none, inl, inr, refl, sym, ap, ap₂, subst, ◌∙◌, le-ltb, arith}
+use Rattle.std.proofs.Common.{◌≡◌, ℕ, zero, suc, ◌+◌, ◌<◌, ◌≤◌, ◌^◌, Bool, true, false, ◌&&◌, ◌||◌, not, nat_lt, bytes_eq, if◌then◌else◌, List, [], ◌∷◌, filter, find, length, slice_get, Option, Some, None, option_map, is_some, is_none, inl, inr, refl, sym, ap, ap₂, ◌∙◌, le-ltb, arith}
 use Rattle.std.specs.Option.{option_and_then, option_map_or}
 use Rattle.std.specs.List.{list_all, range_with_len}
 use Rattle.std.proofs.lemmas.Bool.{both_ways, cases_eq}

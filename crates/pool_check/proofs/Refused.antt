@@ -1,32 +1,30 @@
 -- The refusals of arrays, as the superblocks that were read say them.
-use Rattle.std.proofs.Common.{◌≡◌, ℕ, zero, suc, ◌+◌, ◌-◌, ◌*◌, ◌<◌, ◌≤◌, ◌^◌, ◌==◌, Bool, true, false, ◌&&◌, ◌||◌, not, nat_lt, nat_le, bytes_eq, is_ok, if◌then◌else◌, List, [], ◌∷◌, map, filter, find, length, slice_get, Option, Some, None, option_map, is_some, is_none, unwrap_or, inl, inr, refl, sym, ap, ap₂, subst, ◌∙◌, lt-ltb, le-ltb, arith}
+use Rattle.std.proofs.Common.{◌≡◌, ℕ, zero, suc, ◌+◌, ◌<◌, ◌≤◌, ◌^◌, Bool, true, false, ◌&&◌, ◌||◌, not, nat_lt, nat_le, bytes_eq, is_ok, if◌then◌else◌, List, [], ◌∷◌, map, filter, find, length, slice_get, Option, Some, None, option_map, unwrap_or, inl, inr, refl, sym, ap, ap₂, subst, ◌∙◌, lt-ltb, arith}
 use Rattle.std.specs.Prelude.{count_by}
 use Rattle.std.specs.Option.{option_and_then, option_map_or, option_or}
 use Rattle.std.specs.List.{list_all, range_with_len}
-use Rattle.std.proofs.lemmas.Bool.{and_parts, both_ways, cases_Bool, cases_lt, le-leb, leb-true, ltb-true, eqb-true}
-use Rattle.std.proofs.lemmas.Bool.Decides.{nat_tests}
-use Rattle.std.proofs.lemmas.Option.{none-some}
+use Rattle.std.proofs.lemmas.Bool.{and_parts, both_ways, cases_lt, leb-true, ltb-true}
 use Rattle.std.proofs.lemmas.List.Sums.{length-filter}
 use Rattle.md_super.specs.declared.superblock.Super.{Super}
 use Rattle.md_super.specs.Profile.{has_disks, is_mirror, profiled, rules}
 use Rattle.gpt_table.specs.declared.Table.{Table}
-use Rattle.array_image.specs.Places.{data_sector, member_slice, place_of, super_sector}
-use Rattle.array_image.specs.States.{current_places, is_current}
-use Rattle.array_image.specs.Supers.{is_named, is_rebuilding, is_super_of, is_unclean, super_in, truth_in}
-use Rattle.array_image.specs.Arrays.{Member, Shape, member_by, member_in, place_with, shape_by}
+use Rattle.array_image.specs.Places.{data_sector}
+use Rattle.array_image.specs.States.{is_current}
+use Rattle.array_image.specs.Supers.{is_named, is_rebuilding, is_unclean, super_in}
+use Rattle.array_image.specs.Arrays.{Member, member_by, member_in, place_with, shape_by}
 use Rattle.array_core.specs.declared.ArrayFault.{ArrayFault}
 use Rattle.array_core.specs.declared.ArrayFault.TheVariants.{Foreign, TooFew, DirtyDegraded}
 use Rattle.array_core.proofs.Opened.{current_below, current_is, named_place, super_passes, truth_leads}
-use Rattle.array_core.proofs.Truths.{rule_at, rule_holds}
+use Rattle.array_core.proofs.Truths.{rule_holds}
 use Rattle.pool_image.specs.Disks.{id_at}
 use Rattle.pool_image.specs.Replay.{Extent as ImageExtent}
-use Rattle.pool_image.specs.Drives.{Found, end_of, extent_from, extent_of, first_of, slices_from, slices_of, truth_from}
-use Rattle.pool_image.specs.Meaning.{Refusal, arrays_of, dirty_degraded, has_entry, has_slice, has_slice_of, has_table, in_table, is_dirty_degraded, is_member, is_table, is_too_few, kind_of, lacking_of, shape_of, too_few, truth_of}
+use Rattle.pool_image.specs.Drives.{Found, end_of, extent_of, first_of, slices_of, truth_from}
+use Rattle.pool_image.specs.Meaning.{Refusal, arrays_of, dirty_degraded, has_entry, has_slice, has_slice_of, has_table, in_table, is_dirty_degraded, is_member, is_table, is_too_few, kind_of, lacking_of, too_few, truth_of}
 use Rattle.pool_image.proofs.Truths.{extent_found, truth_found}
 use Rattle.pool_check.specs.declared.Layer.{Layer}
 use Rattle.pool_check.specs.Drives.{HasFewPlaces}
-use Rattle.pool_check.specs.Refusing.{damage_by, damage_later, damage_with, first_with, refused_arrays}
-use Rattle.pool_check.specs.Layers.{AreRead, IsLayer, fault_by, fault_of}
+use Rattle.pool_check.specs.Refusing.{damage_by, damage_later, damage_with, refused_arrays}
+use Rattle.pool_check.specs.Layers.{AreRead, fault_by, fault_of}
 use Rattle.pool_check.specs.Checking.{first_number, is_dirty, is_few, refused_by_layers}
 use Rattle.pool_check.proofs.Begins.{AreSmall, unknown_by, unseated_none}
 use Rattle.pool_check.proofs.Layered.{known_super}

@@ -1,5 +1,5 @@
 -- What the laid slices show is what the drives' slices hold.
-use Rattle.std.proofs.Common.{◌≡◌, ℕ, zero, suc, ◌∷◌, ◌+◌, ◌<◌, ◌≤◌, Bool, true, false, ◌&&◌, nat_lt, if◌then◌else◌, List, [], length, slice_get, Option, Some, None, is_some, inl, inr, refl, sym, ap, ap₂, subst, ◌∙◌, arith}
+use Rattle.std.proofs.Common.{◌≡◌, ℕ, zero, suc, ◌∷◌, ◌+◌, ◌<◌, ◌≤◌, Bool, true, false, ◌&&◌, if◌then◌else◌, List, [], length, slice_get, Option, Some, None, is_some, refl, sym, ap, ap₂, subst, ◌∙◌, arith}
 use Rattle.std.specs.Prelude.{unwrap_or}
 use Rattle.std.specs.Option.{option_and_then, option_map_or}
 use Rattle.slice_rack.specs.Slices.{Slices, disk_of, first_of, sectors_of, seat_of}
@@ -8,13 +8,12 @@ use Rattle.md_super.specs.declared.superblock.Super.{Super}
 use Rattle.array_image.specs.Places.{member_slice, place_of, slice_of}
 use Rattle.array_image.specs.Supers.{is_named}
 use Rattle.array_model.specs.View.{View}
-use Rattle.pool_image.specs.Replay.{Extent as ImageExtent}
 use Rattle.pool_image.specs.Drives.{Found, extent_of, slices_of}
-use Rattle.pool_image.specs.Meaning.{is_member, truth_of}
+use Rattle.pool_image.specs.Meaning.{is_member}
 use Rattle.pool_image.proofs.Composed.{IsPlaced, same_slices, seated}
 use Rattle.pool_image.proofs.Truths.{slice_of_member}
 use Rattle.pool_check.specs.declared.Extent.{Extent}
-use Rattle.pool_check.specs.Layers.{AreOpened, IsOpened, extent_by}
+use Rattle.pool_check.specs.Layers.{AreOpened, IsOpened}
 use Rattle.pool_check.specs.Slots.{AreSlots}
 use Rattle.pool_check.specs.Laying.{HasMembers, laid_at}
 

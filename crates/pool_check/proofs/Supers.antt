@@ -1,10 +1,9 @@
 -- Superblocks as they are read from a sector of a disk.
-use Rattle.std.proofs.Common.{◌≡◌, ℕ, ◌+◌, ◌*◌, ◌<◌, ◌≤◌, ◌^◌, Bool, true, false, ◌&&◌, ◌||◌, ◌==◌, not, nat_lt, nat_le, is_ok, bytes_eq, if◌then◌else◌, List, [], length, Option, Some, None, refl, sym, ap, ap₂, subst, ◌∙◌, inl, inr, lt-ltb, le-ltb, arith}
-use Rattle.std.specs.Option.{option_map_or, option_and_then}
+use Rattle.std.proofs.Common.{◌≡◌, ℕ, ◌+◌, ◌<◌, ◌≤◌, ◌^◌, Bool, true, false, ◌||◌, ◌==◌, nat_lt, nat_le, is_ok, bytes_eq, if◌then◌else◌, [], length, Option, Some, None, refl, sym, ap, subst, ◌∙◌, inl, inr, lt-ltb, le-ltb, arith}
+use Rattle.std.specs.Option.{option_map_or}
 use Rattle.std.proofs.lemmas.Bool.{and_parts, cases_Bool, cases_lt, le-leb}
 use Rattle.rack.specs.Seen.{Seen}
-use Rattle.rack.specs.Sequences.{OnlyReads}
-use Rattle.gpt_table.specs.Disk.{Contents, AgreesUnspent}
+use Rattle.gpt_table.specs.Disk.{Contents}
 use Rattle.md_super.specs.declared.superblock.Super.{Super}
 use Rattle.md_super.specs.Profile.{profiled}
 use Rattle.pool_state.specs.declared.contents.State.{State}
@@ -13,9 +12,9 @@ use Rattle.array_image.specs.Supers.{has_roles, has_whole_row, is_super_of, only
 use Rattle.array_core.specs.Model.{is_truth}
 use Rattle.array_core.proofs.Truths.{valid_truth}
 use Rattle.pool_image.specs.Disks.{Seats}
-use Rattle.pool_image.specs.Drives.{Found, slices_from}
+use Rattle.pool_image.specs.Drives.{slices_from}
 use Rattle.pool_check.specs.Drives.{AreDrivesOf, Drives, IsFitState, found_with}
-use Rattle.pool_check.specs.Layers.{is_usable, sector_on, super_on}
+use Rattle.pool_check.specs.Layers.{is_usable, super_on}
 use Rattle.pool_check.proofs.Begins.{no_super}
 
 -- past the end of the disk there is none

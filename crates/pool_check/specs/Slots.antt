@@ -1,5 +1,5 @@
 -- Where slices are laid, by what was read: one behind the other, and on each member's disk before its end, whatever disks tell.
-use Rattle.std.specs.Prelude.{◌≡◌, ℕ, ◌+◌, ◌*◌, ◌<◌, ◌≤◌, ◌^◌, true, List, length, slice_get, Option, Some}
+use Rattle.std.specs.Prelude.{◌≡◌, ℕ, ◌+◌, ◌<◌, ◌≤◌, ◌^◌, true, List, length, slice_get, Some}
 use Rattle.array_image.specs.Places.{arrays_first, data_sector}
 use Rattle.array_image.specs.Supers.{is_named}
 use Rattle.array_model.specs.View.{View}

@@ -177,7 +177,8 @@ fn check_seated<R: Rack>(
 }
 
 /// Checks the drives of a pool at rest, whose disks are `seats`, and opens its arrays. A place whose disk goes has none from then
-/// on, and the check begins again without it. `bad` is the lowest place whose log isn't well formed. Nothing is written.
+/// on, and the check begins again without it. `bad` is the lowest place whose log isn't well formed; where that place's disk goes,
+/// the logs of the others have to be looked at again. Nothing is written.
 ///
 /// Refused by the first cause in the order of [`CheckFault`].
 pub fn check_drives<R: Rack>(

@@ -1,9 +1,9 @@
-use Rattle.std.proofs.Common.{◌≡◌, ℕ, ◌+◌, ◌<◌, subst, arith}
+use Rattle.std.proofs.Common.{ℕ, ◌+◌, ◌<◌, subst, arith}
 use Rattle.rack.proofs.Reading.{only_reads_join}
 use Rattle.array_core.proofs.Opened.{current_below}
 use Rattle.pool_check.specs.Drives.{seats_by}
 use Rattle.pool_check.specs.Slots.{behind}
-use Rattle.pool_check.proofs.AfterReads.{drives_then, seating_then}
+use Rattle.pool_check.proofs.AfterReads.{drives_then}
 use Rattle.pool_check.proofs.Losing.{fewer_seated, loses_more, seating_without}
 use Rattle.pool_check.proofs.checking.check_drives.Goals as goal
 

@@ -1,15 +1,14 @@
 use Rattle.std.proofs.Common.{◌≡◌, ◌<◌, ◌≤◌, ◌^◌, ℕ, List, Some, None, ap, sym, subst, ◌∙◌, arith}
-use Rattle.rack.proofs.Reading.{only_reads_join}
 use Rattle.pool_image.specs.Meaning.{absent, absent_count}
 use Rattle.pool_check.specs.declared.Layer.{Layer}
-use Rattle.pool_check.specs.Drives.{AreDrivesOf, Drives, HasFewPlaces, found_with, seats_by}
+use Rattle.pool_check.specs.Drives.{HasFewPlaces, found_with, seats_by}
 use Rattle.pool_check.specs.Layers.{AreRead}
 use Rattle.array_core.proofs.Opened.{current_below}
 use Rattle.pool_check.specs.Slots.{FitsOn}
 use Rattle.pool_check.proofs.Slotted.{slots_are}
 use Rattle.pool_check.specs.Refusing.{is_well}
 use Rattle.pool_check.specs.Checking.{refused_by_layers}
-use Rattle.pool_check.proofs.AfterReads.{drives_then, goes_early, halts_later, seating_then}
+use Rattle.pool_check.proofs.AfterReads.{drives_then, halts_later}
 use Rattle.pool_check.proofs.Begins.{AreSmall}
 use Rattle.pool_check.proofs.Ends.{absent_refused, arrays_open, arrays_refused, damage_refused, few_absent}
 use Rattle.pool_check.proofs.checking.check_seated.Goals as goal

@@ -1,4 +1,4 @@
-use Rattle.std.proofs.Common.{◌≡◌, Bool, not, if◌then◌else◌, Some, Ok, ap, sym, ◌∙◌}
+use Rattle.std.proofs.Common.{Bool, not, if◌then◌else◌, Some, Ok, ap, sym, ◌∙◌}
 use Rattle.pool_image.specs.Meaning.{in_table}
 use Rattle.pool_check.specs.Drives.{found_with}
 use Rattle.pool_check.specs.Refusing.{damage_later, is_well}

@@ -1,4 +1,4 @@
-use Rattle.std.proofs.Common.{◌≡◌, map, ap, sym, ◌∙◌, refl, arith, List, subst}
+use Rattle.std.proofs.Common.{map, ap, sym, ◌∙◌, refl, arith, List, subst}
 use Rattle.std.specs.Prelude.{length}
 use Rattle.std.specs.List.{range_with_len}
 use Rattle.array_core.specs.declared.ArrayFault.TheVariants.{TooFew}

@@ -4,7 +4,6 @@ use Rattle.std.specs.List.{range_with_len}
 use Rattle.array_image.specs.Places.{data_sector}
 use Rattle.array_core.specs.declared.Found.{Found as FoundSuper}
 use Rattle.array_core.specs.Opening.{opened}
-use Rattle.pool_image.specs.Replay.{Extent}
 use Rattle.pool_check.specs.Drives.{found_with}
 use Rattle.pool_check.specs.Layers.{IsNext, Opens, extent_by, sights_by}
 use Rattle.pool_check.specs.declared.Layer.{Layer}

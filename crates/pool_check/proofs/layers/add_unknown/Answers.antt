@@ -1,4 +1,4 @@
-use Rattle.std.proofs.Common.{◌≡◌, ap, sym, ◌∙◌, refl, arith, List, subst}
+use Rattle.std.proofs.Common.{ap, sym, ◌∙◌, refl, arith, List, subst}
 use Rattle.std.specs.Prelude.{length}
 use Rattle.array_core.specs.declared.ArrayFault.TheVariants.{Foreign}
 use Rattle.pool_check.specs.declared.Layer.{Layer}

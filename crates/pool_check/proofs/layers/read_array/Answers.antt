@@ -1,4 +1,4 @@
-use Rattle.std.proofs.Common.{◌≡◌, ◌<◌, ◌^◌, sym, subst, ◌∙◌}
+use Rattle.std.proofs.Common.{◌<◌, ◌^◌, sym, subst, ◌∙◌}
 use Rattle.pool_check.specs.Drives.{found_with, seats_by}
 use Rattle.pool_check.specs.Layers.{IsNext}
 use Rattle.pool_check.proofs.Begins.{unknown_far}

@@ -1,5 +1,5 @@
-use Rattle.std.proofs.Common.{◌≡◌, ℕ, refl, sym, ap, subst, ◌∙◌, arith}
-use Rattle.slice_rack.specs.SliceRack.{tables, below_of}
+use Rattle.std.proofs.Common.{◌≡◌, ℕ, refl, sym, subst, ◌∙◌, arith}
+use Rattle.slice_rack.specs.SliceRack.{tables}
 use Rattle.pool_check.specs.Drives.{seats_by}
 use Rattle.pool_check.specs.Slots.{AreSlots}
 use Rattle.pool_check.specs.Laying.{IsLaidTo}

@@ -1,5 +1,4 @@
-use Rattle.std.proofs.Common.{◌≡◌, sym, ◌∙◌}
-use Rattle.array_image.specs.Places.{super_sector}
+use Rattle.std.proofs.Common.{sym, ◌∙◌}
 use Rattle.pool_check.specs.Drives.{found_with, seats_by}
 use Rattle.pool_check.proofs.Begins.{unseated_none}
 use Rattle.pool_check.proofs.Supers.{super_seated}

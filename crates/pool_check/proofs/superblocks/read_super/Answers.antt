@@ -1,4 +1,4 @@
-use Rattle.std.proofs.Common.{◌≡◌, ◌≤◌, true, ap, ◌∙◌, arith}
+use Rattle.std.proofs.Common.{◌≤◌, true, ap, ◌∙◌, arith}
 use Rattle.std.specs.Option.{option_map_or}
 use Rattle.array_image.specs.Supers.{super_of}
 use Rattle.rack.proofs.Reading.{only_reads_start}
