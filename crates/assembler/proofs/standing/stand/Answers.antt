@@ -1,5 +1,5 @@
 use Rattle.std.proofs.Common.{sym, subst, ◌∙◌}
-use Rattle.slice_rack.specs.SliceRack.{tables, below_of}
+use Rattle.slice_rack.specs.SliceRack.{below_of}
 use Rattle.assembler.specs.declared.standing.Refusal.TheVariants.{NoPool, TwoPools}
 use Rattle.pool_scan.specs.Scanning.{IsScan}
 use Rattle.pool_scan.proofs.Chosen.{scan_says}
@@ -14,10 +14,15 @@ returns-in-Err-clause-exact g c = λ told free.
 pub returns-then-has_other_pool-clause-refused : goal.returns-then-has_other_pool-clause-refused
 returns-then-has_other_pool-clause-refused g c =
     let found = c.in-Ok-look.found in
-    let newest = c.in-Ok-look.ensures.newest in
-    (found.scan.disks.items, subst (λ r. IsScan (g.R.Rack.seen c.args.rack) (g.R.Rack.seen r) found.scan.disks.items) (sym c.into_inner.ensures) newest.scan,
-    λ told. (found.state, newest.newest told,
-    sym (c.has_other_pool.ensures _ _ (scan_says (g.R.Rack.seen c.args.rack) (g.R.Rack.seen (below_of found.slices)) found.scan.disks.items newest.scan told)) ∙ c.if-has_other_pool.true))
+    let newest = c.in-Ok-look.ensures.newest in (
+      found.scan.disks.items,
+      subst (λ r. IsScan (g.R.Rack.seen c.args.rack) (g.R.Rack.seen r) found.scan.disks.items) (sym c.into_inner.ensures) newest.scan,
+      λ told. (
+        found.state,
+        newest.newest told,
+        sym (c.has_other_pool.ensures _ _ (scan_says (g.R.Rack.seen c.args.rack) (g.R.Rack.seen (below_of found.slices)) found.scan.disks.items newest.scan told)) ∙ c.if-has_other_pool.true,
+      ),
+    )
 
 pub returns-then-has_other_pool-clause-exact : goal.returns-then-has_other_pool-clause-exact
 returns-then-has_other_pool-clause-exact g c = λ told free.
