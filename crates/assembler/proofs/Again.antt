@@ -1,5 +1,5 @@
 -- A replay, and the look at the disks after it.
-use Rattle.std.proofs.Common.{◌≡◌, ℕ, Bool, List, Option, refl, sym, ap, subst, ◌∙◌, true}
+use Rattle.std.proofs.Common.{◌≡◌, ℕ, Bool, List, Option, sym, ap, subst, ◌∙◌, true}
 use Rattle.std.specs.List.{list_all}
 use Rattle.rack.specs.Seen.{Seen, Stays}
 use Rattle.rack.specs.Joins.{rose_early, rose_later}
@@ -11,8 +11,6 @@ use Rattle.slice_rack.specs.Slices.{Slices}
 use Rattle.array_image.specs.Record.{is_target}
 use Rattle.pool_image.specs.Disks.{Disks, disks_of, identities_of}
 use Rattle.pool_image.specs.Replay.{logs_of}
-use Rattle.slice_rack.specs.Sliced.{sliced}
-use Rattle.rack.specs.Seen.{Image}
 use Rattle.pool_scan.specs.declared.Known.{Known}
 use Rattle.pool_scan.specs.Scanning.{AllTold, IsUnfaulted, now_in}
 use Rattle.pool_scan.specs.Choosing.{AreOf, seat_by}

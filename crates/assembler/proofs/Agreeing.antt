@@ -1,8 +1,7 @@
 -- Reads between the steps change nothing of what the disks say.
-use Rattle.std.proofs.Common.{◌≡◌, ◌≢◌, ◌⊎◌, ℕ, ◌+◌, ◌<◌, ◌≤◌, ◌==◌, ◌&&◌, Bool, true, false, nat_lt, nat_le, if◌then◌else◌, List, [], Option, Some, None, unwrap_or, option_map, refl, sym, ap, ap₂, subst, ◌∙◌, inl, inr, arith, lt-ltb, ltb-true, leb-true, is_some}
+use Rattle.std.proofs.Common.{◌≡◌, ℕ, ◌+◌, ◌<◌, ◌≤◌, ◌==◌, ◌&&◌, Bool, true, false, nat_lt, nat_le, if◌then◌else◌, List, [], Option, Some, None, unwrap_or, option_map, refl, sym, ap, ap₂, subst, ◌∙◌, inl, inr, arith, ltb-true, leb-true, is_some}
 use Rattle.std.specs.Option.{option_map_or, option_and_then}
 use Rattle.std.specs.List.{filter_map}
-use Rattle.std.proofs.lemmas.Option.{none-some}
 use Rattle.std.proofs.lemmas.Bool.{and_parts}
 use Rattle.rack.specs.Values.{IsSingle, Keeps}
 use Rattle.rack.specs.Seen.{Image, Seen, IsLive, Stays}
@@ -13,15 +12,15 @@ use Rattle.slice_rack.specs.Slices.{Slices}
 use Rattle.array_image.specs.Places.{place_of, slice_of, log_sectors, state_sector, arrays_first}
 use Rattle.array_image.specs.Record.{gate_of, pending_at, pending, damaged_log}
 use Rattle.array_image.specs.States.{current_places}
-use Rattle.pool_image.specs.Disks.{Disks, Identity, Identities, disks_of, identities_of, newest, seat_of}
-use Rattle.pool_image.specs.Replay.{Extent, Standing, log_extent, extent_by, logs_of, landed, brought_state, standing, standing_by, written}
+use Rattle.pool_image.specs.Disks.{Disks, Identity, Identities, disks_of, identities_of, seat_of}
+use Rattle.pool_image.specs.Replay.{Extent, Standing, log_extent, extent_by, logs_of, landed, standing, standing_by, written}
 use Rattle.pool_image.specs.Alike.{drive_gate, Agree}
 use Rattle.pool_image.proofs.Identities.{agree_identities, newest_same, seat_same, seat_inside}
 use Rattle.pool_image.proofs.Rested.{stood_by, written_none}
 use Rattle.commit_log.specs.View.{LogView}
-use Rattle.pool_scan.specs.Scanning.{AllTold, IsUnfaulted, now_in}
+use Rattle.pool_scan.specs.Scanning.{AllTold, now_in}
 use Rattle.assembler.specs.Standing.{IsLasting, StandsAs}
-use Rattle.assembler.specs.Resting.{replayed_on, IsClosedOn, IsReplayed, IsShutOn, Rests, StandsNow, seated_state}
+use Rattle.assembler.specs.Resting.{replayed_on, IsReplayed, Rests, StandsNow, seated_state}
 
 -- ---- the disks of a rack
 

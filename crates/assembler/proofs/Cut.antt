@@ -1,7 +1,6 @@
 -- Members' slices that are added one array after another are those of the table.
-use Rattle.std.proofs.Common.{◌≡◌, ◌≢◌, ◌⊎◌, ℕ, zero, suc, ◌+◌, ◌*◌, ◌-◌, ◌<◌, ◌≤◌, ◌==◌, ◌&&◌, ◌||◌, Bool, true, false, nat_lt, nat_le, bytes_eq, if◌then◌else◌, find, List, [], ◌∷◌, ◌++◌, length, slice_get, Option, Some, None, refl, sym, ap, subst, ◌∙◌, inl, inr, arith, eq-eqb, lt-ltb, ltb-true, leb-true, le-ltb, add-one, All, eqb-true, Result, Ok, Err, OnOk, OnErr}
+use Rattle.std.proofs.Common.{◌≡◌, ◌≢◌, ◌⊎◌, ℕ, zero, suc, ◌+◌, ◌-◌, ◌<◌, ◌≤◌, ◌==◌, ◌&&◌, ◌||◌, Bool, true, false, nat_lt, nat_le, bytes_eq, if◌then◌else◌, find, List, [], ◌∷◌, ◌++◌, length, slice_get, Option, Some, None, refl, sym, ap, subst, ◌∙◌, inl, inr, arith, eq-eqb, lt-ltb, ltb-true, leb-true, add-one, All, eqb-true, Result, Ok, Err, OnOk, OnErr}
 use Rattle.std.specs.Option.{option_map_or, option_and_then}
-use Rattle.std.specs.List.{list_any}
 use Rattle.std.proofs.lemmas.List.{length-append}
 use Rattle.std.proofs.lemmas.List.Folds.{list_any-append}
 use Rattle.std.proofs.lemmas.Option.{none-some, cond_some}
@@ -14,9 +13,9 @@ use Rattle.slice_rack.specs.Slices.{Slices, seat_of, first_of, sectors_of}
 use Rattle.slice_rack.specs.declared.SliceFault.{SliceFault}
 use Rattle.slice_rack.specs.declared.SliceFault.TheVariants.{Unseated, Outside, Overlap}
 use Rattle.slice_rack.specs.Changes.{Adds, IsPast, IsFree, Overlaps}
-use Rattle.array_image.specs.Places.{place_of, slice_of, log_slice, member_slice, arrays_first, raid_kind}
+use Rattle.array_image.specs.Places.{place_of, slice_of, member_slice, arrays_first, raid_kind}
 use Rattle.pool_image.specs.Replay.{Extent, share, shares_any, free_of, slice_entry, entry_extent, extents_below, extent_by}
-use Rattle.assembler.specs.Members.{Lies, AreLogsCut, IsCutTo, KeepsOthers}
+use Rattle.assembler.specs.Members.{Lies, IsCutTo, KeepsOthers}
 
 -- ---- extents by a table
 

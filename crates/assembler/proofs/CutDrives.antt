@@ -1,9 +1,7 @@
 -- Members' slices of drives, one place after another.
 use Rattle.std.proofs.Common.{◌≡◌, ◌≢◌, ◌⊎◌, ℕ, suc, ◌+◌, ◌-◌, ◌<◌, ◌≤◌, ◌==◌, ◌||◌, Bool, true, false, if◌then◌else◌, List, [], ◌∷◌, ◌++◌, length, Option, Some, None, unwrap_or, refl, sym, ap, subst, ◌∙◌, inl, inr, arith, eq-eqb, eqb-true, option_map, add-one}
-use Rattle.std.specs.Option.{option_map_or, option_and_then}
 use Rattle.std.proofs.lemmas.List.{length-append}
-use Rattle.std.proofs.lemmas.Option.{none-some}
-use Rattle.std.proofs.lemmas.Bool.{cases_Bool, cases_eq, cases_lt, both_ways, ne_eqb}
+use Rattle.std.proofs.lemmas.Bool.{cases_eq, both_ways}
 use Rattle.rack.specs.Seen.{Seen, Rose, Stays}
 use Rattle.rack.specs.Joins.{rose_later, rose_early}
 use Rattle.rack.specs.Sequences.{OnlyReads}
@@ -13,7 +11,7 @@ use Rattle.gpt_table.specs.Format.{IsWritable}
 use Rattle.gpt_table.specs.Changes.{the_table}
 use Rattle.gpt_table.specs.Disk.{Contents, AgreesUnspent, now_on, first_table}
 use Rattle.slice_rack.specs.Slices.{Slices, seat_of, first_of, sectors_of, disk_of}
-use Rattle.array_image.specs.Places.{place_of, slice_of, log_slice, member_slice, arrays_first}
+use Rattle.array_image.specs.Places.{place_of, slice_of, member_slice}
 use Rattle.pool_image.specs.Replay.{Extent, extent_by}
 use Rattle.commit_log.specs.View.{names}
 use Rattle.pool_scan.proofs.Sights.{agrees_now, agrees_then}

@@ -1,8 +1,8 @@
 -- The steps of an opening up to a pool at rest, joined.
-use Rattle.std.proofs.Common.{◌≡◌, ◌≢◌, ℕ, zero, suc, ◌+◌, ◌<◌, ◌||◌, ◌==◌, Bool, true, false, if◌then◌else◌, List, [], ◌∷◌, length, Option, Some, None, unwrap_or, refl, sym, ap, subst, ◌∙◌, inl, inr, arith, eqb-true}
+use Rattle.std.proofs.Common.{◌≡◌, ℕ, ◌+◌, ◌<◌, Bool, true, false, if◌then◌else◌, List, [], ◌∷◌, length, Option, Some, None, unwrap_or, refl, sym, ap, subst, ◌∙◌, inl, inr, arith}
 use Rattle.std.specs.Option.{option_and_then}
 use Rattle.std.specs.List.{list_any, list_all}
-use Rattle.std.proofs.lemmas.Bool.{cases_Bool, both_ways, or_parts}
+use Rattle.std.proofs.lemmas.Bool.{both_ways, or_parts}
 use Rattle.rack.specs.Seen.{Image, Seen, Stays}
 use Rattle.rack.specs.Joins.{rose_early, rose_later, stays_then}
 use Rattle.rack.specs.Sequences.{OnlyReads, WritesOnly}
@@ -13,7 +13,7 @@ use Rattle.slice_rack.specs.Slices.{Slices}
 use Rattle.array_image.specs.Record.{GateAt, is_bad_gate, is_target, record_in, pending_at, pending_record, pending, damaged_log}
 use Rattle.array_image.specs.States.{current_places}
 use Rattle.pool_image.specs.Disks.{disks_of, identities_of}
-use Rattle.pool_image.specs.Replay.{Standing, standing_by}
+use Rattle.pool_image.specs.Replay.{standing_by}
 use Rattle.pool_image.specs.Meaning.{has_other_pool}
 use Rattle.pool_image.specs.Alike.{MeansTheSame}
 use Rattle.commit_log.specs.View.{LogView, names}

@@ -1,8 +1,7 @@
 -- A pool that was brought to rest means what it meant.
-use Rattle.std.proofs.Common.{◌≡◌, ◌≢◌, ◌⊎◌, ℕ, ◌+◌, ◌<◌, ◌≤◌, ◌==◌, ◌&&◌, ◌||◌, not, Bool, true, false, nat_lt, nat_le, if◌then◌else◌, is_some, is_none, List, [], length, map, filter, Option, Some, None, option_map, refl, sym, ap, ap₂, subst, ◌∙◌, inl, inr, arith, eq-eqb, lt-ltb, le-leb}
+use Rattle.std.proofs.Common.{◌≡◌, ℕ, ◌+◌, ◌<◌, ◌≤◌, ◌==◌, ◌&&◌, ◌||◌, Bool, true, false, nat_lt, if◌then◌else◌, is_some, is_none, List, [], length, map, Option, Some, None, option_map, refl, sym, ap, ap₂, subst, ◌∙◌, inl, inr, arith, eq-eqb, le-leb}
 use Rattle.std.specs.Option.{option_map_or}
-use Rattle.std.specs.List.{list_any, list_all, range_with_len}
-use Rattle.std.proofs.lemmas.Option.{none-some}
+use Rattle.std.specs.List.{list_all, range_with_len}
 use Rattle.std.proofs.lemmas.Bool.{cases_Bool, both_ways}
 use Rattle.rack.specs.Seen.{Image, Seen, Stays}
 use Rattle.rack.specs.Sequences.{OnlyReads}
@@ -12,10 +11,10 @@ use Rattle.array_image.specs.Places.{place_of, slice_of, log_slice, log_sectors,
 use Rattle.array_image.specs.Record.{Gate, GateAt, gate_sector, gate_of, is_there, is_bad_gate, is_target, record_in, pending_at, is_bad_log, damaged_log}
 use Rattle.array_image.specs.Foremost.{foremost}
 use Rattle.array_image.specs.States.{is_current, current_places}
-use Rattle.pool_image.specs.Disks.{Disks, Identity, Identities, all_disks, candidate, disks_of, identities_of, id_by, newest, seat_of}
+use Rattle.pool_image.specs.Disks.{Disks, Identity, Identities, all_disks, candidate, disks_of, identities_of, id_by, seat_of}
 use Rattle.pool_image.specs.Replay.{Extent, Standing, log_extent, logs_of, standing, standing_by, written}
 use Rattle.pool_image.specs.Meaning.{has_other_pool}
-use Rattle.pool_image.specs.Alike.{drive_gate, Agree, is_bad_block, IsRested, MeansTheSame}
+use Rattle.pool_image.specs.Alike.{drive_gate, is_bad_block, MeansTheSame}
 use Rattle.pool_image.proofs.Identities.{agree_identities, same_but_gates}
 use Rattle.pool_image.proofs.Rested.{stood_by, rested_means, agree_means}
 use Rattle.commit_log.specs.View.{LogView, names}
@@ -25,10 +24,10 @@ use Rattle.commit_log.proofs.Fewer.{filter_names, current_of_all}
 use Rattle.commit_log.proofs.Undamaged.{whole_gates, whole_record}
 use Rattle.commit_log.proofs.Replaying.{pending_sound}
 use Rattle.pool_scan.specs.declared.Known.{Known}
-use Rattle.pool_scan.specs.Scanning.{AllTold, IsUnfaulted, copied_at, now_in}
-use Rattle.pool_scan.specs.Choosing.{AreOf, id_at}
-use Rattle.assembler.specs.Standing.{IsLasting, StandsAs}
-use Rattle.assembler.specs.Resting.{IsShutOn, Rests, RestsSo, StandsNow}
+use Rattle.pool_scan.specs.Scanning.{AllTold, now_in}
+use Rattle.pool_scan.specs.Choosing.{AreOf}
+use Rattle.assembler.specs.Standing.{IsLasting}
+use Rattle.assembler.specs.Resting.{Rests, StandsNow}
 use Rattle.assembler.proofs.Meant.{few_newest}
 use Rattle.assembler.proofs.Agreeing.{disks_same, reads_agree, logs_agree}
 

@@ -6,7 +6,7 @@ use Rattle.gpt_table.specs.declared.Table.{Table}
 use Rattle.gpt_table.specs.Changes.{the_table}
 use Rattle.gpt_table.specs.Disk.{Contents, AgreesUnspent, now_on}
 use Rattle.slice_rack.specs.Slices.{Slices, seat_of, first_of, sectors_of, disk_of}
-use Rattle.array_image.specs.Places.{place_of, slice_of, log_slice, member_slice, arrays_first}
+use Rattle.array_image.specs.Places.{place_of, slice_of, member_slice, arrays_first}
 use Rattle.pool_image.specs.Replay.{Extent, extent_by}
 use Rattle.commit_log.specs.View.{names}
 

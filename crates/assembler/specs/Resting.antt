@@ -1,12 +1,12 @@
 -- What the disks of a pool hold once its pending record is replayed.
-use Rattle.std.specs.Prelude.{◌≡◌, ◌≢◌, ◌⊎◌, ℕ, ◌+◌, ◌<◌, ◌≤◌, Bool, true, false, ◌==◌, ◌&&◌, List, slice_get, Option, Some, None, is_some, unwrap_or}
+use Rattle.std.specs.Prelude.{◌≡◌, ◌≢◌, ◌⊎◌, ℕ, ◌+◌, ◌<◌, ◌≤◌, Bool, true, false, List, slice_get, Option, Some, None, is_some, unwrap_or}
 use Rattle.std.specs.List.{filter_map}
-use Rattle.rack.specs.Values.{IsSingle, Keeps}
-use Rattle.rack.specs.Seen.{Image, Seen, IsLive, Rose}
+use Rattle.rack.specs.Values.{IsSingle}
+use Rattle.rack.specs.Seen.{Image, Seen, Rose}
 use Rattle.rack.specs.Targets.{Target, put}
 use Rattle.pool_state.specs.declared.contents.State.{State}
 use Rattle.array_image.specs.Places.{state_sector, arrays_first}
-use Rattle.array_image.specs.Record.{Gate, gate_sector, gate_of, pending_at, damaged_log}
+use Rattle.array_image.specs.Record.{Gate, gate_of, pending_at, damaged_log}
 use Rattle.array_image.specs.States.{current_places}
 use Rattle.pool_image.specs.Disks.{Disks, disks_of, identities_of, seat_of}
 use Rattle.pool_image.specs.Replay.{Standing, standing, standing_by, brought_state, landed, written}

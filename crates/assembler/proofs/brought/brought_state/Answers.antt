@@ -1,4 +1,4 @@
-use Rattle.std.proofs.Common.{◌≡◌, ℕ, suc, ◌+◌, ◌-◌, ◌<◌, List, length, map, drop, slice_get, refl, ap, ap₂, sym, ◌∙◌, Option, option_map, arith}
+use Rattle.std.proofs.Common.{◌≡◌, ℕ, suc, ◌+◌, ◌-◌, ◌<◌, List, length, map, drop, slice_get, ap, ap₂, sym, ◌∙◌, Option, option_map, arith}
 use Rattle.std.specs.Option.{option_map_or, option_and_then}
 use Rattle.rack.specs.Targets.{Target}
 use Rattle.pool_state.specs.declared.contents.Copied.{Copied}

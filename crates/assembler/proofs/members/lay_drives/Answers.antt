@@ -1,6 +1,5 @@
-use Rattle.std.proofs.Common.{◌≡◌, ◌<◌, ◌+◌, ℕ, refl, sym, ap, subst, ◌∙◌, arith}
+use Rattle.std.proofs.Common.{◌<◌, ◌+◌, sym, subst, ◌∙◌, arith}
 use Rattle.rack.proofs.Reading.{only_reads_start, only_reads_join}
-use Rattle.slice_rack.specs.SliceRack.{tables, below_of}
 use Rattle.array_image.specs.Places.{member_slice}
 use Rattle.assembler.specs.Members.{IsCutBelow}
 use Rattle.assembler.proofs.CutDrives.{cut_start, cut_place, logs_kept}

@@ -1,7 +1,6 @@
-use Rattle.std.proofs.Common.{◌≡◌, ◌+◌, ◌*◌, ◌==◌, true, Some, None, sym, ap, ◌∙◌, arith, find}
+use Rattle.std.proofs.Common.{◌≡◌, ◌+◌, ◌*◌, ◌==◌, true, sym, ap, ◌∙◌, arith}
 use Rattle.std.specs.Option.{option_and_then}
 use Rattle.gpt_table.specs.Format.{is_inside}
-use Rattle.gpt_table.specs.declared.Entry.{Entry}
 use Rattle.pool_image.specs.Replay.{slice_entry}
 use Rattle.assembler.proofs.Cut.{found_all, cut_none, cut_by}
 use Rattle.assembler.proofs.members.lay_member.Goals as goal

@@ -1,4 +1,4 @@
-use Rattle.std.proofs.Common.{◌≡◌, ◌+◌, ℕ, refl, sym, ap, subst, ◌∙◌, arith}
+use Rattle.std.proofs.Common.{◌≡◌, ◌+◌, refl, sym, subst, ◌∙◌, arith}
 use Rattle.slice_rack.specs.SliceRack.{tables, below_of}
 use Rattle.assembler.specs.Members.{IsCutTo}
 use Rattle.assembler.proofs.Cut.{keeps_none, keeps_then}

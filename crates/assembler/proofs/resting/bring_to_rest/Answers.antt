@@ -1,4 +1,4 @@
-use Rattle.std.proofs.Common.{◌≡◌, [], sym, ap, subst, ◌∙◌, inr, length}
+use Rattle.std.proofs.Common.{sym, ap, subst, ◌∙◌, inr, length}
 use Rattle.slice_rack.specs.SliceRack.{tables, below_of}
 use Rattle.pool_image.specs.Disks.{disks_of}
 use Rattle.pool_image.specs.Alike.{MeansTheSame}

@@ -1,7 +1,7 @@
 use Rattle.std.proofs.Common.{◌≡◌, ◌⊎◌, ◌≤◌, ℕ, true, length, Some}
 use Rattle.commit_log.specs.View.{names}
 use Rattle.pool_scan.specs.Choosing.{seat_by}
-use Rattle.assembler.specs.Resting.{IsFlagged, HasRefused}
+use Rattle.assembler.specs.Resting.{IsFlagged}
 use Rattle.assembler.proofs.resting.gone_of.Given as goal
 
 abbrev pub invariant-loop-place : goal.invariant-loop-place

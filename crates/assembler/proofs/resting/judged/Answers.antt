@@ -1,8 +1,8 @@
-use Rattle.std.proofs.Common.{◌≡◌, ℕ, ◌+◌, ◌<◌, ◌≤◌, Bool, List, [], length, not, true, false, refl, sym, ap, subst, ◌∙◌, arith, inl, inr}
+use Rattle.std.proofs.Common.{◌≡◌, ℕ, ◌+◌, ◌≤◌, Bool, List, length, not, true, false, refl, sym, ap, subst, ◌∙◌, arith, inl, inr}
 use Rattle.std.proofs.lemmas.Bool.{both_ways}
 use Rattle.commit_log.specs.View.{names}
 use Rattle.pool_scan.specs.Choosing.{seat_by}
-use Rattle.assembler.proofs.Listed.{pushed, few_pushed, of_pushed}
+use Rattle.assembler.proofs.Listed.{few_pushed, of_pushed}
 use Rattle.assembler.proofs.resting.judged.Goals as goal
 
 not_false : (b : Bool) → not b ≡ false → b ≡ true

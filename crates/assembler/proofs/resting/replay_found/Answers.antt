@@ -3,7 +3,7 @@ use Rattle.std.specs.List.{list_all}
 use Rattle.array_image.specs.Record.{is_target}
 use Rattle.pool_scan.specs.Scanning.{AllTold, IsUnfaulted, now_in}
 use Rattle.pool_scan.specs.Choosing.{AreOf}
-use Rattle.std.proofs.Common.{◌≡◌, true, sym, subst, ◌∙◌}
+use Rattle.std.proofs.Common.{◌≡◌, true, sym, subst}
 use Rattle.rack.specs.Sequences.{WritesOnly}
 use Rattle.slice_rack.specs.SliceRack.{tables, below_of}
 use Rattle.assembler.specs.Resting.{IsOfDrive, IsReplayed, StandsNow, seated_state}

@@ -2,11 +2,10 @@ use Rattle.std.proofs.Common.{sym, ap, subst, ◌∙◌}
 use Rattle.rack.specs.Seen.{Stays}
 use Rattle.rack.specs.Sequences.{OnlyReads}
 use Rattle.slice_rack.specs.SliceRack.{tables, below_of}
-use Rattle.commit_log.specs.View.{LogView}
 use Rattle.pool_scan.proofs.Seated.{scan_later}
 use Rattle.assembler.specs.Standing.{IsLaid}
 use Rattle.assembler.proofs.Laid.{laid_all, laid_logs, laid_none}
-use Rattle.assembler.proofs.Meant.{cause_meant, stand_meant}
+use Rattle.assembler.proofs.Meant.{stand_meant}
 use Rattle.assembler.proofs.Stood.{only_reads_all, looked_so}
 use Rattle.assembler.proofs.standing.look.Goals as goal
 

@@ -1,5 +1,5 @@
 use Rattle.std.proofs.Common.{sym, subst, ◌∙◌}
-use Rattle.slice_rack.specs.SliceRack.{tables, below_of}
+use Rattle.slice_rack.specs.SliceRack.{below_of}
 use Rattle.assembler.specs.declared.standing.Refusal.TheVariants.{NoPool, TwoPools}
 use Rattle.pool_scan.specs.Scanning.{IsScan}
 use Rattle.pool_scan.proofs.Chosen.{scan_says}
