@@ -1,5 +1,5 @@
 -- Two pools that say the same, whose drives hold the same but for gates, mean the same.
-use Rattle.std.proofs.Common.{◌≡◌, ◌≢◌, ℕ, zero, suc, ◌+◌, ◌<◌, ◌≤◌, ◌==◌, ◌&&◌, ◌||◌, not, Bool, true, false, nat_lt, nat_le, bytes_eq, if◌then◌else◌, is_some, is_none, List, [], ◌∷◌, find, count_by, Option, Some, None, option_map, refl, sym, ap, ap₂, subst, ◌∙◌, arith, lt-ltb, le-ltb, ltb-true}
+use Rattle.std.proofs.Common.{◌≡◌, ◌≢◌, ℕ, zero, suc, ◌+◌, ◌<◌, ◌≤◌, ◌&&◌, ◌||◌, not, Bool, true, false, nat_lt, bytes_eq, if◌then◌else◌, is_some, is_none, List, [], find, count_by, Option, Some, None, option_map, refl, ap, ap₂, ◌∙◌, arith, ltb-true}
 use Rattle.std.specs.Option.{option_map_or, option_and_then, option_or}
 use Rattle.std.specs.List.{list_all, range_with_len}
 use Rattle.std.proofs.lemmas.Option.{none-some}
@@ -8,15 +8,15 @@ use Rattle.gpt_table.specs.declared.Table.{Table}
 use Rattle.md_super.specs.declared.superblock.Super.{Super}
 use Rattle.array_image.specs.Places.{place_of, slice_of, member_slice, super_sector, data_sector, state_sector, arrays_first}
 use Rattle.array_image.specs.Stripes.{sector_in}
-use Rattle.array_image.specs.Arrays.{Shape, shape_in, layout_at, value_by, array_in, sectors_by}
+use Rattle.array_image.specs.Arrays.{Shape, shape_in, layout_at, value_by, sectors_by}
 use Rattle.array_image.specs.States.{current_places}
 use Rattle.array_image.specs.Supers.{is_unclean, is_named, super_in, truth_in}
 use Rattle.array_image.proofs.Frames.{SameSupers, super_of_sector, truth_by_supers, shape_by_supers, value_by_data}
 use Rattle.pool_image.specs.Disks.{Disks, Identity, id_at}
 use Rattle.pool_image.specs.Replay.{Extent}
 use Rattle.pool_image.specs.Drives.{Found, end_of, extent_from, truth_from, slices_from, drive_sector, first_of, extent_of, slices_of}
-use Rattle.pool_image.specs.Volumes.{Arrays, first_bad, group_in, linear_of}
-use Rattle.pool_image.specs.Meaning.{Part, Refusal, absent, damaged, too_few, dirty_degraded, bad_volume, arrays_of, truth_of, shape_of, super_at, is_member, has_slice, kind_of, has_slice_of, has_table, has_log, has_supers, in_table, in_state, in_log, in_superblock, damage_on, damage_of, first_damaged, absent_count, lacking_of, is_too_few, is_dirty_degraded, arrays_held, array_sectors, joined_arrays, refused_by, Volume, volume_by, group_of, volumes_of}
+use Rattle.pool_image.specs.Volumes.{first_bad, group_in, linear_of}
+use Rattle.pool_image.specs.Meaning.{Part, Refusal, absent, damaged, too_few, dirty_degraded, bad_volume, arrays_of, truth_of, shape_of, super_at, is_member, has_slice, kind_of, has_table, has_log, has_supers, in_table, in_state, in_log, in_superblock, damage_on, damage_of, first_damaged, absent_count, lacking_of, is_too_few, is_dirty_degraded, arrays_held, array_sectors, joined_arrays, refused_by, volume_by, volumes_of}
 use Rattle.pool_image.specs.Alike.{drive_gate, IsSamePool}
 
 -- the table of a drive, by the extents of slices and the arrays that it is a member of

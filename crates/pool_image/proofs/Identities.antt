@@ -1,10 +1,10 @@
 -- What disks say goes by their state sectors and the copies of their tables.
-use Rattle.std.proofs.Common.{◌≡◌, ◌≢◌, ◌⊎◌, ℕ, zero, suc, ◌+◌, ◌-◌, ◌<◌, ◌≤◌, ◌==◌, ◌&&◌, ◌||◌, not, Bool, true, false, nat_lt, nat_le, bytes_eq, if◌then◌else◌, List, [], ◌∷◌, ◌++◌, map, Option, Some, None, option_map, refl, sym, ap, ap₂, ◌∙◌, inl, inr, arith, lt-ltb, le-ltb, ltb-true}
+use Rattle.std.proofs.Common.{◌≡◌, ◌≢◌, ◌⊎◌, ℕ, zero, suc, ◌+◌, ◌<◌, ◌≤◌, ◌==◌, ◌&&◌, ◌||◌, not, Bool, true, false, nat_lt, bytes_eq, if◌then◌else◌, List, ◌∷◌, ◌++◌, map, Option, Some, None, option_map, refl, sym, ap, ap₂, ◌∙◌, inl, inr, arith, ltb-true}
 use Rattle.std.specs.Option.{option_map_or}
 use Rattle.std.specs.Result.{result_ok}
 use Rattle.std.specs.List.{range_with_len, flat_map, list_all, list_any}
-use Rattle.std.proofs.lemmas.Option.{none-some, cond_some}
-use Rattle.std.proofs.lemmas.Bool.{cases_Bool, cases_lt, cases_eq, both_ways, lt-leb, cond-true, cond-false}
+use Rattle.std.proofs.lemmas.Option.{none-some}
+use Rattle.std.proofs.lemmas.Bool.{cases_Bool, cases_lt, cases_eq, lt-leb, cond-true, cond-false}
 use Rattle.rack.specs.Seen.{Image}
 use Rattle.gpt_table.specs.declared.Table.{Table}
 use Rattle.gpt_table.specs.declared.TableCopy.{TableCopy}
@@ -14,7 +14,7 @@ use Rattle.shr_base.specs.Blocks.{bytes_at, number_at}
 use Rattle.shr_base.specs.Crc.{crc32_of}
 use Rattle.shr_base.specs.Ids.{guid_order}
 use Rattle.gpt_table.specs.Changes.{the_table, IsOfCopies}
-use Rattle.gpt_table.specs.Disk.{Contents, IsOfCopy, entries_bytes, joined, table_at, first_of}
+use Rattle.gpt_table.specs.Disk.{Contents, IsOfCopy, entries_bytes, table_at, first_of}
 use Rattle.pool_state.specs.declared.contents.Copied.{Copied}
 use Rattle.pool_state.specs.declared.contents.State.{State}
 use Rattle.pool_state.specs.Sector.{decoded}

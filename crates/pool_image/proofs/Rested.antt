@@ -1,20 +1,20 @@
 -- A pool whose record is replayed means what it meant.
-use Rattle.std.proofs.Common.{◌≡◌, ◌≢◌, ℕ, ◌+◌, ◌*◌, ◌<◌, ◌≤◌, ◌==◌, ◌&&◌, ◌||◌, not, Bool, true, false, nat_lt, nat_le, if◌then◌else◌, is_none, List, [], ◌∷◌, Option, Some, None, option_map, unwrap_or, refl, sym, ap, ap₂, subst, ◌∙◌, arith, eq-eqb, lt-ltb, ltb-true, leb-true}
+use Rattle.std.proofs.Common.{◌≡◌, ℕ, ◌+◌, ◌<◌, ◌≤◌, ◌==◌, ◌&&◌, ◌||◌, not, Bool, true, false, nat_lt, nat_le, if◌then◌else◌, is_none, List, [], Option, Some, None, option_map, unwrap_or, refl, sym, ap, ap₂, ◌∙◌, arith, eq-eqb, lt-ltb, ltb-true, leb-true}
 use Rattle.std.specs.Option.{option_map_or, option_and_then}
 use Rattle.std.specs.List.{list_any, filter_map}
 use Rattle.std.proofs.lemmas.Option.{none-some}
-use Rattle.std.proofs.lemmas.Bool.{cases_Bool, cases_lt, both_ways}
+use Rattle.std.proofs.lemmas.Bool.{both_ways}
 use Rattle.rack.specs.Seen.{Image}
 use Rattle.rack.specs.Targets.{Target, look, put}
 use Rattle.pool_state.specs.declared.contents.State.{State}
 use Rattle.array_image.specs.Places.{place_of, slice_of, log_slice, log_sectors, state_sector, arrays_first}
-use Rattle.array_image.specs.Record.{GateAt, gate_sector, gate_in, is_bad_gate, is_there, record_in, pending_at, pending_record, pending, is_bad_log}
+use Rattle.array_image.specs.Record.{GateAt, gate_sector, is_bad_gate, record_in, pending_at, pending_record, pending, is_bad_log}
 use Rattle.array_image.specs.States.{current_places}
 use Rattle.pool_image.specs.Disks.{Disks, Identities, identities_of, newest, seat_of}
 use Rattle.pool_image.specs.Replay.{Extent, Standing, log_extent, logs_of, landed, brought_state, standing, standing_by, written}
 use Rattle.pool_image.specs.Drives.{Found, found_by, found, drive_sector, slices_from, extent_of, slices_of}
-use Rattle.pool_image.specs.Meaning.{Refusal, no_pool, two_pools, has_log, has_other_pool, refused_by, refused_at, refusal_of, Volume, volumes_of, meaning}
-use Rattle.pool_image.specs.Alike.{drive_gate, Agree, IsSameButGates, IsSamePool, is_bad_block, IsRested, MeansTheSame}
+use Rattle.pool_image.specs.Meaning.{Refusal, no_pool, two_pools, refused_by, refused_at, refusal_of, Volume, volumes_of, meaning}
+use Rattle.pool_image.specs.Alike.{drive_gate, Agree, IsSamePool, is_bad_block, IsRested, MeansTheSame}
 use Rattle.pool_image.proofs.Identities.{agree_identities, newest_same, seat_same, seat_inside, other_same}
 use Rattle.pool_image.proofs.Founds.{refused_same, volumes_same}
 

@@ -1,5 +1,5 @@
 -- Contents of the same pool but for gates of its log.
-use Rattle.std.specs.Prelude.{◌≡◌, ◌≢◌, ℕ, ◌+◌, ◌<◌, ◌&&◌, Bool, false, is_none, List, Option, Some, None}
+use Rattle.std.specs.Prelude.{◌≡◌, ◌≢◌, ℕ, ◌<◌, ◌&&◌, Bool, false, is_none, List, Some, None}
 use Rattle.rack.specs.Seen.{Image}
 use Rattle.array_image.specs.Record.{gate_of, is_there, pending_at, is_bad_log}
 use Rattle.array_image.specs.States.{current_places}

@@ -1,9 +1,9 @@
-use Rattle.std.proofs.Common.{◌≡◌, ◌<◌, true, List, length, slice_get, Some, sym, ◌∙◌, subst, arith, ap}
+use Rattle.std.proofs.Common.{◌<◌, List, ◌∙◌, arith}
 use Rattle.std.proofs.lemmas.List.{length-set}
 use Rattle.std.proofs.lemmas.Option.{slice_get_within}
 use Rattle.rack.proofs.Reading.{only_reads_join}
 use Rattle.pool_scan.specs.declared.Known.{Known}
-use Rattle.pool_scan.specs.Scanning.{IsKnown, IsScan}
+use Rattle.pool_scan.specs.Scanning.{IsKnown}
 use Rattle.pool_scan.proofs.Sights.{each_set, known_until, known_since}
 use Rattle.pool_scan.proofs.Chosen.{scan_says}
 use Rattle.pool_scan.proofs.Scan.read.Goals as goal
