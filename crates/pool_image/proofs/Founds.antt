@@ -1,5 +1,5 @@
 -- Two pools that say the same, whose drives hold the same but for gates, mean the same.
-use Rattle.std.proofs.Common.{◌≡◌, ◌≢◌, ℕ, zero, suc, ◌+◌, ◌<◌, ◌≤◌, ◌&&◌, ◌||◌, not, Bool, true, false, nat_lt, bytes_eq, if◌then◌else◌, is_some, is_none, List, [], find, count_by, Option, Some, None, option_map, refl, ap, ap₂, ◌∙◌, arith, ltb-true}
+use Rattle.std.proofs.Common.{◌≡◌, ◌≢◌, ℕ, zero, suc, ◌+◌, ◌<◌, ◌≤◌, ◌&&◌, ◌||◌, not, Bool, true, false, nat_lt, bytes_eq, if◌then◌else◌, is_some, is_none, List, [], ◌∷◌, find, count_by, Option, Some, None, option_map, refl, ap, ap₂, ◌∙◌, arith, ltb-true}
 use Rattle.std.specs.Option.{option_map_or, option_and_then, option_or}
 use Rattle.std.specs.List.{list_all, range_with_len}
 use Rattle.std.proofs.lemmas.Option.{none-some}
