@@ -1,0 +1,69 @@
+use Rattle.pool_image.specs.Disks.{disks_of, identities_of}
+use Rattle.std.specs.List.{list_all}
+use Rattle.array_image.specs.Record.{is_target}
+use Rattle.pool_scan.specs.Scanning.{AllTold, IsUnfaulted, now_in}
+use Rattle.pool_scan.specs.Choosing.{AreOf}
+use Rattle.std.proofs.Common.{◌≡◌, true, sym, subst}
+use Rattle.rack.specs.Sequences.{WritesOnly}
+use Rattle.slice_rack.specs.SliceRack.{tables, below_of}
+use Rattle.pool_rest.specs.Resting.{IsOfDrive, IsReplayed, StandsNow, seated_state}
+use Rattle.pool_rest.specs.Standing.{IsLaid, IsLasting}
+use Rattle.pool_rest.proofs.Again.{again_only, again_replayed, again_stands, laid_later}
+use Rattle.pool_rest.proofs.resting.replay_found.Goals as goal
+
+pub returns-in-Err-clause-back : goal.returns-in-Err-clause-back
+returns-in-Err-clause-back g c =
+    again_only g.R.Rack.seen (below_of c.args.found.slices) c.into_inner.result c.replay_on-done.result.rack c.in-Err.rack c.into_inner.ensures c.args.found.scan.disks.items c.args.found.state
+    c.seated_by-seated.result (seated_state c.args.found.log.pending c.args.found.state) c.seated_by-seated.ensures c.replay_on-done.ensures.only c.in-Err.ensures.kept
+
+pub returns-in-Err-clause-returned : goal.returns-in-Err-clause-returned
+returns-in-Err-clause-returned g c =
+    g.met.R.Rack.runs_then _ _ _ (subst (λ r. g.R.Rack.runs r c.replay_on-done.result.rack) c.into_inner.ensures c.replay_on-done.ensures.runs) c.in-Err.ensures.returned
+
+pub returns-clause-only : goal.returns-clause-only
+returns-clause-only g c =
+    subst (λ k. WritesOnly (g.R.Rack.seen (below_of c.args.found.slices)) (g.R.Rack.seen (below_of k))
+    (IsOfDrive (g.R.Rack.seen (below_of c.args.found.slices)) c.args.found.scan.disks.items (seated_state c.args.found.log.pending c.args.found.state)))
+    (sym c.as_it_stands-rest.ensures.slices)
+    (again_only g.R.Rack.seen (below_of c.args.found.slices) c.into_inner.result c.replay_on-done.result.rack (below_of c.in-Ok.again.slices) c.into_inner.ensures c.args.found.scan.disks.items c.args.found.state
+    c.seated_by-seated.result (seated_state c.args.found.log.pending c.args.found.state) c.seated_by-seated.ensures c.replay_on-done.ensures.only c.in-Ok.ensures.only)
+
+pub returns-clause-replayed : goal.returns-clause-replayed
+returns-clause-replayed g c =
+    subst (λ k. AllTold (g.R.Rack.seen (below_of c.args.found.slices)) → IsLasting (g.R.Rack.seen (below_of c.args.found.slices))
+    → IsUnfaulted (g.R.Rack.seen (below_of c.args.found.slices)) (g.R.Rack.seen (below_of k))
+    → AreOf (disks_of (g.R.Rack.seen (below_of c.args.found.slices))) (identities_of (disks_of (g.R.Rack.seen (below_of c.args.found.slices))) (now_in (g.R.Rack.seen (below_of c.args.found.slices)))) c.args.found.scan.disks.items
+    → list_all is_target c.args.found.log.pending ≡ true
+    → IsReplayed (g.R.Rack.seen (below_of c.args.found.slices)) (g.R.Rack.seen (below_of k)) c.args.found.state (seated_state c.args.found.log.pending c.args.found.state) c.args.found.log.pending)
+    (sym c.as_it_stands-rest.ensures.slices)
+    (again_replayed g.R.Rack.seen (below_of c.args.found.slices) c.into_inner.result c.replay_on-done.result.rack (below_of c.in-Ok.again.slices) c.into_inner.ensures c.args.found.scan.disks.items c.args.found.state
+    c.seated_by-seated.result (seated_state c.args.found.log.pending c.args.found.state) c.seated_by-seated.ensures c.replay_on-done.ensures.only c.in-Ok.ensures.only c.args.found.log.pending c.replay_on-done.ensures.replayed)
+
+pub returns-clause-stands : goal.returns-clause-stands
+returns-clause-stands g c =
+    let rest = c.as_it_stands-rest.ensures in
+    subst (λ k. AllTold (g.R.Rack.seen (below_of c.args.found.slices)) → IsLasting (g.R.Rack.seen (below_of c.args.found.slices))
+    → IsUnfaulted (g.R.Rack.seen (below_of c.args.found.slices)) (g.R.Rack.seen (below_of k))
+    → StandsNow (g.R.Rack.seen (below_of k)) c.as_it_stands-rest.result.state c.as_it_stands-rest.result.log c.as_it_stands-rest.result.pending c.as_it_stands-rest.result.damaged)
+    (sym rest.slices)
+    (λ told lasts free.
+    subst (λ d. StandsNow (g.R.Rack.seen (below_of c.in-Ok.again.slices)) c.as_it_stands-rest.result.state c.as_it_stands-rest.result.log c.as_it_stands-rest.result.pending d) (sym rest.damaged)
+    (subst (λ p. StandsNow (g.R.Rack.seen (below_of c.in-Ok.again.slices)) c.as_it_stands-rest.result.state c.as_it_stands-rest.result.log p c.in-Ok.again.looked.damaged) (sym rest.pending)
+    (subst (λ m. StandsNow (g.R.Rack.seen (below_of c.in-Ok.again.slices)) c.as_it_stands-rest.result.state m c.in-Ok.again.looked.pending c.in-Ok.again.looked.damaged) (sym rest.log)
+    (subst (λ s. StandsNow (g.R.Rack.seen (below_of c.in-Ok.again.slices)) s c.in-Ok.again.log c.in-Ok.again.looked.pending c.in-Ok.again.looked.damaged) (sym rest.state)
+    (again_stands g.R.Rack.seen (below_of c.args.found.slices) c.into_inner.result c.replay_on-done.result.rack (below_of c.in-Ok.again.slices) c.into_inner.ensures c.args.found.scan.disks.items c.args.found.state
+    c.seated_by-seated.result (seated_state c.args.found.log.pending c.args.found.state) c.seated_by-seated.ensures c.replay_on-done.ensures.only c.in-Ok.ensures.only (tables c.in-Ok.again.slices) c.in-Ok.again.state c.in-Ok.again.log c.in-Ok.again.looked.pending c.in-Ok.again.looked.damaged c.in-Ok.ensures.meant told lasts free)))))
+
+pub returns-clause-laid : goal.returns-clause-laid
+returns-clause-laid g c =
+    let rest = c.as_it_stands-rest.ensures in
+    subst (λ k. IsLaid (g.R.Rack.seen (below_of k)) c.as_it_stands-rest.result.scan.disks.items c.as_it_stands-rest.result.state (tables k) c.as_it_stands-rest.result.on.items) (sym rest.slices)
+    (subst (λ o. IsLaid (g.R.Rack.seen (below_of c.in-Ok.again.slices)) c.as_it_stands-rest.result.scan.disks.items c.as_it_stands-rest.result.state (tables c.in-Ok.again.slices) o.items) (sym rest.on)
+    (subst (λ s. IsLaid (g.R.Rack.seen (below_of c.in-Ok.again.slices)) c.as_it_stands-rest.result.scan.disks.items s (tables c.in-Ok.again.slices) c.in-Ok.again.on.items) (sym rest.state)
+    (subst (λ k. IsLaid (g.R.Rack.seen (below_of c.in-Ok.again.slices)) k.disks.items c.in-Ok.again.state (tables c.in-Ok.again.slices) c.in-Ok.again.on.items) (sym rest.scan)
+    (laid_later _ _ _ _ _ _ c.in-Ok.ensures.only.stays c.in-Ok.ensures.laid))))
+
+pub returns-clause-runs : goal.returns-clause-runs
+returns-clause-runs g c =
+    subst (λ k. g.R.Rack.runs (below_of c.args.found.slices) (below_of k)) (sym c.as_it_stands-rest.ensures.slices)
+    (g.met.R.Rack.runs_then _ _ _ (subst (λ r. g.R.Rack.runs r c.replay_on-done.result.rack) c.into_inner.ensures c.replay_on-done.ensures.runs) c.in-Ok.ensures.runs)

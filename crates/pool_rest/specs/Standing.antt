@@ -1,0 +1,74 @@
+-- A pool as it stands on disks, before its pending record is replayed: what was read of it.
+use Rattle.std.specs.Prelude.{◌≡◌, ℕ, ◌<◌, ◌≤◌, Bool, true, false, ◌&&◌, nat_lt, List, [], Option, Some, None, is_some}
+use Rattle.rack.specs.Seen.{Image, Seen, Rose}
+use Rattle.pool_state.specs.declared.contents.State.{State}
+use Rattle.slice_rack.specs.Slices.{Slices, seat_of, sectors_of}
+use Rattle.slice_rack.specs.Sliced.{sliced, slices_of}
+use Rattle.array_image.specs.Places.{log_slice}
+use Rattle.array_image.specs.Record.{pending_at, damaged_log}
+use Rattle.array_image.specs.States.{is_current, current_places}
+use Rattle.array_image.specs.Left.{reading}
+use Rattle.pool_image.specs.Disks.{disks_of, newest}
+use Rattle.pool_image.specs.Replay.{logs_of, standing, standing_by}
+use Rattle.pool_image.specs.Meaning.{no_pool, two_pools, refusal_of}
+use Rattle.commit_log.specs.View.{LogView, names, left_of, in_order}
+use Rattle.commit_log.specs.Phases.{AreLogs}
+use Rattle.commit_log.specs.Opening.{Finds}
+use Rattle.pool_scan.specs.declared.Known.{Known}
+use Rattle.pool_scan.specs.Scanning.{AllTold, IsScan, as_read, now_in}
+use Rattle.pool_scan.specs.Choosing.{has_pool_other_than, seat_by}
+use Rattle.pool_rest.specs.declared.standing.FindFault.{FindFault}
+use Rattle.pool_rest.specs.declared.standing.FindFault.TheVariants.{NoPool, TwoPools, Memory}
+
+-- no sector of a disk is spent, and none will be
+pub record IsLasting (a : Seen) : Type 0 where
+  pub lasting : a.lasting
+  pub unspent : (d s : ℕ) → a.spent d s ≡ false
+
+-- The slices are the log slices of the disks that were taken for the current places, where these have all of them; `on` are the
+-- places that have one.
+pub record IsLaid (a : Seen) (known : List Known) (s : State) (t : Slices) (on : List ℕ) : Type 0 where
+  pub seats : (p : ℕ) → p < 16 → seat_of t p ≡ seat_by s known p
+  -- whatever the disks hold, they show of it what the meaning of images calls the log slices
+  pub shows : (c : Image) (k u : ℕ) → k < 272 → sliced t c k u ≡ logs_of (disks_of a) (seat_by s known) c k u
+  pub none : (k : ℕ) → 272 ≤ k → sectors_of t k ≡ 0
+  pub places : (p : ℕ) → names on p ≡ (is_current s p && nat_lt 0 (sectors_of t (log_slice p)))
+  pub whole : AreLogs (sectors_of t) on
+
+-- The state is the newest of what was read.
+pub record IsNewest (a b : Seen) (known : List Known) (s : State) : Type 0 where
+  pub scan : IsScan a b known
+  pub newest : AllTold a → newest (disks_of a) (as_read a known) ≡ Some s
+
+-- What was found of the pending record on these slices; `gone` are the places that refused a call in it.
+pub record HasLooked (a b : Seen) (t : Slices) (on gone : List ℕ) (m : LogView) (is_pending : Bool) (damaged : Option ℕ) : Type 0 where
+  pub ordered : gone ≡ in_order gone
+  pub cause :
+      (p : ℕ) → names gone p ≡ true
+      → (names on p ≡ true) × Rose ((slices_of t a).faults (log_slice p)) ((slices_of t b).faults (log_slice p))
+  pub added : m.added ≡ []
+  pub lent : m.is_lent ≡ true
+  pub finds : AllTold a → IsLasting a → Finds m on (left_of on gone) is_pending damaged (reading (slices_of t a))
+
+-- By the meaning of images, where no disk refused a call: the pool stands so on what the disks hold, the slices show its log
+-- slices, and the log has the record that is pending there.
+pub record StandsAs (a : Seen) (s : State) (t : Slices) (m : LogView) (is_pending : Bool) (damaged : Option ℕ) : Type 0 where
+  pub stands : standing (disks_of a) (now_in a) ≡ Some (standing_by (disks_of a) (now_in a) s)
+  pub logs : (k u : ℕ) → k < 272 → reading (slices_of t a) k u ≡ (standing_by (disks_of a) (now_in a) s).logs k u
+  pub targets : IsLasting a → m.pending ≡ (standing_by (disks_of a) (now_in a) s).targets
+  pub pending : IsLasting a → is_pending ≡ is_some (pending_at (current_places s) (standing_by (disks_of a) (now_in a) s).logs)
+  pub whole : IsLasting a → damaged ≡ None → damaged_log (current_places s) (standing_by (disks_of a) (now_in a) s).logs ≡ None
+
+-- and no pool is found where the meaning has this refusal
+abbrev pub IsMeant : Seen → FindFault → Type 0
+IsMeant a NoPool = refusal_of (disks_of a) (now_in a) ≡ Some no_pool
+IsMeant a TwoPools = refusal_of (disks_of a) (now_in a) ≡ Some two_pools
+IsMeant a Memory = Unit {0}
+
+-- why no pool was found: by what was read of the disks
+abbrev pub IsCause : Seen → Seen → FindFault → Type 0
+IsCause a b NoPool = (known : List Known) × IsScan a b known × (AllTold a → newest (disks_of a) (as_read a known) ≡ None)
+IsCause a b TwoPools =
+    (known : List Known) × IsScan a b known
+    × (AllTold a → (s : State) × (newest (disks_of a) (as_read a known) ≡ Some s) × (has_pool_other_than s.pool.0 (disks_of a) (as_read a known) ≡ true))
+IsCause a b Memory = Unit {0}
