@@ -18,6 +18,7 @@ use Rattle.commit_log.specs.View.{LogView}
 use Rattle.pool_rest.specs.Standing.{IsLasting, IsLaid, StandsAs}
 use Rattle.pool_rest.specs.Resting.{IsOfDrive, IsReplayed, StandsNow}
 use Rattle.pool_rest.proofs.Agreeing.{disks_same, told_later, lasting_later, stands_now, replayed_later}
+use Rattle.pool_rest.proofs.Laid.{sectors_seen}
 
 module _ {R : Type 0} (seen : R → Seen) (r0 ri rd rb : R) (same : ri ≡ r0) (known : List Known) (before s s' : State) (seated : s ≡ s')
     (only : WritesOnly (seen ri) (seen rd) (IsOfDrive (seen ri) known s)) (reads : OnlyReads (seen rd) (seen rb)) where
@@ -59,6 +60,9 @@ laid_later x y known s t on stays laid = record {
   seats = laid.seats;
   shows = λ c k u few. laid.shows c k u few ∙ ap (λ (disks : Disks). logs_of disks (seat_by s known) c k u) (sym (disks_same x y stays));
   none = laid.none;
+  beyond = laid.beyond;
+  sectors = λ k few. laid.sectors k few ∙ sectors_seen x y known s k (λ d. sym (stays.sectors d));
+  firsts = laid.firsts;
   places = laid.places;
   whole = laid.whole;
 }

@@ -287,12 +287,27 @@ laid_logs x known s t on laid j below =
 pub laid_none : (x : Seen) (known : List Known) (s : State) (t : Slices) (on : List ℕ) → IsLaidBelow x known s 16 t on → (k : ℕ) → 272 ≤ k → sectors_of t k ≡ 0
 laid_none x known s t on laid k past = laid.empty k (omega (arith, past))
 
+-- which sectors are laid goes by the disks' sizes
+pub sectors_seen : (x a : Seen) (known : List Known) (s : State) (k : ℕ) → ((d : ℕ) → x.sectors d ≡ a.sectors d)
+    → laid_sectors x known s k ≡ laid_sectors a known s k
+sectors_seen x a known s k same =
+    ap (λ n. if slice_of k == 0 then n else 0) (of (seat_by s known (place_of k)))
+  where
+    of : (o : Option ℕ)
+        → option_map_or (λ d. if nat_le arrays_first (x.sectors d) then log_sectors else 0) o 0
+        ≡ option_map_or (λ d. if nat_le arrays_first (a.sectors d) then log_sectors else 0) o 0
+    of None = refl
+    of (Some d) = ap (λ n. if nat_le arrays_first n then log_sectors else 0) (same d)
+
 pub laid_all : (x a : Seen) (known : List Known) (s : State) (t : Slices) (on : List ℕ) → ((d : ℕ) → x.sectors d ≡ a.sectors d)
     → IsLaidBelow x known s 16 t on → IsLaid a known s t on
 laid_all x a known s t on same laid = record {
   seats = λ p few. laid.seats p few;
   shows = laid_shows x a known s t on same laid;
   none = laid_none x known s t on laid;
+  beyond = laid.none;
+  sectors = λ k few. laid.sectors k (omega (arith, few)) ∙ sectors_seen x a known s k same;
+  firsts = laid.firsts;
   places = λ p. laid.places p ∙ elim (cases_lt 0 (sectors_of t (log_slice p))) [
     | inr none ↦
         let off : nat_lt 0 (sectors_of t (log_slice p)) ≡ false = le-ltb 0 (sectors_of t (log_slice p)) none in

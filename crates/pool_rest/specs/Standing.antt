@@ -2,9 +2,9 @@
 use Rattle.std.specs.Prelude.{◌≡◌, ℕ, ◌<◌, ◌≤◌, Bool, true, false, ◌&&◌, nat_lt, List, [], Option, Some, None, is_some}
 use Rattle.rack.specs.Seen.{Image, Seen, Rose}
 use Rattle.pool_state.specs.declared.contents.State.{State}
-use Rattle.slice_rack.specs.Slices.{Slices, seat_of, sectors_of}
+use Rattle.slice_rack.specs.Slices.{Slices, seat_of, first_of, sectors_of}
 use Rattle.slice_rack.specs.Sliced.{sliced, slices_of}
-use Rattle.array_image.specs.Places.{log_slice}
+use Rattle.array_image.specs.Places.{log_slice, state_sector}
 use Rattle.array_image.specs.Record.{pending_at, damaged_log}
 use Rattle.array_image.specs.States.{is_current, current_places}
 use Rattle.array_image.specs.Left.{reading}
@@ -17,6 +17,7 @@ use Rattle.commit_log.specs.Opening.{Finds}
 use Rattle.pool_scan.specs.declared.Known.{Known}
 use Rattle.pool_scan.specs.Scanning.{AllTold, IsScan, as_read, now_in}
 use Rattle.pool_scan.specs.Choosing.{has_pool_other_than, seat_by}
+use Rattle.pool_rest.specs.Laying.{laid_sectors}
 use Rattle.pool_rest.specs.declared.standing.FindFault.{FindFault}
 use Rattle.pool_rest.specs.declared.standing.FindFault.TheVariants.{NoPool, TwoPools, Memory}
 
@@ -32,6 +33,9 @@ pub record IsLaid (a : Seen) (known : List Known) (s : State) (t : Slices) (on :
   -- whatever the disks hold, they show of it what the meaning of images calls the log slices
   pub shows : (c : Image) (k u : ℕ) → k < 272 → sliced t c k u ≡ logs_of (disks_of a) (seat_by s known) c k u
   pub none : (k : ℕ) → 272 ≤ k → sectors_of t k ≡ 0
+  pub beyond : (p : ℕ) → 16 ≤ p → seat_of t p ≡ None
+  pub sectors : (k : ℕ) → k < 272 → sectors_of t k ≡ laid_sectors a known s k
+  pub firsts : (k : ℕ) → 0 < sectors_of t k → first_of t k ≡ state_sector
   pub places : (p : ℕ) → names on p ≡ (is_current s p && nat_lt 0 (sectors_of t (log_slice p)))
   pub whole : AreLogs (sectors_of t) on
 

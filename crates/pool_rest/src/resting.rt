@@ -15,6 +15,7 @@ ghost use Rattle.commit_log.specs.View.{names, settled};
 ghost use Rattle.pool_scan.specs.Scanning.{AllTold, IsUnfaulted, now_in};
 ghost use Rattle.pool_scan.specs.Choosing.{AreOf, seat_by};
 ghost use Rattle.pool_rest.specs.Standing.{IsLasting, IsLaid};
+ghost use Rattle.pool_state.specs.Valid.{is_valid};
 ghost use Rattle.pool_image.specs.Alike.{drive_gate, MeansTheSame};
 ghost use Rattle.pool_image.specs.Replay.{brought_state, standing_by};
 ghost use Rattle.pool_image.specs.Meaning.{has_other_pool};
@@ -338,6 +339,7 @@ fn replay_found<R: Rack>(found: Standing<R>, room: Scan) -> Result<AtRest<R>, R>
     requires room { length room.disks.items ≡ (R.seen (below_of found.slices)).disks }
     ensures fit { IfOk result (λ r. (slices_of (tables r.slices) (R.seen (below_of r.slices))).fit) }
     ensures few { IfOk result (λ r. length r.scan.disks.items < 2 ^ 32) }
+    ensures valid { IfOk result (λ r. is_valid r.state 0 ≡ true) }
     ensures only { IfOk result (λ r. WritesOnly (R.seen (below_of found.slices)) (R.seen (below_of r.slices))
         (IsOfDrive (R.seen (below_of found.slices)) found.scan.disks.items (seated_state found.log.pending found.state))) }
     ensures replayed { IfOk result (λ r. AllTold (R.seen (below_of found.slices)) → IsLasting (R.seen (below_of found.slices))
@@ -391,6 +393,7 @@ pub fn bring_to_rest<R: Rack>(alloc: Global, rack: R) -> Result<AtRest<R>, Back<
     requires small { (d : ℕ) → d < (R.seen rack).disks → (R.seen rack).sectors d < 2 ^ 48 }
     ensures fit { IfOk result (λ r. (slices_of (tables r.slices) (R.seen (below_of r.slices))).fit) }
     ensures few { IfOk result (λ r. length r.scan.disks.items < 2 ^ 32) }
+    ensures valid { IfOk result (λ r. is_valid r.state 0 ≡ true) }
     ensures only { IfOk result (λ r. WritesDrives (R.seen rack) (R.seen (below_of r.slices))) }
     ensures laid { IfOk result (λ r. IsLaid (R.seen (below_of r.slices)) r.scan.disks.items r.state (tables r.slices) r.on.items) }
     // Where no disk refused a call, the record is written and nothing else has changed but gates.

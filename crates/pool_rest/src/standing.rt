@@ -1,13 +1,14 @@
 //! A pool as it stands on disks, before its pending record is replayed.
 
-ghost use Rattle.std.specs.Prelude.{◌≡◌, ◌<◌, ◌≤◌, ◌^◌, ℕ, length, IfOk, IfErr, true, false, []};
+ghost use Rattle.std.specs.Prelude.{◌≡◌, ◌<◌, ◌≤◌, ◌^◌, ℕ, length, IfOk, IfErr, IfSome, true, false, []};
 ghost use Rattle.rack.specs.Sequences.{OnlyReads};
 ghost use Rattle.slice_rack.specs.Sliced.{slices_of};
 ghost use Rattle.slice_rack.specs.SliceRack.{tables, below_of};
 ghost use Rattle.pool_image.specs.Disks.{Disks, Identities, newest, disks_of};
 ghost use Rattle.pool_image.specs.Meaning.{has_other_pool};
 ghost use Rattle.pool_image.specs.Replay.{standing_by};
-ghost use Rattle.pool_scan.specs.Choosing.{AreOf, has_pool_other_than};
+ghost use Rattle.pool_scan.specs.Choosing.{AreOf, HasCopyOf, has_pool_other_than};
+ghost use Rattle.pool_state.specs.Valid.{is_valid};
 ghost use Rattle.pool_rest.specs.Standing.{IsNewest, IsLaid, HasLooked, StandsAs, IsCause, IsMeant};
 ghost use Rattle.pool_scan.specs.Scanning.{AllTold, IsUnfaulted, as_read, now_in};
 
@@ -78,8 +79,9 @@ pub(crate) fn copy_of(state: &State) -> State
 
 /// The state of highest epoch of a scan.
 fn newest_of(scan: &Scan) -> Option<State>
-    ensures { (disks : Disks) (identities : Identities) → AreOf disks identities scan.now.disks.items
+    ensures newest { (disks : Disks) (identities : Identities) → AreOf disks identities scan.now.disks.items
         → result ≡ newest disks identities }
+    ensures copied { IfSome result (HasCopyOf scan.now.disks.items) }
 {
     match scan.newest() {
         Some(state) => Some(copy_of(state)),
@@ -97,6 +99,7 @@ pub(crate) fn look<R: Rack>(rack: R, scan: Scan, log: Log) -> Result<Standing<R>
     ensures only { IfOk result (λ st. OnlyReads (R.seen rack) (R.seen (below_of st.slices))) }
     ensures fit { IfOk result (λ st. (slices_of (tables st.slices) (R.seen (below_of st.slices))).fit) }
     ensures few { IfOk result (λ st. length st.scan.disks.items < 2 ^ 32) }
+    ensures valid { IfOk result (λ st. is_valid st.state 0 ≡ true) }
     ensures newest { IfOk result (λ st. IsNewest (R.seen rack) (R.seen (below_of st.slices)) st.scan.disks.items st.state) }
     ensures laid { IfOk result (λ st. IsLaid (R.seen rack) st.scan.disks.items st.state (tables st.slices) st.on.items) }
     ensures looked { IfOk result (λ st. HasLooked (R.seen rack) (R.seen (below_of st.slices)) (tables st.slices) st.on.items st.looked.gone.items st.log st.looked.pending st.looked.damaged) }
@@ -138,6 +141,7 @@ pub fn stand<R: Rack>(alloc: Global, rack: R) -> Result<Standing<R>, Back<R, Fin
     ensures only { IfOk result (λ st. OnlyReads (R.seen rack) (R.seen (below_of st.slices))) }
     ensures fit { IfOk result (λ st. (slices_of (tables st.slices) (R.seen (below_of st.slices))).fit) }
     ensures few { IfOk result (λ st. length st.scan.disks.items < 2 ^ 32) }
+    ensures valid { IfOk result (λ st. is_valid st.state 0 ≡ true) }
     ensures newest { IfOk result (λ st. IsNewest (R.seen rack) (R.seen (below_of st.slices)) st.scan.disks.items st.state) }
     ensures one_pool { IfOk result (λ st. AllTold (R.seen rack) → has_pool_other_than st.state.pool.0 (disks_of (R.seen rack)) (as_read (R.seen rack) st.scan.disks.items) ≡ false) }
     ensures laid { IfOk result (λ st. IsLaid (R.seen rack) st.scan.disks.items st.state (tables st.slices) st.on.items) }

@@ -4,3 +4,4 @@ mod Ranges
 pub mod Sights
 pub mod Seated
 pub mod Meant
+pub mod Valid

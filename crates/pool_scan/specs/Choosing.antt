@@ -2,6 +2,7 @@
 use Rattle.std.specs.Prelude.{◌≡◌, ◌==◌, ℕ, ◌<◌, Bool, false, not, bytes_eq, if◌then◌else◌, List, length, map, position, slice_get, Option, Some, None}
 use Rattle.std.specs.Option.{option_and_then, option_map_or}
 use Rattle.std.specs.List.{list_any, range_with_len}
+use Rattle.pool_state.specs.declared.contents.Copied.{Copied}
 use Rattle.pool_state.specs.declared.contents.State.{State}
 use Rattle.array_image.specs.Foremost.{foremost}
 use Rattle.array_image.specs.States.{epoch_of, is_current}
@@ -18,6 +19,13 @@ pub record AreOf (disks : Disks) (identities : Identities) (known : List Known) 
   pub count : length known ≡ disks.count
   pub copied : (d : ℕ) → d < disks.count → (identities d).copied ≡ copied_at known d
   pub id : (d : ℕ) → d < disks.count → id_by (identities d).table (identities d).copied ≡ id_at known d
+
+-- a disk was read to have a copy of this state
+pub record HasCopyOf (known : List Known) (s : State) : Type 0 where
+  pub disk : ℕ
+  pub copy : Copied
+  pub read : copied_at known disk ≡ Some copy
+  pub state : copy.state ≡ s
 
 -- the copy of a disk is of another pool
 abbrev pub is_of_other : List ℕ → Known → Bool

@@ -1,6 +1,6 @@
 //! What a scan says: the newest state, whether two pools are there, and which disk is which drive.
 
-ghost use Rattle.std.specs.Prelude.{◌≡◌, ◌==◌, ◌^◌, ◌<◌, not, false, ℕ, List, length, map, position, bytes_eq, if◌then◌else◌, Some, None};
+ghost use Rattle.std.specs.Prelude.{◌≡◌, ◌==◌, ◌^◌, ◌<◌, not, false, ℕ, List, length, map, position, bytes_eq, if◌then◌else◌, IfSome, Some, None};
 ghost use Rattle.std.specs.List.{list_any, range_with_len};
 ghost use Rattle.std.specs.Option.{option_and_then, option_copied, option_map_or};
 ghost use Rattle.array_image.specs.Foremost.{ahead as ahead_by, foremost};
@@ -8,7 +8,7 @@ ghost use Rattle.array_image.specs.States.{epoch_of, is_current};
 ghost use Rattle.pool_image.specs.Disks.{Disks, Identities, newest, seat_of};
 ghost use Rattle.pool_scan.specs.Scanning.{copied_at, id_in};
 ghost use Rattle.pool_scan.specs.Choosing as spec;
-ghost use Rattle.pool_scan.specs.Choosing.{AreOf, id_at};
+ghost use Rattle.pool_scan.specs.Choosing.{AreOf, HasCopyOf, id_at};
 
 use crate::{Known, Scan};
 use pool_state::{Copied, Drive, State};
@@ -17,8 +17,9 @@ use shr_base::Id;
 impl Scan {
     /// The state of highest epoch, of equal ones that of the lowest disk.
     pub fn newest(&self) -> Option<&State>
-        ensures { (disks : Disks) (identities : Identities) → AreOf disks identities self.now.disks.items
+        ensures newest { (disks : Disks) (identities : Identities) → AreOf disks identities self.now.disks.items
             → option_copied result ≡ newest disks identities }
+        ensures copied { IfSome result (λ s. HasCopyOf self.now.disks.items s.now) }
     {
         match newest_copy(self.disks.as_slice()) {
             Some(copied) => Some(&copied.state),

@@ -47,7 +47,7 @@ marks_lost true went now false (Some seat) is same other = refl
 marks_lost false went now false (Some seat) is same other = is
 
 -- a member that isn't current is missing
-missing_seat : (seat : Seat) → is_missing_seat seat ≡ true → seat ≡ Missing
+pub missing_seat : (seat : Seat) → is_missing_seat seat ≡ true → seat ≡ Missing
 missing_seat Whole is = absurd (both_ways false refl is)
 missing_seat Missing is = refl
 missing_seat (Rebuilding to) is = absurd (both_ways false refl is)

@@ -3,6 +3,7 @@ use Rattle.rack.specs.Seen.{Stays}
 use Rattle.rack.specs.Sequences.{OnlyReads}
 use Rattle.slice_rack.specs.SliceRack.{tables, below_of}
 use Rattle.pool_scan.proofs.Seated.{scan_later}
+use Rattle.pool_scan.proofs.Valid.{copy_valid}
 use Rattle.pool_rest.specs.Standing.{IsLaid}
 use Rattle.pool_rest.proofs.Laid.{laid_all, laid_logs, laid_none}
 use Rattle.pool_rest.proofs.Meant.{stand_meant}
@@ -25,8 +26,11 @@ returns-clause-newest g c =
     let later = (c.pending-looked.ensures.runs.apart c.seat_drives-on.ensures.fit.0 c.seat_drives-on.ensures.fit.1).stays in
     record {
       scan = scan_later _ _ _ _ c.read.ensures.scanned (subst (λ r. Stays (g.R.Rack.seen r) (g.R.Rack.seen (below_of c.pending-looked.new.rack))) same later);
-      newest = λ told. sym (c.in-Some.ensures _ _ (c.read.ensures.identities told));
+      newest = λ told. sym (c.in-Some.ensures.newest _ _ (c.read.ensures.identities told));
     }
+
+pub returns-clause-valid : goal.returns-clause-valid
+returns-clause-valid g c = copy_valid _ _ _ _ c.read.ensures.scanned c.in-Some.ensures.copied
 
 pub returns-clause-laid : goal.returns-clause-laid
 returns-clause-laid g c =
@@ -56,4 +60,4 @@ returns-clause-meant g c = λ told free.
 
 pub returns-in_default-clause-none : goal.returns-in_default-clause-none
 returns-in_default-clause-none g c =
-    (c.read.new.self.disks.items, c.read.ensures.scanned, λ told. sym (c.in_default.ensures _ _ (c.read.ensures.identities told)))
+    (c.read.new.self.disks.items, c.read.ensures.scanned, λ told. sym (c.in_default.ensures.newest _ _ (c.read.ensures.identities told)))

@@ -1,0 +1,118 @@
+//! The drives of a pool at rest, checked: its arrays, and the slices of their members.
+
+ghost use Rattle.std.specs.Prelude.{◌≡◌, ◌≢◌, ◌<◌, ◌^◌, ◌×◌, ◌&&◌, ℕ, is_none, length, true, nat_lt, if◌then◌else◌, IfOk, IfErr, None};
+ghost use Rattle.rack.specs.Sequences.{OnlyReads};
+ghost use Rattle.slice_rack.specs.Slices.{place_of, seat_of, first_of, sectors_of};
+ghost use Rattle.slice_rack.specs.SliceRack.{tables, below_of};
+ghost use Rattle.slice_rack.specs.Sliced.{slices_of};
+ghost use Rattle.pool_state.specs.Valid.{is_valid};
+ghost use Rattle.array_image.specs.States.{is_current};
+ghost use Rattle.commit_log.specs.View.{names};
+ghost use Rattle.pool_check.specs.Drives.{seats_by};
+ghost use Rattle.pool_rest.specs.Standing.{IsLaid};
+ghost use Rattle.assembler.specs.Members.{AreMembers};
+
+use crate::refusal::{Refusal, by_check};
+use commit_log::Log;
+use pool_check::{Checked, Seats, check_drives, lay_members, seats_of};
+use pool_rest::AtRest;
+use pool_state::State;
+use rack::{Back, Places, Rack};
+use slice_rack::SliceRack;
+
+/// The arrays of a pool whose drives are sound, over the slices of these.
+#[derive(Drop)]
+pub(crate) struct Members<R> {
+    /// The log slices of the drives that are there, and the slices of the arrays' members.
+    pub(crate) slices: SliceRack<R>,
+    pub(crate) state: State,
+    pub(crate) checked: Checked,
+    pub(crate) log: Log,
+    /// The current places that have no disk, or whose disk went.
+    pub(crate) absent: Places,
+}
+
+/// Whether a place is current and has no disk.
+fn is_absent(state: &State, seats: &Seats, place: u32) -> bool
+    requires { place < 16 }
+    ensures { result ≡ (is_current state.now place && is_none (seats_by seats.now place)) }
+{
+    match state.drives.as_slice().get(place as usize) {
+        Some(drive) => !drive.missing && seats[place as usize].is_none(),
+        None => false,
+    }
+}
+
+/// The current places without a disk.
+fn absent_of(state: &State, seats: &Seats) -> Places
+    ensures { (p : ℕ) → names result.items p ≡ (nat_lt p 16 && (is_current state.now p && is_none (seats_by seats.now p))) }
+{
+    let mut places = Places::new();
+    for place in 0..16 {
+        if is_absent(state, seats, place) {
+            places.push(place);
+        }
+    }
+    places
+}
+
+/// Takes the slices of places away that have lost their disk.
+fn unseat_lost<R: Rack>(slices: &mut SliceRack<R>, seats: &Seats)
+    requires fit { (slices_of (tables slices.old) (R.seen (below_of slices.old))).fit }
+    ensures below { below_of slices.new ≡ below_of slices.old }
+    ensures fit { (slices_of (tables slices.new) (R.seen (below_of slices.new))).fit }
+    ensures seats { (p : ℕ) → p < 16 → seat_of (tables slices.new) p ≡ (if is_none (seats_by seats.now p) then None else seat_of (tables slices.old) p) }
+    ensures beyond { (p : ℕ) → 16 ≤ p → seat_of (tables slices.new) p ≡ seat_of (tables slices.old) p }
+    ensures firsts { (k : ℕ) → seats_by seats.now (place_of k) ≢ None → first_of (tables slices.new) k ≡ first_of (tables slices.old) k }
+    ensures sectors { (k : ℕ) → seats_by seats.now (place_of k) ≢ None → sectors_of (tables slices.new) k ≡ sectors_of (tables slices.old) k }
+{
+    for place in 0..16 {
+        if seats[place as usize].is_none() {
+            slices.unseat(place);
+        }
+    }
+}
+
+/// Checks the drives of a pool at rest, and lays the slices of its arrays' members. Nothing is written.
+pub(crate) fn check<R: Rack>(rest: AtRest<R>) -> Result<Members<R>, Back<R, Refusal>>
+    requires fit { (slices_of (tables rest.slices) (R.seen (below_of rest.slices))).fit }
+    requires lasting { (R.seen (below_of rest.slices)).lasting }
+    requires few { length rest.scan.disks.items < 2 ^ 32 }
+    requires valid { is_valid rest.state 0 ≡ true }
+    requires laid { IsLaid (R.seen (below_of rest.slices)) rest.scan.disks.items rest.state (tables rest.slices) rest.on.items }
+    ensures only { IfOk result (λ m. OnlyReads (R.seen (below_of rest.slices)) (R.seen (below_of m.slices))) }
+    ensures members { IfOk result (λ m. AreMembers m.state (tables m.slices) (R.seen (below_of m.slices)) m.checked m.absent.items) }
+    ensures state { IfOk result (λ m. m.state ≡ rest.state) }
+    ensures log { IfOk result (λ m. m.log ≡ rest.log) }
+    ensures runs { IfOk result (λ m. R.runs (below_of rest.slices) (below_of m.slices)) }
+    ensures kept { IfErr result (λ back. OnlyReads (R.seen (below_of rest.slices)) (R.seen back.rack)) }
+    ensures returned { IfErr result (λ back. R.runs (below_of rest.slices) back.rack) }
+{
+    let mut slices = rest.slices;
+    let mut seats = seats_of(&rest.scan, &rest.state, &rest.gone);
+    let checked = match check_drives(
+        slices.inner(),
+        &rest.scan,
+        &rest.state,
+        &mut seats,
+        rest.damaged,
+    ) {
+        Ok(checked) => checked,
+        Err(fault) => {
+            return Err(Back {
+                rack: slices.into_inner(),
+                why: by_check(fault),
+            });
+        }
+    };
+    unseat_lost(&mut slices, &seats);
+    lay_members(&mut slices, &seats, &checked);
+    let absent = absent_of(&rest.state, &seats);
+    Ok(Members {
+        slices,
+        state: rest.state,
+        checked,
+        log: rest.log,
+        absent,
+    })
+}

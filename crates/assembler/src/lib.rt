@@ -1,0 +1,21 @@
+//! Opens a pool from the disks of a rack: [`assemble`] makes its volume, or answers the first refusal that applies.
+//!
+//! The pool is brought to rest (`pool_rest`), its drives are checked and its arrays opened (`pool_check`), the slices of their members
+//! are laid, gates that are open are closed, drives that are absent are marked missing (`raid_rack`), and the volume is opened on the
+//! arrays (`lvm_group`). A drive that goes after the checks is a loss, as in any call.
+//!
+//! **Its model** is that of the parts: `Raid` of raid_rack, `Linear` of lvm_group, and the pool that contents of disks mean, of
+//! pool_image.
+//!
+//! **The contract of [`assemble`]**, whatever the disks tell. The volume is fit, so each of its calls may be made. Only drives of the
+//! pool are written, by what was read of the disks (`WritesDrives`). A refusal has its cause in what was read (`IsRefused`).
+#![tactic(auto)]
+
+mod checks;
+mod opening;
+mod raid;
+mod refusal;
+
+pub use opening::assemble;
+pub use pool_check::Part;
+pub use refusal::Refusal;

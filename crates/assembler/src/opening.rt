@@ -1,0 +1,66 @@
+//! From the disks of a rack to a volume.
+
+ghost use Rattle.std.specs.Prelude.{◌≡◌, ◌<◌, ◌^◌, ◌⊎◌, ℕ, IfOk, IfErr};
+ghost use Rattle.rack.specs.Sequences.{OnlyReads};
+ghost use Rattle.slice_rack.specs.SliceRack.{below_of};
+ghost use Rattle.lvm_group.specs.Shown.{volume_of};
+ghost use Rattle.lvm_group.specs.Volume.{below_of as rack_in, linear};
+ghost use Rattle.raid_rack.specs.RaidRack.{raid_seen, slices_in};
+
+use crate::checks::check;
+use crate::raid::make_rack;
+use crate::refusal::{Refusal, by_finding, by_volume};
+use lvm_group::Volume;
+use pool_rest::bring_to_rest;
+use rack::{Back, Rack};
+use raid_rack::RaidRack;
+use std::alloc::Global;
+
+/// Opens the volume on the arrays of a pool. A refusal gives the disks back.
+fn open_volume<R: Rack>(
+    alloc: Global,
+    raid: RaidRack<R>,
+) -> Result<Volume<RaidRack<R>>, Back<R, Refusal>>
+{
+    let state = raid.state();
+    let (pool, extent, joined) = (state.pool, state.extent, state.joined);
+    match Volume::open(alloc, raid, &pool, extent, joined) {
+        Ok(volume) => Ok(volume),
+        Err(back) => Err(Back {
+            rack: back.rack.into_inner().into_inner(),
+            why: by_volume(back.why),
+        }),
+    }
+}
+
+/// Opens the pool on the disks of a rack, in whatever order they are, and makes its volume; or answers the first refusal that
+/// applies. Disks have fewer than 2^48 sectors. `seconds` since 1970 are the times in superblocks of arrays that are made in this run.
+///
+/// Of the pool's disks only drives are written: the pending record before the checks, and after these gates that are open, the marks
+/// of an absent drive, superblocks with them, and the volume's texts where an array lacks the newest one.
+pub fn assemble<R: Rack>(
+    alloc: Global,
+    rack: R,
+    seconds: u64,
+) -> Result<Volume<RaidRack<R>>, Back<R, Refusal>>
+    requires fit { (R.seen rack).fit }
+    requires lasting { (R.seen rack).lasting }
+    requires small { (d : ℕ) → d < (R.seen rack).disks → (R.seen rack).sectors d < 2 ^ 48 }
+    ensures fit { IfOk result (λ volume. (volume_of (linear volume) (raid_seen R.seen (rack_in volume))).fit) }
+    ensures runs { IfOk result (λ volume. R.runs rack (below_of (slices_in (rack_in volume)))) }
+    ensures returned { IfErr result (λ back. R.runs rack back.rack) }
+{
+    let rest = match bring_to_rest(alloc, rack) {
+        Ok(rest) => rest,
+        Err(back) => {
+            return Err(Back {
+                rack: back.rack,
+                why: by_finding(back.why),
+            });
+        }
+    };
+    match check(rest) {
+        Ok(members) => open_volume(alloc, make_rack(members, seconds)),
+        Err(back) => Err(back),
+    }
+}

@@ -1,0 +1,80 @@
+//! The rack of a pool's arrays, made of the slices of its drives.
+
+ghost use Rattle.std.specs.Prelude.{◌≡◌, ◌<◌, ◌^◌, ℕ, [], slice_get, option_map, true, Some};
+ghost use Rattle.slice_rack.specs.SliceRack.{tables, below_of};
+ghost use Rattle.slice_rack.specs.Sliced.{slices_of};
+ghost use Rattle.slice_rack.specs.Slices.{sectors_of as slice_sectors};
+ghost use Rattle.array_image.specs.States.{current_places};
+ghost use Rattle.commit_log.specs.View.{names};
+ghost use Rattle.commit_log.specs.Phases.{AreLogs};
+ghost use Rattle.array_model.specs.View.{View, IsArray, sectors_of};
+ghost use Rattle.array_core.specs.Seats.{restarted};
+ghost use Rattle.lvm_group.specs.Shown.{total};
+ghost use Rattle.raid_rack.specs.RaidRack.{IsFit, SliceRuns, arrays_in, raid_in, raid_seen, slices_in, slices_seen};
+ghost use Rattle.assembler.specs.Members.{AreMembers};
+
+use crate::checks::Members;
+use array_core::Array;
+use commit_log::Log;
+use pool_state::State;
+use rack::{Places, Rack};
+use raid_rack::{RaidRack, current_places, note_gone};
+use slice_rack::SliceRack;
+
+/// Rebuilds that don't stand between two rows begin again, in each array.
+fn restart_rebuilds(arrays: &mut [Array])
+    ensures { (n : ℕ) → slice_get arrays.new n ≡ option_map restarted (slice_get arrays.old n) }
+{
+    for array in arrays.iter_mut() {
+        array.restart_rebuilds();
+    }
+}
+
+/// What holds of each array.
+fn rules(arrays: &[Array])
+    ensures { (n : ℕ) (v : View) → slice_get arrays.now n ≡ Some v → IsArray v }
+{
+    for number in 0..arrays.len() {
+        arrays[number].rules();
+    }
+}
+
+/// Closes the gates that are open where no current place is absent; else the next commit takes their place, so that a drive that
+/// comes back doesn't pass for one that has what was written meanwhile. Answers the places that are absent, or that went.
+fn close_gates<R: Rack>(
+    slices: &mut SliceRack<R>,
+    log: &mut Log,
+    state: &State,
+    absent: Places,
+) -> Places
+    requires fit { (slices_of (tables slices.old) (R.seen (below_of slices.old))).fit }
+    requires logs { absent.items ≡ [] → AreLogs (slice_sectors (tables slices.old)) (current_places state.now) }
+    ensures runs { SliceRuns R.seen R.runs slices.old slices.new }
+    ensures more { (p : ℕ) → names absent.items p ≡ true → names result.items p ≡ true }
+{
+    if !absent.is_empty() {
+        return absent;
+    }
+    log.replay(slices, &current_places(state))
+}
+
+/// The rack of a pool's arrays. Places that are absent are marked missing, and so are those whose drive goes meanwhile: their marks
+/// are durable when this returns, where a drive is left to write them on.
+pub(crate) fn make_rack<R: Rack>(members: Members<R>, seconds: u64) -> RaidRack<R>
+    requires members { AreMembers members.state (tables members.slices) (R.seen (below_of members.slices)) members.checked members.absent.items }
+    ensures fit { IsFit (arrays_in result) (slices_seen R.seen result) }
+    ensures runs { SliceRuns R.seen R.runs members.slices (slices_in result) }
+    ensures made { (raid_in result).state.made ≡ members.state.made }
+    ensures small { total (λ n. sectors_of ((raid_in result).arrays n)) members.state.made < 2 ^ 52 }
+{
+    let mut slices = members.slices;
+    let mut arrays = members.checked.arrays;
+    let mut log = members.log;
+    rules(arrays.as_slice());
+    restart_rebuilds(arrays.as_mut_slice());
+    let gone = close_gates(&mut slices, &mut log, &members.state, members.absent);
+    note_gone(arrays.as_mut_slice(), &gone);
+    let mut raid = RaidRack::new(slices, members.state, arrays, log, seconds);
+    raid.mark_gone();
+    raid
+}
