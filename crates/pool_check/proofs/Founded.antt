@@ -167,8 +167,11 @@ sound_valid true true is sound = refl
 sound_valid true false is sound = sound
 sound_valid false valid is sound = absurd (both_ways false refl is)
 
-module _ (s : State) (seats : Seats) (few : HasFewPlaces s seats) (layers : List Layer)
-    (sound : (place d : ℕ) → place < 16 → seats place ≡ Some d → list_all (is_sound_on place) layers ≡ true) where
+module _ (s : State) (seats : Seats) (few : HasFewPlaces s seats) (read : ArraysRead)
+    (sound : (place d : ℕ) → place < 16 → seats place ≡ Some d → list_all (is_sound_on place) read.all.items ≡ true) where
+  abbrev layers : List Layer
+  layers = read.all.items
+
   pub founded_by : (n : ℕ) (v : View) → IsFoundedBy s seats n layers v → IsFounded s seats n v
   founded_by n v by = record {
     image = image;
@@ -212,9 +215,5 @@ module _ (s : State) (seats : Seats) (few : HasFewPlaces s seats) (layers : List
           let most = few.few in
           seated place d (omega (arith, below, most)) named seat ∙ sym (ap is_some seat)
 
-  pub are_founded : (read : ArraysRead) → read.all.items ≡ layers → HasNoFault layers → AreFoundedBy s seats s.made read
-      → AreFounded s seats read.opened.arrays.items
-  are_founded read same none by = record {
-    count = by.count (subst HasNoFault (sym same) none);
-    each = λ n v at. founded_by n v (subst (λ xs. IsFoundedBy s seats n xs v) same (by.each (subst HasNoFault (sym same) none) n v at));
-  }
+  pub are_founded : HasNoFault layers → AreFoundedBy s seats s.made read → AreFounded s seats read.opened.arrays.items
+  are_founded none by = record { count = by.count none; each = λ n v at. founded_by n v (by.each none n v at) }

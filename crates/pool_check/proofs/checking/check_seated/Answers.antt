@@ -96,10 +96,9 @@ pub returns-in-None-clause-pool : goal.returns-in-None-clause-pool
 returns-in-None-clause-pool g c =
     let s = c.args.state.now in
     let seats = seats_by c.args.seats.now in
-    are_founded s seats (record { few = c.requires.state.few; current = c.requires.seating.current }) c.in-Ok.layers.all.items
+    are_founded s seats (record { few = c.requires.state.few; current = c.requires.seating.current }) c.in-Ok.layers
     (λ place d low seat.
     subst (λ (xs : List Layer). list_all (is_sound_on place) xs ≡ true) c.as_slice.ensures.value (c.in_default.ensures.drives place d low seat).supers)
-    c.in-Ok.layers refl
     (faultless c.in-Ok.layers.all.items (ap refused_by_layers (sym c.as_slice-2.ensures.value) ∙ sym c.in-None.ensures))
     c.in-Ok.ensures.founded
 
