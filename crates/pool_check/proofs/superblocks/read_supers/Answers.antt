@@ -1,4 +1,4 @@
-use Rattle.std.proofs.Common.{◌≡◌, Bool, true, List, [], ◌∷◌, ◌++◌, ap, ap₂, sym, ◌∙◌, refl, arith}
+use Rattle.std.proofs.Common.{◌≡◌, ◌+◌, Bool, true, List, [], ◌∷◌, ◌++◌, ap, ap₂, sym, subst, ◌∙◌, refl, arith}
 use Rattle.std.specs.Option.{option_map_or}
 use Rattle.std.specs.List.{list_all}
 use Rattle.std.proofs.lemmas.Bool.{and_from, and_parts}
@@ -6,8 +6,10 @@ use Rattle.std.proofs.lemmas.List.FromFn.{map-range_with_len_more}
 use Rattle.rack.proofs.Reading.{only_reads_join}
 use Rattle.array_core.specs.declared.Found.{Found}
 use Rattle.pool_check.specs.Drives.{found_with, seats_by}
+use Rattle.pool_check.specs.Founded.{HasContents}
 use Rattle.pool_check.specs.Layers.{found_on, is_usable}
 use Rattle.pool_check.proofs.AfterReads.{drives_then, goes_later, seating_then}
+use Rattle.pool_check.proofs.Founded.{contents_more, no_contents}
 use Rattle.pool_check.proofs.superblocks.read_supers.Goals as goal
 
 -- what holds of all elements and of one more
@@ -39,6 +41,9 @@ loop-place-preserved g c =
       usable =
           ap (list_all (λ (f : Found). option_map_or is_usable f.seen true)) c.push.ensures.items
           ∙ all_more (λ (f : Found). option_map_or is_usable f.seen true) before one c.loop-place.invariant.usable c.in-Ok.ensures.usable;
+      contents =
+          subst (HasContents s seats c.args.array (c.loop-place.place + 1)) (sym c.push.ensures.items)
+          (contents_more s seats c.args.array c.loop-place.place before c.in-Ok.seen c.requires.array c.loop-place.invariant.contents c.in-Ok.ensures.valid);
       runs = g.met.R.Rack.runs_then _ _ _ c.loop-place.invariant.runs c.read_place.ensures.runs;
     }
 
