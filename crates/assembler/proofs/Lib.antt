@@ -1,0 +1,3 @@
+mod Seating
+mod Sizes
+mod Whole

@@ -117,7 +117,7 @@ module _ (s : State) (seats : Seats) (number : ℕ) (a b : ArraysRead) (e : Exte
     contents = by.contents;
     truth_is = by.truth_is;
     usable = by.usable;
-    view = by.view;
+    opened = by.opened;
     layer = by.layer;
     at = ap (λ xs. slice_get xs n) pushed ∙ got_longer a.all.items layer n by.layer by.at;
     sights = by.sights;
@@ -130,7 +130,7 @@ module _ (s : State) (seats : Seats) (number : ℕ) (a b : ArraysRead) (e : Exte
     contents = contents;
     truth_is = is;
     usable = usable;
-    view = opened_view number young found t v is made;
+    opened = made;
     layer = layer;
     at = ap (λ xs. slice_get xs number) pushed ∙ subst (λ n. slice_get (a.all.items ++ layer ∷ []) n ≡ Some layer) count (got_last a.all.items layer);
     sights = sights;
@@ -180,9 +180,11 @@ module _ (s : State) (seats : Seats) (few : HasFewPlaces s seats) (read : Arrays
     truth_is = sym (truth_of_all s image n few.few outside) ∙ sym (ap found_truth by.contents.are) ∙ by.truth_is;
     named = λ place named.
         ap (λ xs. super_found xs place) by.contents.are ∙ any_in s image n few.few outside place ∙ sym (current_in s image n few.few outside place);
+    leads = by.truth_is;
     usable = by.usable;
     some = some_size by.truth by.usable;
-    view = by.view;
+    view = opened_view n (not (nat_lt n s.joined)) by.found by.truth v by.truth_is by.opened;
+    opened = by.opened;
     there = λ place named is. there place named (current_below s place is) (seats place) refl;
   }
     where

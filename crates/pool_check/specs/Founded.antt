@@ -1,5 +1,5 @@
 -- Arrays of the valid superblocks that were read of their members, whatever the disks tell.
-use Rattle.std.specs.Prelude.{◌≡◌, ℕ, ◌<◌, true, not, nat_lt, is_some, List, [], map, length, slice_get, Option, Some, None}
+use Rattle.std.specs.Prelude.{◌≡◌, ℕ, ◌<◌, true, not, nat_lt, is_some, List, [], map, length, slice_get, Option, Some, None, Ok}
 use Rattle.std.specs.List.{range_with_len}
 use Rattle.rack.specs.Seen.{Image}
 use Rattle.md_super.specs.declared.superblock.Super.{Super}
@@ -10,7 +10,7 @@ use Rattle.array_model.specs.View.{View}
 use Rattle.array_core.specs.declared.Found.{Found}
 use Rattle.array_core.specs.Contents.{current_super}
 use Rattle.array_core.specs.Model.{is_truth}
-use Rattle.array_core.specs.Opening.{super_at, view_found}
+use Rattle.array_core.specs.Opening.{opened, super_at, truth_of, view_found}
 use Rattle.pool_image.specs.Disks.{Seats}
 
 -- ---- what is read of one place
@@ -48,10 +48,12 @@ pub record IsFounded (s : State) (seats : Seats) (n : ℕ) (v : View) : Type 0 w
   pub truth : Super
   pub found : List Found
   pub truth_is : truth_in s image n ≡ Some truth
+  pub leads : truth_of found ≡ Some truth
   pub named : (place : ℕ) → is_named truth place ≡ true → super_at found place ≡ current_super s image n place
   pub usable : is_truth truth ≡ true
   pub some : 0 < truth.size
   pub view : v ≡ view_found n (not (nat_lt n s.joined)) found truth
+  pub opened : opened n (not (nat_lt n s.joined)) found ≡ Ok v
   pub there :
       (place : ℕ) → is_named truth place ≡ true → is_current s place ≡ true
       → is_some (super_in s image n place) ≡ is_some (seats place)

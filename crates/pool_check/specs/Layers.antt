@@ -14,7 +14,7 @@ use Rattle.array_core.specs.declared.Found.{Found as FoundSuper}
 use Rattle.array_core.specs.declared.ArrayFault.{ArrayFault}
 use Rattle.array_core.specs.declared.ArrayFault.TheVariants.{Foreign, TooFew, DirtyDegraded}
 use Rattle.array_core.specs.Model.{is_truth}
-use Rattle.array_core.specs.Opening.{super_at as super_found, truth_of as found_truth, view_found}
+use Rattle.array_core.specs.Opening.{opened, super_at as super_found, truth_of as found_truth, view_found}
 use Rattle.pool_image.specs.Disks.{Seats, id_at}
 use Rattle.pool_image.specs.Replay.{Extent as ImageExtent}
 use Rattle.pool_image.specs.Drives.{Found, extent_of, first_of, slices_from, slices_of}
@@ -177,7 +177,7 @@ pub record IsFoundedBy (s : State) (seats : Seats) (n : ℕ) (layers : List Laye
   pub contents : HasContents s seats n 16 found
   pub truth_is : found_truth found ≡ Some truth
   pub usable : is_truth truth ≡ true
-  pub view : v ≡ view_found n (not (nat_lt n s.joined)) found truth
+  pub opened : opened n (not (nat_lt n s.joined)) found ≡ Ok v
   pub layer : Layer
   pub at : slice_get layers n ≡ Some layer
   pub sights : layer.sights.items ≡ map (sights_by truth found) (range_with_len 0 16)

@@ -29,14 +29,21 @@ use Rattle.array_core.proofs.Opened.{named_place, super_passes, truth_leads, cur
 use Rattle.raid_rack.specs.Moves.{IsOfPool, IsSeated}
 use Rattle.raid_rack.proofs.Seated.{array_with, gone_lost, names_joined, rebuilding_before, seats_length}
 
+-- the place of a position is one that the roles name
+pub position_named : (t : Super) (k : ℕ) → is_truth t ≡ true → k < t.raid_disks → is_named t (place_by t k) ≡ true
+position_named t k usable low =
+    let at = placed t k (truth_facts t usable).positions low in
+    let few = (truth_facts t usable).few in
+    subst (λ q. is_named t q ≡ true) (ap (λ o. unwrap_or o 16) (sym at.1)) (named_place t k at.0 (omega (arith, low, few)) at.1)
+
 -- The superblocks that were found for an array on the places that its truth names, by some contents; whoever is current and has
--- none is absent.
+-- none is absent, and others may have gone too.
 module _ (s : State) (c : Image) (n : ℕ) (young : Bool) (t : Super) (found : List Found) (absent : List ℕ)
     (truth_is : truth_in s c n ≡ Some t)
     (named : (place : ℕ) → is_named t place ≡ true → super_at found place ≡ current_super s c n place)
     (usable : is_truth t ≡ true)
     (some : 0 < t.size)
-    (there : (place : ℕ) → is_named t place ≡ true → is_current s place ≡ true → is_some (super_in s c n place) ≡ not (names absent place))
+    (there : (place : ℕ) → is_named t place ≡ true → is_current s place ≡ true → names absent place ≡ false → is_some (super_in s c n place) ≡ true)
     (is_array : IsArray (restarted (view_found n young found t))) where
   abbrev u : View
   u = restarted (view_found n young found t)
@@ -44,11 +51,8 @@ module _ (s : State) (c : Image) (n : ℕ) (young : Bool) (t : Super) (found : L
   abbrev v : View
   v = gone absent u
 
-  place_named : (k : ℕ) → k < t.raid_disks → is_named t (place_at u k) ≡ true
-  place_named k low =
-      let at = placed t k (truth_facts t usable).positions low in
-      let few = (truth_facts t usable).few in
-      subst (λ q. is_named t q ≡ true) (ap (λ o. unwrap_or o 16) (sym at.1)) (named_place t k at.0 (omega (arith, low, few)) at.1)
+  pub founded_named : (k : ℕ) → k < t.raid_disks → is_named t (place_at u k) ≡ true
+  founded_named k low = position_named t k usable low
 
   -- the seat of a member, as it was found
   seat_found : (k : ℕ) → k < t.raid_disks → slice_get u.seats k ≡ Some (restart t.size (option_map_or seat_by (current_super s c n (place_at u k)) Missing))
@@ -61,15 +65,15 @@ module _ (s : State) (c : Image) (n : ℕ) (young : Bool) (t : Super) (found : L
       ∙ ap (λ (j : ℕ). Some (place_by t j)) (zero_more k)) in
       get_map (restart t.size) (map (λ x. x.seat) (slots_found found t)) k
       ∙ ap (option_map (restart t.size)) (get_map (λ x. x.seat) (slots_found found t) k ∙ ap (option_map (λ x. x.seat)) at)
-      ∙ ap (λ o. Some (restart t.size (option_map_or seat_by o Missing))) (named p (place_named k low))
+      ∙ ap (λ o. Some (restart t.size (option_map_or seat_by o Missing))) (named p (founded_named k low))
 
-  place_small : (k : ℕ) → k < t.raid_disks → place_at u k < 16
-  place_small k low =
+  pub founded_place : (k : ℕ) → k < t.raid_disks → place_at u k < 16
+  founded_place k low =
       let at = placed t k (truth_facts t usable).positions low in
       subst (λ q. q < 16) (ap (λ o. unwrap_or o 16) (sym at.1)) at.2
 
   -- a member is missing where its drive isn't current, or is absent
-  missing_found : (current gone_now : Bool) (o : Option Super) → (current ≡ true → is_some o ≡ not gone_now)
+  missing_found : (current gone_now : Bool) (o : Option Super) → (current ≡ true → gone_now ≡ false → is_some o ≡ true)
       → is_missing_seat (seat_unless (λ p. gone_now) 0 (restart t.size (option_map_or seat_by (if current then o else None) Missing))) ≡ not (current && not gone_now)
   missing_found current true o has = of current
     where
@@ -77,7 +81,7 @@ module _ (s : State) (c : Image) (n : ℕ) (young : Bool) (t : Super) (found : L
       of true = refl
       of false = refl
   missing_found false false o has = refl
-  missing_found true false None has = absurd (both_ways false refl (has refl))
+  missing_found true false None has = absurd (both_ways false refl (has refl refl))
   missing_found true false (Some x) has =
       let Goal : Bool → Type 0 = λ b. is_missing_seat (restart t.size (if b then Rebuilding x.recovery_offset else Whole)) ≡ false in
       let goal : Goal (is_rebuilding x) = elim (is_rebuilding x) as Goal [ true ↦ restarted_there x.recovery_offset | false ↦ refl ] in
@@ -118,6 +122,14 @@ module _ (s : State) (c : Image) (n : ℕ) (young : Bool) (t : Super) (found : L
             (rebuilding_before (names absent (place_at u k)) (slice_get u.seats k) to (sym (lost_seats k) ∙ is));
       }
 
+  -- a member is missing where its drive isn't current, or has gone
+  pub founded_marks : (k : ℕ) → k < t.raid_disks
+      → option_map is_missing_seat (slice_get v.seats k) ≡ Some (not (is_current s (place_at u k) && not (names absent (place_at u k))))
+  founded_marks k low =
+      let p = place_at u k in
+      ap (option_map is_missing_seat) (lost_seats k ∙ ap (option_map (seat_unless (names absent) p)) (seat_found k low))
+      ∙ ap Some (missing_found (is_current s p) (names absent p) (super_in s c n p) (there p (founded_named k low)))
+
   -- it is one of the pool, and whoever is absent has gone in it
   pub founded_seated : (x : Seen) → HasSlices v x → IsSeated s n v x
   founded_seated x slices =
@@ -126,9 +138,7 @@ module _ (s : State) (c : Image) (n : ℕ) (young : Bool) (t : Super) (found : L
         number = refl;
         slices = slices;
         marks = λ k low.
-            let p = place_at u k in
-            ap (option_map is_missing_seat) (lost_seats k ∙ ap (option_map (seat_unless (names absent) p)) (seat_found k low))
-            ∙ ap Some (missing_found (is_current s p) (names absent p) (super_in s c n p) (there p (place_named k low)))
-            ∙ ap (λ b. Some (not (is_current s p && not b))) (sym (names_joined [] absent p (place_small k low)));
+            founded_marks k low
+            ∙ ap (λ b. Some (not (is_current s (place_at u k) && not b))) (sym (names_joined [] absent (place_at u k) (founded_place k low)));
         is_of_pool = is_of_pool;
       }
