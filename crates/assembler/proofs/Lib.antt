@@ -1,3 +1,4 @@
 mod Seating
 mod Sizes
+mod Unseated
 mod Whole

@@ -14,7 +14,7 @@ ghost use Rattle.assembler.specs.Members.{AreMembers};
 
 use crate::refusal::{Refusal, by_check};
 use commit_log::Log;
-use pool_check::{Checked, Seats, check_drives, lay_members, seats_of};
+use pool_check::{Checked, Part, Seats, check_drives, lay_members, seats_of};
 use pool_rest::AtRest;
 use pool_state::State;
 use rack::{Back, Places, Rack};
@@ -105,6 +105,16 @@ pub(crate) fn check<R: Rack>(rest: AtRest<R>) -> Result<Members<R>, Back<R, Refu
             });
         }
     };
+    // A place whose log isn't well formed is refused, though its disk has gone since: the record that is pending wasn't loaded.
+    if let Some(place) = rest.damaged {
+        return Err(Back {
+            rack: slices.into_inner(),
+            why: Refusal::Damaged {
+                place,
+                part: Part::Log,
+            },
+        });
+    }
     unseat_lost(&mut slices, &seats);
     lay_members(&mut slices, &seats, &checked);
     let absent = absent_of(&rest.state, &seats);

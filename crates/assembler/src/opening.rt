@@ -59,6 +59,12 @@ pub fn assemble<R: Rack>(
             });
         }
     };
+    if rest.scan.has_other_pool(&rest.state.pool) {
+        return Err(Back {
+            rack: rest.slices.into_inner(),
+            why: Refusal::TwoPools,
+        });
+    }
     match check(rest) {
         Ok(members) => open_volume(alloc, make_rack(members, seconds)),
         Err(back) => Err(back),

@@ -1,0 +1,153 @@
+-- The slices of a pool at rest, without the places that have lost their disk: what the members' slices are laid on.
+use Rattle.std.proofs.Common.{◌≡◌, ◌≢◌, ◌⊎◌, ℕ, ◌+◌, ◌<◌, ◌≤◌, ◌^◌, Bool, true, false, ◌==◌, ◌&&◌, nat_le, nat_lt, is_none, if◌then◌else◌, List, length, slice_get, Option, Some, None, refl, sym, ap, subst, ◌∙◌, inl, inr, lt-ltb, le-leb, arith}
+use Rattle.std.specs.Option.{option_map_or}
+use Rattle.std.proofs.lemmas.Bool.{cases_lt, ne_eqb}
+use Rattle.std.proofs.lemmas.Option.{none-some, slice_get_past}
+use Rattle.rack.specs.Seen.{Seen, Rose}
+use Rattle.pool_state.specs.declared.contents.State.{State}
+use Rattle.slice_rack.specs.Slices.{Slices, IsOrderly, seat_of, first_of, sectors_of}
+use Rattle.slice_rack.specs.Sliced.{slices_of}
+use Rattle.array_image.specs.Places.{arrays_first, log_sectors, log_slice, place_of, slice_of, state_sector}
+use Rattle.array_image.specs.States.{is_current}
+use Rattle.commit_log.specs.View.{names}
+use Rattle.pool_scan.specs.declared.Known.{Known}
+use Rattle.pool_scan.specs.Choosing.{seat_by}
+use Rattle.pool_scan.proofs.Seated.{seat_by_stands}
+use Rattle.pool_check.specs.Drives.{Goes, IsSeating, Loses, seats_by}
+use Rattle.pool_check.specs.Laying.{HasLogsOnly, HasNoMembers}
+use Rattle.pool_rest.specs.Laying.{laid_sectors}
+use Rattle.pool_rest.specs.Standing.{IsLaid}
+
+module _ (x : Seen) (known : List Known) (s : State) (t : Slices) (on : List ℕ) (laid : IsLaid x known s t on)
+    (fit : (slices_of t x).fit) where
+  -- ---- seats before the check
+
+  -- the disks of places, but for those that have gone
+  module _ (gone : List ℕ) (seats : List (Option ℕ)) (count : length seats ≡ 16)
+      (are : (p : ℕ) → p < 16 → seats_by seats p ≡ (if names gone p then None else seat_by s known p)) where
+    pub taken : (p d : ℕ) → seats_by seats p ≡ Some d → seat_of t p ≡ Some d
+    taken p d seat = elim (cases_lt p 16) [
+        | inl few ↦ laid.seats p few ∙ of (names gone p) (sym (are p few) ∙ seat)
+        | inr past ↦ absurd (none-some (sym (ap (λ o. option_map_or (λ seat. seat) o None) (slice_get_past seats p (omega (arith, past, count)))) ∙ seat))
+      ]
+      where
+        of : (b : Bool) → (if b then None else seat_by s known p) ≡ Some d → seat_by s known p ≡ Some d
+        of true is = absurd (none-some is)
+        of false is = is
+
+    pub seating : IsSeating x s (seats_by seats)
+    seating = record {
+      inside = λ p d seat. fit.1.seats p d (taken p d seat);
+      current = λ p d seat. current_at p d (taken p d seat);
+      small = fit.1.small;
+    }
+
+  current_at : (p d : ℕ) → seat_of t p ≡ Some d → is_current s p ≡ true
+  current_at p d seat = elim (cases_lt p 16) [
+      | inl few ↦ (seat_by_stands s known p d (sym (laid.seats p few) ∙ seat)).1.1
+      | inr past ↦ absurd (none-some (sym (laid.beyond p past) ∙ seat))
+    ]
+
+  -- ---- slices
+
+  -- a log slice lies before the slices of arrays
+  log_before : (k : ℕ) → slice_of k ≡ 0 → 0 < sectors_of t k → first_of t k + sectors_of t k ≤ arrays_first
+  log_before k log some = elim (cases_lt k 272) [
+      | inr past ↦ let none = laid.none k past in absurd (omega (arith, some, none))
+      | inl few ↦
+          let first = laid.firsts k some in
+          let most = at_most (slice_of k == 0) (seat_by s known (place_of k)) in
+          let size = laid.sectors k few in
+          omega (arith, first, size, most)
+    ]
+    where
+      at_most : (b : Bool) (o : Option ℕ) → (if b then option_map_or (λ d. if nat_le arrays_first (x.sectors d) then log_sectors else 0) o 0 else 0) ≤ log_sectors
+      at_most false o = omega arith
+      at_most true None = omega arith
+      at_most true (Some d) = of (nat_le arrays_first (x.sectors d))
+        where
+          of : (b : Bool) → (if b then log_sectors else 0) ≤ log_sectors
+          of true = omega arith
+          of false = omega arith
+
+  no_member : (k : ℕ) → slice_of k ≢ 0 → sectors_of t k ≡ 0
+  no_member k other = elim (cases_lt k 272) [
+      | inr past ↦ laid.none k past
+      | inl few ↦
+          laid.sectors k few
+          ∙ ap (λ b. if b then option_map_or (λ d. if nat_le arrays_first (x.sectors d) then log_sectors else 0) (seat_by s known (place_of k)) 0 else 0) (ne_eqb (slice_of k) 0 other)
+    ]
+
+  log_whole : (p d : ℕ) → seat_of t p ≡ Some d → arrays_first ≤ x.sectors d → sectors_of t (log_slice p) ≡ log_sectors
+  log_whole p d seat room = elim (cases_lt p 16) [
+      | inr past ↦ absurd (none-some (sym (laid.beyond p past) ∙ seat))
+      | inl few ↦
+          let slice : slice_of (log_slice p) ≡ 0 = omega arith in
+          let place : place_of (log_slice p) ≡ p = omega arith in
+          laid.sectors (log_slice p) (omega (arith, few))
+          ∙ ap (λ (n : ℕ). if n == 0 then option_map_or (λ d. if nat_le arrays_first (x.sectors d) then log_sectors else 0) (seat_by s known (place_of (log_slice p))) 0 else 0) slice
+          ∙ ap (λ (q : ℕ). option_map_or (λ d. if nat_le arrays_first (x.sectors d) then log_sectors else 0) (seat_by s known q) 0) place
+          ∙ ap (λ (o : Option ℕ). option_map_or (λ d. if nat_le arrays_first (x.sectors d) then log_sectors else 0) o 0) (sym (laid.seats p few) ∙ seat)
+          ∙ ap (λ b. if b then log_sectors else 0) (le-leb arrays_first (x.sectors d) room)
+    ]
+
+  -- ---- without the places that have lost their disk
+
+  module _ (y : Seen) (before after : List (Option ℕ)) (count : length after ≡ 16) (gone : List ℕ)
+      (were : (p d : ℕ) → seats_by before p ≡ Some d → seat_of t p ≡ Some d)
+      (loses : Loses x y (seats_by before) (seats_by after))
+      (u : Slices) (orderly : IsOrderly u)
+      (seats : (p : ℕ) → p < 16 → seat_of u p ≡ (if is_none (seats_by after p) then None else seat_of t p))
+      (beyond : (p : ℕ) → 16 ≤ p → seat_of u p ≡ seat_of t p)
+      (firsts : (k : ℕ) → seats_by after (place_of k) ≢ None → first_of u k ≡ first_of t k)
+      (sizes : (k : ℕ) → seats_by after (place_of k) ≢ None → sectors_of u k ≡ sectors_of t k) where
+    still : (p d : ℕ) → seats_by after p ≡ Some d → seat_of t p ≡ Some d
+    still p d seat = of (loses p)
+      where
+        of : (seats_by after p ≡ seats_by before p) ⊎ ((seats_by after p ≡ None) × Goes x y (seats_by before) p) → seat_of t p ≡ Some d
+        of (inl same) = were p d (sym same ∙ seat)
+        of (inr lost) = absurd (none-some (sym lost.0 ∙ seat))
+
+    pub seats_are : (p : ℕ) → seat_of u p ≡ seats_by after p
+    seats_are p = elim (cases_lt p 16) [
+        | inr past ↦
+            beyond p past ∙ laid.beyond p past
+            ∙ sym (ap (λ o. option_map_or (λ seat. seat) o None) (slice_get_past after p (omega (arith, past, count))))
+        | inl few ↦ seats p few ∙ of (seats_by after p) refl
+      ]
+      where
+        of : (o : Option ℕ) → seats_by after p ≡ o → (if is_none o then None else seat_of t p) ≡ o
+        of None seat = refl
+        of (Some d) seat = still p d seat
+
+    -- a slice of a place without a disk isn't there
+    either : {X : Type 0} (k : ℕ) → (sectors_of u k ≡ 0 → X) → (seats_by after (place_of k) ≢ None → X) → X
+    either k none some = of (seats_by after (place_of k)) refl
+      where
+        of : (o : Option ℕ) → seats_by after (place_of k) ≡ o → X
+        of None seat = none (orderly.seated k (seats_are (place_of k) ∙ seat))
+        of (Some d) seat = some (λ is. none-some (sym is ∙ seat))
+
+    pub logs_only : HasLogsOnly u (seats_by after)
+    logs_only = record {
+      seats_are = seats_are;
+      logs = λ k log some.
+          either k (λ none. absurd (omega (arith, some, none)))
+          (λ there.
+          let first = firsts k there in
+          let size = sizes k there in
+          let before = log_before k log (omega (arith, some, size)) in
+          omega (arith, first, size, before));
+    }
+
+    pub no_members : HasNoMembers u
+    no_members k other = either k (λ none. none) (λ there. sizes k there ∙ no_member k other)
+
+    pub current_left : (p d : ℕ) → seat_of u p ≡ Some d → is_current s p ≡ true
+    current_left p d seat = current_at p d (still p d (sym (seats_are p) ∙ seat))
+
+    pub logs_left : (p d : ℕ) → seat_of u p ≡ Some d → arrays_first ≤ x.sectors d → sectors_of u (log_slice p) ≡ log_sectors
+    logs_left p d seat room =
+        let place : place_of (log_slice p) ≡ p = omega arith in
+        let here = sym (seats_are p) ∙ seat in
+        sizes (log_slice p) (λ none. none-some (sym none ∙ ap (seats_by after) place ∙ here)) ∙ log_whole p d (still p d here) room
