@@ -44,36 +44,36 @@ no_contents s seats array = record { image = λ k t. []; are = refl; unseated = 
 -- the contents with the block of one more place
 module _ (s : State) (seats : Seats) (array place : ℕ) (found : List FoundSuper) (seen : Option Super) (low : array < 16)
     (old : HasContents s seats array place found) (read : IsReadAt s seats array place seen) where
-  abbrev image : Image
-  image k t = if place_of k == place then read.block else old.image k t
+  abbrev image_more : Image
+  image_more k t = if place_of k == place then read.block else old.image k t
 
-  here : super_in s image array place ≡ seen
+  here : super_in s image_more array place ≡ seen
   here =
       let same : place_of (member_slice place array) ≡ place = omega arith in
       ap (λ (b : Bool). super_by s array place (if b then read.block else old.image (member_slice place array) super_sector))
       (eq-eqb (place_of (member_slice place array)) place same)
       ∙ sym read.valid
 
-  other : (p : ℕ) → (p ≡ place → ⊥) → super_in s image array p ≡ super_in s old.image array p
+  other : (p : ℕ) → (p ≡ place → ⊥) → super_in s image_more array p ≡ super_in s old.image array p
   other p apart =
       let same : place_of (member_slice p array) ≡ p = omega arith in
       ap (λ (b : Bool). super_by s array p (if b then read.block else old.image (member_slice p array) super_sector))
       (differs (place_of (member_slice p array)) place (λ at. apart (sym same ∙ at)))
 
-  before : map (found_in s old.image array) (range_with_len 0 place) ≡ map (found_in s image array) (range_with_len 0 place)
+  before : map (found_in s old.image array) (range_with_len 0 place) ≡ map (found_in s image_more array) (range_with_len 0 place)
   before =
-      map_ranged (found_in s old.image array) (found_in s image array) 0 place
+      map_ranged (found_in s old.image array) (found_in s image_more array) 0 place
       (λ k least most. ap (λ (o : Option Super). let f : FoundSuper = record { place = k; seen = o } in f) (sym (other k (λ same. omega (arith, most, same)))))
 
   pub contents_more : HasContents s seats array (place + 1) (found ++ record { place = place; seen = seen } ∷ [])
   contents_more = record {
-    image = image;
+    image = image_more;
     are =
         ap₂ (λ (xs : List FoundSuper) (o : Option Super). xs ++ record { place = place; seen = o } ∷ []) (old.are ∙ before) (sym here)
-        ∙ sym (map-range_with_len_more (found_in s image array) 0 place place (omega arith));
+        ∙ sym (map-range_with_len_more (found_in s image_more array) 0 place place (omega arith));
     unseated = λ p none. elim (cases_eq p place) [
       | inl same ↦
-          subst (λ q. super_in s image array q ≡ None) (sym same)
+          subst (λ q. super_in s image_more array q ≡ None) (sym same)
           (here ∙ read.valid ∙ ap (super_by s array place) (read.unseated (subst (λ q. seats q ≡ None) same none)) ∙ empty_block s array place)
       | inr apart ↦ other p apart ∙ old.unseated p none
     ];

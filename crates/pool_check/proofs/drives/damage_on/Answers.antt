@@ -1,5 +1,6 @@
-use Rattle.std.proofs.Common.{◌≡◌, Bool, not, if◌then◌else◌, Some, None, Ok, option_map, ap, sym, ◌∙◌}
+use Rattle.std.proofs.Common.{◌≡◌, Bool, not, if◌then◌else◌, Some, None, Ok, is_some, option_map, ap, sym, ◌∙◌}
 use Rattle.pool_image.specs.Meaning.{in_table}
+use Rattle.pool_scan.specs.Scanning.{copied_at}
 use Rattle.pool_check.specs.Drives.{found_with}
 use Rattle.pool_check.specs.Refusing.{damage_later, is_well, part_by}
 use Rattle.pool_check.proofs.Parts.{behind_is}
@@ -23,5 +24,6 @@ pub returns-in-Ok-true-clause-drive : goal.returns-in-Ok-true-clause-drive
 returns-in-Ok-true-clause-drive g c is =
     let has = ap Ok c.in-Ok-true.field-0-test in
     let none : c.damage_behind.result ≡ None = cc in
-    drive_sound c.args.layers.now c.args.place ((g.R.Rack.seen c.args.rack.now).sectors c.args.disk) _ _ (c.in-Ok-true.ensures.room has)
+    drive_sound c.args.layers.now c.args.place ((g.R.Rack.seen c.args.rack.now).sectors c.args.disk)
+    (is_some (copied_at c.args.scan.now.disks.items c.args.disk)) (is_well c.args.bad c.args.place) (c.in-Ok-true.ensures.room has)
     (c.in-Ok-true.ensures.fits has) (sym c.damage_behind.ensures ∙ ap (option_map part_by) none)

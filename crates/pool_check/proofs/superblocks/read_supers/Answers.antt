@@ -1,9 +1,9 @@
-use Rattle.std.proofs.Common.{◌≡◌, ◌+◌, Bool, true, List, [], ◌∷◌, ◌++◌, ap, ap₂, sym, subst, ◌∙◌, refl, arith}
+use Rattle.std.proofs.Common.{◌≡◌, ◌+◌, Bool, true, List, [], ◌∷◌, ◌++◌, length, ap, ap₂, sym, subst, ◌∙◌, refl, arith}
 use Rattle.std.specs.Option.{option_map_or}
 use Rattle.std.specs.List.{list_all}
 use Rattle.std.proofs.lemmas.Bool.{and_from, and_parts}
 use Rattle.std.proofs.lemmas.List.FromFn.{map-range_with_len_more}
-use Rattle.rack.proofs.Reading.{only_reads_join}
+use Rattle.rack.proofs.Reading.{only_reads_join, only_reads_start}
 use Rattle.array_core.specs.declared.Found.{Found}
 use Rattle.pool_check.specs.Drives.{found_with, seats_by}
 use Rattle.pool_check.specs.Founded.{HasContents}
@@ -23,6 +23,18 @@ read_place-requires-clause-fit g c = c.loop-place.invariant.only.stays.fit
 
 pub read_place-requires-clause-seating : goal.read_place-requires-clause-seating
 read_place-requires-clause-seating g c = seating_then c.args.state.now (seats_by c.args.seats.now) c.loop-place.invariant.only c.requires.seating
+
+pub loop-place-init : goal.loop-place-init
+loop-place-init g c = record {
+  only = only_reads_start (g.R.Rack.seen c.args.rack.now) c.requires.fit;
+  count = ap length c.new-found.ensures;
+  found = λ o are. c.new-found.ensures;
+  contents =
+      subst (HasContents c.args.state.now (seats_by c.args.seats.now) c.args.array 0) (sym c.new-found.ensures)
+      (no_contents c.args.state.now (seats_by c.args.seats.now) c.args.array);
+  usable = ap (list_all (λ (f : Found). option_map_or is_usable f.seen true)) c.new-found.ensures;
+  runs = g.met.R.Rack.runs_same _;
+}
 
 pub loop-place-preserved : goal.loop-place-preserved
 loop-place-preserved g c =
