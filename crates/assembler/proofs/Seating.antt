@@ -46,14 +46,11 @@ module _ (s : State) (t : Slices) (x : Seen) (checked : Checked) (absent : List 
   few_place p current = current_few s p (valid_places s 0 m.valid).1 current
 
   seated : (p : ℕ) → is_current s p ≡ true → names absent p ≡ not (is_some (seat_of t p))
-  seated p current = m.absent_is p ∙ of (seat_of t p) (few_place p current)
+  seated p current = m.absent_is p ∙ ap (λ b. is_none (seat_of t p) && b) current ∙ of (seat_of t p)
     where
-      of : (o : Option ℕ) → p < 16 → (nat_lt p 16 && (is_current s p && is_none o)) ≡ not (is_some o)
-      of o few = ap₂ (λ a b. a && (b && is_none o)) (lt-ltb p 16 few) current ∙ last o
-
-      last : (o : Option ℕ) → is_none o ≡ not (is_some o)
-      last None = refl
-      last (Some d) = refl
+      of : (o : Option ℕ) → (is_none o && true) ≡ not (is_some o)
+      of None = refl
+      of (Some d) = refl
 
   -- so does whoever isn't noted
   has_seat : (p : ℕ) → is_current s p ≡ true → names gone_now p ≡ false → is_some (seat_of t p) ≡ true

@@ -1,5 +1,5 @@
 -- The arrays of a pool over the slices of its drives, before they are a rack, whatever the disks tell.
-use Rattle.std.specs.Prelude.{◌≡◌, ℕ, ◌&&◌, nat_lt, true, is_none, List, Some}
+use Rattle.std.specs.Prelude.{◌≡◌, ℕ, ◌&&◌, true, is_none, List, Some}
 use Rattle.rack.specs.Seen.{Seen}
 use Rattle.slice_rack.specs.Slices.{Slices, seat_of, sectors_of}
 use Rattle.slice_rack.specs.Sliced.{slices_of}
@@ -20,7 +20,7 @@ pub record AreMembers (s : State) (t : Slices) (x : Seen) (checked : Checked) (a
   pub fit : (slices_of t x).fit
   pub lasting : x.lasting
   pub current : (p d : ℕ) → seat_of t p ≡ Some d → is_current s p ≡ true
-  pub absent_is : (p : ℕ) → names absent p ≡ (nat_lt p 16 && (is_current s p && is_none (seat_of t p)))
+  pub absent_is : (p : ℕ) → names absent p ≡ (is_none (seat_of t p) && is_current s p)
   pub logs : (p d : ℕ) → seat_of t p ≡ Some d → sectors_of t (log_slice p) ≡ log_sectors
   pub founded : AreFounded s (seat_of t) checked.arrays.items
   pub slots : AreSlots x.sectors (seat_of t) checked.arrays.items checked.extents.items

@@ -1,13 +1,13 @@
 //! The drives of a pool at rest, checked: its arrays, and the slices of their members.
 
-ghost use Rattle.std.specs.Prelude.{◌≡◌, ◌≢◌, ◌<◌, ◌^◌, ◌×◌, ◌&&◌, ℕ, is_none, length, true, nat_lt, if◌then◌else◌, IfOk, IfErr, None};
+ghost use Rattle.std.specs.Prelude.{◌≡◌, ◌≢◌, ◌<◌, ◌≤◌, ◌^◌, ◌+◌, ◌++◌, ◌∷◌, ℕ, [], not, is_none, length, filter, true, if◌then◌else◌, IfOk, IfErr, None};
 ghost use Rattle.rack.specs.Sequences.{OnlyReads};
 ghost use Rattle.slice_rack.specs.Slices.{place_of, seat_of, first_of, sectors_of};
 ghost use Rattle.slice_rack.specs.SliceRack.{tables, below_of};
 ghost use Rattle.slice_rack.specs.Sliced.{slices_of};
 ghost use Rattle.pool_state.specs.Valid.{is_valid};
-ghost use Rattle.array_image.specs.States.{is_current};
-ghost use Rattle.commit_log.specs.View.{names};
+ghost use Rattle.arrayvec.specs.ArrayVec.{array_vec_len};
+ghost use Rattle.array_image.specs.States.{current_places};
 ghost use Rattle.pool_check.specs.Drives.{seats_by};
 ghost use Rattle.pool_rest.specs.Standing.{IsLaid};
 ghost use Rattle.assembler.specs.Members.{AreMembers};
@@ -18,6 +18,7 @@ use pool_check::{Checked, Part, Seats, check_drives, lay_members, seats_of};
 use pool_rest::AtRest;
 use pool_state::State;
 use rack::{Back, Places, Rack};
+use raid_rack::current_places;
 use slice_rack::SliceRack;
 
 /// The arrays of a pool whose drives are sound, over the slices of these.
@@ -32,26 +33,35 @@ pub(crate) struct Members<R> {
     pub(crate) absent: Places,
 }
 
-/// Whether a place is current and has no disk.
-fn is_absent(state: &State, seats: &Seats, place: u32) -> bool
-    requires { place < 16 }
-    ensures { result ≡ (is_current state.now place && is_none (seats_by seats.now place)) }
+/// Whether a place has a disk.
+fn has_disk(seats: &Seats, place: u32) -> bool
+    ensures { result ≡ not (is_none (seats_by seats.now place)) }
 {
-    match state.drives.as_slice().get(place as usize) {
-        Some(drive) => !drive.missing && seats[place as usize].is_none(),
+    match seats.as_slice().get(place as usize) {
+        Some(seat) => seat.is_some(),
         None => false,
+    }
+}
+
+/// Appends a place unless it is to be left out.
+fn push_unless(places: &mut Places, place: u32, left_out: bool)
+    requires { array_vec_len places.old < 16 }
+    ensures items { places.new.items ≡ places.old.items ++ (if left_out then [] else place ∷ []) }
+    ensures few { array_vec_len places.new ≤ array_vec_len places.old + 1 }
+{
+    if !left_out {
+        places.push(place);
     }
 }
 
 /// The current places without a disk.
 fn absent_of(state: &State, seats: &Seats) -> Places
-    ensures { (p : ℕ) → names result.items p ≡ (nat_lt p 16 && (is_current state.now p && is_none (seats_by seats.now p))) }
+    ensures { result.items ≡ filter (λ p. is_none (seats_by seats.now p)) (current_places state.now) }
 {
+    let current = current_places(state);
     let mut places = Places::new();
-    for place in 0..16 {
-        if is_absent(state, seats, place) {
-            places.push(place);
-        }
+    for place in current.as_slice() {
+        push_unless(&mut places, *place, has_disk(seats, *place));
     }
     places
 }

@@ -23,7 +23,7 @@ use Rattle.pool_rest.proofs.Laid.{sectors_seen}
 module _ {R : Type 0} (seen : R → Seen) (r0 ri rd rb : R) (same : ri ≡ r0) (known : List Known) (before s s' : State) (seated : s ≡ s')
     (only : WritesOnly (seen ri) (seen rd) (IsOfDrive (seen ri) known s)) (reads : OnlyReads (seen rd) (seen rb)) where
   -- from where the replay began
-  replay_only : WritesOnly (seen r0) (seen rd) (IsOfDrive (seen r0) known s')
+  pub replay_only : WritesOnly (seen r0) (seen rd) (IsOfDrive (seen r0) known s')
   replay_only =
       subst (λ r. WritesOnly (seen r) (seen rd) (IsOfDrive (seen r) known s')) same
       (subst (λ z. WritesOnly (seen ri) (seen rd) (IsOfDrive (seen ri) known z)) seated only)
