@@ -137,7 +137,7 @@ module _ (s : State) (t : Slices) (x : Seen) (checked : Checked) (absent : List 
         lasting = m.lasting;
         disks = refl;
         few = subst (λ (r : State). length r.drives.items ≤ 16) (sym state) (valid_places s 0 m.valid).1;
-        most = let most = arrays_are.1.0 in omega (arith, made, most);
+        most = let most = arrays_are.1 in omega (arith, made, most);
         valid = λ place low.
             subst (λ (r : State). is_valid r place ≡ true) (sym state) (valid_at s 0 place m.valid (subst (λ (r : State). place < length r.drives.items) state low));
         logs = λ place left.

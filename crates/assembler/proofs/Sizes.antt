@@ -71,8 +71,8 @@ module _ (sectors : ℕ → ℕ) (seats : Seats) (arrays : List View) (extents :
       let v = got arrays k (omega (arith, count)) in
       let e = got extents k (let same = slots.lengths in omega (arith, count, same)) in
       let one = member k v.0 v.1 in
-      let fits = slots.fits k v.0 e.0 one.0 one.1.0 v.1 e.1 one.1.1.0 one.1.1.1 in
-      let drive = small one.0 one.1.0 one.1.1.1 in
+      let fits = slots.fits k v.0 e.0 one.0 one.1 v.1 e.1 one.2 one.3 in
+      let drive = small one.0 one.1 one.3 in
       let most = total_most (suc k) (omega (arith, count)) in
       let end : end_of (suc k) ≡ behind e.0 = ap (λ (o : Option Extent). option_map_or behind o 0) e.1 in
       omega (arith, most, end, fits, drive)

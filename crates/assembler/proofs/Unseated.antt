@@ -28,11 +28,11 @@ module _ (x : Seen) (known : List Known) (s : State) (t : Slices) (on : List ℕ
     pub taken : (p d : ℕ) → seats_by seats p ≡ Some d → seat_of t p ≡ Some d
     taken p d seat = elim (cases_lt p 16) [
         | inl few ↦ laid.seats p few ∙ of (names gone p) (sym (are p few) ∙ seat)
-        | inr past ↦ absurd (none-some (sym (ap (λ o. option_map_or (λ seat. seat) o None) (slice_get_past seats p (omega (arith, past, count)))) ∙ seat))
+        | inr past ↦ absurd (none-some d (sym (ap (λ o. option_map_or (λ seat. seat) o None) (slice_get_past seats p (omega (arith, past, count)))) ∙ seat))
       ]
       where
         of : (b : Bool) → (if b then None else seat_by s known p) ≡ Some d → seat_by s known p ≡ Some d
-        of true is = absurd (none-some is)
+        of true is = absurd (none-some d is)
         of false is = is
 
     pub seating : IsSeating x s (seats_by seats)
@@ -45,7 +45,7 @@ module _ (x : Seen) (known : List Known) (s : State) (t : Slices) (on : List ℕ
   current_at : (p d : ℕ) → seat_of t p ≡ Some d → is_current s p ≡ true
   current_at p d seat = elim (cases_lt p 16) [
       | inl few ↦ (seat_by_stands s known p d (sym (laid.seats p few) ∙ seat)).1.1
-      | inr past ↦ absurd (none-some (sym (laid.beyond p past) ∙ seat))
+      | inr past ↦ absurd (none-some d (sym (laid.beyond p past) ∙ seat))
     ]
 
   -- ---- slices
@@ -80,7 +80,7 @@ module _ (x : Seen) (known : List Known) (s : State) (t : Slices) (on : List ℕ
 
   log_whole : (p d : ℕ) → seat_of t p ≡ Some d → arrays_first ≤ x.sectors d → sectors_of t (log_slice p) ≡ log_sectors
   log_whole p d seat room = elim (cases_lt p 16) [
-      | inr past ↦ absurd (none-some (sym (laid.beyond p past) ∙ seat))
+      | inr past ↦ absurd (none-some d (sym (laid.beyond p past) ∙ seat))
       | inl few ↦
           let slice : slice_of (log_slice p) ≡ 0 = omega arith in
           let place : place_of (log_slice p) ≡ p = omega arith in
@@ -106,7 +106,7 @@ module _ (x : Seen) (known : List Known) (s : State) (t : Slices) (on : List ℕ
       where
         of : (seats_by after p ≡ seats_by before p) ⊎ ((seats_by after p ≡ None) × Goes x y (seats_by before) p) → seat_of t p ≡ Some d
         of (inl same) = were p d (sym same ∙ seat)
-        of (inr lost) = absurd (none-some (sym lost.0 ∙ seat))
+        of (inr lost) = absurd (none-some d (sym lost.0 ∙ seat))
 
     pub seats_are : (p : ℕ) → seat_of u p ≡ seats_by after p
     seats_are p = elim (cases_lt p 16) [
@@ -126,7 +126,7 @@ module _ (x : Seen) (known : List Known) (s : State) (t : Slices) (on : List ℕ
       where
         of : (o : Option ℕ) → seats_by after (place_of k) ≡ o → X
         of None seat = none (orderly.seated k (seats_are (place_of k) ∙ seat))
-        of (Some d) seat = some (λ is. none-some (sym is ∙ seat))
+        of (Some d) seat = some (λ is. none-some d (sym is ∙ seat))
 
     pub logs_only : HasLogsOnly u (seats_by after)
     logs_only = record {
@@ -150,4 +150,4 @@ module _ (x : Seen) (known : List Known) (s : State) (t : Slices) (on : List ℕ
     logs_left p d seat room =
         let place : place_of (log_slice p) ≡ p = omega arith in
         let here = sym (seats_are p) ∙ seat in
-        sizes (log_slice p) (λ none. none-some (sym none ∙ ap (seats_by after) place ∙ here)) ∙ log_whole p d (still p d here) room
+        sizes (log_slice p) (λ none. none-some d (sym none ∙ ap (seats_by after) place ∙ here)) ∙ log_whole p d (still p d here) room

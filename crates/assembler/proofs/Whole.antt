@@ -45,7 +45,7 @@ whole_one (a ∷ rest) many few = at (is_whole_seat a.seat) refl
     at false is =
         let count : lacking (a ∷ rest) ≡ suc (lacking rest) = ap (λ b. if not b then suc (lacking rest) else lacking rest) is in
         let next = whole_first rest (omega (arith, many)) (omega (arith, few, count)) in
-        (suc next.0, next.1.0, next.1.1.0, next.1.1.1)
+        (suc next.0, next.1, next.2, next.3)
 
 -- a member is whole only where its superblock was found
 whole_found : (own : Option Super) → is_whole_seat (option_map_or seat_by own Missing) ≡ true → (t : Super) × (own ≡ Some t)
@@ -55,7 +55,7 @@ whole_found (Some t) is = (t, refl)
 -- the superblock of a current place is that of its slice
 current_found : (current : Bool) (o : Option Super) (t : Super) → (if current then o else None) ≡ Some t → (current ≡ true) × (is_some o ≡ true)
 current_found true o t is = (refl, ap is_some is)
-current_found false o t is = absurd (none-some is)
+current_found false o t is = absurd (none-some t is)
 
 seat_there : (o : Option ℕ) → is_some o ≡ true → (d : ℕ) × (o ≡ Some d)
 seat_there None is = absurd (both_ways false refl is)
@@ -88,7 +88,7 @@ whole_member s seats n v f is_array =
         length-map (places_by t) (λ place. slot_by place (super_at f.found place)) ∙ length-map-range_with_len (place_by t) 0 t.raid_disks in
     let one = whole_one (slots_found f.found t) (omega (arith, least, count)) (few_lacking n (not (nat_lt n s.joined)) f.found t v f.leads f.opened) in
     let k = one.0 in
-    let below = slice_get_within (slots_found f.found t) k one.1.0 one.1.1.0 in
+    let below = slice_get_within (slots_found f.found t) k one.1 one.2 in
     let low : k < t.raid_disks = omega (arith, below, count) in
     let p = place_by t k in
     let at : slice_get (slots_found f.found t) k ≡ Some (slot_by p (super_at f.found p)) =
@@ -96,8 +96,8 @@ whole_member s seats n v f is_array =
         ∙ ap (option_map (λ place. slot_by place (super_at f.found place)))
         (get_map (place_by t) (range_with_len 0 t.raid_disks) k ∙ ap (option_map (place_by t)) (get_range 0 t.raid_disks k low)
         ∙ ap (λ (j : ℕ). Some (place_by t j)) (zero_more k)) in
-    let slot : one.1.0 ≡ slot_by p (super_at f.found p) = ap (λ o. unwrap_or o one.1.0) (sym one.1.1.0 ∙ at) in
-    let own = whole_found (super_at f.found p) (sym (ap (λ (x : Slot). is_whole_seat x.seat) slot) ∙ one.1.1.1) in
+    let slot : one.1 ≡ slot_by p (super_at f.found p) = ap (λ o. unwrap_or o one.1) (sym one.2 ∙ at) in
+    let own = whole_found (super_at f.found p) (sym (ap (λ (x : Slot). is_whole_seat x.seat) slot) ∙ one.3) in
     let named = position_named t k f.usable low in
     let here = current_found (is_current s p) (super_in s f.image n p) own.0 (sym (f.named p named) ∙ own.1) in
     let seat = seat_there (seats p) (sym (f.there p named here.0) ∙ here.1) in

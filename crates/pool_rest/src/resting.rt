@@ -12,10 +12,9 @@ ghost use Rattle.array_image.specs.Places.{arrays_first};
 ghost use Rattle.array_image.specs.Record.{is_target};
 ghost use Rattle.pool_image.specs.Disks.{disks_of, identities_of};
 ghost use Rattle.commit_log.specs.View.{names, settled};
-ghost use Rattle.pool_scan.specs.Scanning.{AllTold, IsScan, IsUnfaulted, now_in};
+ghost use Rattle.pool_scan.specs.Scanning.{AllTold, IsUnfaulted, now_in};
 ghost use Rattle.pool_scan.specs.Choosing.{AreOf, seat_by};
-ghost use Rattle.rack.specs.Seen.{Seen};
-ghost use Rattle.pool_rest.specs.Standing.{IsCause, IsLasting, IsLaid};
+ghost use Rattle.pool_rest.specs.Standing.{IsLasting, IsLaid};
 ghost use Rattle.pool_state.specs.Valid.{is_valid};
 ghost use Rattle.pool_image.specs.Alike.{drive_gate, MeansTheSame};
 ghost use Rattle.pool_image.specs.Replay.{brought_state, standing_by};
@@ -352,15 +351,9 @@ fn replay_found<R: Rack>(found: Standing<R>, room: Scan) -> Result<AtRest<R>, R>
         → IsUnfaulted (R.seen (below_of found.slices)) (R.seen (below_of r.slices))
         → StandsNow (R.seen (below_of r.slices)) r.state r.log r.pending r.damaged) }
     ensures laid { IfOk result (λ r. IsLaid (R.seen (below_of r.slices)) r.scan.disks.items r.state (tables r.slices) r.on.items) }
-    ensures scanned { IfOk result (λ r. (x : Seen)
-        × WritesOnly (R.seen (below_of found.slices)) x (IsOfDrive (R.seen (below_of found.slices)) found.scan.disks.items (seated_state found.log.pending found.state))
-        × IsScan x (R.seen (below_of r.slices)) r.scan.disks.items) }
     ensures runs { IfOk result (λ r. R.runs (below_of found.slices) (below_of r.slices)) }
     ensures back { IfErr result (λ back. WritesOnly (R.seen (below_of found.slices)) (R.seen back)
         (IsOfDrive (R.seen (below_of found.slices)) found.scan.disks.items (seated_state found.log.pending found.state))) }
-    ensures none { IfErr result (λ back. (x : Seen)
-        × WritesOnly (R.seen (below_of found.slices)) x (IsOfDrive (R.seen (below_of found.slices)) found.scan.disks.items (seated_state found.log.pending found.state))
-        × IsCause x (R.seen back) FindFault.NoPool) }
     ensures returned { IfErr result (λ back. R.runs (below_of found.slices) back) }
 {
     let seated = seated_by(&found.log, &found.state);
@@ -403,8 +396,6 @@ pub fn bring_to_rest<R: Rack>(alloc: Global, rack: R) -> Result<AtRest<R>, Back<
     ensures valid { IfOk result (λ r. is_valid r.state 0 ≡ true) }
     ensures only { IfOk result (λ r. WritesDrives (R.seen rack) (R.seen (below_of r.slices))) }
     ensures laid { IfOk result (λ r. IsLaid (R.seen (below_of r.slices)) r.scan.disks.items r.state (tables r.slices) r.on.items) }
-    // Its scan is what was read of the disks: before the record was replayed, or once it was.
-    ensures scanned { IfOk result (λ r. (x : Seen) × (OnlyReads (R.seen rack) x ⊎ WritesDrives (R.seen rack) x) × IsScan x (R.seen (below_of r.slices)) r.scan.disks.items) }
     // Where no disk refused a call, the record is written and nothing else has changed but gates.
     ensures rests { IfOk result (λ r. AllTold (R.seen rack) → IsLasting (R.seen rack) → IsUnfaulted (R.seen rack) (R.seen (below_of r.slices))
         → RestsSo (R.seen rack) (R.seen (below_of r.slices))) }
@@ -419,8 +410,6 @@ pub fn bring_to_rest<R: Rack>(alloc: Global, rack: R) -> Result<AtRest<R>, Back<
     ensures back { IfErr result (λ back. OnlyReads (R.seen rack) (R.seen back.rack) ⊎ WritesDrives (R.seen rack) (R.seen back.rack)) }
     // Want of memory is found before anything is written.
     ensures memory { IfErr result (λ back. back.why ≢ FindFault.NoPool → OnlyReads (R.seen rack) (R.seen back.rack)) }
-    // A refusal has its cause in what was read: before the record was replayed, or once it was.
-    ensures refused { IfErr result (λ back. (x : Seen) × (OnlyReads (R.seen rack) x ⊎ WritesDrives (R.seen rack) x) × IsCause x (R.seen back.rack) back.why) }
     ensures returned { IfErr result (λ back. R.runs rack back.rack) }
 {
     let disks = rack.disks();

@@ -1,6 +1,5 @@
 -- The foremost of disks, from the last to the first.
-use Rattle.std.proofs.Common.{◌≡◌, ◌∙◌, ℕ, zero, suc, ◌+◌, ◌-◌, ◌<◌, ◌≤◌, Bool, true, false, nat_lt, if◌then◌else◌, List, [], ◌∷◌, map, Option, Some, None, option_map, refl, sym, ap, ap₂, arith}
-use Rattle.std.proofs.lemmas.Option.{none-some}
+use Rattle.std.proofs.Common.{◌≡◌, ◌∙◌, ℕ, zero, suc, ◌+◌, ◌-◌, ◌<◌, ◌≤◌, Bool, true, false, nat_lt, if◌then◌else◌, List, [], ◌∷◌, map, Option, Some, None, option_map, refl, ap, ap₂, arith}
 use Rattle.std.specs.List.{range_with_len}
 use Rattle.std.specs.Option.{option_map_or}
 use Rattle.array_image.specs.Foremost.{ahead, foremost}
@@ -12,27 +11,6 @@ pub foremost_first : {X : Type 0} (measure : X → ℕ) (x : Option X) (others :
 unfolding foremost
 foremost_first measure None others = refl
 foremost_first measure (Some t) others = refl
-
--- it is an element of the list
-pub foremost_listed : {X : Type 0} (measure : X → ℕ) (f : ℕ → Option X) (a n : ℕ) (x : X) → foremost measure (map f (range_with_len a n)) ≡ Some x
-    → (d : ℕ) × (f d ≡ Some x)
-unfolding foremost
-foremost_listed measure f a zero x is = absurd (none-some is)
-foremost_listed measure f a (suc n) x is = at (f a) refl (foremost measure (map f (range_with_len (a + 1) n))) refl
-    (sym (foremost_first measure (f a) (map f (range_with_len (a + 1) n))) ∙ is)
-  where
-    at : (o : Option X) → f a ≡ o → (rest : Option X) → foremost measure (map f (range_with_len (a + 1) n)) ≡ rest
-        → option_map_or (λ t. ahead measure t rest) o rest ≡ Some x → (d : ℕ) × (f d ≡ Some x)
-    at None here rest rest_is is = foremost_listed measure f (a + 1) n x (rest_is ∙ is)
-    at (Some t) here None rest_is is = (a, here ∙ is)
-    at (Some t) here (Some u) rest_is is =
-        let Goal : Bool → Type 0 = λ b. (if b then Some u else Some t) ≡ Some x → (d : ℕ) × (f d ≡ Some x) in
-        let goal : Goal (nat_lt (measure t) (measure u)) =
-        elim (nat_lt (measure t) (measure u)) as Goal [
-          | true ↦ λ later. foremost_listed measure f (a + 1) n x (rest_is ∙ later)
-          | false ↦ λ first. (a, here ∙ first)
-        ] in
-        goal is
 
 -- numbers up to an end, from one lower on
 pub range_down : (n k : ℕ) → k < n → range_with_len (n - (k + 1)) (k + 1) ≡ (n - 1 - k) ∷ range_with_len (n - k) k

@@ -52,7 +52,7 @@ pub copy_valid : (a b : Seen) (known : List Known) (s : State) → IsScan a b kn
 copy_valid a b known s scan has = at (slice_get known has.disk) refl has.read
   where
     at : (o : Option Known) → slice_get known has.disk ≡ o → option_and_then (λ k. k.copied) o ≡ Some has.copy → is_valid s 0 ≡ true
-    at None is read = absurd (none-some read)
+    at None is read = absurd (none-some has.copy read)
     at (Some k) is read =
         let copy : IsValidCopy (Some has.copy) = subst IsValidCopy read (scan.each has.disk k is).valid in
         let valid : is_valid s has.copy.own ≡ true = subst (λ t. is_valid t has.copy.own ≡ true) has.state copy in

@@ -1,9 +1,8 @@
-use Rattle.std.proofs.Common.{sym, ap, subst, ◌∙◌, inl, inr, length}
-use Rattle.rack.proofs.Reading.{only_reads_start}
+use Rattle.std.proofs.Common.{sym, ap, subst, ◌∙◌, inr, length}
 use Rattle.slice_rack.specs.SliceRack.{tables, below_of}
 use Rattle.pool_image.specs.Disks.{disks_of}
 use Rattle.pool_image.specs.Alike.{MeansTheSame}
-use Rattle.pool_scan.specs.Scanning.{IsScan, IsUnfaulted, now_in}
+use Rattle.pool_scan.specs.Scanning.{IsUnfaulted, now_in}
 use Rattle.pool_rest.specs.Standing.{IsLaid}
 use Rattle.pool_rest.specs.Resting.{RestsSo, StandsNow, WritesDrives, seated_state}
 use Rattle.pool_rest.proofs.Again.{laid_later}
@@ -87,35 +86,3 @@ returns-in-Err-replay_found-clause-back g c =
 
 pub returns-in-Err-replay_found-clause-returned : goal.returns-in-Err-replay_found-clause-returned
 returns-in-Err-replay_found-clause-returned g c = g.met.R.Rack.runs_then _ _ _ c.in-Ok-stand.ensures.runs c.in-Err-replay_found.ensures.returned
-
-pub returns-in-Err-stand-clause-refused : goal.returns-in-Err-stand-clause-refused
-returns-in-Err-stand-clause-refused g c =
-    (g.R.Rack.seen c.args.rack, inl (only_reads_start (g.R.Rack.seen c.args.rack) c.requires.fit), c.in-Err-stand.ensures.refused)
-
-pub returns-in-Err-replay_found-clause-refused : goal.returns-in-Err-replay_found-clause-refused
-returns-in-Err-replay_found-clause-refused g c =
-    let none = c.in-Err-replay_found.ensures.none in (
-      none.0,
-      inr (writes_since (g.R.Rack.seen c.args.rack) (g.R.Rack.seen (below_of c.in-Ok-stand.found.slices)) none.0 c.in-Ok-stand.found.scan.disks.items (seated_state c.in-Ok-stand.found.log.pending c.in-Ok-stand.found.state)
-      c.in-Ok-stand.ensures.only c.in-Ok-stand.ensures.newest.scan none.1.0),
-      none.1.1,
-    )
-
-pub returns-then-pending_count-eq0-clause-scanned : goal.returns-then-pending_count-eq0-clause-scanned
-returns-then-pending_count-eq0-clause-scanned g c =
-    let rest = c.as_it_stands.ensures in
-    let found = c.in-Ok-stand.found in (
-      g.R.Rack.seen c.args.rack,
-      inl (only_reads_start (g.R.Rack.seen c.args.rack) c.requires.fit),
-      subst (λ k. IsScan (g.R.Rack.seen c.args.rack) (g.R.Rack.seen (below_of k)) c.as_it_stands.result.scan.disks.items) (sym rest.slices)
-      (subst (λ k. IsScan (g.R.Rack.seen c.args.rack) (g.R.Rack.seen (below_of found.slices)) k.disks.items) (sym rest.scan) c.in-Ok-stand.ensures.newest.scan),
-    )
-
-pub returns-in-Ok-replay_found-clause-scanned : goal.returns-in-Ok-replay_found-clause-scanned
-returns-in-Ok-replay_found-clause-scanned g c =
-    let scanned = c.in-Ok-replay_found.ensures.scanned in (
-      scanned.0,
-      inr (writes_since (g.R.Rack.seen c.args.rack) (g.R.Rack.seen (below_of c.in-Ok-stand.found.slices)) scanned.0 c.in-Ok-stand.found.scan.disks.items (seated_state c.in-Ok-stand.found.log.pending c.in-Ok-stand.found.state)
-      c.in-Ok-stand.ensures.only c.in-Ok-stand.ensures.newest.scan scanned.1.0),
-      scanned.1.1,
-    )

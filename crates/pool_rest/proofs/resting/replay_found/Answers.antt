@@ -1,28 +1,20 @@
 use Rattle.pool_image.specs.Disks.{disks_of, identities_of}
 use Rattle.std.specs.List.{list_all}
 use Rattle.array_image.specs.Record.{is_target}
-use Rattle.pool_scan.specs.Scanning.{AllTold, IsScan, IsUnfaulted, now_in}
+use Rattle.pool_scan.specs.Scanning.{AllTold, IsUnfaulted, now_in}
 use Rattle.pool_scan.specs.Choosing.{AreOf}
 use Rattle.std.proofs.Common.{◌≡◌, true, sym, subst}
 use Rattle.rack.specs.Sequences.{WritesOnly}
 use Rattle.slice_rack.specs.SliceRack.{tables, below_of}
 use Rattle.pool_rest.specs.Resting.{IsOfDrive, IsReplayed, StandsNow, seated_state}
 use Rattle.pool_rest.specs.Standing.{IsLaid, IsLasting}
-use Rattle.pool_rest.proofs.Again.{again_only, again_replayed, again_stands, laid_later, replay_only}
+use Rattle.pool_rest.proofs.Again.{again_only, again_replayed, again_stands, laid_later}
 use Rattle.pool_rest.proofs.resting.replay_found.Goals as goal
 
 pub returns-in-Err-clause-back : goal.returns-in-Err-clause-back
 returns-in-Err-clause-back g c =
     again_only g.R.Rack.seen (below_of c.args.found.slices) c.into_inner.result c.replay_on-done.result.rack c.in-Err.rack c.into_inner.ensures c.args.found.scan.disks.items c.args.found.state
     c.seated_by-seated.result (seated_state c.args.found.log.pending c.args.found.state) c.seated_by-seated.ensures c.replay_on-done.ensures.only c.in-Err.ensures.kept
-
-pub returns-in-Err-clause-none : goal.returns-in-Err-clause-none
-returns-in-Err-clause-none g c = (
-  g.R.Rack.seen c.replay_on-done.result.rack,
-  replay_only g.R.Rack.seen (below_of c.args.found.slices) c.into_inner.result c.replay_on-done.result.rack c.in-Err.rack c.into_inner.ensures c.args.found.scan.disks.items c.args.found.state
-  c.seated_by-seated.result (seated_state c.args.found.log.pending c.args.found.state) c.seated_by-seated.ensures c.replay_on-done.ensures.only c.in-Err.ensures.kept,
-  c.in-Err.ensures.none,
-)
 
 pub returns-in-Err-clause-returned : goal.returns-in-Err-clause-returned
 returns-in-Err-clause-returned g c =
@@ -75,13 +67,3 @@ pub returns-clause-runs : goal.returns-clause-runs
 returns-clause-runs g c =
     subst (λ k. g.R.Rack.runs (below_of c.args.found.slices) (below_of k)) (sym c.as_it_stands-rest.ensures.slices)
     (g.met.R.Rack.runs_then _ _ _ (subst (λ r. g.R.Rack.runs r c.replay_on-done.result.rack) c.into_inner.ensures c.replay_on-done.ensures.runs) c.in-Ok.ensures.runs)
-
-pub returns-clause-scanned : goal.returns-clause-scanned
-returns-clause-scanned g c =
-    let rest = c.as_it_stands-rest.ensures in (
-      g.R.Rack.seen c.replay_on-done.result.rack,
-      replay_only g.R.Rack.seen (below_of c.args.found.slices) c.into_inner.result c.replay_on-done.result.rack (below_of c.in-Ok.again.slices) c.into_inner.ensures c.args.found.scan.disks.items c.args.found.state
-      c.seated_by-seated.result (seated_state c.args.found.log.pending c.args.found.state) c.seated_by-seated.ensures c.replay_on-done.ensures.only c.in-Ok.ensures.only,
-      subst (λ k. IsScan (g.R.Rack.seen c.replay_on-done.result.rack) (g.R.Rack.seen (below_of k)) c.as_it_stands-rest.result.scan.disks.items) (sym rest.slices)
-      (subst (λ k. IsScan (g.R.Rack.seen c.replay_on-done.result.rack) (g.R.Rack.seen (below_of c.in-Ok.again.slices)) k.disks.items) (sym rest.scan) c.in-Ok.ensures.newest.scan),
-    )
