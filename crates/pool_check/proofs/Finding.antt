@@ -6,17 +6,20 @@ use Rattle.std.proofs.lemmas.Bool.{cases_Bool, cases_eq, cases_lt, both_ways, an
 use Rattle.std.proofs.lemmas.Bool.Decides.{nat_tests}
 use Rattle.std.proofs.lemmas.Slice.Eq.{bytes_eq-Decides}
 use Rattle.std.proofs.lemmas.Option.{none-some}
+use Rattle.rack.specs.Seen.{Image}
 use Rattle.md_super.specs.declared.superblock.Super.{Super}
+use Rattle.pool_state.specs.declared.contents.State.{State}
 use Rattle.array_image.specs.Foremost.{ahead, foremost}
 use Rattle.array_image.specs.Places.{array_id}
 use Rattle.array_image.specs.States.{is_current}
-use Rattle.array_image.specs.Supers.{super_in}
+use Rattle.array_image.specs.Supers.{super_in, truth_in}
 use Rattle.array_core.specs.declared.Found.{Found as FoundSuper}
 use Rattle.array_core.specs.Opening.{super_at as super_found, truth_of as found_truth, share_set}
 use Rattle.array_core.specs.Contents.{current_super}
 use Rattle.array_core.proofs.Opened.{current_below, current_is, map_ranged, super_set, truth_leads, truth_ranged}
 use Rattle.pool_image.specs.Drives.{Found, slices_from, truth_from}
 use Rattle.pool_check.specs.Drives.{HasFewPlaces}
+use Rattle.pool_check.specs.Founded.{all_in, found_in}
 use Rattle.pool_check.specs.Layers.{all_found, found_on}
 use Rattle.pool_check.proofs.Begins.{unseated_none}
 
@@ -88,15 +91,91 @@ foremost_padded {X = X} measure f a (suc n) k none =
     ap_first None same = same
     ap_first (Some x) same = ap (ahead measure x) same
 
+-- ---- what contents have on the places of an array, of which only current ones have any
+
+module _ (s : State) (c : Image) (array : ℕ) (few : length s.drives.items ≤ 16)
+    (none : (place : ℕ) → is_current s place ≡ false → super_in s c array place ≡ None) where
+  abbrev all : List FoundSuper
+  all = all_in s c array 16
+
+  place_in : (place : ℕ) → place < 16 → super_found all place ≡ super_in s c array place
+  place_in place inside =
+      ap (option_and_then (λ (g : FoundSuper). g.seen)) (found_at (found_in s c array) (λ k. refl) 0 16 place (omega arith) (omega (arith, inside)))
+
+  pub current_in : (place : ℕ) → current_super s c array place ≡ super_in s c array place
+  current_in place =
+      elim (cases_Bool (is_current s place)) [
+        | inl is ↦ ap (λ (b : Bool). if b then super_in s c array place else None) is
+        | inr gone ↦ ap (λ (b : Bool). if b then super_in s c array place else None) gone ∙ sym (none place gone)
+      ]
+
+  past_in : (place : ℕ) → length s.drives.items ≤ place → super_in s c array place ≡ None
+  past_in place past =
+      elim (cases_Bool (is_current s place)) [
+        | inl is ↦ absurd (let below = current_below s place is in omega (arith, below, past))
+        | inr gone ↦ none place gone
+      ]
+
+  -- what was found on any place
+  pub any_in : (place : ℕ) → super_found all place ≡ super_in s c array place
+  any_in place =
+      elim (cases_lt place 16) [
+        | inl inside ↦ place_in place inside
+        | inr past ↦
+            ap (option_and_then (λ (g : FoundSuper). g.seen)) (found_past (found_in s c array) (λ k. refl) 0 16 place (omega (arith, past)))
+            ∙ sym (past_in place (omega (arith, few, past)))
+      ]
+
+  -- each place is listed once
+  pub once_in : (k : ℕ) (f : FoundSuper) → slice_get all k ≡ Some f → super_found all f.place ≡ f.seen
+  once_in k f at =
+      elim (cases_lt k 16) [
+        | inl inside ↦
+            let same : Some (found_in s c array k) ≡ Some f = sym (got_from (found_in s c array) 16 k inside) ∙ at in
+            let is : found_in s c array k ≡ f = cc in
+            subst (λ (g : FoundSuper). super_found all g.place ≡ g.seen) is (any_in k)
+        | inr past ↦ absurd (let absent = got_past (found_in s c array) 0 16 k past in none-some f (sym absent ∙ at))
+      ]
+
+  -- the truth of what was found is that of the contents
+  pub truth_of_all : found_truth all ≡ truth_in s c array
+  truth_of_all =
+      let own = super_in s c array in
+      let drives = length s.drives.items in
+      let rest : drives + (16 - drives) ≡ 16 = omega (arith, few) in
+      ap (foremost (λ (t : Super). t.events)) (map_ranged (super_found all) own 0 16 (λ k least most. place_in k (omega (arith, most))))
+      ∙ ap (λ n. foremost (λ (t : Super). t.events) (map own (range_with_len 0 n))) (sym rest)
+      ∙ foremost_padded (λ t. t.events) own 0 drives (16 - drives) (λ m least. past_in m (omega (arith, least)))
+      ∙ ap (foremost (λ (t : Super). t.events)) (map_ranged own (current_super s c array) 0 drives (λ k least most. sym (current_in k)))
+      ∙ sym (truth_ranged s c array)
+
+  -- all superblocks that were found have the array's set id
+  pub share_in : (t : Super) → truth_in s c array ≡ Some t → share_set all t.set_id ≡ true
+  share_in t is = all_share 0 16
+    where
+      set_of : (place : ℕ) (u : Super) → super_in s c array place ≡ Some u → u.set_id.0 ≡ array_id s.pool.0 array
+      set_of place u at = super_set s c array place u at
+
+      own_set : t.set_id.0 ≡ array_id s.pool.0 array
+      own_set = let leads = truth_leads s c array t is in set_of leads.at t (current_is s c array leads.at t leads.here).1
+
+      shares : (o : Option Super) → ((u : Super) → o ≡ Some u → u.set_id.0 ≡ array_id s.pool.0 array)
+          → option_map_or (λ u. bytes_eq u.set_id.0 t.set_id.0) o true ≡ true
+      shares None says = refl
+      shares (Some u) says = (bytes_eq-Decides u.set_id.0 t.set_id.0).1 (says u refl ∙ sym own_set)
+
+      all_share : (a n : ℕ) → list_all (λ g. option_map_or (λ u. bytes_eq u.set_id.0 t.set_id.0) g.seen true) (map (found_in s c array) (range_with_len a n)) ≡ true
+      all_share a zero = refl
+      all_share a (suc n) =
+          and_from (option_map_or (λ u. bytes_eq u.set_id.0 t.set_id.0) (super_in s c array a) true)
+          (list_all (λ g. option_map_or (λ u. bytes_eq u.set_id.0 t.set_id.0) g.seen true) (map (found_in s c array) (range_with_len (a + 1) n)))
+          (shares (super_in s c array a) (set_of a)) (all_share (a + 1) n)
+
 -- ---- what was found where the slices of an array begin
 
 module _ (f : Found) (array first : ℕ) (low : array < 16) (few : HasFewPlaces f.state f.seats) where
   abbrev found : List FoundSuper
   found = all_found f array first
-
-  pub found_place : (place : ℕ) → place < 16 → super_found found place ≡ super_in f.state (slices_from f first) array place
-  found_place place inside =
-      ap (option_and_then (λ (g : FoundSuper). g.seen)) (found_at (found_on f array first) (λ k. refl) 0 16 place (omega arith) (omega (arith, inside)))
 
   -- a place that isn't current has none
   past_current : (place : ℕ) → is_current f.state place ≡ false → super_in f.state (slices_from f first) array place ≡ None
@@ -107,74 +186,21 @@ module _ (f : Found) (array first : ℕ) (low : array < 16) (few : HasFewPlaces 
       by (Some d) seat = absurd (both_ways (is_current f.state place) gone (few.current place d seat))
 
   pub current_same : (place : ℕ) → current_super f.state (slices_from f first) array place ≡ super_in f.state (slices_from f first) array place
-  current_same place =
-      elim (cases_Bool (is_current f.state place)) [
-        | inl is ↦ ap (λ (b : Bool). if b then super_in f.state (slices_from f first) array place else None) is
-        | inr none ↦
-            ap (λ (b : Bool). if b then super_in f.state (slices_from f first) array place else None) none ∙ sym (past_current place none)
-      ]
+  current_same place = current_in f.state (slices_from f first) array few.few past_current place
 
-  pub past_listed : (place : ℕ) → length f.state.drives.items ≤ place → super_in f.state (slices_from f first) array place ≡ None
-  past_listed place past =
-      elim (cases_Bool (is_current f.state place)) [
-        | inl is ↦ absurd (let below = current_below f.state place is in omega (arith, below, past))
-        | inr none ↦ past_current place none
-      ]
-
-  -- what was found on any place
   pub found_any : (place : ℕ) → super_found found place ≡ super_in f.state (slices_from f first) array place
-  found_any place =
-      elim (cases_lt place 16) [
-        | inl inside ↦ found_place place inside
-        | inr past ↦
-            ap (option_and_then (λ (g : FoundSuper). g.seen)) (found_past (found_on f array first) (λ k. refl) 0 16 place (omega (arith, past)))
-            ∙ sym (past_listed place (let most = few.few in omega (arith, most, past)))
-      ]
+  found_any place = any_in f.state (slices_from f first) array few.few past_current place
 
-  -- each place is listed once
   pub found_once : (k : ℕ) (s : FoundSuper) → slice_get found k ≡ Some s → super_found found s.place ≡ s.seen
-  found_once k s at =
-      elim (cases_lt k 16) [
-        | inl inside ↦
-            let same : Some (found_on f array first k) ≡ Some s = sym (got_from (found_on f array first) 16 k inside) ∙ at in
-            let is : found_on f array first k ≡ s = cc in
-            subst (λ (g : FoundSuper). super_found found g.place ≡ g.seen) is (found_any k)
-        | inr past ↦ absurd (let none = got_past (found_on f array first) 0 16 k past in none-some s (sym none ∙ at))
-      ]
+  found_once k s at = once_in f.state (slices_from f first) array few.few past_current k s at
 
-  -- the truth of what was found is that of the drives
   pub found_is_truth : found_truth found ≡ truth_from f array first
-  found_is_truth =
-      let own = super_in f.state (slices_from f first) array in
-      let drives = length f.state.drives.items in
-      let rest : drives + (16 - drives) ≡ 16 = (let most = few.few in omega (arith, most)) in
-      ap (foremost (λ (t : Super). t.events)) (map_ranged (super_found found) own 0 16 (λ k least most. found_place k (omega (arith, most))))
-      ∙ ap (λ n. foremost (λ (t : Super). t.events) (map own (range_with_len 0 n))) (sym rest)
-      ∙ foremost_padded (λ t. t.events) own 0 drives (16 - drives) (λ m least. past_listed m (omega (arith, least)))
-      ∙ ap (foremost (λ (t : Super). t.events))
-      (map_ranged own (current_super f.state (slices_from f first) array) 0 drives (λ k least most. sym (current_same k)))
-      ∙ sym (truth_ranged f.state (slices_from f first) array)
+  found_is_truth = truth_of_all f.state (slices_from f first) array few.few past_current
 
-  -- all superblocks that were found have the array's set id
   pub found_share : (t : Super) → truth_from f array first ≡ Some t → share_set found t.set_id ≡ true
-  found_share t is = all_share 0 16
-    where
-      set_of : (place : ℕ) (u : Super) → super_in f.state (slices_from f first) array place ≡ Some u → u.set_id.0 ≡ array_id f.state.pool.0 array
-      set_of place u at = super_set f.state (slices_from f first) array place u at
+  found_share t is = share_in f.state (slices_from f first) array few.few past_current t is
 
-      own_set : t.set_id.0 ≡ array_id f.state.pool.0 array
-      own_set =
-          let leads = truth_leads f.state (slices_from f first) array t is in
-          set_of leads.at t (current_is f.state (slices_from f first) array leads.at t leads.here).1
-
-      shares : (o : Option Super) → ((u : Super) → o ≡ Some u → u.set_id.0 ≡ array_id f.state.pool.0 array)
-          → option_map_or (λ u. bytes_eq u.set_id.0 t.set_id.0) o true ≡ true
-      shares None says = refl
-      shares (Some u) says = (bytes_eq-Decides u.set_id.0 t.set_id.0).1 (says u refl ∙ sym own_set)
-
-      all_share : (a n : ℕ) → list_all (λ g. option_map_or (λ u. bytes_eq u.set_id.0 t.set_id.0) g.seen true) (map (found_on f array first) (range_with_len a n)) ≡ true
-      all_share a zero = refl
-      all_share a (suc n) =
-          and_from (option_map_or (λ u. bytes_eq u.set_id.0 t.set_id.0) (super_in f.state (slices_from f first) array a) true)
-          (list_all (λ g. option_map_or (λ u. bytes_eq u.set_id.0 t.set_id.0) g.seen true) (map (found_on f array first) (range_with_len (a + 1) n)))
-          (shares (super_in f.state (slices_from f first) array a) (set_of a)) (all_share (a + 1) n)
+-- what was found on all places
+pub all_ended : (f : Found) (array first n : ℕ) (xs : List FoundSuper) → n ≡ 16 → xs ≡ map (found_on f array first) (range_with_len 0 n)
+    → xs ≡ all_found f array first
+all_ended f array first n xs end are = are ∙ ap (λ m. map (found_on f array first) (range_with_len 0 m)) end

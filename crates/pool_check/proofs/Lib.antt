@@ -15,3 +15,4 @@ pub mod Slotted
 pub mod Laid
 pub mod Shown
 pub mod Valid
+pub mod Founded

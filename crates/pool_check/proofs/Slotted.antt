@@ -20,8 +20,9 @@ use Rattle.pool_check.specs.declared.Extent.{Extent}
 use Rattle.pool_check.specs.declared.Layer.{Layer}
 use Rattle.pool_check.specs.declared.Sight.{Sight}
 use Rattle.pool_check.specs.declared.ArraysRead.{ArraysRead}
-use Rattle.pool_check.specs.Layers.{Opens, extent_by, has_layer, is_member_of, is_member_sight, is_table_by, log_extent, sight_by, sights_by}
-use Rattle.pool_check.specs.Slots.{AreKept, AreMatched, AreOrdered, AreSlots, FitsOn, IsBehind, SaysMember, behind}
+use Rattle.pool_check.specs.Layers.{Opens, extent_by, has_layer, is_member_of, is_member_sight, is_sound_on, is_table_by, log_extent, sight_by, sights_by}
+use Rattle.pool_check.specs.Slots.{AreKept, AreMatched, AreOrdered, AreSlots, FitsOn, IsBehind, IsSoundDrive, SaysMember, behind}
+use Rattle.pool_check.specs.Refusing.{part_behind}
 use Rattle.pool_check.proofs.Finding.{got_from}
 
 got_below : {X : Type 0} (xs : List X) (k : ℕ) (x : X) → slice_get xs k ≡ Some x → k < length xs
@@ -31,13 +32,13 @@ got_below (y ∷ xs) zero x at = omega arith
 got_below (y ∷ xs) (suc k) x at = let rest = got_below xs k x at in omega (arith, rest)
 
 -- what stands in a list stands in a longer one
-got_longer : {X : Type 0} (xs : List X) (y : X) (k : ℕ) (x : X) → slice_get xs k ≡ Some x → slice_get (xs ++ y ∷ []) k ≡ Some x
+pub got_longer : {X : Type 0} (xs : List X) (y : X) (k : ℕ) (x : X) → slice_get xs k ≡ Some x → slice_get (xs ++ y ∷ []) k ≡ Some x
 got_longer [] y zero x at = cc
 got_longer [] y (suc k) x at = cc
 got_longer (z ∷ xs) y zero x at = at
 got_longer (z ∷ xs) y (suc k) x at = got_longer xs y k x at
 
-got_last : {X : Type 0} (xs : List X) (y : X) → slice_get (xs ++ y ∷ []) (length xs) ≡ Some y
+pub got_last : {X : Type 0} (xs : List X) (y : X) → slice_get (xs ++ y ∷ []) (length xs) ≡ Some y
 got_last [] y = refl
 got_last (z ∷ xs) y = got_last xs y
 
@@ -152,20 +153,24 @@ layer_names t found layer sights place low =
     by true false = refl
     by false valid = refl
 
--- the truth of an opened array is that of what was found
-pub opened_truth : (number : ℕ) (young : Bool) (found : List FoundSuper) (t : Super) (v : View) → found_truth found ≡ Some t
-    → opened number young found ≡ Ok v → v.truth ≡ t
-opened_truth number young found t v is made =
+-- an opened array is that of what was found
+pub opened_view : (number : ℕ) (young : Bool) (found : List FoundSuper) (t : Super) (v : View) → found_truth found ≡ Some t
+    → opened number young found ≡ Ok v → v ≡ view_found number young found t
+opened_view number young found t v is made =
     by (share_set found t.set_id) (nat_lt 1 (lacking (slots_found found t))) (nat_lt 0 (lacking (slots_found found t)) && (not young && is_unclean t))
     (sym (ap (λ (o : Option Super). option_map_or (opened_by number young found) o (Err Foreign)) is) ∙ made)
   where
     by : (share short dirty : Bool)
         → (if not share then Err Foreign else if short then Err TooFew else if dirty then Err DirtyDegraded else Ok (view_found number young found t)) ≡ Ok v
-        → v.truth ≡ t
+        → v ≡ view_found number young found t
     by false short dirty at = cc
     by true true dirty at = cc
     by true false true at = cc
-    by true false false at = let same : view_found number young found t ≡ v = cc in ap (λ (x : View). x.truth) (sym same)
+    by true false false at = cc
+
+opened_truth : (number : ℕ) (young : Bool) (found : List FoundSuper) (t : Super) (v : View) → found_truth found ≡ Some t
+    → opened number young found ≡ Ok v → v.truth ≡ t
+opened_truth number young found t v is made = ap (λ (x : View). x.truth) (opened_view number young found t v is made)
 
 -- one more array is kept with its extent, or none
 pub record Keeps (a b : Checked) (layers : List Layer) (layer : Layer) (next : ℕ) : Type 0 where
@@ -214,6 +219,13 @@ opens_keeps a b e number young found t fault layers layer opens is same sights l
 
 -- ---- tables
 
+-- what holds of all elements holds of one
+pub all_at : {X : Type 0} (p : X → Bool) (xs : List X) → list_all p xs ≡ true → (k : ℕ) (x : X) → slice_get xs k ≡ Some x → p x ≡ true
+all_at p [] all zero x at = cc
+all_at p [] all (suc k) x at = cc
+all_at p (y ∷ xs) all zero x at = let same : y ≡ x = cc in subst (λ z. p z ≡ true) same (and_parts (p y) (list_all p xs) all).0
+all_at p (y ∷ xs) all (suc k) x at = all_at p xs (and_parts (p y) (list_all p xs) all).1 k x at
+
 -- a table that is that of a place's drive has its slices before the end of the disk
 pub table_fits : (s : State) (layers : List Layer) (place sectors : ℕ) (found : Option Table)
     → option_map_or (is_table_by s layers place sectors) found false ≡ true → FitsOn layers place sectors
@@ -229,12 +241,29 @@ table_fits s layers place sectors (Some table) is k layer e at member lies =
     sym (ap (λ o. option_map_or (λ g. has_slice sectors table (layer.number + 2) raid_kind (extent_by g)) o false) lies) ∙ slice in
     ltb-true (behind e + 32) sectors
     (and_parts (has_entry table (layer.number + 2) raid_kind (extent_by e)) (nat_lt (behind e + 32) sectors) there).1
+
+-- and its log slice as well
+pub table_room : (s : State) (layers : List Layer) (place sectors : ℕ) (found : Option Table)
+    → option_map_or (is_table_by s layers place sectors) found false ≡ true → arrays_first + 32 < sectors
+table_room s layers place sectors None is = absurd (both_ways false refl is)
+table_room s layers place sectors (Some table) is =
+    let one = and_parts (option_map_or (bytes_eq table.disk_id.0) (id_at s place) false)
+    (has_slice sectors table 1 log_kind log_extent && list_all (has_layer sectors table place) layers) is in
+    let two = and_parts (has_slice sectors table 1 log_kind log_extent) (list_all (has_layer sectors table place) layers) one.1 in
+    let last = and_parts (has_entry table 1 log_kind log_extent) (nat_lt (arrays_first + 32) sectors) two.0 in
+    ltb-true (arrays_first + 32) sectors last.1
+
+-- the drive of a place whose parts are sound is
+pub drive_sound : (layers : List Layer) (place sectors : ℕ) (copied well : Bool) → arrays_first + 32 < sectors → FitsOn layers place sectors
+    → part_behind copied well (list_all (is_sound_on place) layers) ≡ None → IsSoundDrive layers place sectors
+drive_sound layers place sectors copied well room fits none =
+    record { room = room; fits = fits; supers = by copied well (list_all (is_sound_on place) layers) none }
   where
-    all_at : (p : Layer → Bool) (xs : List Layer) → list_all p xs ≡ true → (k : ℕ) (x : Layer) → slice_get xs k ≡ Some x → p x ≡ true
-    all_at p [] all zero x at = cc
-    all_at p [] all (suc k) x at = cc
-    all_at p (y ∷ xs) all zero x at = let same : y ≡ x = cc in subst (λ z. p z ≡ true) same (and_parts (p y) (list_all p xs) all).0
-    all_at p (y ∷ xs) all (suc k) x at = all_at p xs (and_parts (p y) (list_all p xs) all).1 k x at
+    by : (copied well sound : Bool) → part_behind copied well sound ≡ None → sound ≡ true
+    by copied well true none = refl
+    by true true false none = cc
+    by true false false none = cc
+    by false well false none = cc
 
 -- ---- all
 

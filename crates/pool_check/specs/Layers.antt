@@ -7,15 +7,15 @@ use Rattle.md_super.specs.declared.superblock.Super.{Super}
 use Rattle.pool_state.specs.declared.contents.State.{State}
 use Rattle.array_image.specs.Places.{log_kind, log_sectors, raid_kind, state_sector}
 use Rattle.gpt_table.specs.declared.Table.{Table}
-use Rattle.array_image.specs.Supers.{is_named, is_super_of, is_unclean, only_if, super_in, super_of}
+use Rattle.array_image.specs.Supers.{is_named, is_unclean}
 use Rattle.array_image.specs.Arrays.{shape_by}
 use Rattle.array_model.specs.View.{View, shape_of}
 use Rattle.array_core.specs.declared.Found.{Found as FoundSuper}
 use Rattle.array_core.specs.declared.ArrayFault.{ArrayFault}
 use Rattle.array_core.specs.declared.ArrayFault.TheVariants.{Foreign, TooFew, DirtyDegraded}
 use Rattle.array_core.specs.Model.{is_truth}
-use Rattle.array_core.specs.Opening.{super_at as super_found, view_found}
-use Rattle.pool_image.specs.Disks.{id_at}
+use Rattle.array_core.specs.Opening.{super_at as super_found, truth_of as found_truth, view_found}
+use Rattle.pool_image.specs.Disks.{Seats, id_at}
 use Rattle.pool_image.specs.Replay.{Extent as ImageExtent}
 use Rattle.pool_image.specs.Drives.{Found, extent_of, first_of, slices_from, slices_of}
 use Rattle.pool_image.specs.Meaning.{has_slice, is_member, lacking_of, super_at, truth_of}
@@ -25,6 +25,7 @@ use Rattle.pool_check.specs.declared.Sight.TheVariants.{Stranger, Valid, Invalid
 use Rattle.pool_check.specs.declared.Layer.{Layer}
 use Rattle.pool_check.specs.declared.ArraysRead.{ArraysRead}
 use Rattle.pool_check.specs.declared.Checked.{Checked}
+use Rattle.pool_check.specs.Founded.{HasContents, all_in, found_in, super_by}
 
 -- ---- superblocks
 
@@ -34,8 +35,7 @@ sector_on sectors contents sector = if nat_lt sector sectors then contents secto
 
 -- the valid superblock in a sector of a place's disk
 abbrev pub super_on : State → ℕ → ℕ → ℕ → ℕ → Contents → Option Super
-super_on s array place sectors sector contents =
-    only_if (is_super_of s.pool.0 s.extent (length s.drives.items) array place) (super_of (sector_on sectors contents sector))
+super_on s array place sectors sector contents = super_by s array place (sector_on sectors contents sector)
 
 -- a superblock of a member's size is one that an array can go by
 abbrev pub is_usable : Super → Bool
@@ -43,10 +43,10 @@ is_usable t = nat_le (2 ^ 48) t.size || is_truth t
 
 -- the superblock of each place, where the slices of an array begin there
 abbrev pub found_on : Found → ℕ → ℕ → ℕ → FoundSuper
-found_on f array first place = record { place = place; seen = super_in f.state (slices_from f first) array place }
+found_on f array first place = found_in f.state (slices_from f first) array place
 
 abbrev pub all_found : Found → ℕ → ℕ → List FoundSuper
-all_found f array first = map (found_on f array first) (range_with_len 0 16)
+all_found f array first = all_in f.state (slices_from f first) array 16
 
 -- ---- layers
 
@@ -163,3 +163,28 @@ pub record AreLayers (f : Found) (many : ℕ) (layers : ArraysRead) : Type 0 whe
   pub each : (n : ℕ) (layer : Layer) → slice_get layers.all.items n ≡ Some layer → IsLayer f n layer
   pub opened : ((n : ℕ) → n < many → fault_of f n ≡ None) → AreOpened f many layers.opened.arrays.items layers.opened.extents.items
   pub next : IsNext f many layers.next
+
+-- ---- arrays by what was read, whatever the disks tell
+
+-- no array has a fault
+abbrev pub HasNoFault : List Layer → Type 0
+HasNoFault layers = (k : ℕ) (layer : Layer) → slice_get layers k ≡ Some layer → layer.fault ≡ None
+
+-- an array is that of the superblocks that were found on its places, and its layer says what each of these has
+pub record IsFoundedBy (s : State) (seats : Seats) (n : ℕ) (layers : List Layer) (v : View) : Type 0 where
+  pub truth : Super
+  pub found : List FoundSuper
+  pub contents : HasContents s seats n 16 found
+  pub truth_is : found_truth found ≡ Some truth
+  pub usable : is_truth truth ≡ true
+  pub view : v ≡ view_found n (not (nat_lt n s.joined)) found truth
+  pub layer : Layer
+  pub at : slice_get layers n ≡ Some layer
+  pub sights : layer.sights.items ≡ map (sights_by truth found) (range_with_len 0 16)
+
+-- the arrays below a number are all open, where none of them has a fault
+pub record AreFoundedBy (s : State) (seats : Seats) (many : ℕ) (layers : ArraysRead) : Type 0 where
+  pub count : HasNoFault layers.all.items → length layers.opened.arrays.items ≡ many
+  pub each :
+      HasNoFault layers.all.items
+      → (n : ℕ) (v : View) → slice_get layers.opened.arrays.items n ≡ Some v → IsFoundedBy s seats n layers.all.items v

@@ -1,3 +1,4 @@
+pub mod Founded
 pub mod Refusing
 pub mod Drives
 pub mod Layers

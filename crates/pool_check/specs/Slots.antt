@@ -1,5 +1,6 @@
 -- Where slices are laid, by what was read: one behind the other, and on each member's disk before its end, whatever disks tell.
 use Rattle.std.specs.Prelude.{◌≡◌, ℕ, ◌+◌, ◌<◌, ◌≤◌, ◌^◌, true, List, length, slice_get, Some}
+use Rattle.std.specs.List.{list_all}
 use Rattle.array_image.specs.Places.{arrays_first, data_sector}
 use Rattle.array_image.specs.Supers.{is_named}
 use Rattle.array_model.specs.View.{View}
@@ -7,7 +8,7 @@ use Rattle.pool_image.specs.Disks.{Seats}
 use Rattle.pool_check.specs.declared.Extent.{Extent}
 use Rattle.pool_check.specs.declared.Layer.{Layer}
 use Rattle.pool_check.specs.declared.ArraysRead.{ArraysRead}
-use Rattle.pool_check.specs.Layers.{is_member_of}
+use Rattle.pool_check.specs.Layers.{is_member_of, is_sound_on}
 
 -- the sector behind a slice
 abbrev pub behind : Extent → ℕ
@@ -55,6 +56,13 @@ abbrev pub FitsOn : List Layer → ℕ → ℕ → Type 0
 FitsOn layers place sectors =
     (k : ℕ) (layer : Layer) (e : Extent) → slice_get layers k ≡ Some layer → is_member_of layer place ≡ true → layer.extent ≡ Some e
     → behind e + 32 < sectors
+
+-- The drive of a place is sound: by its table, its log slice and the slices of the arrays that it is a member of end before the end of
+-- the disk, and it has a valid superblock of each of these.
+pub record IsSoundDrive (layers : List Layer) (place sectors : ℕ) : Type 0 where
+  pub room : arrays_first + 32 < sectors
+  pub fits : FitsOn layers place sectors
+  pub supers : list_all (is_sound_on place) layers ≡ true
 
 -- Slices for the members of arrays, one behind the other, that lie on the disks of their places.
 pub record AreSlots (sectors : ℕ → ℕ) (seats : Seats) (arrays : List View) (extents : List Extent) : Type 0 where

@@ -1,12 +1,14 @@
 //! The check of all drives, once and until no disk goes.
 
-ghost use Rattle.std.specs.Prelude.{◌≡◌, ◌==◌, ◌<◌, ◌^◌, ℕ, is_none, count_by, find, length, MatchResult, IfOk, IfErr, Some, None, option_map, if◌then◌else◌};
+ghost use Rattle.std.specs.Prelude.{◌≡◌, ◌==◌, ◌<◌, ◌+◌, ◌^◌, ℕ, is_none, count_by, find, length, MatchResult, IfOk, IfErr, OnOk, Some, None, option_map, if◌then◌else◌};
 ghost use Rattle.rack.specs.Sequences.{OnlyReads};
+ghost use Rattle.array_image.specs.Places.{arrays_first};
 ghost use Rattle.array_image.specs.States.{current_places, is_current};
 ghost use Rattle.pool_scan.specs.Choosing.{seat_by};
 ghost use Rattle.array_core.specs.Seats.{names};
 ghost use Rattle.pool_check.specs.Drives.{AreCopied, AreDrivesOf, Drives, IsFitState, IsSeating, Loses, found_with, seats_by};
 ghost use Rattle.pool_check.specs.Refusing.{Halts, is_well, refusal_by, refused_with};
+ghost use Rattle.pool_check.specs.Founded.{AreFounded};
 ghost use Rattle.pool_check.specs.Slots.{AreSlots};
 ghost use Rattle.pool_check.specs.Checking.{IsChecked, first_number, is_dirty, is_few, refused_by_layers};
 
@@ -154,6 +156,8 @@ fn check_seated<R: Rack>(
     ensures checked { IfOk result (λ checked. (o : Drives) → AreDrivesOf (R.seen rack.old) (seats_by seats.now) o
         → AreCopied scan.now.disks.items (seats_by seats.now) o → IsChecked (is_well bad) (found_with state.now (seats_by seats.now) o) checked) }
     ensures slots { IfOk result (λ checked. AreSlots (R.seen rack.old).sectors (seats_by seats.now) checked.arrays.items checked.extents.items) }
+    ensures pool { IfOk result (λ checked. AreFounded state.now (seats_by seats.now) checked.arrays.items) }
+    ensures room { OnOk result ((place d : ℕ) → seats_by seats.now place ≡ Some d → arrays_first + 32 < (R.seen rack.old).sectors d) }
     ensures halts { IfErr result (λ halt. Halts (R.seen rack.old) (R.seen rack.new) (seats_by seats.now)
         (λ fault. (o : Drives) → AreDrivesOf (R.seen rack.old) (seats_by seats.now) o → AreCopied scan.now.disks.items (seats_by seats.now) o
         → refused_with (is_well bad) None (found_with state.now (seats_by seats.now) o) ≡ Some (refusal_by fault)) halt) }
@@ -200,6 +204,10 @@ pub fn check_drives<R: Rack>(
         (λ fault. refused_with (is_well bad) None (found_with state.now (seats_by seats.new) o) ≡ Some (refusal_by fault)) }
     // Whatever the disks tell, the members' slices lie one behind the other, and on their disks.
     ensures slots { IfOk result (λ checked. AreSlots (R.seen rack.old).sectors (seats_by seats.new) checked.arrays.items checked.extents.items) }
+    // Whatever the disks tell, each array is that of valid superblocks of its members, and each member with a disk has one.
+    ensures pool { IfOk result (λ checked. AreFounded state.now (seats_by seats.new) checked.arrays.items) }
+    // Whatever the disks tell, each disk has room for its log slice and a backup table behind it.
+    ensures room { OnOk result ((place d : ℕ) → seats_by seats.new place ≡ Some d → arrays_first + 32 < (R.seen rack.old).sectors d) }
     ensures runs { R.runs rack.old rack.new }
 {
     'again: loop {

@@ -4,14 +4,14 @@ ghost use Rattle.std.specs.Prelude.{◌≡◌, ◌==◌, ◌&&◌, ◌<◌, ◌^
 ghost use Rattle.std.specs.List.{list_all};
 ghost use Rattle.std.specs.Option.{option_map_or};
 ghost use Rattle.rack.specs.Sequences.{OnlyReads};
-ghost use Rattle.array_image.specs.Places.{log_kind};
+ghost use Rattle.array_image.specs.Places.{arrays_first, log_kind};
 ghost use Rattle.pool_image.specs.Disks.{id_at, Seats as PlaceSeats};
 ghost use Rattle.pool_image.specs.Meaning.{has_entry, has_slice, has_table};
 ghost use Rattle.pool_scan.specs.Scanning.{copied_at};
 ghost use Rattle.rack.specs.Seen.{Rose};
 ghost use Rattle.pool_check.specs.Drives.{AreCopied, AreDrivesOf, Drives, IsFitState, IsSeating, found_with, seats_by};
 ghost use Rattle.pool_check.specs.Refusing.{IsDamage, Halts, damage_by, damage_with, first_with, is_well, part_behind, part_by, refusal_by};
-ghost use Rattle.pool_check.specs.Slots.{FitsOn};
+ghost use Rattle.pool_check.specs.Slots.{FitsOn, IsSoundDrive};
 ghost use Rattle.pool_check.specs.Layers.{AreRead, extent_by, has_layer, is_member_of, is_sound_on, is_table_by, log_extent};
 
 use crate::superblocks::seat_at;
@@ -166,6 +166,7 @@ fn has_table<R: Rack>(
     ensures only { OnlyReads (R.seen rack.old) (R.seen rack.new) }
     ensures has { IfOk result (λ has. (seats : PlaceSeats) (o : Drives) → seats place ≡ Some disk → AreDrivesOf (R.seen rack.old) seats o
         → AreRead (found_with state.now seats o) layers.now → has ≡ has_table (found_with state.now seats o) place disk) }
+    ensures room { result ≡ Ok true → arrays_first + 32 < (R.seen rack.old).sectors disk }
     ensures fits { result ≡ Ok true → FitsOn layers.now place ((R.seen rack.old).sectors disk) }
     ensures gone { OnErr result (Rose ((R.seen rack.old).faults disk) ((R.seen rack.new).faults disk)) }
     ensures runs { R.runs rack.old rack.new }
@@ -246,7 +247,7 @@ fn damage_on<R: Rack>(
     ensures damage { IfOk result (λ part. (seats : PlaceSeats) (o : Drives) → seats place ≡ Some disk → AreDrivesOf (R.seen rack.old) seats o
         → AreCopied scan.now.disks.items seats o → AreRead (found_with state.now seats o) layers.now
         → option_map part_by part ≡ damage_by (is_well bad) (found_with state.now seats o) place disk) }
-    ensures fits { result ≡ Ok None → FitsOn layers.now place ((R.seen rack.old).sectors disk) }
+    ensures drive { result ≡ Ok None → IsSoundDrive layers.now place ((R.seen rack.old).sectors disk) }
     ensures gone { OnErr result (Rose ((R.seen rack.old).faults disk) ((R.seen rack.new).faults disk)) }
     ensures runs { R.runs rack.old rack.new }
 {
@@ -274,7 +275,7 @@ fn check_place<R: Rack>(
     ensures sound { OnOk result ((o : Drives) → AreDrivesOf (R.seen rack.old) (seats_by seats.now) o
         → AreCopied scan.now.disks.items (seats_by seats.now) o → AreRead (found_with state.now (seats_by seats.now) o) layers.now
         → damage_with (is_well bad) (found_with state.now (seats_by seats.now) o) place ≡ None) }
-    ensures fits { OnOk result ((d : ℕ) → seats_by seats.now place ≡ Some d → FitsOn layers.now place ((R.seen rack.old).sectors d)) }
+    ensures drive { OnOk result ((d : ℕ) → seats_by seats.now place ≡ Some d → IsSoundDrive layers.now place ((R.seen rack.old).sectors d)) }
     ensures halts { IfErr result (λ halt. Halts (R.seen rack.old) (R.seen rack.new) (seats_by seats.now)
         (λ fault. (o : Drives) → AreDrivesOf (R.seen rack.old) (seats_by seats.now) o
         → AreCopied scan.now.disks.items (seats_by seats.now) o → AreRead (found_with state.now (seats_by seats.now) o) layers.now
@@ -307,7 +308,7 @@ pub(crate) fn check_places<R: Rack>(
     ensures sound { OnOk result ((o : Drives) → AreDrivesOf (R.seen rack.old) (seats_by seats.now) o
         → AreCopied scan.now.disks.items (seats_by seats.now) o → AreRead (found_with state.now (seats_by seats.now) o) layers.now
         → (place : ℕ) → place < 16 → damage_with (is_well bad) (found_with state.now (seats_by seats.now) o) place ≡ None) }
-    ensures fits { OnOk result ((place d : ℕ) → place < 16 → seats_by seats.now place ≡ Some d → FitsOn layers.now place ((R.seen rack.old).sectors d)) }
+    ensures drives { OnOk result ((place d : ℕ) → place < 16 → seats_by seats.now place ≡ Some d → IsSoundDrive layers.now place ((R.seen rack.old).sectors d)) }
     ensures halts { IfErr result (λ halt. Halts (R.seen rack.old) (R.seen rack.new) (seats_by seats.now)
         (λ fault. (o : Drives) → AreDrivesOf (R.seen rack.old) (seats_by seats.now) o
         → AreCopied scan.now.disks.items (seats_by seats.now) o → AreRead (found_with state.now (seats_by seats.now) o) layers.now

@@ -5,6 +5,7 @@ ghost use Rattle.std.specs.List.{list_all, range_with_len};
 ghost use Rattle.std.specs.Option.{option_and_then, option_copied, option_map_or};
 ghost use Rattle.rack.specs.Sequences.{OnlyReads};
 ghost use Rattle.md_super.specs.declared.superblock.Super.{Super};
+ghost use Rattle.pool_state.specs.declared.contents.State.{State};
 ghost use Rattle.array_image.specs.Places.{data_sector};
 ghost use Rattle.array_image.specs.Supers.{is_named};
 ghost use Rattle.array_core.specs.Model.{is_truth};
@@ -14,7 +15,8 @@ ghost use Rattle.pool_image.specs.Drives.{Found as Pool, extent_of, first_of};
 ghost use Rattle.pool_image.specs.Meaning.{truth_of};
 ghost use Rattle.pool_check.specs.Drives.{AreDrivesOf, Drives, Goes, HasFewPlaces, IsFitState, IsSeating, found_with, seats_by};
 ghost use Rattle.pool_check.specs.Slots.{AreKept, IsBehind};
-ghost use Rattle.pool_check.specs.Layers.{AreLayers, Opens, all_found, is_usable, sight_by, sights_by};
+ghost use Rattle.pool_check.specs.Founded.{HasContents};
+ghost use Rattle.pool_check.specs.Layers.{AreFoundedBy, AreLayers, Opens, all_found, is_usable, sight_by, sights_by};
 
 use crate::superblocks::{is_named, read_supers};
 use crate::{ArraysRead, Checked, Extent, Layer, Seats, Sight};
@@ -78,6 +80,7 @@ fn add_unknown(layers: &mut ArraysRead, number: u32)
     ensures kept { AreKept (suc number) layers.new }
     ensures layers { (f : Pool) → truth_of f number ≡ None → extent_of f (suc number) ≡ None → first_of f (suc number) ≡ None
         → AreLayers f number layers.old → AreLayers f (suc number) layers.new }
+    ensures founded { (s : State) (seats : PlaceSeats) → AreFoundedBy s seats (suc number) layers.new }
 {
     layers.all.push(Layer {
         number,
@@ -97,6 +100,7 @@ fn add_far(layers: &mut ArraysRead, number: u32, found: &[Found], truth: &Super)
     ensures kept { AreKept (suc number) layers.new }
     ensures layers { (f : Pool) (first : ℕ) → found.now ≡ all_found f number first → first_of f number ≡ Some first
         → HasFewPlaces f.state f.seats → AreLayers f number layers.old → AreLayers f (suc number) layers.new }
+    ensures founded { (s : State) (seats : PlaceSeats) → AreFoundedBy s seats (suc number) layers.new }
 {
     layers.all.push(Layer {
         number,
@@ -180,6 +184,8 @@ fn add_near(
     ensures layers { (seats : PlaceSeats) (o : Drives) → found.now ≡ all_found (found_with state.now seats o) number first
         → first_of (found_with state.now seats o) number ≡ Some first → HasFewPlaces state.now seats
         → AreLayers (found_with state.now seats o) number layers.old → AreLayers (found_with state.now seats o) (suc number) layers.new }
+    ensures founded { (seats : PlaceSeats) → HasContents state.now seats number 16 found.now
+        → AreFoundedBy state.now seats number layers.old → AreFoundedBy state.now seats (suc number) layers.new }
 {
     let extent = extent_at(first, truth.size);
     let fault = open_array(
@@ -209,6 +215,8 @@ fn add_array(layers: &mut ArraysRead, state: &State, number: u32, first: u64, fo
     ensures layers { (seats : PlaceSeats) (o : Drives) → found.now ≡ all_found (found_with state.now seats o) number first
         → first_of (found_with state.now seats o) number ≡ Some first → HasFewPlaces state.now seats
         → AreLayers (found_with state.now seats o) number layers.old → AreLayers (found_with state.now seats o) (suc number) layers.new }
+    ensures founded { (seats : PlaceSeats) → HasContents state.now seats number 16 found.now
+        → AreFoundedBy state.now seats number layers.old → AreFoundedBy state.now seats (suc number) layers.new }
 {
     match truth_of(found) {
         Some(truth) if truth.size >= FAR => add_far(layers, number, found, truth),
@@ -235,6 +243,8 @@ fn read_array<R: Rack>(
     ensures layers { OnOk result ((o : Drives) → AreDrivesOf (R.seen rack.old) (seats_by seats.now) o
         → AreLayers (found_with state.now (seats_by seats.now) o) number layers.old
         → AreLayers (found_with state.now (seats_by seats.now) o) (suc number) layers.new) }
+    ensures founded { OnOk result (AreFoundedBy state.now (seats_by seats.now) number layers.old
+        → AreFoundedBy state.now (seats_by seats.now) (suc number) layers.new) }
     ensures went { IfErr result (Goes (R.seen rack.old) (R.seen rack.new) (seats_by seats.now)) }
     ensures runs { R.runs rack.old rack.new }
 {
@@ -255,6 +265,7 @@ fn read_array<R: Rack>(
 fn no_layers() -> ArraysRead
     ensures kept { AreKept 0 result }
     ensures layers { (f : Pool) → AreLayers f 0 result }
+    ensures founded { (s : State) (seats : PlaceSeats) → AreFoundedBy s seats 0 result }
 {
     ArraysRead {
         all: ArrayVec::new(),
@@ -279,6 +290,8 @@ pub(crate) fn read_layers<R: Rack>(
     ensures kept { IfOk result (AreKept state.now.made) }
     ensures layers { IfOk result (λ layers. (o : Drives) → AreDrivesOf (R.seen rack.old) (seats_by seats.now) o
         → AreLayers (found_with state.now (seats_by seats.now) o) state.now.made layers) }
+    // Whatever the disks tell.
+    ensures founded { IfOk result (AreFoundedBy state.now (seats_by seats.now) state.now.made) }
     ensures went { IfErr result (Goes (R.seen rack.old) (R.seen rack.new) (seats_by seats.now)) }
     ensures runs { R.runs rack.old rack.new }
 {

@@ -1,6 +1,6 @@
 //! The superblocks of an array: which of them are valid, and reading them.
 
-ghost use Rattle.std.specs.Prelude.{◌≡◌, ◌==◌, ◌&&◌, ◌<◌, ◌≤◌, ◌^◌, ℕ, nat_lt, bytes_eq, true, is_ok, length, count_by, IfErr, IfOk, OnErr};
+ghost use Rattle.std.specs.Prelude.{◌≡◌, ◌==◌, ◌&&◌, ◌<◌, ◌≤◌, ◌^◌, ℕ, nat_lt, bytes_eq, true, is_ok, length, count_by, IfErr, IfOk, OnErr, List};
 ghost use Rattle.std.specs.List.{list_all, range_with_len};
 ghost use Rattle.rack.specs.Seen.{Rose};
 ghost use Rattle.rack.specs.Sequences.{OnlyReads};
@@ -10,6 +10,7 @@ ghost use Rattle.pool_scan.specs.Scanning.{Finds};
 ghost use Rattle.pool_image.specs.Drives.{slices_from};
 ghost use Rattle.std.specs.Option.{option_map_or};
 ghost use Rattle.pool_check.specs.Drives.{AreDrivesOf, Drives, Goes, IsFitState, IsSeating, found_with, seats_by};
+ghost use Rattle.pool_check.specs.Founded.{HasContents, IsReadAt, super_by};
 ghost use Rattle.pool_check.specs.Layers.{all_found, is_usable, super_on};
 
 use crate::Seats;
@@ -157,6 +158,7 @@ fn read_super<R: Rack>(
     requires state { IsFitState state.now }
     ensures found { Finds (R.seen rack.old) (R.seen rack.new) disk (λ contents found. found ≡ super_on state.now array place ((R.seen rack.old).sectors disk) sector contents) result }
     ensures usable { IfOk result (λ found. option_map_or is_usable found true ≡ true) }
+    ensures valid { IfOk result (λ found. (block : List ℕ) × (found ≡ super_by state.now array place block)) }
     ensures runs { R.runs rack.old rack.new }
 {
     if sector >= rack.sectors(disk) {
@@ -197,6 +199,8 @@ fn read_place<R: Rack>(
     ensures found { IfOk result (λ found. (o : Drives) → AreDrivesOf (R.seen rack.old) (seats_by seats.now) o
         → found ≡ super_in state.now (slices_from (found_with state.now (seats_by seats.now) o) first) array place) }
     ensures usable { IfOk result (λ found. option_map_or is_usable found true ≡ true) }
+    // Whatever the disk tells.
+    ensures valid { IfOk result (IsReadAt state.now (seats_by seats.now) array place) }
     ensures went { OnErr result (Goes (R.seen rack.old) (R.seen rack.new) (seats_by seats.now) place) }
     ensures runs { R.runs rack.old rack.new }
 {
@@ -223,6 +227,8 @@ pub(crate) fn read_supers<R: Rack>(
     ensures found { IfOk result (λ found. (o : Drives) → AreDrivesOf (R.seen rack.old) (seats_by seats.now) o
         → found.items ≡ all_found (found_with state.now (seats_by seats.now) o) array first) }
     ensures usable { IfOk result (λ found. list_all (λ f. option_map_or is_usable f.seen true) found.items ≡ true) }
+    // Whatever the disks tell.
+    ensures contents { IfOk result (λ found. HasContents state.now (seats_by seats.now) array 16 found.items) }
     ensures went { IfErr result (Goes (R.seen rack.old) (R.seen rack.new) (seats_by seats.now)) }
     ensures runs { R.runs rack.old rack.new }
 {

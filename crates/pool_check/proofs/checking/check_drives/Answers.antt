@@ -1,5 +1,6 @@
 use Rattle.std.proofs.Common.{ℕ, ◌+◌, ◌<◌, subst, arith}
 use Rattle.rack.proofs.Reading.{only_reads_join}
+use Rattle.array_image.specs.Places.{arrays_first}
 use Rattle.array_core.proofs.Opened.{current_below}
 use Rattle.pool_check.specs.Drives.{seats_by}
 use Rattle.pool_check.specs.Slots.{behind}
@@ -61,3 +62,7 @@ returns-in-Ok-clause-slots g c =
       fits = λ n v e place d at_v at_e named seat.
           subst (λ (m : ℕ). behind e + 32 < m) (c.again.invariant.only.stays.sectors d) (slots.fits n v e place d at_v at_e named seat);
     }
+
+pub returns-in-Ok-clause-room : goal.returns-in-Ok-clause-room
+returns-in-Ok-clause-room g c place d seat =
+    subst (λ (m : ℕ). arrays_first + 32 < m) (c.again.invariant.only.stays.sectors d) (c.in-Ok.ensures.room place d seat)

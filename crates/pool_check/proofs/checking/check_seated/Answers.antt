@@ -1,8 +1,10 @@
-use Rattle.std.proofs.Common.{◌≡◌, ◌<◌, ◌≤◌, ◌^◌, ℕ, List, Some, None, ap, sym, subst, ◌∙◌, arith}
+use Rattle.std.proofs.Common.{◌≡◌, ◌+◌, ◌<◌, ◌≤◌, ◌^◌, ℕ, true, List, Some, None, ap, sym, subst, ◌∙◌, arith}
+use Rattle.std.specs.List.{list_all}
+use Rattle.array_image.specs.Places.{arrays_first}
 use Rattle.pool_image.specs.Meaning.{absent, absent_count}
 use Rattle.pool_check.specs.declared.Layer.{Layer}
 use Rattle.pool_check.specs.Drives.{HasFewPlaces, found_with, seats_by}
-use Rattle.pool_check.specs.Layers.{AreRead}
+use Rattle.pool_check.specs.Layers.{AreRead, is_sound_on}
 use Rattle.array_core.proofs.Opened.{current_below}
 use Rattle.pool_check.specs.Slots.{FitsOn}
 use Rattle.pool_check.proofs.Slotted.{slots_are}
@@ -11,6 +13,8 @@ use Rattle.pool_check.specs.Checking.{refused_by_layers}
 use Rattle.pool_check.proofs.AfterReads.{drives_then, halts_later}
 use Rattle.pool_check.proofs.Begins.{AreSmall}
 use Rattle.pool_check.proofs.Ends.{absent_refused, arrays_open, arrays_refused, damage_refused, few_absent}
+use Rattle.pool_check.proofs.Founded.{are_founded}
+use Rattle.pool_check.proofs.Refused.{faultless}
 use Rattle.pool_check.proofs.checking.check_seated.Goals as goal
 
 pub overflow_cast-count : goal.overflow_cast-count
@@ -86,4 +90,21 @@ returns-in-None-clause-slots g c =
     c.in-Ok.ensures.kept
     (λ place d low seat.
     subst (FitsOn c.in-Ok.layers.all.items place) (c.in-Ok.ensures.only.stays.sectors d)
-    (subst (λ (xs : List Layer). FitsOn xs place (y.sectors d)) c.as_slice.ensures.value (c.in_default.ensures.fits place d low seat)))
+    (subst (λ (xs : List Layer). FitsOn xs place (y.sectors d)) c.as_slice.ensures.value ((c.in_default.ensures.drives place d low seat).fits)))
+
+pub returns-in-None-clause-pool : goal.returns-in-None-clause-pool
+returns-in-None-clause-pool g c =
+    let s = c.args.state.now in
+    let seats = seats_by c.args.seats.now in
+    are_founded s seats (record { few = c.requires.state.few; current = c.requires.seating.current }) c.in-Ok.layers
+    (λ place d low seat.
+    subst (λ (xs : List Layer). list_all (is_sound_on place) xs ≡ true) c.as_slice.ensures.value (c.in_default.ensures.drives place d low seat).supers)
+    (faultless c.in-Ok.layers.all.items (ap refused_by_layers (sym c.as_slice-2.ensures.value) ∙ sym c.in-None.ensures))
+    c.in-Ok.ensures.founded
+
+pub returns-in-None-clause-room : goal.returns-in-None-clause-room
+returns-in-None-clause-room g c place d seat =
+    let listed = current_below c.args.state.now place (c.requires.seating.current place d seat) in
+    let few = c.requires.state.few in
+    subst (λ (n : ℕ). arrays_first + 32 < n) (c.in-Ok.ensures.only.stays.sectors d)
+    (c.in_default.ensures.drives place d (omega (arith, listed, few)) seat).room

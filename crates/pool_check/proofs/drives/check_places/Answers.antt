@@ -2,7 +2,7 @@ use Rattle.std.proofs.Common.{◌≡◌, ℕ, None, ap, subst, sym, ◌∙◌, i
 use Rattle.std.proofs.lemmas.Bool.{cases_eq}
 use Rattle.rack.proofs.Reading.{only_reads_join}
 use Rattle.pool_check.specs.Drives.{found_with, seats_by}
-use Rattle.pool_check.specs.Slots.{FitsOn}
+use Rattle.pool_check.specs.Slots.{IsSoundDrive}
 use Rattle.pool_check.specs.Refusing.{damage_with, is_well}
 use Rattle.pool_check.proofs.AfterReads.{drives_then, halts_later}
 use Rattle.pool_check.proofs.Parts.{first_is}
@@ -21,13 +21,13 @@ loop-place-preserved g c =
                 (c.in_default.ensures.sound o (drives_then s seats o c.loop-place.invariant.only c.requires.seating are) copied read)
             | inr other ↦ c.loop-place.invariant.sound o are copied read p (omega (arith, below, other))
           ];
-      fits = λ p d below seat.
+      drives = λ p d below seat.
           elim (cases_eq p c.loop-place.place) [
             | inl same ↦
-                subst (λ (q : ℕ). FitsOn c.args.layers.now q ((g.R.Rack.seen c.args.rack.now).sectors d)) (sym same)
-                (subst (FitsOn c.args.layers.now c.loop-place.place) (c.loop-place.invariant.only.stays.sectors d)
-                (c.in_default.ensures.fits d (sym (ap seats same) ∙ seat)))
-            | inr other ↦ c.loop-place.invariant.fits p d (omega (arith, below, other)) seat
+                subst (λ (q : ℕ). IsSoundDrive c.args.layers.now q ((g.R.Rack.seen c.args.rack.now).sectors d)) (sym same)
+                (subst (IsSoundDrive c.args.layers.now c.loop-place.place) (c.loop-place.invariant.only.stays.sectors d)
+                (c.in_default.ensures.drive d (sym (ap seats same) ∙ seat)))
+            | inr other ↦ c.loop-place.invariant.drives p d (omega (arith, below, other)) seat
           ];
       runs = g.met.R.Rack.runs_then _ _ _ c.loop-place.invariant.runs c.in_default.ensures.runs;
     }
@@ -42,3 +42,6 @@ returns-in-Err-clause-halts g c =
     (c.loop-place.invariant.sound o are copied read)
     (damage o (drives_then s seats o c.loop-place.invariant.only c.requires.seating are) copied read))
     c.in-Err.ensures.halts
+
+pub returns-clause-drives : goal.returns-clause-drives
+returns-clause-drives g c p d below seat = c.loop-place.invariant.drives p d (omega (arith, below)) seat

@@ -2,7 +2,7 @@ use Rattle.std.proofs.Common.{◌≡◌, ℕ, ◌<◌, None, Some}
 use Rattle.rack.specs.Sequences.{OnlyReads}
 use Rattle.pool_check.specs.Drives.{AreCopied, AreDrivesOf, Drives, found_with, seats_by}
 use Rattle.pool_check.specs.Layers.{AreRead}
-use Rattle.pool_check.specs.Slots.{FitsOn}
+use Rattle.pool_check.specs.Slots.{IsSoundDrive}
 use Rattle.pool_check.specs.Refusing.{damage_with, is_well}
 use Rattle.pool_check.proofs.drives.check_places.Given as goal
 
@@ -13,7 +13,7 @@ invariant-loop-place g l = record {
       (o : Drives) → AreDrivesOf (g.R.Rack.seen l.initial.rack) (seats_by l.seats) o → AreCopied l.scan.disks.items (seats_by l.seats) o
       → AreRead (found_with l.state (seats_by l.seats) o) l.layers
       → (p : ℕ) → p < l.place → damage_with (is_well l.bad) (found_with l.state (seats_by l.seats) o) p ≡ None;
-  fits :
-      (p d : ℕ) → p < l.place → seats_by l.seats p ≡ Some d → FitsOn l.layers p ((g.R.Rack.seen l.initial.rack).sectors d);
+  drives :
+      (p d : ℕ) → p < l.place → seats_by l.seats p ≡ Some d → IsSoundDrive l.layers p ((g.R.Rack.seen l.initial.rack).sectors d);
   runs : g.R.Rack.runs l.initial.rack l.rack;
 }

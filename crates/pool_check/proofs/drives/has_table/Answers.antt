@@ -1,8 +1,9 @@
-use Rattle.std.proofs.Common.{◌≡◌, ℕ, true, false, ap, subst, sym, ◌∙◌}
+use Rattle.std.proofs.Common.{◌≡◌, ℕ, ◌+◌, ◌<◌, true, false, ap, subst, sym, ◌∙◌}
 use Rattle.std.specs.Option.{option_map_or}
+use Rattle.array_image.specs.Places.{arrays_first}
 use Rattle.pool_check.specs.Layers.{is_table_by}
 use Rattle.pool_check.specs.Slots.{FitsOn}
-use Rattle.pool_check.proofs.Slotted.{table_fits}
+use Rattle.pool_check.proofs.Slotted.{table_fits, table_room}
 use Rattle.pool_check.proofs.Parts.{table_found}
 use Rattle.pool_check.proofs.drives.has_table.Goals as goal
 
@@ -27,3 +28,9 @@ returns-clause-fits g c is =
     let passes : c.is_found.result ≡ true = cc in
     subst (FitsOn layers place) c.sectors-sectors.ensures.number
     (table_fits s layers place c.sectors-sectors.result found (sym c.is_found.ensures ∙ passes))
+
+pub returns-clause-room : goal.returns-clause-room
+returns-clause-room g c is =
+    let passes : c.is_found.result ≡ true = cc in
+    subst (λ (n : ℕ). arrays_first + 32 < n) c.sectors-sectors.ensures.number
+    (table_room c.args.state.now c.args.layers.now c.args.place c.sectors-sectors.result c.in-Ok.found (sym c.is_found.ensures ∙ passes))

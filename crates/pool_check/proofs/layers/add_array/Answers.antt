@@ -21,3 +21,9 @@ returns-in-None-clause-layers c seats o found begins few old =
     let f = found_with c.args.state.now seats o in
     let unknown = none_from f c.args.number c.args.first c.args.found.now c.requires.few few found begins (sym c.in-None.ensures) in
     c.add_unknown.ensures.layers f unknown.truth unknown.extent unknown.next old
+
+pub returns-in-Some-clause-founded : goal.returns-in-Some-clause-founded
+returns-in-Some-clause-founded c seats contents old = c.add_far.ensures.founded c.args.state.now seats
+
+pub returns-in-None-clause-founded : goal.returns-in-None-clause-founded
+returns-in-None-clause-founded c seats contents old = c.add_unknown.ensures.founded c.args.state.now seats

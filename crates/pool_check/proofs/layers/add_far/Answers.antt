@@ -8,6 +8,7 @@ use Rattle.pool_check.specs.Slots.{AreMatched}
 use Rattle.pool_check.proofs.Slotted.{matched_layer}
 use Rattle.pool_check.proofs.Adding.{far_layer, far_next, found_from, length_more, more_layers, none_differs}
 use Rattle.pool_check.proofs.Layered.{far_fault}
+use Rattle.pool_check.proofs.Founded.{faulty_more}
 use Rattle.pool_check.proofs.layers.add_far.Goals as goal
 
 pub returns-clause-kept : goal.returns-clause-kept
@@ -35,3 +36,6 @@ returns-clause-layers c f first found begins few old =
     (far_layer f c.args.number first t low begins is _ c.requires.far refl refl sights refl)
     (λ none opened. none_differs TooFew (far_fault f c.args.number first t low begins is c.requires.far ∙ none))
     (far_next f c.args.number first t low begins is c.requires.far) old
+
+pub returns-clause-founded : goal.returns-clause-founded
+returns-clause-founded c s seats = faulty_more s seats c.args.number c.args.layers.now _ _ TooFew c.push.ensures.items refl

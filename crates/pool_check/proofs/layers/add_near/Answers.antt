@@ -10,6 +10,7 @@ use Rattle.pool_check.specs.declared.Layer.{Layer}
 use Rattle.pool_check.specs.Slots.{AreMatched, IsBehind}
 use Rattle.pool_check.proofs.Slotted.{opens_keeps}
 use Rattle.pool_check.proofs.Adding.{found_from, length_more, more_layers, more_opened, near_layer, near_next, next_near, next_same, opens_kept}
+use Rattle.pool_check.proofs.Founded.{founded_more}
 use Rattle.pool_check.proofs.layers.add_near.Goals as goal
 
 pub returns-clause-kept : goal.returns-clause-kept
@@ -57,3 +58,12 @@ returns-clause-layers c seats o found begins few old =
     opens.1
     (subst (IsNext f _) (sym (c.next_of-layers.ensures ∙ ap (λ (n : ℕ). if nat_lt n (2 ^ 48) then Some n else None) end))
     (near_next f number first t low begins is)) old
+
+pub returns-clause-founded : goal.returns-clause-founded
+returns-clause-founded c seats contents old =
+    let number = c.args.number in
+    founded_more c.args.state.now seats number c.args.layers.now _ c.extent_at-extent.result c.args.found.now c.args.truth.now c.open_array-fault.result _
+    contents c.requires.truth c.requires.usable c.push.ensures.items refl c.sights.ensures c.requires.kept.count old
+    (subst (λ (young : Bool).
+    Opens c.args.layers.now.opened c.open_array-fault.new.opened c.extent_at-extent.result (opened number young c.args.found.now) c.open_array-fault.result)
+    c.is_young.ensures c.open_array-fault.ensures)

@@ -7,6 +7,7 @@ use Rattle.pool_check.proofs.Slotted.{matched_layer}
 use Rattle.pool_check.proofs.Adding.{length_more, more_layers, none_differs, nowhere, unknown_layer}
 use Rattle.pool_check.proofs.Begins.{IsUnknown}
 use Rattle.pool_check.proofs.Layered.{all_strange, unknown_fault}
+use Rattle.pool_check.proofs.Founded.{faulty_more}
 use Rattle.pool_check.proofs.layers.add_unknown.Goals as goal
 
 pub returns-clause-kept : goal.returns-clause-kept
@@ -31,3 +32,6 @@ returns-clause-layers c f truth extent next old =
     (unknown_layer f c.args.number _ unknown refl refl (c.strangers.ensures ∙ all_strange f c.args.number truth 0 16) refl)
     (λ none opened. none_differs Foreign (unknown_fault f c.args.number truth ∙ none))
     (nowhere f _ next) old
+
+pub returns-clause-founded : goal.returns-clause-founded
+returns-clause-founded c s seats = faulty_more s seats c.args.number c.args.layers.now _ _ Foreign c.push.ensures.items refl

@@ -2,6 +2,7 @@ use Rattle.std.proofs.Common.{◌≡◌, ap, refl, sym, ◌∙◌, arith, lit<}
 use Rattle.std.specs.Prelude.{length}
 use Rattle.pool_image.specs.Drives.{first_of}
 use Rattle.pool_check.proofs.Adding.{none_in}
+use Rattle.pool_check.proofs.Founded.{no_arrays}
 use Rattle.pool_check.proofs.layers.no_layers.Goals as goal
 
 pub returns-clause-layers : goal.returns-clause-layers
@@ -40,3 +41,6 @@ returns-clause-kept c =
         sizes = λ n v e at_v at_e. none_in _ n v c.new-2.ensures at_v;
       };
     }
+
+pub returns-clause-founded : goal.returns-clause-founded
+returns-clause-founded c s seats = no_arrays s seats _ c.new-2.ensures

@@ -1,5 +1,6 @@
 use Rattle.std.proofs.Common.{◌<◌, ◌^◌, sym, subst, ◌∙◌}
 use Rattle.pool_check.specs.Drives.{found_with, seats_by}
+use Rattle.pool_check.specs.Founded.{HasContents}
 use Rattle.pool_check.specs.Layers.{IsNext}
 use Rattle.pool_check.proofs.Begins.{unknown_far}
 use Rattle.pool_check.proofs.layers.read_array.Goals as goal
@@ -24,3 +25,12 @@ returns-in-Ok-clause-layers g c o are old =
 
 pub add_array-requires-clause-past : goal.add_array-requires-clause-past
 add_array-requires-clause-past g c = c.requires.kept.behind_all c.in-Some.first c.in-Some.is
+
+pub returns-in_default-clause-founded : goal.returns-in_default-clause-founded
+returns-in_default-clause-founded g c old = c.add_unknown.ensures.founded c.args.state.now (seats_by c.args.seats.now)
+
+pub returns-in-Ok-clause-founded : goal.returns-in-Ok-clause-founded
+returns-in-Ok-clause-founded g c old =
+    let s = c.args.state.now in
+    let seats = seats_by c.args.seats.now in
+    c.add_array.ensures.founded seats (subst (HasContents s seats c.args.number 16) (sym c.as_slice.ensures.value) c.in-Ok.ensures.contents) old

@@ -1,7 +1,7 @@
 use Rattle.std.proofs.Common.{◌≡◌, suc, ◌+◌, subst, arith}
 use Rattle.rack.proofs.Reading.{only_reads_join, only_reads_start}
 use Rattle.pool_check.specs.Drives.{found_with, seats_by}
-use Rattle.pool_check.specs.Layers.{AreLayers}
+use Rattle.pool_check.specs.Layers.{AreFoundedBy, AreLayers}
 use Rattle.pool_check.specs.Slots.{AreKept}
 use Rattle.pool_check.proofs.AfterReads.{drives_then, goes_later, seating_then}
 use Rattle.pool_check.proofs.layers.read_layers.Goals as goal
@@ -20,6 +20,7 @@ loop-number-init g c = record {
   only = only_reads_start (g.R.Rack.seen c.args.rack.now) c.requires.fit;
   kept = c.no_layers-layers.ensures.kept;
   layers = λ o are. c.no_layers-layers.ensures.layers (found_with c.args.state.now (seats_by c.args.seats.now) o);
+  founded = c.no_layers-layers.ensures.founded c.args.state.now (seats_by c.args.seats.now);
   runs = g.met.R.Rack.runs_same _;
 }
 
@@ -34,6 +35,8 @@ loop-number-preserved g c =
       layers = λ o are.
           subst (λ n. AreLayers (found_with s seats o) n c.read_array.new.layers) next
           (c.in_default.ensures.layers o (drives_then s seats o c.loop-number.invariant.only c.requires.seating are) (c.loop-number.invariant.layers o are));
+      founded =
+          subst (λ n. AreFoundedBy s seats n c.read_array.new.layers) next (c.in_default.ensures.founded c.loop-number.invariant.founded);
       runs = g.met.R.Rack.runs_then _ _ _ c.loop-number.invariant.runs c.in_default.ensures.runs;
     }
 

@@ -1,6 +1,8 @@
-use Rattle.std.proofs.Common.{sym, ◌∙◌}
+use Rattle.std.proofs.Common.{[], sym, refl, ◌∙◌}
+use Rattle.std.proofs.lemmas.Option.{none-some}
 use Rattle.pool_check.specs.Drives.{found_with, seats_by}
 use Rattle.pool_check.proofs.Begins.{unseated_none}
+use Rattle.pool_check.proofs.Founded.{empty_block}
 use Rattle.pool_check.proofs.Supers.{super_seated}
 use Rattle.pool_check.proofs.Outcomes.{if_ok, on_err}
 use Rattle.pool_check.proofs.superblocks.read_place.Goals as goal
@@ -27,3 +29,17 @@ returns-in-Some-clause-went g c =
 pub returns-in-None-clause-found : goal.returns-in-None-clause-found
 returns-in-None-clause-found g c o are =
     sym (unseated_none (found_with c.args.state.now (seats_by c.args.seats.now) o) c.args.array c.args.first c.args.place c.requires.array (sym c.in-None.ensures))
+
+pub returns-in-Some-clause-valid : goal.returns-in-Some-clause-valid
+returns-in-Some-clause-valid g c =
+    if_ok c.read_super.result
+    (λ found valid. record {
+      block = valid.0;
+      valid = valid.1;
+      unseated = λ none. absurd (none-some c.in-Some.disk (sym none ∙ sym c.in-Some.ensures));
+    })
+    c.read_super.ensures.valid
+
+pub returns-in-None-clause-valid : goal.returns-in-None-clause-valid
+returns-in-None-clause-valid g c =
+    record { block = []; valid = sym (empty_block c.args.state.now c.args.array c.args.place); unseated = λ none. refl }

@@ -1,13 +1,16 @@
-use Rattle.std.proofs.Common.{◌≡◌, Bool, true, List, [], ◌∷◌, ◌++◌, ap, ap₂, sym, ◌∙◌, refl, arith}
+use Rattle.std.proofs.Common.{◌≡◌, ◌+◌, Bool, true, List, [], ◌∷◌, ◌++◌, length, ap, ap₂, sym, subst, ◌∙◌, refl, arith}
 use Rattle.std.specs.Option.{option_map_or}
 use Rattle.std.specs.List.{list_all}
 use Rattle.std.proofs.lemmas.Bool.{and_from, and_parts}
 use Rattle.std.proofs.lemmas.List.FromFn.{map-range_with_len_more}
-use Rattle.rack.proofs.Reading.{only_reads_join}
+use Rattle.rack.proofs.Reading.{only_reads_join, only_reads_start}
 use Rattle.array_core.specs.declared.Found.{Found}
 use Rattle.pool_check.specs.Drives.{found_with, seats_by}
+use Rattle.pool_check.specs.Founded.{HasContents}
 use Rattle.pool_check.specs.Layers.{found_on, is_usable}
 use Rattle.pool_check.proofs.AfterReads.{drives_then, goes_later, seating_then}
+use Rattle.pool_check.proofs.Finding.{all_ended}
+use Rattle.pool_check.proofs.Founded.{contents_more, no_contents}
 use Rattle.pool_check.proofs.superblocks.read_supers.Goals as goal
 
 -- what holds of all elements and of one more
@@ -21,6 +24,18 @@ read_place-requires-clause-fit g c = c.loop-place.invariant.only.stays.fit
 
 pub read_place-requires-clause-seating : goal.read_place-requires-clause-seating
 read_place-requires-clause-seating g c = seating_then c.args.state.now (seats_by c.args.seats.now) c.loop-place.invariant.only c.requires.seating
+
+pub loop-place-init : goal.loop-place-init
+loop-place-init g c = record {
+  only = only_reads_start (g.R.Rack.seen c.args.rack.now) c.requires.fit;
+  count = ap length c.new-found.ensures;
+  found = λ o are. c.new-found.ensures;
+  contents =
+      subst (HasContents c.args.state.now (seats_by c.args.seats.now) c.args.array 0) (sym c.new-found.ensures)
+      (no_contents c.args.state.now (seats_by c.args.seats.now) c.args.array);
+  usable = ap (list_all (λ (f : Found). option_map_or is_usable f.seen true)) c.new-found.ensures;
+  runs = g.met.R.Rack.runs_same _;
+}
 
 pub loop-place-preserved : goal.loop-place-preserved
 loop-place-preserved g c =
@@ -39,6 +54,9 @@ loop-place-preserved g c =
       usable =
           ap (list_all (λ (f : Found). option_map_or is_usable f.seen true)) c.push.ensures.items
           ∙ all_more (λ (f : Found). option_map_or is_usable f.seen true) before one c.loop-place.invariant.usable c.in-Ok.ensures.usable;
+      contents =
+          subst (HasContents s seats c.args.array (c.loop-place.place + 1)) (sym c.push.ensures.items)
+          (contents_more s seats c.args.array c.loop-place.place before c.in-Ok.seen c.requires.array c.loop-place.invariant.contents c.in-Ok.ensures.valid);
       runs = g.met.R.Rack.runs_then _ _ _ c.loop-place.invariant.runs c.read_place.ensures.runs;
     }
 
@@ -49,3 +67,9 @@ returns-in-Err-clause-went g c =
 
 pub returns-in-Err-clause-only : goal.returns-in-Err-clause-only
 returns-in-Err-clause-only g c = only_reads_join c.loop-place.invariant.only c.read_place.ensures.only
+
+pub returns-clause-found : goal.returns-clause-found
+returns-clause-found g c o are =
+    let end : c.loop-place.place ≡ 16 = omega arith in
+    all_ended (found_with c.args.state.now (seats_by c.args.seats.now) o) c.args.array c.args.first c.loop-place.place c.loop-place.found.items end
+    (c.loop-place.invariant.found o are)
