@@ -20,7 +20,7 @@ use Rattle.array_core.proofs.Opened.{current_below, current_is, map_ranged, supe
 use Rattle.pool_image.specs.Drives.{Found, slices_from, truth_from}
 use Rattle.pool_check.specs.Drives.{HasFewPlaces}
 use Rattle.pool_check.specs.Founded.{all_in, found_in}
-use Rattle.pool_check.specs.Layers.{all_found}
+use Rattle.pool_check.specs.Layers.{all_found, found_on}
 use Rattle.pool_check.proofs.Begins.{unseated_none}
 
 -- ---- one of a row of places
@@ -199,3 +199,8 @@ module _ (f : Found) (array first : ℕ) (low : array < 16) (few : HasFewPlaces 
 
   pub found_share : (t : Super) → truth_from f array first ≡ Some t → share_set found t.set_id ≡ true
   found_share t is = share_in f.state (slices_from f first) array few.few past_current t is
+
+-- what was found on all places
+pub all_ended : (f : Found) (array first n : ℕ) (xs : List FoundSuper) → n ≡ 16 → xs ≡ map (found_on f array first) (range_with_len 0 n)
+    → xs ≡ all_found f array first
+all_ended f array first n xs end are = are ∙ ap (λ m. map (found_on f array first) (range_with_len 0 m)) end

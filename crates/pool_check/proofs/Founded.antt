@@ -1,5 +1,5 @@
 -- Arrays by the superblocks that were read of them, whatever the disks tell.
-use Rattle.std.proofs.Common.{◌≡◌, ℕ, suc, ◌+◌, ◌<◌, ◌≤◌, Bool, true, false, ◌==◌, not, nat_lt, is_ok, if◌then◌else◌, List, [], ◌∷◌, ◌++◌, map, length, slice_get, Option, Some, None, Result, Ok, Err, is_some, inl, inr, refl, sym, ap, ap₂, subst, ◌∙◌, arith}
+use Rattle.std.proofs.Common.{◌≡◌, ℕ, suc, ◌+◌, ◌<◌, Bool, true, false, ◌==◌, not, nat_lt, is_ok, if◌then◌else◌, List, [], ◌∷◌, ◌++◌, map, length, slice_get, Option, Some, None, Result, Ok, Err, is_some, inl, inr, refl, sym, ap, ap₂, subst, ◌∙◌, arith}
 use Rattle.std.specs.Option.{option_and_then, option_map_or}
 use Rattle.std.specs.List.{list_all, range_with_len}
 use Rattle.std.proofs.lemmas.Bool.{and_parts, both_ways, cases_eq, eq-eqb, ltb-true}
@@ -25,7 +25,7 @@ use Rattle.pool_check.specs.declared.Extent.{Extent}
 use Rattle.pool_check.specs.declared.Layer.{Layer}
 use Rattle.pool_check.specs.declared.Sight.{Sight}
 use Rattle.pool_check.specs.Drives.{HasFewPlaces}
-use Rattle.pool_check.specs.Founded.{AreFounded, HasContents, IsFounded, IsReadAt, all_in, found_in, super_by}
+use Rattle.pool_check.specs.Founded.{AreFounded, HasContents, IsFounded, IsReadAt, found_in, super_by}
 use Rattle.pool_check.specs.Layers.{AreFoundedBy, HasNoFault, IsFoundedBy, Opens, is_sound_on, is_sound_sight, sight_by, sights_by}
 use Rattle.pool_check.proofs.Adding.{length_more, none_differs, none_in}
 use Rattle.pool_check.proofs.Begins.{no_super, nothing_in}

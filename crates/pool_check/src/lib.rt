@@ -8,7 +8,8 @@
 //!
 //! **The contract for the layer above.** [`check_drives`] answers by that pool: the first refusal that it has but that of the volume
 //! (`refused_with` of specs/Refusing.antt), or, where it has none, the arrays with the shapes that their truths give, and where their
-//! slices lie (`IsChecked` of specs/Checking.antt). [`lay_members`] lays these slices behind the log slices of a rack of slices, where
+//! slices lie (`IsChecked` of specs/Checking.antt); whatever the disks tell, each array is one of valid superblocks that were read of
+//! its members (`AreFounded` of specs/Founded.antt). [`lay_members`] lays these slices behind the log slices of a rack of slices, where
 //! none is refused (`AreSlots` of specs/Slots.antt), and what they show is what the drives' slices hold (proofs/Shown.antt). Where
 //! nothing is pending and no disk's faults rise, the answer is the meaning's refusal (proofs/Meant.antt). Whether a place's log is
 //! well formed is not read here: the caller hands in the lowest place whose log isn't.

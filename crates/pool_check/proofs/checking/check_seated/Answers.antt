@@ -1,4 +1,4 @@
-use Rattle.std.proofs.Common.{◌≡◌, ◌+◌, ◌<◌, ◌≤◌, ◌^◌, ℕ, true, List, Some, None, refl, ap, sym, subst, ◌∙◌, arith}
+use Rattle.std.proofs.Common.{◌≡◌, ◌+◌, ◌<◌, ◌≤◌, ◌^◌, ℕ, true, List, Some, None, ap, sym, subst, ◌∙◌, arith}
 use Rattle.std.specs.List.{list_all}
 use Rattle.array_image.specs.Places.{arrays_first}
 use Rattle.pool_image.specs.Meaning.{absent, absent_count}
@@ -90,7 +90,7 @@ returns-in-None-clause-slots g c =
     c.in-Ok.ensures.kept
     (λ place d low seat.
     subst (FitsOn c.in-Ok.layers.all.items place) (c.in-Ok.ensures.only.stays.sectors d)
-    (subst (λ (xs : List Layer). FitsOn xs place (y.sectors d)) c.as_slice.ensures.value ((c.in_default.ensures.drives place d low seat).fits))
+    (subst (λ (xs : List Layer). FitsOn xs place (y.sectors d)) c.as_slice.ensures.value ((c.in_default.ensures.drives place d low seat).fits)))
 
 pub returns-in-None-clause-pool : goal.returns-in-None-clause-pool
 returns-in-None-clause-pool g c =

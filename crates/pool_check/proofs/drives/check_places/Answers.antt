@@ -42,3 +42,6 @@ returns-in-Err-clause-halts g c =
     (c.loop-place.invariant.sound o are copied read)
     (damage o (drives_then s seats o c.loop-place.invariant.only c.requires.seating are) copied read))
     c.in-Err.ensures.halts
+
+pub returns-clause-drives : goal.returns-clause-drives
+returns-clause-drives g c p d below seat = c.loop-place.invariant.drives p d (omega (arith, below)) seat

@@ -22,8 +22,7 @@ returns-in-Ok-true-clause-damage g c seats o seat are copied read =
 
 pub returns-in-Ok-true-clause-drive : goal.returns-in-Ok-true-clause-drive
 returns-in-Ok-true-clause-drive g c is =
-    let has = ap Ok c.in-Ok-true.field-0-test in
     let none : c.damage_behind.result ≡ None = cc in
     drive_sound c.args.layers.now c.args.place ((g.R.Rack.seen c.args.rack.now).sectors c.args.disk)
-    (is_some (copied_at c.args.scan.now.disks.items c.args.disk)) (is_well c.args.bad c.args.place) (c.in-Ok-true.ensures.room has)
-    (c.in-Ok-true.ensures.fits has) (sym c.damage_behind.ensures ∙ ap (option_map part_by) none)
+    (is_some (copied_at c.args.scan.now.disks.items c.args.disk)) (is_well c.args.bad c.args.place) (c.in-Ok-true.ensures.room (ap Ok c.in-Ok-true.field-0-test))
+    (c.in-Ok-true.ensures.fits (ap Ok c.in-Ok-true.field-0-test)) (sym c.damage_behind.ensures ∙ ap (option_map part_by) none)

@@ -9,6 +9,7 @@ use Rattle.pool_check.specs.Drives.{found_with, seats_by}
 use Rattle.pool_check.specs.Founded.{HasContents}
 use Rattle.pool_check.specs.Layers.{found_on, is_usable}
 use Rattle.pool_check.proofs.AfterReads.{drives_then, goes_later, seating_then}
+use Rattle.pool_check.proofs.Finding.{all_ended}
 use Rattle.pool_check.proofs.Founded.{contents_more, no_contents}
 use Rattle.pool_check.proofs.superblocks.read_supers.Goals as goal
 
@@ -66,3 +67,9 @@ returns-in-Err-clause-went g c =
 
 pub returns-in-Err-clause-only : goal.returns-in-Err-clause-only
 returns-in-Err-clause-only g c = only_reads_join c.loop-place.invariant.only c.read_place.ensures.only
+
+pub returns-clause-found : goal.returns-clause-found
+returns-clause-found g c o are =
+    let end : c.loop-place.place ≡ 16 = omega arith in
+    all_ended (found_with c.args.state.now (seats_by c.args.seats.now) o) c.args.array c.args.first c.loop-place.place c.loop-place.found.items end
+    (c.loop-place.invariant.found o are)
