@@ -1,3 +1,4 @@
+mod Running
 mod Seating
 mod Sizes
 mod Unseated

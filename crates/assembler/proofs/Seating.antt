@@ -25,7 +25,7 @@ use Rattle.pool_check.specs.Founded.{IsFounded}
 use Rattle.pool_check.specs.Laying.{laid_at}
 use Rattle.raid_rack.specs.Raid.{Raid, gone_in, is_left}
 use Rattle.raid_rack.specs.Moves.{IsSeated, IsSet}
-use Rattle.raid_rack.proofs.Founding.{founded_marks, founded_named, founded_seated}
+use Rattle.raid_rack.proofs.Founding.{founded_marks, founded_named, founded_place, founded_seated}
 use Rattle.raid_rack.proofs.Noted.{current_few, gone_from}
 use Rattle.raid_rack.proofs.Seated.{array_with, missing_seat, names_joined}
 use Rattle.assembler.specs.Members.{AreMembers}
@@ -42,10 +42,10 @@ module _ (s : State) (t : Slices) (x : Seen) (checked : Checked) (absent : List 
     (rules : (n : ℕ) (v : View) → slice_get checked.arrays.items n ≡ Some v → IsArray v)
     (gone_now : List ℕ) (more : (p : ℕ) → names absent p ≡ true → names gone_now p ≡ true) where
   -- whoever is current and isn't absent has a disk
-  few_place : (p : ℕ) → is_current s p ≡ true → p < 16
+  pub few_place : (p : ℕ) → is_current s p ≡ true → p < 16
   few_place p current = current_few s p (valid_places s 0 m.valid).1 current
 
-  seated : (p : ℕ) → is_current s p ≡ true → names absent p ≡ not (is_some (seat_of t p))
+  pub seated : (p : ℕ) → is_current s p ≡ true → names absent p ≡ not (is_some (seat_of t p))
   seated p current = m.absent_is p ∙ ap (λ b. is_none (seat_of t p) && b) current ∙ of (seat_of t p)
     where
       of : (o : Option ℕ) → (is_none o && true) ≡ not (is_some o)
@@ -57,8 +57,8 @@ module _ (s : State) (t : Slices) (x : Seen) (checked : Checked) (absent : List 
   has_seat p current here = of (names absent p) (is_some (seat_of t p)) (seated p current) (more p)
     where
       of : (a b : Bool) → a ≡ not b → (a ≡ true → names gone_now p ≡ true) → b ≡ true
-      of a true is then = refl
-      of a false is then = absurd (both_ways (names gone_now p) here (then is))
+      of a true is named = refl
+      of a false is named = absurd (both_ways (names gone_now p) here (named is))
 
   module _ (n : ℕ) (v : View) (is : slice_get checked.arrays.items n ≡ Some v) where
     abbrev f : IsFounded s (seat_of t) n v
@@ -92,17 +92,17 @@ module _ (s : State) (t : Slices) (x : Seen) (checked : Checked) (absent : List 
         let p = place_at u k in
         let marks = founded_marks s f.image n (not (nat_lt n s.joined)) f.truth f.found gone_now f.truth_is f.named f.usable f.some there array_of k low in
         let named : is_named v.truth p ≡ true = ap (λ (w : View). is_named w.truth p) f.view
-            ∙ founded_named s f.image n (not (nat_lt n s.joined)) f.truth f.found gone_now f.truth_is f.named f.usable f.some there array_of k low in
+        ∙ founded_named s f.image n (not (nat_lt n s.joined)) f.truth f.found gone_now f.truth_is f.named f.usable f.some there array_of k low in
         let is_there = counted (slice_get (gone gone_now (restarted u)).seats k) (is_current s p) (names gone_now p) marks not_missing in
         let seat = some_seat (seat_of t p) (has_seat p is_there.0 is_there.1) in
         let e = got checked.extents.items n (let count = m.slots.lengths in let below = slice_get_within checked.arrays.items n v is in omega (arith, count, below)) in
         let few : p < 16 = founded_place s f.image n (not (nat_lt n s.joined)) f.truth f.found gone_now f.truth_is f.named f.usable f.some there array_of k low in
         let small : n < 16 = subst (λ (w : View). w.number < 16) f.view (rules n v is).few in
         let laid : laid_at (seat_of t) checked.arrays.items checked.extents.items n p ≡ Some e.0 =
-            ap (option_and_then (λ (w : View). if is_named w.truth p && is_some (seat_of t p) then slice_get checked.extents.items n else None)) is
-            ∙ ap₂ (λ (a : Bool) (o : Option ℕ). if a && is_some o then slice_get checked.extents.items n else None) named seat.1 ∙ e.1 in
+        ap (option_and_then (λ (w : View). if is_named w.truth p && is_some (seat_of t p) then slice_get checked.extents.items n else None)) is
+        ∙ ap₂ (λ (a : Bool) (o : Option ℕ). if a && is_some o then slice_get checked.extents.items n else None) named seat.1 ∙ e.1 in
         let long : sectors_of t (member_slice p n) ≡ e.0.sectors =
-            m.members.sectors n p small few ∙ ap (λ (o : Option Extent). option_map_or (λ y. y.sectors) o 0) laid in
+        m.members.sectors n p small few ∙ ap (λ (o : Option Extent). option_map_or (λ y. y.sectors) o 0) laid in
         let size = m.slots.sizes n v e.0 is e.1 ∙ ap (λ (w : View). data_sector + w.truth.size) f.view in
         omega (arith, long, size)
 
@@ -162,8 +162,8 @@ module _ (s : State) (t : Slices) (x : Seen) (checked : Checked) (absent : List 
           let few = few_place place current in
           let absent_is : names absent place ≡ true = seated place current ∙ ap (λ o. not (is_some o)) seat in
           let gone_is : has_gone (v.arrays 0) place ≡ true =
-              ap (λ (u : View). has_gone u place) (arrays 0 one.0 one.1) ∙ names_joined one.0.went gone_now place few
-              ∙ ap (λ b. names one.0.went place || b) (more place absent_is) ∙ or_true (names one.0.went place) in
+          ap (λ (u : View). has_gone u place) (arrays 0 one.0 one.1) ∙ names_joined one.0.went gone_now place few
+          ∙ ap (λ b. names one.0.went place || b) (more place absent_is) ∙ or_true (names one.0.went place) in
           absurd (both_ways (not (gone_in v place))
           (ap not (gone_from v place 0 few (let least = (valid_arrays s 0 m.valid).0 in let made : v.state.made ≡ s.made = ap (λ (r : State). r.made) state in omega (arith, made, least)) gone_is)) left)
         where

@@ -48,12 +48,14 @@ module _ (sectors : ℕ → ℕ) (seats : Seats) (arrays : List View) (extents :
 
   -- the next array's slices begin behind them
   follows : (k : ℕ) → k < length extents → (e : Extent) → slice_get extents k ≡ Some e → end_of k ≤ e.first
+  unfolding end_of
   follows zero low e is = slots.ordered.least 0 e is
   follows (suc k) low e is =
       let before = got extents k (omega (arith, low)) in
       subst (λ (o : Option Extent). option_map_or behind o 0 ≤ e.first) (sym before.1) (slots.ordered.follow k (suc k) before.0 e (omega arith) before.1 is)
 
   total_most : (k : ℕ) → k ≤ length arrays → total f k ≤ 15 * end_of k
+  unfolding end_of
   total_most zero low = omega arith
   total_most (suc k) low =
       let v = got arrays k (omega (arith, low)) in
@@ -66,6 +68,7 @@ module _ (sectors : ℕ → ℕ) (seats : Seats) (arrays : List View) (extents :
       subst (λ (o : Option Extent). total f k + f k ≤ 15 * option_map_or behind o 0) (sym e.1) (omega (arith, early, next, size, most, here))
 
   pub total_small : (n : ℕ) → length arrays ≡ n → total f n < 2 ^ 52
+  unfolding end_of got
   total_small zero count = omega arith
   total_small (suc k) count =
       let v = got arrays k (omega (arith, count)) in

@@ -5,6 +5,7 @@ use Rattle.std.specs.Option.{option_map_or}
 use Rattle.std.specs.List.{range_with_len}
 use Rattle.std.proofs.lemmas.Bool.{both_ways, cases_lt}
 use Rattle.std.proofs.lemmas.List.{length-map}
+use Rattle.std.proofs.lemmas.List.Sums.{sum_by-cons}
 use Rattle.std.proofs.lemmas.List.FromFn.{length-map-range_with_len}
 use Rattle.std.proofs.lemmas.Option.{none-some, slice_get_within}
 use Rattle.md_super.specs.declared.superblock.Super.{Super}
@@ -32,7 +33,8 @@ whole_first (a ∷ rest) many few = at (is_whole_seat a.seat) refl
     at : (b : Bool) → is_whole_seat a.seat ≡ b → (k : ℕ) × (slot : Slot) × (slice_get (a ∷ rest) k ≡ Some slot) × (is_whole_seat slot.seat ≡ true)
     at true is = (0, a, refl, is)
     at false is =
-        let count : lacking (a ∷ rest) ≡ suc (lacking rest) = ap (λ b. if not b then suc (lacking rest) else lacking rest) is in
+        let count : lacking (a ∷ rest) ≡ 1 + lacking rest =
+        sum_by-cons (λ (s : Slot). if not (is_whole_seat s.seat) then 1 else 0) a rest ∙ ap (λ b. (if not b then 1 else 0) + lacking rest) is in
         absurd (omega (arith, few, count))
 
 -- so of two or more of which one lacks at most, one is
@@ -43,7 +45,8 @@ whole_one (a ∷ rest) many few = at (is_whole_seat a.seat) refl
     at : (b : Bool) → is_whole_seat a.seat ≡ b → (k : ℕ) × (slot : Slot) × (slice_get (a ∷ rest) k ≡ Some slot) × (is_whole_seat slot.seat ≡ true)
     at true is = (0, a, refl, is)
     at false is =
-        let count : lacking (a ∷ rest) ≡ suc (lacking rest) = ap (λ b. if not b then suc (lacking rest) else lacking rest) is in
+        let count : lacking (a ∷ rest) ≡ 1 + lacking rest =
+        sum_by-cons (λ (s : Slot). if not (is_whole_seat s.seat) then 1 else 0) a rest ∙ ap (λ b. (if not b then 1 else 0) + lacking rest) is in
         let next = whole_first rest (omega (arith, many)) (omega (arith, few, count)) in
         (suc next.0, next.1, next.2, next.3)
 
@@ -64,11 +67,11 @@ seat_there (Some d) is = (d, refl)
 few_lacking : (number : ℕ) (young : Bool) (found : List FoundSuper) (t : Super) (v : View) → truth_of found ≡ Some t → opened number young found ≡ Ok v
     → lacking (slots_found found t) ≤ 1
 few_lacking number young found t v is made = elim (cases_lt 1 (lacking (slots_found found t))) [
-    | inr few ↦ few
-    | inl many ↦
-        absurd (short (share_set found t.set_id) (nat_lt 0 (lacking (slots_found found t)) && (not young && is_unclean t)) (lt-ltb 1 (lacking (slots_found found t)) many)
-        (sym (ap (λ (o : Option Super). option_map_or (opened_by number young found) o (Err Foreign)) is) ∙ made))
-  ]
+  | inr few ↦ few
+  | inl many ↦
+      absurd (short (share_set found t.set_id) (nat_lt 0 (lacking (slots_found found t)) && (not young && is_unclean t)) (lt-ltb 1 (lacking (slots_found found t)) many)
+      (sym (ap (λ (o : Option Super). option_map_or (opened_by number young found) o (Err Foreign)) is) ∙ made))
+]
   where
     short : (share dirty : Bool) → nat_lt 1 (lacking (slots_found found t)) ≡ true
         → (if not share then Err Foreign else if nat_lt 1 (lacking (slots_found found t)) then Err TooFew else if dirty then Err DirtyDegraded else Ok (view_found number young found t)) ≡ Ok v → ⊥
@@ -85,17 +88,17 @@ whole_member s seats n v f is_array =
     let truth : v.truth ≡ t = ap (λ (w : View). w.truth) f.view in
     let least : 2 ≤ t.raid_disks = subst (λ (u : Super). 2 ≤ u.raid_disks) truth is_array.least in
     let count : length (slots_found f.found t) ≡ t.raid_disks =
-        length-map (places_by t) (λ place. slot_by place (super_at f.found place)) ∙ length-map-range_with_len (place_by t) 0 t.raid_disks in
+    length-map (places_by t) (λ place. slot_by place (super_at f.found place)) ∙ length-map-range_with_len (place_by t) 0 t.raid_disks in
     let one = whole_one (slots_found f.found t) (omega (arith, least, count)) (few_lacking n (not (nat_lt n s.joined)) f.found t v f.leads f.opened) in
     let k = one.0 in
     let below = slice_get_within (slots_found f.found t) k one.1 one.2 in
     let low : k < t.raid_disks = omega (arith, below, count) in
     let p = place_by t k in
     let at : slice_get (slots_found f.found t) k ≡ Some (slot_by p (super_at f.found p)) =
-        get_map (λ place. slot_by place (super_at f.found place)) (places_by t) k
-        ∙ ap (option_map (λ place. slot_by place (super_at f.found place)))
-        (get_map (place_by t) (range_with_len 0 t.raid_disks) k ∙ ap (option_map (place_by t)) (get_range 0 t.raid_disks k low)
-        ∙ ap (λ (j : ℕ). Some (place_by t j)) (zero_more k)) in
+    get_map (λ place. slot_by place (super_at f.found place)) (places_by t) k
+    ∙ ap (option_map (λ place. slot_by place (super_at f.found place)))
+    (get_map (place_by t) (range_with_len 0 t.raid_disks) k ∙ ap (option_map (place_by t)) (get_range 0 t.raid_disks k low)
+    ∙ ap (λ (j : ℕ). Some (place_by t j)) (zero_more k)) in
     let slot : one.1 ≡ slot_by p (super_at f.found p) = ap (λ o. unwrap_or o one.1) (sym one.2 ∙ at) in
     let own = whole_found (super_at f.found p) (sym (ap (λ (x : Slot). is_whole_seat x.seat) slot) ∙ one.3) in
     let named = position_named t k f.usable low in

@@ -1,6 +1,6 @@
 //! The drives of a pool at rest, checked: its arrays, and the slices of their members.
 
-ghost use Rattle.std.specs.Prelude.{◌≡◌, ◌≢◌, ◌<◌, ◌≤◌, ◌^◌, ◌+◌, ◌++◌, ◌∷◌, ℕ, [], not, is_none, length, filter, true, if◌then◌else◌, IfOk, IfErr, None};
+ghost use Rattle.std.specs.Prelude.{◌≡◌, ◌≢◌, ◌⊎◌, ◌<◌, ◌≤◌, ◌^◌, ◌+◌, ◌++◌, ◌∷◌, ◌==◌, ◌&&◌, ℕ, [], not, nat_lt, is_none, length, filter, true, false, if◌then◌else◌, IfOk, IfErr, None};
 ghost use Rattle.rack.specs.Sequences.{OnlyReads};
 ghost use Rattle.slice_rack.specs.Slices.{place_of, seat_of, first_of, sectors_of};
 ghost use Rattle.slice_rack.specs.SliceRack.{tables, below_of};
@@ -66,20 +66,32 @@ fn absent_of(state: &State, seats: &Seats) -> Places
     places
 }
 
-/// Takes the slices of places away that have lost their disk.
+/// Takes the slices of a place away where it has lost its disk.
+fn unseat_if<R: Rack>(slices: &mut SliceRack<R>, place: u32, lost: bool)
+    requires place { place < 16 }
+    requires fit { (slices_of (tables slices.old) (R.seen (below_of slices.old))).fit }
+    ensures below { below_of slices.new ≡ below_of slices.old }
+    ensures fit { (slices_of (tables slices.new) (R.seen (below_of slices.new))).fit }
+    ensures seats { (p : ℕ) → seat_of (tables slices.new) p ≡ (if (p == place) && lost then None else seat_of (tables slices.old) p) }
+    ensures firsts { (k : ℕ) → (place_of k ≢ place) ⊎ (lost ≡ false) → first_of (tables slices.new) k ≡ first_of (tables slices.old) k }
+    ensures sectors { (k : ℕ) → (place_of k ≢ place) ⊎ (lost ≡ false) → sectors_of (tables slices.new) k ≡ sectors_of (tables slices.old) k }
+{
+    if lost {
+        slices.unseat(place);
+    }
+}
+
+/// Takes the slices of places away that have no disk, or have lost it.
 fn unseat_lost<R: Rack>(slices: &mut SliceRack<R>, seats: &Seats)
     requires fit { (slices_of (tables slices.old) (R.seen (below_of slices.old))).fit }
     ensures below { below_of slices.new ≡ below_of slices.old }
     ensures fit { (slices_of (tables slices.new) (R.seen (below_of slices.new))).fit }
-    ensures seats { (p : ℕ) → p < 16 → seat_of (tables slices.new) p ≡ (if is_none (seats_by seats.now p) then None else seat_of (tables slices.old) p) }
-    ensures beyond { (p : ℕ) → 16 ≤ p → seat_of (tables slices.new) p ≡ seat_of (tables slices.old) p }
+    ensures seats { (p : ℕ) → seat_of (tables slices.new) p ≡ (if nat_lt p 16 && is_none (seats_by seats.now p) then None else seat_of (tables slices.old) p) }
     ensures firsts { (k : ℕ) → seats_by seats.now (place_of k) ≢ None → first_of (tables slices.new) k ≡ first_of (tables slices.old) k }
     ensures sectors { (k : ℕ) → seats_by seats.now (place_of k) ≢ None → sectors_of (tables slices.new) k ≡ sectors_of (tables slices.old) k }
 {
     for place in 0..16 {
-        if seats[place as usize].is_none() {
-            slices.unseat(place);
-        }
+        unseat_if(slices, place, !has_disk(seats, place));
     }
 }
 

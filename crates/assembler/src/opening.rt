@@ -1,11 +1,11 @@
 //! From the disks of a rack to a volume.
 
-ghost use Rattle.std.specs.Prelude.{◌≡◌, ◌<◌, ◌^◌, ◌⊎◌, ℕ, IfOk, IfErr};
-ghost use Rattle.rack.specs.Sequences.{OnlyReads};
+ghost use Rattle.std.specs.Prelude.{◌<◌, ◌≤◌, ◌^◌, ℕ, IfOk, IfErr};
 ghost use Rattle.slice_rack.specs.SliceRack.{below_of};
-ghost use Rattle.lvm_group.specs.Shown.{volume_of};
+ghost use Rattle.lvm_group.specs.Shown.{total, volume_of};
 ghost use Rattle.lvm_group.specs.Volume.{below_of as rack_in, linear};
-ghost use Rattle.raid_rack.specs.RaidRack.{raid_seen, slices_in};
+ghost use Rattle.raid_rack.specs.RaidRack.{IsFit, SliceRuns, arrays_in, raid_in, raid_seen, slices_in, slices_seen};
+ghost use Rattle.array_model.specs.View.{sectors_of};
 
 use crate::checks::check;
 use crate::raid::make_rack;
@@ -20,8 +20,7 @@ use std::alloc::Global;
 fn open_volume<R: Rack>(
     alloc: Global,
     raid: RaidRack<R>,
-) -> Result<Volume<RaidRack<R>>, Back<R, Refusal>>
-{
+) -> Result<Volume<RaidRack<R>>, Back<R, Refusal>> {
     let state = raid.state();
     let (pool, extent, joined) = (state.pool, state.extent, state.joined);
     match Volume::open(alloc, raid, &pool, extent, joined) {

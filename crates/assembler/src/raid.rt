@@ -1,6 +1,6 @@
 //! The rack of a pool's arrays, made of the slices of its drives.
 
-ghost use Rattle.std.specs.Prelude.{◌≡◌, ◌<◌, ◌^◌, ℕ, [], slice_get, option_map, true, Some};
+ghost use Rattle.std.specs.Prelude.{◌≡◌, ◌<◌, ◌^◌, ℕ, [], slice_get, true, Some};
 ghost use Rattle.slice_rack.specs.SliceRack.{tables, below_of};
 ghost use Rattle.slice_rack.specs.Sliced.{slices_of};
 ghost use Rattle.slice_rack.specs.Slices.{sectors_of as slice_sectors};
@@ -8,7 +8,6 @@ ghost use Rattle.array_image.specs.States.{current_places};
 ghost use Rattle.commit_log.specs.View.{names};
 ghost use Rattle.commit_log.specs.Phases.{AreLogs};
 ghost use Rattle.array_model.specs.View.{View, IsArray, sectors_of};
-ghost use Rattle.array_core.specs.Seats.{restarted};
 ghost use Rattle.lvm_group.specs.Shown.{total};
 ghost use Rattle.raid_rack.specs.RaidRack.{IsFit, SliceRuns, arrays_in, raid_in, raid_seen, slices_in, slices_seen};
 ghost use Rattle.assembler.specs.Members.{AreMembers};
@@ -18,17 +17,8 @@ use array_core::Array;
 use commit_log::Log;
 use pool_state::State;
 use rack::{Places, Rack};
-use raid_rack::{RaidRack, current_places, note_gone};
+use raid_rack::{RaidRack, current_places, note_gone, restart_rebuilds};
 use slice_rack::SliceRack;
-
-/// Rebuilds that don't stand between two rows begin again, in each array.
-fn restart_rebuilds(arrays: &mut [Array])
-    ensures { (n : ℕ) → slice_get arrays.new n ≡ option_map restarted (slice_get arrays.old n) }
-{
-    for array in arrays.iter_mut() {
-        array.restart_rebuilds();
-    }
-}
 
 /// What holds of each array.
 fn rules(arrays: &[Array])
@@ -65,16 +55,23 @@ pub(crate) fn make_rack<R: Rack>(members: Members<R>, seconds: u64) -> RaidRack<
     ensures fit { IsFit (arrays_in result) (slices_seen R.seen result) }
     ensures runs { SliceRuns R.seen R.runs members.slices (slices_in result) }
     ensures made { (raid_in result).state.made ≡ members.state.made }
+    ensures joined { (raid_in result).state.joined ≡ members.state.joined }
+    ensures extent { (raid_in result).state.extent ≡ members.state.extent }
     ensures small { total (λ n. sectors_of ((raid_in result).arrays n)) members.state.made < 2 ^ 52 }
 {
-    let mut slices = members.slices;
-    let mut arrays = members.checked.arrays;
-    let mut log = members.log;
+    let Members {
+        slices,
+        state,
+        checked,
+        log,
+        absent,
+    } = members;
+    let (mut slices, mut log, mut arrays) = (slices, log, checked.arrays);
     rules(arrays.as_slice());
     restart_rebuilds(arrays.as_mut_slice());
-    let gone = close_gates(&mut slices, &mut log, &members.state, members.absent);
+    let gone = close_gates(&mut slices, &mut log, &state, absent);
     note_gone(arrays.as_mut_slice(), &gone);
-    let mut raid = RaidRack::new(slices, members.state, arrays, log, seconds);
+    let mut raid = RaidRack::new(slices, state, arrays, log, seconds);
     raid.mark_gone();
     raid
 }

@@ -1,6 +1,6 @@
 //! The check of all drives, once and until no disk goes.
 
-ghost use Rattle.std.specs.Prelude.{◌≡◌, ◌==◌, ◌<◌, ◌+◌, ◌^◌, ℕ, is_none, count_by, find, length, MatchResult, IfOk, IfErr, OnOk, Some, None, option_map, if◌then◌else◌};
+ghost use Rattle.std.specs.Prelude.{◌≡◌, ◌==◌, ◌<◌, ◌≤◌, ◌+◌, ◌^◌, ℕ, is_none, count_by, find, length, MatchResult, IfOk, IfErr, OnOk, Some, None, option_map, if◌then◌else◌};
 ghost use Rattle.rack.specs.Sequences.{OnlyReads};
 ghost use Rattle.array_image.specs.Places.{arrays_first};
 ghost use Rattle.array_image.specs.States.{current_places, is_current};
@@ -52,8 +52,9 @@ fn seat_of(scan: &Scan, state: &State, gone: &Places, place: u32) -> Option<u32>
 /// The disk of each place: that of the scan, unless the place is one of those whose disks went.
 pub fn seats_of(scan: &Scan, state: &State, gone: &Places) -> Seats
     requires few { length scan.now.disks.items < 2 ^ 32 }
-    ensures { (place : ℕ) → place < 16
+    ensures each { (place : ℕ) → place < 16
         → seats_by result place ≡ (if names gone.now.items place then None else seat_by state.now scan.now.disks.items place) }
+    ensures beyond { (place : ℕ) → 16 ≤ place → seats_by result place ≡ None }
 {
     let mut seats = [None; 16];
     for place in 0..16 {

@@ -61,5 +61,5 @@ mod mending;
 mod spent;
 
 pub use arrays::{LastDrive, RaidRack};
-pub use losses::{add_copies, heed_all, newly_gone, note_gone};
+pub use losses::{add_copies, heed_all, newly_gone, note_gone, restart_rebuilds};
 pub use marks::{current_places, mark_missing};

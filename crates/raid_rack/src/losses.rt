@@ -4,7 +4,7 @@ ghost use Rattle.std.specs.Prelude.{◌≡◌, ◌≤◌, ◌<◌, ◌+◌, ℕ,
 ghost use Rattle.arrayvec.specs.ArrayVec.{array_vec_len};
 ghost use Rattle.pool_state.specs.Valid.{is_valid};
 ghost use Rattle.commit_log.specs.View.{most_sectors};
-ghost use Rattle.array_core.specs.Seats.{gone, heeded};
+ghost use Rattle.array_core.specs.Seats.{gone, heeded, restarted};
 ghost use Rattle.raid_rack.specs.Losses as spec;
 
 use crate::marks::{current_places, push_unless};
@@ -46,6 +46,15 @@ pub fn note_gone(arrays: &mut [Array], lost: &Places)
 {
     for array in arrays.iter_mut() {
         array.gone(lost);
+    }
+}
+
+/// Rebuilds that don't stand between two rows of their member's data begin again, in each array. On sound contents none is such.
+pub fn restart_rebuilds(arrays: &mut [Array])
+    ensures { (n : ℕ) → slice_get arrays.new n ≡ option_map restarted (slice_get arrays.old n) }
+{
+    for array in arrays.iter_mut() {
+        array.restart_rebuilds();
     }
 }
 

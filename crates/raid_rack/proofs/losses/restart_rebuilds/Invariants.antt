@@ -1,6 +1,6 @@
 use Rattle.array_core.specs.Seats.{restarted}
 use Rattle.raid_rack.proofs.Each.{ChangedBelow}
-use Rattle.assembler.proofs.raid.restart_rebuilds.Given as goal
+use Rattle.raid_rack.proofs.losses.restart_rebuilds.Given as goal
 
 abbrev pub invariant-loop-array : goal.invariant-loop-array
 invariant-loop-array l = ChangedBelow restarted l.initial.arrays l.array-index l.arrays

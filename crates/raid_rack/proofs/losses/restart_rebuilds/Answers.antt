@@ -1,7 +1,7 @@
 use Rattle.std.proofs.Common.{arith}
 use Rattle.array_core.specs.Seats.{restarted}
 use Rattle.raid_rack.proofs.Each.{changed_first, changed_more, changed_all}
-use Rattle.assembler.proofs.raid.restart_rebuilds.Goals as goal
+use Rattle.raid_rack.proofs.losses.restart_rebuilds.Goals as goal
 
 pub loop-array-init : goal.loop-array-init
 loop-array-init c = changed_first restarted c.args.arrays.now

@@ -1,0 +1,78 @@
+use Rattle.std.proofs.Common.{◌≡◌, ◌+◌, ◌<◌, ℕ, Some, sym, ap, subst, ◌∙◌}
+use Rattle.rack.specs.Seen.{Seen, Stays}
+use Rattle.array_image.specs.Places.{arrays_first}
+use Rattle.slice_rack.specs.SliceRack.{tables, below_of}
+use Rattle.slice_rack.specs.Sliced.{slices_of}
+use Rattle.slice_rack.specs.Runs.{inside_still}
+use Rattle.pool_check.specs.Drives.{IsSeating, Loses, seats_by}
+use Rattle.pool_check.specs.Slots.{AreSlots}
+use Rattle.pool_check.proofs.Valid.{valid_fit}
+use Rattle.pool_rest.specs.Standing.{IsLaid}
+use Rattle.assembler.specs.Members.{AreMembers}
+use Rattle.assembler.proofs.Unseated.{check_members, logs_only, no_members, seating, taken}
+use Rattle.assembler.proofs.checks.check.Goals as goal
+
+pub check_drives-requires-clause-seating : goal.check_drives-requires-clause-seating
+check_drives-requires-clause-seating g c =
+    let rest = c.args.rest in
+    subst (λ r. IsSeating (g.R.Rack.seen r) rest.state (seats_by c.seats_of-seats.result)) (sym c.inner.ensures.value)
+    (seating (g.R.Rack.seen (below_of rest.slices)) rest.scan.disks.items rest.state (tables rest.slices) rest.on.items c.requires.laid c.requires.fit
+    rest.gone.items c.seats_of-seats.result c.seats_of-seats.ensures.beyond c.seats_of-seats.ensures.each)
+
+pub check_drives-requires-clause-state : goal.check_drives-requires-clause-state
+check_drives-requires-clause-state g c = valid_fit c.args.rest.state 0 c.requires.valid
+
+pub unseat_lost-requires : goal.unseat_lost-requires
+unseat_lost-requires g c =
+    let stays = c.check_drives.ensures.only.stays in
+    let inside = subst (λ r. (slices_of (tables c.args.rest.slices) (g.R.Rack.seen r)).fit) (sym c.inner.ensures.value) c.requires.fit in
+    record { fit = (stays.fit, inside_still stays inside.1) }
+
+pub lay_members-requires-clause-logs : goal.lay_members-requires-clause-logs
+lay_members-requires-clause-logs g c =
+    let rest = c.args.rest in
+    let x : Seen = g.R.Rack.seen (below_of rest.slices) in
+    let now = c.unseat_lost.ensures in
+    logs_only x rest.scan.disks.items rest.state (tables rest.slices) rest.on.items c.requires.laid c.requires.fit
+    (g.R.Rack.seen c.check_drives.new.rack) c.seats_of-seats.result c.check_drives.new.seats
+    (taken x rest.scan.disks.items rest.state (tables rest.slices) rest.on.items c.requires.laid c.requires.fit rest.gone.items c.seats_of-seats.result c.seats_of-seats.ensures.beyond c.seats_of-seats.ensures.each)
+    (subst (λ r. Loses (g.R.Rack.seen r) (g.R.Rack.seen c.check_drives.new.rack) (seats_by c.seats_of-seats.result) (seats_by c.check_drives.new.seats)) c.inner.ensures.value c.check_drives.ensures.seats)
+    (tables c.unseat_lost.new.slices) c.unseat_lost.new.slices.orderly now.seats now.firsts now.sectors
+
+pub lay_members-requires-clause-empty : goal.lay_members-requires-clause-empty
+lay_members-requires-clause-empty g c =
+    let rest = c.args.rest in
+    let x : Seen = g.R.Rack.seen (below_of rest.slices) in
+    let now = c.unseat_lost.ensures in
+    no_members x rest.scan.disks.items rest.state (tables rest.slices) rest.on.items c.requires.laid c.requires.fit
+    (g.R.Rack.seen c.check_drives.new.rack) c.seats_of-seats.result c.check_drives.new.seats
+    (taken x rest.scan.disks.items rest.state (tables rest.slices) rest.on.items c.requires.laid c.requires.fit rest.gone.items c.seats_of-seats.result c.seats_of-seats.ensures.beyond c.seats_of-seats.ensures.each)
+    (subst (λ r. Loses (g.R.Rack.seen r) (g.R.Rack.seen c.check_drives.new.rack) (seats_by c.seats_of-seats.result) (seats_by c.check_drives.new.seats)) c.inner.ensures.value c.check_drives.ensures.seats)
+    (tables c.unseat_lost.new.slices) c.unseat_lost.new.slices.orderly now.seats now.firsts now.sectors
+
+pub lay_members-requires-clause-slots : goal.lay_members-requires-clause-slots
+lay_members-requires-clause-slots g c =
+    let stays = c.check_drives.ensures.only.stays in
+    let same : (g.R.Rack.seen c.inner.result.now).sectors ≡ (g.R.Rack.seen (below_of c.unseat_lost.new.slices)).sectors =
+    λ i d. (sym (stays.sectors d) ∙ ap (λ r. (g.R.Rack.seen r).sectors d) (sym c.unseat_lost.ensures.below)) i in
+    subst (λ f. AreSlots f (seats_by c.check_drives.new.seats) c.in-Ok.checked.arrays.items c.in-Ok.checked.extents.items) same c.in-Ok.ensures.slots
+
+pub returns-clause-members : goal.returns-clause-members
+returns-clause-members g c =
+    let rest = c.args.rest in
+    let x : Seen = g.R.Rack.seen (below_of rest.slices) in
+    let now = c.unseat_lost.ensures in
+    let end = c.lay_members.ensures.below ∙ now.below in
+    subst (λ r. AreMembers rest.state (tables c.lay_members.new.slices) (g.R.Rack.seen r) c.in-Ok.checked c.absent_of-absent.result.items) (sym end)
+    (check_members x rest.scan.disks.items rest.state (tables rest.slices) rest.on.items c.requires.laid c.requires.fit
+    (g.R.Rack.seen c.check_drives.new.rack) c.seats_of-seats.result c.check_drives.new.seats
+    (taken x rest.scan.disks.items rest.state (tables rest.slices) rest.on.items c.requires.laid c.requires.fit rest.gone.items c.seats_of-seats.result c.seats_of-seats.ensures.beyond c.seats_of-seats.ensures.each)
+    (subst (λ r. Loses (g.R.Rack.seen r) (g.R.Rack.seen c.check_drives.new.rack) (seats_by c.seats_of-seats.result) (seats_by c.check_drives.new.seats)) c.inner.ensures.value c.check_drives.ensures.seats)
+    (tables c.unseat_lost.new.slices) c.unseat_lost.new.slices.orderly now.seats now.firsts now.sectors
+    c.in-Ok.checked c.absent_of-absent.result.items (tables c.lay_members.new.slices) c.lay_members.ensures.kept c.requires.valid c.requires.lasting
+    (subst (λ r. Stays (g.R.Rack.seen r) (g.R.Rack.seen c.check_drives.new.rack)) c.inner.ensures.value c.check_drives.ensures.only.stays)
+    (subst (λ r. (slices_of (tables c.lay_members.new.slices) (g.R.Rack.seen r)).fit) end c.lay_members.ensures.fit)
+    c.lay_members.ensures.laid c.in-Ok.ensures.pool
+    (subst (λ r. AreSlots (g.R.Rack.seen r).sectors (seats_by c.check_drives.new.seats) c.in-Ok.checked.arrays.items c.in-Ok.checked.extents.items) c.inner.ensures.value c.in-Ok.ensures.slots)
+    (subst (λ r. (p d : ℕ) → seats_by c.check_drives.new.seats p ≡ Some d → arrays_first + 32 < (g.R.Rack.seen r).sectors d) c.inner.ensures.value c.in-Ok.ensures.room)
+    c.absent_of-absent.ensures)

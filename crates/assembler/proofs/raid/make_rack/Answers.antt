@@ -1,0 +1,91 @@
+use Rattle.std.proofs.Common.{◌≡◌, ℕ, Some, slice_get, option_map, sym, ap, subst, ◌∙◌}
+use Rattle.std.proofs.lemmas.Option.{get_or_from_slice_get}
+use Rattle.arrayvec.specs.ArrayVec.{with_items}
+use Rattle.rack.specs.Seen.{Seen}
+use Rattle.slice_rack.specs.Slices.{Slices, seat_of}
+use Rattle.slice_rack.specs.SliceRack.{tables, below_of}
+use Rattle.slice_rack.specs.Sliced.{slices_of}
+use Rattle.slice_rack.specs.Runs.{runs_join}
+use Rattle.array_model.specs.View.{View, IsArray, sectors_of}
+use Rattle.array_core.specs.Seats.{gone, restarted}
+use Rattle.raid_rack.specs.RaidRack.{IsRunning, SliceRuns, arrays_in, no_array, raid_in, slices_in}
+use Rattle.raid_rack.proofs.Mended.{each_items}
+use Rattle.assembler.proofs.Running.{array_now, current_logs, members_later, rack_running, twice}
+use Rattle.assembler.proofs.Sizes.{total_small}
+use Rattle.assembler.proofs.Whole.{whole_member}
+use Rattle.assembler.proofs.raid.make_rack.Goals as goal
+
+pub close_gates-gone-requires-clause-logs : goal.close_gates-gone-requires-clause-logs
+close_gates-gone-requires-clause-logs g c =
+    let m = c.args.members in
+    current_logs m.state (tables m.slices) (g.R.Rack.seen (below_of m.slices)) m.checked m.absent.items c.requires.members
+    (λ n v is. c.rules.ensures n v (ap (λ xs. slice_get xs n) c.as_slice.ensures.value ∙ is))
+
+pub mark_gone-requires : goal.mark_gone-requires
+mark_gone-requires g c =
+    let m = c.args.members in
+    let s = c.close_gates-gone.new.slices in
+    let runs = c.close_gates-gone.ensures.runs in
+    let members = c.requires.members in
+    let stays = (runs.apart members.fit.0 members.fit.1).stays in
+    let places = c.close_gates-gone.result.items in
+    let first = (each_items m.checked.arrays c.as_mut_slice.result.now c.restart_rebuilds.new.arrays restarted c.as_mut_slice.ensures.value c.restart_rebuilds.ensures).0 in
+    let second = (each_items (with_items m.checked.arrays c.restart_rebuilds.new.arrays) c.as_mut_slice-2.result.now c.note_gone.new.arrays (gone places) c.as_mut_slice-2.ensures.value c.note_gone.ensures).0 in
+    record {
+      running =
+          subst (λ k. IsRunning (arrays_in c.new-raid.result) (slices_of (tables k) (g.R.Rack.seen (below_of k)))) (sym c.new-raid.ensures.slices)
+          (subst (λ u. IsRunning (arrays_in c.new-raid.result) (slices_of u (g.R.Rack.seen (below_of s)))) (sym runs.tables)
+          (rack_running m.state (tables m.slices) (g.R.Rack.seen (below_of s)) m.checked m.absent.items
+          (members_later m.state (tables m.slices) (g.R.Rack.seen (below_of m.slices)) (g.R.Rack.seen (below_of s)) m.checked m.absent.items stays members)
+          (λ n v is. c.rules.ensures n v (ap (λ xs. slice_get xs n) c.as_slice.ensures.value ∙ is))
+          places c.close_gates-gone.ensures.more (arrays_in c.new-raid.result) c.new-raid.ensures.state
+          (λ n.
+          ap (λ xs. slice_get xs n) c.new-raid.ensures.arrays ∙ second n
+          ∙ ap (option_map (gone places)) (first n) ∙ twice places (slice_get m.checked.arrays.items n))));
+    }
+
+pub returns-clause-runs : goal.returns-clause-runs
+returns-clause-runs g c =
+    let m = c.args.members in
+    let s = c.close_gates-gone.new.slices in
+    let first = c.close_gates-gone.ensures.runs in
+    let second = subst (λ k. SliceRuns g.R.Rack.seen g.R.Rack.runs k (slices_in c.mark_gone.new.self)) c.new-raid.ensures.slices c.mark_gone.ensures.runs in
+    runs_join (tables m.slices) (tables s) (tables (slices_in c.mark_gone.new.self)) (g.R.Rack.seen (below_of m.slices)) (g.R.Rack.seen (below_of s)) (g.R.Rack.seen (below_of (slices_in c.mark_gone.new.self)))
+    (g.R.Rack.runs (below_of m.slices) (below_of s)) (g.R.Rack.runs (below_of s) (below_of (slices_in c.mark_gone.new.self))) (g.R.Rack.runs (below_of m.slices) (below_of (slices_in c.mark_gone.new.self)))
+    first second (g.met.R.Rack.runs_then _ _ _ first.below second.below)
+
+pub returns-clause-made : goal.returns-clause-made
+returns-clause-made g c = c.mark_gone.ensures.mends.moves.book.same.made ∙ ap (λ s. s.made) c.new-raid.ensures.state
+
+pub returns-clause-joined : goal.returns-clause-joined
+returns-clause-joined g c = c.mark_gone.ensures.mends.moves.book.same.joined ∙ ap (λ s. s.joined) c.new-raid.ensures.state
+
+pub returns-clause-extent : goal.returns-clause-extent
+returns-clause-extent g c = c.mark_gone.ensures.mends.moves.book.same.extent ∙ ap (λ s. s.extent) c.new-raid.ensures.state
+
+pub returns-clause-small : goal.returns-clause-small
+returns-clause-small g c =
+    let m = c.args.members in
+    let members = c.requires.members in
+    let x : Seen = g.R.Rack.seen (below_of m.slices) in
+    let t : Slices = tables m.slices in
+    let rules : (n : ℕ) (v : View) → slice_get m.checked.arrays.items n ≡ Some v → IsArray v =
+    λ n v is. c.rules.ensures n v (ap (λ xs. slice_get xs n) c.as_slice.ensures.value ∙ is) in
+    let places = c.close_gates-gone.result.items in
+    let first = (each_items m.checked.arrays c.as_mut_slice.result.now c.restart_rebuilds.new.arrays restarted c.as_mut_slice.ensures.value c.restart_rebuilds.ensures).0 in
+    let second = (each_items (with_items m.checked.arrays c.restart_rebuilds.new.arrays) c.as_mut_slice-2.result.now c.note_gone.new.arrays (gone places) c.as_mut_slice-2.ensures.value c.note_gone.ensures).0 in
+    let items = c.new-raid.result.arrays.all.items in
+    let are : (n : ℕ) → slice_get items n ≡ option_map (λ v. gone places (restarted v)) (slice_get m.checked.arrays.items n) =
+    λ n.
+    ap (λ xs. slice_get xs n) c.new-raid.ensures.arrays ∙ second n
+    ∙ ap (option_map (gone places)) (first n) ∙ twice places (slice_get m.checked.arrays.items n) in
+    total_small x.sectors (seat_of t) m.checked.arrays.items m.checked.extents.items members.slots
+    (λ p d seat. members.fit.1.small d (members.fit.1.seats p d seat))
+    rules
+    (λ n v is. whole_member m.state (seat_of t) n v (members.founded.each n v is) (rules n v is))
+    (λ n. sectors_of ((raid_in c.mark_gone.new.self).arrays n))
+    (λ n v is.
+    c.mark_gone.ensures.mends.moves.sectors n
+    ∙ ap sectors_of (get_or_from_slice_get items n (gone places (restarted v)) no_array
+    (array_now m.state t x m.checked m.absent.items members rules places c.close_gates-gone.ensures.more items are n v is)))
+    m.state.made members.founded.count
