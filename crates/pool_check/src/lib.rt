@@ -97,6 +97,8 @@ pub struct Checked {
     pub arrays: ArrayVec<Array, 16>,
     /// Where their slices lie, by number.
     pub extents: ArrayVec<Extent, 16>,
+    /// Whether a member's superblock is stale, which is of other events than the array's truth, by number.
+    pub stale: ArrayVec<bool, 16>,
 }
 
 /// What the disk of a place has to do with an array.
