@@ -63,7 +63,7 @@ pub fn seats_of(scan: &Scan, state: &State, gone: &Places) -> Seats
 }
 
 /// Puts a disk or none in the seat of a place.
-fn put_seat(seats: &mut Seats, place: u32, seat: Option<u32>)
+pub(crate) fn put_seat(seats: &mut Seats, place: u32, seat: Option<u32>)
     requires { place < 16 }
     ensures { (p : ℕ) → seats_by seats.new p ≡ (if p == place then seat else seats_by seats.old p) }
 {
