@@ -1,5 +1,5 @@
 -- An array that was opened by the superblocks of a pool's drives is one of the pool, with its absent places noted.
-use Rattle.std.proofs.Common.{◌≡◌, ◌≢◌, ℕ, ◌+◌, ◌%◌, ◌<◌, ◌≤◌, ◌^◌, Bool, true, false, ◌==◌, ◌&&◌, ◌||◌, not, nat_lt, is_ok, is_some, bytes_eq, if◌then◌else◌, List, [], map, length, slice_get, unwrap_or, Option, Some, None, option_map, refl, sym, ap, ap₂, subst, ◌∙◌, eqb-true, ltb-true, arith}
+use Rattle.std.proofs.Common.{◌≡◌, ℕ, ◌%◌, ◌<◌, ◌^◌, Bool, true, false, ◌==◌, ◌&&◌, not, nat_lt, is_ok, is_some, bytes_eq, if◌then◌else◌, List, [], map, length, slice_get, unwrap_or, Option, Some, None, option_map, refl, sym, ap, subst, ◌∙◌, ltb-true, arith}
 use Rattle.std.specs.Option.{option_map_or}
 use Rattle.std.specs.List.{range_with_len}
 use Rattle.std.proofs.lemmas.Bool.{and_parts, both_ways}
@@ -10,18 +10,16 @@ use Rattle.md_super.specs.Profile.{profiled}
 use Rattle.pool_state.specs.declared.contents.State.{State}
 use Rattle.array_image.specs.Places.{array_id}
 use Rattle.array_image.specs.States.{is_current}
-use Rattle.array_image.specs.Supers.{is_named, is_rebuilding, has_roles, has_whole_row, super_in}
-use Rattle.array_model.specs.declared.Seat.{Seat}
+use Rattle.array_image.specs.Supers.{is_named, is_rebuilding, has_roles, has_whole_row, super_in, truth_in}
 use Rattle.array_model.specs.declared.Seat.TheVariants.{Whole, Missing, Rebuilding}
-use Rattle.array_model.specs.View.{View, IsArray, has_gone, is_missing_seat, place_at, seat_unless}
+use Rattle.array_model.specs.View.{View, IsArray, is_missing_seat, place_at, seat_unless}
 use Rattle.array_model.specs.Members.{HasSlices}
 use Rattle.array_core.specs.declared.Found.{Found}
-use Rattle.array_core.specs.Contents.{AreFound, current_super}
+use Rattle.array_core.specs.Contents.{current_super}
 use Rattle.array_core.specs.Model.{is_truth}
 use Rattle.array_core.specs.Opening.{super_at, slot_by, seat_by, slots_found, view_found}
 use Rattle.array_core.specs.Slots.{place_by, places_by}
 use Rattle.array_core.specs.Seats.{gone, names, restart, restarted}
-use Rattle.array_core.specs.Staging.{HasRowRebuilds}
 use Rattle.array_core.proofs.Truths.{truth_facts, unsynced_left}
 use Rattle.array_core.proofs.Rules.{get_map, get_range, placed, zero_more}
 use Rattle.array_core.proofs.Restarting.{restarted_rows}
@@ -29,22 +27,26 @@ use Rattle.array_core.proofs.Opened.{named_place, super_passes, truth_leads, cur
 use Rattle.raid_rack.specs.Moves.{IsOfPool, IsSeated}
 use Rattle.raid_rack.proofs.Seated.{array_with, gone_lost, names_joined, rebuilding_before, seats_length}
 
--- The superblocks that were found for an array on the places that its truth names; whoever is current and has none is absent.
-pub record IsFounded (s : State) (c : Image) (n : ℕ) (t : Super) (found : List Found) (absent : List ℕ) : Type 0 where
-  pub found_is : AreFound s c n t found
-  pub truth : is_truth t ≡ true
-  pub some : 0 < t.size
-  pub there :
-      (place : ℕ) → is_named t place ≡ true → is_current s place ≡ true
-      → is_some (super_in s c n place) ≡ not (names absent place)
-
+-- The superblocks that were found for an array on the places that its truth names, by some contents; whoever is current and has
+-- none is absent.
 module _ (s : State) (c : Image) (n : ℕ) (young : Bool) (t : Super) (found : List Found) (absent : List ℕ)
-    (founded : IsFounded s c n t found absent) (is_array : IsArray (restarted (view_found n young found t))) where
+    (truth_is : truth_in s c n ≡ Some t)
+    (named : (place : ℕ) → is_named t place ≡ true → super_at found place ≡ current_super s c n place)
+    (usable : is_truth t ≡ true)
+    (some : 0 < t.size)
+    (there : (place : ℕ) → is_named t place ≡ true → is_current s place ≡ true → is_some (super_in s c n place) ≡ not (names absent place))
+    (is_array : IsArray (restarted (view_found n young found t))) where
   abbrev u : View
   u = restarted (view_found n young found t)
 
   abbrev v : View
   v = gone absent u
+
+  place_named : (k : ℕ) → k < t.raid_disks → is_named t (place_at u k) ≡ true
+  place_named k low =
+      let at = placed t k (truth_facts t usable).positions low in
+      let few = (truth_facts t usable).few in
+      subst (λ q. is_named t q ≡ true) (ap (λ o. unwrap_or o 16) (sym at.1)) (named_place t k at.0 (omega (arith, low, few)) at.1)
 
   -- the seat of a member, as it was found
   seat_found : (k : ℕ) → k < t.raid_disks → slice_get u.seats k ≡ Some (restart t.size (option_map_or seat_by (current_super s c n (place_at u k)) Missing))
@@ -57,24 +59,12 @@ module _ (s : State) (c : Image) (n : ℕ) (young : Bool) (t : Super) (found : L
       ∙ ap (λ (j : ℕ). Some (place_by t j)) (zero_more k)) in
       get_map (restart t.size) (map (λ x. x.seat) (slots_found found t)) k
       ∙ ap (option_map (restart t.size)) (get_map (λ x. x.seat) (slots_found found t) k ∙ ap (option_map (λ x. x.seat)) at)
-      ∙ ap (λ o. Some (restart t.size (option_map_or seat_by o Missing))) (founded.found_is.named p named)
-    where
-      named : is_named t (place_by t k) ≡ true
-      named =
-          let there = placed t k (truth_facts t founded.truth).positions low in
-          let few = (truth_facts t founded.truth).few in
-          subst (λ q. is_named t q ≡ true) (ap (λ o. unwrap_or o 16) (sym there.1)) (named_place t k there.0 (omega (arith, low, few)) there.1)
-
-  place_named : (k : ℕ) → k < t.raid_disks → is_named t (place_at u k) ≡ true
-  place_named k low =
-      let there = placed t k (truth_facts t founded.truth).positions low in
-      let few = (truth_facts t founded.truth).few in
-      subst (λ q. is_named t q ≡ true) (ap (λ o. unwrap_or o 16) (sym there.1)) (named_place t k there.0 (omega (arith, low, few)) there.1)
+      ∙ ap (λ o. Some (restart t.size (option_map_or seat_by o Missing))) (named p (place_named k low))
 
   place_small : (k : ℕ) → k < t.raid_disks → place_at u k < 16
   place_small k low =
-      let there = placed t k (truth_facts t founded.truth).positions low in
-      subst (λ q. q < 16) (ap (λ o. unwrap_or o 16) (sym there.1)) there.2
+      let at = placed t k (truth_facts t usable).positions low in
+      subst (λ q. q < 16) (ap (λ o. unwrap_or o 16) (sym at.1)) at.2
 
   -- a member is missing where its drive isn't current, or is absent
   missing_found : (current gone_now : Bool) (o : Option Super) → (current ≡ true → is_some o ≡ not gone_now)
@@ -102,7 +92,7 @@ module _ (s : State) (c : Image) (n : ℕ) (young : Bool) (t : Super) (found : L
 
   leads_at : (p : ℕ) × (super_in s c n p ≡ Some t)
   leads_at =
-      let leads = truth_leads s c n t founded.found_is.truth in
+      let leads = truth_leads s c n t truth_is in
       (leads.at, (current_is s c n leads.at t leads.here).1)
 
   is_of_pool : IsOfPool s v
@@ -122,7 +112,7 @@ module _ (s : State) (c : Image) (n : ℕ) (young : Bool) (t : Super) (found : L
         roles = six.1;
         unsynced = unsynced_left young t;
         rows = λ k to is.
-            restarted_rows (view_found n young found t) founded.some k to
+            restarted_rows (view_found n young found t) some k to
             (rebuilding_before (names absent (place_at u k)) (slice_get u.seats k) to (sym (lost_seats k) ∙ is));
       }
 
@@ -136,7 +126,7 @@ module _ (s : State) (c : Image) (n : ℕ) (young : Bool) (t : Super) (found : L
         marks = λ k low.
             let p = place_at u k in
             ap (option_map is_missing_seat) (lost_seats k ∙ ap (option_map (seat_unless (names absent) p)) (seat_found k low))
-            ∙ ap Some (missing_found (is_current s p) (names absent p) (super_in s c n p) (founded.there p (place_named k low)))
+            ∙ ap Some (missing_found (is_current s p) (names absent p) (super_in s c n p) (there p (place_named k low)))
             ∙ ap (λ b. Some (not (is_current s p && not b))) (sym (names_joined [] absent p (place_small k low)));
         is_of_pool = is_of_pool;
       }
