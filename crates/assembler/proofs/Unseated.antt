@@ -170,7 +170,7 @@ module _ (x : Seen) (known : List Known) (s : State) (t : Slices) (on : List ℕ
     module _ (checked : Checked) (absent : List ℕ) (w : Slices) (kept : KeepsLogs u w)
         (valid : is_valid s 0 ≡ true) (lasting : x.lasting) (stays : Stays x y) (fit_w : (slices_of w y).fit)
         (laid_w : HasMembers (seats_by after) checked.arrays.items checked.extents.items w)
-        (founded : AreFounded s (seats_by after) checked.arrays.items)
+        (founded : AreFounded s (seats_by after) checked.arrays.items checked.stale.items)
         (slots : AreSlots x.sectors (seats_by after) checked.arrays.items checked.extents.items)
         (room : (p d : ℕ) → seats_by after p ≡ Some d → arrays_first + 32 < x.sectors d)
         (absent_is : absent ≡ filter (λ p. is_none (seats_by after p)) (current_places s)) where
@@ -201,7 +201,7 @@ module _ (x : Seen) (known : List Known) (s : State) (t : Slices) (on : List ℕ
             let wide = room p d (sym (seat_at p) ∙ seat) in
             let slice : slice_of (log_slice p) ≡ 0 = omega arith in
             kept.sectors (log_slice p) slice ∙ logs_left p d here (omega (arith, wide));
-        founded = subst (λ f. AreFounded s f checked.arrays.items) seats_same founded;
+        founded = subst (λ f. AreFounded s f checked.arrays.items checked.stale.items) seats_same founded;
         slots = subst (λ f. AreSlots f (seat_of w) checked.arrays.items checked.extents.items) sectors_same
             (subst (λ f. AreSlots x.sectors f checked.arrays.items checked.extents.items) seats_same slots);
         members = subst (λ f. HasMembers f checked.arrays.items checked.extents.items w) seats_same laid_w;

@@ -22,6 +22,6 @@ pub record AreMembers (s : State) (t : Slices) (x : Seen) (checked : Checked) (a
   pub current : (p d : ℕ) → seat_of t p ≡ Some d → is_current s p ≡ true
   pub absent_is : (p : ℕ) → names absent p ≡ (is_none (seat_of t p) && is_current s p)
   pub logs : (p d : ℕ) → seat_of t p ≡ Some d → sectors_of t (log_slice p) ≡ log_sectors
-  pub founded : AreFounded s (seat_of t) checked.arrays.items
+  pub founded : AreFounded s (seat_of t) checked.arrays.items checked.stale.items
   pub slots : AreSlots x.sectors (seat_of t) checked.arrays.items checked.extents.items
   pub members : HasMembers (seat_of t) checked.arrays.items checked.extents.items t

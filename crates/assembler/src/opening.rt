@@ -20,7 +20,16 @@ use std::alloc::Global;
 fn open_volume<R: Rack>(
     alloc: Global,
     raid: RaidRack<R>,
-) -> Result<Volume<RaidRack<R>>, Back<R, Refusal>> {
+) -> Result<Volume<RaidRack<R>>, Back<R, Refusal>>
+    requires fit { IsFit (arrays_in raid) (slices_seen R.seen raid) }
+    requires small { total (λ n. sectors_of ((raid_in raid).arrays n)) (raid_in raid).state.made < 2 ^ 52 }
+    requires sized { 0 < (raid_in raid).state.extent }
+    requires some { 0 < (raid_in raid).state.joined }
+    requires ready { (raid_in raid).state.joined ≤ (raid_in raid).state.made }
+    ensures fit { IfOk result (λ volume. (volume_of (linear volume) (raid_seen R.seen (rack_in volume))).fit) }
+    ensures runs { IfOk result (λ volume. SliceRuns R.seen R.runs (slices_in raid) (slices_in (rack_in volume))) }
+    ensures returned { IfErr result (λ back. R.runs (below_of (slices_in raid)) back.rack) }
+{
     let state = raid.state();
     let (pool, extent, joined) = (state.pool, state.extent, state.joined);
     match Volume::open(alloc, raid, &pool, extent, joined) {

@@ -13,7 +13,7 @@ use Rattle.array_core.specs.declared.ArrayFault.{ArrayFault}
 use Rattle.array_core.specs.declared.ArrayFault.TheVariants.{Foreign, TooFew, DirtyDegraded}
 use Rattle.array_core.specs.Model.{is_truth}
 use Rattle.array_core.specs.declared.Found.{Found as FoundSuper}
-use Rattle.array_core.specs.Opening.{opened, truth_of as found_truth, view_found}
+use Rattle.array_core.specs.Opening.{opened, super_at as super_found, truth_of as found_truth, view_found}
 use Rattle.array_core.specs.Contents.{lacking_in}
 use Rattle.array_core.proofs.Opened.{named_shape}
 use Rattle.pool_scan.proofs.Sights.{each_push}
@@ -24,7 +24,9 @@ use Rattle.pool_check.specs.declared.Extent.{Extent}
 use Rattle.pool_check.specs.declared.Layer.{Layer}
 use Rattle.pool_check.specs.declared.ArraysRead.{ArraysRead}
 use Rattle.pool_check.specs.Drives.{HasFewPlaces}
-use Rattle.pool_check.specs.Layers.{AreLayers, AreOpened, IsExtent, IsLayer, IsNext, IsOpened, Opens, all_found, extent_by, fault_by, fault_of, is_usable, sight_of, sights_by}
+use Rattle.pool_check.specs.Founded.{is_stale}
+use Rattle.pool_image.specs.Meaning.{super_at}
+use Rattle.pool_check.specs.Layers.{AreLayers, AreOpened, IsExtent, IsFlag, IsLayer, IsNext, IsOpened, Opens, all_found, extent_by, fault_by, fault_of, is_usable, sight_of, sights_by}
 use Rattle.pool_check.proofs.Begins.{IsUnknown, unknown_by}
 use Rattle.pool_check.proofs.Finding.{found_any, found_is_truth, found_once}
 use Rattle.pool_check.proofs.Layered.{far_fault, known_extent, known_next, known_sights, known_super, known_truth, named, opens_as, unknown_fault}
@@ -38,7 +40,7 @@ length_more (y ∷ xs) x (suc n) is = ap suc (length_more xs x n (let same : len
 pub more_layers : (f : Found) (many : ℕ) (a b : ArraysRead) (layer : Layer)
     → b.all.items ≡ a.all.items ++ layer ∷ []
     → IsLayer f many layer
-    → ((fault_of f many ≡ None) → AreOpened f many a.opened.arrays.items a.opened.extents.items → AreOpened f (suc many) b.opened.arrays.items b.opened.extents.items)
+    → ((fault_of f many ≡ None) → AreOpened f many a.opened.arrays.items a.opened.extents.items a.opened.stale.items → AreOpened f (suc many) b.opened.arrays.items b.opened.extents.items b.opened.stale.items)
     → IsNext f (suc many) b.next
     → AreLayers f many a → AreLayers f (suc many) b
 more_layers f many a b layer pushed is opens next old = record {
@@ -151,21 +153,30 @@ module _ (f : Found) (array first : ℕ) (t : Super) (low : array < 16) (begins 
       shape = named_shape f.state (slices_of f) array t (all_found f array first) holds (named f array first t low begins is few holds) (not (nat_lt array f.state.joined));
     }
 
+    -- its flag is that of the drives
+    flag_is : (flag : Bool) → flag ≡ is_stale t (super_found (all_found f array first)) → IsFlag f array flag
+    flag_is flag says u truth =
+        let same = some_same t u (sym (known_truth f array first t low begins is) ∙ truth) in
+        let seen : super_found (all_found f array first) ≡ super_at f array =
+        λ i place. (found_any f array first low few place ∙ sym (known_super f array first t low begins is place)) i in
+        says ∙ ap (is_stale t) seen ∙ ap (λ (x : Super). is_stale x (super_at f array)) same
+
     -- one more array is open, with its extent, or the fault says why not
-    pub more_opened : (a b : Checked) (e : Extent) (fault : Option ArrayFault)
+    pub more_opened : (a b : Checked) (e : Extent) (flag : Bool) (fault : Option ArrayFault)
+        → flag ≡ is_stale t (super_found (all_found f array first))
         → extent_by e ≡ record { first = first; sectors = data_sector + t.size }
-        → Opens a b e (opened array (not (nat_lt array f.state.joined)) (all_found f array first)) fault
+        → Opens a b e flag (opened array (not (nat_lt array f.state.joined)) (all_found f array first)) fault
         → (fault ≡ fault_of f array)
-        × (fault_of f array ≡ None → AreOpened f array a.arrays.items a.extents.items → AreOpened f (suc array) b.arrays.items b.extents.items)
-    more_opened a b e fault lies opens =
-        by (nat_lt 1 lacks) (nat_lt 0 lacks && dirty) near_fault (subst (λ r. Opens a b e r fault) opening opens)
+        × (fault_of f array ≡ None → AreOpened f array a.arrays.items a.extents.items a.stale.items → AreOpened f (suc array) b.arrays.items b.extents.items b.stale.items)
+    more_opened a b e flag fault says lies opens =
+        by (nat_lt 1 lacks) (nat_lt 0 lacks && dirty) near_fault (subst (λ r. Opens a b e flag r fault) opening opens)
       where
         by : (short unclean : Bool)
             → fault_of f array ≡ (if short then Some TooFew else if unclean then Some DirtyDegraded else None)
-            → Opens a b e (if short then Err TooFew else if unclean then Err DirtyDegraded
+            → Opens a b e flag (if short then Err TooFew else if unclean then Err DirtyDegraded
             else Ok (view_found array (not (nat_lt array f.state.joined)) (all_found f array first) t)) fault
             → (fault ≡ fault_of f array)
-            × (fault_of f array ≡ None → AreOpened f array a.arrays.items a.extents.items → AreOpened f (suc array) b.arrays.items b.extents.items)
+            × (fault_of f array ≡ None → AreOpened f array a.arrays.items a.extents.items a.stale.items → AreOpened f (suc array) b.arrays.items b.extents.items b.stale.items)
         by true unclean said done = (done.2 ∙ sym said, λ none old. none_differs TooFew (sym said ∙ none))
         by false true said done = (done.2 ∙ sym said, λ none old. none_differs DirtyDegraded (sym said ∙ none))
         by false false said done = (
@@ -182,6 +193,10 @@ module _ (f : Found) (array first : ℕ) (t : Super) (low : array < 16) (begins 
                     subst (λ (xs : List Extent). (n : ℕ) (x : Extent) → slice_get xs n ≡ Some x → extent_of f (suc n) ≡ Some (extent_by x)) (sym done.1)
                     (each_push (λ n x. extent_of f (suc n) ≡ Some (extent_by x)) a.extents.items e old.lies
                     (subst (λ n. extent_of f (suc n) ≡ Some (extent_by e)) (sym old.lengths) (known_extent f array first t low begins is ∙ ap Some (sym lies))));
+                flagged = ap length done.3 ∙ length_more a.stale.items flag array old.flagged;
+                flags =
+                    subst (λ (xs : List Bool). (n : ℕ) (x : Bool) → slice_get xs n ≡ Some x → IsFlag f n x) (sym done.3)
+                    (each_push (IsFlag f) a.stale.items flag old.flags (subst (λ n. IsFlag f n flag) (sym old.flagged) (flag_is flag says)));
               },
         )
 
@@ -199,17 +214,20 @@ module _ (f : Found) (array first : ℕ) (t : Super) (low : array < 16) (begins 
 -- ---- what is kept, whatever the drives tell
 
 -- arrays and extents stay as many, and at most one more
-pub opens_kept : (a b : Checked) (e : Extent) (r : Result View ArrayFault) (fault : Option ArrayFault) → Opens a b e r fault
+pub opens_kept : (a b : Checked) (e : Extent) (flag : Bool) (r : Result View ArrayFault) (fault : Option ArrayFault) → Opens a b e flag r fault
     → length a.extents.items ≡ length a.arrays.items
+    → length a.stale.items ≡ length a.arrays.items
     → (length b.extents.items ≡ length b.arrays.items) × (length b.arrays.items ≤ suc (length a.arrays.items))
-opens_kept a b e (Ok v) fault done same =
+    × (length b.stale.items ≡ length b.arrays.items)
+opens_kept a b e flag (Ok v) fault done same flags =
     let many = length a.arrays.items in
     let arrays = ap length done.0 ∙ length_more a.arrays.items v many refl in
     let extents = ap length done.1 ∙ length_more a.extents.items e many same in
-    (extents ∙ sym arrays, omega (arith, arrays))
-opens_kept a b e (Err why) fault done same =
+    let stale = ap length done.3 ∙ length_more a.stale.items flag many flags in
+    (extents ∙ sym arrays, omega (arith, arrays), stale ∙ sym arrays)
+opens_kept a b e flag (Err why) fault done same flags =
     let arrays = ap length done.0 in
-    (ap length done.1 ∙ same ∙ sym arrays, omega (arith, arrays))
+    (ap length done.1 ∙ same ∙ sym arrays, omega (arith, arrays), ap length done.3 ∙ flags ∙ sym arrays)
 
 pub next_near : (end first : ℕ) → (if nat_lt end (2 ^ 48) then Some end else None) ≡ Some first → first < 2 ^ 48
 next_near end first is =

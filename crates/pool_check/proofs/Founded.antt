@@ -25,7 +25,7 @@ use Rattle.pool_check.specs.declared.Extent.{Extent}
 use Rattle.pool_check.specs.declared.Layer.{Layer}
 use Rattle.pool_check.specs.declared.Sight.{Sight}
 use Rattle.pool_check.specs.Drives.{HasFewPlaces}
-use Rattle.pool_check.specs.Founded.{AreFounded, HasContents, IsFounded, IsReadAt, found_in, super_by}
+use Rattle.pool_check.specs.Founded.{AreFounded, HasContents, IsFounded, IsReadAt, found_in, is_stale, super_by}
 use Rattle.pool_check.specs.Layers.{AreFoundedBy, HasNoFault, IsFoundedBy, Opens, is_sound_on, is_sound_sight, sight_by, sights_by}
 use Rattle.pool_check.proofs.Adding.{length_more, none_differs, none_in}
 use Rattle.pool_check.proofs.Begins.{no_super, nothing_in}
@@ -99,10 +99,11 @@ faulty_more s seats many a b layer why pushed fault =
         (sym fault ∙ none (length a.all.items) layer (ap (λ xs. slice_get xs (length a.all.items)) pushed ∙ got_last a.all.items layer))
 
 module _ (s : State) (seats : Seats) (number : ℕ) (a b : ArraysRead) (e : Extent) (found : List FoundSuper) (t : Super)
-    (fault : Option ArrayFault) (layer : Layer)
+    (fault : Option ArrayFault) (layer : Layer) (flag : Bool)
     (contents : HasContents s seats number 16 found) (is : found_truth found ≡ Some t) (usable : is_truth t ≡ true)
     (pushed : b.all.items ≡ a.all.items ++ layer ∷ []) (said : layer.fault ≡ fault)
     (sights : layer.sights.items ≡ map (sights_by t found) (range_with_len 0 16)) (count : length a.all.items ≡ number)
+    (flags : length a.opened.stale.items ≡ length a.opened.arrays.items) (says : flag ≡ is_stale t (super_found found))
     (old : AreFoundedBy s seats number a) where
   abbrev young : Bool
   young = not (nat_lt number s.joined)
@@ -110,8 +111,9 @@ module _ (s : State) (seats : Seats) (number : ℕ) (a b : ArraysRead) (e : Exte
   before_more : HasNoFault b.all.items → HasNoFault a.all.items
   before_more none k l at = none k l (ap (λ xs. slice_get xs k) pushed ∙ got_longer a.all.items layer k l at)
 
-  longer : (n : ℕ) (v : View) → IsFoundedBy s seats n a.all.items v → IsFoundedBy s seats n b.all.items v
-  longer n v by = record {
+  longer : (n : ℕ) (v : View) → b.opened.stale.items ≡ a.opened.stale.items ++ flag ∷ []
+      → IsFoundedBy s seats n a.all.items v (slice_get a.opened.stale.items n) → IsFoundedBy s seats n b.all.items v (slice_get b.opened.stale.items n)
+  longer n v more by = record {
     truth = by.truth;
     found = by.found;
     contents = by.contents;
@@ -121,10 +123,14 @@ module _ (s : State) (seats : Seats) (number : ℕ) (a b : ArraysRead) (e : Exte
     layer = by.layer;
     at = ap (λ xs. slice_get xs n) pushed ∙ got_longer a.all.items layer n by.layer by.at;
     sights = by.sights;
+    flagged =
+        ap (λ xs. slice_get xs n) more
+        ∙ got_longer a.opened.stale.items flag n (is_stale by.truth (super_found by.found)) by.flagged;
   }
 
-  one : (v : View) → opened number young found ≡ Ok v → IsFoundedBy s seats number b.all.items v
-  one v made = record {
+  one : (v : View) → b.opened.stale.items ≡ a.opened.stale.items ++ flag ∷ [] → length a.opened.stale.items ≡ number
+      → opened number young found ≡ Ok v → IsFoundedBy s seats number b.all.items v (slice_get b.opened.stale.items number)
+  one v more many made = record {
     truth = t;
     found = found;
     contents = contents;
@@ -134,21 +140,25 @@ module _ (s : State) (seats : Seats) (number : ℕ) (a b : ArraysRead) (e : Exte
     layer = layer;
     at = ap (λ xs. slice_get xs number) pushed ∙ subst (λ n. slice_get (a.all.items ++ layer ∷ []) n ≡ Some layer) count (got_last a.all.items layer);
     sights = sights;
+    flagged =
+        ap (λ xs. slice_get xs number) more
+        ∙ subst (λ n. slice_get (a.opened.stale.items ++ flag ∷ []) n ≡ Some flag) many (got_last a.opened.stale.items flag) ∙ ap Some says;
   }
 
   -- one more array was opened, or it has a fault
-  pub founded_more : Opens a.opened b.opened e (opened number young found) fault → AreFoundedBy s seats (suc number) b
+  pub founded_more : Opens a.opened b.opened e flag (opened number young found) fault → AreFoundedBy s seats (suc number) b
   founded_more opens = by (opened number young found) refl opens
     where
-      by : (r : Result View ArrayFault) → opened number young found ≡ r → Opens a.opened b.opened e r fault → AreFoundedBy s seats (suc number) b
+      by : (r : Result View ArrayFault) → opened number young found ≡ r → Opens a.opened b.opened e flag r fault → AreFoundedBy s seats (suc number) b
       by (Err why) made done = faulty_more s seats number a b layer why pushed (said ∙ done.2)
       by (Ok v) made done = record {
         count = λ none. ap length done.0 ∙ length_more a.opened.arrays.items v number (old.count (before_more none));
         each = λ none.
-            subst (λ (xs : List View). (n : ℕ) (w : View) → slice_get xs n ≡ Some w → IsFoundedBy s seats n b.all.items w) (sym done.0)
-            (each_push (λ n w. IsFoundedBy s seats n b.all.items w) a.opened.arrays.items v
-            (λ n w at. longer n w (old.each (before_more none) n w at))
-            (subst (λ n. IsFoundedBy s seats n b.all.items v) (sym (old.count (before_more none))) (one v made)));
+            let many = old.count (before_more none) in
+            subst (λ (xs : List View). (n : ℕ) (w : View) → slice_get xs n ≡ Some w → IsFoundedBy s seats n b.all.items w (slice_get b.opened.stale.items n)) (sym done.0)
+            (each_push (λ n w. IsFoundedBy s seats n b.all.items w (slice_get b.opened.stale.items n)) a.opened.arrays.items v
+            (λ n w at. longer n w done.3 (old.each (before_more none) n w at))
+            (subst (λ n. IsFoundedBy s seats n b.all.items v (slice_get b.opened.stale.items n)) (sym many) (one v done.3 (flags ∙ many) made)));
       }
 
 -- ---- all arrays
@@ -172,8 +182,8 @@ module _ (s : State) (seats : Seats) (few : HasFewPlaces s seats) (read : Arrays
   abbrev layers : List Layer
   layers = read.all.items
 
-  pub founded_by : (n : ℕ) (v : View) → IsFoundedBy s seats n layers v → IsFounded s seats n v
-  founded_by n v by = record {
+  pub founded_by : (n : ℕ) (v : View) (flag : Option Bool) → IsFoundedBy s seats n layers v flag → IsFounded s seats n v
+  founded_by n v flag by = record {
     image = image;
     truth = by.truth;
     found = by.found;
@@ -217,5 +227,11 @@ module _ (s : State) (seats : Seats) (few : HasFewPlaces s seats) (read : Arrays
           let most = few.few in
           seated place d (omega (arith, below, most)) named seat ∙ sym (ap is_some seat)
 
-  pub are_founded : HasNoFault layers → AreFoundedBy s seats s.made read → AreFounded s seats read.opened.arrays.items
-  are_founded none by = record { count = by.count none; each = λ n v at. founded_by n v (by.each none n v at) }
+  pub are_founded : HasNoFault layers → AreFoundedBy s seats s.made read
+      → AreFounded s seats read.opened.arrays.items read.opened.stale.items
+  unfolding founded_by
+  are_founded none by = record {
+    count = by.count none;
+    each = λ n v at. founded_by n v (slice_get read.opened.stale.items n) (by.each none n v at);
+    flags = λ n v at. (by.each none n v at).flagged;
+  }

@@ -16,3 +16,4 @@ pub mod Laid
 pub mod Shown
 pub mod Valid
 pub mod Founded
+pub mod Settled

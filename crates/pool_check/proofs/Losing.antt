@@ -15,10 +15,10 @@ use Rattle.pool_check.proofs.Finding.{differs}
 abbrev pub IsWithout : Seats → Seats → ℕ → Type 0
 IsWithout before after place = (p : ℕ) → after p ≡ (if p == place then None else before p)
 
-without_here : (before after : Seats) (place : ℕ) → IsWithout before after place → after place ≡ None
+pub without_here : (before after : Seats) (place : ℕ) → IsWithout before after place → after place ≡ None
 without_here before after place is = is place ∙ ap (λ (b : Bool). if b then None else before place) (eq-eqb place place refl)
 
-without_other : (before after : Seats) (place p : ℕ) → IsWithout before after place → (p ≡ place → ⊥) → after p ≡ before p
+pub without_other : (before after : Seats) (place p : ℕ) → IsWithout before after place → (p ≡ place → ⊥) → after p ≡ before p
 without_other before after place p is other = is p ∙ ap (λ (b : Bool). if b then None else before p) (differs p place other)
 
 -- a place that has a disk afterwards had it before

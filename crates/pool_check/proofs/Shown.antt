@@ -28,8 +28,8 @@ got [] n below = absurd (omega (arith, below))
 got (x ∷ xs) zero below = (x, refl)
 got (x ∷ xs) (suc n) below = got xs n (omega (arith, below))
 
-module _ (f : Found) (sectors : ℕ → ℕ) (arrays : List View) (extents : List Extent) (t : Slices)
-    (opened : AreOpened f f.state.made arrays extents)
+module _ (f : Found) (sectors : ℕ → ℕ) (arrays : List View) (extents : List Extent) (t : Slices) {stale : List Bool}
+    (opened : AreOpened f f.state.made arrays extents stale)
     (slots : AreSlots sectors f.seats arrays extents)
     (members : HasMembers f.seats arrays extents t)
     (seats : (p : ℕ) → seat_of t p ≡ f.seats p)

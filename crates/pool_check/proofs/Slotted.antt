@@ -178,9 +178,9 @@ pub record Keeps (a b : Checked) (layers : List Layer) (layer : Layer) (next : �
   pub past : IsBehind b.extents.items next
   pub matched : AreMatched (layers ++ layer ∷ []) b.arrays.items b.extents.items
 
-pub opens_keeps : (a b : Checked) (e : Extent) (number : ℕ) (young : Bool) (found : List FoundSuper) (t : Super) (fault : Option ArrayFault)
+pub opens_keeps : (a b : Checked) (e : Extent) (flag : Bool) (number : ℕ) (young : Bool) (found : List FoundSuper) (t : Super) (fault : Option ArrayFault)
     (layers : List Layer) (layer : Layer)
-    → Opens a b e (opened number young found) fault
+    → Opens a b e flag (opened number young found) fault
     → found_truth found ≡ Some t
     → length a.extents.items ≡ length a.arrays.items
     → layer.sights.items ≡ map (sights_by t found) (range_with_len 0 16)
@@ -188,10 +188,10 @@ pub opens_keeps : (a b : Checked) (e : Extent) (number : ℕ) (young : Bool) (fo
     → e.sectors ≡ data_sector + t.size
     → AreOrdered a.extents.items → IsBehind a.extents.items e.first → AreMatched layers a.arrays.items a.extents.items
     → Keeps a b layers layer (behind e)
-opens_keeps a b e number young found t fault layers layer opens is same sights lies size ordered past matched =
+opens_keeps a b e flag number young found t fault layers layer opens is same sights lies size ordered past matched =
     by (opened number young found) refl opens
   where
-    by : (r : Result View ArrayFault) → opened number young found ≡ r → Opens a b e r fault → Keeps a b layers layer (behind e)
+    by : (r : Result View ArrayFault) → opened number young found ≡ r → Opens a b e flag r fault → Keeps a b layers layer (behind e)
     by (Err why) made done =
         let extents = sym done.1 in
         let arrays = sym done.0 in

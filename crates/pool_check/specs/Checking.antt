@@ -36,4 +36,4 @@ refused_by_layers layers =
 -- Nothing is refused but the volume maybe, the arrays are open, and their slices lie at these extents.
 pub record IsChecked (well : ℕ → Bool) (f : Found) (checked : Checked) : Type 0 where
   pub sound : refused_with well None f ≡ None
-  pub opened : AreOpened f f.state.made checked.arrays.items checked.extents.items
+  pub opened : AreOpened f f.state.made checked.arrays.items checked.extents.items checked.stale.items

@@ -1,6 +1,7 @@
 -- Arrays of the valid superblocks that were read of their members, whatever the disks tell.
-use Rattle.std.specs.Prelude.{◌≡◌, ℕ, ◌<◌, true, not, nat_lt, is_some, List, [], map, length, slice_get, Option, Some, None, Ok}
-use Rattle.std.specs.List.{range_with_len}
+use Rattle.std.specs.Prelude.{◌≡◌, ℕ, ◌<◌, ◌==◌, ◌&&◌, Bool, true, false, not, nat_lt, is_some, List, [], map, length, slice_get, Option, Some, None, Ok}
+use Rattle.std.specs.List.{list_any, range_with_len}
+use Rattle.std.specs.Option.{option_map_or}
 use Rattle.rack.specs.Seen.{Image}
 use Rattle.md_super.specs.declared.superblock.Super.{Super}
 use Rattle.pool_state.specs.declared.contents.State.{State}
@@ -40,6 +41,16 @@ pub record HasContents (s : State) (seats : Seats) (array many : ℕ) (found : L
   pub are : found ≡ all_in s image array many
   pub unseated : (place : ℕ) → seats place ≡ None → super_in s image array place ≡ None
 
+-- ---- stale superblocks
+
+-- the superblock of a place is stale: its events aren't those of the truth that names the place
+abbrev pub is_stale_on : Super → (ℕ → Option Super) → ℕ → Bool
+is_stale_on truth seen place = is_named truth place && option_map_or (λ t. not (t.events == truth.events)) (seen place) false
+
+-- the superblock of a member is
+unfoldable pub is_stale : Super → (ℕ → Option Super) → Bool
+is_stale truth seen = list_any (is_stale_on truth seen) (range_with_len 0 16)
+
 -- ---- arrays
 
 -- An array of the valid superblocks of its members: by some contents of its slices, each member with a disk has one, and no other.
@@ -58,7 +69,10 @@ pub record IsFounded (s : State) (seats : Seats) (n : ℕ) (v : View) : Type 0 w
       (place : ℕ) → is_named truth place ≡ true → is_current s place ≡ true
       → is_some (super_in s image n place) ≡ is_some (seats place)
 
--- All arrays of a pool are, by number.
-pub record AreFounded (s : State) (seats : Seats) (arrays : List View) : Type 0 where
+-- All arrays of a pool are, by number, with a flag each that says whether a member's superblock is stale.
+pub record AreFounded (s : State) (seats : Seats) (arrays : List View) (stale : List Bool) : Type 0 where
   pub count : length arrays ≡ s.made
   pub each : (n : ℕ) (v : View) → slice_get arrays n ≡ Some v → IsFounded s seats n v
+  pub flags :
+      (n : ℕ) (v : View) (at : slice_get arrays n ≡ Some v)
+      → slice_get stale n ≡ Some (is_stale (each n v at).truth (super_at (each n v at).found))

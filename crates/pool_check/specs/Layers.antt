@@ -25,7 +25,7 @@ use Rattle.pool_check.specs.declared.Sight.TheVariants.{Stranger, Valid, Invalid
 use Rattle.pool_check.specs.declared.Layer.{Layer}
 use Rattle.pool_check.specs.declared.ArraysRead.{ArraysRead}
 use Rattle.pool_check.specs.declared.Checked.{Checked}
-use Rattle.pool_check.specs.Founded.{HasContents, all_in, found_in, super_by}
+use Rattle.pool_check.specs.Founded.{HasContents, all_in, found_in, is_stale, super_by}
 
 -- ---- superblocks
 
@@ -143,25 +143,32 @@ pub record IsOpened (f : Found) (array : ℕ) (v : View) : Type 0 where
   pub view : v ≡ view_found array (not (nat_lt array f.state.joined)) found truth
   pub shape : shape_of v ≡ shape_by f.state (slices_of f) array truth
 
--- The arrays below a number are open, and their slices lie there.
-pub record AreOpened (f : Found) (many : ℕ) (arrays : List View) (extents : List Extent) : Type 0 where
+-- a flag of an array says whether a member's superblock is stale
+abbrev pub IsFlag : Found → ℕ → Bool → Type 0
+IsFlag f array flag = (t : Super) → truth_of f array ≡ Some t → flag ≡ is_stale t (super_at f array)
+
+-- The arrays below a number are open, their slices lie there, and these have stale superblocks.
+pub record AreOpened (f : Found) (many : ℕ) (arrays : List View) (extents : List Extent) (stale : List Bool) : Type 0 where
   pub count : length arrays ≡ many
   pub lengths : length extents ≡ many
   pub each : (n : ℕ) (v : View) → slice_get arrays n ≡ Some v → IsOpened f n v
   pub lies : (n : ℕ) (e : Extent) → slice_get extents n ≡ Some e → extent_of f (suc n) ≡ Some (extent_by e)
+  pub flagged : length stale ≡ many
+  pub flags : (n : ℕ) (flag : Bool) → slice_get stale n ≡ Some flag → IsFlag f n flag
 
--- an array was kept with its extent, or wasn't opened
-abbrev pub Opens : Checked → Checked → Extent → Result View ArrayFault → Option ArrayFault → Type 0
-Opens a b e (Ok v) fault =
+-- an array was kept with its extent and its flag, or wasn't opened
+abbrev pub Opens : Checked → Checked → Extent → Bool → Result View ArrayFault → Option ArrayFault → Type 0
+Opens a b e flag (Ok v) fault =
     (b.arrays.items ≡ a.arrays.items ++ v ∷ []) × (b.extents.items ≡ a.extents.items ++ e ∷ []) × (fault ≡ None)
-Opens a b e (Err why) fault =
-    (b.arrays.items ≡ a.arrays.items) × (b.extents.items ≡ a.extents.items) × (fault ≡ Some why)
+    × (b.stale.items ≡ a.stale.items ++ flag ∷ [])
+Opens a b e flag (Err why) fault =
+    (b.arrays.items ≡ a.arrays.items) × (b.extents.items ≡ a.extents.items) × (fault ≡ Some why) × (b.stale.items ≡ a.stale.items)
 
 -- the arrays below a number are read
 pub record AreLayers (f : Found) (many : ℕ) (layers : ArraysRead) : Type 0 where
   pub count : length layers.all.items ≡ many
   pub each : (n : ℕ) (layer : Layer) → slice_get layers.all.items n ≡ Some layer → IsLayer f n layer
-  pub opened : ((n : ℕ) → n < many → fault_of f n ≡ None) → AreOpened f many layers.opened.arrays.items layers.opened.extents.items
+  pub opened : ((n : ℕ) → n < many → fault_of f n ≡ None) → AreOpened f many layers.opened.arrays.items layers.opened.extents.items layers.opened.stale.items
   pub next : IsNext f many layers.next
 
 -- ---- arrays by what was read, whatever the disks tell
@@ -170,8 +177,8 @@ pub record AreLayers (f : Found) (many : ℕ) (layers : ArraysRead) : Type 0 whe
 abbrev pub HasNoFault : List Layer → Type 0
 HasNoFault layers = (k : ℕ) (layer : Layer) → slice_get layers k ≡ Some layer → layer.fault ≡ None
 
--- an array is that of the superblocks that were found on its places, and its layer says what each of these has
-pub record IsFoundedBy (s : State) (seats : Seats) (n : ℕ) (layers : List Layer) (v : View) : Type 0 where
+-- an array is that of the superblocks that were found on its places, its layer says what each of these has, and its flag whether one is stale
+pub record IsFoundedBy (s : State) (seats : Seats) (n : ℕ) (layers : List Layer) (v : View) (flag : Option Bool) : Type 0 where
   pub truth : Super
   pub found : List FoundSuper
   pub contents : HasContents s seats n 16 found
@@ -181,10 +188,12 @@ pub record IsFoundedBy (s : State) (seats : Seats) (n : ℕ) (layers : List Laye
   pub layer : Layer
   pub at : slice_get layers n ≡ Some layer
   pub sights : layer.sights.items ≡ map (sights_by truth found) (range_with_len 0 16)
+  pub flagged : flag ≡ Some (is_stale truth (super_found found))
 
 -- the arrays below a number are all open, where none of them has a fault
 pub record AreFoundedBy (s : State) (seats : Seats) (many : ℕ) (layers : ArraysRead) : Type 0 where
   pub count : HasNoFault layers.all.items → length layers.opened.arrays.items ≡ many
   pub each :
       HasNoFault layers.all.items
-      → (n : ℕ) (v : View) → slice_get layers.opened.arrays.items n ≡ Some v → IsFoundedBy s seats n layers.all.items v
+      → (n : ℕ) (v : View) → slice_get layers.opened.arrays.items n ≡ Some v
+      → IsFoundedBy s seats n layers.all.items v (slice_get layers.opened.stale.items n)

@@ -5,3 +5,4 @@ pub mod Layers
 pub mod Checking
 pub mod Slots
 pub mod Laying
+pub mod Settling

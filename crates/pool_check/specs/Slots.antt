@@ -45,6 +45,7 @@ pub record AreMatched (layers : List Layer) (arrays : List View) (extents : List
 pub record AreKept (many : ℕ) (layers : ArraysRead) : Type 0 where
   pub count : length layers.all.items ≡ many
   pub lengths : length layers.opened.extents.items ≡ length layers.opened.arrays.items
+  pub flags : length layers.opened.stale.items ≡ length layers.opened.arrays.items
   pub fewer : length layers.opened.arrays.items ≤ many
   pub near : (first : ℕ) → layers.next ≡ Some first → first < 2 ^ 48
   pub ordered : AreOrdered layers.opened.extents.items

@@ -64,7 +64,7 @@ pub fn seats_of(scan: &Scan, state: &State, gone: &Places) -> Seats
 }
 
 /// Puts a disk or none in the seat of a place.
-fn put_seat(seats: &mut Seats, place: u32, seat: Option<u32>)
+pub(crate) fn put_seat(seats: &mut Seats, place: u32, seat: Option<u32>)
     requires { place < 16 }
     ensures { (p : ℕ) → seats_by seats.new p ≡ (if p == place then seat else seats_by seats.old p) }
 {
@@ -157,7 +157,7 @@ fn check_seated<R: Rack>(
     ensures checked { IfOk result (λ checked. (o : Drives) → AreDrivesOf (R.seen rack.old) (seats_by seats.now) o
         → AreCopied scan.now.disks.items (seats_by seats.now) o → IsChecked (is_well bad) (found_with state.now (seats_by seats.now) o) checked) }
     ensures slots { IfOk result (λ checked. AreSlots (R.seen rack.old).sectors (seats_by seats.now) checked.arrays.items checked.extents.items) }
-    ensures pool { IfOk result (λ checked. AreFounded state.now (seats_by seats.now) checked.arrays.items) }
+    ensures pool { IfOk result (λ checked. AreFounded state.now (seats_by seats.now) checked.arrays.items checked.stale.items) }
     ensures room { OnOk result ((place d : ℕ) → seats_by seats.now place ≡ Some d → arrays_first + 32 < (R.seen rack.old).sectors d) }
     ensures halts { IfErr result (λ halt. Halts (R.seen rack.old) (R.seen rack.new) (seats_by seats.now)
         (λ fault. (o : Drives) → AreDrivesOf (R.seen rack.old) (seats_by seats.now) o → AreCopied scan.now.disks.items (seats_by seats.now) o
@@ -206,7 +206,7 @@ pub fn check_drives<R: Rack>(
     // Whatever the disks tell, the members' slices lie one behind the other, and on their disks.
     ensures slots { IfOk result (λ checked. AreSlots (R.seen rack.old).sectors (seats_by seats.new) checked.arrays.items checked.extents.items) }
     // Whatever the disks tell, each array is that of valid superblocks of its members, and each member with a disk has one.
-    ensures pool { IfOk result (λ checked. AreFounded state.now (seats_by seats.new) checked.arrays.items) }
+    ensures pool { IfOk result (λ checked. AreFounded state.now (seats_by seats.new) checked.arrays.items checked.stale.items) }
     // Whatever the disks tell, each disk has room for its log slice and a backup table behind it.
     ensures room { OnOk result ((place d : ℕ) → seats_by seats.new place ≡ Some d → arrays_first + 32 < (R.seen rack.old).sectors d) }
     ensures runs { R.runs rack.old rack.new }

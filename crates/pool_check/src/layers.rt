@@ -1,6 +1,6 @@
 //! What the superblocks of each array say, and the arrays that they make.
 
-ghost use Rattle.std.specs.Prelude.{◌≡◌, ◌<◌, ◌≤◌, ◌^◌, ◌+◌, ℕ, suc, true, false, is_some, not, nat_lt, if◌then◌else◌, map, length, slice_get, replicate, OnOk, IfOk, IfErr, Some, None, List, ◌++◌, ◌∷◌, []};
+ghost use Rattle.std.specs.Prelude.{◌≡◌, ◌==◌, ◌<◌, ◌≤◌, ◌^◌, ◌+◌, ℕ, suc, true, false, is_some, not, nat_lt, if◌then◌else◌, find, map, length, slice_get, replicate, OnOk, IfOk, IfErr, Some, None, List, ◌++◌, ◌∷◌, []};
 ghost use Rattle.std.specs.List.{list_all, range_with_len};
 ghost use Rattle.std.specs.Option.{option_and_then, option_copied, option_map_or};
 ghost use Rattle.rack.specs.Sequences.{OnlyReads};
@@ -9,13 +9,13 @@ ghost use Rattle.pool_state.specs.declared.contents.State.{State};
 ghost use Rattle.array_image.specs.Places.{data_sector};
 ghost use Rattle.array_image.specs.Supers.{is_named};
 ghost use Rattle.array_core.specs.Model.{is_truth};
-ghost use Rattle.array_core.specs.Opening.{opened as opened_as, truth_of as found_truth};
+ghost use Rattle.array_core.specs.Opening.{opened as opened_as, super_at as super_found, truth_of as found_truth};
 ghost use Rattle.pool_image.specs.Disks.{Seats as PlaceSeats};
 ghost use Rattle.pool_image.specs.Drives.{Found as Pool, extent_of, first_of};
 ghost use Rattle.pool_image.specs.Meaning.{truth_of};
 ghost use Rattle.pool_check.specs.Drives.{AreDrivesOf, Drives, Goes, HasFewPlaces, IsFitState, IsSeating, found_with, seats_by};
 ghost use Rattle.pool_check.specs.Slots.{AreKept, IsBehind};
-ghost use Rattle.pool_check.specs.Founded.{HasContents};
+ghost use Rattle.pool_check.specs.Founded.{HasContents, is_stale, is_stale_on};
 ghost use Rattle.pool_check.specs.Layers.{AreFoundedBy, AreLayers, Opens, all_found, is_usable, sight_by, sights_by};
 
 use crate::superblocks::{is_named, read_supers};
@@ -111,24 +111,65 @@ fn add_far(layers: &mut ArraysRead, number: u32, found: &[Found], truth: &Super)
     layers.next = None;
 }
 
-/// Opens an array, and keeps it with the extent of its slices.
+/// What was found on a place.
+fn found_at(found: &[Found], place: u32) -> Option<&Found>
+    ensures { option_copied result ≡ find (λ f. f.place == place) found.now }
+{
+    found.iter().find(|f| f.place == place)
+}
+
+/// The superblock that was found on a place.
+fn super_at(found: &[Found], place: u32) -> Option<&Super>
+    ensures { option_copied result ≡ super_found found.now place }
+{
+    match found_at(found, place) {
+        Some(f) => f.seen.as_ref(),
+        None => None,
+    }
+}
+
+/// Whether the superblock of a place is stale.
+fn is_stale_on(truth: &Super, found: &[Found], place: u32) -> bool
+    ensures { result ≡ is_stale_on truth.now (super_found found.now) place }
+{
+    if !is_named(truth, place as usize) {
+        return false;
+    }
+    match super_at(found, place) {
+        Some(seen) => seen.events != truth.events,
+        None => false,
+    }
+}
+
+/// Whether the superblock of a member is stale.
+#[tactic(auto, unfolding(crate::specs::Founded::is_stale))]
+fn is_stale(truth: &Super, found: &[Found]) -> bool
+    ensures { result ≡ is_stale truth.now (super_found found.now) }
+{
+    (0..16).any(|place| is_stale_on(truth, found, place))
+}
+
+/// Opens an array, and keeps it with the extent of its slices, and whether superblocks of it are stale.
 fn open_array(
     opened: &mut Checked,
     number: u32,
     found: &[Found],
     young: bool,
     extent: Extent,
+    stale: bool,
 ) -> Option<ArrayFault>
     requires few { number < 16 }
     requires truth { (t : Super) → found_truth found.now ≡ Some t → is_truth t ≡ true }
     requires room { length opened.old.arrays.items < 16 }
     requires lengths { length opened.old.extents.items ≡ length opened.old.arrays.items }
-    ensures { Opens opened.old opened.new extent (opened_as number young found.now) result }
+    requires flags { length opened.old.stale.items ≡ length opened.old.arrays.items }
+    ensures { Opens opened.old opened.new extent stale (opened_as number young found.now) result }
 {
     match Array::open(number, found, young) {
         Ok(array) => {
             opened.arrays.push(array);
             opened.extents.push(extent);
+            opened.stale.push(stale);
             None
         }
         Err(fault) => Some(fault),
@@ -194,6 +235,7 @@ fn add_near(
         found,
         is_young(state, number),
         extent,
+        is_stale(truth, found),
     );
     layers.all.push(Layer {
         number,
@@ -272,6 +314,7 @@ fn no_layers() -> ArraysRead
         opened: Checked {
             arrays: ArrayVec::new(),
             extents: ArrayVec::new(),
+            stale: ArrayVec::new(),
         },
         next: Some(ARRAYS_FIRST),
     }

@@ -1,18 +1,20 @@
-//! Checks the parts of a pool's drives, and opens its arrays.
+//! Checks the parts of a pool's drives, opens its arrays, and makes the copies of its partition tables agree.
 //!
 //! The pool is at rest: its pending record is replayed, its state is known, and each of its current places has a disk or none. Of each
-//! seated drive the partition table and the superblocks are read once, and nothing is written. A drive that answers `Gone` is absent
+//! seated drive a check reads the partition table and the superblocks once, and writes nothing. A drive that answers `Gone` is absent
 //! from the start, and the check begins again without it; that happens once at most, since two absent drives are too many.
 //!
 //! **Its model** is `Found` of pool_image: the pool that the disks' contents make, with the seats that are left.
 //!
 //! **The contract for the layer above.** [`check_drives`] answers by that pool: the first refusal that it has but that of the volume
-//! (`refused_with` of specs/Refusing.antt), or, where it has none, the arrays with the shapes that their truths give, and where their
-//! slices lie (`IsChecked` of specs/Checking.antt); whatever the disks tell, each array is one of valid superblocks that were read of
-//! its members (`AreFounded` of specs/Founded.antt). [`lay_members`] lays these slices behind the log slices of a rack of slices, where
-//! none is refused (`AreSlots` of specs/Slots.antt), and what they show is what the drives' slices hold (proofs/Shown.antt). Where
-//! nothing is pending and no disk's faults rise, the answer is the meaning's refusal (proofs/Meant.antt). Whether a place's log is
-//! well formed is not read here: the caller hands in the lowest place whose log isn't.
+//! (`refused_with` of specs/Refusing.antt), or, where it has none, the arrays with the shapes that their truths give, where their
+//! slices lie, and which of them have stale superblocks (`IsChecked` of specs/Checking.antt). Whatever the disks tell, each array is
+//! one of valid superblocks that were read of its members (`AreFounded` of specs/Founded.antt). Where nothing is pending and no disk's
+//! faults rise, the answer is the meaning's refusal (proofs/Meant.antt). Whether a place's log is well formed is not read here: the
+//! caller hands in the lowest place whose log isn't. [`lay_members`] lays the slices behind the log slices of a rack of slices, where
+//! none is refused (`AreSlots` of specs/Slots.antt), and what they show is what the drives' slices hold (proofs/Shown.antt).
+//! [`settle_tables`] writes only sectors of partition tables, and at each moment each disk has the table that it had
+//! (specs/Settling.antt).
 #![tactic(auto)]
 
 ghost use Rattle.std.specs.Prelude.{◌+◌, ◌<◌, ◌^◌};
@@ -21,12 +23,14 @@ mod checking;
 mod drives;
 mod layers;
 mod laying;
+mod settling;
 mod superblocks;
 
 use array_core::{Array, ArrayFault};
 use arrayvec::ArrayVec;
 pub use checking::{check_drives, seats_of};
 pub use laying::lay_members;
+pub use settling::settle_tables;
 
 /// A part of a drive, in the order in which they are checked.
 #[derive(Clone, Copy, Debug, PartialEq, Eq)]
@@ -97,6 +101,8 @@ pub struct Checked {
     pub arrays: ArrayVec<Array, 16>,
     /// Where their slices lie, by number.
     pub extents: ArrayVec<Extent, 16>,
+    /// Whether a member's superblock is stale, which is of other events than the array's truth, by number.
+    pub stale: ArrayVec<bool, 16>,
 }
 
 /// What the disk of a place has to do with an array.

@@ -16,6 +16,7 @@ returns-clause-kept c =
     record {
       count = ap length c.push.ensures.items ∙ length_more _ _ _ c.requires.kept.count;
       lengths = c.requires.kept.lengths;
+      flags = c.requires.kept.flags;
       fewer = omega (arith, fewer);
       near = λ first at. none_differs first (sym at);
       ordered = c.requires.kept.ordered;

@@ -15,6 +15,8 @@ returns-clause-layers c f = record {
     lengths = ap length c.new-3.ensures;
     each = λ n v at. none_in _ n v c.new-2.ensures at;
     lies = λ n e at. none_in _ n e c.new-3.ensures at;
+    flagged = ap length c.new-4.ensures;
+    flags = λ n flag at. none_in _ n flag c.new-4.ensures at;
   };
   next = (refl, lit< tt);
 }
@@ -26,6 +28,7 @@ returns-clause-kept c =
     record {
       count = ap length c.new.ensures;
       lengths = extents ∙ sym arrays;
+      flags = ap length c.new-4.ensures ∙ sym arrays;
       fewer = omega (arith, arrays);
       near = λ first at. (let same : 10240 ≡ first = cc in omega (arith, same));
       ordered = record {

@@ -1,0 +1,463 @@
+-- Tables of disks are settled one after the other.
+use Rattle.std.proofs.Common.{◌≡◌, ◌≢◌, ◌⊎◌, ℕ, ◌+◌, ◌-◌, ◌<◌, ◌≤◌, Bool, true, false, if◌then◌else◌, List, [], Result, Ok, Err, Option, Some, None, option_map, inl, inr, refl, sym, ap, ap₂, subst, ◌∙◌, arith}
+use Rattle.std.proofs.lemmas.Bool.{cases_eq, cases_lt}
+use Rattle.std.proofs.lemmas.Option.{none-some}
+use Rattle.rack.specs.Values.{IsSingle, Keeps}
+use Rattle.rack.specs.Seen.{Image, IsLive, IsPick, Rose, Seen, Stays}
+use Rattle.rack.specs.Moments.{Leaves}
+use Rattle.rack.specs.Joins.{leaves_same, leaves_then, leaves_weaker, live_first, live_second, rose_later}
+use Rattle.rack.specs.Sequences.{IsMix, MayBecome, OnlyReads, WritesOnly}
+use Rattle.rack.proofs.Reading.{only_reads_start}
+use Rattle.rack.proofs.Writing.{only_none, only_quiet, only_then, only_weaker}
+use Rattle.gpt_table.specs.declared.Table.{Table}
+use Rattle.gpt_table.specs.declared.TableFault.{TableFault}
+use Rattle.gpt_table.specs.declared.TableFault.TheVariants.{NoTable, Gone}
+use Rattle.gpt_table.specs.declared.TableCopy.{TableCopy}
+use Rattle.gpt_table.specs.declared.TableCopy.TheVariants.{Primary, Backup}
+use Rattle.gpt_table.specs.Changes.{AreSingle, BothLive, BothSay, Changes, IsElsewhere, IsKeptOrWritten, IsLeftover, IsOfCopies, IsPickOf, SettlesTable, the_table}
+use Rattle.gpt_table.specs.Disk.{Contents, IsOfCopy, first_of, first_table, now_on}
+use Rattle.gpt_table.specs.Format.{entries_sector, header_sector}
+use Rattle.gpt_table.proofs.Joined.{table_at_agrees}
+use Rattle.pool_state.specs.declared.contents.State.{State}
+use Rattle.array_core.specs.Seats.{names}
+use Rattle.pool_image.specs.Disks.{Seats}
+use Rattle.pool_scan.specs.declared.Known.{Known}
+use Rattle.pool_scan.specs.Choosing.{seat_by}
+use Rattle.pool_scan.proofs.Seated.{seat_by_stands}
+use Rattle.pool_check.specs.Drives.{Goes, Loses}
+use Rattle.pool_check.specs.Settling.{AreDistinct, AreSettled, IsLeftOn, IsSettled, IsTableSector, KeepsTable, SettlesDisk, SettlesPlace}
+use Rattle.pool_check.proofs.AfterReads.{goes_early}
+use Rattle.pool_check.proofs.Losing.{IsWithout, without_here, without_other}
+
+-- ---- sectors of a table
+
+-- a sector is a header, or one of the entries behind a sector, or neither
+among : (header first s : ℕ) → ((s ≡ header) ⊎ ((first ≤ s) × (s < first + 32))) ⊎ ((s ≡ header) ⊎ ((first ≤ s) × (s < first + 32)) → ⊥)
+among header first s =
+    elim (cases_eq s header) [
+      | inl same ↦ inl (inl same)
+      | inr other ↦ elim (cases_lt s first) [
+        | inl low ↦ inr (λ is. elim is [ inl same ↦ other same | inr entries ↦ (let least = entries.0 in omega (arith, low, least)) ])
+        | inr least ↦ elim (cases_lt s (first + 32)) [
+          | inl inside ↦ inl (inr (least, inside))
+          | inr past ↦ inr (λ is. elim is [ inl same ↦ other same | inr entries ↦ (let most = entries.1 in omega (arith, past, most)) ])
+        ]
+      ]
+    ]
+
+of_copies : (sectors s : ℕ) → IsOfCopies sectors s ⊎ (IsOfCopies sectors s → ⊥)
+of_copies sectors s =
+    elim (among (header_sector Primary sectors) (entries_sector Primary sectors) s) [
+      | inl is ↦ inl (inl is)
+      | inr primary ↦ elim (among (header_sector Backup sectors) (entries_sector Backup sectors) s) [
+        | inl is ↦ inl (inr is)
+        | inr backup ↦ inr (λ is. elim is [ inl one ↦ primary one | inr two ↦ backup two ])
+      ]
+    ]
+
+-- a sector is one of a disk's table, or elsewhere
+place_of_sector : (disk sectors d s : ℕ) → IsElsewhere disk (IsOfCopies sectors) d s ⊎ ((d ≡ disk) × IsOfCopies sectors s)
+place_of_sector disk sectors d s =
+    elim (cases_eq d disk) [
+      | inl same ↦ elim (of_copies sectors s) [ inl is ↦ inr (same, is) | inr other ↦ inl (inr other) ]
+      | inr other ↦ inl (inl other)
+    ]
+
+of_one : (copy : TableCopy) (sectors s : ℕ) → IsOfCopy copy sectors s → IsOfCopies sectors s
+of_one Primary sectors s is = inl is
+of_one Backup sectors s is = inr is
+
+live_of : (a b : Seen) (d n s : ℕ) → BothLive a b d n → IsOfCopies n s → IsLive a b d s
+live_of a b d n s live (inl is) = live Primary s is
+live_of a b d n s live (inr is) = live Backup s is
+
+-- they stand at the start of the disk, or at its end
+table_end : (sectors s : ℕ) → IsOfCopies sectors s → (s < 34) ⊎ (sectors ≤ s + 33)
+table_end sectors s (inl (inl same)) = let one : s ≡ 1 = same in inl (omega (arith, one))
+table_end sectors s (inl (inr entries)) = let most : s < 34 = entries.1 in inl most
+table_end sectors s (inr (inl same)) = let last : s ≡ sectors - 1 = same in inr (omega (arith, last))
+table_end sectors s (inr (inr entries)) = let least : sectors - 33 ≤ s = entries.0 in inr (omega (arith, least))
+
+-- ---- one table
+
+-- contents that agree in the sectors of both copies have one table
+tables_agree : (n : ℕ) (x y : Contents) → ((s : ℕ) → IsOfCopies n s → x s ≡ y s) → the_table n x ≡ the_table n y
+tables_agree n x y same =
+    ap₂ (λ (p q : Option Table). option_map (λ found. found.table) (first_of p q))
+    (table_at_agrees Primary n x y (λ s is. same s (inl is)))
+    (table_at_agrees Backup n x y (λ s is. same s (inr is)))
+
+keeps_start : (a : Seen) (d : ℕ) → KeepsTable a a d
+keeps_start a d = record {
+  stops = λ traced live single. leaves_same a (λ c. the_table (a.sectors d) (c d) ≡ the_table (a.sectors d) (now_on a d));
+  held = λ live single contents left. tables_agree (a.sectors d) contents (now_on a d) (λ s is. single_at single s is (contents s) (left s is));
+}
+  where
+    single_at : AreSingle a d (a.sectors d) → (s : ℕ) → IsOfCopies (a.sectors d) s → IsSingle (a.held d s)
+    single_at single s (inl is) = single Primary s is
+    single_at single s (inr is) = single Backup s is
+
+module _ {a b c : Seen} (stays : Stays a b) (e : ℕ) (after : Stays b c) where
+  abbrev n : ℕ
+  n = a.sectors e
+
+  live_before : BothLive a c e n → BothLive a b e n
+  live_before live copy s is = live_first after (live copy s is)
+
+  live_after : BothLive a c e n → (s : ℕ) → IsOfCopies n s → IsLive b c e s
+  live_after live s is = live_second stays (live_of a c e n s live is)
+
+  -- calls that bring no value to the disk's table
+  keeps_by : ((s : ℕ) → IsOfCopies n s → IsLive b c e s → Keeps (b.held e s) (c.held e s))
+      → (b.traced → BothLive a c e n → Leaves b c (λ i. IsLeftOn b e n (i e)))
+      → KeepsTable a b e → KeepsTable a c e
+  keeps_by kept moments old = record {
+    stops = λ traced live single.
+        let Q : Image → Type 0 = λ i. the_table n (i e) ≡ the_table n (now_on a e) in
+        leaves_then Q (old.stops traced (live_before live) single)
+        (leaves_weaker (λ i. IsLeftOn b e n (i e)) Q (λ i left. old.held (live_before live) single (i e) left) (moments (stays.traced traced) live));
+    held = λ live single contents left.
+        old.held (live_before live) single contents (λ s is. (kept s is (live_after live s is)).within (contents s) (left s is));
+  }
+
+  keeps_read : OnlyReads b c → KeepsTable a b e → KeepsTable a c e
+  keeps_read reads =
+      keeps_by (λ s is live. reads.keeps.held e s live)
+      (λ traced live.
+      leaves_weaker (IsPick b c b.held) (λ i. IsLeftOn b e n (i e)) (λ i pick s is. pick e s (live_after live s is)) (reads.keeps.stops traced))
+
+  -- another disk's table was settled
+  keeps_other : (d m : ℕ) (P : Contents → Type 0) → (e ≡ d → ⊥) → Changes b c d (IsOfCopies m) P → KeepsTable a b e → KeepsTable a c e
+  keeps_other d m P apart changes =
+      keeps_by (λ s is live. changes.others e s live (inl apart))
+      (λ traced live.
+      leaves_weaker (IsLeftover b c d (IsOfCopies m) P) (λ i. IsLeftOn b e n (i e)) (λ i left s is. left.0 e s (live_after live s is) (inl apart))
+      (changes.stops traced))
+
+  -- what calls before didn't touch is as it was
+  module _ (untouched : (s : ℕ) → IsLive a b e s → Keeps (a.held e s) (b.held e s)) where
+    single_still : BothLive a c e n → AreSingle a e n → AreSingle b e n
+    single_still live single copy s is v left =
+        let keeps = untouched s (live_before live copy s is) in single copy s is v (keeps.within v left) ∙ sym keeps.current
+
+    table_still : BothLive a c e n → the_table n (now_on b e) ≡ the_table n (now_on a e)
+    table_still live =
+        tables_agree n (now_on b e) (now_on a e) (λ s is. (untouched s (live_of a b e n s (live_before live) is)).current)
+
+    live_then : BothLive a c e n → BothLive b c e n
+    live_then live copy s is = live_after live s (of_one copy n s is)
+
+    -- the disk's own table was settled
+    keeps_here : Changes b c e (IsOfCopies n) (λ contents. AreSingle b e n → the_table n contents ≡ the_table n (now_on b e))
+        → KeepsTable a b e → KeepsTable a c e
+    keeps_here changes old = record {
+      stops = λ traced live single.
+          let P : Contents → Type 0 = λ contents. AreSingle b e n → the_table n contents ≡ the_table n (now_on b e) in
+          let Q : Image → Type 0 = λ i. the_table n (i e) ≡ the_table n (now_on a e) in
+          leaves_then Q (old.stops traced (live_before live) single)
+          (leaves_weaker (IsLeftover b c e (IsOfCopies n) P) Q
+          (λ i left. left.1 (λ s is. live_after live s is) (single_still live single) ∙ table_still live)
+          (changes.stops (stays.traced traced)));
+      held = λ live single contents left.
+          changes.held (λ s is. live_after live s is) contents left (single_still live single) ∙ table_still live;
+    }
+
+    says_still : BothLive a c e n → (contents : Contents) → BothSay b e n contents → BothSay a e n contents
+    says_still live contents says = (says.0, sym (table_still live) ∙ says.1, says.2)
+
+    settled_since : b.sectors e ≡ n → IsSettled b c e → IsSettled a c e
+    settled_since same settled = record {
+      now = λ had live. says_still live (now_on c e) (moved.0 (λ none. had (sym (table_still live) ∙ none)) (live_then live));
+      durable = λ had live single contents left.
+          says_still live contents
+          (moved.1 (λ none. had (sym (table_still live) ∙ none)) (live_then live) (single_still live single) contents left);
+      written = λ had live copy contents picks.
+          before live copy contents (moved.2 (λ none. had (sym (table_still live) ∙ none)) (live_then live) copy contents picks);
+    }
+      where
+        -- by the sectors that the disk has
+        moved : (the_table n (now_on b e) ≢ None → BothLive b c e n → BothSay b e n (now_on c e))
+            × (the_table n (now_on b e) ≢ None → BothLive b c e n → AreSingle b e n → (contents : Contents) → IsLeftOn c e n contents → BothSay b e n contents)
+            × (the_table n (now_on b e) ≢ None → BothLive b c e n → (copy : TableCopy) (contents : Contents) → IsPickOf c e copy n contents
+            → IsKeptOrWritten b e n copy contents)
+        moved = (
+          subst (λ m. the_table m (now_on b e) ≢ None → BothLive b c e m → BothSay b e m (now_on c e)) same settled.now,
+          subst (λ m. the_table m (now_on b e) ≢ None → BothLive b c e m → AreSingle b e m → (contents : Contents) → IsLeftOn c e m contents → BothSay b e m contents) same settled.durable,
+          subst (λ m. the_table m (now_on b e) ≢ None → BothLive b c e m → (copy : TableCopy) (contents : Contents) → IsPickOf c e copy m contents → IsKeptOrWritten b e m copy contents) same settled.written,
+        )
+
+        before : BothLive a c e n → (copy : TableCopy) (contents : Contents) → IsKeptOrWritten b e n copy contents → IsKeptOrWritten a e n copy contents
+        before live copy contents (inl picks) =
+            inl (λ s is. (untouched s (live_before live copy s is)).within (contents s) (picks s is))
+        before live copy contents (inr made) = inr made
+
+  -- a table that is settled stays so
+  settled_by : ((s : ℕ) → IsOfCopies n s → IsLive b c e s → Keeps (b.held e s) (c.held e s)) → IsSettled a b e → IsSettled a c e
+  settled_by kept old = record {
+    now = λ had live.
+        let says = old.now had (live_before live) in (
+          says.0,
+          says.1,
+          λ copy.
+              table_at_agrees copy n (now_on c e) (now_on b e)
+              (λ s is. (kept s (of_one copy n s is) (live_after live s (of_one copy n s is))).current)
+              ∙ says.2 copy,
+        );
+    durable = λ had live single contents left.
+        old.durable had (live_before live) single contents (λ s is. (kept s is (live_after live s is)).within (contents s) (left s is));
+    written = λ had live copy contents picks.
+        old.written had (live_before live) copy contents
+        (λ s is. let of = of_one copy n s is in (kept s of (live_after live s of)).within (contents s) (picks s is));
+  }
+
+-- ---- what is written
+
+-- the table of a place's disk was settled
+only_table : {b c : Seen} (x : Seen) (seats : Seats) (place d : ℕ) (P : Contents → Type 0) → seats place ≡ Some d → b.sectors d ≡ x.sectors d
+    → Changes b c d (IsOfCopies (b.sectors d)) P → WritesOnly b c (IsTableSector x seats (place + 1))
+only_table {b} {c} x seats place d P seat same changes = record {
+  stays = changes.stays;
+  others = λ e s live never. elim (place_of_sector d (b.sectors d) e s) [
+    | inl other ↦ changes.others e s live other
+    | inr here ↦ absurd (never [] (table e s [] here))
+  ];
+  within = λ e s v live left. elim (place_of_sector d (b.sectors d) e s) [
+    | inl other ↦ inl ((changes.others e s live other).within v left)
+    | inr here ↦ inr (table e s v here)
+  ];
+  stops = λ traced.
+      leaves_weaker (IsLeftover b c d (IsOfCopies (b.sectors d)) P) (IsMix b c (IsTableSector x seats (place + 1)))
+      (λ i left e s live. becomes i left e s live (place_of_sector d (b.sectors d) e s)) (changes.stops traced);
+}
+  where
+    table : (e s : ℕ) (v : List ℕ) → (e ≡ d) × IsOfCopies (b.sectors d) s → IsTableSector x seats (place + 1) e s v
+    table e s v here = record {
+      place = place;
+      below = omega arith;
+      seat = seat ∙ ap Some (sym here.0);
+      at_end = elim (table_end (b.sectors d) s here.1) [
+        | inl low ↦ inl low
+        | inr high ↦ inr (subst (λ m. m ≤ s + 33) (same ∙ ap x.sectors (sym here.0)) high)
+      ];
+    }
+
+    becomes : (i : Image) → IsLeftover b c d (IsOfCopies (b.sectors d)) P i → (e s : ℕ) → IsLive b c e s
+        → IsElsewhere d (IsOfCopies (b.sectors d)) e s ⊎ ((e ≡ d) × IsOfCopies (b.sectors d) s)
+        → MayBecome b (IsTableSector x seats (place + 1)) e s (i e s)
+    becomes i left e s live (inl other) = inl (left.0 e s live other)
+    becomes i left e s live (inr here) = inr (table e s (i e s) here)
+
+one_more : (x : Seen) (seats : Seats) (many d s : ℕ) (v : List ℕ) → IsTableSector x seats many d s v → IsTableSector x seats (many + 1) d s v
+one_more x seats many d s v is =
+    let below = is.below in record { place = is.place; below = omega (arith, below); seat = is.seat; at_end = is.at_end }
+
+-- ---- one place
+
+-- a table was settled, or there was none
+settled_table : (a b : Seen) (d : ℕ) (result : Result (Unit {0}) TableFault) → SettlesTable a b d (a.sectors d) result
+    → (result ≡ Err NoTable → a.told d → first_table (a.sectors d) (now_on a d) ≡ None)
+    → (result ≡ Err Gone → ⊥) → IsSettled a b d
+settled_table a b d (Ok u) settles none gone = record {
+  now = λ had live. settles.both live;
+  durable = λ had live single contents left. settles.durable live single contents (λ copy s is. left s (of_one copy (a.sectors d) s is));
+  written = λ had live copy contents picks. settles.written live copy contents picks;
+}
+settled_table a b d (Err Gone) settles none gone = absurd (gone refl)
+settled_table a b d (Err NoTable) settles none gone = record {
+  now = λ had live. absurd (had (no_table live));
+  durable = λ had live single contents left. absurd (had (no_table live));
+  written = λ had live copy contents picks. absurd (had (no_table live));
+}
+  where
+    no_table : BothLive a b d (a.sectors d) → the_table (a.sectors d) (now_on a d) ≡ None
+    no_table live = ap (option_map (λ found. found.table)) (none refl (live Primary 1 (inl refl)).is_told)
+
+pub place_empty : (a : Seen) (seats : Seats) (place : ℕ) → a.fit → seats place ≡ None → SettlesPlace a a seats seats place
+place_empty a seats place fit none = record {
+  others = λ p other. refl;
+  empty = λ is. (only_reads_start a fit, none);
+  changes = λ d seat. absurd (none-some d (sym none ∙ seat));
+  settles = λ d seat. absurd (none-some d (sym none ∙ seat));
+}
+
+-- the place keeps its disk
+pub place_kept : (a b : Seen) (seats : Seats) (place d : ℕ) (result : Result (Unit {0}) TableFault) → seats place ≡ Some d
+    → SettlesTable a b d (a.sectors d) result
+    → (result ≡ Err NoTable → a.told d → first_table (a.sectors d) (now_on a d) ≡ None)
+    → (result ≡ Err Gone → ⊥) → SettlesPlace a b seats seats place
+place_kept a b seats place d result seat settles none gone = record {
+  others = λ p other. refl;
+  empty = λ is. absurd (none-some d (sym is ∙ seat));
+  changes = λ e at.
+      subst (λ k. Changes a b k (IsOfCopies (a.sectors k))
+      (λ contents. AreSingle a k (a.sectors k) → the_table (a.sectors k) contents ≡ the_table (a.sectors k) (now_on a k)))
+      (same e at) settles.changes;
+  settles = λ e at. inl (at, subst (IsSettled a b) (same e at) (settled_table a b d result settles none gone));
+}
+  where
+    same : (e : ℕ) → seats place ≡ Some e → d ≡ e
+    same e at = let both : Some d ≡ Some e = sym seat ∙ at in cc
+
+-- the place loses it
+pub place_lost : (a b : Seen) (before after : Seats) (place d : ℕ) (result : Result (Unit {0}) TableFault) → before place ≡ Some d
+    → IsWithout before after place → SettlesTable a b d (a.sectors d) result → Rose (a.faults d) (b.faults d) → SettlesPlace a b before after place
+place_lost a b before after place d result seat without settles rose = record {
+  others = λ p other. without_other before after place p without other;
+  empty = λ is. absurd (none-some d (sym is ∙ seat));
+  changes = λ e at.
+      subst (λ k. Changes a b k (IsOfCopies (a.sectors k))
+      (λ contents. AreSingle a k (a.sectors k) → the_table (a.sectors k) contents ≡ the_table (a.sectors k) (now_on a k)))
+      (same e at) settles.changes;
+  settles = λ e at. inr (without_here before after place without, subst (λ k. Rose (a.faults k) (b.faults k)) (same e at) rose);
+}
+  where
+    same : (e : ℕ) → before place ≡ Some e → d ≡ e
+    same e at = let both : Some d ≡ Some e = sym seat ∙ at in cc
+
+-- ---- all places
+
+pub settled_none : (a : Seen) (seats : Seats) → a.fit → AreSettled a a seats seats 0
+settled_none a seats fit = record {
+  only = only_none a (IsTableSector a seats 0) fit;
+  seats = λ place. inl refl;
+  later = λ p least. refl;
+  tables = λ d. keeps_start a d;
+  settled = λ p d below seat. absurd (omega (arith, below));
+}
+
+module _ (a b c : Seen) (first before after : Seats) (place : ℕ) (low : place < 16) (distinct : AreDistinct first)
+    (old : AreSettled a b first before place) (settles : SettlesPlace b c before after place) where
+  -- a place that has a disk had it from the first
+  had : (p d : ℕ) → before p ≡ Some d → first p ≡ Some d
+  had p d seat = by (old.seats p)
+    where
+      by : (before p ≡ first p) ⊎ ((before p ≡ None) × Goes a b first p) → first p ≡ Some d
+      by (inl same) = sym same ∙ seat
+      by (inr gone) = absurd (none-some d (sym gone.0 ∙ seat))
+
+  stays : Stays a b
+  stays = old.only.stays
+
+  wide : WritesOnly a b (IsTableSector a first (place + 1))
+  wide = only_weaker (IsTableSector a first place) (IsTableSector a first (place + 1)) (one_more a first place) old.only
+
+  other_seats : Stays b c → (p : ℕ) → (p ≡ place → ⊥) → (after p ≡ first p) ⊎ ((after p ≡ None) × Goes a c first p)
+  other_seats later p other = by (old.seats p)
+    where
+      by : (before p ≡ first p) ⊎ ((before p ≡ None) × Goes a b first p) → (after p ≡ first p) ⊎ ((after p ≡ None) × Goes a c first p)
+      by (inl same) = inl (settles.others p other ∙ same)
+      by (inr gone) = inr (settles.others p other ∙ gone.0, goes_early a b c first p later gone.1)
+
+  later_seats : (p : ℕ) → place + 1 ≤ p → after p ≡ first p
+  later_seats p least = settles.others p (λ same. omega (arith, least, same)) ∙ old.later p (omega (arith, least))
+
+  -- the place has no disk
+  empty_more : before place ≡ None → AreSettled a c first after (place + 1)
+  empty_more none =
+      let is = settles.empty none in
+      let reads = is.0 in record {
+        only = only_then (IsTableSector a first (place + 1)) wide (only_quiet (IsTableSector a first (place + 1)) reads.stays reads.keeps);
+        seats = λ p. elim (cases_eq p place) [
+          | inl same ↦
+              subst (λ q. (after q ≡ first q) ⊎ ((after q ≡ None) × Goes a c first q)) (sym same)
+              (inl (is.1 ∙ sym none ∙ old.later place (omega arith)))
+          | inr other ↦ other_seats reads.stays p other
+        ];
+        later = later_seats;
+        tables = λ d. keeps_read stays d reads.stays reads (old.tables d);
+        settled = λ p d below seat. elim (cases_eq p place) [
+          | inl same ↦ absurd (none-some d (sym is.1 ∙ ap after (sym same) ∙ seat))
+          | inr other ↦
+              settled_by stays d reads.stays (λ s of live. reads.keeps.held d s live)
+              (old.settled p d (omega (arith, below, other)) (sym (settles.others p other) ∙ seat))
+        ];
+      }
+
+  -- or one
+  module _ (d : ℕ) (seat : before place ≡ Some d) where
+    abbrev P : Contents → Type 0
+    P contents = AreSingle b d (b.sectors d) → the_table (b.sectors d) contents ≡ the_table (b.sectors d) (now_on b d)
+
+    changes : Changes b c d (IsOfCopies (b.sectors d)) P
+    changes = settles.changes d seat
+
+    untouched : (s : ℕ) → IsLive a b d s → Keeps (a.held d s) (b.held d s)
+    untouched s live =
+        old.only.others d s live
+        (λ v may.
+        let below = may.below in
+        let same = distinct may.place place d (omega (arith, below, low)) low may.seat (had place d seat) in
+        omega (arith, same, below))
+
+    here_seats : SettlesDisk b c after place d → (after place ≡ first place) ⊎ ((after place ≡ None) × Goes a c first place)
+    here_seats (inl kept) = inl (kept.0 ∙ sym (had place d seat))
+    here_seats (inr gone) = inr (gone.0, (d, had place d seat, rose_later a b c d stays gone.1))
+
+    here_settled : (e : ℕ) → after place ≡ Some e → SettlesDisk b c after place d → IsSettled a c e
+    here_settled e now (inl kept) =
+        let same : Some d ≡ Some e = sym kept.0 ∙ now in
+        let is : d ≡ e = cc in
+        subst (IsSettled a c) is (settled_since stays d changes.stays untouched (stays.sectors d) kept.1)
+    here_settled e now (inr gone) = absurd (none-some e (sym gone.0 ∙ now))
+
+    seated_more : AreSettled a c first after (place + 1)
+    seated_more = record {
+      only = only_then (IsTableSector a first (place + 1)) wide (only_table a first place d P (had place d seat) (stays.sectors d) changes);
+      seats = λ p. elim (cases_eq p place) [
+        | inl same ↦
+            subst (λ q. (after q ≡ first q) ⊎ ((after q ≡ None) × Goes a c first q)) (sym same) (here_seats (settles.settles d seat))
+        | inr other ↦ other_seats changes.stays p other
+      ];
+      later = later_seats;
+      tables = λ e. elim (cases_eq e d) [
+        | inl same ↦
+            subst (KeepsTable a c) (sym same)
+            (keeps_here stays d changes.stays untouched
+            (subst (λ m. Changes b c d (IsOfCopies m) (λ contents. AreSingle b d m → the_table m contents ≡ the_table m (now_on b d))) (stays.sectors d) changes)
+            (old.tables d))
+        | inr other ↦ keeps_other stays e changes.stays d (b.sectors d) P other changes (old.tables e)
+      ];
+      settled = λ p e below now. elim (cases_eq p place) [
+        | inl same ↦ here_settled e (ap after (sym same) ∙ now) (settles.settles d seat)
+        | inr other ↦
+            let was = sym (settles.others p other) ∙ now in
+            let apart : e ≡ d → ⊥ = λ same. other (distinct p place d (omega (arith, below, low)) low (had p e was ∙ ap Some same) (had place d seat)) in
+            settled_by stays e changes.stays (λ s of live. changes.others e s live (inl apart)) (old.settled p e (omega (arith, below, other)) was)
+      ];
+    }
+
+  pub settled_more : AreSettled a c first after (place + 1)
+  settled_more = by (before place) refl
+    where
+      by : (o : Option ℕ) → before place ≡ o → AreSettled a c first after (place + 1)
+      by None none = empty_more none
+      by (Some d) seat = seated_more d seat
+
+-- ---- seats of one disk each
+
+-- the seats of a scan
+pub distinct_seats : (s : State) (known : List Known) (gone : List ℕ) (seats : Seats)
+    → ((place : ℕ) → place < 16 → seats place ≡ (if names gone place then None else seat_by s known place)) → AreDistinct seats
+distinct_seats s known gone seats are p q d low_p low_q at_p at_q =
+    let one = (seat_by_stands s known p d (scanned p low_p at_p)).1 in
+    let two = (seat_by_stands s known q d (scanned q low_q at_q)).1 in
+    let both : Some p ≡ Some q = sym one ∙ two in
+    cc
+  where
+    by : (b : Bool) (o : Option ℕ) → (if b then None else o) ≡ Some d → o ≡ Some d
+    by true o at = absurd (none-some d at)
+    by false o at = at
+
+    scanned : (place : ℕ) → place < 16 → seats place ≡ Some d → seat_by s known place ≡ Some d
+    scanned place low at = by (names gone place) (seat_by s known place) (sym (are place low) ∙ at)
+
+-- those that are left
+pub distinct_left : (x y : Seen) (before after : Seats) → Loses x y before after → AreDistinct before → AreDistinct after
+distinct_left x y before after loses distinct p q d low_p low_q at_p at_q = distinct p q d low_p low_q (was p at_p) (was q at_q)
+  where
+    was : (place : ℕ) → after place ≡ Some d → before place ≡ Some d
+    was place at = by (loses place)
+      where
+        by : (after place ≡ before place) ⊎ ((after place ≡ None) × Goes x y before place) → before place ≡ Some d
+        by (inl same) = sym same ∙ at
+        by (inr gone) = absurd (none-some d (sym gone.0 ∙ at))

@@ -1,0 +1,70 @@
+-- Tables of seated disks, of which both copies are made to agree.
+use Rattle.std.specs.Prelude.{◌≡◌, ◌≢◌, ◌⊎◌, ℕ, ◌+◌, ◌<◌, ◌≤◌, List, Some, None}
+use Rattle.rack.specs.Values.{MayLeave}
+use Rattle.rack.specs.Seen.{Seen, Rose}
+use Rattle.rack.specs.Moments.{Leaves}
+use Rattle.rack.specs.Sequences.{OnlyReads, WritesOnly}
+use Rattle.gpt_table.specs.declared.TableCopy.{TableCopy}
+use Rattle.gpt_table.specs.Changes.{AreSingle, BothLive, BothSay, Changes, IsKeptOrWritten, IsOfCopies, IsPickOf, the_table}
+use Rattle.gpt_table.specs.Disk.{Contents, now_on}
+use Rattle.pool_image.specs.Disks.{Seats}
+use Rattle.pool_check.specs.Drives.{Loses}
+
+-- a sector of a partition table on the disk of one of the first so many places: before sector 34, or one of the last 33
+pub record IsTableSector (x : Seen) (seats : Seats) (many d s : ℕ) (v : List ℕ) : Type 0 where
+  pub place : ℕ
+  pub below : place < many
+  pub seat : seats place ≡ Some d
+  pub at_end : (s < 34) ⊎ (x.sectors d ≤ s + 33)
+
+-- no two places have one disk
+abbrev pub AreDistinct : Seats → Type 0
+AreDistinct seats = (p q d : ℕ) → p < 16 → q < 16 → seats p ≡ Some d → seats q ≡ Some d → p ≡ q
+
+-- some contents of a disk have in each sector of its table's copies one of the values that the disk may be left with
+abbrev pub IsLeftOn : Seen → ℕ → ℕ → Contents → Type 0
+IsLeftOn x d sectors contents = (s : ℕ) → IsOfCopies sectors s → MayLeave (x.held d s) (contents s)
+
+-- The table of a disk is the one from before, at each moment and at the end, where each sector of its copies had one value.
+pub record KeepsTable (a b : Seen) (d : ℕ) : Type 0 where
+  pub stops :
+      a.traced → BothLive a b d (a.sectors d) → AreSingle a d (a.sectors d)
+      → Leaves a b (λ c. the_table (a.sectors d) (c d) ≡ the_table (a.sectors d) (now_on a d))
+  pub held :
+      BothLive a b d (a.sectors d) → AreSingle a d (a.sectors d) → (contents : Contents) → IsLeftOn b d (a.sectors d) contents
+      → the_table (a.sectors d) contents ≡ the_table (a.sectors d) (now_on a d)
+
+-- Both copies of a disk's table are valid and say the table that it had, if it had one, durably where each sector of them had one
+-- value. Each copy is as it was, or as it is written of a table.
+pub record IsSettled (a b : Seen) (d : ℕ) : Type 0 where
+  pub now :
+      the_table (a.sectors d) (now_on a d) ≢ None → BothLive a b d (a.sectors d) → BothSay a d (a.sectors d) (now_on b d)
+  pub durable :
+      the_table (a.sectors d) (now_on a d) ≢ None → BothLive a b d (a.sectors d) → AreSingle a d (a.sectors d)
+      → (contents : Contents) → IsLeftOn b d (a.sectors d) contents → BothSay a d (a.sectors d) contents
+  pub written :
+      the_table (a.sectors d) (now_on a d) ≢ None → BothLive a b d (a.sectors d) → (copy : TableCopy) (contents : Contents)
+      → IsPickOf b d copy (a.sectors d) contents → IsKeptOrWritten a d (a.sectors d) copy contents
+
+-- the table of a place's disk was settled, or the disk went and the place has none
+abbrev pub SettlesDisk : Seen → Seen → Seats → ℕ → ℕ → Type 0
+SettlesDisk a b after place d =
+    ((after place ≡ Some d) × IsSettled a b d) ⊎ ((after place ≡ None) × Rose (a.faults d) (b.faults d))
+
+-- The table of a place's disk was settled, and no other disk was written.
+pub record SettlesPlace (a b : Seen) (before after : Seats) (place : ℕ) : Type 0 where
+  pub others : (p : ℕ) → (p ≡ place → ⊥) → after p ≡ before p
+  pub empty : before place ≡ None → OnlyReads a b × (after place ≡ None)
+  pub changes :
+      (d : ℕ) → before place ≡ Some d
+      → Changes a b d (IsOfCopies (a.sectors d))
+      (λ contents. AreSingle a d (a.sectors d) → the_table (a.sectors d) contents ≡ the_table (a.sectors d) (now_on a d))
+  pub settles : (d : ℕ) → before place ≡ Some d → SettlesDisk a b after place d
+
+-- What stands once the tables of the first so many places are settled.
+pub record AreSettled (a b : Seen) (first now : Seats) (many : ℕ) : Type 0 where
+  pub only : WritesOnly a b (IsTableSector a first many)
+  pub seats : Loses a b first now
+  pub later : (p : ℕ) → many ≤ p → now p ≡ first p
+  pub tables : (d : ℕ) → KeepsTable a b d
+  pub settled : (p d : ℕ) → p < many → now p ≡ Some d → IsSettled a b d
