@@ -77,4 +77,4 @@ module _ (s : State) (t : Slices) (x : Seen) (checked : Checked) (absent : List 
       some_seat (Some d) is = (d, refl)
 
       named_at : (ps : List ℕ) (k : ℕ) → k < length ps → names ps (slice_index ps k) ≡ true
-      named_at ps k below = list_any_at (λ q. q == slice_index ps k) ps k below (eq-eqb (slice_index ps k) (slice_index ps k) refl)
+      named_at ps k below = list_any_at (λ q. q == slice_index ps k) ps k 0 below (eq-eqb (slice_index ps k) (slice_index ps k) refl)

@@ -73,8 +73,12 @@ pub fn assemble<R: Rack>(
             why: Refusal::TwoPools,
         });
     }
-    match check(rest) {
-        Ok(members) => open_volume(alloc, make_rack(members, seconds)),
+    let members = match check(rest) {
+        Ok(members) => members,
+        Err(back) => return Err(back),
+    };
+    match open_volume(alloc, make_rack(members, seconds)) {
+        Ok(volume) => Ok(volume),
         Err(back) => Err(back),
     }
 }
