@@ -2,14 +2,16 @@
 use Rattle.std.specs.Prelude.{◌≡◌, ◌⊎◌, ℕ, ◌+◌, ◌-◌, ◌*◌, ◌%◌, ◌^◌, Bool, true, false, nat_lt, if◌then◌else◌, List}
 use Rattle.rack.specs.Values.{Values}
 use Rattle.rack.specs.Seen.{Image, Seen}
+use Rattle.rack.specs.Sequences.{OnlyReads}
 use Rattle.pool_state.specs.declared.contents.State.{State}
 use Rattle.array_image.specs.Left.{IsLeft}
 use Rattle.commit_log.specs.Kept.{LogKept}
-use Rattle.array_model.specs.View.{View, has_gone, rows_of, shape_of}
+use Rattle.array_model.specs.View.{View, has_gone, rows_of, shape_of, spent_in}
 use Rattle.array_model.specs.Says.{Holds, IsOpen}
 use Rattle.array_model.specs.Members.{Notes}
 use Rattle.array_model.specs.ArrayCalls.{Covers, Moving, HasFields}
 use Rattle.array_core.specs.Pool.{MayCommit}
+use Rattle.array_core.specs.Staging.{HasRowRebuilds}
 use Rattle.array_core.specs.Superblocks.{raised}
 
 -- the member sector from which rows are left to resync once so many aren't, and all ones where none is
@@ -45,6 +47,10 @@ pub record Steps (v next w : View) (number next_number : ℕ) (on : List ℕ) (a
   pub is_done : Bool
   pub answer : answered ≡ true → is_done ≡ true
   pub view : Stepped v next w a b is_done
+  -- where it isn't done nothing was written
+  pub idle : is_done ≡ false → OnlyReads a b
+  -- what was spent stays so
+  pub spent : HasRowRebuilds v → (y : ℕ) → spent_in w y ≡ false → spent_in v y ≡ false
   -- images go by the array before it or after it, and then the array holds what it held
   pub moving :
       (s : State) (vals : ℕ → Values) (spent : ℕ → Bool) → Covers w spent → MayStep s v next w number on a

@@ -21,3 +21,4 @@ mod resyncing;
 mod rows;
 
 pub use resyncing::resync_row;
+pub use rows::lacks_row;

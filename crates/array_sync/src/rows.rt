@@ -23,7 +23,7 @@ use raid_map::{CHUNK_SECTORS, unplace};
 const DATA_SECTOR: u64 = 2048;
 
 /// Whether a member is missing, or not rebuilt past a row.
-pub(crate) fn lacks_row(array: &Array, row: u64) -> bool
+pub fn lacks_row(array: &Array, row: u64) -> bool
     requires { row < rows_of array.now }
     ensures { result ≡ lacks_row array.now row }
 {
