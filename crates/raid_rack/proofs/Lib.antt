@@ -16,7 +16,9 @@ pub mod Committed
 pub mod Adding
 pub mod Settling
 pub mod Elements
+pub mod Losing
 pub mod Changed
+pub mod Views
 pub mod Calls
 pub mod Noted
 pub mod Seated
@@ -30,12 +32,17 @@ pub mod Told
 pub mod Sourced
 pub mod Whole
 pub mod Written
+pub mod Stepped
+pub mod Resynced
+pub mod Closing
+pub mod CloseParts
 pub mod Cleaned
 pub mod Cleanings
 pub mod CleanImages
 pub mod Sent
 pub mod Ended
 pub mod Serving
+pub mod Worked
 pub mod Reading
 pub mod Restated
 pub mod Copies
