@@ -44,7 +44,8 @@ use Rattle.array_sync.specs.Rows.{lacks_row}
 use Rattle.array_sync.specs.Steps.{MayStep, Steps, as_it_was, done}
 use Rattle.array_sync.proofs.Copying.{apart_joined}
 use Rattle.array_sync.proofs.Logged.{AreOnMembers, log_decides, log_kept, log_quiet, log_ready, nobody}
-use Rattle.array_sync.proofs.Moved.{RowMoves, SaysEither, durable_now, moved, restated}
+use Rattle.array_sync.proofs.Moved.{durable_now, moved}
+use Rattle.array_sync.proofs.Owed.{RowMoves, SaysEither, restated}
 use Rattle.array_sync.proofs.Supers.{IsMemberSuper, supers_apart, supers_on}
 
 -- ---- reads
