@@ -1,5 +1,5 @@
 -- The commit that ends the plan, seen from one array that stands, and as a part of a call of all.
-use Rattle.std.proofs.Common.{◌≡◌, ℕ, ◌-◌, ◌^◌, ◌<◌, ◌≤◌, Bool, true, false, ◌&&◌, ◌||◌, not, List, [], ◌∷◌, length, Option, Some, unwrap_or, refl, sym, ap, subst, ◌∙◌, inl, inr, arith}
+use Rattle.std.proofs.Common.{◌≡◌, ℕ, ◌-◌, ◌^◌, ◌<◌, Bool, true, false, ◌&&◌, ◌||◌, not, List, [], ◌∷◌, length, Option, Some, unwrap_or, refl, sym, ap, subst, ◌∙◌, inl, inr, arith}
 use Rattle.std.proofs.lemmas.Bool.{cases_Bool, both_ways, and_from}
 use Rattle.rack.specs.Values.{Values}
 use Rattle.rack.specs.Seen.{Image, Seen, IsLive}
@@ -18,12 +18,12 @@ use Rattle.array_image.specs.Marks.{lowered}
 use Rattle.array_image.proofs.Frames.{Agree, state_same, supers_same, truth_by_supers}
 use Rattle.commit_log.specs.View.{LogView, names, next_number}
 use Rattle.commit_log.specs.Commits.{Commits}
-use Rattle.commit_log.specs.Kept.{AreLeft, LogKept, Brings as BringsState, gone_with}
+use Rattle.commit_log.specs.Kept.{AreLeft, LogKept, Brings as BringsState}
 use Rattle.commit_log.specs.Standing.{IsAlike}
 use Rattle.commit_log.proofs.Kept.{before_inside, brought_state, kept_decides, kept_ready, put_none, stands_of}
 use Rattle.commit_log.proofs.KeptAfter.{kept_after}
 use Rattle.commit_log.proofs.Deciding.{names_first}
-use Rattle.array_model.specs.View.{View, may_vary, shape_of, spent_in}
+use Rattle.array_model.specs.View.{View, may_vary, shape_of}
 use Rattle.array_model.specs.Says.{Holds, HoldsShape, Says}
 use Rattle.array_model.specs.ArrayCalls.{Covers}
 use Rattle.array_model.proofs.Keeping.{KeepsData, even_kept, held_kept, inside_before, logs_of, open_after, same_value, settled_kept}
@@ -34,7 +34,7 @@ use Rattle.array_core.specs.Superblocks.{is_settled}
 use Rattle.raid_rack.specs.Book.{after_same}
 use Rattle.raid_rack.specs.Raid.{Raid, gone_in, is_over, IsWritten, Stood}
 use Rattle.raid_rack.specs.Laws.{stood_left}
-use Rattle.raid_rack.specs.Marking.{Part, SaysBetween}
+use Rattle.raid_rack.specs.Marking.{SaysBetween}
 use Rattle.raid_rack.specs.Moves.{AreMarked, Brings, IsAmid, IsSeated, KeepsArrays, PartOf}
 use Rattle.raid_rack.specs.Rows.{KeepsRows, LeavesFrom, LeavesRows}
 use Rattle.raid_rack.specs.Works.{closed}

@@ -1,5 +1,5 @@
 -- The commit that ends the plan: copies of the state without it, on all current places.
-use Rattle.std.proofs.Common.{◌≡◌, ◌⊎◌, ℕ, zero, suc, ◌+◌, ◌-◌, ◌*◌, ◌^◌, ◌<◌, ◌≤◌, Bool, true, false, ◌==◌, ◌&&◌, ◌||◌, not, nat_lt, nat_le, if◌then◌else◌, List, [], length, None, refl, sym, ap, subst, ◌∙◌, inl, inr, lt-ltb, ltb-true, arith}
+use Rattle.std.proofs.Common.{◌≡◌, ◌⊎◌, ℕ, zero, suc, ◌+◌, ◌-◌, ◌^◌, ◌<◌, ◌≤◌, Bool, true, false, ◌&&◌, ◌||◌, not, nat_lt, nat_le, if◌then◌else◌, List, [], length, None, refl, sym, ap, subst, ◌∙◌, inl, inr, lt-ltb, ltb-true, arith}
 use Rattle.std.proofs.lemmas.Bool.{cases_Bool, cases_eq, both_ways, and_parts, and_from, le-leb, leb-true}
 use Rattle.std.specs.List.{list_all}
 use Rattle.rack.specs.Values.{Keeps}

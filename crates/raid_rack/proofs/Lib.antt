@@ -34,6 +34,7 @@ pub mod Whole
 pub mod Written
 pub mod Stepped
 pub mod Resynced
+pub mod Rebuilt
 pub mod Closing
 pub mod CloseParts
 pub mod Cleaned

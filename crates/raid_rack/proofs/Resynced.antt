@@ -1,5 +1,5 @@
 -- The code that resyncs a row of an array, as a part of a call of all.
-use Rattle.std.proofs.Common.{◌≡◌, ◌⊎◌, ℕ, zero, suc, ◌+◌, ◌-◌, ◌*◌, ◌/◌, ◌%◌, ◌^◌, ◌<◌, ◌≤◌, Bool, true, false, ◌==◌, ◌&&◌, ◌||◌, not, nat_lt, if◌then◌else◌, List, [], ◌∷◌, map, set, length, get_or, slice_get, Option, Some, None, Result, Ok, Err, is_ok, OnOk, IfErr, refl, sym, ap, subst, ◌∙◌, inl, inr, eq-eqb, eqb-true, lt-ltb, le-ltb, ltb-true, arith}
+use Rattle.std.proofs.Common.{◌≡◌, ◌⊎◌, ℕ, zero, suc, ◌+◌, ◌-◌, ◌*◌, ◌/◌, ◌%◌, ◌^◌, ◌<◌, ◌≤◌, Bool, true, false, ◌==◌, ◌&&◌, not, nat_lt, if◌then◌else◌, List, map, set, length, get_or, slice_get, Option, Result, Ok, Err, is_ok, OnOk, IfErr, refl, sym, ap, subst, ◌∙◌, inl, inr, eq-eqb, eqb-true, lt-ltb, le-ltb, ltb-true, arith}
 use Rattle.std.proofs.lemmas.Bool.{both_ways, cases_Bool, cases_lt, and_parts, ltb-false}
 use Rattle.std.specs.List.{list_all, range_with_len}
 use Rattle.std.specs.Option.{option_map_or}
@@ -7,30 +7,27 @@ use Rattle.arrayvec.specs.ArrayVec.{ArrayVec}
 use Rattle.rack.specs.Values.{Values}
 use Rattle.rack.specs.Seen.{Seen}
 use Rattle.pool_state.specs.declared.contents.State.{State}
-use Rattle.array_image.specs.Arrays.{Member}
-use Rattle.array_image.specs.SoundArray.{first_unsynced}
 use Rattle.array_image.specs.Spent.{wanting}
 use Rattle.array_image.specs.States.{current_places}
 use Rattle.array_image.specs.Supers.{is_reshaping}
 use Rattle.commit_log.specs.View.{LogView, emptied, committed}
 use Rattle.array_model.specs.declared.Seat.{Seat}
-use Rattle.array_model.specs.declared.Seat.TheVariants.{Whole, Missing, Rebuilding}
-use Rattle.array_model.specs.View.{View, has_gone, is_whole_array, is_whole_seat, member_on, rows_of, seat_reach, shape_of}
+use Rattle.array_model.specs.View.{View, has_gone, is_whole_seat, member_on, rows_of, seat_reach}
 use Rattle.array_model.specs.Members.{members_of}
 use Rattle.array_model.specs.ArrayCalls.{Covers}
 use Rattle.array_core.specs.Pool.{Goes}
-use Rattle.array_core.specs.Superblocks.{is_settled, left_offset, raised}
+use Rattle.array_core.specs.Superblocks.{is_settled, left_offset}
 use Rattle.array_core.specs.Writing.{KeepsElsewhere}
 use Rattle.array_sync.specs.Rows.{lacks_row}
 use Rattle.array_sync.specs.Steps.{Stepped, Steps, as_it_was, done, offset_after, resynced}
 use Rattle.raid_rack.specs.declared.arrays.Arrays.{Arrays}
-use Rattle.raid_rack.specs.Raid.{Raid, gone_in, is_over}
-use Rattle.raid_rack.specs.Moves.{AreCaused, Brings, IsAmid, IsHeeded, IsSeated, IsSet, LosesOnly, Mends}
-use Rattle.raid_rack.specs.Rows.{KeepsRows, LeavesRows}
+use Rattle.raid_rack.specs.Raid.{Raid, is_over}
+use Rattle.raid_rack.specs.Moves.{AreCaused, Brings, IsAmid, IsHeeded, IsSeated, LosesOnly, Mends}
+use Rattle.raid_rack.specs.Rows.{LeavesRows}
 use Rattle.raid_rack.specs.RaidRack.{IsRunning, raid_by, no_array}
 use Rattle.raid_rack.specs.Works.{StepsOne, stepped}
 use Rattle.raid_rack.proofs.Calls.{raised_low, unsynced_by}
-use Rattle.raid_rack.proofs.Changed.{called, caused, left_before}
+use Rattle.raid_rack.proofs.Changed.{caused, left_before}
 use Rattle.raid_rack.proofs.Committed.{next_later}
 use Rattle.raid_rack.proofs.Losing.{only_then}
 use Rattle.raid_rack.proofs.Moving.{brings_then, caused_then}
@@ -135,7 +132,7 @@ next_resynced s m u x seated row =
 -- ---- members that are missing
 
 -- whoever isn't lost counts as far as before
-member_less : (u w : View) (k t : ℕ) → LosesOnly u w → t < (member_on w k).reach → t < (member_on u k).reach
+pub member_less : (u w : View) (k t : ℕ) → LosesOnly u w → t < (member_on w k).reach → t < (member_on u k).reach
 member_less u w k t only counts =
     elim (only.seats k) [
       | inl same ↦
@@ -272,21 +269,14 @@ resynced_raise old u x y false (as_it_was notes) = let e = ap (λ t. t.events) n
 resynced_raise old u x y true (done notes) = let e = ap (λ t. t.events) notes.same.truth in let up = raised_up old.truth.events in omega (arith, e, up)
 
 -- a step, and the mending after it: what is answered after that to have been done was
-pub steps_one : (a b c : Arrays) (x y z : Seen) (m : ℕ) (next : View) (lacks : View → Bool) (did answered : Bool) → m < a.state.made → HasStepped a b x y m next lacks did
-    → Mends (raid_by b) (raid_by c) y z
-    → ((u w : View) → LosesOnly u w → lacks w ≡ false → lacks u ≡ false) → (answered ≡ true → lacks ((raid_by c).arrays m) ≡ false)
+pub step_mended : (a b c : Arrays) (x y z : Seen) (m : ℕ) (next : View) (lacks : View → Bool) (did answered : Bool) → m < a.state.made → HasStepped a b x y m next lacks did
+    → Mends (raid_by b) (raid_by c) y z → (answered ≡ true → did ≡ true)
     → StepsOne (raid_by a) (raid_by c) x z m next answered
-steps_one a b c x y z m next lacks did answered low one mends less served =
+step_mended a b c x y z m next lacks did answered low one mends served =
     let made : (n : ℕ) → n < a.state.made → n < b.state.made = λ n below. subst (λ k. n < k) (sym one.brings.book.same.made) below in
     record {
       is_done = one.is_done;
-      answer = λ ok.
-          elim (cases_Bool did) [
-            | inl yes_done ↦ one.answer yes_done
-            | inr none ↦
-                absurd (both_ways (lacks ((raid_by b).arrays m))
-                (less ((raid_by b).arrays m) ((raid_by c).arrays m) (mends.moves.arrays m (made m low)) (served ok)) (one.refused none))
-          ];
+      answer = λ ok. one.answer (served ok);
       brings = brings_then (raid_by a) (raid_by b) (raid_by c) x y z (λ n vals. vals) one.brings mends.moves;
       caused = caused_then (raid_by a) (raid_by b) (raid_by c) x y z one.brings.stays mends.moves.stays one.caused
           (record { left = mends.moves.left; cause = mends.moves.cause });
@@ -302,6 +292,20 @@ steps_one a b c x y z m next lacks did answered low one mends less served =
           ((one.brings.parts m vals spent joined low mid_goes covered).holds amid)
           (one.durable is settled young vals spent mid_goes covered amid)).after;
     }
+
+-- so it was where whoever goes is one whose loss lacks nothing that it needed
+pub steps_one : (a b c : Arrays) (x y z : Seen) (m : ℕ) (next : View) (lacks : View → Bool) (did answered : Bool) → m < a.state.made → HasStepped a b x y m next lacks did
+    → Mends (raid_by b) (raid_by c) y z
+    → ((u w : View) → LosesOnly u w → lacks w ≡ false → lacks u ≡ false) → (answered ≡ true → lacks ((raid_by c).arrays m) ≡ false)
+    → StepsOne (raid_by a) (raid_by c) x z m next answered
+steps_one a b c x y z m next lacks did answered low one mends less served =
+    let made : m < b.state.made = subst (λ k. m < k) (sym one.brings.book.same.made) low in
+    step_mended a b c x y z m next lacks did answered low one mends
+    (λ ok. elim (cases_Bool did) [
+      | inl yes_done ↦ yes_done
+      | inr none ↦
+          absurd (both_ways (lacks ((raid_by b).arrays m)) (less ((raid_by b).arrays m) ((raid_by c).arrays m) (mends.moves.arrays m made) (served ok)) (one.refused none))
+    ])
 
 -- the answers of a row call
 pub answered_served : {E : Type 0} (lacks : Bool) (r : Result (Unit {0}) E) → OnOk r (lacks ≡ false) → is_ok r ≡ true → lacks ≡ false

@@ -1,5 +1,5 @@
 -- A step of maintenance of one array, as a part of a call of all.
-use Rattle.std.proofs.Common.{◌≡◌, ◌⊎◌, ℕ, ◌-◌, ◌%◌, ◌^◌, ◌<◌, ◌≤◌, Bool, true, false, ◌==◌, ◌&&◌, if◌then◌else◌, List, Option, Some, unwrap_or, refl, sym, ap, ap₂, subst, ◌∙◌, inl, inr, eq-eqb, ne_eqb, arith}
+use Rattle.std.proofs.Common.{◌≡◌, ◌⊎◌, ℕ, ◌-◌, ◌%◌, ◌^◌, ◌<◌, ◌≤◌, Bool, true, false, ◌==◌, ◌&&◌, if◌then◌else◌, List, Option, Some, unwrap_or, refl, sym, ap, subst, ◌∙◌, inl, inr, eq-eqb, ne_eqb, arith}
 use Rattle.std.proofs.lemmas.Bool.{cases_Bool, cases_eq}
 use Rattle.rack.specs.Values.{Values}
 use Rattle.rack.specs.Seen.{Image, Seen}
@@ -16,18 +16,18 @@ use Rattle.array_image.proofs.Frames.{state_same, super_of_sector, truth_by_supe
 use Rattle.commit_log.specs.Kept.{LogKept}
 use Rattle.commit_log.specs.View.{names}
 use Rattle.commit_log.proofs.KeptAfter.{kept_more}
-use Rattle.array_model.specs.View.{View, has_gone, shape_of, spent_in}
+use Rattle.array_model.specs.View.{View, has_gone, shape_of}
 use Rattle.array_model.specs.Says.{Holds, IsOpen, Says}
 use Rattle.array_model.specs.Members.{Notes}
-use Rattle.array_model.specs.ArrayCalls.{Covers, HasFields, KeepsSupers, Moving, Turns}
+use Rattle.array_model.specs.ArrayCalls.{Covers, HasFields, KeepsSupers, Turns}
 use Rattle.array_model.proofs.Moves.{Moves as CallMoves, moves_by}
 use Rattle.array_core.specs.Pool.{Goes}
 use Rattle.array_core.specs.Superblocks.{is_settled}
 use Rattle.array_core.specs.Writing.{KeepsElsewhere}
 use Rattle.array_sync.specs.Steps.{MayStep, Stepped, Steps, as_it_was, done, if_done}
-use Rattle.raid_rack.specs.Raid.{Raid, gone_in, is_over, Stood}
+use Rattle.raid_rack.specs.Raid.{Raid, gone_in, is_over}
 use Rattle.raid_rack.specs.Laws.{stood_left}
-use Rattle.raid_rack.specs.Moves.{AreMarked, Brings, IsAmid, IsHeeded, IsSet, LosesOnly, PartOf}
+use Rattle.raid_rack.specs.Moves.{AreMarked, Brings, IsAmid, IsHeeded, IsSet, LosesOnly}
 use Rattle.raid_rack.specs.Rows.{KeepsRows, LeavesFrom, LeavesRows, from_lower}
 use Rattle.raid_rack.specs.Works.{stepped}
 use Rattle.raid_rack.proofs.Added.{names_current}
@@ -35,7 +35,7 @@ use Rattle.raid_rack.proofs.Changed.{ViewsOne, called}
 use Rattle.raid_rack.proofs.Losing.{only_notes, only_same}
 use Rattle.raid_rack.proofs.Noted.{gone_from}
 use Rattle.raid_rack.proofs.Parts.{SaysSome, turned_state}
-use Rattle.raid_rack.proofs.Rows.{KeepsClear, clear_seats, rows_read, settled_rows}
+use Rattle.raid_rack.proofs.Rows.{clear_seats, rows_read, settled_rows}
 use Rattle.raid_rack.proofs.Views.{IsNext, next_same, next_shape, views_next}
 use Rattle.raid_rack.proofs.Whole.{heeded_gone}
 use Rattle.raid_rack.proofs.Written.{ActsOne, may_commit, one_brings, opened, own_part}

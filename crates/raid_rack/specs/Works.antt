@@ -1,14 +1,18 @@
 -- Works of maintenance, as calls of a rack of arrays.
-use Rattle.std.specs.Prelude.{◌≡◌, ℕ, ◌<◌, Bool, true, false, ◌==◌, ◌&&◌, ◌||◌, not, nat_lt, if◌then◌else◌}
+use Rattle.std.specs.Prelude.{◌≡◌, ℕ, ◌-◌, ◌/◌, ◌%◌, ◌<◌, ◌^◌, Bool, true, false, ◌==◌, ◌&&◌, ◌||◌, not, nat_lt, if◌then◌else◌}
+use Rattle.std.specs.Option.{option_map_or}
 use Rattle.rack.specs.Values.{Values}
 use Rattle.rack.specs.Seen.{Seen}
 use Rattle.pool_state.specs.declared.contents.Plan.TheVariants.{Nothing}
 use Rattle.pool_state.specs.declared.contents.State.{State}
+use Rattle.array_model.specs.declared.Seat.{Seat}
+use Rattle.array_model.specs.declared.Seat.TheVariants.{Whole, Missing, Rebuilding}
 use Rattle.array_model.specs.View.{View, rows_of}
 use Rattle.array_model.specs.ArrayCalls.{Covers}
+use Rattle.array_core.specs.Seats.{seat_of}
 use Rattle.array_core.specs.Superblocks.{is_settled}
-use Rattle.array_sync.specs.Rows.{lacks_row}
-use Rattle.array_sync.specs.Steps.{resynced}
+use Rattle.array_sync.specs.Rows.{lacks_row, others_give}
+use Rattle.array_sync.specs.Steps.{reach_on, rebuilt, resynced}
 use Rattle.raid_rack.specs.Raid.{Raid, is_over, IsTold}
 use Rattle.raid_rack.specs.Missing.{raised}
 use Rattle.raid_rack.specs.Moves.{AreCaused, Brings, IsAmid, IsHeeded, KeepsArrays, LosesOnly}
@@ -52,6 +56,32 @@ pub record ResyncsOne (v w : Raid) (a b : Seen) (m : ℕ) (answered : Bool) : Ty
   pub steps : StepsOne v w a b m (resynced (v.arrays m)) answered
   pub answer : answered ≡ not (is_stuck w m (v.arrays m).resync)
   pub durable : answered ≡ true → IsTold v a m → LeavesRows w b m
+
+-- ---- a row of a member that is rebuilt
+
+abbrev pub is_rebuilding_seat : Seat → Bool
+is_rebuilding_seat Whole = false
+is_rebuilding_seat Missing = false
+is_rebuilding_seat (Rebuilding to) = true
+
+-- rows are left to resync from the beginning of a row on, or none is: so in each superblock that a pool writes
+abbrev pub is_whole_row : ℕ → Bool
+is_whole_row offset = (offset == 2 ^ 64 - 1) || (offset % 128 == 0)
+
+-- array n has a member on a place that is being rebuilt
+abbrev pub is_rebuilding : Raid → ℕ → ℕ → Bool
+is_rebuilding v n place =
+    nat_lt n v.state.made && (option_map_or is_rebuilding_seat (seat_of (v.arrays n) place) false && is_whole_row (v.arrays n).truth.resync_offset)
+
+-- its next row
+abbrev pub next_row : View → ℕ → ℕ
+next_row u place = reach_on u place / 128
+
+-- The next row of the member of array m on a place is rebuilt, where that is answered. It is refused only where, once losses are mended,
+-- nothing is left of the array, numbers are used up, another member is missing or not rebuilt past the row, or the row is left to resync.
+pub record RebuildsOne (v w : Raid) (a b : Seen) (m place : ℕ) (answered : Bool) : Type 0 where
+  pub steps : StepsOne v w a b m (rebuilt (v.arrays m) place) answered
+  pub refused : answered ≡ false → (is_over w m || not (others_give (w.arrays m) place (next_row (v.arrays m) place))) ≡ true
 
 -- ---- the end of a plan
 

@@ -1,4 +1,4 @@
-use Rattle.std.proofs.Common.{◌≡◌, ◌<◌, ◌==◌, List, [], length, get_or, ap, sym, subst, ◌∙◌, eqb-true}
+use Rattle.std.proofs.Common.{◌<◌, List, length, get_or, ap, sym, subst, ◌∙◌, eqb-true}
 use Rattle.std.proofs.lemmas.Option.{slice_get-get_or}
 use Rattle.arrayvec.specs.ArrayVec.{with_items}
 use Rattle.rack.specs.Targets.{Target}
@@ -6,9 +6,8 @@ use Rattle.pool_state.specs.declared.contents.State.{State}
 use Rattle.commit_log.specs.View.{LogView}
 use Rattle.array_core.specs.Seats.{gone as without}
 use Rattle.raid_rack.specs.Losses.{AddsCopies}
-use Rattle.raid_rack.specs.RaidRack.{raid_by}
 use Rattle.raid_rack.proofs.Mended.{each_items}
-use Rattle.raid_rack.proofs.Worked.{AreCopied, close_places, closes_alone, closes_empty, closes_one, closes_raise, closing_of, copies_distinct, copies_had, copies_valid, has_closed}
+use Rattle.raid_rack.proofs.Worked.{close_places, closes_alone, closes_empty, closes_one, closes_raise, closing_of, copies_distinct, copies_had, copies_valid, has_closed}
 use Rattle.raid_rack.proofs.arrays.Arrays.end_plan.Goals as goal
 
 pub returns-then-is_empty-clause-closes : goal.returns-then-is_empty-clause-closes

@@ -1,5 +1,5 @@
-use Rattle.std.proofs.Common.{◌<◌, true, false, refl, ap, sym, subst, ◌∙◌, arith}
-use Rattle.array_model.specs.View.{View, rows_of}
+use Rattle.std.proofs.Common.{true, false, refl, ap, sym, ◌∙◌, arith}
+use Rattle.array_model.specs.View.{View}
 use Rattle.array_sync.specs.Rows.{lacks_row}
 use Rattle.raid_rack.specs.RaidRack.{no_array, raid_by}
 use Rattle.raid_rack.proofs.Steps.{same_element}

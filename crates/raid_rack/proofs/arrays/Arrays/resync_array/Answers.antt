@@ -1,4 +1,4 @@
-use Rattle.std.proofs.Common.{ℕ, ◌≡◌, ◌<◌, ◌≤◌, ◌+◌, false, true, not, get_or, slice_set, is_ok, ap, sym, subst, ◌∙◌, arith}
+use Rattle.std.proofs.Common.{ℕ, ◌≡◌, ◌<◌, false, not, get_or, slice_set, is_ok, ap, sym, subst, ◌∙◌, arith}
 use Rattle.std.proofs.lemmas.Option.{slice_get-get_or}
 use Rattle.arrayvec.specs.ArrayVec.{with_items}
 use Rattle.commit_log.specs.View.{LogView}
@@ -6,7 +6,7 @@ use Rattle.array_model.specs.View.{View, rows_of}
 use Rattle.array_sync.specs.Rows.{lacks_row}
 use Rattle.array_sync.specs.Steps.{resynced}
 use Rattle.raid_rack.specs.RaidRack.{no_array, raid_by}
-use Rattle.raid_rack.specs.Works.{StepsOne, is_stuck}
+use Rattle.raid_rack.specs.Works.{is_stuck}
 use Rattle.raid_rack.proofs.Losing.{only_then}
 use Rattle.raid_rack.proofs.Mended.{on_named}
 use Rattle.raid_rack.proofs.Noted.{current_few}
