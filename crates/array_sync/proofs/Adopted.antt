@@ -17,7 +17,7 @@ use Rattle.array_core.specs.Seats.{slot_at}
 use Rattle.array_core.specs.Superblocks.{adopted, adopted_seat, adopted_slot, adopted_slots}
 use Rattle.array_sync.proofs.Supers.{slot_facts}
 
-same_lists : {X : Type 0} (xs ys : List X) → ((k : ℕ) → slice_get xs k ≡ slice_get ys k) → xs ≡ ys
+pub same_lists : {X : Type 0} (xs ys : List X) → ((k : ℕ) → slice_get xs k ≡ slice_get ys k) → xs ≡ ys
 same_lists [] [] same = refl
 same_lists [] (y ∷ ys) same = absurd (let bad : None ≡ Some y = same 0 in cc)
 same_lists (x ∷ xs) [] same = absurd (let bad : Some x ≡ None = same 0 in cc)
@@ -103,7 +103,7 @@ map_all : {X : Type 0} (f : X → X) (xs : List X) → ((x : X) → f x ≡ x) �
 map_all f [] same = refl
 map_all f (x ∷ xs) same = ap₂ (λ y ys. y ∷ ys) (same x) (map_all f xs same)
 
-seats_of : (place : ℕ → ℕ) (a m : ℕ) (seats : List Seat) (devices : List Id) → length seats ≡ m → length devices ≡ m
+pub seats_of : (place : ℕ → ℕ) (a m : ℕ) (seats : List Seat) (devices : List Id) → length seats ≡ m → length devices ≡ m
     → (map (λ s. s.seat) (map slot_with (zip (map place (range_with_len a m)) (zip seats devices))) ≡ seats)
     × (map (λ s. s.device) (map slot_with (zip (map place (range_with_len a m)) (zip seats devices))) ≡ devices)
 seats_of place a zero [] [] one two = (refl, refl)

@@ -19,7 +19,7 @@ use Rattle.array_core.specs.Staging.{AddsSupersOf}
 use Rattle.array_core.specs.Writing.{KeepsElsewhere, was_there}
 use Rattle.array_core.proofs.Elsewhere.{elsewhere_then, reads_elsewhere}
 use Rattle.array_sync.proofs.Logged.{AreOnMembers}
-use Rattle.array_sync.proofs.Moved.{none_or}
+use Rattle.array_sync.proofs.Owed.{none_or}
 use Rattle.array_sync.proofs.Supers.{supers_few}
 
 abbrev pub Nothing : Type 0

@@ -102,29 +102,29 @@ no_copies v within bytes many xs none = record {
 }
 
 -- one
-pub one_copy : (v : View) (sector k : ℕ) (from : List ℕ) (xs ys : List Target) → k < v.truth.raid_disks → length from ≡ 512 → is_source v sector k ≡ false
+pub one_target : (v : View) (within : ℕ → ℕ → Type 0) (bytes : ℕ → List ℕ → Type 0) (sector k : ℕ) (from : List ℕ) (xs ys : List Target) → k < v.truth.raid_disks → length from ≡ 512
+    → within sector k → ((t j : ℕ) → within t j → (t ≡ sector) × (j ≡ k)) → bytes sector from
     → ys ≡ xs ++ target (slice_on v k) (data_sector + sector) from ∷ []
-    → AddsCopies v (λ t j. (t ≡ sector) × (j ≡ k) × (is_source v t j ≡ false)) (λ t u. u ≡ from) 1 xs ys
-one_copy v sector k from xs ys low long none added = record {
+    → AddsCopies v within bytes 1 xs ys
+one_target v within bytes sector k from xs ys low long inside only has added = record {
   targets = target (slice_on v k) (data_sector + sector) from ∷ [];
   appended = added;
   few = omega arith;
   copies = record {
     on = λ d s u is. on d s u is;
-    has = λ t j is. (
+    has = λ t j is. let at = only t j is in (
       from,
-      subst (λ i. IsPayload (target (slice_on v k) (data_sector + sector) from ∷ []) (slice_on v i) (data_sector + t) from) (sym is.1)
-          (subst (λ i. IsPayload (target (slice_on v k) (data_sector + sector) from ∷ []) (slice_on v k) (data_sector + i) from) (sym is.0) (inl (is_at_own (target (slice_on v k) (data_sector + sector) from), refl))),
+      subst (λ i. IsPayload (target (slice_on v k) (data_sector + sector) from ∷ []) (slice_on v i) (data_sector + t) from) (sym at.1)
+          (subst (λ i. IsPayload (target (slice_on v k) (data_sector + sector) from ∷ []) (slice_on v k) (data_sector + i) from) (sym at.0) (inl (is_at_own (target (slice_on v k) (data_sector + sector) from), refl))),
     );
     apart = refl;
   };
 }
   where
-    on : (d s : ℕ) (u : List ℕ) → IsPayload (target (slice_on v k) (data_sector + sector) from ∷ []) d s u
-        → IsCopy v (λ t j. (t ≡ sector) × (j ≡ k) × (is_source v t j ≡ false)) (λ t w. w ≡ from) d s u
+    on : (d s : ℕ) (u : List ℕ) → IsPayload (target (slice_on v k) (data_sector + sector) from ∷ []) d s u → IsCopy v within bytes d s u
     on d s u (inl here) =
         let at = at_is d s (target (slice_on v k) (data_sector + sector) from) here.0 in
-        record { sector = sector; position = k; low = low; disk = at.0; at = at.1; inside = (refl, refl, none); bytes = here.1; long = ap length here.1 ∙ long }
+        record { sector = sector; position = k; low = low; disk = at.0; at = at.1; inside = inside; bytes = subst (bytes sector) (sym here.1) has; long = ap length here.1 ∙ long }
     on d s u (inr none) = absurd none
 
 -- some and then others

@@ -1,5 +1,6 @@
 pub mod Summing
 pub mod Copying
+pub mod Owed
 pub mod Moved
 pub mod Agreeing
 pub mod Resynced
@@ -10,3 +11,9 @@ pub mod Views
 pub mod Stepping
 pub mod Answering
 pub mod RowStaged
+pub mod Rebuilt
+pub mod Others
+pub mod Restoring
+pub mod Sources
+pub mod RebuiltRow
+pub mod MemberStaged

@@ -28,7 +28,7 @@ use Rattle.array_model.proofs.Looking.{look_payload}
 use Rattle.array_model.proofs.Parts.{is_at_own}
 use Rattle.array_core.specs.Pool.{MayCommit}
 use Rattle.array_core.proofs.LogFrames.{look_nothing}
-use Rattle.array_sync.proofs.Moved.{none_or}
+use Rattle.array_sync.proofs.Owed.{none_or}
 
 abbrev pub nobody : ℕ → Bool
 nobody place = false

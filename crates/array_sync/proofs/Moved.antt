@@ -1,24 +1,23 @@
 -- A commit of sectors of an array's members and of superblocks that restate it: at each moment contents say the array before it with
 -- the superblocks from before, or the array after it with the new ones, and its values stay.
-use Rattle.std.proofs.Common.{◌≡◌, ◌⊎◌, ℕ, zero, suc, ◌+◌, ◌-◌, ◌%◌, ◌<◌, ◌≤◌, ◌^◌, Bool, true, false, nat_lt, if◌then◌else◌, List, [], ◌∷◌, ◌++◌, map, take, length, Option, Some, None, option_map, unwrap_or, refl, sym, ap, subst, ◌∙◌, inl, inr, arith}
+use Rattle.std.proofs.Common.{◌≡◌, ◌⊎◌, ℕ, ◌+◌, ◌-◌, ◌%◌, ◌<◌, ◌≤◌, ◌^◌, Bool, true, false, List, [], ◌++◌, map, length, Option, Some, None, option_map, unwrap_or, refl, sym, ap, subst, ◌∙◌, inl, inr, arith}
 use Rattle.std.proofs.lemmas.Bool.{both_ways}
-use Rattle.std.specs.Option.{option_map_or, option_or}
+use Rattle.std.specs.Option.{option_map_or}
 use Rattle.rack.specs.Values.{Values, MayLeave, only}
 use Rattle.rack.specs.Seen.{Image, Seen}
 use Rattle.rack.specs.Joins.{leaves_weaker}
 use Rattle.rack.specs.Targets.{Target, look, put}
 use Rattle.rack.specs.Sequences.{IsPayload}
-use Rattle.rack.proofs.Phases.{look-append}
 use Rattle.md_super.specs.declared.superblock.Super.{Super}
 use Rattle.pool_state.specs.declared.contents.State.{State}
 use Rattle.array_image.specs.Places.{slice_of, place_of, log_slice, member_slice, super_sector, data_sector}
 use Rattle.array_image.specs.Record.{are_apart}
-use Rattle.array_image.specs.Stripes.{Layout, mirror, parity, width, position_in, sector_in}
+use Rattle.array_image.specs.Stripes.{width, position_in, sector_in}
 use Rattle.array_image.specs.Supers.{super_in, truth_in}
 use Rattle.array_image.specs.SoundArray.{IsWrittenSuper, first_unsynced}
 use Rattle.array_image.specs.Arrays.{Member, Shape, layout_at, value_by, place_with, replayed, shape_by, shape_in}
 use Rattle.array_image.specs.Even.{AreEven}
-use Rattle.array_image.specs.Held.{Among, IsSettled, current_in, held_of, held_by, first_counting, member_at, source_in}
+use Rattle.array_image.specs.Held.{Among, IsSettled, current_in, held_of, held_by}
 use Rattle.array_image.specs.Marks.{lower, lowered}
 use Rattle.array_image.specs.Spent.{wanting}
 use Rattle.array_image.specs.Left.{LogsInside, IsInside, Picks, PicksLogs, IsLeft, IsApart, IsClosed}
@@ -36,8 +35,8 @@ use Rattle.commit_log.proofs.Story.{payload_is}
 use Rattle.array_model.specs.declared.Seat.{Seat}
 use Rattle.array_model.specs.View.{View, IsArray, shape_of, spent_in, may_vary, is_missing_seat, place_at}
 use Rattle.array_model.specs.Says.{Says, IsOpen, KeepsSource, HoldsShape, Holds, IsEarlier, HasNoOthers}
-use Rattle.array_model.specs.Stages.{IsStateOf, NoOthers, AmongTargets, HasTargets}
-use Rattle.array_model.specs.ArrayCalls.{Turns, Covers, KeepsSupers, HasFields}
+use Rattle.array_model.specs.Stages.{IsStateOf, NoOthers, HasTargets}
+use Rattle.array_model.specs.ArrayCalls.{Turns, Covers, HasFields}
 use Rattle.array_model.specs.Rows.{written, source_at, sector_at}
 use Rattle.array_model.proofs.DataFrames.{SameSectors, shape_at, truth_at}
 use Rattle.array_model.proofs.Keeping.{live_on, open_after, inside_before, logs_of}
@@ -45,7 +44,6 @@ use Rattle.array_model.proofs.Losses.{IsLosing, even_noted}
 use Rattle.array_model.proofs.Moves.{Moves}
 use Rattle.array_model.proofs.Noting.{laid_out, unspent_then}
 use Rattle.array_model.proofs.Opening.{even_counted}
-use Rattle.array_model.proofs.Parts.{is_at_own}
 use Rattle.array_model.proofs.Spared.{lost_value, at_most_one, wanting_lost, wanting_take}
 use Rattle.array_model.proofs.Whole.{among_kept}
 use Rattle.array_model.proofs.WholeWrites.{own_held}
@@ -55,88 +53,7 @@ use Rattle.array_core.proofs.RowLists.{payload_left}
 use Rattle.array_core.proofs.RowCommits.{IsOwnData}
 use Rattle.array_core.proofs.Staged.{slot_on, alone_others, staged_shape, staged_truth, staged_sound}
 use Rattle.array_core.proofs.Stripped.{strip_written, whole_written}
-
--- an array with another truth of its members, other seats and other rows left to resync
-abbrev pub restated : View → (events offset resync : ℕ) → List Seat → Bool → View
-restated v events offset resync seats marked = record v {
-  truth = record v.truth { events = events; resync_offset = offset };
-  seats = seats;
-  resync = resync;
-  marked = marked;
-}
-
--- contents say the array before a step or after it
-abbrev pub SaysEither : State → (v g : View) → Seen → (vals : ℕ → Values) → (spent : ℕ → Bool) → Image → Type 0
-SaysEither s v g a vals spent r =
-    (Says s v.number (shape_of v) vals spent r × KeepsSupers v.number a r)
-    ⊎ (Says s v.number (shape_of g) vals spent r × HasFields s v.number g.truth r)
-
--- What a step owes, where g is the shape after it and `resync` the first row that it leaves: with its targets written, its members
--- give each sector what they gave, by the sectors that gave it, and rows agree.
-pub record RowMoves (v : View) (g : Shape) (resync : ℕ) (cur : Image) (own_data : List Target) : Type 0 where
-  pub counted :
-      (m : Member) (t : ℕ) → Among m g.members → t < m.reach
-      → ((o : Member) × Among o (shape_of v).members × (o.place ≡ m.place) × (t < o.reach))
-      ⊎ ((u : List ℕ) × (look own_data (member_slice m.place v.number) (data_sector + t) ≡ Some u))
-  pub value : (y : ℕ) → spent_in v y ≡ false → value_by g (written own_data cur) v.number y ≡ value_by (shape_of v) cur v.number y
-  pub source :
-      (y : ℕ) (m : Member) → spent_in v y ≡ false → source_at g y ≡ Some m
-      → ((o : Member) × (source_at (shape_of v) y ≡ Some o) × (o.place ≡ m.place) × (sector_at g y ≡ sector_at (shape_of v) y)
-      × (look own_data (member_slice m.place v.number) (data_sector + sector_at g y) ≡ None))
-      ⊎ (look own_data (member_slice m.place v.number) (data_sector + sector_at g y) ≡ Some (value_by (shape_of v) cur v.number y))
-  pub even : AreEven (shape_of v) v.number v.resync cur → AreEven g v.number resync (written own_data cur)
-
--- ---- targets
-
-pub among_payload : (xs : List Target) (x : Target) → AmongTargets x xs → IsPayload xs x.disk x.sector x.bytes
-among_payload [] x among = absurd among
-among_payload (y ∷ ys) x (inl here) = subst (λ (z : Target). IsPayload (y ∷ ys) z.disk z.sector z.bytes) (sym here) (inl (is_at_own y, refl))
-among_payload (y ∷ ys) x (inr later) = inr (among_payload ys x later)
-
-look_first : (xs ys : List Target) (d t : ℕ) → look ys d t ≡ None → look (xs ++ ys) d t ≡ look xs d t
-look_first xs ys d t none = look-append xs ys d t ∙ ap (λ o. option_or o (look xs d t)) none
-
-look_last : (xs ys : List Target) (d t : ℕ) → look xs d t ≡ None → look (xs ++ ys) d t ≡ look ys d t
-look_last xs ys d t none = look-append xs ys d t ∙ ap (option_or (look ys d t)) none ∙ same (look ys d t)
-  where
-    same : (o : Option (List ℕ)) → option_or o None ≡ o
-    same None = refl
-    same (Some u) = refl
-
-first_wants : (t : ℕ) (members : List Member) → 0 < length members → first_counting t members ≡ None → 0 < wanting t members
-unfolding first_counting
-first_wants t [] some none = absurd (omega (arith, some))
-first_wants t (m ∷ others) some none =
-    let Goal : Bool → Type 0 = λ b. (if b then Some m else first_counting t others) ≡ None → 0 < (if b then wanting t others else suc (wanting t others)) in
-    let goal : Goal (nat_lt t m.reach) = elim (nat_lt t m.reach) as Goal [ true ↦ λ is. cc | false ↦ λ is. omega arith ] in
-    goal none
-
-at_wants : (t position : ℕ) (members : List Member) → position < length members → member_at t position members ≡ None → 0 < wanting t members
-unfolding member_at
-at_wants t position [] inside none = absurd (omega (arith, inside))
-at_wants t zero (m ∷ others) inside none =
-    let Goal : Bool → Type 0 = λ b. (if b then Some m else None) ≡ None → 0 < (if b then wanting t others else suc (wanting t others)) in
-    let goal : Goal (nat_lt t m.reach) = elim (nat_lt t m.reach) as Goal [ true ↦ λ is. cc | false ↦ λ is. omega arith ] in
-    goal none
-at_wants t (suc position) (m ∷ others) inside none = more (nat_lt t m.reach) (at_wants t position others (omega (arith, inside)) none)
-  where
-    more : (b : Bool) → 0 < wanting t others → 0 < (if b then wanting t others else suc (wanting t others))
-    more true some = some
-    more false some = omega arith
-
-pub source_wants : (layout : Layout) (t position : ℕ) (members : List Member) → position < length (take (width layout) members) → source_in layout t position members ≡ None
-    → 0 < wanting t (take (width layout) members)
-source_wants (mirror n) t position members inside none = first_wants t (take n members) (omega (arith, inside)) none
-source_wants (parity n) t position members inside none = at_wants t position (take n members) inside none
-
-some_same : {X : Type 0} (x y : X) → Some x ≡ Some y → x ≡ y
-some_same x y same = ap (λ o. unwrap_or o x) same
-
-pub none_or : (o : Option (List ℕ)) → ((u : List ℕ) → o ≡ Some u → ⊥) → o ≡ None
-none_or None lacks = refl
-none_or (Some u) lacks = absurd (lacks u refl)
-
--- ---- the commit
+use Rattle.array_sync.proofs.Owed.{none_some, RowMoves, SaysEither, among_payload, look_first, look_last, none_or, restated, source_wants}
 
 module _ (s : State) (v w : View) (events offset resync : ℕ) (seats : List Seat) (marked : Bool) (a b c : Seen) (l : LogView) (on lost : List ℕ) (gone : ℕ → Bool) (supers own_data : List Target)
     (is_array : IsArray v) (later_array : IsArray (restated v events offset resync seats marked)) (fresh : v.went ≡ []) (steady : may_vary v ≡ false)
@@ -233,9 +150,6 @@ module _ (s : State) (v w : View) (events offset resync : ℕ) (seats : List Sea
               ]
         ] in
         goal refl
-      where
-        none_some : {u : List ℕ} → None ≡ Some u → ⊥
-        none_some same = cc
 
     value_now : (y : ℕ) → spent y ≡ false → value_by (shape_of (restated v events offset resync seats marked)) (written own_data (current_in b.held)) v.number y ≡ (vals y).current
     value_now y alive = move.value y (unspent y alive) ∙ holds.shape.current y alive

@@ -37,7 +37,7 @@ use Rattle.array_model.proofs.WholeWrites.{own_value}
 use Rattle.array_core.proofs.Seating.{map_made}
 use Rattle.array_sync.specs.Rows.{AreCopies, IsRowSum, OfRow, is_source, lacks_row, makes_others, row_sum, source_sector}
 use Rattle.array_sync.proofs.Agreeing.{all_counts, first_alone, row_layout_at, source_at_position, sum_put, taken}
-use Rattle.array_sync.proofs.Moved.{RowMoves, none_or, source_wants}
+use Rattle.array_sync.proofs.Owed.{RowMoves, none_or, source_wants}
 use Rattle.array_sync.proofs.Summing.{sum_kept, wanting_later}
 
 -- where a target is

@@ -33,7 +33,7 @@ use Rattle.array_sync.proofs.Agreeing.{all_counts}
 use Rattle.array_sync.proofs.Answering.{row_elsewhere}
 use Rattle.array_sync.proofs.Logged.{AreOnMembers, all_had, all_valid}
 use Rattle.array_sync.proofs.Stepping.{IsDataOn, Step, all_apart, committed_steps, lacks_before, on_members}
-use Rattle.array_sync.proofs.Moved.{RowMoves}
+use Rattle.array_sync.proofs.Owed.{RowMoves}
 use Rattle.array_sync.proofs.Resynced.{row_moves}
 use Rattle.array_sync.proofs.Summing.{sector_in_row}
 use Rattle.array_sync.proofs.Views.{IsUnsynced, all_there, is_steady, next_array, next_lacks, next_loses, next_rows, next_same, next_shape, next_state, next_unsynced, slot_there, stage_is, unspent_before}

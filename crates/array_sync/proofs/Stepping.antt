@@ -30,7 +30,7 @@ use Rattle.array_model.specs.ArrayCalls.{Covers, Turns, HasFields}
 use Rattle.array_model.proofs.Keeping.{keeping_calls, left_before, open_after, pick_before}
 use Rattle.array_model.proofs.Looking.{look_payload}
 use Rattle.array_model.proofs.Moves.{Moves, moves_then}
-use Rattle.array_model.proofs.Noting.{covers_before, holds_noted, losing_of}
+use Rattle.array_model.proofs.Noting.{covers_before, holds_noted, losing_by, losing_of}
 use Rattle.array_model.proofs.RowWrites.{gone_none}
 use Rattle.array_model.proofs.Spared.{wanting_more}
 use Rattle.array_model.proofs.Views.{either_of, fault_early, fault_later, loses_then, members_then}
@@ -44,7 +44,8 @@ use Rattle.array_sync.specs.Rows.{lacks_row}
 use Rattle.array_sync.specs.Steps.{MayStep, Steps, as_it_was, done}
 use Rattle.array_sync.proofs.Copying.{apart_joined}
 use Rattle.array_sync.proofs.Logged.{AreOnMembers, log_decides, log_kept, log_quiet, log_ready, nobody}
-use Rattle.array_sync.proofs.Moved.{RowMoves, SaysEither, durable_now, moved, restated}
+use Rattle.array_sync.proofs.Moved.{durable_now, moved}
+use Rattle.array_sync.proofs.Owed.{RowMoves, SaysEither, restated}
 use Rattle.array_sync.proofs.Supers.{IsMemberSuper, supers_apart, supers_on}
 
 -- ---- reads
@@ -81,6 +82,8 @@ refused_steps v g w number on a b answered lasting is_array reads notes refused 
   is_done = false;
   answer = λ is. absurd (both_ways answered refused is);
   view = as_it_was notes;
+  idle = λ none. reads;
+  spent = λ rows y alive. covers_before v w notes.lost (losing_by v w a b notes) (spent_in w) (λ k unspent. unspent) y alive;
   moving = λ s vals spent covers may.
       let moves = read_moves s v g a b vals spent lasting reads in
       record {
@@ -332,6 +335,10 @@ module _ (v u z w : View) (events offset resync : ℕ) (seats : List Seat) (mark
     is_done = true;
     answer = λ ok. refl;
     view = done noted_g;
+    idle = λ none. absurd (both_ways true none refl);
+    spent = λ rows y alive.
+        step.unspent rows y
+        (covers_before g w (λ place. names lost place || notes.lost place) (losing_of g w _ same_g loses_g) (spent_in w) (λ k unspent. unspent) y alive);
     moving = λ s vals spent covers may.
         let moves = all_moves s vals spent covers may in
         record { stays = moves.stays; leaves = moves.leaves; holds = moves.holds; apart = moves.apart; calm = moves.calm };

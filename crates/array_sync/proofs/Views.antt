@@ -169,7 +169,7 @@ module _ (v z w : View) (is : IsUnsynced v) (z_array : IsArray z) (same : IsSame
 
 -- ---- members that are there
 
-seat_there : (v : View) (j t : ℕ) → t < (member_on v j).reach → slice_get v.seats j ≢ Some Missing
+pub seat_there : (v : View) (j t : ℕ) → t < (member_on v j).reach → slice_get v.seats j ≢ Some Missing
 seat_there v j t counts gone =
     let none : (member_on v j).reach ≡ 0 = ap (λ o. option_map_or (seat_reach v.truth.size) o 0) gone in omega (arith, counts, none)
 
@@ -209,9 +209,27 @@ two_present (s ∷ t ∷ seats) one two long =
         ∙ ap (λ (b : Bool). suc (if b then present seats else suc (present seats))) (first t also)))
         (omega arith)
 
+pub not_alone : (v : View) → IsArray v → slice_get v.seats 0 ≢ Some Missing → slice_get v.seats 1 ≢ Some Missing → is_alone v ≡ false
+not_alone v is_array first second = ap (λ (b : Bool). is_mirror v.truth && b) (not_few (nat_le (present v.seats) 1) refl) ∙ and_false (is_mirror v.truth)
+  where
+    more : 2 ≤ present v.seats
+    more =
+        let least = is_array.least in
+        let count = is_array.seats in
+        two_present v.seats first second (omega (arith, least, count))
+
+    not_few : (b : Bool) → nat_le (present v.seats) 1 ≡ b → nat_le (present v.seats) 1 ≡ false
+    not_few false is = is
+    not_few true is = let few = leb-true (present v.seats) 1 is in let two = more in absurd (omega (arith, few, two))
+
+    and_false : (b : Bool) → (b && false) ≡ false
+    and_false true = refl
+    and_false false = refl
+
 pub is_steady : (v : View) → IsArray v → lacks_row v v.resync ≡ false → v.resync < v.truth.size / 128 → (v.marked ≡ true → is_whole_array v ≡ true) → may_vary v ≡ false
 is_steady v is_array lacks row steady =
-    ap₂ (λ (p q : Bool). p || q) (unmarked v.marked refl) alone
+    let least = is_array.least in
+    ap₂ (λ (p q : Bool). p || q) (unmarked v.marked refl) (not_alone v is_array (all_there v 0 lacks (omega (arith, least))) (all_there v 1 lacks (omega (arith, least))))
   where
     unmarked : (b : Bool) → v.marked ≡ b → v.marked ≡ false
     unmarked false is = is
@@ -220,23 +238,6 @@ is_steady v is_array lacks row steady =
         let synced = and_parts (v.resync == rows_of v) (not v.young && not (is_reshaping v.truth)) whole.1 in
         let same = eqb-true v.resync (rows_of v) synced.0 in
         absurd (omega (arith, same, row))
-
-    more : 2 ≤ present v.seats
-    more =
-        let least = is_array.least in
-        let count = is_array.seats in
-        two_present v.seats (all_there v 0 lacks (omega (arith, least))) (all_there v 1 lacks (omega (arith, least))) (omega (arith, least, count))
-
-    alone : is_alone v ≡ false
-    alone = ap (λ (b : Bool). is_mirror v.truth && b) (not_few (nat_le (present v.seats) 1) refl) ∙ and_false (is_mirror v.truth)
-      where
-        not_few : (b : Bool) → nat_le (present v.seats) 1 ≡ b → nat_le (present v.seats) 1 ≡ false
-        not_few false is = is
-        not_few true is = let few = leb-true (present v.seats) 1 is in let two = more in absurd (omega (arith, few, two))
-
-        and_false : (b : Bool) → (b && false) ≡ false
-        and_false true = refl
-        and_false false = refl
 
 -- ---- sectors that aren't spent after it
 

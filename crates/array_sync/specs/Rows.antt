@@ -1,6 +1,7 @@
--- Rows of the members' data: which members make the others of their row, and the sectors that are written for these.
-use Rattle.std.specs.Prelude.{◌≡◌, ℕ, ◌+◌, ◌*◌, ◌<◌, ◌≤◌, Bool, true, false, ◌==◌, not, nat_lt, if◌then◌else◌, List, ◌++◌, map, length}
-use Rattle.std.specs.List.{range_with_len}
+-- Rows of the members' data: which members make the others of their row, what these give at a member that is rebuilt, and the sectors
+-- that are written for them.
+use Rattle.std.specs.Prelude.{◌≡◌, ℕ, ◌+◌, ◌*◌, ◌<◌, ◌≤◌, Bool, true, false, ◌==◌, ◌&&◌, ◌||◌, not, nat_lt, if◌then◌else◌, List, ◌++◌, map, length}
+use Rattle.std.specs.List.{list_all, range_with_len}
 use Rattle.rack.specs.Seen.{Image, Seen}
 use Rattle.rack.specs.Targets.{Target}
 use Rattle.rack.specs.Sequences.{IsPayload}
@@ -8,12 +9,12 @@ use Rattle.raid_map.specs.LeftSymmetric.{parity_at}
 use Rattle.parity.specs.Xor.{xor_all, zeros}
 use Rattle.array_image.specs.Places.{data_sector}
 use Rattle.array_image.specs.Record.{are_apart}
-use Rattle.array_image.specs.Stripes.{Layout, mirror, parity, width}
-use Rattle.array_image.specs.Spent.{wanting}
+use Rattle.array_image.specs.Stripes.{Layout, mirror, parity, width, given}
+use Rattle.array_image.specs.Spent.{wanting, spent_with}
 use Rattle.array_image.specs.Held.{current_in}
 use Rattle.array_model.specs.View.{View, member_on, shape_of}
 use Rattle.array_model.specs.Says.{IsOpen}
-use Rattle.array_model.specs.Members.{members_of, row_layout, slice_on}
+use Rattle.array_model.specs.Members.{members_of, row_layout, row_of, slice_on}
 
 -- a member's sector is one of those that make the others of its row: of a mirror the first member's, of RAID-5 the data
 abbrev pub makes_others : Layout → ℕ → ℕ → Bool
@@ -43,7 +44,27 @@ SourcesCount v sector many = (j : ℕ) → j < many → is_source v sector j ≡
 abbrev pub IsRowSum : View → Seen → ℕ → List ℕ → Type 0
 IsRowSum v a sector bytes = IsOpen (shape_of v) v.number a → bytes ≡ row_sum v (current_in a.held) sector (width (row_layout v sector))
 
+-- ---- a member that is rebuilt
+
+-- each member but that of a place counts in a row, and the row isn't left to resync: so the others give that member's row
+abbrev pub others_give : View → ℕ → ℕ → Bool
+others_give v place row = list_all (λ m. (m.place == place) || nat_lt (row * 128 + 127) m.reach) (members_of v) && nat_lt row v.resync
+
+-- a row can't be had: two members don't count in it, or one where it is left to resync
+abbrev pub row_spent : View → ℕ → Bool
+row_spent v row = spent_with (wanting (row * 128 + 127) (members_of v)) (nat_lt row v.resync)
+
+-- these bytes are what the members of its row give at a position, where the row has that position and is told
+abbrev pub IsGiven : View → Seen → ℕ → ℕ → List ℕ → Type 0
+IsGiven v a position sector bytes =
+    IsOpen (shape_of v) v.number a → position < width (row_layout v sector)
+    → bytes ≡ given (row_layout v sector) (row_of v (current_in a.held) sector) position
+
 -- ---- the sectors that are written
+
+-- those of one member, from one sector on
+abbrev pub OfMember : ℕ → ℕ → ℕ → ℕ → ℕ → Type 0
+OfMember position first many t j = (first ≤ t) × (t < first + many) × (j ≡ position)
 
 -- a sector of the first members that is made of others
 abbrev pub OfSector : View → ℕ → ℕ → ℕ → ℕ → Type 0

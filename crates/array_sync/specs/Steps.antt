@@ -1,15 +1,22 @@
 -- What a step of maintenance does to an array.
-use Rattle.std.specs.Prelude.{◌≡◌, ◌⊎◌, ℕ, ◌+◌, ◌-◌, ◌*◌, ◌%◌, ◌^◌, Bool, true, false, nat_lt, if◌then◌else◌, List}
+use Rattle.std.specs.Prelude.{◌≡◌, ◌⊎◌, ℕ, ◌+◌, ◌-◌, ◌*◌, ◌%◌, ◌<◌, ◌^◌, Bool, true, false, ◌==◌, nat_lt, if◌then◌else◌, List, map, Some}
+use Rattle.std.specs.Option.{option_map_or}
 use Rattle.rack.specs.Values.{Values}
 use Rattle.rack.specs.Seen.{Image, Seen}
+use Rattle.rack.specs.Sequences.{OnlyReads}
 use Rattle.pool_state.specs.declared.contents.State.{State}
 use Rattle.array_image.specs.Left.{IsLeft}
 use Rattle.commit_log.specs.Kept.{LogKept}
-use Rattle.array_model.specs.View.{View, has_gone, rows_of, shape_of}
+use Rattle.array_model.specs.declared.Seat.{Seat}
+use Rattle.array_model.specs.declared.Seat.TheVariants.{Whole, Rebuilding}
+use Rattle.array_model.specs.View.{View, has_gone, rows_of, seat_reach, shape_of, spent_in}
 use Rattle.array_model.specs.Says.{Holds, IsOpen}
 use Rattle.array_model.specs.Members.{Notes}
 use Rattle.array_model.specs.ArrayCalls.{Covers, Moving, HasFields}
 use Rattle.array_core.specs.Pool.{MayCommit}
+use Rattle.array_core.specs.Seats.{seat_of}
+use Rattle.array_core.specs.Slots.{slots_of}
+use Rattle.array_core.specs.Staging.{HasRowRebuilds}
 use Rattle.array_core.specs.Superblocks.{raised}
 
 -- the member sector from which rows are left to resync once so many aren't, and all ones where none is
@@ -22,6 +29,26 @@ resynced v = record v {
   truth = record v.truth { events = raised v.truth.events; resync_offset = offset_after v (v.resync + 1) };
   resync = v.resync + 1;
   marked = false;
+}
+
+-- how many sectors of a place's member count
+abbrev pub reach_on : View → ℕ → ℕ
+reach_on v place = option_map_or (seat_reach v.truth.size) (seat_of v place) 0
+
+-- The member of a place is being rebuilt by whole rows, and a row of it is left.
+pub record HasRowLeft (v : View) (place : ℕ) : Type 0 where
+  pub seat : seat_of v place ≡ Some (Rebuilding (reach_on v place))
+  pub left : reach_on v place < v.truth.size
+  pub whole : reach_on v place % 128 ≡ 0
+
+-- the seat of a member of which so many sectors are rebuilt: it is whole where these are all
+abbrev pub rebuilt_seat : ℕ → ℕ → Seat
+rebuilt_seat size to = if to == size then Whole else Rebuilding to
+
+-- the array once the next row of a place's member is rebuilt
+abbrev pub rebuilt : View → ℕ → View
+rebuilt v place = record v {
+  seats = map (λ s. if s.place == place then rebuilt_seat v.truth.size (reach_on v place + 128) else s.seat) (slots_of v);
 }
 
 -- The array is as it was, or its step is done; places that went are noted, and nothing else has changed.
@@ -45,6 +72,10 @@ pub record Steps (v next w : View) (number next_number : ℕ) (on : List ℕ) (a
   pub is_done : Bool
   pub answer : answered ≡ true → is_done ≡ true
   pub view : Stepped v next w a b is_done
+  -- where it isn't done nothing was written
+  pub idle : is_done ≡ false → OnlyReads a b
+  -- what was spent stays so
+  pub spent : HasRowRebuilds v → (y : ℕ) → spent_in w y ≡ false → spent_in v y ≡ false
   -- images go by the array before it or after it, and then the array holds what it held
   pub moving :
       (s : State) (vals : ℕ → Values) (spent : ℕ → Bool) → Covers w spent → MayStep s v next w number on a

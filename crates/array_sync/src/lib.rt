@@ -1,23 +1,33 @@
-//! The rows of an array that are left to resync, one at a time.
+//! The rows of an array that are left to resync or to rebuild, one at a time.
 //!
 //! [`resync_row`] takes the first row that is left. A mirror's other members get the chunk of its first one, and of RAID-5 the parity
 //! is computed from the data: the members whose sectors make the others of a row are one list (`makes_others` of `specs/Rows.antt`),
 //! and what they give is one sum. One commit of the log has the sectors that are made of others and the superblocks that leave the
 //! next row; the last row's superblocks leave none. A row of an array that is being reshaped goes by the layout of its side.
 //!
-//! **Its model** is `View` of array_model: once the row is resynced the array has one more event, and its first row left to resync is
-//! the next (`resynced` of `specs/Steps.antt`). Nothing else of it changes but losses, which are noted with their cause.
+//! [`rebuild_row`] takes the next row of a member that is being rebuilt. Its sectors are what the others of the row give
+//! (`Array::member`), and one commit has them and the superblocks by which that member counts in the row; the last row's superblocks
+//! end the rebuild. A row that doesn't have the member, in an array that is being reshaped, gets zeros.
 //!
-//! **The contract for the layer above** is one record, `Steps`, beside the frames of `Array::write`. The array is as it was, or the row
-//! is done, and it is done where the answer is Ok. At each moment contents say the array as before with superblocks from before, or by
-//! the new superblocks, and its values stay (`Moving` of array_model); after it the array holds what it held, and one row more agrees.
-//! Once it is done each stop leaves the new superblocks. The log is kept for the next commit. The row is refused exactly where a
-//! member is missing after the losses of the call, or isn't rebuilt past the row.
+//! **Their model** is `View` of array_model: once a row is resynced the array has one more event, and its first row left to resync is
+//! the next (`resynced` of `specs/Steps.antt`); once a row is rebuilt the member counts in it, and is whole after the last
+//! (`rebuilt`). Nothing else of it changes but losses, which are noted with their cause.
+//!
+//! **The contract for the layer above** is one record for both, `Steps`, beside the frames of `Array::write`. The array is as it was,
+//! or the row is done, and it is done where the answer is Ok. At each moment contents say the array as before with superblocks from
+//! before, or by the new superblocks, and its values stay (`Moving` of array_model); after it the array holds what it held, and the
+//! members of the row agree. Once it is done each stop leaves the new superblocks. The log is kept for the next commit. A row of a
+//! resync is refused exactly where a member is missing after the losses of the call, or isn't rebuilt past the row (`lacks_row`); one
+//! of a rebuild exactly where another member is so, or the row is left to resync (`others_give`).
 //!
 //! The proofs of a step by one commit are over any change of an array's truth and seats (`Step` of `proofs/Stepping.antt`).
 #![tactic(auto)]
 
+mod members;
+mod rebuilding;
 mod resyncing;
 mod rows;
 
+pub use rebuilding::rebuild_row;
 pub use resyncing::resync_row;
+pub use rows::lacks_row;

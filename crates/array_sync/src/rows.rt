@@ -20,10 +20,10 @@ use rack::Rack;
 use raid_map::{CHUNK_SECTORS, unplace};
 
 /// Where a member's data begins in its slice.
-const DATA_SECTOR: u64 = 2048;
+pub(crate) const DATA_SECTOR: u64 = 2048;
 
 /// Whether a member is missing, or not rebuilt past a row.
-pub(crate) fn lacks_row(array: &Array, row: u64) -> bool
+pub fn lacks_row(array: &Array, row: u64) -> bool
     requires { row < rows_of array.now }
     ensures { result ≡ lacks_row array.now row }
 {

@@ -69,7 +69,7 @@ named_from f a (suc k) p is =
     ] in
     goal is
 
-copies_apart : (t : State) (f : ℕ → Bool) (a k : ℕ) (xs : List Target) → AreCopiesOn t (filter f (range_with_len a k)) xs → are_apart xs ≡ true
+pub copies_apart : (t : State) (f : ℕ → Bool) (a k : ℕ) (xs : List Target) → AreCopiesOn t (filter f (range_with_len a k)) xs → are_apart xs ≡ true
 copies_apart t f a zero [] are = refl
 copies_apart t f a zero (x ∷ xs) are = absurd are
 copies_apart t f a (suc k) xs are =

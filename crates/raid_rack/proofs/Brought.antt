@@ -66,7 +66,7 @@ module _ (t : State) where
       ]
 
   -- they are on the places
-  copies_inside : (on : List ℕ) (xs : List Target) (p : ℕ) → AreCopiesOn t on xs → list_any (λ x. place_of x.disk == p) xs ≡ true → names on p ≡ true
+  pub copies_inside : (on : List ℕ) (xs : List Target) (p : ℕ) → AreCopiesOn t on xs → list_any (λ x. place_of x.disk == p) xs ≡ true → names on p ≡ true
   copies_inside [] [] p are is = is
   copies_inside [] (x ∷ xs) p are is = absurd are
   copies_inside (q ∷ on) [] p are is = absurd are

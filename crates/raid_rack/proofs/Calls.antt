@@ -1,5 +1,5 @@
 -- Calls of one array that write nothing, as parts of a call of all.
-use Rattle.std.proofs.Common.{◌≡◌, ℕ, ◌+◌, ◌-◌, ◌*◌, ◌/◌, ◌%◌, ◌^◌, ◌<◌, ◌≤◌, Bool, true, false, nat_lt, if◌then◌else◌, ◌⊎◌, refl, sym, ap, subst, inl, inr, ltb-true, lt-ltb, le-ltb, arith}
+use Rattle.std.proofs.Common.{◌≡◌, ℕ, ◌+◌, ◌-◌, ◌*◌, ◌/◌, ◌%◌, ◌^◌, ◌<◌, ◌≤◌, Bool, true, false, nat_lt, if◌then◌else◌, ◌⊎◌, refl, sym, ap, subst, ◌∙◌, inl, inr, ltb-true, lt-ltb, le-ltb, arith}
 use Rattle.std.proofs.lemmas.Bool.{cases_eq, cases_lt, both_ways, ltb-false}
 use Rattle.rack.specs.Values.{Values}
 use Rattle.rack.specs.Seen.{Seen, IsPick}
@@ -17,7 +17,8 @@ use Rattle.array_core.specs.Settling.{Settles}
 use Rattle.raid_rack.specs.Book.{after_same}
 use Rattle.raid_rack.specs.Raid.{Raid, gone_in, is_over, IsWritten}
 use Rattle.raid_rack.specs.Moves.{IsOfPool, IsSet, PartOf, Moves}
-use Rattle.raid_rack.proofs.Changed.{ViewsOne, MayRestate, further, marked_before, more_gone, same_shape, left_before, caused, part_if, views_counted, views_notes, views_sectors, views_set, views_spent}
+use Rattle.raid_rack.proofs.Changed.{LosesOne, ViewsOne, further, keeps_arrays, marked_before, more_gone, same_shape, left_before, caused, part_if, views_counted, views_sectors, views_set, views_spent}
+use Rattle.raid_rack.proofs.Views.{MayRestate, views_notes}
 use Rattle.raid_rack.proofs.Rows.{KeepsClear, clear_same, clear_seats, clear_settled, rows_read}
 use Rattle.raid_rack.proofs.Over.{someone_left, over_still}
 use Rattle.raid_rack.proofs.Reading.{part_read, part_unread}
@@ -28,6 +29,7 @@ use Rattle.raid_rack.proofs.Noted.{with_arrays}
 
 pub record ReadsOne (v : Raid) (f : ℕ → View) (m : ℕ) (a b : Seen) : Type 0 where
   pub views : ViewsOne v f m a b
+  pub loses : LosesOne v f m
   pub reads : OnlyReads a b
   pub clear : KeepsClear (v.arrays m) (f m)
   pub keeps : (s : State) (durable : Shape) (vals : ℕ → Values) (spent : ℕ → Bool) → Covers (f m) spent → Keeping s (v.arrays m) (f m) spent a b durable vals
@@ -45,17 +47,21 @@ module _ (v : Raid) (f : ℕ → View) (m : ℕ) (a b : Seen) (set : IsSet v a) 
       let someone = someone_left (with_arrays v f) n goes in
       let more = more_gone v f m a b set views in
       part_if v f v.number a b n vals vals spent call.reads.stays set.lasting read_leaves
-      (λ are. (marked_before v f m a b set views are, same_shape v f m a b set views are n))
-      (λ amid.
-      elim (cases_eq n m) [
-        | inl same ↦
-            part_read v.state amid.durable vals spent (gone_in v) (gone_in (with_arrays v f)) v (with_arrays v f) a b n set.lasting call.reads refl more someone
-            (subst (λ k. IsWritten (v.arrays k) → IsWritten (f k)) (sym same) views.written)
-            (subst (λ k. Keeping v.state (v.arrays k) (f k) spent a b amid.durable vals) (sym same)
-            (call.keeps v.state amid.durable vals spent (subst (λ k. Covers (f k) spent) same covers)))
-        | inr apart ↦
-            part_unread v.state amid.durable vals spent (gone_in v) (gone_in (with_arrays v f)) v (with_arrays v f) a b n set.lasting call.reads refl (views.others n apart) more someone
-      ])
+      (λ amid. record {
+        before = amid.durable;
+        after = amid.durable;
+        stood = amid.stood;
+        marked = λ are. amid.marked (marked_before v f m a b set views are) ∙ same_shape v f m a b set views call.loses are n;
+        part = elim (cases_eq n m) [
+          | inl same ↦
+              part_read v.state amid.durable vals spent (gone_in v) (gone_in (with_arrays v f)) v (with_arrays v f) a b n set.lasting call.reads refl more someone
+              (subst (λ k. IsWritten (v.arrays k) → IsWritten (f k)) (sym same) views.written)
+              (subst (λ k. Keeping v.state (v.arrays k) (f k) spent a b amid.durable vals) (sym same)
+              (call.keeps v.state amid.durable vals spent (subst (λ k. Covers (f k) spent) same covers)))
+          | inr apart ↦
+              part_unread v.state amid.durable vals spent (gone_in v) (gone_in (with_arrays v f)) v (with_arrays v f) a b n set.lasting call.reads refl (views.others n apart) more someone
+        ];
+      })
 
   pub moves_read : Moves v (with_arrays v f) a b
   moves_read =
@@ -66,12 +72,14 @@ module _ (v : Raid) (f : ℕ → View) (m : ℕ) (a b : Seen) (set : IsSet v a) 
         leaves = read_leaves;
         number = omega arith;
         events = (further v f m a b set views v.number (omega arith)).events;
+        arrays = keeps_arrays v f m a b set views call.loses;
+        plan = refl;
         sectors = views_sectors v f m a b set views;
         left = left_before v f m a b set views;
         cause = caused v f m a b set views;
         still = λ n low goes. over_still v (with_arrays v f) (further v f m a b set views v.number (omega arith)) n low goes;
         spent = λ n y low alive. views_spent v f m a b set views n y alive;
-        counted = λ n k sector low among counts. views_counted v f m a b set views n k sector among counts;
+        counted = λ n k sector low among counts. views_counted v f m a b set views call.loses n k sector among counts;
         unwritten = λ d t live gone. call.reads.keeps.held d t live;
         kept = λ d t live apart other. call.reads.keeps.held d t live;
         parts = λ n vals spent joined low goes covers. read_part n vals spent low goes covers;
@@ -90,10 +98,12 @@ pub reads_notes : (v : Raid) (f : ℕ → View) (m : ℕ) (a b : Seen) → IsSet
 reads_notes v f m a b set low reads others notes keeps =
     let u = v.arrays m in
     let pool = (set.arrays m low).is_of_pool in
+    let both = views_notes v f m a b u.truth.events u.truth.resync_offset u.marked set low reads.stays others
+    (record { later = omega arith; some = pool.events; few = pool.events_end; whole = λ was. was; unsynced = pool.unsynced })
+    (λ marked. inl marked) notes in
     record {
-      views = views_notes v f m a b u.truth.events u.truth.resync_offset u.marked set low reads.stays others
-          (record { later = omega arith; some = pool.events; few = pool.events_end; whole = λ was. was; unsynced = pool.unsynced })
-          (λ marked. inl marked) notes;
+      views = both.views;
+      loses = both.loses;
       reads = reads;
       clear = clear_seats u (f m) notes.same;
       keeps = keeps;
@@ -184,10 +194,12 @@ reads_settled v f m a b set low reads others settles keeps =
     let u = v.arrays m in
     let z = settles.synced in
     let seated = set.arrays m low in
+    let both = views_notes v f m a b (raised u.truth.events) (left_offset u) false set low reads.stays others
+    (may_settle v.state u seated.is_array seated.is_of_pool) (λ marked. absurd (both_ways false refl marked))
+    (subst (λ (k : View). Notes (settled u) k a b) (sym settles.truth) (settled_notes u z a b settles.notes)) in
     record {
-      views = views_notes v f m a b (raised u.truth.events) (left_offset u) false set low reads.stays others
-          (may_settle v.state u seated.is_array seated.is_of_pool) (λ marked. absurd (both_ways false refl marked))
-          (subst (λ (k : View). Notes (settled u) k a b) (sym settles.truth) (settled_notes u z a b settles.notes));
+      views = both.views;
+      loses = both.loses;
       reads = reads;
       clear = subst (λ (k : View). KeepsClear u k) (sym settles.truth) (clear_settled u z settles.notes.same);
       keeps = keeps;

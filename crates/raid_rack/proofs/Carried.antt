@@ -279,7 +279,7 @@ module _ (v : Raid) (lost on gone : List ℕ) (l : LogView) (xs : List Target) (
   commit_rows rows =
       let arrays = commit.arrays n low in
       record {
-        same = ap (λ (u : View). u.resync) arrays;
+        later = let rows_same = ap (λ (u : View). u.resync) arrays in omega (arith, rows_same);
         leaves = λ traced.
             leaves_weaker (λ i. LogsInside b.sectors i → Commits l.added b i)
             (λ i. IsInside b.sectors i → LeavesFrom (v.arrays n).resync n (replayed b.sectors i))

@@ -27,7 +27,9 @@ use Rattle.raid_rack.specs.Raid.{Raid, gone_in, is_over}
 use Rattle.raid_rack.specs.Moves.{AreMarked, IsAmid, IsHeeded, IsSet, Moves, PartOf}
 use Rattle.raid_rack.specs.Cleaning.{Ends, HasSupersOn, IsEnded, IsIdle, NoneFails, as_it_was, restated}
 use Rattle.raid_rack.proofs.Calls.{may_settle, settled_notes}
-use Rattle.raid_rack.proofs.Changed.{ViewsOne, called, caused, further, left_before, new_gone, views_counted, views_notes, views_sectors, views_set, views_spent}
+use Rattle.raid_rack.proofs.Changed.{LosesOne, ViewsOne, called, caused, further, keeps_arrays, left_before, new_gone, views_counted, views_sectors, views_set, views_spent}
+use Rattle.raid_rack.proofs.Parts.{acts_some}
+use Rattle.raid_rack.proofs.Views.{NotesOne, views_notes}
 use Rattle.raid_rack.proofs.Over.{over_still}
 use Rattle.raid_rack.proofs.Seated.{view_with}
 use Rattle.raid_rack.proofs.Whole.{heeded_gone}
@@ -47,7 +49,7 @@ notes_join u v w a b one two = record {
 }
 
 views_clean : (v : Raid) (f : ℕ → View) (m : ℕ) (a b : Seen) → IsSet v a → m < v.state.made → Stays a b
-    → ((n : ℕ) → (n ≡ m → ⊥) → f n ≡ v.arrays n) → ArrayCleans (v.arrays m) (f m) a b → ViewsOne v f m a b
+    → ((n : ℕ) → (n ≡ m → ⊥) → f n ≡ v.arrays n) → ArrayCleans (v.arrays m) (f m) a b → NotesOne v f m a b
 views_clean v f m a b set low stays others cleans =
     let u = v.arrays m in
     let z = cleans.synced in
@@ -140,18 +142,22 @@ pub record CleanCall (v : Raid) (f : ℕ → View) (m : ℕ) (a b : Seen) : Type
 
 module _ (v : Raid) (f : ℕ → View) (m : ℕ) (a b : Seen) (set : IsSet v a) (call : CleanCall v f m a b) where
   views : ViewsOne v f m a b
-  views = views_clean v f m a b set call.low call.goes.stays call.others call.view
+  views = (views_clean v f m a b set call.low call.goes.stays call.others call.view).views
 
-  acts : ActsOne v f v.number m a b (λ vals. vals) (MayRenew v.state (v.arrays m) a)
+  loses : LosesOne v f m
+  loses = (views_clean v f m a b set call.low call.goes.stays call.others call.view).loses
+
+  acts : ActsOne v f v.number m a b (λ vals. vals) (shape_of (v.arrays m)) (MayRenew v.state (v.arrays m) a)
   acts = record {
     heeded = call.heeded;
     views = views;
+    shape = loses.shape;
     goes = call.goes;
     later = omega arith;
     able = λ n vals spent below goes amid.
         may_renew v a m n set call.heeded call.low amid.slices
         (over_still v (called v f v.number) (further v f m a b set views v.number (omega arith)) n below goes);
-    acts = λ vals spent covers able. call.cleans vals spent covers able;
+    acts = λ vals spent covers able. acts_some v.state (v.arrays m) (f m) spent a b (shape_of (v.arrays m)) vals vals (call.cleans vals spent covers able);
     kept = λ able log.
         kept_more v.state v.number (λ place. false) (gone_in (called v f v.number)) b (λ p is. absurd (both_ways false refl is)) (call.kept log);
     elsewhere = ([], λ p gone. refl, call.elsewhere);
@@ -178,27 +184,29 @@ module _ (v : Raid) (f : ℕ → View) (m : ℕ) (a b : Seen) (set : IsSet v a) 
         leaves = call.goes.leaves;
         number = omega arith;
         events = (further v f m a b set views v.number (omega arith)).events;
+        arrays = keeps_arrays v f m a b set views loses;
+        plan = refl;
         sectors = views_sectors v f m a b set views;
         left = left_before v f m a b set views;
         cause = caused v f m a b set views;
-        still = one_still v f v.number m a b (λ vals. vals) (MayRenew v.state (v.arrays m) a) set acts;
+        still = one_still v f v.number m a b (λ vals. vals) (shape_of (v.arrays m)) (MayRenew v.state (v.arrays m) a) set acts;
         spent = λ n y low alive. views_spent v f m a b set views n y alive;
-        counted = λ n k sector low among counts. views_counted v f m a b set views n k sector among counts;
-        unwritten = one_unwritten v f v.number m a b (λ vals. vals) (MayRenew v.state (v.arrays m) a) set acts;
+        counted = λ n k sector low among counts. views_counted v f m a b set views loses n k sector among counts;
+        unwritten = one_unwritten v f v.number m a b (λ vals. vals) (shape_of (v.arrays m)) (MayRenew v.state (v.arrays m) a) set acts;
         kept = λ d t live apart other. call.supers d t live other;
         parts = λ n vals spent joined low goes covers.
             elim (cases_eq n m) [
               | inl same ↦
                   subst (λ k. PartOf v (called v f v.number) a b k vals vals spent) (sym same)
-                  (own_part v f v.number m a b (λ vals. vals) (MayRenew v.state (v.arrays m) a) set acts vals spent
+                  (own_part v f v.number m a b (λ vals. vals) (shape_of (v.arrays m)) (MayRenew v.state (v.arrays m) a) set acts vals spent
                   (subst (λ k. is_over (called v f v.number) k ≡ false) same goes) (subst (λ k. Covers (f k) spent) same covers))
-              | inr apart ↦ other_part v f v.number m a b (λ vals. vals) (MayRenew v.state (v.arrays m) a) set acts n vals spent apart low goes
+              | inr apart ↦ other_part v f v.number m a b (λ vals. vals) (shape_of (v.arrays m)) (MayRenew v.state (v.arrays m) a) set acts n vals spent apart low goes
             ];
         rows = λ n vals spent joined low goes covers amid rows.
             elim (cases_eq n m) [
               | inl same ↦
                   subst (λ k. LeavesRows v a k → KeepsRows v (called v f v.number) a b k) (sym same) own_rows rows
-              | inr apart ↦ other_rows v f v.number m a b (λ vals. vals) (MayRenew v.state (v.arrays m) a) set acts n vals spent apart low goes amid rows
+              | inr apart ↦ other_rows v f v.number m a b (λ vals. vals) (shape_of (v.arrays m)) (MayRenew v.state (v.arrays m) a) set acts n vals spent apart low goes amid rows
             ];
       }
 

@@ -72,7 +72,7 @@ valid_marked lost s own is =
 
 pub after_marked : (lost : List ℕ) (s : State) → IsAfter s (marked lost s)
 after_marked lost s = record {
-  same = record { pool = refl; extent = refl; drives = drives_same lost 0 s.drives.items; plan = refl; made = refl; joined = refl; serial = refl };
+  same = record { pool = refl; extent = refl; drives = drives_same lost 0 s.drives.items; plan = inl refl; made = refl; joined = refl; serial = refl };
   epoch = (raised_range s.epoch).0;
   current = λ p is. (and_parts (is_current s p) (not (names lost p)) (sym (current_marked lost s p) ∙ is)).0;
 }
@@ -98,6 +98,7 @@ seated_marked s lost n u x noted seated =
         row = pool.row;
         roles = ap (λ k. has_roles k u.truth) (length_marked lost 0 s.drives.items) ∙ pool.roles;
         unsynced = pool.unsynced;
+        zeroed = pool.zeroed;
         rows = pool.rows;
       };
     }

@@ -70,7 +70,7 @@ none_present (Rebuilding to ∷ seats) size k none = absurd (let bad : suc (pres
 none_present (Missing ∷ seats) size zero none = refl
 none_present (Missing ∷ seats) size (suc k) none = none_present seats size k none
 
-all_wanting : (v : View) (sector a n : ℕ) → present v.seats ≡ 0 → wanting sector (map (member_on v) (range_with_len a n)) ≡ n
+pub all_wanting : (v : View) (sector a n : ℕ) → present v.seats ≡ 0 → wanting sector (map (member_on v) (range_with_len a n)) ≡ n
 all_wanting v sector a zero none = refl
 all_wanting v sector a (suc n) none =
     let reach : (member_on v a).reach ≡ 0 = none_present v.seats v.truth.size a none in

@@ -1,5 +1,5 @@
 -- An array that was opened by the superblocks of a pool's drives is one of the pool, with its absent places noted.
-use Rattle.std.proofs.Common.{◌≡◌, ◌≢◌, ℕ, ◌+◌, ◌%◌, ◌<◌, ◌≤◌, ◌^◌, Bool, true, false, ◌==◌, ◌&&◌, ◌||◌, not, nat_lt, is_ok, is_some, bytes_eq, if◌then◌else◌, List, [], map, length, slice_get, unwrap_or, Option, Some, None, option_map, refl, sym, ap, ap₂, subst, ◌∙◌, eqb-true, ltb-true, arith}
+use Rattle.std.proofs.Common.{◌≡◌, ℕ, ◌/◌, ◌%◌, ◌<◌, ◌≤◌, ◌^◌, Bool, true, false, ◌==◌, ◌&&◌, not, nat_lt, is_ok, is_some, bytes_eq, if◌then◌else◌, List, [], map, length, slice_get, unwrap_or, Option, Some, None, option_map, refl, sym, ap, subst, ◌∙◌, ltb-true, arith}
 use Rattle.std.specs.Option.{option_map_or}
 use Rattle.std.specs.List.{range_with_len}
 use Rattle.std.proofs.lemmas.Bool.{and_parts, both_ways}
@@ -11,17 +11,15 @@ use Rattle.pool_state.specs.declared.contents.State.{State}
 use Rattle.array_image.specs.Places.{array_id}
 use Rattle.array_image.specs.States.{is_current}
 use Rattle.array_image.specs.Supers.{is_named, is_rebuilding, has_roles, has_whole_row, super_in, truth_in}
-use Rattle.array_model.specs.declared.Seat.{Seat}
 use Rattle.array_model.specs.declared.Seat.TheVariants.{Whole, Missing, Rebuilding}
-use Rattle.array_model.specs.View.{View, IsArray, has_gone, is_missing_seat, place_at, seat_unless}
+use Rattle.array_model.specs.View.{View, IsArray, is_missing_seat, place_at, seat_unless}
 use Rattle.array_model.specs.Members.{HasSlices}
 use Rattle.array_core.specs.declared.Found.{Found}
 use Rattle.array_core.specs.Contents.{current_super}
 use Rattle.array_core.specs.Model.{is_truth}
-use Rattle.array_core.specs.Opening.{super_at, slot_by, seat_by, slots_found, view_found}
+use Rattle.array_core.specs.Opening.{resync_by, super_at, slot_by, seat_by, slots_found, view_found}
 use Rattle.array_core.specs.Slots.{place_by, places_by}
 use Rattle.array_core.specs.Seats.{gone, names, restart, restarted}
-use Rattle.array_core.specs.Staging.{HasRowRebuilds}
 use Rattle.array_core.proofs.Truths.{truth_facts, unsynced_left}
 use Rattle.array_core.proofs.Rules.{get_map, get_range, placed, zero_more}
 use Rattle.array_core.proofs.Restarting.{restarted_rows}
@@ -117,6 +115,7 @@ module _ (s : State) (c : Image) (n : ℕ) (young : Bool) (t : Super) (found : L
         row = six.0;
         roles = six.1;
         unsynced = unsynced_left young t;
+        zeroed = λ is. subst (λ (b : Bool). t.size / 128 ≤ resync_by b t) (sym is) (omega arith);
         rows = λ k to is.
             restarted_rows (view_found n young found t) some k to
             (rebuilding_before (names absent (place_at u k)) (slice_get u.seats k) to (sym (lost_seats k) ∙ is));

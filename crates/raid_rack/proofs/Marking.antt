@@ -143,7 +143,7 @@ marked_moment s t durable noted vary marked view vals spent gone v l on lost a b
 -- ---- after it
 
 -- what the commit leaves pending has no data
-still_after : (s t : State) (gone : ℕ → Bool) (l : LogView) (on lost : List ℕ) (a b : Seen) (n place sector : ℕ) (c : Image)
+pub still_after : (s t : State) (gone : ℕ → Bool) (l : LogView) (on lost : List ℕ) (a b : Seen) (n place sector : ℕ) (c : Image)
     → n < 16 → MarksCall s t gone l on lost a b → Picks b c
     → replayed b.sectors c (member_slice place n) (data_sector + sector) ≡ c (member_slice place n) (data_sector + sector)
 still_after s t gone l on lost a b n place sector c few call picks =
@@ -172,7 +172,7 @@ restated_after s t noted marked view gone l on lost a b n r few call restates le
     )
 
 -- no data was written
-data_kept : (s t : State) (noted : Shape) (gone : ℕ → Bool) (l : LogView) (on lost : List ℕ) (a b : Seen) (n : ℕ)
+pub data_kept : (s t : State) (noted : Shape) (gone : ℕ → Bool) (l : LogView) (on lost : List ℕ) (a b : Seen) (n : ℕ)
     → n < 16 → MarksCall s t gone l on lost a b → IsOpen noted n a → KeepsData noted n a.held b.held
 data_kept s t noted gone l on lost a b n few call is_open m sector among counts =
     call.commit.apart (member_slice m.place n) (data_sector + sector)
@@ -208,7 +208,7 @@ pub record NotesLost (u : View) (noted : Shape) (resync : ℕ) (marked : Bool) (
   pub written : IsWritten u
 
 -- what the commit leaves pending is nothing, where nobody went
-closed_after : (s t : State) (gone : ℕ → Bool) (l : LogView) (on lost : List ℕ) (a b : Seen) (n : ℕ)
+pub closed_after : (s t : State) (gone : ℕ → Bool) (l : LogView) (on lost : List ℕ) (a b : Seen) (n : ℕ)
     → MarksCall s t gone l on lost a b → lost ≡ [] → IsClosed n b
 closed_after s t gone l on lost a b n call nobody c picks place u =
     let rests = call.commit.rests call.ready call.decides c picks in

@@ -16,7 +16,8 @@ use Rattle.array_model.specs.ArrayCalls.{Covers}
 use Rattle.raid_rack.specs.Marking.{SaysBetween}
 use Rattle.raid_rack.proofs.Rows.{clear_same, rows_still}
 use Rattle.raid_rack.specs.Rows.{rows_then}
-use Rattle.raid_rack.specs.Moves.{IsSet, IsAmid, KeepsMarked, PartOf, AreCaused, Brings, Moves}
+use Rattle.raid_rack.proofs.Losing.{only_same, only_then}
+use Rattle.raid_rack.specs.Moves.{IsSet, IsAmid, KeepsArrays, KeepsMarked, PartOf, AreCaused, Brings, Moves}
 
 -- ---- one array
 
@@ -81,6 +82,9 @@ unwritten_then v w a b c book first second one two d t live gone =
     keeps_then (a.held d t) (b.held d t) (c.held d t) (one d t (live_first second live) gone)
     (two d t (live_second first live) (marked_later v.state w.state (place_of d) book gone))
 
+pub arrays_then : (v w z : Raid) → w.state.made ≡ v.state.made → KeepsArrays v w → KeepsArrays w z → KeepsArrays v z
+arrays_then v w z made one two n low = only_then (v.arrays n) (w.arrays n) (z.arrays n) (one n low) (two n (subst (λ k. n < k) (sym made) low))
+
 pub moves_same : (v : Raid) (x : Seen) → IsSet v x → Moves v v x x
 moves_same v x set =
     record {
@@ -90,6 +94,8 @@ moves_same v x set =
       leaves = λ traced. leaves_same x (λ c. Unit {0});
       number = omega arith;
       events = λ n low. omega arith;
+      arrays = λ n low. only_same (v.arrays n) (v.arrays n) refl;
+      plan = refl;
       sectors = λ n. refl;
       left = λ place is. is;
       cause = λ place was now. absurd (both_ways (is_left v place) now was);
@@ -111,6 +117,8 @@ moves_then v w z a b c one two =
       leaves = λ traced. leaves_then (λ c. Unit {0}) (one.leaves traced) (two.leaves (one.stays.traced traced));
       number = (let first = one.number in let second = two.number in omega (arith, first, second));
       events = λ n low. (let first = one.events n low in let second = two.events n (still_made n low) in omega (arith, first, second));
+      arrays = arrays_then v w z one.book.same.made one.arrays two.arrays;
+      plan = two.plan ∙ one.plan;
       sectors = λ n. two.sectors n ∙ one.sectors n;
       left = λ place is. one.left place (two.left place is);
       cause = λ place was now. caused place was now;

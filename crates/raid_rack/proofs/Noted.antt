@@ -36,6 +36,7 @@ use Rattle.raid_rack.proofs.Own.{look_nothing}
 use Rattle.raid_rack.proofs.Ranges.{any_some, any_from}
 use Rattle.raid_rack.proofs.Over.{someone_left, not_true, over_still, IsFurther}
 use Rattle.raid_rack.proofs.Reading.{stood_noted, stood_heeded}
+use Rattle.raid_rack.proofs.Losing.{only_gone, only_heeded}
 use Rattle.raid_rack.proofs.Moving.{part_still}
 use Rattle.raid_rack.proofs.Rows.{KeepsClear, rows_still}
 use Rattle.raid_rack.proofs.Seated.{names_joined, gone_losing, gone_fewer, gone_seated, heeded_seated}
@@ -246,6 +247,8 @@ moves_noted lost v f x set noting went sectors =
       leaves = λ traced. leaves_same x (λ c. Unit {0});
       number = omega arith;
       events = (noted_further lost v f x set noting went).events;
+      arrays = λ n low. only_gone (v.arrays n) (f n) lost (set.arrays n low).is_array (noting.arrays n low);
+      plan = refl;
       sectors = sectors;
       left = λ p is. sym (noted_left lost v f noting went p) ∙ is;
       cause = λ p was now. absurd (both_ways (is_left v p) (sym (noted_left lost v f noting went p) ∙ now) was);
@@ -291,7 +294,7 @@ noted_brings lost v f x set noting sectors =
 -- ---- they are heeded
 
 -- where whoever went is marked, nothing is pending
-idle_now : (s : State) (number : ℕ) (gone : ℕ → Bool) (x : Seen) → LogKept s number gone x → ((p : ℕ) → is_current s p ≡ true → gone p ≡ false)
+pub idle_now : (s : State) (number : ℕ) (gone : ℕ → Bool) (x : Seen) → LogKept s number gone x → ((p : ℕ) → is_current s p ≡ true → gone p ≡ false)
     → (c : Image) → PicksLogs x c → (d t : ℕ) → replayed x.sectors c d t ≡ c d t
 idle_now s number gone x kept all c picks d t =
     replayed_as_is x.sectors c d t
@@ -393,6 +396,8 @@ moves_heeded v f x set arrays sectors are =
       leaves = λ traced. leaves_same x (λ c. Unit {0});
       number = omega arith;
       events = λ n low. let e = ap (λ (u : View). u.truth.events) (arrays n low) in omega (arith, e);
+      arrays = λ n low. only_heeded (v.arrays n) (f n) (arrays n low);
+      plan = refl;
       sectors = sectors;
       left = λ p is. sym (heeded_left v f arrays are p) ∙ is;
       cause = λ p was now. absurd (both_ways (is_left v p) (sym (heeded_left v f arrays are p) ∙ now) was);

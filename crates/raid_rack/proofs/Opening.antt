@@ -8,7 +8,6 @@ use Rattle.rack.specs.Joins.{leaves_weaker}
 use Rattle.array_image.specs.Places.{log_slice, member_slice}
 use Rattle.array_image.specs.States.{is_current}
 use Rattle.array_image.specs.Arrays.{replayed}
-use Rattle.array_image.specs.SoundArray.{IsWrittenSuper}
 use Rattle.array_image.specs.Left.{IsInside}
 use Rattle.array_image.specs.Held.{held_by}
 use Rattle.commit_log.specs.View.{LogView, names}
@@ -24,7 +23,7 @@ use Rattle.array_model.proofs.Keeping.{live_on, live_after}
 use Rattle.array_model.proofs.OpenedKept.{opens_kept}
 use Rattle.array_model.specs.Says.{Holds}
 use Rattle.array_model.proofs.Opening.{opens_holds}
-use Rattle.raid_rack.specs.Raid.{Raid, gone_in, held_in, is_over, live_of, spent_of, IsTold, Stood}
+use Rattle.raid_rack.specs.Raid.{Raid, gone_in, held_in, is_over, spent_of, IsTold}
 use Rattle.raid_rack.specs.Laws.{live_parts}
 use Rattle.raid_rack.specs.Marking.{SaysBetween}
 use Rattle.raid_rack.specs.Moves.{IsAmid, IsHeeded, IsSet, Mends}

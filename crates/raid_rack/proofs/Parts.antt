@@ -16,6 +16,7 @@ use Rattle.commit_log.proofs.Kept.{stands_of, kept_replayed, kept_idle}
 use Rattle.array_model.specs.View.{View}
 use Rattle.array_model.specs.Says.{Says, Holds}
 use Rattle.array_model.specs.ArrayCalls.{Acts, Turns}
+use Rattle.array_model.proofs.Moves.{Moves as CallMoves, moves_by, moves_of}
 use Rattle.array_model.proofs.Others.{other_holds_all}
 use Rattle.raid_rack.specs.Book.{after_same, after_then}
 use Rattle.raid_rack.specs.Raid.{Raid, Stood, IsWritten}
@@ -56,7 +57,7 @@ part_then s t u first durable after vals now spent gone gone_now gone_after v w 
 -- ---- a call of the array itself
 
 -- contents that turn in an array's slices alone have the state from before
-turned_state : (s : State) (durable : Shape) (vals : ℕ → Values) (spent gone : ℕ → Bool) (v : Raid) (a b : Seen) (n m : ℕ) (P : Image → Type 0) (c : Image)
+pub turned_state : (s : State) (durable : Shape) (vals : ℕ → Values) (spent gone : ℕ → Bool) (v : Raid) (a b : Seen) (n m : ℕ) (P : Image → Type 0) (c : Image)
     → Stood s durable vals spent gone v a n → Turns m a b P c → state_in (replayed a.sectors c) ≡ Some s
 turned_state s durable vals spent gone v a b n m P c stood turns =
     let before = turns.left.0 in
@@ -66,6 +67,59 @@ turned_state s durable vals spent gone v a b n m P c stood turns =
     ∙ turns.left.2 (log_slice place) 0)
     ∙ kept_replayed s v.number gone a before stood.someone.0 stood.log (stands_of before turns.left.1) stood.someone.1 stood.someone.2
 
+-- contents say an array whose sectors hold these values, by some shape
+pub record SaysSome (s : State) (n : ℕ) (vals : ℕ → Values) (spent : ℕ → Bool) (r : Image) : Type 0 where
+  pub shape : Shape
+  pub says : Says s n shape vals spent r
+
+-- a call of an array, in which contents say its values
+pub acts_some : (s : State) (v w : View) (spent : ℕ → Bool) (a b : Seen) (durable : Shape) (vals now : ℕ → Values)
+    → Acts s v w spent a b durable vals (Says s v.number durable now spent) durable now
+    → CallMoves v.number a b (Holds s durable v vals spent a) (SaysSome s v.number now spent) (Holds s durable w now spent b)
+acts_some s v w spent a b durable vals now acts =
+    let H : Type 0 = Holds s durable v vals spent a in
+    let Q : Type 0 = Holds s durable w now spent b in
+    moves_by v.number a b H H Q Q (Says s v.number durable now spent) (SaysSome s v.number now spent)
+    (λ holds. holds) (λ r says. record { shape = durable; says = says }) (λ holds. holds)
+    (moves_of s v w spent a b durable vals (Says s v.number durable now spent) durable now acts)
+
+-- Such a call is a part for the array itself.
+pub part_by : (s : State) (durable after : Shape) (vals now : ℕ → Values) (spent gone gone_now : ℕ → Bool) (v w : Raid) (a b : Seen) (n : ℕ)
+    → CallMoves (v.arrays n).number a b (Holds s durable (v.arrays n) vals spent a) (SaysSome s (v.arrays n).number now spent) (Holds s after (w.arrays n) now spent b)
+    → (w.arrays n).number ≡ (v.arrays n).number
+    → (LogKept s v.number gone a → LogKept s w.number gone_now b)
+    → ((place : ℕ) × (is_current s place ≡ true) × (gone_now place ≡ false))
+    → (IsWritten (v.arrays n) → IsWritten (w.arrays n))
+    → Part s s durable after vals now spent gone gone_now v w a b n
+part_by s durable after vals now spent gone gone_now v w a b n moves number log someone written =
+    let H : Type 0 = Holds s durable (v.arrays n) vals spent a in
+    let P : Image → Type 0 = SaysSome s (v.arrays n).number now spent in
+    record {
+      stays = moves.stays;
+      book = after_same s;
+      leaves = λ traced.
+          leaves_weaker
+          (λ c. IsInside a.sectors c → Turns (v.arrays n).number a b (λ r. H → P r) c)
+          (λ c. IsInside a.sectors c → Stood s durable vals spent gone v a n → SaysBetween s s n now spent (replayed a.sectors c))
+          (λ c turn inside stood.
+          let turns = turn inside in
+          let own = turns.own stood.holds in
+          says_at s n own.shape now spent (replayed a.sectors c)
+          (turned_state s durable vals spent gone v a b n (v.arrays n).number (λ r. H → P r) c stood turns)
+          (subst (λ k. Says s k own.shape now spent (replayed a.sectors c)) stood.number own.says))
+          (moves.leaves traced);
+      holds = λ stood.
+          record {
+            joined = stood.joined;
+            few = stood.few;
+            number = number ∙ stood.number;
+            log = log stood.log;
+            someone = someone;
+            written = written stood.written;
+            holds = moves.holds stood.holds;
+          };
+    }
+
 pub part_own : (s : State) (durable : Shape) (vals now : ℕ → Values) (spent gone gone_now : ℕ → Bool) (v w : Raid) (a b : Seen) (n : ℕ)
     → Acts s (v.arrays n) (w.arrays n) spent a b durable vals (Says s (v.arrays n).number durable now spent) durable now
     → (LogKept s v.number gone a → LogKept s w.number gone_now b)
@@ -73,30 +127,8 @@ pub part_own : (s : State) (durable : Shape) (vals now : ℕ → Values) (spent 
     → (IsWritten (v.arrays n) → IsWritten (w.arrays n))
     → Part s s durable durable vals now spent gone gone_now v w a b n
 part_own s durable vals now spent gone gone_now v w a b n acts log someone written =
-    record {
-      stays = acts.stays;
-      book = after_same s;
-      leaves = λ traced.
-          leaves_weaker
-          (λ c. IsInside a.sectors c → Turns (v.arrays n).number a b (λ r. Holds s durable (v.arrays n) vals spent a → Says s (v.arrays n).number durable now spent r) c)
-          (λ c. IsInside a.sectors c → Stood s durable vals spent gone v a n → SaysBetween s s n now spent (replayed a.sectors c))
-          (λ c turn inside stood.
-          let turns = turn inside in
-          says_at s n durable now spent (replayed a.sectors c)
-          (turned_state s durable vals spent gone v a b n (v.arrays n).number (λ r. Holds s durable (v.arrays n) vals spent a → Says s (v.arrays n).number durable now spent r) c stood turns)
-          (subst (λ k. Says s k durable now spent (replayed a.sectors c)) stood.number (turns.own stood.holds)))
-          (acts.leaves traced);
-      holds = λ stood.
-          record {
-            joined = stood.joined;
-            few = stood.few;
-            number = acts.noted.same.number ∙ stood.number;
-            log = log stood.log;
-            someone = someone;
-            written = written stood.written;
-            holds = acts.holds stood.holds;
-          };
-    }
+    part_by s durable durable vals now spent gone gone_now v w a b n (acts_some s (v.arrays n) (w.arrays n) spent a b durable vals now acts) acts.noted.same.number
+    log someone written
 
 -- ---- a call of another array
 
@@ -113,21 +145,21 @@ other_slices m n place t few also other =
     (λ same. absurd (other (omega (arith, few, also, same))), inl (λ none. absurd (omega (arith, also, none))))
 
 -- A call of array m, in which the view of array n stays: n gives its values at each moment, and stands.
-pub part_other : (s : State) (durable durable_m : Shape) (vals : ℕ → Values) (vals_m now_m : ℕ → Values) (spent spent_m gone gone_now : ℕ → Bool) (v w : Raid) (a b : Seen) (n m : ℕ) (during : Image → Type 0)
+pub part_other : (s : State) (durable : Shape) (vals : ℕ → Values) (spent gone gone_now : ℕ → Bool) (v w : Raid) (a b : Seen) (n m : ℕ) (H Q : Type 0) (during : Image → Type 0)
     → m < 16 → n < 16 → (n ≡ m → ⊥) → (v.arrays m).number ≡ m → w.arrays n ≡ v.arrays n
     → a.lasting
     → ((p : ℕ) → is_current s p ≡ true → gone p ≡ false)
-    → Acts s (v.arrays m) (w.arrays m) spent_m a b durable_m vals_m during durable_m now_m
+    → CallMoves (v.arrays m).number a b H during Q
     → (LogKept s v.number gone a → LogKept s w.number gone_now b)
     → ((place : ℕ) × (is_current s place ≡ true) × (gone_now place ≡ false))
     → Part s s durable durable vals vals spent gone gone_now v w a b n
-part_other s durable durable_m vals vals_m now_m spent spent_m gone gone_now v w a b n m during few also other number same lasting all acts log someone =
+part_other s durable vals spent gone gone_now v w a b n m H Q during few also other number same lasting all acts log someone =
     record {
       stays = acts.stays;
       book = after_same s;
       leaves = λ traced.
           leaves_weaker
-          (λ c. IsInside a.sectors c → Turns (v.arrays m).number a b (λ r. Holds s durable_m (v.arrays m) vals_m spent_m a → during r) c)
+          (λ c. IsInside a.sectors c → Turns (v.arrays m).number a b (λ r. H → during r) c)
           (λ c. IsInside a.sectors c → Stood s durable vals spent gone v a n → SaysBetween s s n vals spent (replayed a.sectors c))
           (λ c turn inside stood.
           let turns = turn inside in
@@ -138,7 +170,7 @@ part_other s durable durable_m vals vals_m now_m spent spent_m gone gone_now v w
           turns.others (member_slice place n) t (subst (λ k. IsApart k (member_slice place n) t) (sym number) (other_slices m n place t few also other))
           ∙ turns.left.2 (member_slice place n) t in
           says_at s n durable vals spent (replayed a.sectors c)
-          (turned_state s durable vals spent gone v a b n (v.arrays m).number (λ r. Holds s durable_m (v.arrays m) vals_m spent_m a → during r) c stood turns)
+          (turned_state s durable vals spent gone v a b n (v.arrays m).number (λ r. H → during r) c stood turns)
           (says_same s n durable vals spent (replayed a.sectors c) (replayed a.sectors before) agree left.1))
           (acts.leaves traced);
       holds = λ stood.

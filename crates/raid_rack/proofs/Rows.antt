@@ -1,12 +1,10 @@
 -- Rows that images leave to resync, over parts of a call.
 use Rattle.std.proofs.Common.{◌≡◌, ℕ, ◌-◌, ◌*◌, ◌/◌, ◌^◌, ◌<◌, ◌≤◌, Bool, true, false, nat_lt, if◌then◌else◌, refl, sym, ap, subst, ◌∙◌, inl, inr, eq-eqb, eqb-true, lt-ltb, le-ltb, arith}
 use Rattle.std.proofs.lemmas.Bool.{cases_lt}
-use Rattle.rack.specs.Values.{Values}
 use Rattle.rack.specs.Seen.{Image, Seen, IsPick}
 use Rattle.rack.specs.Joins.{leaves_same, leaves_weaker}
 use Rattle.rack.specs.Sequences.{OnlyReads}
-use Rattle.pool_state.specs.declared.contents.State.{State}
-use Rattle.array_image.specs.Arrays.{Shape, replayed}
+use Rattle.array_image.specs.Arrays.{replayed}
 use Rattle.array_image.specs.Left.{IsApart, IsCalm, IsInside, IsLeft}
 use Rattle.array_image.specs.Places.{log_slice, member_slice}
 use Rattle.array_image.specs.States.{state_in}
@@ -14,10 +12,10 @@ use Rattle.array_image.specs.Supers.{is_unclean}
 use Rattle.array_image.specs.SoundArray.{first_unsynced}
 use Rattle.array_image.proofs.Frames.{Agree, state_same, supers_same, truth_by_supers}
 use Rattle.array_model.specs.View.{View, IsArray, rows_of}
-use Rattle.array_model.specs.Says.{Holds}
 use Rattle.array_model.specs.Members.{IsSameButSeats}
-use Rattle.array_model.specs.ArrayCalls.{Acts, Turns}
+use Rattle.array_model.specs.ArrayCalls.{Turns}
 use Rattle.array_model.proofs.Keeping.{left_before, pick_before}
+use Rattle.array_model.proofs.Moves.{Moves as CallMoves}
 use Rattle.array_model.proofs.Others.{apart_left, other_apart}
 use Rattle.array_core.specs.Superblocks.{is_settled, left_offset, settled}
 use Rattle.raid_rack.specs.Raid.{Raid}
@@ -32,7 +30,7 @@ from_same row n r e states agree from s t state truth =
 -- ---- what a truth leaves
 
 -- an array that is settled leaves the rows that are left
-left_old : (u : View) → u.young ≡ false → left_offset u ≡ (if nat_lt u.resync (rows_of u) then u.resync * 128 else 2 ^ 64 - 1)
+pub left_old : (u : View) → u.young ≡ false → left_offset u ≡ (if nat_lt u.resync (rows_of u) then u.resync * 128 else 2 ^ 64 - 1)
 left_old u young =
     ap (λ (b : Bool). if b then (if is_unclean u.truth then u.truth.resync_offset else 2 ^ 64 - 1) else if nat_lt u.resync (rows_of u) then u.resync * 128 else 2 ^ 64 - 1) young
 
@@ -96,7 +94,7 @@ rows_after v w a b n clear rows images = record {
 -- where nothing is called
 pub rows_still : (v w : Raid) (x : Seen) (n : ℕ) → KeepsClear (v.arrays n) (w.arrays n) → LeavesRows v x n → KeepsRows v w x x n
 rows_still v w x n clear rows = record {
-  same = clear.resync;
+  later = let same = clear.resync in omega (arith, same);
   leaves = λ traced. leaves_same x (λ c. IsInside x.sectors c → LeavesFrom (v.arrays n).resync n (replayed x.sectors c));
   after = rows_after v w x x n clear rows rows.images;
 }
@@ -104,7 +102,7 @@ rows_still v w x n clear rows = record {
 -- calls that write nothing
 pub rows_read : (v w : Raid) (a b : Seen) (n : ℕ) → a.lasting → OnlyReads a b → KeepsClear (v.arrays n) (w.arrays n) → LeavesRows v a n → KeepsRows v w a b n
 rows_read v w a b n lasting reads clear rows = record {
-  same = clear.resync;
+  later = let same = clear.resync in omega (arith, same);
   leaves = λ traced.
       leaves_weaker (IsPick a b a.held) (λ c. IsInside a.sectors c → LeavesFrom (v.arrays n).resync n (replayed a.sectors c))
       (λ c pick inside. rows.images (replayed a.sectors c) (pick_before lasting reads.stays c inside pick)) (reads.keeps.stops traced);
@@ -116,20 +114,20 @@ state_apart : (m place : ℕ) → m < 16 → IsApart m (log_slice place) 0
 state_apart m place few = (λ same. absurd (omega (arith, same)), inr refl)
 
 -- a call of another array
-pub rows_other : (s : State) (v w : Raid) (a b : Seen) (n m : ℕ) (spent : ℕ → Bool) (durable after : Shape) (vals now : ℕ → Values) (during : Image → Type 0)
+pub rows_other : (v w : Raid) (a b : Seen) (n m : ℕ) (H Q : Type 0) (during : Image → Type 0)
     → m < 16 → n < 16 → (n ≡ m → ⊥) → (v.arrays m).number ≡ m → w.arrays n ≡ v.arrays n → a.lasting
-    → Acts s (v.arrays m) (w.arrays m) spent a b durable vals during after now → IsCalm (v.arrays m).number a
+    → CallMoves (v.arrays m).number a b H during Q → IsCalm (v.arrays m).number a
     → LeavesRows v a n → KeepsRows v w a b n
-rows_other s v w a b n m spent durable after vals now during few also other number same lasting acts calm rows =
+rows_other v w a b n m H Q during few also other number same lasting acts calm rows =
     let k = (v.arrays m).number in
     let small : k < 16 = subst (λ j. j < 16) (sym number) few in
     let apart : n ≡ k → ⊥ = λ is. other (is ∙ number) in
     let clear = clear_same (v.arrays n) (w.arrays n) same in
     record {
-      same = clear.resync;
+      later = let same_rows = clear.resync in omega (arith, same_rows);
       leaves = λ traced.
           leaves_weaker
-          (λ c. IsInside a.sectors c → Turns k a b (λ r. Holds s durable (v.arrays m) vals spent a → during r) c)
+          (λ c. IsInside a.sectors c → Turns k a b (λ r. H → during r) c)
           (λ c. IsInside a.sectors c → LeavesFrom (v.arrays n).resync n (replayed a.sectors c))
           (λ c turn inside.
           let turns = turn inside in

@@ -89,6 +89,7 @@ pool_with s u seats went lost are pool =
       row = pool.row;
       roles = pool.roles;
       unsynced = pool.unsynced;
+      zeroed = pool.zeroed;
       rows = λ k to is. pool.rows k to (rebuilding_before (lost (place_at u k)) (slice_get u.seats k) to (sym (are k) ∙ is));
     }
 
@@ -178,10 +179,10 @@ gone_lost u lost is_array k =
     ∙ ap (λ (p : ℕ). option_map (seat_unless (names lost) (place_by u.truth p)) (slice_get u.seats k)) (let e : 0 + k ≡ k = omega arith in e)
 
 -- the array whose lost places are listed beside those that went
-listed : View → List ℕ → View
+unfoldable pub listed : View → List ℕ → View
 listed u lost = with_seats u (gone lost u).seats (lost ++ u.went)
 
-listed_loses : (u : View) (lost : List ℕ) → IsArray u → LosesPlaces u (listed u lost) (names lost)
+pub listed_loses : (u : View) (lost : List ℕ) → IsArray u → LosesPlaces u (listed u lost) (names lost)
 unfolding listed
 listed_loses u lost is_array = record {
   seats = gone_lost u lost is_array;

@@ -16,18 +16,19 @@ use Rattle.array_core.specs.Superblocks.{raised}
 use Rattle.array_core.specs.Writing.{KeepsElsewhere, WritesView, as_it_was, newly_marked}
 use Rattle.raid_rack.specs.declared.arrays.Arrays.{Arrays}
 use Rattle.raid_rack.specs.Raid.{Raid}
-use Rattle.raid_rack.specs.Moves.{AreCaused, Brings, IsHeeded, IsSet, Mends, WritesOne, written_at}
+use Rattle.raid_rack.specs.Moves.{AreCaused, Brings, IsHeeded, IsSet, KeepsArrays, Mends, WritesOne, written_at}
 use Rattle.raid_rack.specs.RaidRack.{IsRunning, raid_by, no_array}
 use Rattle.raid_rack.proofs.Calls.{raised_low, unsynced_by}
-use Rattle.raid_rack.proofs.Changed.{ViewsOne, caused, left_before, views_notes}
+use Rattle.raid_rack.proofs.Changed.{caused, keeps_arrays, left_before}
 use Rattle.raid_rack.proofs.Committed.{next_later}
-use Rattle.raid_rack.proofs.Moving.{brings_then, caused_then}
+use Rattle.raid_rack.proofs.Moving.{arrays_then, brings_then, caused_then}
 use Rattle.raid_rack.proofs.Steps.{set_own, set_other, length_set}
+use Rattle.raid_rack.proofs.Views.{NotesOne, views_notes}
 use Rattle.raid_rack.proofs.Written.{WriteCall, write_brings}
 
 -- what it makes of the array
 views_write : (v : Raid) (f : ℕ → View) (m : ℕ) (a b : Seen) → IsSet v a → m < v.state.made → Stays a b
-    → ((n : ℕ) → (n ≡ m → ⊥) → f n ≡ v.arrays n) → WritesView (v.arrays m) (f m) a b → ViewsOne v f m a b
+    → ((n : ℕ) → (n ≡ m → ⊥) → f n ≡ v.arrays n) → WritesView (v.arrays m) (f m) a b → NotesOne v f m a b
 views_write v f m a b set low stays others (as_it_was why notes) =
     let u = v.arrays m in
     let pool = (set.arrays m low).is_of_pool in
@@ -49,7 +50,7 @@ views_write v f m a b set low stays others (newly_marked whole fresh unmarked no
     (λ marked. inr whole) notes
 
 -- places below 16
-low_named : (ps : List ℕ) (p : ℕ) → list_all (λ place. nat_lt place 16) ps ≡ true → list_any (λ q. q == p) ps ≡ true → p < 16
+pub low_named : (ps : List ℕ) (p : ℕ) → list_all (λ place. nat_lt place 16) ps ≡ true → list_any (λ q. q == p) ps ≡ true → p < 16
 low_named [] p all is = absurd (both_ways false refl is)
 low_named (q ∷ ps) p all is =
     let both = and_parts (nat_lt q 16) (list_all (λ place. nat_lt place 16) ps) all in
@@ -69,6 +70,8 @@ pub record WroteArray (old u : View) (number late : ℕ) (on : List ℕ) (x y : 
 
 pub record HasWritten (a b : Arrays) (x y : Seen) (n sector : ℕ) (from : List ℕ) : Type 0 where
   pub brings : Brings (raid_by a) (raid_by b) x y (written_at n sector from)
+  pub arrays : KeepsArrays (raid_by a) (raid_by b)
+  pub plan : b.state.plan ≡ a.state.plan
   pub caused : AreCaused (raid_by a) (raid_by b) x y
   pub running : IsRunning b y
 
@@ -87,9 +90,11 @@ has_written a all log x y n sector from on number old u running heeded low old_i
     subst (λ (z : View). WroteArray z (f n) v.number log.number on x y sector from) old_is
     (subst (λ (z : View). WroteArray old z v.number log.number on x y sector from) (sym own)
     (subst (λ k. WroteArray old u k log.number on x y sector from) number_is wrote)) in
+    let both = views_write v f n x y running.set low goes.stays others at.view in
     let call : WriteCall v f log.number n x y on sector from = record {
       heeded = heeded;
-      views = views_write v f n x y running.set low goes.stays others at.view;
+      views = both.views;
+      loses = both.loses;
       goes = goes;
       later = subst (λ k. k ≤ log.number) number_is later;
       on_is = on_is;
@@ -101,6 +106,8 @@ has_written a all log x y n sector from on number old u running heeded low old_i
     let brings = write_brings v f log.number n x y on sector from running.set call in
     record {
       brings = brings;
+      arrays = keeps_arrays v f n x y running.set both.views both.loses;
+      plan = refl;
       caused = record {
         left = left_before v f n x y running.set call.views;
         cause = caused v f n x y running.set call.views;
@@ -118,6 +125,8 @@ pub writes_one : (a b c : Arrays) (x y z : Seen) (n sector : ℕ) (from : List �
 writes_one a b c x y z n sector from wrote mends =
     record {
       brings = brings_then (raid_by a) (raid_by b) (raid_by c) x y z (written_at n sector from) wrote.brings mends.moves;
+      arrays = arrays_then (raid_by a) (raid_by b) (raid_by c) wrote.brings.book.same.made wrote.arrays mends.moves.arrays;
+      plan = mends.moves.plan ∙ wrote.plan;
       caused = caused_then (raid_by a) (raid_by b) (raid_by c) x y z wrote.brings.stays mends.moves.stays wrote.caused
           (record { left = mends.moves.left; cause = mends.moves.cause });
       heeded = mends.heeded;

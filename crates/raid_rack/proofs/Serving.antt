@@ -26,7 +26,7 @@ use Rattle.raid_rack.proofs.Noted.{IsNoting, current_few, noted_brings}
 use Rattle.raid_rack.proofs.Raid.{keeps_raid, reads_raid, refused_raid, stays_raid, syncs_raid, writes_raid}
 use Rattle.raid_rack.proofs.Whole.{IsWholeCall, before_amid, brings_whole, raid_acts}
 
-whole_call : (a b : Arrays) (x y : Seen) (now : ℕ → (ℕ → Values) → ℕ → Values) → IsFit a x → IsFit b y → Brings (raid_by a) (raid_by b) x y now → StopsInside y
+pub whole_call : (a b : Arrays) (x y : Seen) (now : ℕ → (ℕ → Values) → ℕ → Values) → IsFit a x → IsFit b y → Brings (raid_by a) (raid_by b) x y now → StopsInside y
     → IsWholeCall (raid_by a) (raid_by b) x y (λ n. now n (held_in (raid_by a) x n))
 whole_call a b x y now fit after brings inside =
     brings_whole (raid_by a) (raid_by b) x y now brings fit.heeded after.heeded inside (λ n past. none_past b n after.running.count past)
@@ -135,29 +135,26 @@ lose_brings a b place x y running current mends =
     same_sectors true u = refl
     same_sectors false u = refl
 
-pub lose_stays : {r : ℕ → ℕ} (a b : Arrays) (place : ℕ) (x y : Seen) → IsFit a x → IsFit b y → StopsInside y → is_current a.state place ≡ true
-    → Mends (noted_at (place ∷ []) (raid_by a)) (raid_by b) x y → KeepsRack (raid_of (IsFit a x) r (raid_by a) x) (raid_of (IsFit b y) r (raid_by b) y)
-lose_stays a b place x y fit after inside current mends =
+-- ---- a call that moves no value
+
+pub brings_keep : {r : ℕ → ℕ} (a b : Arrays) (x y : Seen) → IsFit a x → IsFit b y → StopsInside y → Brings (raid_by a) (raid_by b) x y (λ n vals. vals)
+    → KeepsRack (raid_of (IsFit a x) r (raid_by a) x) (raid_of (IsFit b y) r (raid_by b) y)
+brings_keep a b x y fit after inside brings =
     let v = raid_by a in
     let w = raid_by b in
-    let acts = raid_acts v w x y (held_in v x) (whole_call a b x y (λ n vals. vals) fit after (lose_brings a b place x y fit.running current mends) inside) in
+    let acts = raid_acts v w x y (held_in v x) (whole_call a b x y (λ n vals. vals) fit after brings inside) in
     record {
       stays = stays_raid v w x y (held_in v x) after (λ m. omega arith) acts;
       keeps = keeps_raid v w x y acts;
     }
-
--- ---- a call that moves no value
 
 pub moves_keep : {r : ℕ → ℕ} (a b : Arrays) (x y : Seen) → IsFit a x → IsFit b y → StopsInside y → Moves (raid_by a) (raid_by b) x y
     → KeepsRack (raid_of (IsFit a x) r (raid_by a) x) (raid_of (IsFit b y) r (raid_by b) y)
-moves_keep a b x y fit after inside moves =
-    let v = raid_by a in
-    let w = raid_by b in
-    let acts = raid_acts v w x y (held_in v x) (keeps_call a b x y fit after moves inside) in
-    record {
-      stays = stays_raid v w x y (held_in v x) after (λ m. omega arith) acts;
-      keeps = keeps_raid v w x y acts;
-    }
+moves_keep a b x y fit after inside moves = brings_keep a b x y fit after inside (moves_bring (raid_by a) (raid_by b) x y moves)
+
+pub lose_stays : {r : ℕ → ℕ} (a b : Arrays) (place : ℕ) (x y : Seen) → IsFit a x → IsFit b y → StopsInside y → is_current a.state place ≡ true
+    → Mends (noted_at (place ∷ []) (raid_by a)) (raid_by b) x y → KeepsRack (raid_of (IsFit a x) r (raid_by a) x) (raid_of (IsFit b y) r (raid_by b) y)
+lose_stays a b place x y fit after inside current mends = brings_keep a b x y fit after inside (lose_brings a b place x y fit.running current mends)
 
 -- ---- what calls do to the book and to images
 

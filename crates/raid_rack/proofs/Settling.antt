@@ -213,7 +213,7 @@ settles_more v w f a b c m xs ys few before call syncs adds unmarked raised =
           let had = before.went n p low is in
           elim (cases_eq n m) [
             | inl same ↦
-                ap (λ k. has_gone (f k) p) same ∙ call.views.loses.went p ∙ or_right (call.views.lost p) (has_gone (w.arrays m) p) (subst (λ k. has_gone (w.arrays k) p ≡ true) same had)
+                ap (λ k. has_gone (f k) p) same ∙ call.views.went p ∙ or_right (call.views.lost p) (has_gone (w.arrays m) p) (subst (λ k. has_gone (w.arrays k) p ≡ true) same had)
             | inr other ↦ ap (λ (u : View). has_gone u p) (call.views.others n other) ∙ had
           ];
       staged = staged_more w (with_arrays w f) m xs ys b c call.views.low few before.moves.set call.views.others call.views.seated before.staged adds unmarked;

@@ -18,6 +18,7 @@ use Rattle.raid_rack.specs.RaidRack.{raid_by, no_array}
 use Rattle.raid_rack.proofs.Missing.{current_marked, length_marked}
 use Rattle.raid_rack.proofs.Added.{names_current}
 use Rattle.raid_rack.proofs.Ranges.{any_some, any_none}
+use Rattle.raid_rack.proofs.Losing.{only_same}
 use Rattle.raid_rack.proofs.Over.{not_true}
 use Rattle.raid_rack.proofs.Noted.{bool_same, current_few, gone_some, gone_from}
 use Rattle.raid_rack.proofs.Committed.{valid_marked, after_marked, seated_marked}
@@ -163,6 +164,8 @@ moves_emptied v lost x set lost_is noted nobody unmarked =
       leaves = λ traced. leaves_same x (λ c. Unit {0});
       number = omega arith;
       events = λ n low. omega arith;
+      arrays = λ n low. only_same (v.arrays n) (v.arrays n) refl;
+      plan = refl;
       sectors = λ n. refl;
       left = λ p is. absurd (both_ways (is_left w p) (none p) is);
       cause = λ p was now.

@@ -21,6 +21,7 @@ use Rattle.raid_rack.specs.Book.{IsAfter, after_then}
 use Rattle.raid_rack.specs.Marking.{SaysBetween}
 use Rattle.raid_rack.specs.Moves.{AreMarked, IsAmid, PartOf, Moves}
 use Rattle.raid_rack.specs.Settling.{SettlesTo, state_after}
+use Rattle.raid_rack.proofs.Losing.{only_gone, only_then}
 use Rattle.raid_rack.proofs.Over.{over_still, not_true}
 use Rattle.raid_rack.proofs.Moving.{marked_later, says_sooner, says_later}
 use Rattle.raid_rack.proofs.Noted.{gone_some, losing_spent}
@@ -74,6 +75,10 @@ moves_commit u v lost on gone l xs f a b c settles commit =
       leaves = λ traced. leaves_then (λ i. Unit {0}) (one.leaves traced) (call.leaves (one.stays.traced traced));
       number = (let more = one.number in let next = next_later l.number in let same = commit.marking.number in omega (arith, more, next, same));
       events = λ n made. (let more = one.events n made in let next = (after_further v lost on gone l xs f b c commit).events n (made_still n made) in omega (arith, more, next));
+      arrays = λ n made.
+          only_then (u.arrays n) (v.arrays n) (f n) (one.arrays n made)
+          (only_gone (v.arrays n) (f n) gone (commit.marking.set.arrays n (made_still n made)).is_array (commit.arrays n (made_still n made)));
+      plan = one.plan;
       sectors = λ n. commit.sectors n ∙ one.sectors n;
       left = λ p is. one.left p (after_left v lost on gone l xs f b c commit p is);
       cause = λ p was now.

@@ -3,7 +3,7 @@ use Rattle.std.proofs.Common.{◌≡◌, ◌≢◌, ℕ, ◌+◌, ◌<◌, ◌�
 use Rattle.std.proofs.lemmas.Bool.{both_ways, cases_eq}
 use Rattle.std.specs.Option.{option_map_or}
 use Rattle.rack.specs.Values.{Values, append}
-use Rattle.rack.specs.Seen.{Seen, IsLive}
+use Rattle.rack.specs.Seen.{Image, Seen, IsLive}
 use Rattle.pool_state.specs.declared.contents.State.{State}
 use Rattle.array_image.specs.Places.{member_slice, data_sector, place_of, slice_of, super_sector}
 use Rattle.array_image.specs.States.{is_current, current_places}
@@ -14,22 +14,22 @@ use Rattle.commit_log.proofs.KeptAfter.{kept_more}
 use Rattle.array_model.specs.declared.Seat.{Seat}
 use Rattle.array_model.specs.declared.Seat.TheVariants.{Whole, Missing, Rebuilding}
 use Rattle.array_model.specs.View.{View, has_gone, is_missing_seat, member_on, place_at, seat_reach, shape_of, spent_in}
-use Rattle.array_model.specs.Says.{IsOpen, Says}
+use Rattle.array_model.specs.Says.{Holds, IsOpen}
 use Rattle.array_model.specs.Stages.{IsStateOf}
-use Rattle.array_model.specs.ArrayCalls.{Acts, Covers, WritesArray, appended_at}
+use Rattle.array_model.specs.ArrayCalls.{Covers, WritesArray, appended_at}
 use Rattle.array_model.proofs.Firsts.{position_of}
+use Rattle.array_model.proofs.Moves.{Moves as CallMoves}
 use Rattle.array_core.specs.Pool.{Goes, MayCommit, MayRenew}
 use Rattle.array_core.specs.Writing.{IsElsewhere, KeepsElsewhere}
 use Rattle.raid_rack.specs.Book.{after_same}
-use Rattle.raid_rack.specs.Raid.{Raid, AreLive, gone_in, is_over, held_in}
-use Rattle.raid_rack.specs.Moves.{Brings, IsAmid, IsHeeded, IsSeated, IsSet, KeepsMarked, PartOf, written_at}
-use Rattle.raid_rack.specs.Marking.{Part}
+use Rattle.raid_rack.specs.Raid.{Raid, AreLive, gone_in, is_over, held_in, Stood}
+use Rattle.raid_rack.specs.Moves.{AreMarked, Brings, IsAmid, IsHeeded, IsSeated, IsSet, KeepsMarked, PartOf, written_at}
 use Rattle.raid_rack.proofs.Added.{names_current}
 use Rattle.raid_rack.proofs.Carried.{seat_marks}
-use Rattle.raid_rack.proofs.Changed.{ViewsOne, called, part_if, marked_before, same_shape, further, views_set, views_sectors, views_spent}
+use Rattle.raid_rack.proofs.Changed.{LosesOne, ViewsOne, called, part_if, marked_before, further, views_set, views_sectors, views_spent}
 use Rattle.raid_rack.proofs.Noted.{current_few, gone_from, gone_not}
 use Rattle.raid_rack.proofs.Over.{event_room, number_room, over_still, someone_left}
-use Rattle.raid_rack.proofs.Parts.{kept_calm, part_own, part_other}
+use Rattle.raid_rack.proofs.Parts.{SaysSome, acts_some, kept_calm, part_by, part_other}
 use Rattle.raid_rack.specs.Rows.{KeepsRows, LeavesRows}
 use Rattle.raid_rack.proofs.Rows.{rows_other}
 use Rattle.raid_rack.proofs.Seated.{missing_of, place_few}
@@ -38,11 +38,9 @@ use Rattle.raid_rack.proofs.Whole.{heeded_gone, heeded_whole}
 -- ---- what it needs
 
 -- the sectors of members that count are told
-opened : (v : Raid) (x : Seen) (n : ℕ) → IsSet v x → AreLive v.state.made x → n < v.state.made → IsOpen (shape_of (v.arrays n)) (v.arrays n).number x
+pub opened : (s : State) (made n : ℕ) (u : View) (x : Seen) → IsSeated s n u x → AreLive made x → n < made → IsOpen (shape_of u) u.number x
 unfolding shape_of
-opened v x n set live low m sector among counts =
-    let u = v.arrays n in
-    let seated = set.arrays n low in
+opened s made n u x seated live low m sector among counts =
     let at = position_of u u.truth.raid_disks m among in
     let reach : sector < (member_on u at.0).reach = subst (λ (o : Member). sector < o.reach) at.2 counts in
     let inside = fits (slice_get u.seats at.0) refl reach in
@@ -53,14 +51,14 @@ opened v x n set live low m sector among counts =
     (live n (place_at u at.0) (data_sector + sector) low (place_few u at.0 seated.is_array at.1)
     (subst (λ j. data_sector + sector < x.sectors (member_slice (place_at u at.0) j)) seated.number (omega (arith, sectors, below)))))
   where
-    fits : (o : Option Seat) → slice_get (v.arrays n).seats (position_of (v.arrays n) (v.arrays n).truth.raid_disks m among).0 ≡ o
-        → sector < option_map_or (seat_reach (v.arrays n).truth.size) o 0
-        → (slice_get (v.arrays n).seats (position_of (v.arrays n) (v.arrays n).truth.raid_disks m among).0 ≢ Some Missing) × (sector < (v.arrays n).truth.size)
+    fits : (o : Option Seat) → slice_get u.seats (position_of u u.truth.raid_disks m among).0 ≡ o
+        → sector < option_map_or (seat_reach u.truth.size) o 0
+        → (slice_get u.seats (position_of u u.truth.raid_disks m among).0 ≢ Some Missing) × (sector < u.truth.size)
     fits None is reach = absurd (omega (arith, reach))
     fits (Some Whole) is reach = (λ missing. absurd (let bad : Some Whole ≡ Some Missing = sym is ∙ missing in cc), reach)
     fits (Some Missing) is reach = absurd (omega (arith, reach))
     fits (Some (Rebuilding to)) is reach =
-        let low_to = ((set.arrays n low).is_of_pool.rows (position_of (v.arrays n) (v.arrays n).truth.raid_disks m among).0 to is).1 in
+        let low_to = (seated.is_of_pool.rows (position_of u u.truth.raid_disks m among).0 to is).1 in
         (λ missing. absurd (let bad : Some (Rebuilding to) ≡ Some Missing = sym is ∙ missing in cc), omega (arith, reach, low_to))
 
 -- its members that are missing are those whose places are marked
@@ -117,22 +115,24 @@ marked_elsewhere s n u x on d seated unnamed gone =
 
 -- ---- a call of array m that may write it, where whoever went is marked
 
--- `now` are its values after the call, by those before, and `Able` is what it needs of the pool.
-pub record ActsOne (v : Raid) (f : ℕ → View) (number m : ℕ) (a b : Seen) (now : (ℕ → Values) → ℕ → Values) (Able : Type 0) : Type 0 where
+-- `now` are its values after the call, by those before, `after` is its shape by the marks that images go by, and `Able` is what the
+-- call needs of the pool.
+pub record ActsOne (v : Raid) (f : ℕ → View) (number m : ℕ) (a b : Seen) (now : (ℕ → Values) → ℕ → Values) (after : Shape) (Able : Type 0) : Type 0 where
   pub heeded : IsHeeded v
   pub views : ViewsOne v f m a b
+  pub shape : AreMarked (called v f number) → after ≡ shape_of (f m)
   pub goes : Goes a b
   pub later : v.number ≤ number
   pub able : (n : ℕ) (vals : ℕ → Values) (spent : ℕ → Bool) → n < v.state.made → is_over (called v f number) n ≡ false → IsAmid v a n vals spent → Able
   pub acts :
       (vals : ℕ → Values) (spent : ℕ → Bool) → Covers (f m) spent → Able
-      → Acts v.state (v.arrays m) (f m) spent a b (shape_of (v.arrays m)) vals (Says v.state (v.arrays m).number (shape_of (v.arrays m)) (now vals) spent)
-      (shape_of (v.arrays m)) (now vals)
+      → CallMoves (v.arrays m).number a b (Holds v.state (shape_of (v.arrays m)) (v.arrays m) vals spent a) (SaysSome v.state (v.arrays m).number (now vals) spent)
+      (Holds v.state after (f m) (now vals) spent b)
   pub kept : Able → LogKept v.state v.number (λ place. false) a → LogKept v.state number (gone_in (called v f number)) b
   pub elsewhere : (on : List ℕ) × ((p : ℕ) → is_current v.state p ≡ false → names on p ≡ false) × KeepsElsewhere false (v.arrays m) on a b
 
-module _ (v : Raid) (f : ℕ → View) (number m : ℕ) (a b : Seen) (now : (ℕ → Values) → ℕ → Values) (Able : Type 0) (set : IsSet v a)
-    (call : ActsOne v f number m a b now Able) where
+module _ (v : Raid) (f : ℕ → View) (number m : ℕ) (a b : Seen) (now : (ℕ → Values) → ℕ → Values) (after : Shape) (Able : Type 0) (set : IsSet v a)
+    (call : ActsOne v f number m a b now after Able) where
   log_after : Able → LogKept v.state v.number (gone_in v) a → LogKept v.state number (gone_in (called v f number)) b
   log_after able log = call.kept able (subst (λ g. LogKept v.state v.number g a) (λ i p. heeded_gone v call.heeded p i) log)
 
@@ -143,32 +143,50 @@ module _ (v : Raid) (f : ℕ → View) (number m : ℕ) (a b : Seen) (now : (ℕ
   small : (n : ℕ) → n < v.state.made → n < 16
   small n low = let most = set.most in omega (arith, low, most)
 
+  -- what the array holds before the call and after it, and what contents say meanwhile
+  abbrev OwnBefore : (ℕ → Values) → Type 0
+  OwnBefore own = Holds v.state (shape_of (v.arrays m)) (v.arrays m) own (spent_in (f m)) a
+
+  abbrev OwnDuring : (ℕ → Values) → Image → Type 0
+  OwnDuring own = SaysSome v.state (v.arrays m).number (now own) (spent_in (f m))
+
+  abbrev OwnAfter : (ℕ → Values) → Type 0
+  OwnAfter own = Holds v.state after (f m) (now own) (spent_in (f m)) b
+
   pub own_part : (vals : ℕ → Values) (spent : ℕ → Bool) → is_over (called v f number) m ≡ false → Covers (f m) spent
       → PartOf v (called v f number) a b m vals (now vals) spent
   own_part vals spent goes covers =
       part_if v f number a b m vals (now vals) spent call.goes.stays set.lasting call.goes.leaves
-      (λ are. (marked_before v f m a b set call.views are, same_shape v f m a b set call.views are m))
       (λ amid.
       let able = call.able m vals spent call.views.low goes amid in
       let shape = shape_of (v.arrays m) in
-      subst (λ (s : Shape). Part v.state v.state s s vals (now vals) spent (gone_in v) (gone_in (called v f number)) v (called v f number) a b m)
-      (sym (amid.marked marked))
-      (part_own v.state shape vals (now vals) spent (gone_in v) (gone_in (called v f number)) v (called v f number) a b m
-      (call.acts vals spent covers able) (λ log. log_after able log) (someone_left (called v f number) m goes) call.views.written))
+      record {
+        before = shape;
+        after = after;
+        stood = subst (λ (s : Shape). Stood v.state s vals spent (gone_in v) v a m) (amid.marked marked) amid.stood;
+        part = part_by v.state shape after vals (now vals) spent (gone_in v) (gone_in (called v f number)) v (called v f number) a b m
+            (call.acts vals spent covers able) (call.views.seated.number ∙ sym (set.arrays m call.views.low).number) (λ log. log_after able log)
+            (someone_left (called v f number) m goes) call.views.written;
+        marked = call.shape;
+      })
 
   pub other_part : (n : ℕ) (vals : ℕ → Values) (spent : ℕ → Bool) → (n ≡ m → ⊥) → n < v.state.made → is_over (called v f number) n ≡ false
       → PartOf v (called v f number) a b n vals vals spent
   other_part n vals spent apart below goes =
       part_if v f number a b n vals vals spent call.goes.stays set.lasting call.goes.leaves
-      (λ are. (marked_before v f m a b set call.views are, same_shape v f m a b set call.views are n))
       (λ amid.
       let able = call.able n vals spent below goes amid in
-      let shape = shape_of (v.arrays m) in
       let own = held_in v a m in
-      part_other v.state amid.durable shape vals own (now own) spent (spent_in (f m)) (gone_in v) (gone_in (called v f number)) v (called v f number) a b n m
-      (Says v.state (v.arrays m).number shape (now own) (spent_in (f m)))
-      (small m call.views.low) (small n below) apart (set.arrays m call.views.low).number (call.views.others n apart) set.lasting marked
-      (call.acts own (spent_in (f m)) (λ y alive. alive) able) (λ log. log_after able log) (someone_left (called v f number) n goes))
+      record {
+        before = amid.durable;
+        after = amid.durable;
+        stood = amid.stood;
+        part = part_other v.state amid.durable vals spent (gone_in v) (gone_in (called v f number)) v (called v f number) a b n m
+            (OwnBefore own) (OwnAfter own) (OwnDuring own)
+            (small m call.views.low) (small n below) apart (set.arrays m call.views.low).number (call.views.others n apart) set.lasting marked
+            (call.acts own (spent_in (f m)) (λ y alive. alive) able) (λ log. log_after able log) (someone_left (called v f number) n goes);
+        marked = λ are. amid.marked (marked_before v f m a b set call.views are) ∙ sym (ap shape_of (call.views.others n apart));
+      })
 
   pub one_still : (n : ℕ) → n < v.state.made → is_over (called v f number) n ≡ false → is_over v n ≡ false
   one_still n low goes = over_still v (called v f number) (further v f m a b set call.views number call.later) n low goes
@@ -183,14 +201,19 @@ module _ (v : Raid) (f : ℕ → View) (number m : ℕ) (a b : Seen) (now : (ℕ
   other_rows n vals spent apart low goes amid rows =
       let able = call.able n vals spent low goes amid in
       let own = held_in v a m in
-      let shape = shape_of (v.arrays m) in
-      rows_other v.state v (called v f number) a b n m (spent_in (f m)) shape shape own (now own) (Says v.state (v.arrays m).number shape (now own) (spent_in (f m)))
+      rows_other v (called v f number) a b n m (OwnBefore own) (OwnAfter own) (OwnDuring own)
       (small m call.views.low) (small n low) apart (set.arrays m call.views.low).number (call.views.others n apart) set.lasting
       (call.acts own (spent_in (f m)) (λ y alive. alive) able)
       (kept_calm v.state v.number (gone_in v) a (v.arrays m).number amid.stood.log marked) rows
 
-  pub one_brings : ((was : ℕ → Values) → now was ≡ was → ⊥) → Brings v (called v f number) a b (λ n vals. if n == m then now vals else vals)
-  one_brings writes =
+  -- where its values stay, what images leave of its own rows is to be shown
+  abbrev pub OwnRows : Type 0
+  OwnRows =
+      ((was : ℕ → Values) → now was ≡ was) → (vals : ℕ → Values) (spent : ℕ → Bool) → is_over (called v f number) m ≡ false → Covers (f m) spent
+      → IsAmid v a m vals spent → LeavesRows v a m → KeepsRows v (called v f number) a b m
+
+  pub one_brings : OwnRows → Brings v (called v f number) a b (λ n vals. if n == m then now vals else vals)
+  one_brings own_rows =
       record {
         stays = call.goes.stays;
         set = views_set v f m a b set call.views number;
@@ -214,16 +237,42 @@ module _ (v : Raid) (f : ℕ → View) (number m : ℕ) (a b : Seen) (now : (ℕ
         rows = λ n vals spent unwritten joined low goes covers amid rows.
             elim (cases_eq n m) [
               | inl same ↦
-                  absurd (writes vals (sym (ap (λ (t : Bool). if t then now vals else vals) (eq-eqb n m same)) ∙ unwritten vals))
+                  subst (λ k. is_over (called v f number) k ≡ false → Covers (f k) spent → IsAmid v a k vals spent → LeavesRows v a k → KeepsRows v (called v f number) a b k)
+                  (sym same)
+                  (own_rows (λ was. sym (ap (λ (t : Bool). if t then now was else was) (eq-eqb n m same)) ∙ unwritten was) vals spent) goes covers amid rows
               | inr apart ↦ other_rows n vals spent apart low goes amid rows
             ];
       }
+
+-- ---- what a commit needs
+
+and_true : (c : Bool) → (c && true) ≡ c
+and_true true = refl
+and_true false = refl
+
+pub may_commit : (v : Raid) (f : ℕ → View) (number m n : ℕ) (a b : Seen) (on : List ℕ) → IsSet v a → IsHeeded v → ViewsOne v f m a b → v.number ≤ number
+    → on ≡ current_places v.state → n < v.state.made → is_over (called v f number) n ≡ false → AreLive v.state.made a → LogKept v.state v.number (λ place. false) a
+    → MayCommit v.state (v.arrays m) (f m) v.number on a
+may_commit v f number m n a b on set heeded views later on_is below goes live log =
+    let low = views.low in
+    let before = over_still v (called v f number) (further v f m a b set views number later) n below goes in
+    let some = someone_left (called v f number) n goes in
+    record {
+      renew = may_renew v a m n set heeded low live before;
+      opened = opened v.state v.state.made m (v.arrays m) a (set.arrays m low) live low;
+      steady = heeded_whole v m heeded (set.marked m low);
+      log = log;
+      room = let room = (number_room v n before).0 in omega (arith, room);
+      places = λ p. ap (λ ps. names ps p) on_is ∙ names_current v.state p ∙ sym (and_true (is_current v.state p));
+      someone = (some.0, some.1, gone_not (called v f number) some.0 m (current_few v.state some.0 set.few some.1) low some.2);
+    }
 
 -- ---- a write
 
 pub record WriteCall (v : Raid) (f : ℕ → View) (number m : ℕ) (a b : Seen) (on : List ℕ) (sector : ℕ) (from : List ℕ) : Type 0 where
   pub heeded : IsHeeded v
   pub views : ViewsOne v f m a b
+  pub loses : LosesOne v f m
   pub goes : Goes a b
   pub later : v.number ≤ number
   pub on_is : on ≡ current_places v.state
@@ -237,20 +286,25 @@ pub record WriteCall (v : Raid) (f : ℕ → View) (number m : ℕ) (a b : Seen)
 pub write_brings : (v : Raid) (f : ℕ → View) (number m : ℕ) (a b : Seen) (on : List ℕ) (sector : ℕ) (from : List ℕ) → IsSet v a
     → WriteCall v f number m a b on sector from → Brings v (called v f number) a b (written_at m sector from)
 write_brings v f number m a b on sector from set call =
-    one_brings v f number m a b (appended_at sector from) (MayCommit v.state (v.arrays m) (f m) v.number on a) set
+    one_brings v f number m a b (appended_at sector from) (shape_of (v.arrays m)) (MayCommit v.state (v.arrays m) (f m) v.number on a) set
     (record {
       heeded = call.heeded;
       views = call.views;
+      shape = call.loses.shape;
       goes = call.goes;
       later = call.later;
-      able = λ n vals spent below goes amid. may n vals spent below goes amid;
-      acts = λ vals spent covers given. call.writes vals spent covers given;
+      able = λ n vals spent below goes amid.
+          may_commit v f number m n a b on set call.heeded call.views call.later call.on_is below goes amid.slices
+          (subst (λ g. LogKept v.state v.number g a) (λ i p. heeded_gone v call.heeded p i) amid.stood.log);
+      acts = λ vals spent covers given.
+          acts_some v.state (v.arrays m) (f m) spent a b (shape_of (v.arrays m)) vals (appended_at sector from vals) (call.writes vals spent covers given);
       kept = λ given log.
           kept_more v.state number (has_gone (f m)) (gone_in (called v f number)) b
           (λ p is. gone_from (called v f number) p m (call.few p is) call.views.low is) (call.kept given);
       elsewhere = (on, λ p gone. ap (λ ps. names ps p) call.on_is ∙ names_current v.state p ∙ gone, call.elsewhere);
     })
-    (λ was same. longer (was sector) (sym (ap (λ (t : Bool). if t then append (was sector) from else was sector) (eq-eqb sector sector refl)) ∙ ap (λ (h : ℕ → Values). h sector) same))
+    (λ same vals spent goes covers amid rows.
+    absurd (longer (vals sector) (sym (ap (λ (t : Bool). if t then append (vals sector) from else vals sector) (eq-eqb sector sector refl)) ∙ ap (λ (h : ℕ → Values). h sector) (same vals))))
   where
     length_more : (xs ys : List (List ℕ)) → xs ≡ xs ++ ys → length ys ≡ 0
     length_more xs ys same = let sum = ap length same ∙ length-append xs ys in omega (arith, sum)
@@ -259,23 +313,3 @@ write_brings v f number m a b on sector from set call =
     longer h same =
         let none = length_more h.older (h.current ∷ []) (sym (ap (λ (k : Values). k.older) same)) in
         absurd (omega (arith, none))
-
-    and_true : (c : Bool) → (c && true) ≡ c
-    and_true true = refl
-    and_true false = refl
-
-    may : (n : ℕ) (vals : ℕ → Values) (spent : ℕ → Bool) → n < v.state.made → is_over (called v f number) n ≡ false → IsAmid v a n vals spent
-        → MayCommit v.state (v.arrays m) (f m) v.number on a
-    may n vals spent below goes amid =
-        let low = call.views.low in
-        let before = over_still v (called v f number) (further v f m a b set call.views number call.later) n below goes in
-        let some = someone_left (called v f number) n goes in
-        record {
-          renew = may_renew v a m n set call.heeded low amid.slices before;
-          opened = opened v a m set amid.slices low;
-          steady = heeded_whole v m call.heeded (set.marked m low);
-          log = subst (λ g. LogKept v.state v.number g a) (λ i p. heeded_gone v call.heeded p i) amid.stood.log;
-          room = let room = (number_room v n before).0 in omega (arith, room);
-          places = λ p. ap (λ ps. names ps p) call.on_is ∙ names_current v.state p ∙ sym (and_true (is_current v.state p));
-          someone = (some.0, some.1, gone_not (called v f number) some.0 m (current_few v.state some.0 set.few some.1) low some.2);
-        }

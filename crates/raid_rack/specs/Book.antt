@@ -1,7 +1,8 @@
--- The book of a pool, as calls of a rack of arrays change it: marks are added, and nothing else.
-use Rattle.std.specs.Prelude.{◌≡◌, ℕ, ◌≤◌, true, List, map, refl}
-use Rattle.std.proofs.Common.{◌∙◌, arith}
+-- The book of a pool, as calls of a rack of arrays change it: marks are added, a plan ends, and nothing else.
+use Rattle.std.specs.Prelude.{◌≡◌, ◌⊎◌, ℕ, ◌≤◌, true, List, map, refl}
+use Rattle.std.proofs.Common.{◌∙◌, inl, inr, arith}
 use Rattle.pool_state.specs.declared.contents.Drive.{Drive}
+use Rattle.pool_state.specs.declared.contents.Plan.TheVariants.{Nothing}
 use Rattle.pool_state.specs.declared.contents.State.{State}
 use Rattle.array_image.specs.States.{is_current}
 
@@ -9,17 +10,17 @@ use Rattle.array_image.specs.States.{is_current}
 abbrev pub drive_of : Drive → List ℕ × ℕ
 drive_of d = (d.id.0, d.units)
 
--- states that differ in epoch and marks alone
+-- states that differ in epoch and marks alone, and in the plan where it has ended
 pub record IsSameBook (p q : State) : Type 0 where
   pub pool : q.pool ≡ p.pool
   pub extent : q.extent ≡ p.extent
   pub drives : map drive_of q.drives.items ≡ map drive_of p.drives.items
-  pub plan : q.plan ≡ p.plan
+  pub plan : (q.plan ≡ p.plan) ⊎ (q.plan ≡ Nothing)
   pub made : q.made ≡ p.made
   pub joined : q.joined ≡ p.joined
   pub serial : q.serial ≡ p.serial
 
--- marks are only added
+-- marks are only added, and a plan that has ended stays so
 pub record IsAfter (p q : State) : Type 0 where
   pub same : IsSameBook p q
   pub epoch : p.epoch ≤ q.epoch
@@ -33,7 +34,10 @@ same_then p q r one two =
       pool = two.pool ∙ one.pool;
       extent = two.extent ∙ one.extent;
       drives = two.drives ∙ one.drives;
-      plan = two.plan ∙ one.plan;
+      plan = elim two.plan [
+        | inl same ↦ elim one.plan [ inl before ↦ inl (same ∙ before) | inr ended ↦ inr (same ∙ ended) ]
+        | inr ended ↦ inr ended
+      ];
       made = two.made ∙ one.made;
       joined = two.joined ∙ one.joined;
       serial = two.serial ∙ one.serial;
@@ -42,7 +46,7 @@ same_then p q r one two =
 pub after_same : (p : State) → IsAfter p p
 after_same p =
     record {
-      same = record { pool = refl; extent = refl; drives = refl; plan = refl; made = refl; joined = refl; serial = refl };
+      same = record { pool = refl; extent = refl; drives = refl; plan = inl refl; made = refl; joined = refl; serial = refl };
       epoch = omega arith;
       current = λ place is. is;
     }

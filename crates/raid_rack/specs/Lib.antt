@@ -11,5 +11,6 @@ pub mod Cleaning
 pub mod RaidRack
 pub mod Laws
 pub mod Runs
+pub mod Works
 pub mod Opening
 pub mod AllRuns

@@ -14,7 +14,8 @@ use Rattle.array_image.specs.SoundArray.{first_unsynced}
 use Rattle.array_image.specs.Arrays.{Member, Shape, replayed}
 use Rattle.array_image.specs.Held.{Among, IsSettled}
 use Rattle.array_image.specs.Left.{IsInside}
-use Rattle.array_model.specs.View.{View, IsArray, HasFault, has_gone, is_missing_seat, is_whole_array, place_at, sectors_of, shape_of, spent_in}
+use Rattle.array_model.specs.View.{View, IsArray, IsSameArray, HasFault, has_gone, is_missing_seat, is_whole_array, place_at, rows_of, sectors_of, shape_of, spent_in}
+use Rattle.array_model.specs.declared.Seat.TheVariants.{Missing}
 use Rattle.array_model.specs.Members.{HasSlices}
 use Rattle.array_model.specs.ArrayCalls.{Covers, appended_at}
 use Rattle.array_core.specs.Staging.{HasRowRebuilds}
@@ -35,6 +36,8 @@ pub record IsOfPool (s : State) (v : View) : Type 0 where
   pub row : has_whole_row v.truth ≡ true
   pub roles : has_roles (length s.drives.items) v.truth ≡ true
   pub unsynced : first_unsynced v.truth ≤ v.resync
+  -- in a young array rows are zeroed, and none is left to resync
+  pub zeroed : v.young ≡ true → rows_of v ≤ v.resync
   pub rows : HasRowRebuilds v
 
 -- Array n: it has the slices of its members, and the members that are missing are those whose drive is marked, or has gone in a
@@ -94,6 +97,15 @@ pub record PartOf (v w : Raid) (a b : Seen) (n : ℕ) (vals now : ℕ → Values
 abbrev pub KeepsMarked : Raid → Seen → Seen → Type 0
 KeepsMarked v a b = (d t : ℕ) → IsLive a b d t → is_current v.state (place_of d) ≡ false → Keeps (a.held d t) (b.held d t)
 
+-- An array as calls leave it that change nothing of it but whom it lost, its events, the rows that its truth leaves, and its mark.
+pub record LosesOnly (u w : View) : Type 0 where
+  pub same : IsSameArray u w
+  pub seats : (k : ℕ) → (slice_get w.seats k ≡ slice_get u.seats k) ⊎ (slice_get w.seats k ≡ Some Missing)
+
+-- each of them
+abbrev pub KeepsArrays : Raid → Raid → Type 0
+KeepsArrays v w = (n : ℕ) → n < v.state.made → LosesOnly (v.arrays n) (w.arrays n)
+
 -- A part of a call that moves no value: reads, syncs, losses that are noted, and commits that mark them.
 pub record Moves (v w : Raid) (a b : Seen) : Type 0 where
   pub stays : Stays a b
@@ -102,6 +114,8 @@ pub record Moves (v w : Raid) (a b : Seen) : Type 0 where
   pub leaves : a.traced → Leaves a b (λ c. Unit {0})
   pub number : v.number ≤ w.number
   pub events : (n : ℕ) → n < v.state.made → (v.arrays n).truth.events ≤ (w.arrays n).truth.events
+  pub arrays : KeepsArrays v w
+  pub plan : w.state.plan ≡ v.state.plan
   pub sectors : (n : ℕ) → sectors_of (w.arrays n) ≡ sectors_of (v.arrays n)
   -- whoever isn't left any more has a fault, and what is spent stays so
   pub left : (place : ℕ) → is_left w place ≡ true → is_left v place ≡ true
@@ -183,6 +197,8 @@ written_at m sector from n vals = if n == m then appended_at sector from vals el
 -- A call that writes a sector of array m: losses are mended.
 pub record WritesOne (v w : Raid) (a b : Seen) (m sector : ℕ) (from : List ℕ) : Type 0 where
   pub brings : Brings v w a b (written_at m sector from)
+  pub arrays : KeepsArrays v w
+  pub plan : w.state.plan ≡ v.state.plan
   pub caused : AreCaused v w a b
   pub heeded : IsHeeded w
 

@@ -1,5 +1,5 @@
 -- A pool's arrays as an opening hands them over: what slices at rest hold, with the places that are absent noted in each array.
-use Rattle.std.specs.Prelude.{◌≡◌, ℕ, ◌<◌, true, false, List}
+use Rattle.std.specs.Prelude.{◌≡◌, ℕ, ◌<◌, true, false}
 use Rattle.rack.specs.Values.{Keeps}
 use Rattle.rack.specs.Seen.{Seen}
 use Rattle.rack.specs.Moments.{Leaves}

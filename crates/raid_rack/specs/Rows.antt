@@ -1,5 +1,5 @@
 -- Rows that images leave to resync.
-use Rattle.std.proofs.Common.{◌≡◌, ℕ, ◌≤◌, true, false, Some, subst, ◌∙◌}
+use Rattle.std.proofs.Common.{◌≡◌, ℕ, ◌≤◌, true, false, Some, subst, arith}
 use Rattle.rack.specs.Seen.{Image, Seen}
 use Rattle.rack.specs.Moments.{Leaves}
 use Rattle.rack.specs.Joins.{leaves_then, leaves_weaker}
@@ -17,6 +17,9 @@ use Rattle.raid_rack.specs.Raid.{Raid}
 abbrev pub LeavesFrom : ℕ → ℕ → Image → Type 0
 LeavesFrom row n r = (s : State) (t : Super) → state_in r ≡ Some s → truth_in s r n ≡ Some t → row ≤ first_unsynced t
 
+pub from_lower : (j k n : ℕ) (r : Image) → j ≤ k → LeavesFrom k n r → LeavesFrom j n r
+from_lower j k n r lower from s t state truth = let at = from s t state truth in omega (arith, lower, at)
+
 -- An array that isn't young leaves no rows to resync but those that are left in it: neither by its truth, since this run hasn't
 -- marked it, nor in any image.
 pub record LeavesRows (v : Raid) (x : Seen) (n : ℕ) : Type 0 where
@@ -24,16 +27,16 @@ pub record LeavesRows (v : Raid) (x : Seen) (n : ℕ) : Type 0 where
   pub young : (v.arrays n).young ≡ false
   pub images : (r : Image) → IsLeft x r → LeavesFrom (v.arrays n).resync n r
 
--- nor does it at any moment of a part of a call, and after it
+-- nor does it at any moment of a part of a call, and after it, where fewer may be left
 pub record KeepsRows (v w : Raid) (a b : Seen) (n : ℕ) : Type 0 where
-  pub same : (w.arrays n).resync ≡ (v.arrays n).resync
+  pub later : (v.arrays n).resync ≤ (w.arrays n).resync
   pub leaves : a.traced → Leaves a b (λ c. IsInside a.sectors c → LeavesFrom (v.arrays n).resync n (replayed a.sectors c))
   pub after : LeavesRows w b n
 
 -- parts in a row
 pub rows_then : (v w z : Raid) (a b c : Seen) (n : ℕ) → ((d : ℕ) → b.sectors d ≡ a.sectors d) → (a.traced → b.traced) → KeepsRows v w a b n → KeepsRows w z b c n → KeepsRows v z a c n
 rows_then v w z a b c n sectors traced_on one two = record {
-  same = two.same ∙ one.same;
+  later = let first = one.later in let second = two.later in omega (arith, first, second);
   leaves = λ traced.
       leaves_then
       (λ i. IsInside a.sectors i → LeavesFrom (v.arrays n).resync n (replayed a.sectors i))
@@ -43,7 +46,8 @@ rows_then v w z a b c n sectors traced_on one two = record {
       (λ i. IsInside a.sectors i → LeavesFrom (v.arrays n).resync n (replayed a.sectors i))
       (λ i from inside.
       subst (λ (size : ℕ → ℕ). LeavesFrom (v.arrays n).resync n (replayed size i)) (λ k d. sectors d k)
-      (subst (λ k. LeavesFrom k n (replayed b.sectors i)) one.same (from (λ d t out. inside d t (subst (λ k. k ≤ t) (sectors d) out)))))
+      (from_lower (v.arrays n).resync (w.arrays n).resync n (replayed b.sectors i) one.later
+      (from (λ d t out. inside d t (subst (λ k. k ≤ t) (sectors d) out)))))
       (two.leaves (traced_on traced)));
   after = two.after;
 }

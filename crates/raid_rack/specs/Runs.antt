@@ -71,7 +71,7 @@ raid_runs_same p v x =
       told = λ n told. told;
       written = λ n not. not;
       rows = λ n not told goes rows. record {
-        same = refl;
+        later = omega arith;
         leaves = λ traced. leaves_same x (λ c. IsInside x.sectors c → LeavesFrom (v.arrays n).resync n (replayed x.sectors c));
         after = rows;
       };

@@ -3,7 +3,7 @@
 ghost use Rattle.std.specs.Prelude.{◌≡◌, ℕ, ◌<◌, ◌≤◌, true, false, OnOk, IfErr};
 ghost use Rattle.rack.specs.Seen.{Rose};
 ghost use Rattle.rack.specs.Calls.{Reads, Syncs, Writes};
-ghost use Rattle.raid_rack.specs.Moves.{RaisesBy};
+ghost use Rattle.raid_rack.specs.Moves.{KeepsArrays, RaisesBy};
 ghost use Rattle.raid_rack.specs.AllRuns.{AreRuns};
 ghost use Rattle.slice_rack.specs.SliceRack.{below_of, tables};
 ghost use Rattle.slice_rack.specs.Laws.{is_sound};
@@ -40,6 +40,8 @@ impl<R: Rack> Rack for RaidRack<R> {
         ensures reads { Reads (raid_seen R.seen self.old) (raid_seen R.seen self.new) disk sector into.new result }
         ensures runs { AreRuns R.seen R.runs self.old self.new }
         ensures raises { RaisesBy 17 (raid_in self.old) (raid_in self.new) }
+        ensures arrays { KeepsArrays (raid_in self.old) (raid_in self.new) }
+        ensures plan { (raid_in self.new).state.plan ≡ (raid_in self.old).state.plan }
         ensures written { (n : ℕ) → written_in self.new n ≡ written_in self.old n }
     {
         self.arrays.read_array(&mut self.slices, disk, sector, into);
@@ -53,6 +55,8 @@ impl<R: Rack> Rack for RaidRack<R> {
         ensures writes { Writes (raid_seen R.seen self.old) (raid_seen R.seen self.new) disk sector from.now result }
         ensures runs { AreRuns R.seen R.runs self.old self.new }
         ensures raises { RaisesBy 18 (raid_in self.old) (raid_in self.new) }
+        ensures arrays { KeepsArrays (raid_in self.old) (raid_in self.new) }
+        ensures plan { (raid_in self.new).state.plan ≡ (raid_in self.old).state.plan }
         ensures written { (n : ℕ) → (n ≡ disk → ⊥) → written_in self.new n ≡ written_in self.old n }
     {
         note_written(&mut self.written, disk);
@@ -67,6 +71,8 @@ impl<R: Rack> Rack for RaidRack<R> {
         ensures syncs { Syncs (raid_seen R.seen self.old) (raid_seen R.seen self.new) disk result }
         ensures runs { AreRuns R.seen R.runs self.old self.new }
         ensures raises { RaisesBy 17 (raid_in self.old) (raid_in self.new) }
+        ensures arrays { KeepsArrays (raid_in self.old) (raid_in self.new) }
+        ensures plan { (raid_in self.new).state.plan ≡ (raid_in self.old).state.plan }
         ensures written { (n : ℕ) → written_in self.new n ≡ written_in self.old n }
     {
         self.arrays.sync_array(&mut self.slices, disk);

@@ -3,7 +3,8 @@
 //! The arrays of a pool share its drives, its state and its commit log. A drive that answers `Gone` in a call of one array is gone
 //! for all of them: the loss is noted in each array, all arrays are settled on the drives that are left, and one commit has its
 //! mark and their superblocks. A [`RaidRack`] holds the arrays with their state, their log and the slices below. It is a rack of
-//! them over any rack of drives: disk n is array n. It loses a drive ([`RaidRack::lose`]) and ends a run ([`RaidRack::clean`]).
+//! them over any rack of drives: disk n is array n. It loses a drive ([`RaidRack::lose`]), resyncs a row ([`RaidRack::resync`]),
+//! rebuilds one ([`RaidRack::rebuild`]), ends a plan ([`RaidRack::close`]) and ends a run ([`RaidRack::clean`]).
 //!
 //! **Its model.** `Raid` is what contracts see of it: the state, each array's `View`, the number of the log. `raid_of` is the rack
 //! that it shows: disk n is array n, a sector is held where no loss spent it, what a stop leaves is what the slices say once their
@@ -13,7 +14,7 @@
 //! | Module of specs/ | What it defines |
 //! |---|---|
 //! | `Raid` | what contracts see, which sectors are spent, an array in the middle of a call, an array between calls |
-//! | `Book` | states that differ in marks alone |
+//! | `Book` | states that differ in marks alone, and in a plan that has ended |
 //! | `Losses` | the places that went, and the copies of a state in a log |
 //! | `Missing` | the state that marks some places missing |
 //! | `Marking` | a part of a call, seen from one array; superblocks that restate an array under a new state |
@@ -23,6 +24,7 @@
 //! | `Cleaning` | arrays that are ended: settled, with superblocks that leave their rows and no others |
 //! | `RaidRack` | the model of the struct |
 //! | `Runs` | what calls in a row do to the book and to images: marks have their cause, and arrays that aren't written leave their rows |
+//! | `Works` | a step of maintenance of one array, rows that are resynced and rebuilt, the end of a plan |
 //! | `AllRuns` | the same, with what calls keep of the slices below |
 //! | `Laws` | what holds of the rack at any moment |
 //! | `Acts` | what a whole call does |
@@ -39,6 +41,12 @@
 //! **Rows to resync.** An array that isn't young and whose truth leaves just the rows that are left in it (`LeavesRows`) does so in
 //! every image at each moment of a call and after it (`KeepsRows`), unless the call writes it. The rack keeps which arrays a run has
 //! written, so all others do so in every image of the run (`RaidRuns`).
+//!
+//! **Works of maintenance.** A step of an array makes another array of it, by one commit: more rows that agree, or members that count
+//! further. It is a part of a call that writes no value (`Brings`): each array gives its values, by the array before the step or after
+//! it. One lemma (`step_brings`) carries any step of `array_sync` along (`Steps`), where what it makes is an array of the pool
+//! (`IsNext`). A row is resynced (`ResyncsOne`) exactly where it can be once losses are mended, and where that is answered no image
+//! leaves it any more. A row of a member is rebuilt (`RebuildsOne`) where that is answered, and refused only where it can't be. The end of a plan (`ClosesPlan`) is a commit of the state's copies alone.
 //!
 //! **What never falls.** Epochs, events and log numbers rise by a bounded number in a call (`RaisesBy`), and the slices of a drive
 //! that is marked missing stay as they are (`KeepsMarked`).
@@ -59,7 +67,9 @@ mod losses;
 mod marks;
 mod mending;
 mod spent;
+mod works;
 
 pub use arrays::{LastDrive, RaidRack};
 pub use losses::{add_copies, heed_all, newly_gone, note_gone, restart_rebuilds};
 pub use marks::{current_places, mark_missing};
+pub use works::Stuck;

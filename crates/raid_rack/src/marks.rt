@@ -5,9 +5,10 @@ ghost use Rattle.arrayvec.specs.ArrayVec.{array_vec_len};
 ghost use Rattle.array_image.specs.States.{current_places};
 ghost use Rattle.commit_log.specs.View.{names};
 ghost use Rattle.raid_rack.specs.Missing as spec;
+ghost use Rattle.raid_rack.specs.Works.{closed};
 
 use arrayvec::ArrayVec;
-use pool_state::{Drive, State};
+use pool_state::{Drive, Plan, State};
 use rack::Places;
 
 /// The last epoch of a valid state.
@@ -29,6 +30,14 @@ pub fn mark_missing(state: &mut State, lost: &Places)
     ensures { state.new ≡ spec.marked lost.now.items state.old }
 {
     state.drives = marked(state.drives.as_slice(), lost);
+    state.epoch = raised(state.epoch);
+}
+
+/// Ends the plan, in a state of the next epoch.
+pub(crate) fn end_plan(state: &mut State)
+    ensures { state.new ≡ closed state.old }
+{
+    state.plan = Plan::Nothing;
     state.epoch = raised(state.epoch);
 }
 

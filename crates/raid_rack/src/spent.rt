@@ -41,7 +41,7 @@ impl Arrays {
     }
 
     /// Whether no drive is left, or numbers are used up.
-    fn is_ended(&self) -> bool
+    pub(crate) fn is_ended(&self) -> bool
         requires count { length self.now.all.items ≡ self.now.state.made }
         requires few { length self.now.state.drives.items ≤ 16 }
         requires heeded { IsHeeded (raid_by self.now) }

@@ -1,9 +1,9 @@
-use Rattle.std.proofs.Common.{sym, ap, ◌∙◌, ◌+◌, ◌++◌, ◌∷◌, [], ℕ, arith}
+use Rattle.std.proofs.Common.{refl, sym, ap, ◌∙◌, ◌+◌, ◌++◌, ◌∷◌, [], ℕ, arith}
 use Rattle.rack.specs.Targets.{target}
 use Rattle.array_image.specs.Places.{data_sector}
 use Rattle.commit_log.specs.View.{LogView}
 use Rattle.array_model.proofs.Layouts.{row_layout_is}
-use Rattle.array_sync.proofs.Copying.{no_copies, one_copy}
+use Rattle.array_sync.proofs.Copying.{no_copies, one_target}
 use Rattle.array_sync.proofs.Summing.{is_not}
 use Rattle.array_sync.proofs.rows.stage_if.Goals as goal
 
@@ -17,5 +17,5 @@ returns-clause-added c =
     let most = (row_layout_is c.args.array.now c.args.sector c.rules.ensures).most in
     let low = c.requires.position in
     let members = c.requires.members in
-    one_copy c.args.array.now c.args.sector c.args.position c.args.from.now c.args.log.now.added c.add.new.self.added
-    (omega (arith, most, low, members)) c.told-from (sym c.is_source.ensures ∙ c.if-is_source.false) (ap (λ (l : LogView). l.added) c.add.ensures ∙ ap (λ (d : ℕ). c.args.log.now.added ++ target d (data_sector + c.args.sector) c.args.from.now ∷ []) c.slice_at.ensures)
+    one_target c.args.array.now _ _ c.args.sector c.args.position c.args.from.now c.args.log.now.added c.add.new.self.added
+    (omega (arith, most, low, members)) c.told-from (refl, refl, sym c.is_source.ensures ∙ c.if-is_source.false) (λ t j is. (is.0, is.1)) refl (ap (λ (l : LogView). l.added) c.add.ensures ∙ ap (λ (d : ℕ). c.args.log.now.added ++ target d (data_sector + c.args.sector) c.args.from.now ∷ []) c.slice_at.ensures)

@@ -1,6 +1,7 @@
 use Rattle.std.proofs.Common.{sym, subst}
 use Rattle.rack.specs.Calls.{Reads}
 use Rattle.slice_rack.specs.SliceRack.{tables, below_of}
+use Rattle.raid_rack.specs.Moves.{KeepsArrays}
 use Rattle.raid_rack.specs.Runs.{RaidRuns}
 use Rattle.raid_rack.specs.RaidRack.{SliceRuns, raid_in, raid_seen, slices_in, slices_seen, written_in}
 use Rattle.raid_rack.specs.Laws.{stops_inside}
@@ -24,3 +25,7 @@ returns-clause-runs g c =
           (record { running = c.read_array.ensures.running; heeded = c.read_array.ensures.reads.heeded })
           (stops_inside (tables c.read_array.new.rack) (g.R.Rack.seen (below_of c.read_array.new.rack))) c.read_array.ensures.reads.moves,
     )
+
+pub returns-clause-arrays : goal.returns-clause-arrays
+returns-clause-arrays g c =
+    subst (λ r. KeepsArrays (raid_in c.args.self.now) (raid_in r)) (sym c.answer.ensures.same) c.read_array.ensures.reads.moves.arrays

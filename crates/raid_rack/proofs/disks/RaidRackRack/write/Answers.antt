@@ -1,7 +1,7 @@
 use Rattle.std.proofs.Common.{◌<◌, ap, sym, subst, ◌∙◌}
 use Rattle.rack.specs.Calls.{Writes}
 use Rattle.slice_rack.specs.SliceRack.{tables, below_of}
-use Rattle.raid_rack.specs.Moves.{written_at}
+use Rattle.raid_rack.specs.Moves.{KeepsArrays, written_at}
 use Rattle.raid_rack.specs.Runs.{RaidRuns}
 use Rattle.raid_rack.specs.RaidRack.{SliceRuns, raid_in, raid_seen, slices_in, slices_seen, is_written, written_in}
 use Rattle.raid_rack.specs.Laws.{stops_inside}
@@ -34,3 +34,7 @@ returns-clause-runs g c =
 
 pub returns-clause-written : goal.returns-clause-written
 returns-clause-written g c n apart = ap (λ r. written_in r n) c.answer.ensures.same ∙ c.note_written.ensures.others n apart
+
+pub returns-clause-arrays : goal.returns-clause-arrays
+returns-clause-arrays g c =
+    subst (λ r. KeepsArrays (raid_in c.args.self.now) (raid_in r)) (sym c.answer.ensures.same) c.write_array.ensures.writes.arrays

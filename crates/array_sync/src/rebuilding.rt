@@ -1,0 +1,100 @@
+//! Rows of a member that are left to rebuild.
+
+ghost use Rattle.std.specs.Prelude.{◌≡◌, ◌⊎◌, ◌<◌, ◌+◌, ◌/◌, ◌*◌, ℕ, List, [], true, false, is_ok, OnOk, IfErr};
+ghost use Rattle.array_model.specs.View.{View, rows_of};
+ghost use Rattle.array_model.specs.Members.{HasSlices, first_of_row, row_layout};
+ghost use Rattle.commit_log.specs.View.{committed, emptied};
+ghost use Rattle.commit_log.specs.Phases.{AreLogs};
+ghost use Rattle.array_core.specs.Model.{is_truth};
+ghost use Rattle.array_core.specs.Pool.{Goes};
+ghost use Rattle.array_core.specs.Superblocks.{rebuilt_by};
+ghost use Rattle.array_core.specs.Writing.{KeepsElsewhere};
+ghost use Rattle.array_sync.specs.Rows.{others_give, row_spent};
+ghost use Rattle.array_sync.specs.Steps.{HasRowLeft, Steps, reach_on, rebuilt};
+
+use crate::members::{is_row_spent, stage_member};
+use array_core::{Array, Change, Seat, Spent};
+use commit_log::Log;
+use rack::{Places, Rack};
+use raid_map::CHUNK_SECTORS;
+
+/// The next row of a place's member that is left to rebuild.
+fn next_row(array: &Array, place: u32) -> u64
+    requires { HasRowLeft array.now place }
+    ensures { result ≡ reach_on array.now place / 128 }
+{
+    match array.seat(place) {
+        Some(Seat::Rebuilding { to }) => to / CHUNK_SECTORS,
+        Some(Seat::Whole) | Some(Seat::Missing) | None => 0,
+    }
+}
+
+/// The change by which a row of a place's member is rebuilt: all rows before it are, and it ends the rebuild where it is the last.
+fn next_change(array: &Array, place: u32, row: u64) -> Change
+    requires { row < rows_of array.now }
+    ensures change { result ≡ rebuilt_by array.now place ((row + 1) * 128) }
+    ensures truth { is_truth result.truth ≡ true }
+{
+    array.rules();
+    array.rebuilt_to(place, (row + 1) * CHUNK_SECTORS)
+}
+
+/// The answer to a row of a rebuild: it is refused where the row can't be had.
+fn answer(array: &Array, row: u64) -> Result<(), Spent>
+    requires { row < rows_of array.now }
+    ensures served { OnOk result (row_spent array.now row ≡ false) }
+    ensures refused { IfErr result (λ e. (e.sector ≡ first_of_row (row_layout array.now (row * 128)) (row * 128)) × (row_spent array.now row ≡ true)) }
+{
+    array.rules();
+    if is_row_spent(array, row) {
+        Err(Spent {
+            sector: array.first_in_row(row * CHUNK_SECTORS),
+        })
+    } else {
+        Ok(())
+    }
+}
+
+/// Rebuilds the next row of a place's member: its sectors are computed from the other members. One commit of the log has them and the
+/// superblocks by which that member counts in the row; the last row's say that it is whole. It is durable when the call returns, and
+/// no value of the array has changed.
+/// It is refused exactly where another member is missing after the losses of this call, or isn't rebuilt past the row, or the row is
+/// left to resync. Where the member itself went, its row stands in the log's record, and it is missing.
+pub fn rebuild_row<R: Rack>(
+    array: &mut Array,
+    rack: &mut R,
+    log: &mut Log,
+    on: &Places,
+    place: u32,
+) -> Result<(), Spent>
+    requires slices { HasSlices array.old (R.seen rack.old) }
+    requires disks { (R.seen rack.old).disks ≡ 272 }
+    requires logs { AreLogs (R.seen rack.old).sectors on.now.items }
+    requires empty { log.old.added ≡ [] }
+    requires row { HasRowLeft array.old place }
+    ensures steps { Steps array.old (rebuilt array.old place) array.new log.old.number log.new.number on.now.items (R.seen rack.old) (R.seen rack.new) (is_ok result) }
+    ensures elsewhere { KeepsElsewhere false array.old on.now.items (R.seen rack.old) (R.seen rack.new) }
+    ensures goes { Goes (R.seen rack.old) (R.seen rack.new) }
+    ensures log { (log.new ≡ emptied log.old) ⊎ (log.new ≡ committed log.old) }
+    ensures runs { R.runs rack.old rack.new }
+    ensures served { OnOk result (others_give array.new place (reach_on array.old place / 128) ≡ true) }
+    ensures refused { IfErr result (λ e. (e.sector ≡ first_of_row (row_layout array.old (reach_on array.old place)) (reach_on array.old place))
+        × (others_give array.new place (reach_on array.old place / 128) ≡ false)) }
+{
+    array.rules();
+    array.unsynced_rows();
+    let position = array.position(place);
+    let row = next_row(array, place);
+    let change = next_change(array, place, row);
+    array.stage(log, &change);
+    if !stage_member(array, rack, log, position, row) {
+        log.clear();
+        return answer(array, row);
+    }
+    let lost = log.commit(rack, on);
+    array.note_all(&lost);
+    array.rules();
+    let answered = answer(array, row);
+    array.adopt(&change);
+    answered
+}

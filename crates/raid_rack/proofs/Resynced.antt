@@ -1,0 +1,317 @@
+-- The code that resyncs a row of an array, as a part of a call of all.
+use Rattle.std.proofs.Common.{◌≡◌, ◌⊎◌, ℕ, zero, suc, ◌+◌, ◌-◌, ◌*◌, ◌/◌, ◌%◌, ◌^◌, ◌<◌, ◌≤◌, Bool, true, false, ◌==◌, ◌&&◌, not, nat_lt, if◌then◌else◌, List, map, set, length, get_or, slice_get, Option, Result, Ok, Err, is_ok, OnOk, IfErr, refl, sym, ap, subst, ◌∙◌, inl, inr, eq-eqb, eqb-true, lt-ltb, le-ltb, ltb-true, arith}
+use Rattle.std.proofs.lemmas.Bool.{both_ways, cases_Bool, cases_lt, and_parts, ltb-false}
+use Rattle.std.specs.List.{list_all, range_with_len}
+use Rattle.std.specs.Option.{option_map_or}
+use Rattle.arrayvec.specs.ArrayVec.{ArrayVec}
+use Rattle.rack.specs.Values.{Values}
+use Rattle.rack.specs.Seen.{Seen}
+use Rattle.pool_state.specs.declared.contents.State.{State}
+use Rattle.array_image.specs.Spent.{wanting}
+use Rattle.array_image.specs.States.{current_places}
+use Rattle.array_image.specs.Supers.{is_reshaping}
+use Rattle.commit_log.specs.View.{LogView, emptied, committed}
+use Rattle.array_model.specs.declared.Seat.{Seat}
+use Rattle.array_model.specs.View.{View, has_gone, is_whole_seat, member_on, rows_of, seat_reach}
+use Rattle.array_model.specs.Members.{members_of}
+use Rattle.array_model.specs.ArrayCalls.{Covers}
+use Rattle.array_core.specs.Pool.{Goes}
+use Rattle.array_core.specs.Superblocks.{is_settled, left_offset}
+use Rattle.array_core.specs.Writing.{KeepsElsewhere}
+use Rattle.array_sync.specs.Rows.{lacks_row}
+use Rattle.array_sync.specs.Steps.{Stepped, Steps, as_it_was, done, offset_after, resynced}
+use Rattle.raid_rack.specs.declared.arrays.Arrays.{Arrays}
+use Rattle.raid_rack.specs.Raid.{Raid, is_over}
+use Rattle.raid_rack.specs.Moves.{AreCaused, Brings, IsAmid, IsHeeded, IsSeated, LosesOnly, Mends}
+use Rattle.raid_rack.specs.Rows.{LeavesRows}
+use Rattle.raid_rack.specs.RaidRack.{IsRunning, raid_by, no_array}
+use Rattle.raid_rack.specs.Works.{StepsOne, stepped}
+use Rattle.raid_rack.proofs.Calls.{raised_low, unsynced_by}
+use Rattle.raid_rack.proofs.Changed.{caused, left_before}
+use Rattle.raid_rack.proofs.Committed.{next_later}
+use Rattle.raid_rack.proofs.Losing.{only_then}
+use Rattle.raid_rack.proofs.Moving.{brings_then, caused_then}
+use Rattle.raid_rack.proofs.Raises.{raised_up}
+use Rattle.raid_rack.proofs.Rows.{left_old}
+use Rattle.raid_rack.proofs.Sent.{low_named}
+use Rattle.raid_rack.proofs.Stepped.{StepCall, done_rows, step_arrays, step_brings, views}
+use Rattle.raid_rack.proofs.Steps.{set_own, set_other, length_set}
+use Rattle.raid_rack.proofs.Views.{IsNext}
+
+-- ---- the array once its row is resynced
+
+offset_whole : (v : View) (b : Bool) → nat_lt (v.resync + 1) (rows_of v) ≡ b → (offset_after v (v.resync + 1) ≡ 2 ^ 64 - 1) ⊎ (offset_after v (v.resync + 1) % 128 ≡ 0)
+offset_whole v true is =
+    let at : offset_after v (v.resync + 1) ≡ (v.resync + 1) * 128 = ap (λ (t : Bool). if t then (v.resync + 1) * 128 else 2 ^ 64 - 1) is in
+    inr (omega (arith, at))
+offset_whole v false is = inl (ap (λ (t : Bool). if t then (v.resync + 1) * 128 else 2 ^ 64 - 1) is)
+
+offset_rows : (v : View) (b : Bool) → v.truth.size < 2 ^ 48 → v.resync < rows_of v → nat_lt (v.resync + 1) (rows_of v) ≡ b
+    → (if nat_lt (offset_after v (v.resync + 1)) v.truth.size then offset_after v (v.resync + 1) / 128 else v.truth.size / 128) ≤ v.resync + 1
+offset_rows v true small row is =
+    let at : offset_after v (v.resync + 1) ≡ (v.resync + 1) * 128 = ap (λ (t : Bool). if t then (v.resync + 1) * 128 else 2 ^ 64 - 1) is in
+    let low = ltb-true (v.resync + 1) (rows_of v) is in
+    unsynced_by (offset_after v (v.resync + 1)) v.truth.size (v.resync + 1) (λ below. omega (arith, at)) (λ above. omega (arith, at, above, low))
+offset_rows v false small row is =
+    let at : offset_after v (v.resync + 1) ≡ 2 ^ 64 - 1 = ap (λ (t : Bool). if t then (v.resync + 1) * 128 else 2 ^ 64 - 1) is in
+    let high = ltb-false (v.resync + 1) (rows_of v) is in
+    unsynced_by (offset_after v (v.resync + 1)) v.truth.size (v.resync + 1) (λ below. absurd (omega (arith, at, small, below))) (λ above. omega (arith, high))
+
+pub resynced_settled : (v : View) → v.young ≡ false → is_settled (resynced v) ≡ true
+resynced_settled v young =
+    eq-eqb (offset_after v (v.resync + 1)) (left_offset (resynced v)) (sym (left_old (resynced v) young))
+
+-- an array that has a row left isn't young
+pub grown : (s : State) (m : ℕ) (u : View) (x : Seen) → IsSeated s m u x → u.resync < rows_of u → u.young ≡ false
+grown s m u x seated row =
+    elim (cases_Bool u.young) [
+      | inl young ↦ absurd (let none = seated.is_of_pool.zeroed young in omega (arith, none, row))
+      | inr not_young ↦ not_young
+    ]
+
+next_resynced : (s : State) (m : ℕ) (u : View) (x : Seen) → IsSeated s m u x → u.resync < rows_of u → IsNext s m u (resynced u) x
+next_resynced s m u x seated row =
+    let a = seated.is_array in
+    let pool = seated.is_of_pool in
+    let events = raised_low u.truth.events pool.events pool.events_end in
+    let young = grown s m u x seated row in
+    record {
+      seated = record {
+        is_array = record {
+          few = a.few;
+          level = a.level;
+          least = a.least;
+          most = a.most;
+          seats = a.seats;
+          devices = a.devices;
+          small = a.small;
+          whole_rows = a.whole_rows;
+          placed = a.placed;
+          synced = omega (arith, row);
+          reshape = a.reshape;
+        };
+        number = seated.number;
+        slices = record { fit = seated.slices.fit; lasting = seated.slices.lasting; disks = seated.slices.disks; sectors = seated.slices.sectors };
+        marks = seated.marks;
+        is_of_pool = record {
+          set = pool.set;
+          profile = pool.profile;
+          events = let more = events.0 in let some = pool.events in omega (arith, more, some);
+          events_end = events.1;
+          row = pool.row;
+          roles = pool.roles;
+          unsynced = offset_rows u (nat_lt (u.resync + 1) (rows_of u)) a.small row refl;
+          zeroed = λ is. absurd (both_ways u.young young is);
+          rows = pool.rows;
+        };
+      };
+      went = refl;
+      sectors = refl;
+      written = λ written. record {
+        name = written.name;
+        times = written.times;
+        roles = written.roles;
+        step = written.step;
+        next_level = written.next_level;
+        next_layout = written.next_layout;
+        next_chunk = written.next_chunk;
+        position = written.position;
+        last_position = written.last_position;
+        no_position = written.no_position;
+        resync = offset_whole u (nat_lt (u.resync + 1) (rows_of u)) refl;
+      };
+      events = events.0;
+      seats = omega arith;
+      was = λ marked. absurd (both_ways false refl marked);
+      whole = λ all.
+          let parts = and_parts (list_all is_whole_seat u.seats) ((u.resync == rows_of u) && (not u.young && not (is_reshaping u.truth))) all in
+          let same = eqb-true u.resync (rows_of u) (and_parts (u.resync == rows_of u) (not u.young && not (is_reshaping u.truth)) parts.1).0 in
+          absurd (omega (arith, same, row));
+    }
+
+-- ---- members that are missing
+
+-- whoever isn't lost counts as far as before
+pub member_less : (u w : View) (k t : ℕ) → LosesOnly u w → t < (member_on w k).reach → t < (member_on u k).reach
+member_less u w k t only counts =
+    elim (only.seats k) [
+      | inl same ↦
+          subst (λ (size : ℕ). t < option_map_or (seat_reach size) (slice_get u.seats k) 0) only.same.geometry.size
+          (subst (λ (o : Option Seat). t < option_map_or (seat_reach w.truth.size) o 0) same counts)
+      | inr lost ↦
+          absurd (let none = subst (λ (o : Option Seat). t < option_map_or (seat_reach w.truth.size) o 0) lost counts in omega (arith, none))
+    ]
+
+wanting_less : (u w : View) (t a n : ℕ) → LosesOnly u w → wanting t (map (member_on u) (range_with_len a n)) ≤ wanting t (map (member_on w) (range_with_len a n))
+wanting_less u w t a zero only = omega arith
+wanting_less u w t a (suc n) only =
+    let rest = wanting_less u w t (a + 1) n only in
+    elim (cases_lt t (member_on w a).reach) [
+      | inl counts ↦
+          let one = lt-ltb t (member_on w a).reach counts in
+          let two = lt-ltb t (member_on u a).reach (member_less u w a t only counts) in
+          let more : ℕ = wanting t (map (member_on w) (range_with_len (a + 1) n)) in
+          let fewer : ℕ = wanting t (map (member_on u) (range_with_len (a + 1) n)) in
+          subst (λ (b : Bool). (if b then fewer else suc fewer) ≤ (if nat_lt t (member_on w a).reach then more else suc more)) (sym two)
+          (subst (λ (b : Bool). fewer ≤ (if b then more else suc more)) (sym one) rest)
+      | inr wants ↦
+          let one = le-ltb t (member_on w a).reach wants in
+          let more : ℕ = wanting t (map (member_on w) (range_with_len (a + 1) n)) in
+          let fewer : ℕ = wanting t (map (member_on u) (range_with_len (a + 1) n)) in
+          subst (λ (b : Bool). (if nat_lt t (member_on u a).reach then fewer else suc fewer) ≤ (if b then more else suc more)) (sym one)
+          (either (nat_lt t (member_on u a).reach) fewer more rest)
+    ]
+  where
+    either : (b : Bool) (fewer more : ℕ) → fewer ≤ more → (if b then fewer else suc fewer) ≤ suc more
+    either true fewer more rest = omega (arith, rest)
+    either false fewer more rest = omega (arith, rest)
+
+-- a row that lacks nobody after losses lacked nobody before them
+pub lacks_less : (u w : View) (row : ℕ) → LosesOnly u w → lacks_row w row ≡ false → lacks_row u row ≡ false
+lacks_less u w row only lacks =
+    let t = row * 128 + 127 in
+    let less = subst (λ n. wanting t (members_of u) ≤ wanting t (map (member_on w) (range_with_len 0 n))) (sym only.same.geometry.disks) (wanting_less u w t 0 u.truth.raid_disks only) in
+    let none : wanting t (members_of w) ≤ 0 = ltb-false 0 (wanting t (members_of w)) lacks in
+    le-ltb 0 (wanting t (members_of u)) (omega (arith, less, none))
+
+-- ---- the code
+
+-- what the resync of a row says of the array, before it and after it
+pub record ResyncedRow (old u : View) (number late : ℕ) (on : List ℕ) (x y : Seen) (answered : Bool) : Type 0 where
+  pub steps : Steps old (resynced old) u number late on x y answered
+  pub elsewhere : KeepsElsewhere false old on x y
+  pub served : answered ≡ true → lacks_row u old.resync ≡ false
+  pub refused : answered ≡ false → lacks_row u old.resync ≡ true
+
+-- what a step says of all arrays, where it is refused of an array that lacks somebody
+pub record HasStepped (a b : Arrays) (x y : Seen) (m : ℕ) (next : View) (lacks : View → Bool) (answered : Bool) : Type 0 where
+  pub is_done : Bool
+  pub refused : answered ≡ false → lacks ((raid_by b).arrays m) ≡ true
+  pub answer : answered ≡ true → is_done ≡ true
+  pub brings : Brings (raid_by a) (raid_by b) x y (λ n vals. vals)
+  pub caused : AreCaused (raid_by a) (raid_by b) x y
+  pub running : IsRunning b y
+  pub arrays : (n : ℕ) → n < a.state.made → LosesOnly (stepped (raid_by a) m next is_done n) ((raid_by b).arrays n)
+  pub plan : b.state.plan ≡ a.state.plan
+  pub durable :
+      is_done ≡ true → is_settled next ≡ true → next.young ≡ false
+      → (vals : ℕ → Values) (spent : ℕ → Bool) → is_over (raid_by b) m ≡ false → Covers ((raid_by b).arrays m) spent
+      → IsAmid (raid_by a) x m vals spent → LeavesRows (raid_by b) y m
+
+pub has_resynced : (a : Arrays) (all : ArrayVec View) (log : LogView) (x y : Seen) (n : ℕ) (on : List ℕ) (number : ℕ) (old u : View) (answered : Bool)
+    → IsRunning a x → IsHeeded (raid_by a) → n < a.state.made → ((raid_by a).arrays n).resync < rows_of ((raid_by a).arrays n)
+    → old ≡ get_or a.all.items n no_array → all.items ≡ set a.all.items n u → number ≡ a.log.number → number ≤ log.number
+    → on ≡ current_places a.state → list_all (λ place. nat_lt place 16) u.went ≡ true → Goes x y
+    → ResyncedRow old u number log.number on x y answered
+    → HasStepped a (record a { all = all; log = log }) x y n (resynced ((raid_by a).arrays n)) (λ u. lacks_row u ((raid_by a).arrays n).resync) answered
+has_resynced a all log x y n on number old u answered running heeded low row old_is all_is number_is later on_is few goes resynced_row =
+    let f : ℕ → View = λ k. get_or all.items k no_array in
+    let v = raid_by a in
+    let own : f n ≡ u = ap (λ ys. get_or ys n no_array) all_is ∙ set_own a.all.items n u no_array (let count = running.count in omega (arith, low, count)) in
+    let others : (k : ℕ) → (k ≡ n → ⊥) → f k ≡ v.arrays k = λ k other. ap (λ ys. get_or ys k no_array) all_is ∙ set_other a.all.items n k u no_array other in
+    let at : ResyncedRow (v.arrays n) (f n) v.number log.number on x y answered =
+    subst (λ (z : View). ResyncedRow z (f n) v.number log.number on x y answered) old_is
+    (subst (λ (z : View). ResyncedRow old z v.number log.number on x y answered) (sym own)
+    (subst (λ k. ResyncedRow old u k log.number on x y answered) number_is resynced_row)) in
+    let seated = running.set.arrays n low in
+    let young = grown a.state n (v.arrays n) x seated row in
+    let next = resynced (v.arrays n) in
+    let call : StepCall v f (resynced (v.arrays n)) log.number n x y on answered = record {
+      heeded = heeded;
+      low = low;
+      others = others;
+      goes = goes;
+      later = subst (λ k. k ≤ log.number) number_is later;
+      on_is = on_is;
+      few = λ p is. low_named u.went p few (sym (ap (λ (z : View). has_gone z p) own) ∙ is);
+      is_next = next_resynced a.state n (v.arrays n) x seated row;
+      rows = omega arith;
+      young = refl;
+      whole = offset_whole (v.arrays n) (nat_lt ((v.arrays n).resync + 1) (rows_of (v.arrays n))) refl;
+      settled = λ is was. resynced_settled (v.arrays n) is;
+      steps = at.steps;
+      elsewhere = at.elsewhere;
+    } in
+    let brings = step_brings v f next log.number n x y on answered running.set call in
+    let seen = views v f next log.number n x y on answered running.set call in
+    record {
+      is_done = at.steps.is_done;
+      refused = at.refused;
+      answer = at.steps.answer;
+      brings = brings;
+      caused = record { left = left_before v f n x y running.set seen; cause = caused v f n x y running.set seen };
+      running = record { count = ap length all_is ∙ length_set a.all.items n u ∙ running.count; set = brings.set };
+      arrays = step_arrays v f next log.number n x y on answered running.set call;
+      plan = refl;
+      durable = λ is settled grown vals spent goes covers amid.
+          done_rows v f next log.number n x y on answered running.set call is settled grown vals spent goes covers amid;
+    }
+
+-- a row that is resynced changes no member's size
+pub stepped_rows : (v : Raid) (w : View) (n : ℕ) (is_done : Bool) → LosesOnly (stepped v n (resynced (v.arrays n)) is_done n) w → rows_of w ≡ rows_of (v.arrays n)
+stepped_rows v w n is_done only = ap (λ size. size / 128) only.same.geometry.size ∙ of ((n == n) && is_done)
+  where
+    of : (b : Bool) → rows_of (if b then resynced (v.arrays n) else v.arrays n) ≡ rows_of (v.arrays n)
+    of true = refl
+    of false = refl
+
+-- a step's number is that before it, or the next one
+pub step_later : (before after : LogView) → (after ≡ emptied before) ⊎ (after ≡ committed before) → before.number ≤ after.number
+step_later before after (inl same) = let is = ap (λ (l : LogView). l.number) same in omega (arith, is)
+step_later before after (inr next) = subst (λ (l : LogView). before.number ≤ l.number) (sym next) (next_later before.number)
+
+pub step_raise : (before after : LogView) → (after ≡ emptied before) ⊎ (after ≡ committed before) → after.number ≤ before.number + 1
+step_raise before after (inl same) = let is = ap (λ (l : LogView). l.number) same in omega (arith, is)
+step_raise before after (inr next) = let is = ap (λ (l : LogView). l.number) next in let up = raised_up before.number in omega (arith, is, up)
+
+pub resynced_raise : (old u : View) (x y : Seen) (is_done : Bool) → Stepped old (resynced old) u x y is_done → u.truth.events ≤ old.truth.events + 1
+resynced_raise old u x y false (as_it_was notes) = let e = ap (λ t. t.events) notes.same.truth in omega (arith, e)
+resynced_raise old u x y true (done notes) = let e = ap (λ t. t.events) notes.same.truth in let up = raised_up old.truth.events in omega (arith, e, up)
+
+-- a step, and the mending after it: what is answered after that to have been done was
+pub step_mended : (a b c : Arrays) (x y z : Seen) (m : ℕ) (next : View) (lacks : View → Bool) (did answered : Bool) → m < a.state.made → HasStepped a b x y m next lacks did
+    → Mends (raid_by b) (raid_by c) y z → (answered ≡ true → did ≡ true)
+    → StepsOne (raid_by a) (raid_by c) x z m next answered
+step_mended a b c x y z m next lacks did answered low one mends served =
+    let made : (n : ℕ) → n < a.state.made → n < b.state.made = λ n below. subst (λ k. n < k) (sym one.brings.book.same.made) below in
+    record {
+      is_done = one.is_done;
+      answer = λ ok. one.answer (served ok);
+      brings = brings_then (raid_by a) (raid_by b) (raid_by c) x y z (λ n vals. vals) one.brings mends.moves;
+      caused = caused_then (raid_by a) (raid_by b) (raid_by c) x y z one.brings.stays mends.moves.stays one.caused
+          (record { left = mends.moves.left; cause = mends.moves.cause });
+      heeded = mends.heeded;
+      arrays = λ n below.
+          only_then (stepped (raid_by a) m next one.is_done n) ((raid_by b).arrays n) ((raid_by c).arrays n) (one.arrays n below) (mends.moves.arrays n (made n below));
+      plan = mends.moves.plan ∙ one.plan;
+      durable = λ is settled young vals spent joined goes covers amid.
+          let there = made m low in
+          let mid_goes = mends.moves.still m there goes in
+          let covered : Covers ((raid_by b).arrays m) spent = λ y alive. mends.moves.spent m y there (covers y alive) in
+          (mends.moves.rows m vals spent (subst (λ k. m < k) (sym one.brings.book.same.joined) joined) there goes covers
+          ((one.brings.parts m vals spent joined low mid_goes covered).holds amid)
+          (one.durable is settled young vals spent mid_goes covered amid)).after;
+    }
+
+-- so it was where whoever goes is one whose loss lacks nothing that it needed
+pub steps_one : (a b c : Arrays) (x y z : Seen) (m : ℕ) (next : View) (lacks : View → Bool) (did answered : Bool) → m < a.state.made → HasStepped a b x y m next lacks did
+    → Mends (raid_by b) (raid_by c) y z
+    → ((u w : View) → LosesOnly u w → lacks w ≡ false → lacks u ≡ false) → (answered ≡ true → lacks ((raid_by c).arrays m) ≡ false)
+    → StepsOne (raid_by a) (raid_by c) x z m next answered
+steps_one a b c x y z m next lacks did answered low one mends less served =
+    let made : m < b.state.made = subst (λ k. m < k) (sym one.brings.book.same.made) low in
+    step_mended a b c x y z m next lacks did answered low one mends
+    (λ ok. elim (cases_Bool did) [
+      | inl yes_done ↦ yes_done
+      | inr none ↦
+          absurd (both_ways (lacks ((raid_by b).arrays m)) (less ((raid_by b).arrays m) ((raid_by c).arrays m) (mends.moves.arrays m made) (served ok)) (one.refused none))
+    ])
+
+-- the answers of a row call
+pub answered_served : {E : Type 0} (lacks : Bool) (r : Result (Unit {0}) E) → OnOk r (lacks ≡ false) → is_ok r ≡ true → lacks ≡ false
+answered_served lacks (Ok x) served is = served
+answered_served lacks (Err e) served is = absurd (both_ways false refl is)
+
+pub answered_refused : {E : Type 0} (lacks : Bool) (P : E → Type 0) (r : Result (Unit {0}) E) → IfErr r (λ e. P e × (lacks ≡ true)) → is_ok r ≡ false → lacks ≡ true
+answered_refused lacks P (Ok x) refused is = absurd (both_ways true is refl)
+answered_refused lacks P (Err e) refused is = refused.1

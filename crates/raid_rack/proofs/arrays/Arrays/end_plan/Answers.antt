@@ -1,0 +1,128 @@
+use Rattle.std.proofs.Common.{◌<◌, List, length, get_or, ap, sym, subst, ◌∙◌, eqb-true}
+use Rattle.std.proofs.lemmas.Option.{slice_get-get_or}
+use Rattle.arrayvec.specs.ArrayVec.{with_items}
+use Rattle.rack.specs.Targets.{Target}
+use Rattle.pool_state.specs.declared.contents.State.{State}
+use Rattle.commit_log.specs.View.{LogView}
+use Rattle.array_core.specs.Seats.{gone as without}
+use Rattle.raid_rack.specs.Losses.{AddsCopies}
+use Rattle.raid_rack.proofs.Mended.{each_items}
+use Rattle.raid_rack.proofs.Worked.{close_places, closes_alone, closes_empty, closes_one, closes_raise, closing_of, copies_distinct, copies_had, copies_valid, has_closed}
+use Rattle.raid_rack.proofs.arrays.Arrays.end_plan.Goals as goal
+
+pub returns-then-is_empty-clause-closes : goal.returns-then-is_empty-clause-closes
+returns-then-is_empty-clause-closes g c =
+    let a = c.args.self.now in
+    let x = g.S.Rack.seen c.args.rack.now in
+    let on = c.current_places-on.result.items in
+    closes_alone a (record a { state = c.end_plan.new.state; log = c.clear.new.self }) x x
+    (λ n low. c.requires.heeded n (subst (λ (s : State). n < s.made) c.end_plan.ensures low))
+    (closes_empty a c.end_plan.new.state c.clear.new.self on x c.requires.running c.requires.heeded c.end_plan.ensures c.current_places-on.ensures
+    (eqb-true (length on) 0 (sym c.if-is_empty.ensures)) (ap (λ (l : LogView). l.number) c.clear.ensures))
+
+pub returns-then-is_empty-clause-running : goal.returns-then-is_empty-clause-running
+returns-then-is_empty-clause-running g c =
+    let a = c.args.self.now in
+    let x = g.S.Rack.seen c.args.rack.now in
+    let on = c.current_places-on.result.items in
+    let one = closes_empty a c.end_plan.new.state c.clear.new.self on x c.requires.running c.requires.heeded c.end_plan.ensures c.current_places-on.ensures
+    (eqb-true (length on) 0 (sym c.if-is_empty.ensures)) (ap (λ (l : LogView). l.number) c.clear.ensures) in
+    one.running
+
+pub add_copies-requires-clause-valid : goal.add_copies-requires-clause-valid
+add_copies-requires-clause-valid g c n place at =
+    (close_places c.args.self.now c.end_plan.new.state c.current_places-on.result.items n place (g.S.Rack.seen c.args.rack.now) c.requires.running c.requires.heeded
+    c.end_plan.ensures c.current_places-on.ensures at).0
+
+pub add_copies-requires-clause-places : goal.add_copies-requires-clause-places
+add_copies-requires-clause-places g c n place at =
+    (close_places c.args.self.now c.end_plan.new.state c.current_places-on.result.items n place (g.S.Rack.seen c.args.rack.now) c.requires.running c.requires.heeded
+    c.end_plan.ensures c.current_places-on.ensures at).1
+
+pub commit-gone-requires-clause-logs : goal.commit-gone-requires-clause-logs
+commit-gone-requires-clause-logs g c j low =
+    let on = c.current_places-on.result.items in
+    let at = close_places c.args.self.now c.end_plan.new.state on j (get_or on j 0) (g.S.Rack.seen c.args.rack.now) c.requires.running c.requires.heeded
+    c.end_plan.ensures c.current_places-on.ensures (slice_get-get_or on j 0 low) in
+    (at.1, at.2)
+
+pub commit-gone-requires-clause-valid : goal.commit-gone-requires-clause-valid
+commit-gone-requires-clause-valid g c =
+    copies_valid c.args.self.now c.end_plan.new.state c.current_places-on.result.items c.add_copies.new.log (g.S.Rack.seen c.args.rack.now)
+    (record {
+      running = c.requires.running;
+      heeded = c.requires.heeded;
+      t_is = c.end_plan.ensures;
+      on_is = c.current_places-on.ensures;
+      copies = subst (λ (xs : List Target). AddsCopies c.end_plan.new.state c.current_places-on.result.items xs c.add_copies.new.log.added) (ap (λ (l : LogView). l.added) c.clear.ensures) c.add_copies.ensures.added;
+    })
+
+pub commit-gone-requires-clause-apart : goal.commit-gone-requires-clause-apart
+commit-gone-requires-clause-apart g c =
+    copies_distinct c.args.self.now c.end_plan.new.state c.current_places-on.result.items c.add_copies.new.log (g.S.Rack.seen c.args.rack.now)
+    (record {
+      running = c.requires.running;
+      heeded = c.requires.heeded;
+      t_is = c.end_plan.ensures;
+      on_is = c.current_places-on.ensures;
+      copies = subst (λ (xs : List Target). AddsCopies c.end_plan.new.state c.current_places-on.result.items xs c.add_copies.new.log.added) (ap (λ (l : LogView). l.added) c.clear.ensures) c.add_copies.ensures.added;
+    })
+
+pub commit-gone-requires-clause-had : goal.commit-gone-requires-clause-had
+commit-gone-requires-clause-had g c =
+    copies_had c.args.self.now c.end_plan.new.state c.current_places-on.result.items c.add_copies.new.log (g.S.Rack.seen c.args.rack.now)
+    (record {
+      running = c.requires.running;
+      heeded = c.requires.heeded;
+      t_is = c.end_plan.ensures;
+      on_is = c.current_places-on.ensures;
+      copies = subst (λ (xs : List Target). AddsCopies c.end_plan.new.state c.current_places-on.result.items xs c.add_copies.new.log.added) (ap (λ (l : LogView). l.added) c.clear.ensures) c.add_copies.ensures.added;
+    })
+
+pub mend-requires : goal.mend-requires
+mend-requires g c =
+    let a = c.args.self.now in
+    let x = g.S.Rack.seen c.args.rack.now in
+    let y = g.S.Rack.seen c.commit-gone.new.rack in
+    let on = c.current_places-on.result.items in
+    let gone = c.commit-gone.result.items in
+    let after = each_items a.all c.as_mut_slice.result.now c.note_gone.new.arrays (without gone) c.as_mut_slice.ensures.value c.note_gone.ensures in
+    let closing = closing_of a (with_items a.all c.note_gone.new.arrays) c.end_plan.new.state c.add_copies.new.log on gone x y c.requires.running c.requires.heeded
+    c.end_plan.ensures c.current_places-on.ensures
+    (subst (λ (xs : List Target). AddsCopies c.end_plan.new.state on xs c.add_copies.new.log.added) (ap (λ (l : LogView). l.added) c.clear.ensures) c.add_copies.ensures.added)
+    (ap (λ (l : LogView). l.number) c.add_copies.ensures.log ∙ ap (λ (l : LogView). l.number) c.clear.ensures) c.commit-gone.ensures.commits after.0 in
+    let one = has_closed a (with_items a.all c.note_gone.new.arrays) c.end_plan.new.state c.commit-gone.new.self c.add_copies.new.log on gone x y c.requires.running closing
+    c.end_plan.ensures after.1 (ap (λ (l : LogView). l.number) c.commit-gone.ensures.log) in
+    record { running = one.running }
+
+pub returns-clause-closes : goal.returns-clause-closes
+returns-clause-closes g c =
+    let a = c.args.self.now in
+    let x = g.S.Rack.seen c.args.rack.now in
+    let y = g.S.Rack.seen c.commit-gone.new.rack in
+    let on = c.current_places-on.result.items in
+    let gone = c.commit-gone.result.items in
+    let after = each_items a.all c.as_mut_slice.result.now c.note_gone.new.arrays (without gone) c.as_mut_slice.ensures.value c.note_gone.ensures in
+    let closing = closing_of a (with_items a.all c.note_gone.new.arrays) c.end_plan.new.state c.add_copies.new.log on gone x y c.requires.running c.requires.heeded
+    c.end_plan.ensures c.current_places-on.ensures
+    (subst (λ (xs : List Target). AddsCopies c.end_plan.new.state on xs c.add_copies.new.log.added) (ap (λ (l : LogView). l.added) c.clear.ensures) c.add_copies.ensures.added)
+    (ap (λ (l : LogView). l.number) c.add_copies.ensures.log ∙ ap (λ (l : LogView). l.number) c.clear.ensures) c.commit-gone.ensures.commits after.0 in
+    let one = has_closed a (with_items a.all c.note_gone.new.arrays) c.end_plan.new.state c.commit-gone.new.self c.add_copies.new.log on gone x y c.requires.running closing
+    c.end_plan.ensures after.1 (ap (λ (l : LogView). l.number) c.commit-gone.ensures.log) in
+    closes_one a _ c.mend.new.self x y (g.S.Rack.seen c.mend.new.rack) one c.mend.ensures.mends
+
+pub returns-clause-raises : goal.returns-clause-raises
+returns-clause-raises g c =
+    let a = c.args.self.now in
+    let x = g.S.Rack.seen c.args.rack.now in
+    let y = g.S.Rack.seen c.commit-gone.new.rack in
+    let on = c.current_places-on.result.items in
+    let gone = c.commit-gone.result.items in
+    let after = each_items a.all c.as_mut_slice.result.now c.note_gone.new.arrays (without gone) c.as_mut_slice.ensures.value c.note_gone.ensures in
+    let closing = closing_of a (with_items a.all c.note_gone.new.arrays) c.end_plan.new.state c.add_copies.new.log on gone x y c.requires.running c.requires.heeded
+    c.end_plan.ensures c.current_places-on.ensures
+    (subst (λ (xs : List Target). AddsCopies c.end_plan.new.state on xs c.add_copies.new.log.added) (ap (λ (l : LogView). l.added) c.clear.ensures) c.add_copies.ensures.added)
+    (ap (λ (l : LogView). l.number) c.add_copies.ensures.log ∙ ap (λ (l : LogView). l.number) c.clear.ensures) c.commit-gone.ensures.commits after.0 in
+    let one = has_closed a (with_items a.all c.note_gone.new.arrays) c.end_plan.new.state c.commit-gone.new.self c.add_copies.new.log on gone x y c.requires.running closing
+    c.end_plan.ensures after.1 (ap (λ (l : LogView). l.number) c.commit-gone.ensures.log) in
+    closes_raise a _ c.mend.new.self x y one c.mend.ensures.raises

@@ -1,0 +1,19 @@
+use Rattle.std.proofs.Common.{refl}
+use Rattle.slice_rack.specs.SliceRack.{tables, below_of}
+use Rattle.raid_rack.specs.Laws.{stops_inside}
+use Rattle.raid_rack.specs.RaidRack.{written_in}
+use Rattle.raid_rack.proofs.Serving.{brings_keep, runs_call}
+use Rattle.raid_rack.proofs.arrays.RaidRack.close.Goals as goal
+
+pub returns-clause-keeps : goal.returns-clause-keeps
+returns-clause-keeps g c =
+    brings_keep c.args.self.now.arrays c.end_plan.new.self _ _ c.requires.fit
+    (record { running = c.end_plan.ensures.running; heeded = c.end_plan.ensures.closes.heeded })
+    (stops_inside (tables c.end_plan.new.rack) (g.R.Rack.seen (below_of c.end_plan.new.rack))) c.end_plan.ensures.closes.brings
+
+pub returns-clause-book : goal.returns-clause-book
+returns-clause-book g c =
+    runs_call (written_in c.args.self.now) (written_in c.args.self.now) c.args.self.now.arrays c.end_plan.new.self _ _ (λ n vals. vals)
+    (λ n not. (not, λ was. refl)) c.requires.fit
+    (record { running = c.end_plan.ensures.running; heeded = c.end_plan.ensures.closes.heeded })
+    (stops_inside (tables c.end_plan.new.rack) (g.R.Rack.seen (below_of c.end_plan.new.rack))) c.end_plan.ensures.closes.brings c.end_plan.ensures.closes.caused

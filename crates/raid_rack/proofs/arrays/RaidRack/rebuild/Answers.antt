@@ -1,0 +1,32 @@
+use Rattle.std.proofs.Common.{refl}
+use Rattle.slice_rack.specs.SliceRack.{tables, below_of}
+use Rattle.raid_rack.specs.Laws.{stops_inside}
+use Rattle.raid_rack.specs.RaidRack.{written_in}
+use Rattle.raid_rack.proofs.Serving.{brings_keep, runs_call}
+use Rattle.raid_rack.proofs.arrays.RaidRack.rebuild.Goals as goal
+
+pub returns-then-rebuild_array-clause-keeps : goal.returns-then-rebuild_array-clause-keeps
+returns-then-rebuild_array-clause-keeps g c =
+    brings_keep c.args.self.now.arrays c.rebuild_array.new.self _ _ c.requires.fit
+    (record { running = c.rebuild_array.ensures.running; heeded = c.rebuild_array.ensures.rebuilds.steps.heeded })
+    (stops_inside (tables c.rebuild_array.new.rack) (g.R.Rack.seen (below_of c.rebuild_array.new.rack))) c.rebuild_array.ensures.rebuilds.steps.brings
+
+pub returns-then-rebuild_array-clause-book : goal.returns-then-rebuild_array-clause-book
+returns-then-rebuild_array-clause-book g c =
+    runs_call (written_in c.args.self.now) (written_in c.args.self.now) c.args.self.now.arrays c.rebuild_array.new.self _ _ (λ n vals. vals)
+    (λ n not. (not, λ was. refl)) c.requires.fit
+    (record { running = c.rebuild_array.ensures.running; heeded = c.rebuild_array.ensures.rebuilds.steps.heeded })
+    (stops_inside (tables c.rebuild_array.new.rack) (g.R.Rack.seen (below_of c.rebuild_array.new.rack))) c.rebuild_array.ensures.rebuilds.steps.brings c.rebuild_array.ensures.rebuilds.steps.caused
+
+pub returns-else-rebuild_array-clause-keeps : goal.returns-else-rebuild_array-clause-keeps
+returns-else-rebuild_array-clause-keeps g c =
+    brings_keep c.args.self.now.arrays c.rebuild_array.new.self _ _ c.requires.fit
+    (record { running = c.rebuild_array.ensures.running; heeded = c.rebuild_array.ensures.rebuilds.steps.heeded })
+    (stops_inside (tables c.rebuild_array.new.rack) (g.R.Rack.seen (below_of c.rebuild_array.new.rack))) c.rebuild_array.ensures.rebuilds.steps.brings
+
+pub returns-else-rebuild_array-clause-book : goal.returns-else-rebuild_array-clause-book
+returns-else-rebuild_array-clause-book g c =
+    runs_call (written_in c.args.self.now) (written_in c.args.self.now) c.args.self.now.arrays c.rebuild_array.new.self _ _ (λ n vals. vals)
+    (λ n not. (not, λ was. refl)) c.requires.fit
+    (record { running = c.rebuild_array.ensures.running; heeded = c.rebuild_array.ensures.rebuilds.steps.heeded })
+    (stops_inside (tables c.rebuild_array.new.rack) (g.R.Rack.seen (below_of c.rebuild_array.new.rack))) c.rebuild_array.ensures.rebuilds.steps.brings c.rebuild_array.ensures.rebuilds.steps.caused

@@ -1,0 +1,51 @@
+use Rattle.std.proofs.Common.{Bool, nat_lt, refl, subst, ltb-true}
+use Rattle.std.proofs.lemmas.Bool.{and_parts}
+use Rattle.slice_rack.specs.SliceRack.{tables, below_of}
+use Rattle.array_model.specs.View.{rows_of}
+use Rattle.raid_rack.specs.Laws.{stops_inside}
+use Rattle.slice_rack.specs.Sliced.{slices_of}
+use Rattle.raid_rack.specs.RaidRack.{raid_by, raid_in, slices_seen, written_in}
+use Rattle.raid_rack.specs.Works.{ResyncsOne}
+use Rattle.raid_rack.proofs.Serving.{brings_keep, runs_call}
+use Rattle.raid_rack.proofs.Worked.{resyncs_one}
+use Rattle.raid_rack.proofs.arrays.RaidRack.resync.Goals as goal
+
+pub returns-then-resync_array-clause-resyncs : goal.returns-then-resync_array-clause-resyncs
+returns-then-resync_array-clause-resyncs g c has =
+    let v = raid_in c.args.self.now in
+    let n = c.args.array in
+    let both = and_parts (nat_lt n v.state.made) (nat_lt (v.arrays n).resync (rows_of (v.arrays n))) has in
+    let x = slices_seen g.R.Rack.seen c.args.self.now in
+    let y = slices_of (tables c.resync_array.new.rack) (g.R.Rack.seen (below_of c.resync_array.new.rack)) in
+    subst (λ (answered : Bool). ResyncsOne (raid_by c.args.self.now.arrays) (raid_by c.resync_array.new.self) x y n answered) c.if-resync_array.true
+    (resyncs_one c.args.self.now.arrays c.resync_array.new.self x y n c.resync_array.result c.requires.fit
+    (record { running = c.resync_array.ensures.running; heeded = c.resync_array.ensures.steps.heeded })
+    (stops_inside (tables c.resync_array.new.rack) (g.R.Rack.seen (below_of c.resync_array.new.rack)))
+    (ltb-true n v.state.made both.0) (ltb-true (v.arrays n).resync (rows_of (v.arrays n)) both.1)
+    c.resync_array.ensures.steps c.resync_array.ensures.answer)
+
+pub returns-then-resync_array-clause-keeps : goal.returns-then-resync_array-clause-keeps
+returns-then-resync_array-clause-keeps g c =
+    brings_keep c.args.self.now.arrays c.resync_array.new.self _ _ c.requires.fit
+    (record { running = c.resync_array.ensures.running; heeded = c.resync_array.ensures.steps.heeded })
+    (stops_inside (tables c.resync_array.new.rack) (g.R.Rack.seen (below_of c.resync_array.new.rack))) c.resync_array.ensures.steps.brings
+
+pub returns-then-resync_array-clause-book : goal.returns-then-resync_array-clause-book
+returns-then-resync_array-clause-book g c =
+    runs_call (written_in c.args.self.now) (written_in c.args.self.now) c.args.self.now.arrays c.resync_array.new.self _ _ (λ n vals. vals)
+    (λ n not. (not, λ was. refl)) c.requires.fit
+    (record { running = c.resync_array.ensures.running; heeded = c.resync_array.ensures.steps.heeded })
+    (stops_inside (tables c.resync_array.new.rack) (g.R.Rack.seen (below_of c.resync_array.new.rack))) c.resync_array.ensures.steps.brings c.resync_array.ensures.steps.caused
+
+pub returns-else-resync_array-clause-keeps : goal.returns-else-resync_array-clause-keeps
+returns-else-resync_array-clause-keeps g c =
+    brings_keep c.args.self.now.arrays c.resync_array.new.self _ _ c.requires.fit
+    (record { running = c.resync_array.ensures.running; heeded = c.resync_array.ensures.steps.heeded })
+    (stops_inside (tables c.resync_array.new.rack) (g.R.Rack.seen (below_of c.resync_array.new.rack))) c.resync_array.ensures.steps.brings
+
+pub returns-else-resync_array-clause-book : goal.returns-else-resync_array-clause-book
+returns-else-resync_array-clause-book g c =
+    runs_call (written_in c.args.self.now) (written_in c.args.self.now) c.args.self.now.arrays c.resync_array.new.self _ _ (λ n vals. vals)
+    (λ n not. (not, λ was. refl)) c.requires.fit
+    (record { running = c.resync_array.ensures.running; heeded = c.resync_array.ensures.steps.heeded })
+    (stops_inside (tables c.resync_array.new.rack) (g.R.Rack.seen (below_of c.resync_array.new.rack))) c.resync_array.ensures.steps.brings c.resync_array.ensures.steps.caused

@@ -1,0 +1,220 @@
+//! Works of maintenance of the arrays: a row left to resync or to rebuild, and the end of a plan.
+
+ghost use Rattle.std.specs.Prelude.{◌≡◌, ◌<◌, ◌≤◌, ◌||◌, ℕ, true, false, not, is_ok, length, OnOk, OnErr, IfErr};
+ghost use Rattle.std.specs.Option.{option_map_or};
+ghost use Rattle.array_model.specs.View.{IsArray, rows_of};
+ghost use Rattle.array_sync.specs.Rows.{lacks_row};
+ghost use Rattle.raid_rack.specs.Moves.{IsHeeded, RaisesBy};
+ghost use Rattle.raid_rack.specs.RaidRack.{IsRunning, raid_by};
+ghost use Rattle.raid_rack.specs.Works as spec;
+ghost use Rattle.array_sync.specs.Steps.{resynced};
+
+use crate::arrays::{Arrays, RaidRack};
+use crate::losses::{add_copies, note_gone};
+use crate::marks::{current_places, end_plan};
+use array_core::Seat;
+use array_sync::{lacks_row, rebuild_row, resync_row};
+use rack::Rack;
+
+/// Sectors of a chunk: a row of a member's data.
+const CHUNK_SECTORS: u64 = 128;
+
+/// An array can't do a work: too many of its members are missing, or the work isn't one that it has to do.
+#[derive(Clone, Copy, Debug, PartialEq, Eq)]
+pub struct Stuck {
+    /// The number of the array.
+    pub array: u32,
+}
+
+impl Arrays {
+    /// Whether a row of an array can't be resynced: nothing is left of it, numbers are used up, or a member of it is missing or not
+    /// rebuilt past the row.
+    fn is_stuck(&self, number: u32, row: u64) -> bool
+        requires count { length self.now.all.items ≡ self.now.state.made }
+        requires few { length self.now.state.drives.items ≤ 16 }
+        requires heeded { IsHeeded (raid_by self.now) }
+        requires number { number < self.now.state.made }
+        requires array { IsArray ((raid_by self.now).arrays number) }
+        requires row { row < rows_of ((raid_by self.now).arrays number) }
+        ensures { result ≡ spec.is_stuck (raid_by self.now) number row }
+    {
+        self.is_ended() || lacks_row(&self.all[number as usize], row)
+    }
+
+    /// Whether an array has a row left to resync.
+    fn has_row(&self, number: u32) -> bool
+        requires count { length self.now.all.items ≡ self.now.state.made }
+        ensures { result ≡ spec.has_row (raid_by self.now) number }
+    {
+        if number >= self.state.made {
+            return false;
+        }
+        let array = &self.all[number as usize];
+        array.resync_from() < array.rows()
+    }
+
+    /// Resyncs the first row of an array that is left, by one commit. Whoever goes is marked. The answer is false exactly where the
+    /// row can't be resynced after that.
+    fn resync_array<S: Rack>(&mut self, rack: &mut S, number: u32) -> bool
+        requires running { IsRunning self.old (S.seen rack.old) }
+        requires heeded { IsHeeded (raid_by self.old) }
+        requires number { number < self.old.state.made }
+        requires row { ((raid_by self.old).arrays number).resync < rows_of ((raid_by self.old).arrays number) }
+        ensures steps { spec.StepsOne (raid_by self.old) (raid_by self.new) (S.seen rack.old) (S.seen rack.new) number (resynced ((raid_by self.old).arrays number)) result }
+        ensures answer { result ≡ not (spec.is_stuck (raid_by self.new) number ((raid_by self.old).arrays number).resync) }
+        ensures raises { RaisesBy 18 (raid_by self.old) (raid_by self.new) }
+        ensures running { IsRunning self.new (S.seen rack.new) }
+        ensures runs { S.runs rack.old rack.new }
+    {
+        let on = current_places(&self.state);
+        self.log.clear();
+        let array = &mut self.all[number as usize];
+        let row = array.resync_from();
+        let _ = resync_row(array, rack, &mut self.log, &on);
+        let _places = array.went();
+        self.mend(rack);
+        !self.is_stuck(number, row)
+    }
+
+    /// Whether an array has a member on a place that is being rebuilt. Its truth leaves rows to resync from a whole one on, as that of
+    /// each sound array does.
+    fn is_rebuilding(&self, number: u32, place: u32) -> bool
+        requires count { length self.now.all.items ≡ self.now.state.made }
+        ensures { result ≡ spec.is_rebuilding (raid_by self.now) number place }
+    {
+        if number >= self.state.made {
+            return false;
+        }
+        let array = &self.all[number as usize];
+        is_rebuilding_seat(array.seat(place)) && is_whole_row(array.truth().resync_offset)
+    }
+
+    /// Rebuilds the next row of a place's member of an array, by one commit. Whoever goes is marked. Where the answer is true the row is
+    /// done; it is false only where the row can't be had after that.
+    fn rebuild_array<S: Rack>(&mut self, rack: &mut S, number: u32, place: u32) -> bool
+        requires running { IsRunning self.old (S.seen rack.old) }
+        requires heeded { IsHeeded (raid_by self.old) }
+        requires rebuilding { spec.is_rebuilding (raid_by self.old) number place ≡ true }
+        ensures rebuilds { spec.RebuildsOne (raid_by self.old) (raid_by self.new) (S.seen rack.old) (S.seen rack.new) number place result }
+        ensures raises { RaisesBy 18 (raid_by self.old) (raid_by self.new) }
+        ensures running { IsRunning self.new (S.seen rack.new) }
+        ensures runs { S.runs rack.old rack.new }
+    {
+        let on = current_places(&self.state);
+        self.log.clear();
+        let array = &mut self.all[number as usize];
+        let answer = rebuild_row(array, rack, &mut self.log, &on, place);
+        let _places = array.went();
+        self.mend(rack);
+        answer.is_ok() && !self.is_ended()
+    }
+
+    /// Ends the plan: one commit has the state without it, on the current places. Whoever goes is marked. Where no place is left, the
+    /// plan ends in this run alone.
+    fn end_plan<S: Rack>(&mut self, rack: &mut S)
+        requires running { IsRunning self.old (S.seen rack.old) }
+        requires heeded { IsHeeded (raid_by self.old) }
+        ensures closes { spec.ClosesPlan (raid_by self.old) (raid_by self.new) (S.seen rack.old) (S.seen rack.new) }
+        ensures raises { RaisesBy 18 (raid_by self.old) (raid_by self.new) }
+        ensures running { IsRunning self.new (S.seen rack.new) }
+        ensures runs { S.runs rack.old rack.new }
+    {
+        self.log.clear();
+        end_plan(&mut self.state);
+        let on = current_places(&self.state);
+        if on.is_empty() {
+            return;
+        }
+        add_copies(&self.state, &on, &mut self.log);
+        let gone = self.log.commit(rack, &on);
+        note_gone(self.all.as_mut_slice(), &gone);
+        self.mend(rack);
+    }
+}
+
+/// Whether a member is being rebuilt.
+fn is_rebuilding_seat(seat: Option<Seat>) -> bool
+    ensures { result ≡ option_map_or spec.is_rebuilding_seat seat false }
+{
+    match seat {
+        Some(Seat::Rebuilding { .. }) => true,
+        Some(Seat::Whole) | Some(Seat::Missing) | None => false,
+    }
+}
+
+/// Whether rows are left from the beginning of a row on, or none is.
+fn is_whole_row(offset: u64) -> bool
+    ensures { result ≡ spec.is_whole_row offset }
+{
+    offset == u64::MAX || offset % CHUNK_SECTORS == 0
+}
+
+impl<R: Rack> RaidRack<R> {
+    ghost use Rattle.slice_rack.specs.SliceRack.{below_of};
+    ghost use Rattle.raid_rack.specs.Runs.{RaidRuns};
+    ghost use Rattle.raid_rack.specs.RaidRack.{IsFit, KeepsRack, SliceRuns, arrays_in, raid_in, raid_seen, slices_in, slices_seen, written_in};
+
+    /// Resyncs the first row of an array that is left, durably. No value moves. It is refused where the array has no row left, and
+    /// then nothing changes; and exactly where the row can't be resynced once the losses of this call are marked: a member of the
+    /// array is missing or not rebuilt past the row, no drive is left, or numbers are used up.
+    pub fn resync(&mut self, array: u32) -> Result<(), Stuck>
+        requires fit { IsFit (arrays_in self.old) (slices_seen R.seen self.old) }
+        ensures idle { spec.has_row (raid_in self.old) array ≡ false → (is_ok result ≡ false) × (self.new ≡ self.old) }
+        ensures resyncs { spec.has_row (raid_in self.old) array ≡ true
+            → spec.ResyncsOne (raid_in self.old) (raid_in self.new) (slices_seen R.seen self.old) (slices_seen R.seen self.new) array (is_ok result) }
+        ensures named { IfErr result (λ e. e.array ≡ array) }
+        ensures keeps { KeepsRack (raid_seen R.seen self.old) (raid_seen R.seen self.new) }
+        ensures raises { RaisesBy 18 (raid_in self.old) (raid_in self.new) }
+        ensures written { (n : ℕ) → written_in self.new n ≡ written_in self.old n }
+        ensures runs { SliceRuns R.seen R.runs (slices_in self.old) (slices_in self.new) }
+        ensures book { RaidRuns (written_in self.old) (written_in self.new) (raid_in self.old) (raid_in self.new) (slices_seen R.seen self.old) (slices_seen R.seen self.new) }
+    {
+        if !self.arrays.has_row(array) {
+            return Err(Stuck { array });
+        }
+        if self.arrays.resync_array(&mut self.slices, array) {
+            Ok(())
+        } else {
+            Err(Stuck { array })
+        }
+    }
+
+    /// Rebuilds the next row of a place's member of an array, durably. No value moves. It is refused where the array has no member
+    /// there that is being rebuilt, and then nothing changes. Where it isn't refused the row is done; it is refused only where the row
+    /// can't be had once the losses of this call are marked: another member of the array is missing or not rebuilt past the row, the
+    /// row is left to resync, no drive is left, or numbers are used up.
+    pub fn rebuild(&mut self, array: u32, place: u32) -> Result<(), Stuck>
+        requires fit { IsFit (arrays_in self.old) (slices_seen R.seen self.old) }
+        ensures idle { spec.is_rebuilding (raid_in self.old) array place ≡ false → (is_ok result ≡ false) × (self.new ≡ self.old) }
+        ensures rebuilds { spec.is_rebuilding (raid_in self.old) array place ≡ true
+            → spec.RebuildsOne (raid_in self.old) (raid_in self.new) (slices_seen R.seen self.old) (slices_seen R.seen self.new) array place (is_ok result) }
+        ensures named { IfErr result (λ e. e.array ≡ array) }
+        ensures keeps { KeepsRack (raid_seen R.seen self.old) (raid_seen R.seen self.new) }
+        ensures raises { RaisesBy 18 (raid_in self.old) (raid_in self.new) }
+        ensures written { (n : ℕ) → written_in self.new n ≡ written_in self.old n }
+        ensures runs { SliceRuns R.seen R.runs (slices_in self.old) (slices_in self.new) }
+        ensures book { RaidRuns (written_in self.old) (written_in self.new) (raid_in self.old) (raid_in self.new) (slices_seen R.seen self.old) (slices_seen R.seen self.new) }
+    {
+        if !self.arrays.is_rebuilding(array, place) {
+            return Err(Stuck { array });
+        }
+        if self.arrays.rebuild_array(&mut self.slices, array, place) {
+            Ok(())
+        } else {
+            Err(Stuck { array })
+        }
+    }
+
+    /// Ends the pool's plan: its state says that none is left, durably where a drive is left. No value moves.
+    pub fn close(&mut self)
+        requires fit { IsFit (arrays_in self.old) (slices_seen R.seen self.old) }
+        ensures closes { spec.ClosesPlan (raid_in self.old) (raid_in self.new) (slices_seen R.seen self.old) (slices_seen R.seen self.new) }
+        ensures keeps { KeepsRack (raid_seen R.seen self.old) (raid_seen R.seen self.new) }
+        ensures raises { RaisesBy 18 (raid_in self.old) (raid_in self.new) }
+        ensures written { (n : ℕ) → written_in self.new n ≡ written_in self.old n }
+        ensures runs { SliceRuns R.seen R.runs (slices_in self.old) (slices_in self.new) }
+        ensures book { RaidRuns (written_in self.old) (written_in self.new) (raid_in self.old) (raid_in self.new) (slices_seen R.seen self.old) (slices_seen R.seen self.new) }
+    {
+        self.arrays.end_plan(&mut self.slices);
+    }
+}
