@@ -33,7 +33,7 @@ use Rattle.commit_log.specs.Kept.{LogKept, gone_with}
 use Rattle.commit_log.proofs.Kept.{stands_of, before_inside, put_none, put_some}
 use Rattle.commit_log.proofs.Story.{payload_is}
 use Rattle.array_model.specs.declared.Seat.{Seat}
-use Rattle.array_model.specs.View.{View, IsArray, shape_of, spent_in, may_vary, is_missing_seat, place_at}
+use Rattle.array_model.specs.View.{View, IsArray, shape_of, may_vary, is_missing_seat, place_at}
 use Rattle.array_model.specs.Says.{Says, IsOpen, KeepsSource, HoldsShape, Holds, IsEarlier, HasNoOthers}
 use Rattle.array_model.specs.Stages.{IsStateOf, NoOthers, HasTargets}
 use Rattle.array_model.specs.ArrayCalls.{Turns, Covers, HasFields}
@@ -71,10 +71,10 @@ module _ (s : State) (v w : View) (events offset resync : ℕ) (seats : List Sea
     (unsynced : first_unsynced (record v.truth { events = events; resync_offset = offset }) ≤ resync)
     (some : ℕ) (some_low : some < v.truth.raid_disks) (some_there : is_missing_seat (slot_on (restated v events offset resync seats marked) some).seat ≡ false)
     (losing : IsLosing (restated v events offset resync seats marked) w gone) (left_too : (place : ℕ) → gone place ≡ false → names lost place ≡ false) (nobody : w.went ≡ [] → lost ≡ [])
-    (vals : ℕ → Values) (spent : ℕ → Bool) (covers : Covers w spent) (unspent : (y : ℕ) → spent y ≡ false → spent_in v y ≡ false)
+    (vals : ℕ → Values) (spent : ℕ → Bool) (covers : Covers w spent)
     (H : Type 0) (begins : H → Holds s (shape_of v) v vals spent b)
     (opened : H → IsOpen (shape_of (restated v events offset resync seats marked)) v.number b)
-    (moves : H → RowMoves v (shape_of (restated v events offset resync seats marked)) resync (current_in b.held) own_data) where
+    (moves : H → RowMoves v (shape_of (restated v events offset resync seats marked)) resync spent (current_in b.held) own_data) where
   abbrev n : ℕ
   n = v.number
 
@@ -122,7 +122,7 @@ module _ (s : State) (v w : View) (events offset resync : ℕ) (seats : List Sea
     holds : Holds s (shape_of v) v vals spent b
     holds = begins h
 
-    move : RowMoves v (shape_of (restated v events offset resync seats marked)) resync (current_in b.held) own_data
+    move : RowMoves v (shape_of (restated v events offset resync seats marked)) resync spent (current_in b.held) own_data
     move = moves h
 
     -- contents with all data written, by what the members hold
@@ -152,7 +152,7 @@ module _ (s : State) (v w : View) (events offset resync : ℕ) (seats : List Sea
         goal refl
 
     value_now : (y : ℕ) → spent y ≡ false → value_by (shape_of (restated v events offset resync seats marked)) (written own_data (current_in b.held)) v.number y ≡ (vals y).current
-    value_now y alive = move.value y (unspent y alive) ∙ holds.shape.current y alive
+    value_now y alive = move.value y alive ∙ holds.shape.current y alive
 
     even_now : AreEven (shape_of (restated v events offset resync seats marked)) v.number resync (written own_data (current_in b.held))
     even_now = move.even holds.shape.even
@@ -367,7 +367,7 @@ module _ (s : State) (v w : View) (events offset resync : ℕ) (seats : List Sea
               let t = sector_at shape y in
               let i = data_sector + t in
               let live = live_on lasting commit.stays (opened h m t found.among found.counts) in
-              elim (move.source y m (unspent y alive) is) [
+              elim (move.source y m alive is) [
                 | inl from ↦
                     let keeps = commit.apart d i live (not_log m.place i) (look_data d t ∙ from.4) in
                     holds.shape.within y alive u

@@ -36,7 +36,7 @@ use Rattle.array_sync.proofs.Stepping.{IsDataOn, Step, all_apart, committed_step
 use Rattle.array_sync.proofs.Owed.{RowMoves}
 use Rattle.array_sync.proofs.Resynced.{row_moves}
 use Rattle.array_sync.proofs.Summing.{sector_in_row}
-use Rattle.array_sync.proofs.Views.{IsUnsynced, all_there, is_steady, next_array, next_lacks, next_loses, next_rows, next_same, next_shape, next_state, next_unsynced, slot_there, stage_is, unspent_before}
+use Rattle.array_sync.proofs.Views.{IsUnsynced, all_there, is_steady, next_array, next_lacks, next_loses, next_rows, next_same, next_shape, next_state, next_unsynced, slot_there, stage_is}
 
 raised_least : (n : ℕ) → n ≤ raised n
 raised_least n = by (nat_lt n (2 ^ 63 - 1))
@@ -118,11 +118,10 @@ module _ (v : View) (a b : Seen) (xs : List Target) (row : RowStaged v a xs) (la
     unmarked = λ steady. refl;
     state = λ s. next_state s v;
     rows = next_rows v;
-    unspent = λ rows. unspent_before v row.lacks;
     live = λ rows opened also. live_on opened;
-    moves = λ rows opened sized even.
-        subst (λ (f : Shape). RowMoves v f (v.resync + 1) (current_in b.held) row.own_data) (sym (next_shape v))
-        (row_moves v a b row.own_data row.is.is_array lasting reads row.lacks row.copies opened sized);
+    moves = λ rows opened sized even spent.
+        subst (λ (f : Shape). RowMoves v f (v.resync + 1) spent (current_in b.held) row.own_data) (sym (next_shape v))
+        (row_moves v a b row.own_data row.is.is_array lasting reads row.lacks row.copies opened sized spent);
   }
 
   pub row_members_on : AreOnMembers v xs

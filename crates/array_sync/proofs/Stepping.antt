@@ -23,14 +23,14 @@ use Rattle.commit_log.proofs.KeptAfter.{kept_more}
 use Rattle.array_model.specs.declared.Seat.{Seat}
 use Rattle.array_model.specs.declared.Seat.TheVariants.{Missing}
 use Rattle.array_model.specs.Stages.{IsStateOf}
-use Rattle.array_model.specs.View.{View, IsArray, LosesPlaces, has_gone, is_missing_seat, is_whole_array, may_vary, place_at, shape_of, spent_in}
+use Rattle.array_model.specs.View.{View, IsArray, LosesPlaces, has_gone, is_missing_seat, is_whole_array, may_vary, place_at, shape_of}
 use Rattle.array_model.specs.Says.{Holds, IsOpen}
 use Rattle.array_model.specs.Members.{HasSlices, IsSameButSeats, Notes, members_of, slice_on}
 use Rattle.array_model.specs.ArrayCalls.{Covers, Turns, HasFields}
 use Rattle.array_model.proofs.Keeping.{keeping_calls, left_before, open_after, pick_before}
 use Rattle.array_model.proofs.Looking.{look_payload}
 use Rattle.array_model.proofs.Moves.{Moves, moves_then}
-use Rattle.array_model.proofs.Noting.{covers_before, holds_noted, losing_of}
+use Rattle.array_model.proofs.Noting.{holds_noted, losing_of}
 use Rattle.array_model.proofs.RowWrites.{gone_none}
 use Rattle.array_model.proofs.Spared.{wanting_more}
 use Rattle.array_model.proofs.Views.{either_of, fault_early, fault_later, loses_then, members_then}
@@ -124,7 +124,6 @@ pub record Step (v : View) (events offset resync : ℕ) (seats : List Seat) (mar
   pub unmarked : (v.marked ≡ true → is_whole_array v ≡ true) → marked ≡ false
   pub state : (s : State) → IsStateOf v s → v.truth.events < 2 ^ 63 - 1 → IsStateOf (restated v events offset resync seats marked) s
   pub rows : HasRowRebuilds v → HasRowRebuilds (restated v events offset resync seats marked)
-  pub unspent : HasRowRebuilds v → (y : ℕ) → spent_in (restated v events offset resync seats marked) y ≡ false → spent_in v y ≡ false
   pub live :
       HasRowRebuilds v → IsOpen (shape_of v) v.number a → IsOpen (shape_of (restated v events offset resync seats marked)) v.number a
       → (d t : ℕ) (u : List ℕ) → IsPayload own_data d t u → IsLive a a d t
@@ -132,7 +131,7 @@ pub record Step (v : View) (events offset resync : ℕ) (seats : List Seat) (mar
       HasRowRebuilds v → IsOpen (shape_of v) v.number a
       → ((m : Member) (t : ℕ) → Among m (shape_of v).members → t < m.reach → length (current_in b.held (member_slice m.place v.number) (data_sector + t)) ≡ 512)
       → AreEven (shape_of v) v.number v.resync (current_in b.held)
-      → RowMoves v (shape_of (restated v events offset resync seats marked)) resync (current_in b.held) own_data
+      → (spent : ℕ → Bool) → RowMoves v (shape_of (restated v events offset resync seats marked)) resync spent (current_in b.held) own_data
 
 -- ---- its targets
 
@@ -257,15 +256,11 @@ module _ (v u z w : View) (events offset resync : ℕ) (seats : List Seat) (mark
     abbrev Middle : Type 0
     Middle = Holds s (shape_of v) v vals spent a × Holds s (shape_of v) v vals spent b
 
-    unspent : (y : ℕ) → spent y ≡ false → spent_in v y ≡ false
-    unspent y alive =
-        step.unspent may.commit.renew.rows y (covers_before g w (λ place. names lost place || notes.lost place) (losing_of g w _ same_g loses_g) spent covers y alive)
-
     opened_b : Middle → IsOpen (shape_of (restated v events offset resync seats marked)) v.number b
     opened_b held = open_after lasting reads.stays (shape_of g) v.number may.opened
 
-    moves_b : Middle → RowMoves v (shape_of (restated v events offset resync seats marked)) resync (current_in b.held) own_data
-    moves_b held = step.moves may.commit.renew.rows held.0.shape.open_slices held.1.shape.sized held.1.shape.even
+    moves_b : Middle → RowMoves v (shape_of (restated v events offset resync seats marked)) resync spent (current_in b.held) own_data
+    moves_b held = step.moves may.commit.renew.rows held.0.shape.open_slices held.1.shape.sized held.1.shape.even spent
 
     ready : IsReady l on b
     ready = log_ready s v w a b c l on lost is_array lasting reads members_on (live_all s may) commit (may_log s may.commit) left_w
@@ -293,7 +288,7 @@ module _ (v u z w : View) (events offset resync : ℕ) (seats : List Seat) (mark
         (losing_of g w (λ place. names lost place || notes.lost place) same_g loses_g)
         (λ place none. or_first (names lost place) (notes.lost place) none)
         (λ none. none_named lost (λ place. left_w place (gone_none w none place)))
-        vals spent covers unspent Middle (λ held. held.1) opened_b moves_b
+        vals spent covers Middle (λ held. held.1) opened_b moves_b
 
     all_moves : Moves v.number a c (Holds s (shape_of v) v vals spent a) (SaysEither s v (restated v events offset resync seats marked) a vals spent) (Holds s (shape_of (restated v events offset resync seats marked)) w vals spent c)
     all_moves =
@@ -314,7 +309,7 @@ module _ (v u z w : View) (events offset resync : ℕ) (seats : List Seat) (mark
         (losing_of g w (λ place. names lost place || notes.lost place) same_g loses_g)
         (λ place none. or_first (names lost place) (notes.lost place) none)
         (λ none. none_named lost (λ place. left_w place (gone_none w none place)))
-        vals spent covers unspent Middle (λ both. both.1) opened_b moves_b
+        vals spent covers Middle (λ both. both.1) opened_b moves_b
         ((read_moves s v g a b vals spent lasting reads).holds held) r left
 
   noted_g : Notes (restated v events offset resync seats marked) w a c
