@@ -162,7 +162,7 @@ module _ (v : View) (place p to : ℕ) (a b : Seen) (xs : List Target) (row : Me
       (subst (λ e. IsLive a a (slice_on v p) e) (sym at.at)
       (opened (member_on (rebuilt v place) p) at.sector among (omega (arith, last, reach))))
 
-  pub member_step : Step v v.truth.events v.truth.resync_offset v.resync (rebuilt v place).seats v.marked row.own_data a b
+  pub member_step : Step v v.truth.events v.truth.resync_offset v.resync (rebuilt v place).seats v.marked row.own_data a b (λ spent. Unit {0})
   member_step = record {
     is_array = row.is.is_array;
     next = next_array v place p to row.is;
@@ -174,12 +174,12 @@ module _ (v : View) (place p to : ℕ) (a b : Seen) (xs : List Target) (row : Me
     some = p;
     some_low = row.is.low;
     some_there = ap (λ (o : Option Seat). is_missing_seat (unwrap_or o Missing)) (own_seat v place p to row.is) ∙ rebuilt_there v.truth.size (to + 128);
-    steady = λ steady. ap₂ (λ (m n : Bool). m || n) (not_marked steady) (not_alone v row.is.is_array (all_there 0) (all_there 1));
+    settled = λ steady s vals spent meets holds. holds.shape.settled (ap₂ (λ (m n : Bool). m || n) (not_marked steady) (not_alone v row.is.is_array (all_there 0) (all_there 1)));
     unmarked = not_marked;
     state = λ s state room. next_state v place p to row.is s state;
     rows = next_rows v place p to row.is;
     live = λ rows opened also. live_on also;
-    moves = λ rows opened sized even. rebuilt_moves v place p to row.is a b row.own_data lasting reads row.others row.copies opened sized;
+    moves = λ rows opened sized even spent meets. rebuilt_moves v place p to row.is a b row.own_data lasting reads row.others row.copies opened sized spent;
   }
 
   pub member_on_members : AreOnMembers v xs
@@ -218,7 +218,7 @@ member_steps v u z w a b c l on lost place p to number after row change answered
     (member_step v place p to a b l.added staged_row slices.lasting reads) staged_row.adds staged_row.added slices reads notes commit same loses
     (subst (λ (x : View). IsSameButSeats (rebuilt v place) x) (sym adopted_w) (next_same v place p to is z z_array same_v))
     (λ gone loses_v. subst (λ (x : View). LosesPlaces (rebuilt v place) x gone) (sym adopted_w) (next_loses v place p to is z z_array same_v gone loses_v))
-    number_is after_is answered
+    number_is after_is answered (λ spent. tt)
 
 pub member_leaves : (v : View) (place p to : ℕ) (a b c : Seen) (l : LogView) (on lost : List ℕ) → MemberStaged v place p to a l.added → a.lasting → OnlyReads a b → CommitCall l on lost b c
     → KeepsElsewhere false v on a c
