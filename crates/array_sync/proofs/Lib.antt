@@ -17,3 +17,4 @@ pub mod Restoring
 pub mod Sources
 pub mod RebuiltRow
 pub mod MemberStaged
+pub mod Zeroed

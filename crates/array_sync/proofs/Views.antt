@@ -77,7 +77,7 @@ other_offset v is same =
     let unsynced = is.unsynced in
     omega (arith, next, first, unsynced)
 
-keeps_none : (v : View) → IsUnsynced v → keeps_rows v.truth (next_truth v) ≡ false
+pub keeps_none : (v : View) → IsUnsynced v → keeps_rows v.truth (next_truth v) ≡ false
 keeps_none v is = ap (λ (b : Bool). b && (v.truth.size == v.truth.size)) (ne_eqb (offset_after v (v.resync + 1)) v.truth.resync_offset (other_offset v is))
 
 -- ---- the array of the change

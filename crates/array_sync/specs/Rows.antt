@@ -1,6 +1,7 @@
 -- Rows of the members' data: which members make the others of their row, what these give at a member that is rebuilt, and the sectors
 -- that are written for them.
-use Rattle.std.specs.Prelude.{◌≡◌, ℕ, ◌+◌, ◌*◌, ◌<◌, ◌≤◌, Bool, true, false, ◌==◌, ◌&&◌, ◌||◌, not, nat_lt, if◌then◌else◌, List, ◌++◌, map, length}
+use Rattle.std.specs.Prelude.{◌≡◌, ℕ, ◌+◌, ◌*◌, ◌<◌, ◌≤◌, Bool, true, false, ◌==◌, ◌&&◌, ◌||◌, not, nat_lt, if◌then◌else◌, List, ◌++◌, map, length, slice_get}
+use Rattle.std.specs.Option.{option_map_or}
 use Rattle.std.specs.List.{list_all, range_with_len}
 use Rattle.rack.specs.Seen.{Image, Seen}
 use Rattle.rack.specs.Targets.{Target}
@@ -12,7 +13,7 @@ use Rattle.array_image.specs.Record.{are_apart}
 use Rattle.array_image.specs.Stripes.{Layout, mirror, parity, width, given}
 use Rattle.array_image.specs.Spent.{wanting, spent_with}
 use Rattle.array_image.specs.Held.{current_in}
-use Rattle.array_model.specs.View.{View, member_on, shape_of}
+use Rattle.array_model.specs.View.{View, is_missing_seat, member_on, shape_of}
 use Rattle.array_model.specs.Says.{IsOpen}
 use Rattle.array_model.specs.Members.{members_of, row_layout, row_of, slice_on}
 
@@ -90,6 +91,22 @@ pub record AreCopies (v : View) (within : ℕ → ℕ → Type 0) (has_bytes : �
   pub on : (d s : ℕ) (u : List ℕ) → IsPayload xs d s u → IsCopy v within has_bytes d s u
   pub has : (t j : ℕ) → within t j → (u : List ℕ) × IsPayload xs (slice_on v j) (data_sector + t) u
   pub apart : are_apart xs ≡ true
+
+-- a member isn't missing
+abbrev pub is_there : View → ℕ → Bool
+is_there v position = option_map_or (λ seat. not (is_missing_seat seat)) (slice_get v.seats position) false
+
+-- a sector of a row, of the first members that aren't missing
+abbrev pub OfThere : View → ℕ → ℕ → ℕ → ℕ → Type 0
+OfThere v first members t j = (first ≤ t) × (t < first + 128) × (j < members) × (is_there v j ≡ true)
+
+-- two members don't count in a row
+abbrev pub lacks_two : View → ℕ → Bool
+lacks_two v row = nat_lt 1 (wanting (row * 128 + 127) (members_of v))
+
+-- bytes of a sector of zeros
+abbrev pub AreZeros : ℕ → List ℕ → Type 0
+AreZeros sector bytes = bytes ≡ zeros 512
 
 -- they are added to the targets of a log
 pub record AddsCopies (v : View) (within : ℕ → ℕ → Type 0) (has_bytes : ℕ → List ℕ → Type 0) (many : ℕ) (before after : List Target) : Type 0 where

@@ -27,6 +27,9 @@ mod members;
 mod rebuilding;
 mod resyncing;
 mod rows;
+mod zeroing;
+mod zeros;
 
 pub use rebuilding::rebuild_row;
 pub use resyncing::resync_row;
+pub use zeroing::zero_row;

@@ -1,0 +1,222 @@
+-- What is added to the log for a row of zeros, as a whole.
+use Rattle.std.proofs.Common.{◌≡◌, ◌≢◌, ℕ, ◌+◌, ◌-◌, ◌*◌, ◌/◌, ◌<◌, ◌≤◌, ◌^◌, Bool, true, false, ◌&&◌, not, nat_lt, if◌then◌else◌, List, [], ◌++◌, map, length, slice_get, Option, Some, None, refl, sym, ap, ap₂, subst, ◌∙◌, inl, inr, lt-ltb, le-ltb, ltb-true, ltb-false, arith}
+use Rattle.std.proofs.lemmas.Bool.{both_ways, cases_Bool, cases_eq, cases_lt}
+use Rattle.std.proofs.lemmas.List.{length-append}
+use Rattle.std.specs.List.{list_all}
+use Rattle.std.specs.Option.{option_map_or}
+use Rattle.rack.specs.Values.{Values}
+use Rattle.rack.specs.Seen.{Image, Seen, IsLive}
+use Rattle.rack.specs.Targets.{Target, look}
+use Rattle.rack.specs.Sequences.{IsPayload, OnlyReads}
+use Rattle.md_super.specs.declared.superblock.Super.{Super}
+use Rattle.pool_state.specs.declared.contents.State.{State}
+use Rattle.array_image.specs.Places.{data_sector}
+use Rattle.array_image.specs.Record.{are_apart, is_target}
+use Rattle.array_image.specs.SoundArray.{first_unsynced}
+use Rattle.array_image.specs.Arrays.{Member, Shape}
+use Rattle.array_image.specs.Held.{Among, IsSettled, current_in}
+use Rattle.array_image.specs.Left.{IsLeft}
+use Rattle.array_image.specs.Spent.{wanting}
+use Rattle.commit_log.specs.View.{LogView, names, next_number}
+use Rattle.commit_log.specs.Commits.{CommitCall}
+use Rattle.commit_log.specs.Phases.{IsHad}
+use Rattle.array_model.specs.declared.Seat.{Seat}
+use Rattle.array_model.specs.declared.Seat.TheVariants.{Whole, Missing, Rebuilding}
+use Rattle.array_model.specs.View.{View, IsArray, LosesPlaces, is_missing_seat, is_whole_array, is_whole_seat, member_on, rows_of, shape_of}
+use Rattle.array_model.specs.Says.{Holds, IsOpen}
+use Rattle.array_model.specs.Members.{HasSlices, IsSameButSeats, Notes, members_of, slice_on}
+use Rattle.array_model.proofs.Filled.{two_want}
+use Rattle.array_model.proofs.Noting.{length_members, shape_noted}
+use Rattle.array_model.proofs.RowWrites.{part_on}
+use Rattle.array_model.proofs.Views.{loses_then, notes_none, same_view, same_view_then, shape_members, shape_then}
+use Rattle.array_core.specs.declared.Change.{Change}
+use Rattle.array_core.specs.Opening.{resync_by}
+use Rattle.array_core.specs.Slots.{places_by}
+use Rattle.array_core.specs.Staging.{AddsSupersOf}
+use Rattle.array_core.specs.Superblocks.{adopted, adopted_resync, keeps_rows, raised, resynced_to}
+use Rattle.array_core.specs.Writing.{KeepsElsewhere}
+use Rattle.array_core.proofs.RowLists.{some_payload}
+use Rattle.array_sync.specs.Rows.{AddsCopies, AreCopies, AreZeros, OfThere, is_there, lacks_two}
+use Rattle.array_sync.specs.Steps.{HasZeros, MayStep, MayZero, Zeroes, as_it_was, done, offset_after, resynced, row_in, zeroed, zeroing}
+use Rattle.array_sync.proofs.Adopted.{adopted_kept}
+use Rattle.array_sync.proofs.Answering.{row_elsewhere}
+use Rattle.array_sync.proofs.Logged.{AreOnMembers, all_had, all_valid}
+use Rattle.array_sync.proofs.Stepping.{IsDataOn, Step, all_apart, all_data, all_durable, all_kept, all_moves, all_settled, noted_g, on_members, read_moves}
+use Rattle.array_sync.proofs.Summing.{sector_in_row}
+use Rattle.array_sync.proofs.Views.{IsUnsynced, keeps_none, next_array, next_rows, next_shape, next_state, next_unsynced, seat_there, slot_there, whole_offset}
+use Rattle.array_sync.proofs.Zeroed.{row_zeros, zero_moves}
+
+same_shape : (v : View) → shape_of (zeroing v) ≡ shape_of v
+unfolding shape_of
+same_shape v = refl
+
+raised_least : (n : ℕ) → n ≤ raised n
+raised_least n = by (nat_lt n (2 ^ 63 - 1))
+  where
+    by : (b : Bool) → n ≤ (if b then n + 1 else n)
+    by true = omega arith
+    by false = omega arith
+
+-- what the row call needs of an array
+pub record IsYoung (v : View) : Type 0 where
+  pub is_array : IsArray v
+  pub young : v.young ≡ true
+  pub row : first_unsynced v.truth < v.truth.size / 128
+
+zeroing_array : (v : View) → IsYoung v → IsArray (zeroing v)
+zeroing_array v is =
+    let old = is.is_array in
+    record {
+      few = old.few;
+      level = old.level;
+      least = old.least;
+      most = old.most;
+      seats = old.seats;
+      devices = old.devices;
+      small = old.small;
+      whole_rows = old.whole_rows;
+      placed = old.placed;
+      synced = let row = is.row in omega (arith, row);
+      reshape = old.reshape;
+    }
+
+-- it is one whose rows are left to resync
+unsynced : (v : View) → IsYoung v → IsUnsynced (zeroing v)
+unsynced v is = record { is_array = zeroing_array v is; grown = refl; row = is.row; unsynced = omega arith }
+
+-- ---- the array of the change
+
+adopted_is : (v z : View) → IsYoung v → IsArray z → IsSameButSeats v z
+    → adopted (resynced_to v (offset_after v (first_unsynced v.truth + 1))) z ≡ record z { truth = (zeroed v).truth; resync = rows_of v; marked = false }
+adopted_is v z is z_array same =
+    let c : Change = resynced_to v (offset_after v (first_unsynced v.truth + 1)) in
+    let kept = adopted_kept c z z_array (ap places_by (sym same.truth)) refl in
+    let keeps : keeps_rows z.truth (zeroed v).truth ≡ false = ap (λ (t : Super). keeps_rows t (zeroed v).truth) same.truth ∙ keeps_none (zeroing v) (unsynced v is) in
+    let next : adopted_resync z.young z.resync z.truth (zeroed v).truth ≡ rows_of v =
+    ap (λ (b : Bool). if b then z.resync else resync_by z.young (zeroed v).truth) keeps
+    ∙ ap (λ (b : Bool). if b then v.truth.size / 128 else first_unsynced (zeroed v).truth) (same.young ∙ is.young) in
+    let mark : (z.marked && keeps_rows z.truth (zeroed v).truth) ≡ false = ap (λ (b : Bool). z.marked && b) keeps ∙ and_false z.marked in
+    λ i. record z { truth = (zeroed v).truth; seats = kept.0 i; devices = kept.1 i; resync = next i; marked = mark i }
+  where
+    and_false : (b : Bool) → (b && false) ≡ false
+    and_false true = refl
+    and_false false = refl
+
+stage_is : (v : View) → IsYoung v → adopted (resynced_to v (offset_after v (first_unsynced v.truth + 1))) v ≡ zeroed v
+stage_is v is = adopted_is v v is is.is_array (same_view v)
+
+module _ (v z w : View) (is : IsYoung v) (z_array : IsArray z) (same : IsSameButSeats v z) (adopts : w ≡ adopted (resynced_to v (offset_after v (first_unsynced v.truth + 1))) z) where
+  view_is : w ≡ record z { truth = (zeroed v).truth; resync = rows_of v; marked = false }
+  view_is = adopts ∙ adopted_is v z is z_array same
+
+  next_same : IsSameButSeats (resynced (zeroing v)) (zeroing w)
+  next_same =
+      subst (λ (x : View). IsSameButSeats (resynced (zeroing v)) (zeroing x)) (sym view_is)
+      (record { number = same.number; truth = refl; devices = same.devices; resync = next_unsynced (zeroing v) (unsynced v is); young = refl; marked = refl })
+
+  next_loses : (lost : ℕ → Bool) → LosesPlaces (zeroing v) (zeroing z) lost → LosesPlaces (resynced (zeroing v)) (zeroing w) lost
+  next_loses lost loses =
+      subst (λ (x : View). LosesPlaces (resynced (zeroing v)) (zeroing x) lost) (sym view_is) (record { seats = loses.seats; went = loses.went })
+
+  real_same : IsSameButSeats (zeroed v) w
+  real_same =
+      subst (λ (x : View). IsSameButSeats (zeroed v) x) (sym view_is)
+      (record { number = same.number; truth = refl; devices = same.devices; resync = refl; young = same.young; marked = refl })
+
+  real_loses : (lost : ℕ → Bool) → LosesPlaces v z lost → LosesPlaces (zeroed v) w lost
+  real_loses lost loses = subst (λ (x : View). LosesPlaces (zeroed v) x lost) (sym view_is) (record { seats = loses.seats; went = loses.went })
+
+  pub zeros_lacks : (row : ℕ) → lacks_two w row ≡ lacks_two z row
+  zeros_lacks row =
+      ap (λ (x : View). lacks_two x row) view_is
+      ∙ ap (λ (t : Super). lacks_two (record z { truth = record t { events = raised v.truth.events; resync_offset = offset_after v (first_unsynced v.truth + 1) }; resync = rows_of v; marked = false }) row) (sym same.truth)
+
+-- ---- what is staged
+
+pub record ZeroStaged (v : View) (xs : List Target) : Type 0 where
+  pub is : IsYoung v
+  pub few : lacks_two v (first_unsynced v.truth) ≡ false
+  pub supers : List Target
+  pub own_data : List Target
+  pub added : xs ≡ supers ++ own_data
+  pub adds : AddsSupersOf (zeroed v) [] supers
+  pub copies : AreCopies v (OfThere v (first_unsynced v.truth * 128) v.truth.raid_disks) AreZeros own_data
+
+pub staged : (v : View) (row offset : ℕ) (c : Change) (x y z : List Target) → IsYoung v → row ≡ first_unsynced v.truth → offset ≡ offset_after v (row + 1) → c ≡ resynced_to v offset
+    → lacks_two v row ≡ false → x ≡ [] → AddsSupersOf (adopted c v) x y → AddsCopies v (OfThere v (row * 128) v.truth.raid_disks) AreZeros 2048 y z
+    → ZeroStaged v z
+staged v row offset c x y z is row_is offset_is change few empty adds copies =
+    let next : adopted c v ≡ zeroed v =
+    ap (λ (d : Change). adopted d v) (change ∙ ap (resynced_to v) (offset_is ∙ ap (λ (r : ℕ). offset_after v (r + 1)) row_is)) ∙ stage_is v is in
+    record {
+      is = is;
+      few = subst (λ (r : ℕ). lacks_two v r ≡ false) row_is few;
+      supers = y;
+      own_data = copies.targets;
+      added = copies.appended;
+      adds = subst (λ (g : View). AddsSupersOf g [] y) next (subst (λ xs. AddsSupersOf (adopted c v) xs y) empty adds);
+      copies = subst (λ (r : ℕ). AreCopies v (OfThere v (r * 128) v.truth.raid_disks) AreZeros copies.targets) row_is copies.copies;
+    }
+
+pub staged_room : (v : View) (row offset : ℕ) (c : Change) → IsYoung v → row ≡ first_unsynced v.truth → offset ≡ offset_after v (row + 1) → c ≡ resynced_to v offset → adopted c v ≡ zeroed v
+staged_room v row offset c is row_is offset_is change =
+    ap (λ (d : Change). adopted d v) (change ∙ ap (resynced_to v) (offset_is ∙ ap (λ (r : ℕ). offset_after v (r + 1)) row_is)) ∙ stage_is v is
+
+pub zeroed_array : (v : View) → IsYoung v → IsArray (zeroed v)
+zeroed_array v is =
+    let old = is.is_array in
+    record {
+      few = old.few;
+      level = old.level;
+      least = old.least;
+      most = old.most;
+      seats = old.seats;
+      devices = old.devices;
+      small = old.small;
+      whole_rows = old.whole_rows;
+      placed = old.placed;
+      synced = omega arith;
+      reshape = old.reshape;
+    }
+
+there_seat : (v : View) (j : ℕ) → is_there v j ≡ true → slice_get v.seats j ≢ Some Missing
+there_seat v j there gone = both_ways (is_there v j) (ap (λ (o : Option Seat). option_map_or (λ seat. not (is_missing_seat seat)) o false) gone) there
+
+module _ (v : View) (a b : Seen) (xs : List Target) (row : ZeroStaged v xs) (reads : OnlyReads a b) where
+  -- one of the first two members is there
+  one_there : (j : ℕ) × (j < v.truth.raid_disks) × (slice_get v.seats j ≢ Some Missing)
+  one_there =
+      let t = first_unsynced v.truth * 128 + 127 in
+      let least = row.is.is_array.least in
+      elim (cases_Bool (nat_lt t (member_on v 0).reach)) [
+        | inl is ↦ (0, omega (arith, least), seat_there v 0 t (ltb-true t (member_on v 0).reach is))
+        | inr none ↦ elim (cases_Bool (nat_lt t (member_on v 1).reach)) [
+          | inl is ↦ (1, omega (arith, least), seat_there v 1 t (ltb-true t (member_on v 1).reach is))
+          | inr other ↦
+              let ms = (shape_of v).members in
+              let count : length ms ≡ v.truth.raid_disks = ap length (shape_members v) ∙ length_members v in
+              let two = two_want t 0 1 ms (omega (arith, count, least)) (omega (arith, count, least)) (λ same. omega (arith, same))
+              (ap (λ (m : Member). nat_lt t m.reach) (part_on v 0 (omega (arith, least))) ∙ none) (ap (λ (m : Member). nat_lt t m.reach) (part_on v 1 (omega (arith, least))) ∙ other) in
+              let same : wanting t ms ≡ wanting t (members_of v) = ap (wanting t) (shape_members v) in
+              let few = ltb-false 1 (wanting t (members_of v)) row.few in
+              absurd (omega (arith, two, few, same))
+        ]
+      ]
+
+  data_on : (d t : ℕ) (u : List ℕ) → IsPayload row.own_data d t u → IsDataOn (zeroing v) d t u
+  data_on d t u pay =
+      let at = row.copies.on d t u pay in
+      record {
+        position = at.position;
+        low = at.low;
+        there = there_seat v at.position at.inside.3;
+        disk = at.disk;
+        sector = at.sector;
+        at = at.at;
+        inside = sector_in_row v (first_unsynced v.truth) at.sector row.is.is_array row.is.row at.inside.1;
+        long = at.long;
+      }
+
+  -- what it needs of the map of spent sectors, and of the members
+  abbrev pub Needs : (ℕ → Bool) → Type 0
+  Needs spent = ((y : ℕ) → spent y ≡ false → row_in v y < first_unsynced v.truth) × IsSettled (shape_of v) v.number a.held

@@ -1,0 +1,6 @@
+use Rattle.std.proofs.Common.{refl}
+use Rattle.parity.specs.Xor.{zeros}
+use Rattle.array_sync.proofs.zeros.zero_sector.Goals as goal
+
+pub returns : goal.returns
+returns c = refl
