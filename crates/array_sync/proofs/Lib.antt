@@ -18,3 +18,4 @@ pub mod Sources
 pub mod RebuiltRow
 pub mod MemberStaged
 pub mod Zeroed
+pub mod ZeroStaged

@@ -1,6 +1,6 @@
 -- What is added to the log for a row of zeros, as a whole.
-use Rattle.std.proofs.Common.{◌≡◌, ◌≢◌, ℕ, ◌+◌, ◌-◌, ◌*◌, ◌/◌, ◌<◌, ◌≤◌, ◌^◌, Bool, true, false, ◌&&◌, not, nat_lt, if◌then◌else◌, List, [], ◌++◌, map, length, slice_get, Option, Some, None, refl, sym, ap, ap₂, subst, ◌∙◌, inl, inr, lt-ltb, le-ltb, ltb-true, ltb-false, arith}
-use Rattle.std.proofs.lemmas.Bool.{both_ways, cases_Bool, cases_eq, cases_lt}
+use Rattle.std.proofs.Common.{◌≡◌, ◌≢◌, ℕ, ◌+◌, ◌-◌, ◌*◌, ◌/◌, ◌<◌, ◌≤◌, ◌^◌, Bool, true, false, ◌==◌, ◌&&◌, not, nat_lt, if◌then◌else◌, List, [], ◌++◌, map, length, slice_get, Option, Some, None, refl, sym, ap, ap₂, subst, ◌∙◌, inl, inr, lt-ltb, le-ltb, ltb-true, ltb-false, eqb-true, arith}
+use Rattle.std.proofs.lemmas.Bool.{and_parts, cases_Bool}
 use Rattle.std.proofs.lemmas.List.{length-append}
 use Rattle.std.specs.List.{list_all}
 use Rattle.std.specs.Option.{option_map_or}
@@ -25,7 +25,10 @@ use Rattle.array_model.specs.declared.Seat.TheVariants.{Whole, Missing, Rebuildi
 use Rattle.array_model.specs.View.{View, IsArray, LosesPlaces, is_missing_seat, is_whole_array, is_whole_seat, member_on, rows_of, shape_of}
 use Rattle.array_model.specs.Says.{Holds, IsOpen}
 use Rattle.array_model.specs.Members.{HasSlices, IsSameButSeats, Notes, members_of, slice_on}
+use Rattle.array_image.specs.Supers.{is_reshaping}
 use Rattle.array_model.proofs.Filled.{two_want}
+use Rattle.array_model.proofs.Firsts.{member_among}
+use Rattle.array_sync.proofs.Owed.{RowMoves}
 use Rattle.array_model.proofs.Noting.{length_members, shape_noted}
 use Rattle.array_model.proofs.RowWrites.{part_on}
 use Rattle.array_model.proofs.Views.{loses_then, notes_none, same_view, same_view_then, shape_members, shape_then}
@@ -36,7 +39,7 @@ use Rattle.array_core.specs.Staging.{AddsSupersOf}
 use Rattle.array_core.specs.Superblocks.{adopted, adopted_resync, keeps_rows, raised, resynced_to}
 use Rattle.array_core.specs.Writing.{KeepsElsewhere}
 use Rattle.array_core.proofs.RowLists.{some_payload}
-use Rattle.array_sync.specs.Rows.{AddsCopies, AreCopies, AreZeros, OfThere, is_there, lacks_two}
+use Rattle.array_sync.specs.Rows.{AddsCopies, AreCopies, AreZeros, OfCounting, counts_in, lacks_two}
 use Rattle.array_sync.specs.Steps.{HasZeros, MayStep, MayZero, Zeroes, as_it_was, done, offset_after, resynced, row_in, zeroed, zeroing}
 use Rattle.array_sync.proofs.Adopted.{adopted_kept}
 use Rattle.array_sync.proofs.Answering.{row_elsewhere}
@@ -140,10 +143,10 @@ pub record ZeroStaged (v : View) (xs : List Target) : Type 0 where
   pub own_data : List Target
   pub added : xs ≡ supers ++ own_data
   pub adds : AddsSupersOf (zeroed v) [] supers
-  pub copies : AreCopies v (OfThere v (first_unsynced v.truth * 128) v.truth.raid_disks) AreZeros own_data
+  pub copies : AreCopies v (OfCounting v (first_unsynced v.truth) v.truth.raid_disks) AreZeros own_data
 
 pub staged : (v : View) (row offset : ℕ) (c : Change) (x y z : List Target) → IsYoung v → row ≡ first_unsynced v.truth → offset ≡ offset_after v (row + 1) → c ≡ resynced_to v offset
-    → lacks_two v row ≡ false → x ≡ [] → AddsSupersOf (adopted c v) x y → AddsCopies v (OfThere v (row * 128) v.truth.raid_disks) AreZeros 2048 y z
+    → lacks_two v row ≡ false → x ≡ [] → AddsSupersOf (adopted c v) x y → AddsCopies v (OfCounting v row v.truth.raid_disks) AreZeros 2048 y z
     → ZeroStaged v z
 staged v row offset c x y z is row_is offset_is change few empty adds copies =
     let next : adopted c v ≡ zeroed v =
@@ -155,7 +158,7 @@ staged v row offset c x y z is row_is offset_is change few empty adds copies =
       own_data = copies.targets;
       added = copies.appended;
       adds = subst (λ (g : View). AddsSupersOf g [] y) next (subst (λ xs. AddsSupersOf (adopted c v) xs y) empty adds);
-      copies = subst (λ (r : ℕ). AreCopies v (OfThere v (r * 128) v.truth.raid_disks) AreZeros copies.targets) row_is copies.copies;
+      copies = subst (λ (r : ℕ). AreCopies v (OfCounting v r v.truth.raid_disks) AreZeros copies.targets) row_is copies.copies;
     }
 
 pub staged_room : (v : View) (row offset : ℕ) (c : Change) → IsYoung v → row ≡ first_unsynced v.truth → offset ≡ offset_after v (row + 1) → c ≡ resynced_to v offset → adopted c v ≡ zeroed v
@@ -179,10 +182,7 @@ zeroed_array v is =
       reshape = old.reshape;
     }
 
-there_seat : (v : View) (j : ℕ) → is_there v j ≡ true → slice_get v.seats j ≢ Some Missing
-there_seat v j there gone = both_ways (is_there v j) (ap (λ (o : Option Seat). option_map_or (λ seat. not (is_missing_seat seat)) o false) gone) there
-
-module _ (v : View) (a b : Seen) (xs : List Target) (row : ZeroStaged v xs) (reads : OnlyReads a b) where
+module _ (v : View) (a b : Seen) (xs : List Target) (row : ZeroStaged v xs) where
   -- one of the first two members is there
   one_there : (j : ℕ) × (j < v.truth.raid_disks) × (slice_get v.seats j ≢ Some Missing)
   one_there =
@@ -209,7 +209,7 @@ module _ (v : View) (a b : Seen) (xs : List Target) (row : ZeroStaged v xs) (rea
       record {
         position = at.position;
         low = at.low;
-        there = there_seat v at.position at.inside.3;
+        there = seat_there v at.position (first_unsynced v.truth * 128 + 127) (ltb-true (first_unsynced v.truth * 128 + 127) (member_on v at.position).reach at.inside.3);
         disk = at.disk;
         sector = at.sector;
         at = at.at;
@@ -218,5 +218,74 @@ module _ (v : View) (a b : Seen) (xs : List Target) (row : ZeroStaged v xs) (rea
       }
 
   -- what it needs of the map of spent sectors, and of the members
-  abbrev pub Needs : (ℕ → Bool) → Type 0
-  Needs spent = ((y : ℕ) → spent y ≡ false → row_in v y < first_unsynced v.truth) × IsSettled (shape_of v) v.number a.held
+  abbrev Needs : (ℕ → Bool) → Type 0
+  Needs spent = ((y : ℕ) → spent y ≡ false → row_in (zeroing v) y < first_unsynced v.truth) × IsSettled (shape_of (zeroing v)) v.number a.held
+
+  copies_zeroing : AreCopies (zeroing v) (OfCounting (zeroing v) (first_unsynced v.truth) v.truth.raid_disks) AreZeros row.own_data
+  copies_zeroing = record {
+    on = λ d s u pay.
+        let at = row.copies.on d s u pay in
+        record { sector = at.sector; position = at.position; low = at.low; disk = at.disk; at = at.at; inside = at.inside; bytes = at.bytes; long = at.long };
+    has = λ t j inside. row.copies.has t j inside;
+    apart = row.copies.apart;
+  }
+
+  live_on : IsOpen (shape_of (zeroing v)) v.number a → (d t : ℕ) (u : List ℕ) → IsPayload row.own_data d t u → IsLive a a d t
+  live_on opened d t u pay =
+      let at = row.copies.on d t u pay in
+      let last = at.inside.1 in
+      let counts = ltb-true (first_unsynced v.truth * 128 + 127) (member_on v at.position).reach at.inside.3 in
+      let among : Among (member_on v at.position) (shape_of (zeroing v)).members =
+      subst (λ (ms : List Member). Among (member_on v at.position) ms) (sym (shape_members (zeroing v))) (member_among v at.position v.truth.raid_disks at.low) in
+      subst (λ e. IsLive a a e t) (sym at.disk)
+      (subst (λ e. IsLive a a (slice_on v at.position) e) (sym at.at)
+      (opened (member_on v at.position) at.sector among (omega (arith, last, counts))))
+
+  -- it isn't whole, so it isn't marked
+  not_marked : (v.marked ≡ true → is_whole_array (zeroing v) ≡ true) → v.marked ≡ false
+  not_marked steady = by v.marked refl
+    where
+      by : (b : Bool) → v.marked ≡ b → v.marked ≡ false
+      by false is = is
+      by true is =
+          let whole = and_parts (list_all is_whole_seat v.seats) ((first_unsynced v.truth == rows_of v) && (not false && not (is_reshaping v.truth))) (steady is) in
+          let synced = and_parts (first_unsynced v.truth == rows_of v) (not false && not (is_reshaping v.truth)) whole.1 in
+          let same = eqb-true (first_unsynced v.truth) (rows_of v) synced.0 in
+          let low = row.is.row in
+          absurd (omega (arith, same, low))
+
+  pub zero_step : Step (zeroing v) (raised v.truth.events) (offset_after v (first_unsynced v.truth + 1)) (first_unsynced v.truth + 1) v.seats false row.own_data a a Needs
+  zero_step = record {
+    is_array = zeroing_array v row.is;
+    next = next_array (zeroing v) (unsynced v row.is);
+    on = data_on;
+    apart = row.copies.apart;
+    present = λ k there. there;
+    more = raised_least v.truth.events;
+    unsynced = let first = next_unsynced (zeroing v) (unsynced v row.is) in omega (arith, first);
+    some = one_there.0;
+    some_low = one_there.1;
+    some_there = slot_there (zeroing v) one_there.0 (zeroing_array v row.is) one_there.1 one_there.2;
+    settled = λ steady s vals spent needs holds. needs.1;
+    unmarked = λ steady. refl;
+    state = λ s. next_state s (zeroing v);
+    rows = next_rows (zeroing v);
+    live = λ rows opened also. live_on opened;
+    moves = λ rows opened sized even spent needs.
+        subst (λ (f : Shape). RowMoves (zeroing v) f (first_unsynced v.truth + 1) spent (current_in a.held) row.own_data) (sym (next_shape (zeroing v)))
+        (zero_moves (zeroing v) a row.own_data (zeroing_array v row.is) rows copies_zeroing spent needs.0);
+  }
+
+  pub zero_members_on : AreOnMembers v xs
+  zero_members_on d t u pay =
+      let at = subst (AreOnMembers (zeroing v)) (sym row.added)
+      (on_members (zeroing v) (raised v.truth.events) (offset_after v (first_unsynced v.truth + 1)) (first_unsynced v.truth + 1) v.seats false row.supers row.own_data a a zero_step row.adds) d t u pay in
+      record { position = at.position; low = at.low; there = at.there; disk = at.disk; sector = at.sector }
+
+  pub zero_valid : list_all is_target xs ≡ true
+  zero_valid = all_valid v xs row.is.is_array zero_members_on
+
+  pub zero_apart : are_apart xs ≡ true
+  zero_apart =
+      ap are_apart row.added
+      ∙ all_apart (zeroing v) (raised v.truth.events) (offset_after v (first_unsynced v.truth + 1)) (first_unsynced v.truth + 1) v.seats false row.supers row.own_data a a zero_step row.adds

@@ -19,7 +19,7 @@ use Rattle.array_image.proofs.Settled.{among_take}
 use Rattle.commit_log.proofs.Story.{payload_is}
 use Rattle.array_model.specs.declared.Seat.{Seat}
 use Rattle.array_model.specs.declared.Seat.TheVariants.{Whole, Missing, Rebuilding}
-use Rattle.array_model.specs.View.{View, IsArray, is_missing_seat, member_on, seat_reach, shape_of}
+use Rattle.array_model.specs.View.{View, IsArray, member_on, seat_reach, shape_of}
 use Rattle.array_model.specs.Members.{slice_on}
 use Rattle.array_model.specs.Rows.{source_at, sector_at, written}
 use Rattle.array_model.proofs.DataFrames.{columns_same}
@@ -28,7 +28,8 @@ use Rattle.array_model.proofs.Firsts.{position_of}
 use Rattle.array_model.proofs.Looking.{look_payload}
 use Rattle.array_model.proofs.MirrorRow.{agree_one}
 use Rattle.array_model.proofs.Views.{shape_members}
-use Rattle.array_sync.specs.Rows.{AddsCopies, AreCopies, AreZeros, OfMember, OfThere, is_there}
+use Rattle.array_core.specs.Staging.{HasRowRebuilds}
+use Rattle.array_sync.specs.Rows.{AddsCopies, AreCopies, AreZeros, OfMember, OfCounting, counts_in}
 use Rattle.array_sync.specs.Steps.{row_in}
 use Rattle.array_sync.proofs.Copying.{copies_then, one_target}
 use Rattle.array_sync.proofs.Owed.{RowMoves, none_or}
@@ -56,12 +57,12 @@ zeros_next v p first sector from xs ys zs is_array low blank least so_far added 
     (λ t j before now. let most = before.1 in let low_t = now.0 in omega (arith, most, low_t, at))
     so_far one)
 
-pub zeros_more : (v : View) (first k : ℕ) (xs ys zs : List Target) → IsArray v → AddsCopies v (OfThere v first k) AreZeros (k * 128) xs ys
-    → AddsCopies v (λ t j. OfMember k first 128 t j × (is_there v j ≡ true)) AreZeros 128 ys zs
-    → AddsCopies v (OfThere v first (k + 1)) AreZeros ((k + 1) * 128) xs zs
-zeros_more v first k xs ys zs is_array so_far one =
-    subst (λ (n : ℕ). AddsCopies v (OfThere v first (k + 1)) AreZeros n xs zs) (let e : k * 128 + 128 ≡ (k + 1) * 128 = omega arith in e)
-    (copies_then v (OfThere v first k) (λ t j. OfMember k first 128 t j × (is_there v j ≡ true)) (OfThere v first (k + 1)) AreZeros (k * 128) 128 xs ys zs is_array
+pub zeros_more : (v : View) (row k : ℕ) (xs ys zs : List Target) → IsArray v → AddsCopies v (OfCounting v row k) AreZeros (k * 128) xs ys
+    → AddsCopies v (λ t j. OfMember k (row * 128) 128 t j × (counts_in v row j ≡ true)) AreZeros 128 ys zs
+    → AddsCopies v (OfCounting v row (k + 1)) AreZeros ((k + 1) * 128) xs zs
+zeros_more v row k xs ys zs is_array so_far one =
+    subst (λ (n : ℕ). AddsCopies v (OfCounting v row (k + 1)) AreZeros n xs zs) (let e : k * 128 + 128 ≡ (k + 1) * 128 = omega arith in e)
+    (copies_then v (OfCounting v row k) (λ t j. OfMember k (row * 128) 128 t j × (counts_in v row j ≡ true)) (OfCounting v row (k + 1)) AreZeros (k * 128) 128 xs ys zs is_array
     (λ t j is. let low = is.2 in (is.0, is.1, omega (arith, low), is.3))
     (λ t j is. let at = is.0.2 in (is.0.0, is.0.1, omega (arith, at), is.1))
     (λ t j is. elim (cases_lt j k) [
@@ -142,7 +143,7 @@ all_xor c n t (m ∷ ms) all = ap₂ xor (all m (inl refl)) (all_xor c n t ms (�
 
 -- ---- the row
 
-module _ (v : View) (b : Seen) (xs : List Target) (is_array : IsArray v) (copies : AreCopies v (OfThere v (v.resync * 128) v.truth.raid_disks) AreZeros xs) where
+module _ (v : View) (b : Seen) (xs : List Target) (is_array : IsArray v) (rows : HasRowRebuilds v) (copies : AreCopies v (OfCounting v v.resync v.truth.raid_disks) AreZeros xs) where
   abbrev n : ℕ
   n = v.number
 
@@ -164,21 +165,21 @@ module _ (v : View) (b : Seen) (xs : List Target) (is_array : IsArray v) (copies
   same_before : (d t : ℕ) → t < v.resync * 128 → now d (data_sector + t) ≡ cur d (data_sector + t)
   same_before d t before = ap (λ (o : Option (List ℕ)). unwrap_or o (current_in b.held d (data_sector + t))) (none_before d t before)
 
-  -- whoever counts in the row isn't missing
-  counts_there : (j t : ℕ) → t < (member_on v j).reach → is_there v j ≡ true
-  counts_there j t counts = by (slice_get v.seats j) counts
+  -- whoever counts at a sector of the row counts in it
+  counts_all : (j t : ℕ) → t < (member_on v j).reach → v.resync * 128 ≤ t → counts_in v v.resync j ≡ true
+  counts_all j t counts first = lt-ltb (v.resync * 128 + 127) (member_on v j).reach (by (slice_get v.seats j) refl counts)
     where
-      by : (o : Option Seat) → t < option_map_or (seat_reach v.truth.size) o 0 → option_map_or (λ seat. not (is_missing_seat seat)) o false ≡ true
-      by None less = absurd (omega (arith, less))
-      by (Some Whole) less = refl
-      by (Some Missing) less = absurd (omega (arith, less))
-      by (Some (Rebuilding to)) less = refl
+      by : (o : Option Seat) → slice_get v.seats j ≡ o → t < option_map_or (seat_reach v.truth.size) o 0 → v.resync * 128 + 127 < option_map_or (seat_reach v.truth.size) o 0
+      by None is less = absurd (omega (arith, less))
+      by (Some Whole) is less = let whole = is_array.whole_rows in omega (arith, less, whole, first)
+      by (Some Missing) is less = absurd (omega (arith, less))
+      by (Some (Rebuilding to)) is less = let whole = (rows j to is).0 in omega (arith, less, whole, first)
 
   zeros_at : (m : Member) (t : ℕ) → Among m (shape_of v).members → t < m.reach → v.resync * 128 ≤ t → t < v.resync * 128 + 128 → data_of now n t m ≡ zeros 512
   zeros_at m t among counts first last =
       let at = position_of v v.truth.raid_disks m (subst (λ (ms : List Member). Among m ms) (shape_members v) among) in
       let reach : t < (member_on v at.0).reach = subst (λ (o : Member). t < o.reach) at.2 counts in
-      let has = copies.has t at.0 (first, last, at.1, counts_there at.0 t reach) in
+      let has = copies.has t at.0 (first, last, at.1, counts_all at.0 t reach first) in
       let is = copies.on (slice_on v at.0) (data_sector + t) has.0 has.1 in
       subst (λ (o : Member). data_of now n t o ≡ zeros 512) (sym at.2)
       (ap (λ (o : Option (List ℕ)). unwrap_or o (current_in b.held (slice_on v at.0) (data_sector + t))) (payload_is xs (slice_on v at.0) (data_sector + t) has.0 copies.apart has.1) ∙ is.bytes)

@@ -1,7 +1,6 @@
 -- Rows of the members' data: which members make the others of their row, what these give at a member that is rebuilt, and the sectors
 -- that are written for them.
-use Rattle.std.specs.Prelude.{◌≡◌, ℕ, ◌+◌, ◌*◌, ◌<◌, ◌≤◌, Bool, true, false, ◌==◌, ◌&&◌, ◌||◌, not, nat_lt, if◌then◌else◌, List, ◌++◌, map, length, slice_get}
-use Rattle.std.specs.Option.{option_map_or}
+use Rattle.std.specs.Prelude.{◌≡◌, ℕ, ◌+◌, ◌*◌, ◌<◌, ◌≤◌, Bool, true, false, ◌==◌, ◌&&◌, ◌||◌, not, nat_lt, if◌then◌else◌, List, ◌++◌, map, length}
 use Rattle.std.specs.List.{list_all, range_with_len}
 use Rattle.rack.specs.Seen.{Image, Seen}
 use Rattle.rack.specs.Targets.{Target}
@@ -13,7 +12,7 @@ use Rattle.array_image.specs.Record.{are_apart}
 use Rattle.array_image.specs.Stripes.{Layout, mirror, parity, width, given}
 use Rattle.array_image.specs.Spent.{wanting, spent_with}
 use Rattle.array_image.specs.Held.{current_in}
-use Rattle.array_model.specs.View.{View, is_missing_seat, member_on, shape_of}
+use Rattle.array_model.specs.View.{View, member_on, shape_of}
 use Rattle.array_model.specs.Says.{IsOpen}
 use Rattle.array_model.specs.Members.{members_of, row_layout, row_of, slice_on}
 
@@ -92,13 +91,13 @@ pub record AreCopies (v : View) (within : ℕ → ℕ → Type 0) (has_bytes : �
   pub has : (t j : ℕ) → within t j → (u : List ℕ) × IsPayload xs (slice_on v j) (data_sector + t) u
   pub apart : are_apart xs ≡ true
 
--- a member isn't missing
-abbrev pub is_there : View → ℕ → Bool
-is_there v position = option_map_or (λ seat. not (is_missing_seat seat)) (slice_get v.seats position) false
+-- a member counts in a row
+abbrev pub counts_in : View → ℕ → ℕ → Bool
+counts_in v row position = nat_lt (row * 128 + 127) (member_on v position).reach
 
--- a sector of a row, of the first members that aren't missing
-abbrev pub OfThere : View → ℕ → ℕ → ℕ → ℕ → Type 0
-OfThere v first members t j = (first ≤ t) × (t < first + 128) × (j < members) × (is_there v j ≡ true)
+-- a sector of a row, of the first members that count in it
+abbrev pub OfCounting : View → ℕ → ℕ → ℕ → ℕ → Type 0
+OfCounting v row members t j = (row * 128 ≤ t) × (t < row * 128 + 128) × (j < members) × (counts_in v row j ≡ true)
 
 -- two members don't count in a row
 abbrev pub lacks_two : View → ℕ → Bool

@@ -110,14 +110,14 @@ row_in v y = row_at (sector_in (layout_at (shape_of v) y) y)
 pub record MayZero (s : State) (v w : View) (spent : ℕ → Bool) (number : ℕ) (on : List ℕ) (a : Seen) : Type 0 where
   pub step : MayStep s (zeroing v) (resynced (zeroing v)) (zeroing w) number on a
   pub covers : Covers (zeroing w) spent
-  pub aside : (y : ℕ) → spent y ≡ false → row_in v y < first_unsynced v.truth
-  pub single : IsSettled (shape_of v) v.number a.held
+  pub aside : (y : ℕ) → spent y ≡ false → row_in (zeroing v) y < first_unsynced v.truth
+  pub single : IsSettled (shape_of (zeroing v)) v.number a.held
 
 -- Each stop leaves the new superblocks, and zeros in the row; each sector of a member that is left has one value.
 pub record HasZeros (s : State) (v w : View) (b : Seen) : Type 0 where
   pub durable : (r : Image) → IsLeft b r → HasFields s v.number (zeroed v).truth r
-  pub zeros : (r : Image) → IsLeft b r → (y : ℕ) → row_in v y ≡ first_unsynced v.truth → value_by (shape_of v) r v.number y ≡ zeros 512
-  pub single : IsSettled (shape_of w) w.number b.held
+  pub zeros : (r : Image) → IsLeft b r → (y : ℕ) → row_in (zeroing v) y ≡ first_unsynced v.truth → value_by (shape_of (zeroing v)) r v.number y ≡ zeros 512
+  pub single : IsSettled (shape_of (zeroing w)) w.number b.held
 
 -- A young array zeroes its next row by one commit: the values of the rows before it stay, and those of the row are zeros.
 pub record Zeroes (v w : View) (number next_number : ℕ) (on : List ℕ) (a b : Seen) (answered : Bool) : Type 0 where
@@ -126,8 +126,8 @@ pub record Zeroes (v w : View) (number next_number : ℕ) (on : List ℕ) (a b :
   pub view : Stepped v (zeroed v) w a b is_done
   pub moving :
       (s : State) (vals : ℕ → Values) (spent : ℕ → Bool) → MayZero s v w spent number on a
-      → Moving s (zeroing v) (resynced (zeroing v)) (zeroing w) spent a b vals (shape_of v) vals
+      → Moving s (zeroing v) (resynced (zeroing v)) (zeroing w) spent a b vals (if_done is_done (shape_of (zeroing v)) (shape_of (resynced (zeroing v)))) vals
   pub row :
       is_done ≡ true → (s : State) (vals : ℕ → Values) (spent : ℕ → Bool) → MayZero s v w spent number on a
-      → Holds s (shape_of v) (zeroing v) vals spent a → HasZeros s v w b
+      → Holds s (shape_of (zeroing v)) (zeroing v) vals spent a → HasZeros s v w b
   pub kept : (s : State) → MayStep s (zeroing v) (resynced (zeroing v)) (zeroing w) number on a → LogKept s next_number (has_gone w) b

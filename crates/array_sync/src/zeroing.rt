@@ -42,8 +42,8 @@ fn answer(array: &Array, row: u64) -> Result<(), Spent>
     }
 }
 
-/// Zeroes the next row of a young array that is left to zero: one commit of the log has zeros for the row of each member that isn't
-/// missing and the superblocks that leave the next row; the last row's say that none is left. It is durable when the call returns: the
+/// Zeroes the next row of a young array that is left to zero: one commit of the log has zeros for the row of each member that counts
+/// in it and the superblocks that leave the next row; the last row's say that none is left. It is durable when the call returns: the
 /// row's sectors are zeros, and those of the rows before it keep their values.
 /// It is refused exactly where two members are missing after the losses of this call, or not rebuilt past the row.
 pub fn zero_row<R: Rack>(

@@ -6,7 +6,7 @@ ghost use Rattle.array_image.specs.Spent.{wanting};
 ghost use Rattle.array_model.specs.View.{View, rows_of};
 ghost use Rattle.array_model.specs.Members.{members_of};
 ghost use Rattle.commit_log.specs.View.{most_sectors};
-ghost use Rattle.array_sync.specs.Rows.{AddsCopies, AreZeros, OfMember, OfThere, is_there, lacks_two};
+ghost use Rattle.array_sync.specs.Rows.{AddsCopies, AreZeros, OfMember, OfCounting, counts_in, lacks_two};
 
 use crate::rows::DATA_SECTOR;
 use array_core::{Array, Seat};
@@ -22,15 +22,18 @@ pub(crate) fn lacks_two(array: &Array, row: u64) -> bool
     array.wanting(row * CHUNK_SECTORS + (CHUNK_SECTORS - 1)) > 1
 }
 
-/// Whether a member isn't missing.
-fn is_there(array: &Array, position: u32) -> bool
-    requires { position < array.now.truth.raid_disks }
-    ensures { result ≡ is_there array.now position }
+/// Whether a member counts in a row.
+fn counts_in(array: &Array, row: u64, position: u32) -> bool
+    requires row { row < rows_of array.now }
+    requires position { position < array.now.truth.raid_disks }
+    ensures { result ≡ counts_in array.now row position }
 {
+    array.rules();
+    let last = row * CHUNK_SECTORS + (CHUNK_SECTORS - 1);
     match array.seat_on(position) {
-        Seat::Whole => true,
+        Seat::Whole => last < array.truth().size,
         Seat::Missing => false,
-        Seat::Rebuilding { .. } => true,
+        Seat::Rebuilding { to } => last < to,
     }
 }
 
@@ -60,28 +63,28 @@ fn stage_member(array: &Array, log: &mut Log, position: u32, row: u64)
     }
 }
 
-/// Adds zeros for a member's row to the log, unless it is missing.
-fn stage_if_there(array: &Array, log: &mut Log, position: u32, row: u64)
+/// Adds zeros for a member's row to the log, if it counts in it.
+fn stage_if_counts(array: &Array, log: &mut Log, position: u32, row: u64)
     requires row { row < rows_of array.now }
     requires position { position < array.now.truth.raid_disks }
     requires room { length log.old.added + 128 ≤ most_sectors }
-    ensures added { AddsCopies array.now (λ t j. OfMember position (row * 128) 128 t j × (is_there array.now j ≡ true)) AreZeros 128 log.old.added log.new.added }
+    ensures added { AddsCopies array.now (λ t j. OfMember position (row * 128) 128 t j × (counts_in array.now row j ≡ true)) AreZeros 128 log.old.added log.new.added }
     ensures log { log.new ≡ record log.old { added = log.new.added } }
 {
-    if is_there(array, position) {
+    if counts_in(array, row, position) {
         stage_member(array, log, position, row);
     }
 }
 
-/// Adds zeros for a row of each member that isn't missing to the log.
+/// Adds zeros for a row of each member that counts in it to the log.
 pub(crate) fn stage_zeros(array: &Array, log: &mut Log, row: u64)
     requires row { row < rows_of array.now }
     requires room { length log.old.added + 2048 ≤ most_sectors }
-    ensures added { AddsCopies array.now (OfThere array.now (row * 128) array.now.truth.raid_disks) AreZeros 2048 log.old.added log.new.added }
+    ensures added { AddsCopies array.now (OfCounting array.now row array.now.truth.raid_disks) AreZeros 2048 log.old.added log.new.added }
     ensures log { log.new ≡ record log.old { added = log.new.added } }
 {
     array.rules();
     for position in 0..array.truth().raid_disks {
-        stage_if_there(array, log, position, row);
+        stage_if_counts(array, log, position, row);
     }
 }

@@ -1,5 +1,5 @@
-use Rattle.std.proofs.Common.{ap, ◌≡◌, ◌+◌, ◌-◌, ◌*◌, ◌++◌, ◌∷◌, [], ℕ, ◌∙◌, refl, subst, arith}
-use Rattle.rack.specs.Targets.{target}
+use Rattle.std.proofs.Common.{ap, ◌≡◌, ◌+◌, ◌-◌, ◌*◌, ◌++◌, ◌∷◌, [], ℕ, List, ◌∙◌, refl, sym, subst, arith}
+use Rattle.rack.specs.Targets.{Target, target}
 use Rattle.array_image.specs.Places.{data_sector}
 use Rattle.commit_log.specs.View.{LogView}
 use Rattle.array_sync.specs.Rows.{AddsCopies, AreZeros, OfMember}
@@ -27,7 +27,8 @@ loop-sector-preserved c =
       zeros_next c.args.array.now c.args.position (c.args.row * 128) c.loop-sector.sector c.zero_sector-blank.result c.args.log.now.added c.loop-sector.log.added c.add.new.self.added
           c.rules.ensures c.requires.position c.zero_sector-blank.ensures (omega (arith, least)) c.loop-sector.invariant.0
           (ap (λ (l : LogView). l.added) c.add.ensures ∙ ap (λ (d : ℕ). c.loop-sector.log.added ++ target d (data_sector + c.loop-sector.sector) c.zero_sector-blank.result ∷ []) c.slice_at.ensures),
-      c.add.ensures ∙ ap (λ (l : LogView). record l { added = c.add.new.self.added }) c.loop-sector.invariant.1,
+      c.add.ensures ∙ ap (λ (l : LogView). record l { added = c.loop-sector.log.added ++ target c.slice_at.result (data_sector + c.loop-sector.sector) c.zero_sector-blank.result ∷ [] }) c.loop-sector.invariant.1
+          ∙ ap (λ (xs : List Target). record c.args.log.now { added = xs }) (sym (ap (λ (l : LogView). l.added) c.add.ensures)),
     )
 
 pub returns-clause-added : goal.returns-clause-added
