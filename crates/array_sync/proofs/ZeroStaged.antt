@@ -1,6 +1,6 @@
 -- What is added to the log for a row of zeros, as a whole.
-use Rattle.std.proofs.Common.{◌≡◌, ◌≢◌, ℕ, ◌+◌, ◌-◌, ◌*◌, ◌/◌, ◌<◌, ◌≤◌, ◌^◌, Bool, true, false, ◌==◌, ◌&&◌, not, nat_lt, if◌then◌else◌, List, [], ◌++◌, map, length, slice_get, Option, Some, None, refl, sym, ap, ap₂, subst, ◌∙◌, inl, inr, lt-ltb, le-ltb, ltb-true, ltb-false, eqb-true, arith}
-use Rattle.std.proofs.lemmas.Bool.{and_parts, cases_Bool}
+use Rattle.std.proofs.Common.{◌≡◌, ◌≢◌, ℕ, ◌+◌, ◌-◌, ◌*◌, ◌/◌, ◌<◌, ◌≤◌, ◌^◌, Bool, true, false, ◌==◌, ◌&&◌, ◌||◌, not, nat_lt, if◌then◌else◌, List, [], ◌++◌, map, length, slice_get, Option, Some, None, refl, sym, ap, ap₂, subst, ◌∙◌, inl, inr, lt-ltb, le-ltb, ltb-true, ltb-false, eqb-true, arith}
+use Rattle.std.proofs.lemmas.Bool.{and_parts, both_ways, cases_Bool}
 use Rattle.std.proofs.lemmas.List.{length-append}
 use Rattle.std.specs.List.{list_all}
 use Rattle.std.specs.Option.{option_map_or}
@@ -16,6 +16,7 @@ use Rattle.array_image.specs.SoundArray.{first_unsynced}
 use Rattle.array_image.specs.Arrays.{Member, Shape}
 use Rattle.array_image.specs.Held.{Among, IsSettled, current_in}
 use Rattle.array_image.specs.Left.{IsLeft}
+use Rattle.array_image.specs.Marks.{lowered}
 use Rattle.array_image.specs.Spent.{wanting}
 use Rattle.commit_log.specs.View.{LogView, names, next_number}
 use Rattle.commit_log.specs.Commits.{CommitCall}
@@ -31,13 +32,15 @@ use Rattle.array_model.proofs.Firsts.{member_among}
 use Rattle.array_sync.proofs.Owed.{RowMoves}
 use Rattle.array_model.proofs.Noting.{length_members, shape_noted}
 use Rattle.array_model.proofs.RowWrites.{part_on}
-use Rattle.array_model.proofs.Views.{loses_then, notes_none, same_view, same_view_then, shape_members, shape_then}
+use Rattle.array_model.proofs.Views.{loses_nobody, loses_then, notes_none, same_view, same_view_then, shape_members, shape_then}
 use Rattle.array_core.specs.declared.Change.{Change}
 use Rattle.array_core.specs.Opening.{resync_by}
 use Rattle.array_core.specs.Slots.{places_by}
 use Rattle.array_core.specs.Staging.{AddsSupersOf}
 use Rattle.array_core.specs.Superblocks.{adopted, adopted_resync, keeps_rows, raised, resynced_to}
 use Rattle.array_core.specs.Writing.{KeepsElsewhere}
+use Rattle.rack.proofs.Reading.{only_reads_start}
+use Rattle.array_core.proofs.LogWrites.{refused_kept}
 use Rattle.array_core.proofs.RowLists.{some_payload}
 use Rattle.array_sync.specs.Rows.{AddsCopies, AreCopies, AreZeros, OfCounting, counts_in, lacks_two}
 use Rattle.array_sync.specs.Steps.{HasZeros, MayStep, MayZero, Zeroes, as_it_was, done, offset_after, resynced, row_in, zeroed, zeroing}
@@ -182,16 +185,16 @@ zeroed_array v is =
       reshape = old.reshape;
     }
 
-module _ (v : View) (a b : Seen) (xs : List Target) (row : ZeroStaged v xs) where
-  -- one of the first two members is there
-  one_there : (j : ℕ) × (j < v.truth.raid_disks) × (slice_get v.seats j ≢ Some Missing)
-  one_there =
+module _ (v : View) (a : Seen) (xs : List Target) (row : ZeroStaged v xs) where
+  -- one of the first two members counts
+  one_counts : (j : ℕ) × (j < v.truth.raid_disks) × (counts_in v (first_unsynced v.truth) j ≡ true)
+  one_counts =
       let t = first_unsynced v.truth * 128 + 127 in
       let least = row.is.is_array.least in
       elim (cases_Bool (nat_lt t (member_on v 0).reach)) [
-        | inl is ↦ (0, omega (arith, least), seat_there v 0 t (ltb-true t (member_on v 0).reach is))
+        | inl is ↦ (0, omega (arith, least), is)
         | inr none ↦ elim (cases_Bool (nat_lt t (member_on v 1).reach)) [
-          | inl is ↦ (1, omega (arith, least), seat_there v 1 t (ltb-true t (member_on v 1).reach is))
+          | inl is ↦ (1, omega (arith, least), is)
           | inr other ↦
               let ms = (shape_of v).members in
               let count : length ms ≡ v.truth.raid_disks = ap length (shape_members v) ∙ length_members v in
@@ -203,13 +206,16 @@ module _ (v : View) (a b : Seen) (xs : List Target) (row : ZeroStaged v xs) wher
         ]
       ]
 
+  there : (j : ℕ) → counts_in v (first_unsynced v.truth) j ≡ true → slice_get v.seats j ≢ Some Missing
+  there j counts = seat_there v j (first_unsynced v.truth * 128 + 127) (ltb-true (first_unsynced v.truth * 128 + 127) (member_on v j).reach counts)
+
   data_on : (d t : ℕ) (u : List ℕ) → IsPayload row.own_data d t u → IsDataOn (zeroing v) d t u
   data_on d t u pay =
       let at = row.copies.on d t u pay in
       record {
         position = at.position;
         low = at.low;
-        there = seat_there v at.position (first_unsynced v.truth * 128 + 127) (ltb-true (first_unsynced v.truth * 128 + 127) (member_on v at.position).reach at.inside.3);
+        there = there at.position at.inside.3;
         disk = at.disk;
         sector = at.sector;
         at = at.at;
@@ -263,9 +269,9 @@ module _ (v : View) (a b : Seen) (xs : List Target) (row : ZeroStaged v xs) wher
     present = λ k there. there;
     more = raised_least v.truth.events;
     unsynced = let first = next_unsynced (zeroing v) (unsynced v row.is) in omega (arith, first);
-    some = one_there.0;
-    some_low = one_there.1;
-    some_there = slot_there (zeroing v) one_there.0 (zeroing_array v row.is) one_there.1 one_there.2;
+    some = one_counts.0;
+    some_low = one_counts.1;
+    some_there = slot_there (zeroing v) one_counts.0 (zeroing_array v row.is) one_counts.1 (there one_counts.0 one_counts.2);
     settled = λ steady s vals spent needs holds. needs.1;
     unmarked = λ steady. refl;
     state = λ s. next_state s (zeroing v);
@@ -289,3 +295,111 @@ module _ (v : View) (a b : Seen) (xs : List Target) (row : ZeroStaged v xs) wher
   zero_apart =
       ap are_apart row.added
       ∙ all_apart (zeroing v) (raised v.truth.events) (offset_after v (first_unsynced v.truth + 1)) (first_unsynced v.truth + 1) v.seats false row.supers row.own_data a a zero_step row.adds
+
+  pub zero_some : 0 < length xs
+  zero_some =
+      let counts = one_counts in
+      let has = row.copies.has (first_unsynced v.truth * 128) counts.0 (omega arith, omega arith, counts.1, counts.2) in
+      let some = some_payload row.own_data (slice_on v counts.0) (data_sector + first_unsynced v.truth * 128) has.0 has.1 in
+      let sum : length xs ≡ length row.supers + length row.own_data = ap length row.added ∙ length-append row.supers row.own_data in
+      omega (arith, some, sum)
+
+  pub zero_had : HasSlices v a → (d s : ℕ) (u : List ℕ) → look xs d s ≡ Some u → IsHad a d s
+  zero_had slices = all_had v a a xs slices (only_reads_start a slices.fit).stays zero_members_on
+
+zeroing_slices : (v : View) (a : Seen) → HasSlices v a → HasSlices (zeroing v) a
+zeroing_slices v a slices = record { fit = slices.fit; lasting = slices.lasting; disks = slices.disks; sectors = slices.sectors }
+
+zeroing_same : (v z : View) → IsSameButSeats v z → IsSameButSeats (zeroing v) (zeroing z)
+zeroing_same v z same = record { number = same.number; truth = same.truth; devices = same.devices; resync = ap first_unsynced same.truth; young = refl; marked = same.marked }
+
+zeroing_loses : (v z : View) (lost : ℕ → Bool) → LosesPlaces v z lost → LosesPlaces (zeroing v) (zeroing z) lost
+zeroing_loses v z lost loses = record { seats = loses.seats; went = loses.went }
+
+-- nobody went in no call
+abbrev no_notes : (v : View) (a : Seen) → Notes v v a a
+no_notes v a = record { same = same_view v; lost = λ place. false; loses = loses_nobody v; cause = λ place is. absurd (both_ways false refl is) }
+
+-- ---- the whole step
+
+module _ (v z w : View) (a c : Seen) (l : LogView) (on lost : List ℕ) (number after : ℕ) (staged_row : ZeroStaged v l.added) (slices : HasSlices v a)
+    (commit : CommitCall l on lost a c) (same : IsSameButSeats v z) (loses : LosesPlaces v z (names lost)) (z_array : IsArray z)
+    (adopts : w ≡ adopted (resynced_to v (offset_after v (first_unsynced v.truth + 1))) z) (number_is : l.number ≡ number) (after_is : after ≡ next_number l.number) where
+  same_g : IsSameButSeats (resynced (zeroing v)) (zeroing w)
+  same_g = next_same v z w staged_row.is z_array same adopts
+
+  loses_v : LosesPlaces v z (λ place. names lost place || false)
+  loses_v = loses_then v v z (λ place. false) (names lost) refl (loses_nobody v) loses
+
+  loses_g : LosesPlaces (resynced (zeroing v)) (zeroing w) (λ place. names lost place || false)
+  loses_g = next_loses v z w staged_row.is z_array same adopts (λ place. names lost place || false) (zeroing_loses v z (λ place. names lost place || false) loses_v)
+
+  real_noted : Notes (zeroed v) w a c
+  real_noted = record {
+    same = real_same v z w staged_row.is z_array same adopts;
+    lost = λ place. names lost place || false;
+    loses = real_loses v z w staged_row.is z_array same adopts (λ place. names lost place || false) loses_v;
+    cause = λ place is_lost. commit.gone.cause place (named (names lost place) is_lost);
+  }
+    where
+      named : (b : Bool) → (b || false) ≡ true → b ≡ true
+      named true is = refl
+      named false is = is
+
+  pub zero_steps : (answered : Bool) → Zeroes v w number after on a c answered
+  zero_steps answered = record {
+    is_done = true;
+    answer = λ ok. refl;
+    view = done real_noted;
+    moving = λ s vals spent may.
+        let moves = all_moves (zeroing v) (zeroing v) (zeroing z) (zeroing w) (raised v.truth.events) (offset_after v (first_unsynced v.truth + 1)) (first_unsynced v.truth + 1) v.seats false a a c l on lost staged_row.supers staged_row.own_data number after
+        (zero_step v a l.added staged_row) staged_row.adds staged_row.added (zeroing_slices v a slices) (only_reads_start a slices.fit) (no_notes (zeroing v) a)
+        commit (zeroing_same v z same) (zeroing_loses v z (names lost) loses) same_g (λ lost_v loses_z. next_loses v z w staged_row.is z_array same adopts lost_v loses_z) number_is after_is
+        s vals spent may.covers may.step (may.aside, may.single) in
+        record { stays = moves.stays; leaves = moves.leaves; holds = moves.holds; apart = moves.apart; calm = moves.calm };
+    row = λ is_done s vals spent may held. record {
+      durable =
+          all_durable (zeroing v) (zeroing v) (zeroing z) (zeroing w) (raised v.truth.events) (offset_after v (first_unsynced v.truth + 1)) (first_unsynced v.truth + 1) v.seats false a a c l on lost staged_row.supers staged_row.own_data number after
+          (zero_step v a l.added staged_row) staged_row.adds staged_row.added (zeroing_slices v a slices) (only_reads_start a slices.fit) (no_notes (zeroing v) a)
+          commit (zeroing_same v z same) (zeroing_loses v z (names lost) loses) same_g (λ lost_v loses_z. next_loses v z w staged_row.is z_array same adopts lost_v loses_z) number_is after_is
+          s vals spent may.covers may.step (may.aside, may.single) held;
+      zeros = λ r left.
+          row_zeros (zeroing v) a staged_row.own_data (zeroing_array v staged_row.is) may.step.commit.renew.rows (copies_zeroing v a l.added staged_row) r
+          (λ m t among.
+          all_data (zeroing v) (zeroing v) (zeroing z) (zeroing w) (raised v.truth.events) (offset_after v (first_unsynced v.truth + 1)) (first_unsynced v.truth + 1) v.seats false a a c l on lost staged_row.supers staged_row.own_data number after
+          (zero_step v a l.added staged_row) staged_row.adds staged_row.added (zeroing_slices v a slices) (only_reads_start a slices.fit) (no_notes (zeroing v) a)
+          commit (zeroing_same v z same) (zeroing_loses v z (names lost) loses) same_g (λ lost_v loses_z. next_loses v z w staged_row.is z_array same adopts lost_v loses_z) number_is after_is
+          s vals spent may.covers may.step (may.aside, may.single) held r left m t
+          (subst (λ (f : Shape). Among m f.members) (sym (next_shape (zeroing v))) among));
+      single =
+          subst (λ (f : Shape). IsSettled f (zeroing w).number c.held) (sym (shape_then (resynced (zeroing v)) (zeroing w) (λ place. names lost place || false) same_g.truth loses_g))
+          (subst (λ (n : ℕ). IsSettled (lowered (λ place. names lost place || false) (shape_of (resynced (zeroing v)))) n c.held) (sym same_g.number)
+          (all_settled (zeroing v) (zeroing v) (zeroing z) (zeroing w) (raised v.truth.events) (offset_after v (first_unsynced v.truth + 1)) (first_unsynced v.truth + 1) v.seats false a a c l on lost staged_row.supers staged_row.own_data number after
+          (zero_step v a l.added staged_row) staged_row.adds staged_row.added (zeroing_slices v a slices) (only_reads_start a slices.fit) (no_notes (zeroing v) a)
+          commit (zeroing_same v z same) (zeroing_loses v z (names lost) loses) same_g (λ lost_v loses_z. next_loses v z w staged_row.is z_array same adopts lost_v loses_z) number_is after_is
+          s vals spent may.covers may.step (may.aside, may.single) held));
+    };
+    kept =
+        all_kept (zeroing v) (zeroing v) (zeroing z) (zeroing w) (raised v.truth.events) (offset_after v (first_unsynced v.truth + 1)) (first_unsynced v.truth + 1) v.seats false a a c l on lost staged_row.supers staged_row.own_data number after
+        (zero_step v a l.added staged_row) staged_row.adds staged_row.added (zeroing_slices v a slices) (only_reads_start a slices.fit) (no_notes (zeroing v) a)
+        commit (zeroing_same v z same) (zeroing_loses v z (names lost) loses) same_g (λ lost_v loses_z. next_loses v z w staged_row.is z_array same adopts lost_v loses_z) number_is after_is;
+  }
+
+-- a row that was refused before its commit
+pub zero_refused : (v : View) (number : ℕ) (on : List ℕ) (a : Seen) (answered : Bool) → HasSlices v a → IsYoung v → answered ≡ false → Zeroes v v number number on a a answered
+zero_refused v number on a answered slices is refused =
+    let reads = only_reads_start a slices.fit in
+    record {
+      is_done = false;
+      answer = λ ok. absurd (both_ways answered refused ok);
+      view = as_it_was (notes_none v a a);
+      moving = λ s vals spent may.
+          let moves = read_moves s (zeroing v) (resynced (zeroing v)) a a vals spent slices.lasting reads in
+          record { stays = moves.stays; leaves = moves.leaves; holds = λ held. held; apart = moves.apart; calm = moves.calm };
+      row = λ none. absurd (both_ways false refl none);
+      kept = λ s may. refused_kept s number (zeroing v) a a slices.lasting reads may.commit.log;
+    }
+
+pub zero_leaves : (v : View) (a c : Seen) (l : LogView) (on lost : List ℕ) → ZeroStaged v l.added → HasSlices v a → CommitCall l on lost a c → KeepsElsewhere false v on a c
+zero_leaves v a c l on lost staged_row slices commit =
+    row_elsewhere v l on lost a a c staged_row.is.is_array.few (only_reads_start a slices.fit) (zero_members_on v a l.added staged_row) commit
