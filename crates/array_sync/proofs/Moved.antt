@@ -56,7 +56,7 @@ use Rattle.array_core.proofs.Stripped.{strip_written, whole_written}
 use Rattle.array_sync.proofs.Owed.{none_some, RowMoves, SaysEither, among_payload, look_first, look_last, none_or, restated, source_wants}
 
 module _ (s : State) (v w : View) (events offset resync : ℕ) (seats : List Seat) (marked : Bool) (a b c : Seen) (l : LogView) (on lost : List ℕ) (gone : ℕ → Bool) (supers own_data : List Target)
-    (is_array : IsArray v) (later_array : IsArray (restated v events offset resync seats marked)) (fresh : v.went ≡ []) 
+    (is_array : IsArray v) (later_array : IsArray (restated v events offset resync seats marked)) (fresh : v.went ≡ [])
     (unmarked : marked ≡ false) (commit : CommitCall l on lost b c) (ready : IsReady l on b) (decides : SomeoneDecides l.added on lost b)
     (kept : LogKept s (next_number l.number) (gone_with (λ place. false) lost) c)
     (quiet : (i : Image) → PicksLogs b i → (d t : ℕ) → replayed b.sectors i d t ≡ i d t)

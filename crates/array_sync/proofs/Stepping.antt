@@ -25,7 +25,7 @@ use Rattle.commit_log.proofs.KeptAfter.{kept_more}
 use Rattle.array_model.specs.declared.Seat.{Seat}
 use Rattle.array_model.specs.declared.Seat.TheVariants.{Missing}
 use Rattle.array_model.specs.Stages.{IsStateOf}
-use Rattle.array_model.specs.View.{View, IsArray, LosesPlaces, has_gone, is_missing_seat, is_whole_array, may_vary, place_at, shape_of}
+use Rattle.array_model.specs.View.{View, IsArray, LosesPlaces, has_gone, is_missing_seat, is_whole_array, place_at, shape_of}
 use Rattle.array_model.specs.Says.{Holds, IsOpen}
 use Rattle.array_model.specs.Members.{HasSlices, IsSameButSeats, Notes, members_of, slice_on}
 use Rattle.array_model.specs.ArrayCalls.{Covers, Turns, HasFields}

@@ -1,38 +1,33 @@
 -- What is added to the log for a row of zeros, as a whole.
-use Rattle.std.proofs.Common.{◌≡◌, ◌≢◌, ℕ, ◌+◌, ◌-◌, ◌*◌, ◌/◌, ◌<◌, ◌≤◌, ◌^◌, Bool, true, false, ◌==◌, ◌&&◌, ◌||◌, not, nat_lt, if◌then◌else◌, List, [], ◌++◌, map, length, slice_get, Option, Some, None, refl, sym, ap, ap₂, subst, ◌∙◌, inl, inr, lt-ltb, le-ltb, ltb-true, ltb-false, eqb-true, arith}
+use Rattle.std.proofs.Common.{◌≡◌, ◌≢◌, ℕ, ◌+◌, ◌-◌, ◌*◌, ◌/◌, ◌<◌, ◌≤◌, ◌^◌, Bool, true, false, ◌==◌, ◌&&◌, ◌||◌, not, nat_lt, if◌then◌else◌, List, [], ◌++◌, length, slice_get, Some, refl, sym, ap, subst, ◌∙◌, inl, inr, ltb-true, ltb-false, eqb-true, arith}
 use Rattle.std.proofs.lemmas.Bool.{and_parts, both_ways, cases_Bool}
 use Rattle.std.proofs.lemmas.List.{length-append}
 use Rattle.std.specs.List.{list_all}
-use Rattle.std.specs.Option.{option_map_or}
-use Rattle.rack.specs.Values.{Values}
-use Rattle.rack.specs.Seen.{Image, Seen, IsLive}
+use Rattle.rack.specs.Seen.{Seen, IsLive}
 use Rattle.rack.specs.Targets.{Target, look}
-use Rattle.rack.specs.Sequences.{IsPayload, OnlyReads}
+use Rattle.rack.specs.Sequences.{IsPayload}
 use Rattle.md_super.specs.declared.superblock.Super.{Super}
-use Rattle.pool_state.specs.declared.contents.State.{State}
 use Rattle.array_image.specs.Places.{data_sector}
 use Rattle.array_image.specs.Record.{are_apart, is_target}
 use Rattle.array_image.specs.SoundArray.{first_unsynced}
 use Rattle.array_image.specs.Arrays.{Member, Shape}
 use Rattle.array_image.specs.Held.{Among, IsSettled, current_in}
-use Rattle.array_image.specs.Left.{IsLeft}
 use Rattle.array_image.specs.Marks.{lowered}
 use Rattle.array_image.specs.Spent.{wanting}
 use Rattle.commit_log.specs.View.{LogView, names, next_number}
 use Rattle.commit_log.specs.Commits.{CommitCall}
 use Rattle.commit_log.specs.Phases.{IsHad}
-use Rattle.array_model.specs.declared.Seat.{Seat}
-use Rattle.array_model.specs.declared.Seat.TheVariants.{Whole, Missing, Rebuilding}
-use Rattle.array_model.specs.View.{View, IsArray, LosesPlaces, is_missing_seat, is_whole_array, is_whole_seat, member_on, rows_of, shape_of}
-use Rattle.array_model.specs.Says.{Holds, IsOpen}
+use Rattle.array_model.specs.declared.Seat.TheVariants.{Missing}
+use Rattle.array_model.specs.View.{View, IsArray, LosesPlaces, is_whole_array, is_whole_seat, member_on, rows_of, shape_of}
+use Rattle.array_model.specs.Says.{IsOpen}
 use Rattle.array_model.specs.Members.{HasSlices, IsSameButSeats, Notes, members_of, slice_on}
 use Rattle.array_image.specs.Supers.{is_reshaping}
 use Rattle.array_model.proofs.Filled.{two_want}
 use Rattle.array_model.proofs.Firsts.{member_among}
 use Rattle.array_sync.proofs.Owed.{RowMoves}
-use Rattle.array_model.proofs.Noting.{length_members, shape_noted}
+use Rattle.array_model.proofs.Noting.{length_members}
 use Rattle.array_model.proofs.RowWrites.{part_on}
-use Rattle.array_model.proofs.Views.{loses_nobody, loses_then, notes_none, same_view, same_view_then, shape_members, shape_then}
+use Rattle.array_model.proofs.Views.{loses_nobody, loses_then, notes_none, same_view, shape_members, shape_then}
 use Rattle.array_core.specs.declared.Change.{Change}
 use Rattle.array_core.specs.Opening.{resync_by}
 use Rattle.array_core.specs.Slots.{places_by}
@@ -43,13 +38,13 @@ use Rattle.rack.proofs.Reading.{only_reads_start}
 use Rattle.array_core.proofs.LogWrites.{refused_kept}
 use Rattle.array_core.proofs.RowLists.{some_payload}
 use Rattle.array_sync.specs.Rows.{AddsCopies, AreCopies, AreZeros, OfCounting, counts_in, lacks_two}
-use Rattle.array_sync.specs.Steps.{HasZeros, MayStep, MayZero, Zeroes, as_it_was, done, offset_after, resynced, row_in, zeroed, zeroing}
+use Rattle.array_sync.specs.Steps.{Zeroes, as_it_was, done, offset_after, resynced, row_in, zeroed, zeroing}
 use Rattle.array_sync.proofs.Adopted.{adopted_kept}
 use Rattle.array_sync.proofs.Answering.{row_elsewhere}
 use Rattle.array_sync.proofs.Logged.{AreOnMembers, all_had, all_valid}
-use Rattle.array_sync.proofs.Stepping.{IsDataOn, Step, all_apart, all_data, all_durable, all_kept, all_moves, all_settled, noted_g, on_members, read_moves}
+use Rattle.array_sync.proofs.Stepping.{IsDataOn, Step, all_apart, all_data, all_durable, all_kept, all_moves, all_settled, on_members, read_moves}
 use Rattle.array_sync.proofs.Summing.{sector_in_row}
-use Rattle.array_sync.proofs.Views.{IsUnsynced, keeps_none, next_array, next_rows, next_shape, next_state, next_unsynced, seat_there, slot_there, whole_offset}
+use Rattle.array_sync.proofs.Views.{IsUnsynced, keeps_none, next_array, next_rows, next_shape, next_state, next_unsynced, seat_there, slot_there}
 use Rattle.array_sync.proofs.Zeroed.{row_zeros, zero_moves}
 
 same_shape : (v : View) → shape_of (zeroing v) ≡ shape_of v

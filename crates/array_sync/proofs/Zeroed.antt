@@ -1,6 +1,6 @@
 -- A row of zeros on an array's members.
-use Rattle.std.proofs.Common.{◌≡◌, ◌⊎◌, ℕ, zero, suc, ◌+◌, ◌-◌, ◌*◌, ◌<◌, ◌≤◌, Bool, true, false, not, nat_lt, if◌then◌else◌, List, [], ◌∷◌, ◌++◌, map, take, drop, length, slice_get, Option, Some, None, unwrap_or, refl, sym, ap, ap₂, subst, ◌∙◌, inl, inr, ltb-true, lt-ltb, arith}
-use Rattle.std.proofs.lemmas.Bool.{both_ways, cases_lt}
+use Rattle.std.proofs.Common.{◌≡◌, ◌⊎◌, ℕ, zero, suc, ◌+◌, ◌-◌, ◌*◌, ◌<◌, ◌≤◌, Bool, true, false, nat_lt, if◌then◌else◌, List, [], ◌∷◌, ◌++◌, map, take, drop, length, slice_get, Option, Some, None, unwrap_or, refl, sym, ap, ap₂, subst, ◌∙◌, inl, inr, ltb-true, lt-ltb, arith}
+use Rattle.std.proofs.lemmas.Bool.{cases_lt}
 use Rattle.std.specs.Option.{option_map_or}
 use Rattle.rack.specs.Seen.{Image, Seen}
 use Rattle.rack.specs.Targets.{Target, look, target}
@@ -8,7 +8,7 @@ use Rattle.raid_map.specs.LeftSymmetric.{row_at}
 use Rattle.parity.specs.Xor.{xor, xor_all, zeros}
 use Rattle.array_image.specs.Places.{member_slice, data_sector}
 use Rattle.array_image.specs.Stripes.{Layout, mirror, parity, width, position_in, sector_in, Stripe, there, at_position, without, first_there, given, AgreeIn}
-use Rattle.array_image.specs.Arrays.{Member, Shape, column, layout_at, stripe_in, value_by}
+use Rattle.array_image.specs.Arrays.{Member, column, layout_at, stripe_in, value_by}
 use Rattle.array_image.specs.Even.{AreEven}
 use Rattle.array_image.specs.Held.{Among, current_in}
 use Rattle.array_image.proofs.Frames.{value_by_data}
@@ -21,7 +21,7 @@ use Rattle.array_model.specs.declared.Seat.{Seat}
 use Rattle.array_model.specs.declared.Seat.TheVariants.{Whole, Missing, Rebuilding}
 use Rattle.array_model.specs.View.{View, IsArray, member_on, seat_reach, shape_of}
 use Rattle.array_model.specs.Members.{slice_on}
-use Rattle.array_model.specs.Rows.{source_at, sector_at, written}
+use Rattle.array_model.specs.Rows.{sector_at, written}
 use Rattle.array_model.proofs.DataFrames.{columns_same}
 use Rattle.array_model.proofs.Filled.{long_zeros, xor_zeros}
 use Rattle.array_model.proofs.Firsts.{position_of}

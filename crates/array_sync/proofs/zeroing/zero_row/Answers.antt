@@ -1,6 +1,5 @@
 use Rattle.std.proofs.Common.{◌≡◌, ◌+◌, ◌*◌, ℕ, List, [], is_ok, sym, ap, subst, ◌∙◌, arith}
 use Rattle.rack.specs.Targets.{Target}
-use Rattle.rack.proofs.Reading.{only_reads_start}
 use Rattle.commit_log.specs.View.{LogView}
 use Rattle.array_image.specs.Stripes.{Layout}
 use Rattle.array_image.specs.SoundArray.{first_unsynced}
@@ -11,7 +10,7 @@ use Rattle.array_model.proofs.Reading.{row_layout_then}
 use Rattle.array_core.specs.declared.Change.{Change}
 use Rattle.array_core.specs.Staging.{AddsSupersOf}
 use Rattle.array_core.specs.Superblocks.{adopted, resynced_to}
-use Rattle.array_core.proofs.LogWrites.{few_in_order, reads_goes, goes_then}
+use Rattle.array_core.proofs.LogWrites.{few_in_order}
 use Rattle.array_sync.specs.Rows.{lacks_two}
 use Rattle.array_sync.specs.Steps.{Zeroes, offset_after, zeroed}
 use Rattle.array_sync.proofs.Answering.{not_ok, refused_by, served_by, staged_few}

@@ -1,9 +1,9 @@
-use Rattle.std.proofs.Common.{ap, ◌≡◌, ◌≤◌, ◌*◌, ℕ, ◌∙◌, refl, subst, arith}
+use Rattle.std.proofs.Common.{ap, ◌≡◌, ◌≤◌, ◌*◌, ◌∙◌, refl, arith}
 use Rattle.md_super.specs.declared.superblock.Super.{Super}
 use Rattle.commit_log.specs.View.{LogView}
 use Rattle.array_model.proofs.Noting.{final_is}
 use Rattle.array_model.proofs.Views.{same_view}
-use Rattle.array_sync.specs.Rows.{AddsCopies, AreZeros, OfCounting}
+use Rattle.array_sync.specs.Rows.{AreZeros, OfCounting}
 use Rattle.array_sync.proofs.Copying.{added_length, copies_by, no_copies}
 use Rattle.array_sync.proofs.Zeroed.{zeros_more}
 use Rattle.array_sync.proofs.zeros.stage_zeros.Goals as goal

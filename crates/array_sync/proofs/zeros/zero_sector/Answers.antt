@@ -1,5 +1,4 @@
 use Rattle.std.proofs.Common.{refl}
-use Rattle.parity.specs.Xor.{zeros}
 use Rattle.array_sync.proofs.zeros.zero_sector.Goals as goal
 
 pub returns : goal.returns
