@@ -266,8 +266,6 @@ module _ (s : State) (v w : View) (events offset resync : ℕ) (seats : List Sea
             events = let same = ap (λ (u : Super). u.events) fields in omega (arith, same);
           }
 
-    -- ---- moments
-
     old_says : (i before : Image) → Picks b before → IsAlike (replayed b.sectors i) (replayed b.sectors before)
         → SaysEither s v (restated v events offset resync seats marked) a vals spent (replayed b.sectors i)
     old_says i before picks alike =
@@ -285,8 +283,6 @@ module _ (s : State) (v w : View) (events offset resync : ℕ) (seats : List Sea
           },
           (e, early e left, λ place. same place super_sector),
         )
-
-    -- ---- after it
 
     all_after : (r : Image) → IsLeft c r → AllIn r
     all_after r left =
