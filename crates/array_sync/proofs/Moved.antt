@@ -298,7 +298,7 @@ module _ (s : State) (v w : View) (events offset resync : ℕ) (seats : List Sea
         }
 
     -- whoever is left has what was written, or what it had
-    kept_now : (m : Member) (t : ℕ) → Among m (shape_of (restated v events offset resync seats marked)).members → t < m.reach → gone m.place ≡ false
+    pub kept_now : (m : Member) (t : ℕ) → Among m (shape_of (restated v events offset resync seats marked)).members → t < m.reach → gone m.place ≡ false
         → current_in c.held (member_slice m.place v.number) (data_sector + t) ≡ written own_data (current_in b.held) (member_slice m.place v.number) (data_sector + t)
     kept_now m t among counts here =
         let d = member_slice m.place n in

@@ -46,7 +46,7 @@ use Rattle.array_sync.specs.Rows.{lacks_row}
 use Rattle.array_sync.specs.Steps.{MayStep, Steps, as_it_was, done}
 use Rattle.array_sync.proofs.Copying.{apart_joined}
 use Rattle.array_sync.proofs.Logged.{AreOnMembers, log_decides, log_kept, log_quiet, log_ready, nobody}
-use Rattle.array_sync.proofs.Moved.{data_after, durable_now, moved, settled_now}
+use Rattle.array_sync.proofs.Moved.{data_after, durable_now, kept_now, moved, settled_now}
 use Rattle.array_sync.proofs.Owed.{RowMoves, SaysEither, restated}
 use Rattle.array_sync.proofs.Supers.{IsMemberSuper, supers_apart, supers_on}
 
@@ -324,6 +324,25 @@ module _ {needs : (ℕ → Bool) → Type 0} (v u z w : View) (events offset res
         → r (member_slice m.place v.number) (data_sector + t) ≡ written own_data (current_in b.held) (member_slice m.place v.number) (data_sector + t)
     all_data held =
         data_after s v w events offset resync seats marked a b c l on lost (λ place. names lost place || notes.lost place) supers own_data
+        is_array step.next may.commit.renew.fresh (step.unmarked may.commit.steady)
+        commit ready decides kept_log quiet
+        (λ q early. left_before lasting reads.stays (λ d t live. reads.keeps.held d t live) q early)
+        added (ap are_apart added ∙ all_apart v events offset resync seats marked supers own_data a b step adds) adds
+        (supers_once v events offset resync seats marked supers own_data a b step adds) (of_supers v events offset resync seats marked supers own_data a b step adds)
+        (own_is v events offset resync seats marked supers own_data a b step adds)
+        (step.state s may.commit.renew.state may.commit.renew.events) (step.rows may.commit.renew.rows) step.more may.whole step.unsynced
+        step.some step.some_low step.some_there
+        (losing_of g w (λ place. names lost place || notes.lost place) same_g loses_g)
+        (λ place none. or_first (names lost place) (notes.lost place) none)
+        (λ none. none_named lost (λ place. left_w place (gone_none w none place)))
+        vals spent covers Middle (λ both. both.1) single_b opened_b moves_b
+        ((read_moves s v g a b vals spent lasting reads).holds held)
+
+    pub all_current : Holds s (shape_of v) v vals spent a → (m : Member) (t : ℕ) → Among m (shape_of (restated v events offset resync seats marked)).members → t < m.reach
+        → (names lost m.place || notes.lost m.place) ≡ false
+        → current_in c.held (member_slice m.place v.number) (data_sector + t) ≡ written own_data (current_in b.held) (member_slice m.place v.number) (data_sector + t)
+    all_current held =
+        kept_now s v w events offset resync seats marked a b c l on lost (λ place. names lost place || notes.lost place) supers own_data
         is_array step.next may.commit.renew.fresh (step.unmarked may.commit.steady)
         commit ready decides kept_log quiet
         (λ q early. left_before lasting reads.stays (λ d t live. reads.keeps.held d t live) q early)

@@ -1,5 +1,5 @@
 -- What is added to the log for a row of zeros, as a whole.
-use Rattle.std.proofs.Common.{◌≡◌, ◌≢◌, ℕ, ◌+◌, ◌-◌, ◌*◌, ◌/◌, ◌<◌, ◌≤◌, ◌^◌, Bool, true, false, ◌==◌, ◌&&◌, ◌||◌, not, nat_lt, if◌then◌else◌, List, [], ◌++◌, length, slice_get, Some, refl, sym, ap, subst, ◌∙◌, inl, inr, ltb-true, ltb-false, eqb-true, arith}
+use Rattle.std.proofs.Common.{◌≡◌, ◌≢◌, ℕ, ◌+◌, ◌-◌, ◌*◌, ◌/◌, ◌<◌, ◌≤◌, ◌^◌, Bool, true, false, ◌==◌, ◌&&◌, ◌||◌, not, nat_lt, if◌then◌else◌, List, [], ◌++◌, length, slice_get, Some, refl, sym, ap, ap₂, subst, ◌∙◌, inl, inr, ltb-true, ltb-false, eqb-true, arith}
 use Rattle.std.proofs.lemmas.Bool.{and_parts, both_ways, cases_Bool}
 use Rattle.std.proofs.lemmas.List.{length-append}
 use Rattle.std.specs.List.{list_all}
@@ -10,7 +10,7 @@ use Rattle.md_super.specs.declared.superblock.Super.{Super}
 use Rattle.array_image.specs.Places.{data_sector}
 use Rattle.array_image.specs.Record.{are_apart, is_target}
 use Rattle.array_image.specs.SoundArray.{first_unsynced}
-use Rattle.array_image.specs.Arrays.{Member, Shape}
+use Rattle.array_image.specs.Arrays.{Member, Shape, value_by}
 use Rattle.array_image.specs.Held.{Among, IsSettled, current_in}
 use Rattle.array_image.specs.Marks.{lowered}
 use Rattle.array_image.specs.Spent.{wanting}
@@ -42,10 +42,10 @@ use Rattle.array_sync.specs.Steps.{Zeroes, as_it_was, done, offset_after, resync
 use Rattle.array_sync.proofs.Adopted.{adopted_kept}
 use Rattle.array_sync.proofs.Answering.{row_elsewhere}
 use Rattle.array_sync.proofs.Logged.{AreOnMembers, all_had, all_valid}
-use Rattle.array_sync.proofs.Stepping.{IsDataOn, Step, all_apart, all_data, all_durable, all_kept, all_moves, all_settled, on_members, read_moves}
+use Rattle.array_sync.proofs.Stepping.{IsDataOn, Step, all_apart, all_current, all_data, all_durable, all_kept, all_moves, all_settled, on_members, read_moves}
 use Rattle.array_sync.proofs.Summing.{sector_in_row}
 use Rattle.array_sync.proofs.Views.{IsUnsynced, keeps_none, next_array, next_rows, next_shape, next_state, next_unsynced, seat_there, slot_there}
-use Rattle.array_sync.proofs.Zeroed.{row_zeros, zero_moves}
+use Rattle.array_sync.proofs.Zeroed.{row_zeros, row_zeros_left, zero_moves}
 
 same_shape : (v : View) → shape_of (zeroing v) ≡ shape_of v
 unfolding shape_of
@@ -366,6 +366,17 @@ module _ (v z w : View) (a c : Seen) (l : LogView) (on lost : List ℕ) (number 
           commit (zeroing_same v z same) (zeroing_loses v z (names lost) loses) same_g (λ lost_v loses_z. next_loses v z w staged_row.is z_array same adopts lost_v loses_z) number_is after_is
           s vals spent may.covers may.step (may.aside, may.single) held r left m t
           (subst (λ (f : Shape). Among m f.members) (sym (next_shape (zeroing v))) among));
+      current = λ y row.
+          ap₂ (λ (f : Shape) (n : ℕ). value_by f (current_in c.held) n y)
+          (shape_then (resynced (zeroing v)) (zeroing w) (λ place. names lost place || false) same_g.truth loses_g ∙ ap (lowered (λ place. names lost place || false)) (next_shape (zeroing v))) same_g.number
+          ∙ row_zeros_left (zeroing v) a staged_row.own_data (zeroing_array v staged_row.is) may.step.commit.renew.rows (copies_zeroing v a l.added staged_row) (λ place. names lost place || false) (current_in c.held)
+          (λ m t among.
+          all_current (zeroing v) (zeroing v) (zeroing z) (zeroing w) (raised v.truth.events) (offset_after v (first_unsynced v.truth + 1)) (first_unsynced v.truth + 1) v.seats false a a c l on lost staged_row.supers staged_row.own_data number after
+          (zero_step v a l.added staged_row) staged_row.adds staged_row.added (zeroing_slices v a slices) (only_reads_start a slices.fit) (no_notes (zeroing v) a)
+          commit (zeroing_same v z same) (zeroing_loses v z (names lost) loses) same_g (λ lost_v loses_z. next_loses v z w staged_row.is z_array same adopts lost_v loses_z) number_is after_is
+          s vals spent may.covers may.step (may.aside, may.single) held m t
+          (subst (λ (f : Shape). Among m f.members) (sym (next_shape (zeroing v))) among))
+          y row;
       single =
           subst (λ (f : Shape). IsSettled f (zeroing w).number c.held) (sym (shape_then (resynced (zeroing v)) (zeroing w) (λ place. names lost place || false) same_g.truth loses_g))
           (subst (λ (n : ℕ). IsSettled (lowered (λ place. names lost place || false) (shape_of (resynced (zeroing v)))) n c.held) (sym same_g.number)

@@ -15,7 +15,10 @@ use Rattle.array_image.proofs.Frames.{value_by_data}
 use Rattle.array_image.proofs.Losing.{data_of}
 use Rattle.array_image.proofs.Lost.{there_all}
 use Rattle.array_image.proofs.Noted.{columns_all}
+use Rattle.array_image.specs.Marks.{lower, lowered}
+use Rattle.array_image.proofs.Marked.{among_lowered}
 use Rattle.array_image.proofs.Settled.{among_take}
+use Rattle.array_model.proofs.Whole.{among_kept}
 use Rattle.commit_log.proofs.Story.{payload_is}
 use Rattle.array_model.specs.declared.Seat.{Seat}
 use Rattle.array_model.specs.declared.Seat.TheVariants.{Whole, Missing, Rebuilding}
@@ -200,6 +203,23 @@ module _ (v : View) (b : Seen) (xs : List Target) (is_array : IsArray v) (rows :
       (λ m among counts.
       let all = among_take (width layout) (shape_of v).members m among in
       same m t all counts ∙ zeros_at m t all counts inside.0 inside.1))
+
+  -- and in those of the members that are left
+  pub row_zeros_left : (gone : ℕ → Bool) (r : Image)
+      → ((m : Member) (t : ℕ) → Among m (shape_of v).members → t < m.reach → gone m.place ≡ false → r (member_slice m.place v.number) (data_sector + t) ≡ now (member_slice m.place v.number) (data_sector + t))
+      → (y : ℕ) → row_in v y ≡ v.resync → value_by (lowered gone (shape_of v)) r v.number y ≡ zeros 512
+  unfolding value_by
+  row_zeros_left gone r same y row =
+      let layout = layout_at (shape_of v) y in
+      let t = sector_in layout y in
+      let inside = row_sectors y row in
+      let ms = (shape_of v).members in
+      blank_given layout (stripe_in r n (lowered gone (shape_of v)) layout t) (position_in layout y)
+      (blank_columns r n t (take (width layout) (map (lower gone) ms))
+      (λ m among counts.
+      let left = among_take (width layout) (map (lower gone) ms) m among in
+      let all = among_lowered gone t ms m left counts in
+      same m t all counts (among_kept gone t ms m left counts) ∙ zeros_at m t all counts inside.0 inside.1))
 
   even_kept : AreEven (shape_of v) v.number v.resync cur → AreEven (shape_of v) v.number (v.resync + 1) now
   even_kept even y inside synced counts =

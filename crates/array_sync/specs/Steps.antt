@@ -7,7 +7,7 @@ use Rattle.pool_state.specs.declared.contents.State.{State}
 use Rattle.parity.specs.Xor.{zeros}
 use Rattle.raid_map.specs.LeftSymmetric.{row_at}
 use Rattle.array_image.specs.Arrays.{layout_at, value_by}
-use Rattle.array_image.specs.Held.{IsSettled}
+use Rattle.array_image.specs.Held.{IsSettled, current_in}
 use Rattle.array_image.specs.Left.{IsLeft}
 use Rattle.array_image.specs.SoundArray.{first_unsynced}
 use Rattle.array_image.specs.Stripes.{sector_in}
@@ -113,9 +113,11 @@ pub record MayZero (s : State) (v w : View) (spent : ℕ → Bool) (number : ℕ
   pub aside : (y : ℕ) → spent y ≡ false → row_in (zeroing v) y < first_unsynced v.truth
   pub single : IsSettled (shape_of (zeroing v)) v.number a.held
 
--- Each stop leaves the new superblocks, and zeros in the row; each sector of a member that is left has one value.
+-- Each stop leaves the new superblocks, and zeros in the row; the members that are left give zeros there, and each sector of theirs has
+-- one value.
 pub record HasZeros (s : State) (v w : View) (b : Seen) : Type 0 where
   pub durable : (r : Image) → IsLeft b r → HasFields s v.number (zeroed v).truth r
+  pub current : (y : ℕ) → row_in (zeroing v) y ≡ first_unsynced v.truth → value_by (shape_of (zeroing w)) (current_in b.held) w.number y ≡ zeros 512
   pub zeros : (r : Image) → IsLeft b r → (y : ℕ) → row_in (zeroing v) y ≡ first_unsynced v.truth → value_by (shape_of (zeroing v)) r v.number y ≡ zeros 512
   pub single : IsSettled (shape_of (zeroing w)) w.number b.held
 
