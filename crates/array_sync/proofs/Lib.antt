@@ -17,3 +17,5 @@ pub mod Restoring
 pub mod Sources
 pub mod RebuiltRow
 pub mod MemberStaged
+pub mod Zeroed
+pub mod ZeroStaged

@@ -33,7 +33,7 @@ use Rattle.commit_log.specs.Kept.{LogKept, gone_with}
 use Rattle.commit_log.proofs.Kept.{stands_of, before_inside, put_none, put_some}
 use Rattle.commit_log.proofs.Story.{payload_is}
 use Rattle.array_model.specs.declared.Seat.{Seat}
-use Rattle.array_model.specs.View.{View, IsArray, shape_of, spent_in, may_vary, is_missing_seat, place_at}
+use Rattle.array_model.specs.View.{View, IsArray, shape_of, may_vary, is_missing_seat, place_at}
 use Rattle.array_model.specs.Says.{Says, IsOpen, KeepsSource, HoldsShape, Holds, IsEarlier, HasNoOthers}
 use Rattle.array_model.specs.Stages.{IsStateOf, NoOthers, HasTargets}
 use Rattle.array_model.specs.ArrayCalls.{Turns, Covers, HasFields}
@@ -56,7 +56,7 @@ use Rattle.array_core.proofs.Stripped.{strip_written, whole_written}
 use Rattle.array_sync.proofs.Owed.{none_some, RowMoves, SaysEither, among_payload, look_first, look_last, none_or, restated, source_wants}
 
 module _ (s : State) (v w : View) (events offset resync : ℕ) (seats : List Seat) (marked : Bool) (a b c : Seen) (l : LogView) (on lost : List ℕ) (gone : ℕ → Bool) (supers own_data : List Target)
-    (is_array : IsArray v) (later_array : IsArray (restated v events offset resync seats marked)) (fresh : v.went ≡ []) (steady : may_vary v ≡ false)
+    (is_array : IsArray v) (later_array : IsArray (restated v events offset resync seats marked)) (fresh : v.went ≡ [])
     (unmarked : marked ≡ false) (commit : CommitCall l on lost b c) (ready : IsReady l on b) (decides : SomeoneDecides l.added on lost b)
     (kept : LogKept s (next_number l.number) (gone_with (λ place. false) lost) c)
     (quiet : (i : Image) → PicksLogs b i → (d t : ℕ) → replayed b.sectors i d t ≡ i d t)
@@ -71,10 +71,10 @@ module _ (s : State) (v w : View) (events offset resync : ℕ) (seats : List Sea
     (unsynced : first_unsynced (record v.truth { events = events; resync_offset = offset }) ≤ resync)
     (some : ℕ) (some_low : some < v.truth.raid_disks) (some_there : is_missing_seat (slot_on (restated v events offset resync seats marked) some).seat ≡ false)
     (losing : IsLosing (restated v events offset resync seats marked) w gone) (left_too : (place : ℕ) → gone place ≡ false → names lost place ≡ false) (nobody : w.went ≡ [] → lost ≡ [])
-    (vals : ℕ → Values) (spent : ℕ → Bool) (covers : Covers w spent) (unspent : (y : ℕ) → spent y ≡ false → spent_in v y ≡ false)
-    (H : Type 0) (begins : H → Holds s (shape_of v) v vals spent b)
+    (vals : ℕ → Values) (spent : ℕ → Bool) (covers : Covers w spent)
+    (H : Type 0) (begins : H → Holds s (shape_of v) v vals spent b) (single : H → IsSettled (shape_of v) v.number b.held)
     (opened : H → IsOpen (shape_of (restated v events offset resync seats marked)) v.number b)
-    (moves : H → RowMoves v (shape_of (restated v events offset resync seats marked)) resync (current_in b.held) own_data) where
+    (moves : H → RowMoves v (shape_of (restated v events offset resync seats marked)) resync spent (current_in b.held) own_data) where
   abbrev n : ℕ
   n = v.number
 
@@ -122,7 +122,7 @@ module _ (s : State) (v w : View) (events offset resync : ℕ) (seats : List Sea
     holds : Holds s (shape_of v) v vals spent b
     holds = begins h
 
-    move : RowMoves v (shape_of (restated v events offset resync seats marked)) resync (current_in b.held) own_data
+    move : RowMoves v (shape_of (restated v events offset resync seats marked)) resync spent (current_in b.held) own_data
     move = moves h
 
     -- contents with all data written, by what the members hold
@@ -144,7 +144,7 @@ module _ (s : State) (v w : View) (events offset resync : ℕ) (seats : List Sea
               ∙ elim (move.counted m t among counts) [
                 | inl was ↦
                     subst (λ p. before (member_slice p n) i ≡ current_in b.held (member_slice p n) i) was.2
-                    (holds.shape.settled steady was.0 t was.1 was.3 (before (member_slice was.0.place n) i)
+                    (single h was.0 t was.1 was.3 (before (member_slice was.0.place n) i)
                     (picks.picks (member_slice was.0.place n) i (holds.shape.open_slices was.0 t was.1 was.3)))
                 | inr new ↦ absurd (none_some (sym is ∙ new.1))
               ]
@@ -152,7 +152,7 @@ module _ (s : State) (v w : View) (events offset resync : ℕ) (seats : List Sea
         goal refl
 
     value_now : (y : ℕ) → spent y ≡ false → value_by (shape_of (restated v events offset resync seats marked)) (written own_data (current_in b.held)) v.number y ≡ (vals y).current
-    value_now y alive = move.value y (unspent y alive) ∙ holds.shape.current y alive
+    value_now y alive = move.value y alive ∙ holds.shape.current y alive
 
     even_now : AreEven (shape_of (restated v events offset resync seats marked)) v.number resync (written own_data (current_in b.held))
     even_now = move.even holds.shape.even
@@ -266,8 +266,6 @@ module _ (s : State) (v w : View) (events offset resync : ℕ) (seats : List Sea
             events = let same = ap (λ (u : Super). u.events) fields in omega (arith, same);
           }
 
-    -- ---- moments
-
     old_says : (i before : Image) → Picks b before → IsAlike (replayed b.sectors i) (replayed b.sectors before)
         → SaysEither s v (restated v events offset resync seats marked) a vals spent (replayed b.sectors i)
     old_says i before picks alike =
@@ -286,8 +284,6 @@ module _ (s : State) (v w : View) (events offset resync : ℕ) (seats : List Sea
           (e, early e left, λ place. same place super_sector),
         )
 
-    -- ---- after it
-
     all_after : (r : Image) → IsLeft c r → AllIn r
     all_after r left =
         let i = left.0 in
@@ -302,7 +298,7 @@ module _ (s : State) (v w : View) (events offset resync : ℕ) (seats : List Sea
         }
 
     -- whoever is left has what was written, or what it had
-    kept_now : (m : Member) (t : ℕ) → Among m (shape_of (restated v events offset resync seats marked)).members → t < m.reach → gone m.place ≡ false
+    pub kept_now : (m : Member) (t : ℕ) → Among m (shape_of (restated v events offset resync seats marked)).members → t < m.reach → gone m.place ≡ false
         → current_in c.held (member_slice m.place v.number) (data_sector + t) ≡ written own_data (current_in b.held) (member_slice m.place v.number) (data_sector + t)
     kept_now m t among counts here =
         let d = member_slice m.place n in
@@ -367,7 +363,7 @@ module _ (s : State) (v w : View) (events offset resync : ℕ) (seats : List Sea
               let t = sector_at shape y in
               let i = data_sector + t in
               let live = live_on lasting commit.stays (opened h m t found.among found.counts) in
-              elim (move.source y m (unspent y alive) is) [
+              elim (move.source y m alive is) [
                 | inl from ↦
                     let keeps = commit.apart d i live (not_log m.place i) (look_data d t ∙ from.4) in
                     holds.shape.within y alive u
@@ -383,7 +379,7 @@ module _ (s : State) (v w : View) (events offset resync : ℕ) (seats : List Sea
         ] in
         goal refl may
 
-    settled_now : IsSettled (lowered gone (shape_of (restated v events offset resync seats marked))) v.number c.held
+    pub settled_now : IsSettled (lowered gone (shape_of (restated v events offset resync seats marked))) v.number c.held
     settled_now m t among counts u may =
         let shape = shape_of g in
         let of = among_lowered gone t shape.members m among counts in
@@ -402,7 +398,7 @@ module _ (s : State) (v w : View) (events offset resync : ℕ) (seats : List Sea
               elim (move.counted m t of counts) [
                 | inl was ↦
                     let old = subst (λ p. MayLeave (b.held (member_slice p n) i) u) (sym was.2) (keeps.within u may) in
-                    let single : u ≡ current_in b.held (member_slice was.0.place n) i = holds.shape.settled steady was.0 t was.1 was.3 u old in
+                    let single : u ≡ current_in b.held (member_slice was.0.place n) i = single h was.0 t was.1 was.3 u old in
                     single ∙ ap (λ p. current_in b.held (member_slice p n) i) was.2 ∙ sym keeps.current
                 | inr new ↦ absurd (let bad : None ≡ Some new.0 = sym is ∙ new.1 in cc)
               ]
@@ -456,7 +452,11 @@ module _ (s : State) (v w : View) (events offset resync : ℕ) (seats : List Sea
       truth = λ r left t is. subst (IsEarlier t) (sym losing.truth) (all_truth r (all_after r left) t (subst (λ k. truth_in s r k ≡ Some t) losing.number is));
     }
 
-    -- whatever a stop leaves after it has the new superblocks
+    -- whatever a stop leaves after it has what was written, and the new superblocks
+    pub data_after : (r : Image) → IsLeft c r → (m : Member) (t : ℕ) → Among m (shape_of (restated v events offset resync seats marked)).members → t < m.reach
+        → r (member_slice m.place v.number) (data_sector + t) ≡ written own_data (current_in b.held) (member_slice m.place v.number) (data_sector + t)
+    data_after r left = counted r (all_after r left)
+
     pub durable_now : (r : Image) → IsLeft c r → HasFields s v.number (record v.truth { events = events; resync_offset = offset }) r
     durable_now r left = fields_now r (all_after r left)
 

@@ -14,7 +14,7 @@ use Rattle.array_image.specs.Even.{AreEven}
 use Rattle.array_image.specs.Held.{Among, first_counting, member_at, source_in}
 use Rattle.array_image.specs.Spent.{wanting}
 use Rattle.array_model.specs.declared.Seat.{Seat}
-use Rattle.array_model.specs.View.{View, shape_of, spent_in}
+use Rattle.array_model.specs.View.{View, shape_of}
 use Rattle.array_model.specs.Says.{Says}
 use Rattle.array_model.specs.Stages.{AmongTargets}
 use Rattle.array_model.specs.ArrayCalls.{KeepsSupers, HasFields}
@@ -38,14 +38,14 @@ SaysEither s v g a vals spent r =
 
 -- What a step owes, where g is the shape after it and `resync` the first row that it leaves: with its targets written, its members
 -- give each sector what they gave, by the sectors that gave it, and rows agree.
-pub record RowMoves (v : View) (g : Shape) (resync : ℕ) (cur : Image) (own_data : List Target) : Type 0 where
+pub record RowMoves (v : View) (g : Shape) (resync : ℕ) (spent : ℕ → Bool) (cur : Image) (own_data : List Target) : Type 0 where
   pub counted :
       (m : Member) (t : ℕ) → Among m g.members → t < m.reach
       → ((o : Member) × Among o (shape_of v).members × (o.place ≡ m.place) × (t < o.reach))
       ⊎ ((u : List ℕ) × (look own_data (member_slice m.place v.number) (data_sector + t) ≡ Some u))
-  pub value : (y : ℕ) → spent_in v y ≡ false → value_by g (written own_data cur) v.number y ≡ value_by (shape_of v) cur v.number y
+  pub value : (y : ℕ) → spent y ≡ false → value_by g (written own_data cur) v.number y ≡ value_by (shape_of v) cur v.number y
   pub source :
-      (y : ℕ) (m : Member) → spent_in v y ≡ false → source_at g y ≡ Some m
+      (y : ℕ) (m : Member) → spent y ≡ false → source_at g y ≡ Some m
       → ((o : Member) × (source_at (shape_of v) y ≡ Some o) × (o.place ≡ m.place) × (sector_at g y ≡ sector_at (shape_of v) y)
       × (look own_data (member_slice m.place v.number) (data_sector + sector_at g y) ≡ None))
       ⊎ (look own_data (member_slice m.place v.number) (data_sector + sector_at g y) ≡ Some (value_by (shape_of v) cur v.number y))

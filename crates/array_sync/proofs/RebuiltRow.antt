@@ -438,8 +438,8 @@ module _ (v : View) (place p to : ℕ) (is : IsRebuilding v place p to) (a b : S
       subst (λ (ms : List Member). AgreeIn (layout_at (shape_of v) y) (there (map (column now n (sector_at (shape_of v) y)) (take (width (layout_at (shape_of v) y)) ms)))) (sym (shape_members (rebuilt v place)))
       (agree_after y (subst (λ (s : ℕ). sector_at (shape_of v) y < s) (same_size v place ∙ size_is v) inside) synced counts even))
 
-  pub rebuilt_moves : RowMoves v (shape_of (rebuilt v place)) v.resync cur xs
-  rebuilt_moves = record {
+  pub rebuilt_moves : (spent : ℕ → Bool) → RowMoves v (shape_of (rebuilt v place)) v.resync spent cur xs
+  rebuilt_moves spent = record {
     counted = counted;
     value = λ y alive. value_kept y;
     source = λ y m alive source. source_kept y m source;

@@ -261,8 +261,8 @@ module _ (v : View) (a b : Seen) (xs : List Target) (is_array : IsArray v) (last
             (row_agrees y layout refl first last)))
       ]
 
-  pub row_moves : RowMoves v (shape_of v) (v.resync + 1) cur xs
-  row_moves = record {
+  pub row_moves : (spent : ℕ → Bool) → RowMoves v (shape_of v) (v.resync + 1) spent cur xs
+  row_moves spent = record {
     counted = λ m t among counts. inl (m, among, refl, counts);
     value = λ y alive. value_kept y;
     source = λ y m alive is. inl (m, is, refl, refl, source_none y m is);

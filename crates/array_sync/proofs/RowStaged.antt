@@ -36,7 +36,7 @@ use Rattle.array_sync.proofs.Stepping.{IsDataOn, Step, all_apart, committed_step
 use Rattle.array_sync.proofs.Owed.{RowMoves}
 use Rattle.array_sync.proofs.Resynced.{row_moves}
 use Rattle.array_sync.proofs.Summing.{sector_in_row}
-use Rattle.array_sync.proofs.Views.{IsUnsynced, all_there, is_steady, next_array, next_lacks, next_loses, next_rows, next_same, next_shape, next_state, next_unsynced, slot_there, stage_is, unspent_before}
+use Rattle.array_sync.proofs.Views.{IsUnsynced, all_there, is_steady, next_array, next_lacks, next_loses, next_rows, next_same, next_shape, next_state, next_unsynced, slot_there, stage_is}
 
 raised_least : (n : ℕ) → n ≤ raised n
 raised_least n = by (nat_lt n (2 ^ 63 - 1))
@@ -102,7 +102,7 @@ module _ (v : View) (a b : Seen) (xs : List Target) (row : RowStaged v a xs) (la
   low : 0 < v.truth.raid_disks
   low = let least = row.is.is_array.least in omega (arith, least)
 
-  pub row_step : Step v (raised v.truth.events) (offset_after v (v.resync + 1)) (v.resync + 1) v.seats false row.own_data a b
+  pub row_step : Step v (raised v.truth.events) (offset_after v (v.resync + 1)) (v.resync + 1) v.seats false row.own_data a b (λ spent. Unit {0})
   row_step = record {
     is_array = row.is.is_array;
     next = next_array v row.is;
@@ -114,15 +114,14 @@ module _ (v : View) (a b : Seen) (xs : List Target) (row : RowStaged v a xs) (la
     some = 0;
     some_low = low;
     some_there = slot_there v 0 row.is.is_array low (all_there v 0 row.lacks low);
-    steady = is_steady v row.is.is_array row.lacks row.is.row;
+    settled = λ steady s vals spent meets holds. holds.shape.settled (is_steady v row.is.is_array row.lacks row.is.row steady);
     unmarked = λ steady. refl;
     state = λ s. next_state s v;
     rows = next_rows v;
-    unspent = λ rows. unspent_before v row.lacks;
     live = λ rows opened also. live_on opened;
-    moves = λ rows opened sized even.
-        subst (λ (f : Shape). RowMoves v f (v.resync + 1) (current_in b.held) row.own_data) (sym (next_shape v))
-        (row_moves v a b row.own_data row.is.is_array lasting reads row.lacks row.copies opened sized);
+    moves = λ rows opened sized even spent meets.
+        subst (λ (f : Shape). RowMoves v f (v.resync + 1) spent (current_in b.held) row.own_data) (sym (next_shape v))
+        (row_moves v a b row.own_data row.is.is_array lasting reads row.lacks row.copies opened sized spent);
   }
 
   pub row_members_on : AreOnMembers v xs
@@ -169,7 +168,7 @@ row_steps v u z w a b c l on lost number after row offset change answered staged
     committed_steps v u z w (raised v.truth.events) (offset_after v (v.resync + 1)) (v.resync + 1) v.seats false a b c l on lost row_s.supers row_s.own_data number after
     (row_step v a b l.added row_s slices.lasting reads) row_s.adds row_s.added slices reads notes commit same loses
     (next_same v z w row_s.is z_array same_v adopted_w) (next_loses v z w row_s.is z_array same_v adopted_w)
-    number_is after_is answered
+    number_is after_is answered (λ spent. tt)
 
 pub row_leaves : (v : View) (a b c : Seen) (l : LogView) (on lost : List ℕ) → RowStaged v a l.added → a.lasting → OnlyReads a b → CommitCall l on lost b c → KeepsElsewhere false v on a c
 row_leaves v a b c l on lost staged_row lasting reads commit =

@@ -12,7 +12,9 @@ use Rattle.array_image.specs.Record.{are_apart}
 use Rattle.array_image.specs.Arrays.{Member, replayed}
 use Rattle.array_image.specs.Even.{AreEven}
 use Rattle.array_image.specs.SoundArray.{first_unsynced}
-use Rattle.array_image.specs.Held.{Among, current_in}
+use Rattle.array_image.specs.Held.{Among, IsSettled, current_in}
+use Rattle.array_image.specs.Marks.{lowered}
+use Rattle.array_model.specs.Rows.{written}
 use Rattle.array_image.specs.Left.{IsInside, IsLeft, PicksLogs}
 use Rattle.array_image.specs.Spent.{wanting}
 use Rattle.commit_log.specs.View.{LogView, names, next_number}
@@ -23,14 +25,14 @@ use Rattle.commit_log.proofs.KeptAfter.{kept_more}
 use Rattle.array_model.specs.declared.Seat.{Seat}
 use Rattle.array_model.specs.declared.Seat.TheVariants.{Missing}
 use Rattle.array_model.specs.Stages.{IsStateOf}
-use Rattle.array_model.specs.View.{View, IsArray, LosesPlaces, has_gone, is_missing_seat, is_whole_array, may_vary, place_at, shape_of, spent_in}
+use Rattle.array_model.specs.View.{View, IsArray, LosesPlaces, has_gone, is_missing_seat, is_whole_array, place_at, shape_of}
 use Rattle.array_model.specs.Says.{Holds, IsOpen}
 use Rattle.array_model.specs.Members.{HasSlices, IsSameButSeats, Notes, members_of, slice_on}
 use Rattle.array_model.specs.ArrayCalls.{Covers, Turns, HasFields}
 use Rattle.array_model.proofs.Keeping.{keeping_calls, left_before, open_after, pick_before}
 use Rattle.array_model.proofs.Looking.{look_payload}
 use Rattle.array_model.proofs.Moves.{Moves, moves_then}
-use Rattle.array_model.proofs.Noting.{covers_before, holds_noted, losing_by, losing_of}
+use Rattle.array_model.proofs.Noting.{covers_before, holds_noted, losing_of}
 use Rattle.array_model.proofs.RowWrites.{gone_none}
 use Rattle.array_model.proofs.Spared.{wanting_more}
 use Rattle.array_model.proofs.Views.{either_of, fault_early, fault_later, loses_then, members_then}
@@ -44,7 +46,7 @@ use Rattle.array_sync.specs.Rows.{lacks_row}
 use Rattle.array_sync.specs.Steps.{MayStep, Steps, as_it_was, done}
 use Rattle.array_sync.proofs.Copying.{apart_joined}
 use Rattle.array_sync.proofs.Logged.{AreOnMembers, log_decides, log_kept, log_quiet, log_ready, nobody}
-use Rattle.array_sync.proofs.Moved.{durable_now, moved}
+use Rattle.array_sync.proofs.Moved.{data_after, durable_now, kept_now, moved, settled_now}
 use Rattle.array_sync.proofs.Owed.{RowMoves, SaysEither, restated}
 use Rattle.array_sync.proofs.Supers.{IsMemberSuper, supers_apart, supers_on}
 
@@ -110,8 +112,9 @@ pub record IsDataOn (v : View) (d s : ℕ) (u : List ℕ) : Type 0 where
   pub inside : sector < v.truth.size
   pub long : length u ≡ 512
 
--- A step makes another truth and other seats of an array, and writes these sectors of its members' data.
-pub record Step (v : View) (events offset resync : ℕ) (seats : List Seat) (marked : Bool) (own_data : List Target) (a b : Seen) : Type 0 where
+-- A step makes another truth and other seats of an array, and writes these sectors of its members' data. It keeps the values of the
+-- sectors that aren't spent in maps that it can have.
+pub record Step (v : View) (events offset resync : ℕ) (seats : List Seat) (marked : Bool) (own_data : List Target) (a b : Seen) (needs : (ℕ → Bool) → Type 0) : Type 0 where
   pub is_array : IsArray v
   pub next : IsArray (restated v events offset resync seats marked)
   pub on : (d t : ℕ) (u : List ℕ) → IsPayload own_data d t u → IsDataOn v d t u
@@ -122,11 +125,12 @@ pub record Step (v : View) (events offset resync : ℕ) (seats : List Seat) (mar
   pub some : ℕ
   pub some_low : some < v.truth.raid_disks
   pub some_there : is_missing_seat (slot_on (restated v events offset resync seats marked) some).seat ≡ false
-  pub steady : (v.marked ≡ true → is_whole_array v ≡ true) → may_vary v ≡ false
+  pub settled :
+      (v.marked ≡ true → is_whole_array v ≡ true) → (s : State) (vals : ℕ → Values) (spent : ℕ → Bool) → needs spent → Holds s (shape_of v) v vals spent b
+      → IsSettled (shape_of v) v.number b.held
   pub unmarked : (v.marked ≡ true → is_whole_array v ≡ true) → marked ≡ false
   pub state : (s : State) → IsStateOf v s → v.truth.events < 2 ^ 63 - 1 → IsStateOf (restated v events offset resync seats marked) s
   pub rows : HasRowRebuilds v → HasRowRebuilds (restated v events offset resync seats marked)
-  pub unspent : HasRowRebuilds v → (y : ℕ) → spent_in (restated v events offset resync seats marked) y ≡ false → spent_in v y ≡ false
   pub live :
       HasRowRebuilds v → IsOpen (shape_of v) v.number a → IsOpen (shape_of (restated v events offset resync seats marked)) v.number a
       → (d t : ℕ) (u : List ℕ) → IsPayload own_data d t u → IsLive a a d t
@@ -134,12 +138,12 @@ pub record Step (v : View) (events offset resync : ℕ) (seats : List Seat) (mar
       HasRowRebuilds v → IsOpen (shape_of v) v.number a
       → ((m : Member) (t : ℕ) → Among m (shape_of v).members → t < m.reach → length (current_in b.held (member_slice m.place v.number) (data_sector + t)) ≡ 512)
       → AreEven (shape_of v) v.number v.resync (current_in b.held)
-      → RowMoves v (shape_of (restated v events offset resync seats marked)) resync (current_in b.held) own_data
+      → (spent : ℕ → Bool) → needs spent → RowMoves v (shape_of (restated v events offset resync seats marked)) resync spent (current_in b.held) own_data
 
 -- ---- its targets
 
-module _ (v : View) (events offset resync : ℕ) (seats : List Seat) (marked : Bool) (supers own_data : List Target) (a b : Seen)
-    (step : Step v events offset resync seats marked own_data a b)
+module _ {needs : (ℕ → Bool) → Type 0} (v : View) (events offset resync : ℕ) (seats : List Seat) (marked : Bool) (supers own_data : List Target) (a b : Seen)
+    (step : Step v events offset resync seats marked own_data a b needs)
     (adds : AddsSupersOf (restated v events offset resync seats marked) [] supers) where
   abbrev after_step : View
   after_step = restated v events offset resync seats marked
@@ -219,8 +223,8 @@ lacks_before v u a b row notes lacks =
     let none : wanting t (members_of u) ≤ 0 = ltb-false 0 (wanting t (members_of u)) lacks in
     le-ltb 0 (wanting t (members_of v)) (omega (arith, more, none))
 
-module _ (v u z w : View) (events offset resync : ℕ) (seats : List Seat) (marked : Bool) (a b c : Seen) (l : LogView) (on lost : List ℕ) (supers own_data : List Target) (number after : ℕ)
-    (step : Step v events offset resync seats marked own_data a b)
+module _ {needs : (ℕ → Bool) → Type 0} (v u z w : View) (events offset resync : ℕ) (seats : List Seat) (marked : Bool) (a b c : Seen) (l : LogView) (on lost : List ℕ) (supers own_data : List Target) (number after : ℕ)
+    (step : Step v events offset resync seats marked own_data a b needs)
     (adds : AddsSupersOf (restated v events offset resync seats marked) [] supers) (added : l.added ≡ supers ++ own_data)
     (slices : HasSlices v a) (reads : OnlyReads a b) (notes : Notes v u a b)
     (commit : CommitCall l on lost b c) (same_z : IsSameButSeats u z) (loses_z : LosesPlaces u z (names lost))
@@ -255,19 +259,18 @@ module _ (v u z w : View) (events offset resync : ℕ) (seats : List Seat) (mark
       all_live v events offset resync seats marked supers own_data a b step adds s w number on slices may.commit
       (step.live may.commit.renew.rows may.commit.opened may.opened) d t x (subst (λ xs. IsPayload xs d t x) added pay)
 
-  module _ (s : State) (vals : ℕ → Values) (spent : ℕ → Bool) (covers : Covers w spent) (may : MayStep s v (restated v events offset resync seats marked) w number on a) where
+  module _ (s : State) (vals : ℕ → Values) (spent : ℕ → Bool) (covers : Covers w spent) (may : MayStep s v (restated v events offset resync seats marked) w number on a) (meets : needs spent) where
     abbrev Middle : Type 0
     Middle = Holds s (shape_of v) v vals spent a × Holds s (shape_of v) v vals spent b
-
-    unspent : (y : ℕ) → spent y ≡ false → spent_in v y ≡ false
-    unspent y alive =
-        step.unspent may.commit.renew.rows y (covers_before g w (λ place. names lost place || notes.lost place) (losing_of g w _ same_g loses_g) spent covers y alive)
 
     opened_b : Middle → IsOpen (shape_of (restated v events offset resync seats marked)) v.number b
     opened_b held = open_after lasting reads.stays (shape_of g) v.number may.opened
 
-    moves_b : Middle → RowMoves v (shape_of (restated v events offset resync seats marked)) resync (current_in b.held) own_data
-    moves_b held = step.moves may.commit.renew.rows held.0.shape.open_slices held.1.shape.sized held.1.shape.even
+    moves_b : Middle → RowMoves v (shape_of (restated v events offset resync seats marked)) resync spent (current_in b.held) own_data
+    moves_b held = step.moves may.commit.renew.rows held.0.shape.open_slices held.1.shape.sized held.1.shape.even spent meets
+
+    single_b : Middle → IsSettled (shape_of v) v.number b.held
+    single_b held = step.settled may.commit.steady s vals spent meets held.1
 
     ready : IsReady l on b
     ready = log_ready s v w a b c l on lost is_array lasting reads members_on (live_all s may) commit (may_log s may.commit) left_w
@@ -284,7 +287,7 @@ module _ (v u z w : View) (events offset resync : ℕ) (seats : List Seat) (mark
     commit_moves : Moves v.number b c Middle (SaysEither s v (restated v events offset resync seats marked) a vals spent) (Holds s (shape_of (restated v events offset resync seats marked)) w vals spent c)
     commit_moves =
         moved s v w events offset resync seats marked a b c l on lost (λ place. names lost place || notes.lost place) supers own_data
-        is_array step.next may.commit.renew.fresh (step.steady may.commit.steady) (step.unmarked may.commit.steady)
+        is_array step.next may.commit.renew.fresh (step.unmarked may.commit.steady)
         commit ready decides kept_log quiet
         (λ r left. left_before lasting reads.stays (λ d t live. reads.keeps.held d t live) r left)
         added (ap are_apart added ∙ all_apart v events offset resync seats marked supers own_data a b step adds) adds
@@ -295,17 +298,17 @@ module _ (v u z w : View) (events offset resync : ℕ) (seats : List Seat) (mark
         (losing_of g w (λ place. names lost place || notes.lost place) same_g loses_g)
         (λ place none. or_first (names lost place) (notes.lost place) none)
         (λ none. none_named lost (λ place. left_w place (gone_none w none place)))
-        vals spent covers unspent Middle (λ held. held.1) opened_b moves_b
+        vals spent covers Middle (λ held. held.1) single_b opened_b moves_b
 
-    all_moves : Moves v.number a c (Holds s (shape_of v) v vals spent a) (SaysEither s v (restated v events offset resync seats marked) a vals spent) (Holds s (shape_of (restated v events offset resync seats marked)) w vals spent c)
+    pub all_moves : Moves v.number a c (Holds s (shape_of v) v vals spent a) (SaysEither s v (restated v events offset resync seats marked) a vals spent) (Holds s (shape_of (restated v events offset resync seats marked)) w vals spent c)
     all_moves =
         moves_then v.number a b c (Holds s (shape_of v) v vals spent a) Middle (Holds s (shape_of g) w vals spent c) (SaysEither s v g a vals spent)
         lasting (λ d t live other. reads.keeps.held d t live) (read_moves s v g a b vals spent lasting reads) commit_moves
 
-    all_durable : Holds s (shape_of v) v vals spent a → (r : Image) → IsLeft c r → HasFields s v.number (restated v events offset resync seats marked).truth r
+    pub all_durable : Holds s (shape_of v) v vals spent a → (r : Image) → IsLeft c r → HasFields s v.number (restated v events offset resync seats marked).truth r
     all_durable held r left =
         durable_now s v w events offset resync seats marked a b c l on lost (λ place. names lost place || notes.lost place) supers own_data
-        is_array step.next may.commit.renew.fresh (step.steady may.commit.steady) (step.unmarked may.commit.steady)
+        is_array step.next may.commit.renew.fresh (step.unmarked may.commit.steady)
         commit ready decides kept_log quiet
         (λ q early. left_before lasting reads.stays (λ d t live. reads.keeps.held d t live) q early)
         added (ap are_apart added ∙ all_apart v events offset resync seats marked supers own_data a b step adds) adds
@@ -316,10 +319,64 @@ module _ (v u z w : View) (events offset resync : ℕ) (seats : List Seat) (mark
         (losing_of g w (λ place. names lost place || notes.lost place) same_g loses_g)
         (λ place none. or_first (names lost place) (notes.lost place) none)
         (λ none. none_named lost (λ place. left_w place (gone_none w none place)))
-        vals spent covers unspent Middle (λ both. both.1) opened_b moves_b
+        vals spent covers Middle (λ both. both.1) single_b opened_b moves_b
         ((read_moves s v g a b vals spent lasting reads).holds held) r left
 
-  noted_g : Notes (restated v events offset resync seats marked) w a c
+    pub all_data : Holds s (shape_of v) v vals spent a → (r : Image) → IsLeft c r → (m : Member) (t : ℕ) → Among m (shape_of (restated v events offset resync seats marked)).members → t < m.reach
+        → r (member_slice m.place v.number) (data_sector + t) ≡ written own_data (current_in b.held) (member_slice m.place v.number) (data_sector + t)
+    all_data held =
+        data_after s v w events offset resync seats marked a b c l on lost (λ place. names lost place || notes.lost place) supers own_data
+        is_array step.next may.commit.renew.fresh (step.unmarked may.commit.steady)
+        commit ready decides kept_log quiet
+        (λ q early. left_before lasting reads.stays (λ d t live. reads.keeps.held d t live) q early)
+        added (ap are_apart added ∙ all_apart v events offset resync seats marked supers own_data a b step adds) adds
+        (supers_once v events offset resync seats marked supers own_data a b step adds) (of_supers v events offset resync seats marked supers own_data a b step adds)
+        (own_is v events offset resync seats marked supers own_data a b step adds)
+        (step.state s may.commit.renew.state may.commit.renew.events) (step.rows may.commit.renew.rows) step.more may.whole step.unsynced
+        step.some step.some_low step.some_there
+        (losing_of g w (λ place. names lost place || notes.lost place) same_g loses_g)
+        (λ place none. or_first (names lost place) (notes.lost place) none)
+        (λ none. none_named lost (λ place. left_w place (gone_none w none place)))
+        vals spent covers Middle (λ both. both.1) single_b opened_b moves_b
+        ((read_moves s v g a b vals spent lasting reads).holds held)
+
+    pub all_current : Holds s (shape_of v) v vals spent a → (m : Member) (t : ℕ) → Among m (shape_of (restated v events offset resync seats marked)).members → t < m.reach
+        → (names lost m.place || notes.lost m.place) ≡ false
+        → current_in c.held (member_slice m.place v.number) (data_sector + t) ≡ written own_data (current_in b.held) (member_slice m.place v.number) (data_sector + t)
+    all_current held =
+        kept_now s v w events offset resync seats marked a b c l on lost (λ place. names lost place || notes.lost place) supers own_data
+        is_array step.next may.commit.renew.fresh (step.unmarked may.commit.steady)
+        commit ready decides kept_log quiet
+        (λ q early. left_before lasting reads.stays (λ d t live. reads.keeps.held d t live) q early)
+        added (ap are_apart added ∙ all_apart v events offset resync seats marked supers own_data a b step adds) adds
+        (supers_once v events offset resync seats marked supers own_data a b step adds) (of_supers v events offset resync seats marked supers own_data a b step adds)
+        (own_is v events offset resync seats marked supers own_data a b step adds)
+        (step.state s may.commit.renew.state may.commit.renew.events) (step.rows may.commit.renew.rows) step.more may.whole step.unsynced
+        step.some step.some_low step.some_there
+        (losing_of g w (λ place. names lost place || notes.lost place) same_g loses_g)
+        (λ place none. or_first (names lost place) (notes.lost place) none)
+        (λ none. none_named lost (λ place. left_w place (gone_none w none place)))
+        vals spent covers Middle (λ both. both.1) single_b opened_b moves_b
+        ((read_moves s v g a b vals spent lasting reads).holds held)
+
+    pub all_settled : Holds s (shape_of v) v vals spent a → IsSettled (lowered (λ place. names lost place || notes.lost place) (shape_of (restated v events offset resync seats marked))) v.number c.held
+    all_settled held =
+        settled_now s v w events offset resync seats marked a b c l on lost (λ place. names lost place || notes.lost place) supers own_data
+        is_array step.next may.commit.renew.fresh (step.unmarked may.commit.steady)
+        commit ready decides kept_log quiet
+        (λ q early. left_before lasting reads.stays (λ d t live. reads.keeps.held d t live) q early)
+        added (ap are_apart added ∙ all_apart v events offset resync seats marked supers own_data a b step adds) adds
+        (supers_once v events offset resync seats marked supers own_data a b step adds) (of_supers v events offset resync seats marked supers own_data a b step adds)
+        (own_is v events offset resync seats marked supers own_data a b step adds)
+        (step.state s may.commit.renew.state may.commit.renew.events) (step.rows may.commit.renew.rows) step.more may.whole step.unsynced
+        step.some step.some_low step.some_there
+        (losing_of g w (λ place. names lost place || notes.lost place) same_g loses_g)
+        (λ place none. or_first (names lost place) (notes.lost place) none)
+        (λ none. none_named lost (λ place. left_w place (gone_none w none place)))
+        vals spent covers Middle (λ both. both.1) single_b opened_b moves_b
+        ((read_moves s v g a b vals spent lasting reads).holds held)
+
+  pub noted_g : Notes (restated v events offset resync seats marked) w a c
   noted_g = record {
     same = same_g;
     lost = λ place. names lost place || notes.lost place;
@@ -330,8 +387,15 @@ module _ (v u z w : View) (events offset resync : ℕ) (seats : List Seat) (mark
     ];
   }
 
-  pub committed_steps : (answered : Bool) → Steps v (restated v events offset resync seats marked) w number after on a c answered
-  committed_steps answered = record {
+  pub all_kept : (s : State) → MayStep s v (restated v events offset resync seats marked) w number on a → LogKept s after (has_gone w) c
+  all_kept s may =
+      subst (λ k. LogKept s k (has_gone w) c) (sym after_is)
+      (kept_more s (next_number l.number) (gone_with nobody lost) (has_gone w) c
+      (λ place named. loses_g.went place ∙ ap (λ (p : Bool). (p || notes.lost place) || has_gone g place) named)
+      (log_kept s v w a b c l on lost is_array lasting reads members_on (live_all s may) commit (may_log s may.commit) left_w))
+
+  pub committed_steps : (answered : Bool) → ((spent : ℕ → Bool) → needs spent) → Steps v (restated v events offset resync seats marked) w number after on a c answered
+  committed_steps answered meets = record {
     is_done = true;
     answer = λ ok. refl;
     view = done noted_g;
@@ -340,12 +404,8 @@ module _ (v u z w : View) (events offset resync : ℕ) (seats : List Seat) (mark
         step.unspent rows y
         (covers_before g w (λ place. names lost place || notes.lost place) (losing_of g w _ same_g loses_g) (spent_in w) (λ k unspent. unspent) y alive);
     moving = λ s vals spent covers may.
-        let moves = all_moves s vals spent covers may in
+        let moves = all_moves s vals spent covers may (meets spent) in
         record { stays = moves.stays; leaves = moves.leaves; holds = moves.holds; apart = moves.apart; calm = moves.calm };
-    durable = λ is_done s vals spent covers may held r left. all_durable s vals spent covers may held r left;
-    kept = λ s may.
-        subst (λ k. LogKept s k (has_gone w) c) (sym after_is)
-        (kept_more s (next_number l.number) (gone_with nobody lost) (has_gone w) c
-        (λ place named. loses_g.went place ∙ ap (λ (p : Bool). (p || notes.lost place) || has_gone g place) named)
-        (log_kept s v w a b c l on lost is_array lasting reads members_on (live_all s may) commit (may_log s may.commit) left_w));
+    durable = λ is_done s vals spent covers may held r left. all_durable s vals spent covers may (meets spent) held r left;
+    kept = all_kept;
   }

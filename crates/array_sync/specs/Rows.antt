@@ -91,6 +91,22 @@ pub record AreCopies (v : View) (within : ℕ → ℕ → Type 0) (has_bytes : �
   pub has : (t j : ℕ) → within t j → (u : List ℕ) × IsPayload xs (slice_on v j) (data_sector + t) u
   pub apart : are_apart xs ≡ true
 
+-- a member counts in a row
+abbrev pub counts_in : View → ℕ → ℕ → Bool
+counts_in v row position = nat_lt (row * 128 + 127) (member_on v position).reach
+
+-- a sector of a row, of the first members that count in it
+abbrev pub OfCounting : View → ℕ → ℕ → ℕ → ℕ → Type 0
+OfCounting v row members t j = (row * 128 ≤ t) × (t < row * 128 + 128) × (j < members) × (counts_in v row j ≡ true)
+
+-- two members don't count in a row
+abbrev pub lacks_two : View → ℕ → Bool
+lacks_two v row = nat_lt 1 (wanting (row * 128 + 127) (members_of v))
+
+-- bytes of a sector of zeros
+abbrev pub AreZeros : ℕ → List ℕ → Type 0
+AreZeros sector bytes = bytes ≡ zeros 512
+
 -- they are added to the targets of a log
 pub record AddsCopies (v : View) (within : ℕ → ℕ → Type 0) (has_bytes : ℕ → List ℕ → Type 0) (many : ℕ) (before after : List Target) : Type 0 where
   pub targets : List Target

@@ -5,7 +5,13 @@ use Rattle.rack.specs.Values.{Values}
 use Rattle.rack.specs.Seen.{Image, Seen}
 use Rattle.rack.specs.Sequences.{OnlyReads}
 use Rattle.pool_state.specs.declared.contents.State.{State}
+use Rattle.parity.specs.Xor.{zeros}
+use Rattle.raid_map.specs.LeftSymmetric.{row_at}
+use Rattle.array_image.specs.Arrays.{layout_at, value_by}
+use Rattle.array_image.specs.Held.{IsSettled, current_in}
 use Rattle.array_image.specs.Left.{IsLeft}
+use Rattle.array_image.specs.SoundArray.{first_unsynced}
+use Rattle.array_image.specs.Stripes.{sector_in}
 use Rattle.commit_log.specs.Kept.{LogKept}
 use Rattle.array_model.specs.declared.Seat.{Seat}
 use Rattle.array_model.specs.declared.Seat.TheVariants.{Whole, Rebuilding}
@@ -86,3 +92,50 @@ pub record Steps (v next w : View) (number next_number : ℕ) (on : List ℕ) (a
       → Holds s (shape_of v) v vals spent a → (r : Image) → IsLeft b r → HasFields s v.number next.truth r
   -- the log is kept for the next commit
   pub kept : (s : State) → MayStep s v next w number on a → LogKept s next_number (has_gone w) b
+
+-- ---- rows of a young array
+
+-- the array as one whose rows left to zero are left to resync
+abbrev pub zeroing : View → View
+zeroing v = record v { young = false; resync = first_unsynced v.truth }
+
+-- the array once its next row is zeroed
+abbrev pub zeroed : View → View
+zeroed v = record v {
+  truth = record v.truth { events = raised v.truth.events; resync_offset = offset_after v (first_unsynced v.truth + 1) };
+  resync = rows_of v;
+  marked = false;
+}
+
+-- the row of a sector of the array
+abbrev pub row_in : View → ℕ → ℕ
+row_in v y = row_at (sector_in (layout_at (shape_of v) y) y)
+
+-- What zeroing a row needs: what a step needs where rows left to zero count as left to resync, the sectors of these rows are spent, and
+-- each sector of a member that counts has one value.
+pub record MayZero (s : State) (v w : View) (spent : ℕ → Bool) (number : ℕ) (on : List ℕ) (a : Seen) : Type 0 where
+  pub step : MayStep s (zeroing v) (resynced (zeroing v)) (zeroing w) number on a
+  pub covers : Covers (zeroing w) spent
+  pub aside : (y : ℕ) → spent y ≡ false → row_in (zeroing v) y < first_unsynced v.truth
+  pub single : IsSettled (shape_of (zeroing v)) v.number a.held
+
+-- Each stop leaves the new superblocks, and zeros in the row; the members that are left give zeros there, and each sector of theirs has
+-- one value.
+pub record HasZeros (s : State) (v w : View) (b : Seen) : Type 0 where
+  pub durable : (r : Image) → IsLeft b r → HasFields s v.number (zeroed v).truth r
+  pub current : (y : ℕ) → row_in (zeroing v) y ≡ first_unsynced v.truth → value_by (shape_of (zeroing w)) (current_in b.held) w.number y ≡ zeros 512
+  pub zeros : (r : Image) → IsLeft b r → (y : ℕ) → row_in (zeroing v) y ≡ first_unsynced v.truth → value_by (shape_of (zeroing v)) r v.number y ≡ zeros 512
+  pub single : IsSettled (shape_of (zeroing w)) w.number b.held
+
+-- A young array zeroes its next row by one commit: the values of the rows before it stay, and those of the row are zeros.
+pub record Zeroes (v w : View) (number next_number : ℕ) (on : List ℕ) (a b : Seen) (answered : Bool) : Type 0 where
+  pub is_done : Bool
+  pub answer : answered ≡ true → is_done ≡ true
+  pub view : Stepped v (zeroed v) w a b is_done
+  pub moving :
+      (s : State) (vals : ℕ → Values) (spent : ℕ → Bool) → MayZero s v w spent number on a
+      → Moving s (zeroing v) (resynced (zeroing v)) (zeroing w) spent a b vals (if_done is_done (shape_of (zeroing v)) (shape_of (resynced (zeroing v)))) vals
+  pub row :
+      is_done ≡ true → (s : State) (vals : ℕ → Values) (spent : ℕ → Bool) → MayZero s v w spent number on a
+      → Holds s (shape_of (zeroing v)) (zeroing v) vals spent a → HasZeros s v w b
+  pub kept : (s : State) → MayStep s (zeroing v) (resynced (zeroing v)) (zeroing w) number on a → LogKept s next_number (has_gone w) b

@@ -17,7 +17,7 @@ use rack::{Places, Rack};
 use raid_map::CHUNK_SECTORS;
 
 /// The member sector from which rows are left to resync once so many aren't.
-fn offset_after(array: &Array, rows: u64) -> u64
+pub(crate) fn offset_after(array: &Array, rows: u64) -> u64
     requires { rows ≤ rows_of array.now }
     ensures { result ≡ offset_after array.now rows }
 {

@@ -2,13 +2,16 @@
 
 ghost use Rattle.std.specs.Prelude.{◌≡◌, ◌<◌, true};
 ghost use Rattle.array_model.specs.Members.{HasSlices};
+ghost use Rattle.array_sync.specs.Steps.{HasRowLeft};
 ghost use Rattle.commit_log.specs.Phases.{AreLogs};
 
 use crate::geometries::{Geometry, NUMBER, SIZE};
-use array_core::{Array, Spent};
+use array_core::{Array, Seat, Spent};
+use array_sync::rebuild_row;
 use commit_log::Log;
 use rack::{Bay, Name, Places, Rack};
 use rack_mem::{DiskSpec, MemBay};
+use shr_base::Id;
 use std::alloc::Global;
 use std::process::Abort;
 use std::test::Fail;
@@ -42,6 +45,16 @@ fn has_slices<R: Bay>(rack: &R, array: &Array) -> bool
         }
     }
     true
+}
+
+/// Whether a row of a place's member is left to rebuild.
+fn has_row_left(array: &Array, place: u32) -> bool
+    ensures { result ≡ true → HasRowLeft array.now place }
+{
+    match array.seat(place) {
+        Some(Seat::Rebuilding { to }) => to < array.truth().size && to % 128 == 0,
+        Some(Seat::Whole) | Some(Seat::Missing) | None => false,
+    }
 }
 
 /// All slices of sixteen places as disks of a bay, which keeps so many calls. Those of these numbers fail.
@@ -111,6 +124,29 @@ impl Run {
     pub(crate) fn lose(&mut self, place: u32) {
         self.array.lose(place);
         self.on = first_places(self.array.truth().raid_disks, Some(place));
+    }
+
+    /// The member of a place is on a new drive, and all members are places of the log again.
+    pub(crate) fn renew(&mut self, rt: &impl Abort, place: u32) {
+        assert!(rt; self.array.seat(place) == Some(Seat::Missing));
+        self.array.renew(place, &Id([7; 16]));
+        self.on = first_places(self.array.truth().raid_disks, None);
+    }
+
+    /// Rebuilds a row of a member, once all that it needs has been tested.
+    pub(crate) fn rebuild(&mut self, rt: &impl Abort, place: u32) -> Result<(), Spent> {
+        assert!(rt; self.bay.disks() == 272);
+        assert!(rt; has_slices(&self.bay, &self.array));
+        assert!(rt; are_logs(&self.bay, self.on.as_slice()));
+        assert!(rt; has_row_left(&self.array, place));
+        self.log.clear();
+        rebuild_row(
+            &mut self.array,
+            &mut self.bay,
+            &mut self.log,
+            &self.on,
+            place,
+        )
     }
 
     /// Writes a value, once all that it needs has been tested.
