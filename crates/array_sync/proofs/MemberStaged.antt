@@ -1,5 +1,5 @@
 -- What is added to the log for a member's row that is rebuilt, as a whole.
-use Rattle.std.proofs.Common.{◌≡◌, ◌≢◌, ℕ, zero, suc, ◌+◌, ◌*◌, ◌/◌, ◌<◌, ◌≤◌, Bool, true, false, ◌==◌, ◌&&◌, ◌||◌, not, nat_lt, List, [], ◌∷◌, ◌++◌, length, slice_get, Option, Result, Some, None, Ok, Err, OnOk, IfErr, unwrap_or, refl, sym, ap, ap₂, subst, ◌∙◌, inl, inr, le-ltb, arith}
+use Rattle.std.proofs.Common.{◌≡◌, ◌≢◌, ℕ, zero, suc, ◌+◌, ◌*◌, ◌/◌, ◌<◌, ◌≤◌, Bool, true, false, ◌==◌, ◌&&◌, ◌||◌, not, nat_lt, List, [], ◌∷◌, ◌++◌, length, slice_get, Option, Result, Some, None, Ok, Err, OnOk, IfErr, unwrap_or, refl, sym, ap, ap₂, subst, ◌∙◌, inl, inr, le-ltb, arith, lt-ltb}
 use Rattle.std.proofs.lemmas.Bool.{both_ways, cases_eq, cases_lt, and_parts}
 use Rattle.std.proofs.lemmas.List.{length-append}
 use Rattle.std.specs.List.{list_all}
@@ -10,7 +10,7 @@ use Rattle.rack.specs.Sequences.{IsPayload, OnlyReads}
 use Rattle.array_image.specs.Places.{data_sector}
 use Rattle.array_image.specs.Record.{are_apart, is_target}
 use Rattle.array_image.specs.SoundArray.{first_unsynced}
-use Rattle.array_image.specs.Arrays.{Member}
+use Rattle.array_image.specs.Arrays.{Member, layout_at}
 use Rattle.array_image.specs.Held.{Among}
 use Rattle.array_image.specs.Supers.{is_reshaping}
 use Rattle.commit_log.specs.View.{LogView, names, next_number}
@@ -18,9 +18,9 @@ use Rattle.commit_log.specs.Commits.{CommitCall}
 use Rattle.commit_log.specs.Phases.{IsHad}
 use Rattle.array_model.specs.declared.Seat.{Seat}
 use Rattle.array_model.specs.declared.Seat.TheVariants.{Missing, Rebuilding}
-use Rattle.array_model.specs.View.{View, IsArray, LosesPlaces, is_missing_seat, is_whole_array, is_whole_seat, member_on, rows_of, shape_of}
+use Rattle.array_model.specs.View.{View, IsArray, LosesPlaces, is_missing_seat, is_whole_array, is_whole_seat, member_on, rows_of, shape_of, spent_in}
 use Rattle.array_model.specs.Says.{IsOpen}
-use Rattle.array_model.specs.Members.{HasSlices, IsSameButSeats, Notes, slice_on}
+use Rattle.array_model.specs.Members.{HasSlices, IsSameButSeats, Notes, slice_on, members_of}
 use Rattle.array_model.proofs.Firsts.{member_among}
 use Rattle.array_model.proofs.Views.{same_view_then, shape_members}
 use Rattle.array_core.specs.declared.Change.{Change}
@@ -33,12 +33,16 @@ use Rattle.array_sync.specs.Rows.{AddsCopies, AreCopies, IsGiven, OfMember, othe
 use Rattle.array_sync.specs.Steps.{Steps, reach_on, rebuilt}
 use Rattle.array_sync.proofs.Answering.{Nothing, row_elsewhere}
 use Rattle.array_sync.proofs.Logged.{AreOnMembers, all_had, all_valid}
-use Rattle.array_sync.proofs.Others.{OthersGive, give_after, give_now, stays_lacking, unspent_others}
-use Rattle.array_sync.proofs.Rebuilt.{IsRebuilding, get_past, next_array, next_loses, next_rows, next_same, next_state, own_reach, own_seat, reach_before, rebuilt_there, row_change, row_inside, stage_is}
+use Rattle.array_sync.proofs.Others.{OthersGive, give_after, give_now, stays_lacking, unspent_others, others_few, same_wanting, unspent_few}
+use Rattle.array_sync.proofs.Rebuilt.{IsRebuilding, get_past, next_array, next_loses, next_rows, next_same, next_state, own_reach, own_seat, reach_before, rebuilt_there, row_change, row_inside, stage_is, Outside, alike}
 use Rattle.array_sync.proofs.RebuiltRow.{rebuilt_moves}
 use Rattle.array_sync.proofs.Stepping.{IsDataOn, Step, all_apart, committed_steps, on_members}
 use Rattle.array_sync.proofs.Summing.{counted_before}
 use Rattle.array_sync.proofs.Views.{not_alone, seat_there}
+use Rattle.raid_map.specs.LeftSymmetric.{row_at}
+use Rattle.array_image.specs.Spent.{wanting, spent_with}
+use Rattle.array_image.specs.Stripes.{Layout, sector_in}
+use Rattle.array_model.proofs.Reading.{layout_same, spent_given}
 
 -- the superblocks by which the member counts in its row, and the row's sectors
 pub record MemberStaged (v : View) (place p to : ℕ) (a : Seen) (xs : List Target) : Type 0 where
@@ -162,6 +166,31 @@ module _ (v : View) (place p to : ℕ) (a b : Seen) (xs : List Target) (row : Me
       (subst (λ e. IsLive a a (slice_on v p) e) (sym at.at)
       (opened (member_on (rebuilt v place) p) at.sector among (omega (arith, last, reach))))
 
+  -- what isn't spent after it wasn't before
+  pub member_unspent : (y : ℕ) → spent_in (rebuilt v place) y ≡ false → spent_in v y ≡ false
+  member_unspent y unspent =
+      let t = sector_in (layout_at (shape_of v) y) y in
+      let now : spent_in (rebuilt v place) y ≡ spent_with (wanting t (members_of (rebuilt v place))) (nat_lt (row_at t) v.resync) =
+      spent_given (rebuilt v place) y t (ap (λ (l : Layout). sector_in l y) (sym (layout_same v (rebuilt v place) y refl))) in
+      let outside : Outside to t → spent_in v y ≡ false =
+      λ out.
+      spent_given v y t refl
+      ∙ ap (λ (k : ℕ). spent_with k (nat_lt (row_at t) v.resync)) (sym (same_wanting v (rebuilt v place) t refl (λ j low. alike v place p to row.is j t low (λ same. out))))
+      ∙ sym now ∙ unspent in
+      elim (cases_lt t to) [
+        | inl early ↦ outside (inl early)
+        | inr first ↦ elim (cases_lt t (to + 128)) [
+          | inr late ↦ outside (inr late)
+          | inl last ↦
+              let whole = row.is.whole in
+              let synced = row.others.synced in
+              spent_given v y t refl
+              ∙ unspent_few (wanting t (members_of v)) (nat_lt (row_at t) v.resync)
+              (others_few v p t (λ j low other. let counts = row.others.counts j low other in omega (arith, counts, last, whole)))
+              (lt-ltb (row_at t) v.resync (omega (arith, first, last, whole, synced)))
+        ]
+      ]
+
   pub member_step : Step v v.truth.events v.truth.resync_offset v.resync (rebuilt v place).seats v.marked row.own_data a b (λ spent. Unit {0})
   member_step = record {
     is_array = row.is.is_array;
@@ -219,6 +248,7 @@ member_steps v u z w a b c l on lost place p to number after row change answered
     (subst (λ (x : View). IsSameButSeats (rebuilt v place) x) (sym adopted_w) (next_same v place p to is z z_array same_v))
     (λ gone loses_v. subst (λ (x : View). LosesPlaces (rebuilt v place) x gone) (sym adopted_w) (next_loses v place p to is z z_array same_v gone loses_v))
     number_is after_is answered (λ spent. tt)
+    (λ rows. member_unspent v place p to a b l.added staged_row slices.lasting reads)
 
 pub member_leaves : (v : View) (place p to : ℕ) (a b c : Seen) (l : LogView) (on lost : List ℕ) → MemberStaged v place p to a l.added → a.lasting → OnlyReads a b → CommitCall l on lost b c
     → KeepsElsewhere false v on a c

@@ -90,8 +90,21 @@ others_count v p t j lacks few low_p low_j other =
     let same : wanting t ms ≡ wanting t (members_of v) = ap (wanting t) (shape_members v) in
     omega (arith, two, few, same))
 
-others_few : (v : View) (p t : ℕ) → ((j : ℕ) → j < v.truth.raid_disks → (j ≡ p → ⊥) → t < (member_on v j).reach) → wanting t (members_of v) ≤ 1
+pub others_few : (v : View) (p t : ℕ) → ((j : ℕ) → j < v.truth.raid_disks → (j ≡ p → ⊥) → t < (member_on v j).reach) → wanting t (members_of v) ≤ 1
 others_few v p t counts = few_want (member_on v) t p 0 v.truth.raid_disks (λ j least most other. counts j (omega (arith, most)) other)
+
+-- as many are wanting where members count alike
+wanting_alike : (f h : ℕ → Member) (t a n : ℕ) → ((j : ℕ) → a ≤ j → j < a + n → nat_lt t (f j).reach ≡ nat_lt t (h j).reach) → wanting t (map f (range_with_len a n)) ≡ wanting t (map h (range_with_len a n))
+wanting_alike f h t a zero same = refl
+wanting_alike f h t a (suc n) same =
+    ap₂ (λ (b : Bool) (k : ℕ). if b then k else suc k) (same a (omega arith) (omega arith))
+    (wanting_alike f h t (a + 1) n (λ j least most. same j (omega (arith, least)) (omega (arith, most))))
+
+pub same_wanting : (v w : View) (t : ℕ) → w.truth.raid_disks ≡ v.truth.raid_disks → ((j : ℕ) → j < v.truth.raid_disks → nat_lt t (member_on w j).reach ≡ nat_lt t (member_on v j).reach)
+    → wanting t (members_of w) ≡ wanting t (members_of v)
+same_wanting v w t disks same =
+    ap (λ (n : ℕ). wanting t (map (member_on w) (range_with_len 0 n))) disks
+    ∙ wanting_alike (member_on w) (member_on v) t 0 v.truth.raid_disks (λ j least most. same j (omega (arith, most)))
 
 -- all but one count in a row, which isn't left to resync
 pub record OthersGive (v : View) (p row : ℕ) : Type 0 where
@@ -108,7 +121,7 @@ unspent_others v p row low lacks unspent =
       synced = ltb-true row v.resync (synced_row n (nat_lt row v.resync) (lacks_one v p t low lacks) unspent);
     }
 
-unspent_few : (n : ℕ) (synced : Bool) → n ≤ 1 → synced ≡ true → spent_with n synced ≡ false
+pub unspent_few : (n : ℕ) (synced : Bool) → n ≤ 1 → synced ≡ true → spent_with n synced ≡ false
 unspent_few n synced few is = or_from (nat_lt 1 n) (nat_lt 0 n && not synced) (le-ltb 1 n few) (ap (λ (b : Bool). nat_lt 0 n && not b) is ∙ none (nat_lt 0 n))
   where
     none : (b : Bool) → (b && false) ≡ false

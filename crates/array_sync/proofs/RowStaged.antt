@@ -36,7 +36,7 @@ use Rattle.array_sync.proofs.Stepping.{IsDataOn, Step, all_apart, committed_step
 use Rattle.array_sync.proofs.Owed.{RowMoves}
 use Rattle.array_sync.proofs.Resynced.{row_moves}
 use Rattle.array_sync.proofs.Summing.{sector_in_row}
-use Rattle.array_sync.proofs.Views.{IsUnsynced, all_there, is_steady, next_array, next_lacks, next_loses, next_rows, next_same, next_shape, next_state, next_unsynced, slot_there, stage_is}
+use Rattle.array_sync.proofs.Views.{IsUnsynced, all_there, is_steady, next_array, next_lacks, next_loses, next_rows, next_same, next_shape, next_state, next_unsynced, slot_there, stage_is, unspent_before}
 
 raised_least : (n : ℕ) → n ≤ raised n
 raised_least n = by (nat_lt n (2 ^ 63 - 1))
@@ -168,7 +168,7 @@ row_steps v u z w a b c l on lost number after row offset change answered staged
     committed_steps v u z w (raised v.truth.events) (offset_after v (v.resync + 1)) (v.resync + 1) v.seats false a b c l on lost row_s.supers row_s.own_data number after
     (row_step v a b l.added row_s slices.lasting reads) row_s.adds row_s.added slices reads notes commit same loses
     (next_same v z w row_s.is z_array same_v adopted_w) (next_loses v z w row_s.is z_array same_v adopted_w)
-    number_is after_is answered (λ spent. tt)
+    number_is after_is answered (λ spent. tt) (λ rows. unspent_before v row_s.lacks)
 
 pub row_leaves : (v : View) (a b c : Seen) (l : LogView) (on lost : List ℕ) → RowStaged v a l.added → a.lasting → OnlyReads a b → CommitCall l on lost b c → KeepsElsewhere false v on a c
 row_leaves v a b c l on lost staged_row lasting reads commit =

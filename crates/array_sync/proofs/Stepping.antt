@@ -25,14 +25,14 @@ use Rattle.commit_log.proofs.KeptAfter.{kept_more}
 use Rattle.array_model.specs.declared.Seat.{Seat}
 use Rattle.array_model.specs.declared.Seat.TheVariants.{Missing}
 use Rattle.array_model.specs.Stages.{IsStateOf}
-use Rattle.array_model.specs.View.{View, IsArray, LosesPlaces, has_gone, is_missing_seat, is_whole_array, place_at, shape_of}
+use Rattle.array_model.specs.View.{View, IsArray, LosesPlaces, has_gone, is_missing_seat, is_whole_array, place_at, shape_of, spent_in}
 use Rattle.array_model.specs.Says.{Holds, IsOpen}
 use Rattle.array_model.specs.Members.{HasSlices, IsSameButSeats, Notes, members_of, slice_on}
 use Rattle.array_model.specs.ArrayCalls.{Covers, Turns, HasFields}
 use Rattle.array_model.proofs.Keeping.{keeping_calls, left_before, open_after, pick_before}
 use Rattle.array_model.proofs.Looking.{look_payload}
 use Rattle.array_model.proofs.Moves.{Moves, moves_then}
-use Rattle.array_model.proofs.Noting.{covers_before, holds_noted, losing_of}
+use Rattle.array_model.proofs.Noting.{covers_before, holds_noted, losing_by, losing_of}
 use Rattle.array_model.proofs.RowWrites.{gone_none}
 use Rattle.array_model.proofs.Spared.{wanting_more}
 use Rattle.array_model.proofs.Views.{either_of, fault_early, fault_later, loses_then, members_then}
@@ -394,14 +394,15 @@ module _ {needs : (ℕ → Bool) → Type 0} (v u z w : View) (events offset res
       (λ place named. loses_g.went place ∙ ap (λ (p : Bool). (p || notes.lost place) || has_gone g place) named)
       (log_kept s v w a b c l on lost is_array lasting reads members_on (live_all s may) commit (may_log s may.commit) left_w))
 
-  pub committed_steps : (answered : Bool) → ((spent : ℕ → Bool) → needs spent) → Steps v (restated v events offset resync seats marked) w number after on a c answered
-  committed_steps answered meets = record {
+  pub committed_steps : (answered : Bool) → ((spent : ℕ → Bool) → needs spent)
+      → (HasRowRebuilds v → (y : ℕ) → spent_in (restated v events offset resync seats marked) y ≡ false → spent_in v y ≡ false) → Steps v (restated v events offset resync seats marked) w number after on a c answered
+  committed_steps answered meets unspent_step = record {
     is_done = true;
     answer = λ ok. refl;
     view = done noted_g;
     idle = λ none. absurd (both_ways true none refl);
     spent = λ rows y alive.
-        step.unspent rows y
+        unspent_step rows y
         (covers_before g w (λ place. names lost place || notes.lost place) (losing_of g w _ same_g loses_g) (spent_in w) (λ k unspent. unspent) y alive);
     moving = λ s vals spent covers may.
         let moves = all_moves s vals spent covers may (meets spent) in

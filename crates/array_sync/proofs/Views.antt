@@ -1,6 +1,6 @@
 -- An array before and after a row is resynced.
 use Rattle.std.proofs.Common.{◌≡◌, ◌≢◌, ◌⊎◌, ℕ, zero, suc, ◌+◌, ◌-◌, ◌*◌, ◌/◌, ◌%◌, ◌<◌, ◌≤◌, ◌^◌, Bool, true, false, ◌==◌, ◌&&◌, ◌||◌, not, nat_lt, nat_le, if◌then◌else◌, List, [], ◌∷◌, length, slice_get, Option, Some, None, unwrap_or, refl, sym, ap, ap₂, subst, ◌∙◌, inl, inr, eqb-true, lt-ltb, le-ltb, ltb-true, ltb-false, arith}
-use Rattle.std.proofs.lemmas.Bool.{ne_eqb, and_parts, leb-true}
+use Rattle.std.proofs.lemmas.Bool.{ne_eqb, and_parts, leb-true, cases_lt}
 use Rattle.std.specs.List.{list_all}
 use Rattle.std.specs.Option.{option_map_or}
 use Rattle.md_super.specs.declared.superblock.Super.{Super}
@@ -10,8 +10,8 @@ use Rattle.array_image.specs.Supers.{is_reshaping}
 use Rattle.array_image.specs.SoundArray.{first_unsynced}
 use Rattle.array_model.specs.declared.Seat.{Seat}
 use Rattle.array_model.specs.declared.Seat.TheVariants.{Whole, Missing, Rebuilding}
-use Rattle.array_model.specs.View.{View, IsArray, LosesPlaces, is_alone, is_missing_seat, is_whole_array, is_whole_seat, may_vary, member_on, present, rows_of, seat_reach, shape_of}
-use Rattle.array_model.specs.Members.{IsSameButSeats}
+use Rattle.array_model.specs.View.{View, IsArray, LosesPlaces, is_alone, is_missing_seat, is_whole_array, is_whole_seat, may_vary, member_on, present, rows_of, seat_reach, shape_of, spent_in}
+use Rattle.array_model.specs.Members.{IsSameButSeats, members_of}
 use Rattle.array_model.specs.Stages.{IsStateOf}
 use Rattle.array_model.proofs.Views.{same_view}
 use Rattle.array_core.specs.declared.Change.{Change}
@@ -25,6 +25,11 @@ use Rattle.array_sync.specs.Rows.{lacks_row}
 use Rattle.array_sync.specs.Steps.{offset_after, resynced}
 use Rattle.array_sync.proofs.Adopted.{adopted_kept}
 use Rattle.array_sync.proofs.Agreeing.{all_counts}
+use Rattle.raid_map.specs.LeftSymmetric.{row_at}
+use Rattle.array_image.specs.Arrays.{layout_at}
+use Rattle.array_image.specs.Stripes.{sector_in}
+use Rattle.array_image.specs.Spent.{wanting, spent_with}
+use Rattle.array_sync.proofs.Summing.{wanting_later}
 
 -- what a row call needs of an array, and what holds of it
 pub record IsUnsynced (v : View) : Type 0 where
@@ -233,6 +238,29 @@ is_steady v is_array lacks row steady =
         let synced = and_parts (v.resync == rows_of v) (not v.young && not (is_reshaping v.truth)) whole.1 in
         let same = eqb-true v.resync (rows_of v) synced.0 in
         absurd (omega (arith, same, row))
+
+-- what is spent after it was before
+pub unspent_before : (v : View) → lacks_row v v.resync ≡ false → (y : ℕ) → spent_in (resynced v) y ≡ false → spent_in v y ≡ false
+unfolding shape_of
+unspent_before v lacks y unspent =
+    let t = sector_in (layout_at (shape_of v) y) y in
+    elim (cases_lt (row_at t) v.resync) [
+      | inl less ↦
+          ap (spent_with (wanting t (shape_of v).members)) (lt-ltb (row_at t) v.resync less ∙ sym (lt-ltb (row_at t) (v.resync + 1) (omega (arith, less)))) ∙ unspent
+      | inr more ↦ elim (cases_lt v.resync (row_at t)) [
+        | inl past ↦
+            ap (spent_with (wanting t (shape_of v).members)) (le-ltb (row_at t) v.resync more ∙ sym (le-ltb (row_at t) (v.resync + 1) (omega (arith, past)))) ∙ unspent
+        | inr here ↦
+            let inside : t ≤ v.resync * 128 + 127 = omega (arith, here) in
+            let later = wanting_later t (v.resync * 128 + 127) (members_of v) inside in
+            let none : wanting (v.resync * 128 + 127) (members_of v) ≡ 0 = none_wants (wanting (v.resync * 128 + 127) (members_of v)) lacks in
+            let here_none : wanting t (members_of v) ≡ 0 = omega (arith, later, none) in
+            ap (λ (k : ℕ). spent_with k (nat_lt (row_at t) v.resync)) here_none
+      ]
+    ]
+  where
+    none_wants : (k : ℕ) → nat_lt 0 k ≡ false → k ≡ 0
+    none_wants k is = let few = ltb-false 0 k is in omega (arith, few)
 
 -- what is staged of it
 pub stage_is : (v : View) (c : Change) (offset : ℕ) → IsUnsynced v → offset ≡ offset_after v (v.resync + 1) → c ≡ resynced_to v offset → adopted c v ≡ resynced v
