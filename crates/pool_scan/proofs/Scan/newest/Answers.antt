@@ -26,5 +26,5 @@ pub returns-in-Some-clause-copied : goal.returns-in-Some-clause-copied
 returns-in-Some-clause-copied c =
     let known = c.args.self.now.disks.items in
     let found = foremost_from epoch_of (copied_at known) 0 (length known) c.in-Some.copied.now
-        (ap (λ ks. foremost epoch_of (map (copied_at ks) (range_with_len 0 (length ks)))) (sym c.as_slice.ensures.value) ∙ sym c.newest_copy.ensures ∙ ap option_copied c.in-Some.is) in
+    (ap (λ ks. foremost epoch_of (map (copied_at ks) (range_with_len 0 (length ks)))) (sym c.as_slice.ensures.value) ∙ sym c.newest_copy.ensures ∙ ap option_copied c.in-Some.is) in
     record { disk = found.0; copy = c.in-Some.copied.now; read = found.2; state = refl }
