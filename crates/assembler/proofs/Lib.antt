@@ -3,3 +3,4 @@ mod Seating
 mod Sizes
 mod Unseated
 mod Whole
+mod Written

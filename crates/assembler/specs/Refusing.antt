@@ -1,4 +1,5 @@
 -- Refusals of an opening, by those of its parts.
+use Rattle.std.specs.Prelude.{Bool, true, false}
 use Rattle.lvm_group.specs.declared.volume.VolumeFault.{VolumeFault}
 use Rattle.lvm_group.specs.declared.volume.VolumeFault.TheVariants as volume
 use Rattle.pool_check.specs.declared.CheckFault.{CheckFault}
@@ -22,3 +23,14 @@ by_check (check.DirtyDegraded array) = DirtyDegraded array
 abbrev pub by_volume : VolumeFault → Refusal
 by_volume (volume.BadVolume array) = BadVolume array
 by_volume volume.Memory = Memory
+
+-- a refusal of the disks, before the arrays are a rack and gates are closed
+abbrev pub is_early : Refusal → Bool
+is_early NoPool = true
+is_early TwoPools = true
+is_early (Absent count) = true
+is_early (Damaged place part) = true
+is_early (TooFew array) = true
+is_early (DirtyDegraded array) = true
+is_early (BadVolume array) = false
+is_early Memory = false

@@ -1,6 +1,9 @@
 //! From the disks of a rack to a volume.
 
-ghost use Rattle.std.specs.Prelude.{◌<◌, ◌≤◌, ◌^◌, ℕ, IfOk, IfErr};
+ghost use Rattle.std.specs.Prelude.{◌≡◌, ◌⊎◌, ◌<◌, ◌≤◌, ◌^◌, ℕ, true, false, IfOk, IfErr};
+ghost use Rattle.rack.specs.Sequences.{OnlyReads};
+ghost use Rattle.pool_rest.specs.Resting.{WritesDrives};
+ghost use Rattle.assembler.specs.Refusing.{is_early};
 ghost use Rattle.slice_rack.specs.SliceRack.{below_of};
 ghost use Rattle.lvm_group.specs.Shown.{total, volume_of};
 ghost use Rattle.lvm_group.specs.Volume.{below_of as rack_in, linear};
@@ -28,6 +31,7 @@ fn open_volume<R: Rack>(
     requires ready { (raid_in raid).state.joined ≤ (raid_in raid).state.made }
     ensures fit { IfOk result (λ volume. (volume_of (linear volume) (raid_seen R.seen (rack_in volume))).fit) }
     ensures runs { IfOk result (λ volume. SliceRuns R.seen R.runs (slices_in raid) (slices_in (rack_in volume))) }
+    ensures late { IfErr result (λ back. is_early back.why ≡ false) }
     ensures returned { IfErr result (λ back. R.runs (below_of (slices_in raid)) back.rack) }
 {
     let state = raid.state();
@@ -56,6 +60,8 @@ pub fn assemble<R: Rack>(
     requires small { (d : ℕ) → d < (R.seen rack).disks → (R.seen rack).sectors d < 2 ^ 48 }
     ensures fit { IfOk result (λ volume. (volume_of (linear volume) (raid_seen R.seen (rack_in volume))).fit) }
     ensures runs { IfOk result (λ volume. R.runs rack (below_of (slices_in (rack_in volume)))) }
+    // Until the drives have passed their checks nothing is written but the pending record, on drives of the pool.
+    ensures early { IfErr result (λ back. is_early back.why ≡ true → OnlyReads (R.seen rack) (R.seen back.rack) ⊎ WritesDrives (R.seen rack) (R.seen back.rack)) }
     ensures returned { IfErr result (λ back. R.runs rack back.rack) }
 {
     let rest = match bring_to_rest(alloc, rack) {
