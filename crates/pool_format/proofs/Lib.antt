@@ -1,0 +1,4 @@
+pub mod Lists
+pub mod Units
+pub mod Layered
+pub mod Planned
