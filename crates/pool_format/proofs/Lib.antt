@@ -2,3 +2,5 @@ pub mod Lists
 pub mod Units
 pub mod Layered
 pub mod Planned
+pub mod Laying
+pub mod Entries

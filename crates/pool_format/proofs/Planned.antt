@@ -15,9 +15,10 @@ use Rattle.pool_state.specs.Valid.{is_extent}
 use Rattle.array_image.specs.Places.{arrays_first}
 use Rattle.pool_format.specs.declared.planning.NewArray.{NewArray}
 use Rattle.pool_format.specs.declared.planning.NewPool.{NewPool}
-use Rattle.pool_format.specs.Plan.{HasRoom, IsNewArray, IsPlan, IsPlanOf, arrays_from, has, slices_before, units_on}
-use Rattle.pool_format.proofs.Lists.{got, no_element}
+use Rattle.pool_format.specs.Plan.{AreLow, HasRoom, IsNewArray, IsPlan, IsPlanOf, arrays_from, has, slices_before, units_on}
+use Rattle.pool_format.proofs.Lists.{first_has, got, no_element}
 use Rattle.pool_format.proofs.Units.{SaysPlan, all_small, extent_bounds, never_refused, unit_at, units_count, units_room, units_small}
+use Rattle.pool_format.proofs.Laying.{member_inside}
 use Rattle.pool_format.proofs.Layered.{AreStacked, IsPlaced, arrays_count, arrays_ordered, arrays_placed, layering_stacked, member_units, slices_most}
 
 none_more : (p : ℕ → Bool) (y : ℕ) (ys : List ℕ) (x : ℕ) → (length ys ≤ position_or_len p ys → (k : ℕ) → slice_get ys k ≡ Some x → p x ≡ false)
@@ -171,3 +172,14 @@ module _ (x : Seen) (extent : ℕ) (is : is_extent extent ≡ true) (bounded : (
           let number = slice_get_within plan.arrays.items n a at in
           omega (arith, room, wide, before, size, number, arrays_many, few);
     }
+
+-- no slice of a plan that disks have room for ends past them
+pub plan_low : (plan : NewPool) (x : Seen) → IsPlan plan → HasRoom plan x → AreLow plan.arrays.items
+plan_low plan x is room k d below =
+    let one = got plan.arrays.items k below in
+    let array = is.each k one.0 one.1 in
+    let member = first_has one.0.members.items (let least = array.least in omega (arith, least)) in
+    let in_it = member_inside plan x is room k member.0 one.0 one.1 member.1 in
+    let fits = in_it.fits in
+    let small = in_it.small in
+    subst (λ (a : NewArray). a.first + (a.size + 2048) < 2 ^ 62) (sym (get_or_from_slice_get plan.arrays.items k one.0 d one.1)) (omega (arith, fits, small))

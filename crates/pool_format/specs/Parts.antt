@@ -1,5 +1,5 @@
 -- The parts of a new pool: its state, the tables of its drives and the superblocks of its members.
-use Rattle.std.specs.Prelude.{ℕ, pos, ◌+◌, ◌-◌, ◌++◌, ◌==◌, ◌^◌, suc, if◌then◌else◌, List, [], ◌∷◌, codes, decimal, replicate, map, length, position, slice_index, false}
+use Rattle.std.specs.Prelude.{ℕ, ℤ, pos, ◌+◌, ◌-◌, ◌++◌, ◌==◌, ◌^◌, suc, if◌then◌else◌, List, [], ◌∷◌, codes, decimal, replicate, map, length, position, slice_index, false}
 use Rattle.std.specs.Option.{option_map_or}
 use Rattle.std.specs.List.{range_with_len}
 use Rattle.gpt_table.specs.declared.Entry.{Entry}
@@ -91,20 +91,30 @@ new_roles members = map (role_of members) (range_with_len 0 128)
 abbrev pub set_name : ℕ → List ℕ
 set_name number = (codes "shr:" ++ decimal number) ++ replicate (28 - length (decimal number)) 0
 
--- the superblock of a place's member: a mirror of two members, RAID-5 of more, in which each row agrees
+-- of two members a mirror, of more RAID-5, left-symmetric, in chunks of 128 sectors
+abbrev pub level_of : ℕ → ℤ
+level_of members = pos (if members == 2 then 1 else 5)
+
+abbrev pub layout_of : ℕ → ℕ
+layout_of members = if members == 2 then 0 else 2
+
+abbrev pub chunk_of : ℕ → ℕ
+chunk_of members = if members == 2 then 0 else 128
+
+-- the superblock of a place's member of an array in which each row agrees
 abbrev pub new_super : Birth → NewArray → ℕ → ℕ → Super
 new_super birth a number place =
-    let mirrored = length a.members.items == 2 in
+    let members = length a.members.items in
     record {
       feature_map = 0;
       set_id = record { 0 = array_id birth.pool number };
       set_name = set_name number;
       ctime = birth.seconds;
-      level = pos (if mirrored then 1 else 5);
-      layout = if mirrored then 0 else 2;
+      level = level_of members;
+      layout = layout_of members;
       size = a.size;
-      chunk = if mirrored then 0 else 128;
-      raid_disks = length a.members.items;
+      chunk = chunk_of members;
+      raid_disks = members;
       new_level = pos 0;
       reshape_position = 0;
       delta_disks = pos 0;

@@ -1,5 +1,5 @@
 -- The plan of a new pool: the units of its drives, and its arrays with the slices of their members.
-use Rattle.std.specs.Prelude.{◌≡◌, ◌⊎◌, ℕ, Bool, true, ◌+◌, ◌-◌, ◌*◌, ◌<◌, ◌≤◌, ◌^◌, ◌==◌, List, [], ◌∷◌, map, filter, length, position, slice_get, Some, sum_by, take}
+use Rattle.std.specs.Prelude.{◌≡◌, ◌⊎◌, ℕ, Bool, true, ◌+◌, ◌-◌, ◌*◌, ◌<◌, ◌≤◌, ◌^◌, ◌==◌, List, [], ◌∷◌, All, map, filter, length, position, slice_get, Some, sum_by, take}
 use Rattle.std.specs.List.{range_with_len, list_any}
 use Rattle.rack.specs.Seen.{Seen}
 use Rattle.shr_base.specs.Units.{units_of}
@@ -88,3 +88,7 @@ pub record HasRoom (plan : NewPool) (x : Seen) : Type 0 where
   pub members :
       (n d : ℕ) (a : NewArray) → slice_get plan.arrays.items n ≡ Some a → has a.members.items d ≡ true
       → a.first + (a.size + 2048) + 33 ≤ x.sectors d
+
+-- sums of their fields fit
+abbrev pub AreLow : List NewArray → Type 0
+AreLow arrays = All (λ a. a.first + (a.size + 2048) < 2 ^ 62) arrays

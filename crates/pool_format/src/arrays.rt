@@ -8,7 +8,7 @@ ghost use Rattle.pool_state.specs.Valid.{is_extent};
 ghost use Rattle.std.specs.Prelude.{true, ◌≤◌};
 
 use crate::Birth;
-use crate::planning::{NewArray, NewPool};
+use crate::planning::{NewArray, NewPool, array_at};
 use crate::superblocks::new_super;
 use array_core::{Array, Found};
 use arrayvec::ArrayVec;
@@ -35,7 +35,7 @@ fn new_array(plan: &NewPool, birth: &Birth, number: u32) -> Array
     ensures made { (a : NewArray) → slice_get plan.now.arrays.items number ≡ Some a → result ≡ spec.new_view birth.now a number }
     ensures is_array { IsArray result }
 {
-    let found = found_of(birth, &plan.arrays[number as usize], number);
+    let found = found_of(birth, array_at(plan, number), number);
     match Array::open(number, found.as_slice(), false) {
         Ok(array) => {
             array.rules();

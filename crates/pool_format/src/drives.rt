@@ -5,7 +5,7 @@ ghost use Rattle.pool_format.specs.Plan.{HasRoom, IsPlan};
 ghost use Rattle.pool_format.specs.Writing.{Lays};
 
 use crate::Birth;
-use crate::planning::{NewPool, has_member};
+use crate::planning::{NewPool, array_at, has_member};
 use crate::superblocks::new_super;
 use crate::tables::write_table;
 use crate::zeros::clear_members;
@@ -73,7 +73,7 @@ fn write_super<R: Rack>(
     ensures lays { Lays plan.now (R.seen rack.old) (R.seen rack.new) result }
     ensures runs { R.runs rack.old rack.new }
 {
-    let array = &plan.arrays[number as usize];
+    let array = array_at(plan, number);
     if !has_member(array, place) {
         return Ok(());
     }

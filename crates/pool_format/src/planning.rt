@@ -1,6 +1,6 @@
 //! The plan of a new pool, by the sizes of its drives.
 
-ghost use Rattle.std.specs.Prelude.{◌≡◌, ◌≤◌, ◌<◌, ◌↔◌, ◌^◌, ◌*◌, ◌+◌, ℕ, true, length, Err, IfOk};
+ghost use Rattle.std.specs.Prelude.{◌≡◌, ◌≤◌, ◌<◌, ◌↔◌, ◌^◌, ◌*◌, ◌+◌, ℕ, true, length, slice_get, Some, Err, IfOk};
 ghost use Rattle.pool_state.specs.Valid.{is_extent};
 ghost use Rattle.layer_plan.specs.declared.PlanError.{PlanError};
 ghost use Rattle.array_image.specs.Places.{arrays_first};
@@ -88,6 +88,14 @@ fn arrays_of(layers: &[Layer], extent: u32) -> ArrayVec<NewArray, 16>
         first += sectors + SLICE_SECTORS;
     }
     arrays
+}
+
+/// The array of a number.
+pub(crate) fn array_at(plan: &NewPool, number: u32) -> &NewArray
+    requires { number < length plan.now.arrays.items }
+    ensures { slice_get plan.now.arrays.items number ≡ Some result.now }
+{
+    &plan.arrays[number as usize]
 }
 
 /// Whether a place is a member.

@@ -1,6 +1,6 @@
 //! The superblocks of a new pool's members.
 
-ghost use Rattle.std.specs.Prelude.{◌≡◌, ◌<◌, length};
+ghost use Rattle.std.specs.Prelude.{◌≡◌, ◌<◌, ◌==◌, length, position};
 ghost use Rattle.pool_format.specs.Parts as spec;
 
 use crate::Birth;
@@ -41,12 +41,19 @@ fn set_name(number: u32) -> [u8; 32]
     }
 }
 
+/// The position of a place among the members.
+fn position_of(members: &[u32], place: u32) -> Option<usize>
+    ensures { result ≡ position (λ p. p == place) members.now }
+{
+    members.iter().position(|member| *member == place)
+}
+
 /// The role of a place: its position among the members.
 fn role_of(members: &[u32], place: u32) -> u16
     requires { length members.now < 17 }
     ensures { result ≡ spec.role_of members.now place }
 {
-    match members.iter().position(|member| *member == place) {
+    match position_of(members, place) {
         Some(position) => position as u16,
         None => SPARE,
     }
@@ -64,22 +71,43 @@ fn new_roles(members: &[u32]) -> ArrayVec<u16, 384>
     roles
 }
 
+/// The level of an array of so many members: a mirror of two, RAID-5 of more.
+fn level_of(members: u32) -> i32
+    ensures { result ≡ spec.level_of members }
+{
+    if members == 2 { 1 } else { 5 }
+}
+
+/// Its layout: left-symmetric for RAID-5.
+fn layout_of(members: u32) -> u32
+    ensures { result ≡ spec.layout_of members }
+{
+    if members == 2 { 0 } else { 2 }
+}
+
+/// The sectors of its chunks.
+fn chunk_of(members: u32) -> u32
+    ensures { result ≡ spec.chunk_of members }
+{
+    if members == 2 { 0 } else { 128 }
+}
+
 /// The superblock of a place's member of an array.
 pub(crate) fn new_super(birth: &Birth, array: &NewArray, number: u32, place: u32) -> Super
     requires { number < 16 }
     ensures { result ≡ spec.new_super birth.now array.now number place }
 {
-    let mirrored = array.members.len() == 2;
+    let members = array.members.len() as u32;
     Super {
         feature_map: 0,
         set_id: child_id(&Id(birth.pool), 2, number, 0),
         set_name: set_name(number),
         ctime: birth.seconds,
-        level: if mirrored { 1 } else { 5 },
-        layout: if mirrored { 0 } else { 2 },
+        level: level_of(members),
+        layout: layout_of(members),
         size: array.size,
-        chunk: if mirrored { 0 } else { 128 },
-        raid_disks: array.members.len() as u32,
+        chunk: chunk_of(members),
+        raid_disks: members,
         new_level: 0,
         reshape_position: 0,
         delta_disks: 0,

@@ -1,8 +1,8 @@
 //! The tables of a new pool's drives.
 
-ghost use Rattle.std.specs.Prelude.{◌≡◌, ◌<◌, ◌+◌, ◌≤◌, ◌^◌, length, ℕ, Some, slice_get};
+ghost use Rattle.std.specs.Prelude.{◌≡◌, ◌<◌, ◌+◌, ◌≤◌, ◌^◌, length};
 ghost use Rattle.gpt_table.specs.Plans.{WritesTable};
-ghost use Rattle.pool_format.specs.Plan.{HasRoom, IsPlan};
+ghost use Rattle.pool_format.specs.Plan.{AreLow, HasRoom, IsPlan};
 ghost use Rattle.pool_format.specs.Parts as spec;
 
 use crate::Birth;
@@ -50,7 +50,7 @@ fn entry_of(drive: &Id, slice: u32, kind: Id, first: u64, sectors: u64) -> Entry
 /// The entries of a place's drive.
 fn entries_of(drive: &Id, arrays: &[NewArray], place: u32) -> ArrayVec<Entry, 128>
     requires few { length arrays.now ≤ 16 }
-    requires room { (n : ℕ) (a : NewArray) → slice_get arrays.now n ≡ Some a → a.first + a.size + 2048 < 2 ^ 62 }
+    requires room { AreLow arrays.now }
     ensures { result.items ≡ spec.entries_of drive.now.0 place arrays.now }
 {
     let mut entries = ArrayVec::new();

@@ -4,7 +4,7 @@ ghost use Rattle.std.specs.Prelude.{◌≡◌, ◌<◌, ◌+◌, ◌≤◌, ◌^
 ghost use Rattle.pool_format.specs.Plan.{HasRoom, IsPlan};
 ghost use Rattle.pool_format.specs.Writing.{IsOfSlice, Lays};
 
-use crate::planning::{NewPool, has_member};
+use crate::planning::{NewPool, array_at, has_member};
 use crate::states::STATE_SECTOR;
 use crate::tables::DATA_SECTOR;
 use rack::{Gone, Rack, write_durably};
@@ -57,7 +57,7 @@ fn clear_member<R: Rack>(
     rack: &mut R,
     plan: &NewPool,
     place: u32,
-    number: usize,
+    number: u32,
 ) -> Result<(), Gone>
     requires fit { (R.seen rack.old).fit }
     requires plan { IsPlan plan.now }
@@ -67,7 +67,7 @@ fn clear_member<R: Rack>(
     ensures lays { Lays plan.now (R.seen rack.old) (R.seen rack.new) result }
     ensures runs { R.runs rack.old rack.new }
 {
-    let array = &plan.arrays[number];
+    let array = array_at(plan, number);
     if !has_member(array, place) {
         return Ok(());
     }
@@ -87,7 +87,7 @@ pub(crate) fn clear_members<R: Rack>(
     ensures lays { Lays plan.now (R.seen rack.old) (R.seen rack.new) result }
     ensures runs { R.runs rack.old rack.new }
 {
-    for number in 0..plan.arrays.len() {
+    for number in 0..plan.arrays.len() as u32 {
         if let Err(gone) = clear_member(rack, plan, place, number) {
             return Err(gone);
         }
