@@ -4,3 +4,5 @@ pub mod Layered
 pub mod Planned
 pub mod Laying
 pub mod Entries
+pub mod Slicing
+pub mod Roles

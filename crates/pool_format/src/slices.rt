@@ -6,7 +6,7 @@ ghost use Rattle.slice_rack.specs.SliceRack.{tables, below_of};
 ghost use Rattle.pool_format.specs.Plan.{HasRoom, IsPlan};
 ghost use Rattle.pool_format.specs.Slices.{AreLaid};
 
-use crate::planning::{NewPool, has_member};
+use crate::planning::{NewPool, array_at, has_member};
 use crate::states::STATE_SECTOR;
 use crate::tables::{DATA_SECTOR, LOG_SECTORS};
 use rack::Rack;
@@ -24,9 +24,10 @@ fn lay_member<R: Rack>(slices: &mut SliceRack<R>, plan: &NewPool, place: u32, nu
     ensures fit { (slices_of (tables slices.new) (R.seen (below_of slices.new))).fit }
     ensures laid { AreLaid plan.now.arrays.items (place + 1) (17 * place + number + 2) (tables slices.new) }
 {
-    let Some(array) = plan.arrays.as_slice().get(number as usize) else {
+    if number as usize >= plan.arrays.len() {
         return;
-    };
+    }
+    let array = array_at(plan, number);
     if has_member(array, place) {
         let _ = slices.add_slice(place, number + 1, array.first, array.size + DATA_SECTOR);
     }
