@@ -6,3 +6,6 @@ pub mod Laying
 pub mod Entries
 pub mod Slicing
 pub mod Roles
+pub mod Supers
+pub mod Extents
+pub mod Opening

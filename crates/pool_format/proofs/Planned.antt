@@ -120,6 +120,28 @@ module _ (x : Seen) (extent : ℕ) (is : is_extent extent ≡ true) (bounded : (
     place_of : (n : ℕ) (a : NewArray) → slice_get plan.arrays.items n ≡ Some a → IsPlaced units extent small arrays_first 0 n a
     place_of n a at = arrays_placed units extent small arrays_first 0 layers.layers.items stacked n a (subst (λ xs. slice_get xs n ≡ Some a) arrays_are at)
 
+    unit_room : (d : ℕ) → d < x.disks → slice_index units d * extent + 77824 ≤ x.sectors d
+    unit_room d below =
+        let value : slice_index units d ≡ units_of (x.sectors d) extent = ap (λ (xs : List ℕ). get_or xs d 0) units_are ∙ unit_at x extent is bounded d 0 below in
+        let one = got units d (omega (arith, count, below)) in
+        let some = some_units d one.0 one.1 in
+        let own : slice_index units d ≡ one.0 = get_or_from_slice_get units d one.0 0 one.1 in
+        subst (λ n. n * extent + 77824 ≤ x.sectors d) (sym value) (units_room (x.sectors d) extent (omega (arith, some, own, value)))
+
+    array_small : (n : ℕ) (a : NewArray) → slice_get plan.arrays.items n ≡ Some a → a.size < 2 ^ 48
+    array_small n a at =
+        let placed = place_of n a at in
+        let member = first_has (places_reaching units placed.up) (let least = subst (λ xs. 2 ≤ length xs) placed.members placed.least in omega (arith, least)) in
+        let own = member_units units placed.up member.0 member.1 in
+        let below : member.0 < x.disks = let low = own.0 in omega (arith, low, count) in
+        let room = unit_room member.0 below in
+        let wide = mul-le-mul_right extent own.1 in
+        let before = placed.before in
+        let size = placed.size in
+        let number = slice_get_within plan.arrays.items n a at in
+        let disk = bounded member.0 below in
+        omega (arith, room, wide, before, size, number, arrays_many, few, disk)
+
     pub planned_sound : IsPlan plan
     planned_sound = record {
       extent = subst (λ e. is_extent e ≡ true) (sym extent_is) is;
@@ -143,19 +165,12 @@ module _ (x : Seen) (extent : ℕ) (is : is_extent extent ≡ true) (bounded : (
             size_is = placed.size ∙ ap (λ e. placed.height * e + 2048) (sym extent_is);
             extents_are = placed.extents;
             first = placed.after;
+            small = array_small n a at;
           };
       ordered = λ k n a b less one two.
           arrays_ordered arrays_first extent layers.layers.items k n a b less (subst (λ xs. slice_get xs k ≡ Some a) arrays_are one)
           (subst (λ xs. slice_get xs n ≡ Some b) arrays_are two);
     }
-
-    unit_room : (d : ℕ) → d < x.disks → slice_index units d * extent + 77824 ≤ x.sectors d
-    unit_room d below =
-        let value : slice_index units d ≡ units_of (x.sectors d) extent = ap (λ (xs : List ℕ). get_or xs d 0) units_are ∙ unit_at x extent is bounded d 0 below in
-        let one = got units d (omega (arith, count, below)) in
-        let some = some_units d one.0 one.1 in
-        let own : slice_index units d ≡ one.0 = get_or_from_slice_get units d one.0 0 one.1 in
-        subst (λ n. n * extent + 77824 ≤ x.sectors d) (sym value) (units_room (x.sectors d) extent (omega (arith, some, own, value)))
 
     pub planned_room : HasRoom plan x
     planned_room = record {

@@ -65,6 +65,7 @@ pub record IsNewArray (extent drives : ℕ) (a : NewArray) : Type 0 where
   pub size_is : a.size ≡ height * extent + 2048
   pub extents_are : a.extents ≡ (length a.members.items - 1) * height
   pub first : arrays_first ≤ a.first
+  pub small : a.size < 2 ^ 48
 
 -- what holds of each plan
 pub record IsPlan (plan : NewPool) : Type 0 where

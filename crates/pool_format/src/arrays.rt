@@ -19,10 +19,11 @@ fn found_of(birth: &Birth, array: &NewArray, number: u32) -> ArrayVec<Found, 16>
     ensures { result.items ≡ spec.new_found birth.now array.now number }
 {
     let mut found = ArrayVec::new();
-    for place in array.members.iter() {
+    for index in 0..array.members.len() {
+        let place = array.members[index];
         found.push(Found {
-            place: *place,
-            seen: Some(new_super(birth, array, number, *place)),
+            place,
+            seen: Some(new_super(birth, array, number, place)),
         });
     }
     found

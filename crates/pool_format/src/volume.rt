@@ -21,7 +21,7 @@ ghost use Rattle.std.specs.Prelude.{◌*◌};
 use crate::Birth;
 use crate::arrays::new_arrays;
 use crate::formatting::CreateFault;
-use crate::planning::NewPool;
+use crate::planning::{NewPool, array_at};
 use crate::slices::lay_slices;
 use crate::states::new_state;
 use arrayvec::ArrayVec;
@@ -38,8 +38,8 @@ fn extents_of(plan: &NewPool) -> ArrayVec<u64, 16>
     ensures { result.items ≡ spec.extents_of plan.now }
 {
     let mut extents = ArrayVec::new();
-    for array in plan.arrays.iter() {
-        extents.push(array.extents);
+    for number in 0..plan.arrays.len() as u32 {
+        extents.push(array_at(plan, number).extents);
     }
     extents
 }
