@@ -9,3 +9,4 @@ pub mod Roles
 pub mod Supers
 pub mod Extents
 pub mod Opening
+pub mod Founded

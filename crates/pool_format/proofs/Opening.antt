@@ -117,7 +117,7 @@ module _ (birth : Birth) (a : NewArray) (number extent drives chunks : ℕ) (mos
   abbrev found : List Found
   found = new_found birth a number
 
-  seen_at : (p : ℕ) → super_at found p ≡ (if has a.members.items p then Some (new_super birth a number p) else None)
+  pub seen_at : (p : ℕ) → super_at found p ≡ (if has a.members.items p then Some (new_super birth a number p) else None)
   seen_at p = found_at (new_super birth a number) a.members.items p
 
   member_low : (p : ℕ) → has a.members.items p ≡ true → p < drives
