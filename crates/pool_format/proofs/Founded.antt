@@ -1,5 +1,5 @@
 -- The arrays of a new pool over its slices are a set of arrays, each whole.
-use Rattle.std.proofs.Common.{◌≡◌, ◌≢◌, ◌⊎◌, ℕ, zero, suc, ◌+◌, ◌-◌, ◌*◌, ◌/◌, ◌<◌, ◌≤◌, ◌^◌, ◌==◌, ◌&&◌, not, nat_le, nat_lt, is_ok, Bool, true, false, List, [], ◌∷◌, get_or, map, length, slice_get, slice_index, if◌then◌else◌, Option, Some, None, Ok, option_map, unwrap_or, refl, sym, ap, subst, ◌∙◌, inl, inr, le-leb, lt-ltb, arith}
+use Rattle.std.proofs.Common.{◌≡◌, ◌≢◌, ◌⊎◌, ℕ, pos, eqb-true, zero, suc, ◌+◌, ◌-◌, ◌*◌, ◌/◌, ◌<◌, ◌≤◌, ◌^◌, ◌==◌, ◌&&◌, not, nat_le, nat_lt, is_ok, Bool, true, false, List, [], ◌∷◌, get_or, map, length, slice_get, slice_index, if◌then◌else◌, Option, Some, None, Ok, option_map, unwrap_or, refl, sym, ap, subst, ◌∙◌, inl, inr, le-leb, lt-ltb, arith}
 use Rattle.std.specs.Option.{option_map_or}
 use Rattle.std.specs.List.{range_with_len, list_all}
 use Rattle.std.proofs.lemmas.Bool.{and_from, and_parts, both_ways}
@@ -16,7 +16,9 @@ use Rattle.array_image.specs.Places.{data_sector, log_sectors, log_slice}
 use Rattle.array_image.specs.States.{is_current}
 use Rattle.array_model.specs.declared.Seat.{Seat}
 use Rattle.array_model.specs.declared.Seat.TheVariants.{Whole, Missing, Rebuilding}
-use Rattle.array_model.specs.View.{View, IsArray, is_missing_seat, place_at}
+use Rattle.array_model.specs.View.{View, IsArray, is_missing_seat, place_at, sectors_of}
+use Rattle.array_image.specs.Stripes.{capacity, mirror, parity}
+use Rattle.std.specs.Ordering.{int_eq}
 use Rattle.array_model.specs.Members.{HasSlices, slice_on}
 use Rattle.array_core.specs.declared.slots.Slot.{Slot}
 use Rattle.array_core.specs.Opening.{opened, slot_by, slots_found, super_at, view_found}
@@ -43,6 +45,12 @@ use Rattle.pool_format.proofs.Opening.{array_opens, members_few, position_member
 use Rattle.pool_format.proofs.Slicing.{log_planned}
 use Rattle.pool_format.proofs.Supers.{profile_ok, roles_ok}
 use Rattle.pool_format.proofs.Units.{extent_bounds}
+
+one_times : (n : ℕ) → 1 * n ≡ n
+one_times n = omega arith
+
+pub state_drives : (plan : NewPool) (birth : Birth) → length (new_state plan birth).drives.items ≡ length plan.units.items
+state_drives plan birth = length-map-range_with_len (λ place. new_drive birth place (slice_index plan.units.items place)) 0 (length plan.units.items)
 
 -- the view of a number
 pub view_at : (birth : Birth) (number : ℕ) (arrays : List NewArray) (n : ℕ) (a : NewArray) → slice_get arrays n ≡ Some a → slice_get (new_views birth number arrays) n ≡ Some (new_view birth a (number + n))
@@ -204,6 +212,17 @@ module _ (plan : NewPool) (birth : Birth) (is : IsPlan plan) where
         let view : new_view birth a n ≡ view_found n false (new_found birth a n) (new_super birth a n own.0) =
             view_is ∙ ap (view_found n false (new_found birth a n)) own.2 in
         subst (λ w. IsSeated s n w (slices_of t x)) (sym view) (seated_super own.0 own.1 (subst IsArray view is_array) x t fit lasting laid)
+
+    -- its sectors are the data of all its members but one
+    pub new_sectors : sectors_of (new_view birth a n) ≡ (length a.members.items - 1) * a.size
+    new_sectors =
+        ap sectors_of (view_is ∙ ap (view_found n false (new_found birth a n)) own.2)
+        ∙ of (length a.members.items == 2) refl
+      where
+        of : (b : Bool) → (length a.members.items == 2) ≡ b
+            → capacity (if int_eq (pos (if b then 1 else 5)) (pos 1) then mirror (length a.members.items) else parity (length a.members.items)) a.size ≡ (length a.members.items - 1) * a.size
+        of true two = let same = eqb-true (length a.members.items) 2 two in let one : length a.members.items - 1 ≡ 1 = omega (arith, same) in sym (ap (λ k. k * a.size) one ∙ one_times a.size)
+        of false more = refl
 
     pub new_quiet : ((new_view birth a n).went ≡ []) × ((new_view birth a n).marked ≡ false)
     new_quiet = (ap (λ (w : View). w.went) view_is, ap (λ (w : View). w.marked) view_is)

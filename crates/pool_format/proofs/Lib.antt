@@ -10,3 +10,4 @@ pub mod Supers
 pub mod Extents
 pub mod Opening
 pub mod Founded
+pub mod Making

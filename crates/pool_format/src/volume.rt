@@ -116,25 +116,16 @@ pub(crate) fn make_volume<R: Rack>(
         plan.extent,
         extents.as_slice(),
     ) {
-        Ok(volume) => whole(volume),
+        Ok(volume) => match first_missing(volume.below().state()) {
+            Some(disk) => Err(Back {
+                rack: volume.into_inner().into_inner().into_inner(),
+                why: CreateFault::Gone { disk },
+            }),
+            None => Ok(volume),
+        },
         Err(back) => Err(Back {
             why: fault_of(back.rack.state()),
             rack: back.rack.into_inner().into_inner(),
         }),
-    }
-}
-
-/// A volume, unless a drive of its arrays is marked missing.
-fn whole<R: Rack>(volume: Volume<RaidRack<R>>) -> Result<Volume<RaidRack<R>>, Back<R, CreateFault>>
-    ensures volume { IfOk result (λ made. made ≡ volume) }
-    ensures back { IfErr result (λ back. back.rack ≡ below_of (slices_in (rack_in volume))) }
-    ensures why { IfErr result (λ back. HasLayout back.why × IsFaultOf (raid_in (rack_in volume)).state back.why) }
-{
-    match first_missing(volume.below().state()) {
-        Some(disk) => Err(Back {
-            rack: volume.into_inner().into_inner().into_inner(),
-            why: CreateFault::Gone { disk },
-        }),
-        None => Ok(volume),
     }
 }

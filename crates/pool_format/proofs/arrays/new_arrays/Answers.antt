@@ -28,7 +28,7 @@ loop-number-preserved c =
 }
 
 pub push-requires : goal.push-requires
-push-requires c = let few = c.requires.few in (lit< tt, omega (arith, c.loop-number.invariant.many, c.loop-number-test.true, c.len-number-end.ensures.value, few))
+push-requires c = let few = c.requires.plan.few in (lit< tt, omega (arith, c.loop-number.invariant.many, c.loop-number-test.true, c.len-number-end.ensures.value, few))
 
 pub returns-clause-made : goal.returns-clause-made
 returns-clause-made c =
