@@ -11,3 +11,4 @@ pub mod Extents
 pub mod Opening
 pub mod Founded
 pub mod Making
+pub mod Building
