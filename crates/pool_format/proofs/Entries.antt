@@ -23,7 +23,7 @@ all_entries : (P : Entry → Type 0) (drive : List ℕ) (place number : ℕ) (ar
 all_entries P drive place number [] each = All-nil P
 all_entries P drive place number (a ∷ others) each =
     let rest = all_entries P drive place (number + 1) others
-        (λ k b at among. subst (λ n. P (entry_of drive n raid_kind b.first (b.size + data_sector))) (omega arith) (each (suc k) b at among)) in
+    (λ k b at among. subst (λ n. P (entry_of drive n raid_kind b.first (b.size + data_sector))) (omega arith) (each (suc k) b at among)) in
     elim (cases_Bool (has a.members.items place)) [
       | inl among ↦
           let here = subst (λ n. P (entry_of drive n raid_kind a.first (a.size + data_sector))) (omega arith) (each zero a refl among) in

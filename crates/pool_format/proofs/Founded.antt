@@ -181,9 +181,9 @@ module _ (plan : NewPool) (birth : Birth) (is : IsPlan plan) where
                   let q : ℕ = place_by u k in
                   let own = member_drive plan is n q a at (among k low) in
                   let size : slice_sectors t (17 * q + n + 1) ≡ a.size + data_sector =
-                      laid.sectors (17 * q + n + 1)
-                      ∙ ap (λ b. if b then sectors_planned plan.arrays.items (17 * q + n + 1) else 0) (lt-ltb (17 * q + n + 1) (17 * n_drives) (omega (arith, own, number, few_arrays)))
-                      ∙ (member_slice_is plan is n q a at (among k low)).0 in
+                  laid.sectors (17 * q + n + 1)
+                  ∙ ap (λ b. if b then sectors_planned plan.arrays.items (17 * q + n + 1) else 0) (lt-ltb (17 * q + n + 1) (17 * n_drives) (omega (arith, own, number, few_arrays)))
+                  ∙ (member_slice_is plan is n q a at (among k low)).0 in
                   omega (arith, size);
             };
             marks = λ k low.
@@ -210,7 +210,7 @@ module _ (plan : NewPool) (birth : Birth) (is : IsPlan plan) where
     pub new_seated : (x : Seen) (t : Slices) → (slices_of t x).fit → x.lasting → AreLaid plan.arrays.items n_drives (17 * n_drives) t → IsSeated s n (new_view birth a n) (slices_of t x)
     new_seated x t fit lasting laid =
         let view : new_view birth a n ≡ view_found n false (new_found birth a n) (new_super birth a n own.0) =
-            view_is ∙ ap (view_found n false (new_found birth a n)) own.2 in
+        view_is ∙ ap (view_found n false (new_found birth a n)) own.2 in
         subst (λ w. IsSeated s n w (slices_of t x)) (sym view) (seated_super own.0 own.1 (subst IsArray view is_array) x t fit lasting laid)
 
     -- its sectors are the data of all its members but one
@@ -265,5 +265,5 @@ module _ (plan : NewPool) (birth : Birth) (is : IsPlan plan) where
       one_of n low =
           let one = got plan.arrays.items n (subst (λ (r : State). n < r.made) new.state low) in
           let at : slice_get arrs.all.items n ≡ Some (new_view birth one.0 n) =
-              ap (λ (vs : List View). slice_get vs n) new.arrays ∙ view_at birth 0 plan.arrays.items n one.0 one.1 ∙ ap (λ k. Some (new_view birth one.0 k)) (zero_more n) in
+          ap (λ (vs : List View). slice_get vs n) new.arrays ∙ view_at birth 0 plan.arrays.items n one.0 one.1 ∙ ap (λ k. Some (new_view birth one.0 k)) (zero_more n) in
           (one.0, one.1, (get_or_from_slice_get arrs.all.items n (new_view birth one.0 n) no_array at, new.are n (new_view birth one.0 n) at))

@@ -47,14 +47,17 @@ between_stacked units low (next ∷ cs) ascending =
     let here = layer_between units (low, next) in
     elim (cases_Bool (is_redundant here)) [
       | inl redundant ↦
-          subst (λ b. AreStacked units low (if b then here ∷ rest else rest)) (sym redundant)
-          (next, record {
-            below = omega (arith, less);
-            some = omega (arith, less);
-            members = refl;
-            least = leb-true 2 (length here.members.items) redundant;
-            extents = refl;
-          }, others)
+          subst (λ b. AreStacked units low (if b then here ∷ rest else rest)) (sym redundant) (
+            next,
+            record {
+              below = omega (arith, less);
+              some = omega (arith, less);
+              members = refl;
+              least = leb-true 2 (length here.members.items) redundant;
+              extents = refl;
+            },
+            others,
+          )
       | inr single ↦
           subst (λ b. AreStacked units low (if b then here ∷ rest else rest)) (sym single)
           (stacked_lower units low next rest (omega (arith, less)) others)
@@ -115,18 +118,18 @@ module _ (units : List ℕ) (extent : ℕ) (small : (p : ℕ) → p < length uni
       → slice_get (arrays_from first extent layers) n ≡ Some a → IsPlaced first lower n a
   arrays_placed first lower [] stacked n a is = absurd (no_element is)
   arrays_placed first lower (layer ∷ others) (up, is, above) zero a at = subst (IsPlaced first lower 0) (some_same at) (record {
-      up = up;
-      level = level_low lower layer up is;
-      members = is.members;
-      least = is.least;
-      height = layer.height;
-      some = is.some;
-      low = let below = is.below in omega (arith, below);
-      size = refl;
-      extents = is.extents;
-      after = omega arith;
-      before = let wide = mul-le-mul_right extent is.below in let parts = add-mul lower layer.height extent in omega (arith, wide, parts);
-    })
+    up = up;
+    level = level_low lower layer up is;
+    members = is.members;
+    least = is.least;
+    height = layer.height;
+    some = is.some;
+    low = let below = is.below in omega (arith, below);
+    size = refl;
+    extents = is.extents;
+    after = omega arith;
+    before = let wide = mul-le-mul_right extent is.below in let parts = add-mul lower layer.height extent in omega (arith, wide, parts);
+  })
     where
       some_same : {x y : NewArray} → Some x ≡ Some y → x ≡ y
       some_same {x} {y} same = cc

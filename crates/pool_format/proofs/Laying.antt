@@ -56,11 +56,11 @@ member_slice_is plan is n d a at among =
     let place : place_of k ≡ d = omega (arith, number, few) in
     let here : slice_get arrays (slice_of k - 1) ≡ Some a = ap (slice_get arrays) index ∙ at in (
       ap (λ b. if b then log_sectors else option_map_or (λ (e : NewArray). if has e.members.items (place_of k) then e.size + data_sector else 0) (slice_get arrays (slice_of k - 1)) 0) other
-      ∙ ap (λ o. option_map_or (λ (e : NewArray). if has e.members.items (place_of k) then e.size + data_sector else 0) o 0) here
-      ∙ ap (λ p. if has a.members.items p then a.size + data_sector else 0) place
-      ∙ ap (λ b. if b then a.size + data_sector else 0) among,
+          ∙ ap (λ o. option_map_or (λ (e : NewArray). if has e.members.items (place_of k) then e.size + data_sector else 0) o 0) here
+          ∙ ap (λ p. if has a.members.items p then a.size + data_sector else 0) place
+          ∙ ap (λ b. if b then a.size + data_sector else 0) among,
       ap (λ b. if b then state_sector else option_map_or (λ (e : NewArray). e.first) (slice_get arrays (slice_of k - 1)) 0) other
-      ∙ ap (λ o. option_map_or (λ (e : NewArray). e.first) o 0) here,
+          ∙ ap (λ o. option_map_or (λ (e : NewArray). e.first) o 0) here,
     )
 
 -- a sector of a member's slice

@@ -17,11 +17,11 @@ filtered_more : (q : ℕ → Bool) (a n p : ℕ) → (has (filter q (range_with_
     → (a ≤ p) × (p < a + suc n) × (q p ≡ true)
 filtered_more q a n p rest false fails among = let later = rest among in (let low = later.0 in omega (arith, low), let high = later.1 in omega (arith, high), later.2)
 filtered_more q a n p rest true passes among = elim (cases_Bool (a == p)) [
-    | inl here ↦ let same = eqb-true a p here in (omega (arith, same), omega (arith, same), subst (λ k. q k ≡ true) same passes)
-    | inr other ↦
-        let later = rest (subst (λ b. (b || has (filter q (range_with_len (a + 1) n)) p) ≡ true) other among) in
-        (let low = later.0 in omega (arith, low), let high = later.1 in omega (arith, high), later.2)
-  ]
+  | inl here ↦ let same = eqb-true a p here in (omega (arith, same), omega (arith, same), subst (λ k. q k ≡ true) same passes)
+  | inr other ↦
+      let later = rest (subst (λ b. (b || has (filter q (range_with_len (a + 1) n)) p) ≡ true) other among) in
+      (let low = later.0 in omega (arith, low), let high = later.1 in omega (arith, high), later.2)
+]
 
 -- the numbers of a range that pass
 pub filtered : (q : ℕ → Bool) (a n p : ℕ) → has (filter q (range_with_len a n)) p ≡ true → (a ≤ p) × (p < a + n) × (q p ≡ true)

@@ -61,10 +61,10 @@ sliced_part plan t laid sectors d s v at = of (cases_lt at.slice (17 * length pl
         absurd (let within = at.within in omega (arith, within, none))
     of (inl low) =
         let size : slice_sectors t at.slice ≡ sectors_planned plan.arrays.items at.slice =
-            laid.sectors at.slice ∙ ap (λ b. if b then sectors_planned plan.arrays.items at.slice else 0) (lt-ltb at.slice (17 * length plan.units.items) low) in
+        laid.sectors at.slice ∙ ap (λ b. if b then sectors_planned plan.arrays.items at.slice else 0) (lt-ltb at.slice (17 * length plan.units.items) low) in
         let drive : place_of at.slice < length plan.units.items = omega (arith, low) in
         let disk : d ≡ place_of at.slice =
-            at.disk_is ∙ ap (λ o. unwrap_or o 0) (laid.seats (place_of at.slice) ∙ ap (λ b. if b then Some (place_of at.slice) else None) (lt-ltb (place_of at.slice) (length plan.units.items) drive)) in
+        at.disk_is ∙ ap (λ o. unwrap_or o 0) (laid.seats (place_of at.slice) ∙ ap (λ b. if b then Some (place_of at.slice) else None) (lt-ltb (place_of at.slice) (length plan.units.items) drive)) in
         inr (record {
           drive = omega (arith, disk, drive);
           slice = at.slice;
@@ -100,7 +100,7 @@ module _ (plan : NewPool) (birth : Birth) (x : Seen) (is : IsPlan plan) (room : 
       let one = got plan.arrays.items place (omega (arith, within, many)) in
       let a : NewArray = one.0 in
       let own : a.extents ≡ number =
-          ap (λ o. unwrap_or o 0) (sym (ap (option_map (λ (b : NewArray). b.extents)) one.1) ∙ sym (get_map (λ (b : NewArray). b.extents) plan.arrays.items place) ∙ at) in
+      ap (λ o. unwrap_or o 0) (sym (ap (option_map (λ (b : NewArray). b.extents)) one.1) ∙ sym (get_map (λ (b : NewArray). b.extents) plan.arrays.items place) ∙ at) in
       let array = is.each place a one.1 in
       let k : ℕ = length a.members.items - 1 in
       let least : 1 ≤ k = let two = array.least in omega (arith, two) in
@@ -189,14 +189,14 @@ pub marked_gone : (plan : NewPool) (birth : Birth) (is : IsPlan plan) (v w : Rai
 marked_gone plan birth is v w a b t u same caused after state heeded laid disk marked =
     let f : Drive → List ℕ × ℕ = drive_of in
     let count : length w.state.drives.items ≡ length v.state.drives.items =
-        sym (length-map w.state.drives.items f) ∙ ap (λ (ds : List (List ℕ × ℕ)). length ds) after.same.drives ∙ length-map v.state.drives.items f in
+    sym (length-map w.state.drives.items f) ∙ ap (λ (ds : List (List ℕ × ℕ)). length ds) after.same.drives ∙ length-map v.state.drives.items f in
     let many : length v.state.drives.items ≡ length plan.units.items = ap (λ (r : State). length r.drives.items) state ∙ state_drives plan birth in
     let low : disk < length plan.units.items = let own = marked.0 in omega (arith, own, count, many) in
     let current : is_current v.state disk ≡ true = subst (λ (r : State). is_current r disk ≡ true) (sym state) (drive_current plan birth is disk low) in
     let stays : gone_in v disk ≡ false =
-        ap (λ c. nat_lt disk 16 && c) (none_any (λ n. has_gone (v.arrays n) disk) 0 v.state.made
-        (λ n least below. ap (λ (went : List ℕ). list_any (λ p. p == disk) went) (heeded n (omega (arith, below)))))
-        ∙ and_false (nat_lt disk 16) in
+    ap (λ c. nat_lt disk 16 && c) (none_any (λ n. has_gone (v.arrays n) disk) 0 v.state.made
+    (λ n least below. ap (λ (went : List ℕ). list_any (λ p. p == disk) went) (heeded n (omega (arith, below)))))
+    ∙ and_false (nat_lt disk 16) in
     let left : is_left v disk ≡ true = ap (λ c. is_current v.state disk && not c) stays ∙ ap (λ c. c && true) current in
     let goes : is_left w disk ≡ false = ap (λ c. c && not (gone_in w disk)) marked.1 in
     let fault = caused.cause disk left goes in

@@ -69,15 +69,15 @@ foremost_there : {X : Type 0} (measure : X → ℕ) (g : ℕ → Option X) (a n 
     → (t : X) × (foremost measure (map g (range_with_len a n)) ≡ Some t)
 foremost_there measure g a zero k x least low is = absurd (omega (arith, least, low))
 foremost_there {X} measure g a (suc n) k x least low is = elim (cases_lt a k) [
-    | inl more ↦
-        let rest = foremost_there measure g (a + 1) n k x (omega (arith, more)) (omega (arith, low)) is in
-        let some = leads_some measure (g a) (foremost measure (map g (range_with_len (a + 1) n))) (inr rest) in
-        (some.0, foremost_first measure (g a) (map g (range_with_len (a + 1) n)) ∙ some.1)
-    | inr less ↦
-        let here : g a ≡ Some x = subst (λ j. g j ≡ Some x) (omega (arith, least, less)) is in
-        let some = leads_some measure (g a) (foremost measure (map g (range_with_len (a + 1) n))) (inl (x, here)) in
-        (some.0, foremost_first measure (g a) (map g (range_with_len (a + 1) n)) ∙ some.1)
-  ]
+  | inl more ↦
+      let rest = foremost_there measure g (a + 1) n k x (omega (arith, more)) (omega (arith, low)) is in
+      let some = leads_some measure (g a) (foremost measure (map g (range_with_len (a + 1) n))) (inr rest) in
+      (some.0, foremost_first measure (g a) (map g (range_with_len (a + 1) n)) ∙ some.1)
+  | inr less ↦
+      let here : g a ≡ Some x = subst (λ j. g j ≡ Some x) (omega (arith, least, less)) is in
+      let some = leads_some measure (g a) (foremost measure (map g (range_with_len (a + 1) n))) (inl (x, here)) in
+      (some.0, foremost_first measure (g a) (map g (range_with_len (a + 1) n)) ∙ some.1)
+]
 
 -- ---- what is found
 
@@ -162,14 +162,14 @@ module _ (birth : Birth) (a : NewArray) (number extent drives chunks : ℕ) (mos
       let t : Super = one.0 in
       let own = truth_is t one.1 in
       let whole : lacking (slots_found found t) ≡ 0 =
-          none_lacks (λ place. slot_by place (super_at found place)) (place_by t) 0 t.raid_disks
-          (λ k least low.
-          let p = place_by t k in
-          let among : has a.members.items p ≡ true = subst (λ (u : Super). has a.members.items (place_by u k) ≡ true) (sym own.2)
-              (position_member own.0 k (let inside = member_low own.0 own.1 in omega (arith, inside, most))
-              (let many : t.raid_disks ≡ length a.members.items = ap (λ (u : Super). u.raid_disks) own.2 in omega (arith, low, many))) in
-          ap (λ o. not (is_whole_seat (slot_by p o).seat)) (seen_at p)
-          ∙ ap (λ b. not (is_whole_seat (slot_by p (if b then Some (new_super birth a number p) else None)).seat)) among) in
+      none_lacks (λ place. slot_by place (super_at found place)) (place_by t) 0 t.raid_disks
+      (λ k least low.
+      let p = place_by t k in
+      let among : has a.members.items p ≡ true = subst (λ (u : Super). has a.members.items (place_by u k) ≡ true) (sym own.2)
+      (position_member own.0 k (let inside = member_low own.0 own.1 in omega (arith, inside, most))
+      (let many : t.raid_disks ≡ length a.members.items = ap (λ (u : Super). u.raid_disks) own.2 in omega (arith, low, many))) in
+      ap (λ o. not (is_whole_seat (slot_by p o).seat)) (seen_at p)
+      ∙ ap (λ b. not (is_whole_seat (slot_by p (if b then Some (new_super birth a number p) else None)).seat)) among) in
       let shared : share_set found t.set_id ≡ true = subst (λ (u : Super). share_set found u.set_id ≡ true) (sym own.2) (shares a.members.items) in
       (t, one.1, ap (λ o. option_map_or (opened_by number false found) o (Err Foreign)) one.1 ∙ opens t shared whole)
     where
@@ -181,7 +181,7 @@ module _ (birth : Birth) (a : NewArray) (number extent drives chunks : ℕ) (mos
       opens t shared whole =
           let Res : Type 0 = Result View ArrayFault in
           ap (λ (b : Bool). let r : Res = if not b then Err Foreign else if nat_lt 1 (lacking (slots_found found t)) then Err TooFew
-              else if nat_lt 0 (lacking (slots_found found t)) && (not false && is_unclean t) then Err DirtyDegraded else Ok (view_found number false found t) in r) shared
+          else if nat_lt 0 (lacking (slots_found found t)) && (not false && is_unclean t) then Err DirtyDegraded else Ok (view_found number false found t) in r) shared
           ∙ ap (λ (n : ℕ). let r : Res = if nat_lt 1 n then Err TooFew else if nat_lt 0 n && (not false && is_unclean t) then Err DirtyDegraded else Ok (view_found number false found t) in r) whole
 
 -- there are as many members as drives at most

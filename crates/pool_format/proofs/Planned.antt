@@ -35,9 +35,9 @@ none_pass p (y ∷ ys) all x k is = none_more p y ys x (λ long. none_pass p ys 
 -- what isn't found at all isn't there
 not_found : (p : ℕ → Bool) (xs : List ℕ) → ((k : ℕ) → position p xs ≡ Some k → ⊥) → length xs ≤ position_or_len p xs
 not_found p xs never = elim (cases_lt (position_or_len p xs) (length xs)) [
-    | inl found ↦ absurd (never (position_or_len p xs) (ap (λ (b : Bool). if b then Some (position_or_len p xs) else None) (lt-ltb (position_or_len p xs) (length xs) found)))
-    | inr past ↦ past
-  ]
+  | inl found ↦ absurd (never (position_or_len p xs) (ap (λ (b : Bool). if b then Some (position_or_len p xs) else None) (lt-ltb (position_or_len p xs) (length xs) found)))
+  | inr past ↦ past
+]
 
 -- a sum is no less than where it begins
 fold_least : (a : ℕ) (xs : List ℕ) → a ≤ fold ◌+◌ a xs
@@ -68,21 +68,21 @@ module _ (x : Seen) (extent : ℕ) (is : is_extent extent ≡ true) (bounded : (
 
   two : 2 ≤ length units
   two = elim (cases_lt (length units) 2) [
-      | inl few ↦ absurd (never_refused layers TooFew (says.too_few.1 few))
-      | inr enough ↦ enough
-    ]
+    | inl few ↦ absurd (never_refused layers TooFew (says.too_few.1 few))
+    | inr enough ↦ enough
+  ]
 
   some_units : (k u : ℕ) → slice_get units k ≡ Some u → 0 < u
   some_units k u at = elim (cases_lt 0 u) [
-      | inl some ↦ some
-      | inr none ↦
-          let here : (u == 0) ≡ true = eq-eqb u 0 (omega (arith, none)) in
-          absurd (both_ways (u == 0)
-          (none_pass (λ own. own == 0) units
-          (not_found (λ own. own == 0) units
-          (λ j found. never_refused layers (NoRoom j) ((says.no_room j).1 (two, omega (arith, count, most), found)))) u k at)
-          here)
-    ]
+    | inl some ↦ some
+    | inr none ↦
+        let here : (u == 0) ≡ true = eq-eqb u 0 (omega (arith, none)) in
+        absurd (both_ways (u == 0)
+        (none_pass (λ own. own == 0) units
+        (not_found (λ own. own == 0) units
+        (λ j found. never_refused layers (NoRoom j) ((says.no_room j).1 (two, omega (arith, count, most), found)))) u k at)
+        here)
+  ]
 
   stacked : AreStacked units 0 layers.layers.items
   stacked = layering_stacked units layers.layers.items layering

@@ -62,9 +62,9 @@ range_distinct_more q a n rest true = (none, rest)
   where
     none : has (filter q (range_with_len (a + 1) n)) a ≡ false
     none = elim (cases_Bool (has (filter q (range_with_len (a + 1) n)) a)) [
-        | inl among ↦ let low = (filtered q (a + 1) n a among).0 in absurd (omega (arith, low))
-        | inr other ↦ other
-      ]
+      | inl among ↦ let low = (filtered q (a + 1) n a among).0 in absurd (omega (arith, low))
+      | inr other ↦ other
+    ]
 
 range_distinct : (q : ℕ → Bool) (a n : ℕ) → AreDistinct (filter q (range_with_len a n))
 range_distinct q a zero = tt
@@ -111,16 +111,16 @@ role_later x xs p other =
 
 not_head : (x : ℕ) (xs : List ℕ) → has xs x ≡ false → (p : ℕ) → has xs p ≡ true → (x == p) ≡ false
 not_head x xs none p among = elim (cases_Bool (x == p)) [
-    | inl same ↦ absurd (both_ways (has xs x) none (subst (λ q. has xs q ≡ true) (sym (eqb-true x p same)) among))
-    | inr other ↦ other
-  ]
+  | inl same ↦ absurd (both_ways (has xs x) none (subst (λ q. has xs q ≡ true) (sym (eqb-true x p same)) among))
+  | inr other ↦ other
+]
 
 -- each position is the role of one member
 one_role : (xs : List ℕ) → AreDistinct xs → length xs < 0xffff → (n : ℕ) → n < length xs → length (filter (λ p. role_of xs p == n) xs) ≡ 1
 one_role [] distinct few n low = absurd (omega (arith, low))
 one_role (x ∷ xs) distinct few zero low =
     let head : role_of (x ∷ xs) x ≡ 0 =
-        ap (λ o. option_map_or (λ k. k) o 0xffff) (position_first (at x) x xs ∙ ap (λ b. if b then Some 0 else option_map suc (position (at x) xs)) (eq-eqb x x refl)) in
+    ap (λ o. option_map_or (λ k. k) o 0xffff) (position_first (at x) x xs ∙ ap (λ b. if b then Some 0 else option_map suc (position (at x) xs)) (eq-eqb x x refl)) in
     ap (λ b. length (if b then x ∷ filter (λ p. role_of (x ∷ xs) p == 0) xs else filter (λ p. role_of (x ∷ xs) p == 0) xs)) (eq-eqb (role_of (x ∷ xs) x) 0 head)
     ∙ ap suc (none_pass (λ p. role_of (x ∷ xs) p == 0) xs
     (λ p among. ne_eqb (role_of (x ∷ xs) p) 0 (λ same. above (position (at p) xs) (sym (role_later x xs p (not_head x xs distinct.0 p among)) ∙ same))))
@@ -130,7 +130,7 @@ one_role (x ∷ xs) distinct few zero low =
     above (Some k) is = omega (arith, is)
 one_role (x ∷ xs) distinct few (suc n) low =
     let head : role_of (x ∷ xs) x ≡ 0 =
-        ap (λ o. option_map_or (λ k. k) o 0xffff) (position_first (at x) x xs ∙ ap (λ b. if b then Some 0 else option_map suc (position (at x) xs)) (eq-eqb x x refl)) in
+    ap (λ o. option_map_or (λ k. k) o 0xffff) (position_first (at x) x xs ∙ ap (λ b. if b then Some 0 else option_map suc (position (at x) xs)) (eq-eqb x x refl)) in
     ap (λ b. length (if b then x ∷ filter (λ p. role_of (x ∷ xs) p == suc n) xs else filter (λ p. role_of (x ∷ xs) p == suc n) xs))
     (ne_eqb (role_of (x ∷ xs) x) (suc n) (λ same. omega (arith, same, head)))
     ∙ same_pass (λ p. role_of (x ∷ xs) p == suc n) (λ p. role_of xs p == n) xs
@@ -140,9 +140,9 @@ one_role (x ∷ xs) distinct few (suc n) low =
     shifted : (p : ℕ) (o : Option ℕ) → data_of xs p o → has xs p ≡ true → (option_map_or (λ k. suc k) o 0xffff == suc n) ≡ (option_map_or (λ k. k) o 0xffff == n)
     shifted p None none among = absurd (both_ways (has xs p) none among)
     shifted p (Some k) is among = elim (cases_eq k n) [
-        | inl same ↦ eq-eqb (suc k) (suc n) (ap suc same) ∙ sym (eq-eqb k n same)
-        | inr other ↦ ne_eqb (suc k) (suc n) (λ same. other (omega (arith, same))) ∙ sym (ne_eqb k n other)
-      ]
+      | inl same ↦ eq-eqb (suc k) (suc n) (ap suc same) ∙ sym (eq-eqb k n same)
+      | inr other ↦ ne_eqb (suc k) (suc n) (λ same. other (omega (arith, same))) ∙ sym (ne_eqb k n other)
+    ]
 
 -- ---- ranges
 
@@ -150,12 +150,12 @@ one_role (x ∷ xs) distinct few (suc n) low =
 kept_has : (q : ℕ → Bool) (a n p : ℕ) → a ≤ p → p < a + n → q p ≡ true → has (filter q (range_with_len a n)) p ≡ true
 kept_has q a zero p least low is = absurd (omega (arith, least, low))
 kept_has q a (suc n) p least low is = elim (cases_lt a p) [
-    | inl more ↦ later (q a) (kept_has q (a + 1) n p (omega (arith, more)) (omega (arith, low)) is)
-    | inr less ↦
-        let same : a ≡ p = omega (arith, least, less) in
-        ap (λ b. has (if b then a ∷ filter q (range_with_len (a + 1) n) else filter q (range_with_len (a + 1) n)) p) (subst (λ k. q k ≡ true) (sym same) is)
-        ∙ ap (λ b. b || has (filter q (range_with_len (a + 1) n)) p) (eq-eqb a p same)
-  ]
+  | inl more ↦ later (q a) (kept_has q (a + 1) n p (omega (arith, more)) (omega (arith, low)) is)
+  | inr less ↦
+      let same : a ≡ p = omega (arith, least, less) in
+      ap (λ b. has (if b then a ∷ filter q (range_with_len (a + 1) n) else filter q (range_with_len (a + 1) n)) p) (subst (λ k. q k ≡ true) (sym same) is)
+      ∙ ap (λ b. b || has (filter q (range_with_len (a + 1) n)) p) (eq-eqb a p same)
+]
   where
     or_true : (b : Bool) → (b || true) ≡ true
     or_true true = refl
@@ -215,15 +215,15 @@ module _ (t : Super) (members : List ℕ) (roles : t.roles.items ≡ new_roles m
         of : (b : Bool) → q p ≡ b → has (filter q (range_with_len 0 drives)) p ≡ b
         of true is = kept_has q 0 drives p least low is
         of false is = elim (cases_Bool (has (filter q (range_with_len 0 drives)) p)) [
-            | inl among ↦ absurd (both_ways (q p) is (filtered q 0 drives p among).2)
-            | inr other ↦ other
-          ]
+          | inl among ↦ absurd (both_ways (q p) is (filtered q 0 drives p among).2)
+          | inr other ↦ other
+        ]
 
     beyond : (p : ℕ) → 0 + drives ≤ p → p < 0 + 128 → is_named t p ≡ false
     beyond p past low = named_at p (omega (arith, low)) ∙ ap (λ xs. has xs p) members_are ∙ elim (cases_Bool (has (filter q (range_with_len 0 drives)) p)) [
-        | inl among ↦ let inside = (filtered q 0 drives p among).1 in absurd (omega (arith, past, inside))
-        | inr other ↦ other
-      ]
+      | inl among ↦ let inside = (filtered q 0 drives p among).1 in absurd (omega (arith, past, inside))
+      | inr other ↦ other
+    ]
 
     named_are : named_places t ≡ members
     named_are =

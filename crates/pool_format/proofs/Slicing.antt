@@ -189,7 +189,7 @@ module _ (plan : NewPool) (x : Seen) (is : IsPlan plan) (room : HasRoom plan x) 
       (λ same. let shares = (overlap same).1 in
       let d = shares.0 in
       let none : sectors_of t d ≡ 0 = laid.sectors d
-          ∙ ap (λ b. if b then sectors_planned plan.arrays.items d else 0) (le-ltb d (17 * place) (let own = shares.1 in omega (arith, own))) in
+      ∙ ap (λ b. if b then sectors_planned plan.arrays.items d else 0) (le-ltb d (17 * place) (let own = shares.1 in omega (arith, own))) in
       let within = shares.3.1.2 in
       omega (arith, none, within))
       adds))
@@ -203,14 +203,14 @@ module _ (plan : NewPool) (x : Seen) (is : IsPlan plan) (room : HasRoom plan x) 
       of : (o : Option NewArray) → slice_get plan.arrays.items j ≡ o → ⊥
       of None none = let empty = none_planned plan.arrays.items place j (omega (arith, less, few)) none in omega (arith, empty, within)
       of (Some b) at = elim (cases_Bool (has b.members.items place)) [
-          | inr other ↦ let empty = other_planned plan.arrays.items place j (omega (arith, less, few)) b at other in omega (arith, empty, within)
-          | inl among ↦
-              let planned = member_slice_is plan is j place b at among in
-              let size = planned.0 in
-              let first = planned.1 in
-              let order = is.ordered j n b a less at here in
-              omega (arith, size, first, order, within, shared)
-        ]
+        | inr other ↦ let empty = other_planned plan.arrays.items place j (omega (arith, less, few)) b at other in omega (arith, empty, within)
+        | inl among ↦
+            let planned = member_slice_is plan is j place b at among in
+            let size = planned.0 in
+            let first = planned.1 in
+            let order = is.ordered j n b a less at here in
+            omega (arith, size, first, order, within, shared)
+      ]
 
   apart : (n : ℕ) (a : NewArray) → slice_get plan.arrays.items n ≡ Some a → (t : Slices) → AreLaid plan.arrays.items (place + 1) (17 * place + n + 1) t
       → (d : ℕ) → place_of d ≡ place_of (17 * place + (n + 1)) → (s v : ℕ) → v < sectors_of t d → a.first + s ≡ first_of t d + v → ⊥
@@ -224,7 +224,7 @@ module _ (plan : NewPool) (x : Seen) (is : IsPlan plan) (room : HasRoom plan x) 
         | inl low ↦
             let first : first_of t d ≡ first_planned plan.arrays.items d = laid.firsts d low (omega (arith, within)) in
             let size : sectors_of t d ≡ sectors_planned plan.arrays.items d =
-                laid.sectors d ∙ ap (λ b. if b then sectors_planned plan.arrays.items d else 0) (lt-ltb d (17 * place + n + 1) low) in
+            laid.sectors d ∙ ap (λ b. if b then sectors_planned plan.arrays.items d else 0) (lt-ltb d (17 * place + n + 1) low) in
             elim (cases_lt (17 * place) d) [
               | inr log ↦
                   let same : d ≡ 17 * place = omega (arith, log, own, number, few) in

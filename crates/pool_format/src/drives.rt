@@ -38,11 +38,7 @@ fn lay_drive<R: Rack>(rack: &mut R, plan: &NewPool, birth: &Birth, place: u32) -
 }
 
 /// Writes the tables of all drives and zeros over their members' data, durably.
-pub(crate) fn lay_drives<R: Rack>(
-    rack: &mut R,
-    plan: &NewPool,
-    birth: &Birth,
-) -> Result<(), Gone>
+pub(crate) fn lay_drives<R: Rack>(rack: &mut R, plan: &NewPool, birth: &Birth) -> Result<(), Gone>
     requires fit { (R.seen rack.old).fit }
     requires plan { IsPlan plan.now }
     requires room { HasRoom plan.now (R.seen rack.old) }
@@ -104,12 +100,7 @@ fn write_supers<R: Rack>(
 }
 
 /// Writes the closed gate and the superblocks of a place's drive, durably.
-fn close_drive<R: Rack>(
-    rack: &mut R,
-    plan: &NewPool,
-    birth: &Birth,
-    place: u32,
-) -> Result<(), Gone>
+fn close_drive<R: Rack>(rack: &mut R, plan: &NewPool, birth: &Birth, place: u32) -> Result<(), Gone>
     requires fit { (R.seen rack.old).fit }
     requires plan { IsPlan plan.now }
     requires room { HasRoom plan.now (R.seen rack.old) }
@@ -127,11 +118,7 @@ fn close_drive<R: Rack>(
 }
 
 /// Writes the closed gates and the superblocks of all drives, durably.
-pub(crate) fn close_drives<R: Rack>(
-    rack: &mut R,
-    plan: &NewPool,
-    birth: &Birth,
-) -> Result<(), Gone>
+pub(crate) fn close_drives<R: Rack>(rack: &mut R, plan: &NewPool, birth: &Birth) -> Result<(), Gone>
     requires fit { (R.seen rack.old).fit }
     requires plan { IsPlan plan.now }
     requires room { HasRoom plan.now (R.seen rack.old) }

@@ -56,11 +56,7 @@ pub(crate) fn new_state(plan: &NewPool, birth: &Birth) -> State
 }
 
 /// Writes each drive's copy of the state, durably.
-pub(crate) fn write_states<R: Rack>(
-    rack: &mut R,
-    plan: &NewPool,
-    birth: &Birth,
-) -> Result<(), Gone>
+pub(crate) fn write_states<R: Rack>(rack: &mut R, plan: &NewPool, birth: &Birth) -> Result<(), Gone>
     requires fit { (R.seen rack.old).fit }
     requires plan { IsPlan plan.now }
     requires room { HasRoom plan.now (R.seen rack.old) }

@@ -53,12 +53,7 @@ pub(crate) fn clear_states<R: Rack>(rack: &mut R, plan: &NewPool) -> Result<(), 
 }
 
 /// Writes zeros over the data of a place's member, if it is one.
-fn clear_member<R: Rack>(
-    rack: &mut R,
-    plan: &NewPool,
-    place: u32,
-    number: u32,
-) -> Result<(), Gone>
+fn clear_member<R: Rack>(rack: &mut R, plan: &NewPool, place: u32, number: u32) -> Result<(), Gone>
     requires fit { (R.seen rack.old).fit }
     requires plan { IsPlan plan.now }
     requires room { HasRoom plan.now (R.seen rack.old) }
@@ -75,11 +70,7 @@ fn clear_member<R: Rack>(
 }
 
 /// Writes zeros over the data of all members of a place's drive. They aren't durable yet.
-pub(crate) fn clear_members<R: Rack>(
-    rack: &mut R,
-    plan: &NewPool,
-    place: u32,
-) -> Result<(), Gone>
+pub(crate) fn clear_members<R: Rack>(rack: &mut R, plan: &NewPool, place: u32) -> Result<(), Gone>
     requires fit { (R.seen rack.old).fit }
     requires plan { IsPlan plan.now }
     requires room { HasRoom plan.now (R.seen rack.old) }

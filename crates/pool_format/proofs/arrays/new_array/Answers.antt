@@ -21,7 +21,6 @@ open-requires-clause-truth c = λ t leads.
     (let least = (extent_bounds plan.extent c.requires.plan.extent).0 in omega (arith, least)) (members_few a plan.extent (length plan.units.items) is c.requires.plan.most) t
     (subst (λ (fs : List Found). truth_of fs ≡ Some t) (c.as_slice.ensures.value ∙ c.found_of-found.ensures) leads)
 
-
 pub unreachable-requires : goal.unreachable-requires
 unreachable-requires c =
     let plan = c.args.plan.now in
@@ -29,7 +28,7 @@ unreachable-requires c =
     let is = c.requires.plan.each c.args.number a c.array_at.ensures in
     let chunks = extent_chunks plan.extent c.requires.plan.extent in
     let opens = array_opens c.args.birth.now a c.args.number plan.extent (length plan.units.items) chunks.0 c.requires.plan.most is chunks.1
-        (let least = (extent_bounds plan.extent c.requires.plan.extent).0 in omega (arith, least)) (members_few a plan.extent (length plan.units.items) is c.requires.plan.most) in
+    (let least = (extent_bounds plan.extent c.requires.plan.extent).0 in omega (arith, least)) (members_few a plan.extent (length plan.units.items) is c.requires.plan.most) in
     never (sym opens.2 ∙ sym (ap (λ (fs : List Found). opened c.args.number false fs) (c.as_slice.ensures.value ∙ c.found_of-found.ensures)) ∙ sym c.open.ensures ∙ c.in-Err.is)
   where
     never : {v : View} {e : ArrayFault} → Ok v ≡ Err e → ⊥

@@ -25,7 +25,7 @@ returns-clause-lays g c =
     let n = g.R.Rack.seen c.write_supers.new.rack in
     let inside = c.requires.room.disks in
     let gate = (lays_write plan a m c.args.place 2049 c.first_gate.result c.write.result
-        (omega (arith, inside, c.requires.place)) (log_part plan c.args.place 1 c.requires.place (omega arith)) c.write.ensures.writes).only in
+    (omega (arith, inside, c.requires.place)) (log_part plan c.args.place 1 c.requires.place (omega arith)) c.write.ensures.writes).only in
     let supers = laid_then plan a m n gate c.write_supers.ensures.lays.only in
     lays_after plan a n (g.R.Rack.seen c.sync.new.self) c.sync.result supers
     (lays_sync plan n (g.R.Rack.seen c.sync.new.self) c.args.place c.sync.result (let same = supers.stays.disks in omega (arith, inside, same, c.requires.place)) c.sync.ensures.syncs)

@@ -30,7 +30,7 @@ returns-clause-lays g c =
     let b = g.R.Rack.seen c.sync.new.self in
     let inside = c.requires.room.disks in
     let table = (lays_table plan a m c.args.place (new_table plan c.args.birth.now c.args.place (a.sectors c.args.place)) c.write_table.result
-        (omega (arith, inside, c.requires.place)) refl c.write_table.ensures.writes).only in
+    (omega (arith, inside, c.requires.place)) refl c.write_table.ensures.writes).only in
     let zeros = laid_then plan a m n table c.clear_members.ensures.lays.only in
     lays_after plan a n b c.sync.result zeros
     (lays_sync plan n b c.args.place c.sync.result (let same = zeros.stays.disks in omega (arith, inside, same, c.requires.place)) c.sync.ensures.syncs)

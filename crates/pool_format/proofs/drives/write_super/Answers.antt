@@ -16,7 +16,7 @@ encode-block-requires g c =
 pub overflow_add-array : goal.overflow_add-array
 overflow_add-array g c =
     let in_it = member_inside c.args.plan.now (g.R.Rack.seen c.args.rack.now) c.requires.plan c.requires.room c.args.number c.args.place c.array_at-array.result.now
-        c.array_at-array.ensures (sym c.has_member.ensures ∙ c.if-not-has_member.false) in
+    c.array_at-array.ensures (sym c.has_member.ensures ∙ c.if-not-has_member.false) in
     omega (arith, in_it.fits, in_it.small)
 
 pub write-requires-clause-disk : goal.write-requires-clause-disk
@@ -27,7 +27,7 @@ write-requires-clause-disk g c =
 pub write-requires-clause-sector : goal.write-requires-clause-sector
 write-requires-clause-sector g c =
     let in_it = member_inside c.args.plan.now (g.R.Rack.seen c.args.rack.now) c.requires.plan c.requires.room c.args.number c.args.place c.array_at-array.result.now
-        c.array_at-array.ensures (sym c.has_member.ensures ∙ c.if-not-has_member.false) in
+    c.array_at-array.ensures (sym c.has_member.ensures ∙ c.if-not-has_member.false) in
     omega (arith, in_it.fits)
 
 pub returns-clause-lays : goal.returns-clause-lays

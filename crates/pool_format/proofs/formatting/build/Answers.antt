@@ -43,7 +43,7 @@ returns-in-Err-settle-clause-some g c =
     let n = g.R.Rack.seen (below_of (slices_in (rack_in c.in-Ok.volume))) in
     let b = g.R.Rack.seen (below_of (slices_in (rack_in c.settle.new.volume))) in
     let back : c.into_inner-in-Err-settle-2.result ≡ below_of (slices_in (rack_in c.settle.new.volume)) =
-        c.into_inner-in-Err-settle-2.ensures ∙ ap below_of (c.into_inner-in-Err-settle.ensures ∙ ap slices_in c.into_inner.ensures) in
+    c.into_inner-in-Err-settle-2.ensures ∙ ap below_of (c.into_inner-in-Err-settle.ensures ∙ ap slices_in c.into_inner.ensures) in
     subst (λ r. WritesOnly a (g.R.Rack.seen r) (IsPart plan a.sectors)) (sym back)
     (laid_then plan a n b (laid_then plan a m n c.prepare.ensures.lays.only c.in-Ok.ensures.only) c.settle.ensures.lays.only)
 
@@ -63,9 +63,10 @@ returns-in-Ok-settle-clause-fit g c =
       laid = subst (λ t. AreLaid plan.arrays.items drives (17 * drives) t) (sym c.settle.ensures.tables) c.in-Ok.ensures.laid;
     } in
     let stays = c.settle.ensures.lays.only.stays in
-    let lasting = stays.lasting (c.in-Ok.ensures.only.stays.lasting (c.prepare.ensures.lays.only.stays.lasting c.requires.lasting)) in
-    (new_fit plan birth c.requires.plan b (tables (slices_in w)) (arrays_in w) new
-    (slices_still (tables (slices_in v)) (tables (slices_in w)) n b c.settle.ensures.tables stays c.in-Ok.ensures.fit) lasting,
-    inside_same (linear c.in-Ok.volume) (linear c.settle.new.volume) (raid_seen g.R.Rack.seen v) (raid_seen g.R.Rack.seen w) c.settle.ensures.volume
-    (ap (λ (s : State). s.made) c.in-Ok-settle.ensures.state ∙ sym c.in-Ok.ensures.made)
-    (λ k. ap (λ (vs : List View). sectors_of (get_or vs k no_array)) c.in-Ok-settle.ensures.arrays ∙ sym (c.in-Ok.ensures.sizes k)) c.in-Ok.ensures.inside)
+    let lasting = stays.lasting (c.in-Ok.ensures.only.stays.lasting (c.prepare.ensures.lays.only.stays.lasting c.requires.lasting)) in (
+      new_fit plan birth c.requires.plan b (tables (slices_in w)) (arrays_in w) new
+          (slices_still (tables (slices_in v)) (tables (slices_in w)) n b c.settle.ensures.tables stays c.in-Ok.ensures.fit) lasting,
+      inside_same (linear c.in-Ok.volume) (linear c.settle.new.volume) (raid_seen g.R.Rack.seen v) (raid_seen g.R.Rack.seen w) c.settle.ensures.volume
+          (ap (λ (s : State). s.made) c.in-Ok-settle.ensures.state ∙ sym c.in-Ok.ensures.made)
+          (λ k. ap (λ (vs : List View). sectors_of (get_or vs k no_array)) c.in-Ok-settle.ensures.arrays ∙ sym (c.in-Ok.ensures.sizes k)) c.in-Ok.ensures.inside,
+    )

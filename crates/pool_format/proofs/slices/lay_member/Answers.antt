@@ -19,7 +19,7 @@ returns-then-number-len-clause-laid g c =
 pub overflow_add-array : goal.overflow_add-array
 overflow_add-array g c =
     let in_it = member_inside c.args.plan.now (g.R.Rack.seen (below_of c.args.slices.now)) c.requires.plan c.requires.room c.args.number c.args.place c.array_at-array.result.now
-        c.array_at-array.ensures (sym c.has_member.ensures ∙ c.if-has_member.true) in
+    c.array_at-array.ensures (sym c.has_member.ensures ∙ c.if-has_member.true) in
     omega (arith, in_it.fits, in_it.small)
 
 pub returns-then-has_member-clause-laid : goal.returns-then-has_member-clause-laid

@@ -49,7 +49,7 @@ returns c =
     let layout : c.layout_of.result ≡ layout_of (length items) = c.layout_of.ensures ∙ ap layout_of many in
     let chunk : c.chunk_of.result ≡ chunk_of (length items) = c.chunk_of.ensures ∙ ap chunk_of many in
     let device : c.child_id-2.result.0 ≡ member_id (drive_id birth.pool place) c.args.number =
-        c.child_id-2.ensures ∙ ap (λ (drive : List ℕ). member_id drive c.args.number) c.new_drive_id.ensures in
+    c.child_id-2.ensures ∙ ap (λ (drive : List ℕ). member_id drive c.args.number) c.new_drive_id.ensures in
     let roles : c.new_roles.result.items ≡ new_roles items = c.new_roles.ensures ∙ ap new_roles c.as_slice.ensures.value in
     ap₂ (λ set name. built birth size place set name (cast_signed w32 (cast_unsigned w32 c.level_of.result)) c.layout_of.result c.chunk_of.result c.len-members.result c.child_id-2.result.0 c.new_roles.result.items)
     c.child_id.ensures c.set_name.ensures

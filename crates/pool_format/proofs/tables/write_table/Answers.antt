@@ -25,9 +25,9 @@ write_whole-requires-clause-writable g c =
     let id = drive_id c.args.birth.now.pool c.args.place in
     let sectors = (g.R.Rack.seen c.args.rack.now).sectors c.args.place in
     let same : made c.new_drive_id-drive.result.0 c.sectors.result c.entries_of.result.items ≡ new_table c.args.plan.now c.args.birth.now c.args.place sectors =
-        ap₂ (λ drive n. made drive n c.entries_of.result.items) c.new_drive_id-drive.ensures c.sectors.ensures.number
-        ∙ ap (λ (es : List Entry). made id sectors es)
-        (c.entries_of.ensures ∙ ap₂ (λ (drive : List ℕ) (arrays : List NewArray). entries_of drive c.args.place arrays) c.new_drive_id-drive.ensures c.as_slice.ensures.value) in
+    ap₂ (λ drive n. made drive n c.entries_of.result.items) c.new_drive_id-drive.ensures c.sectors.ensures.number
+    ∙ ap (λ (es : List Entry). made id sectors es)
+    (c.entries_of.ensures ∙ ap₂ (λ (drive : List ℕ) (arrays : List NewArray). entries_of drive c.args.place arrays) c.new_drive_id-drive.ensures c.as_slice.ensures.value) in
     subst IsWritable (sym same) (table_writable c.args.plan.now c.args.birth.now (g.R.Rack.seen c.args.rack.now) c.requires.plan c.requires.room c.args.place c.requires.place)
 
 pub returns-clause-writes : goal.returns-clause-writes
@@ -36,7 +36,7 @@ returns-clause-writes g c =
     let id = drive_id c.args.birth.now.pool c.args.place in
     let sectors = (g.R.Rack.seen c.args.rack.now).sectors c.args.place in
     let same : made c.new_drive_id-drive.result.0 c.sectors.result c.entries_of.result.items ≡ new_table c.args.plan.now c.args.birth.now c.args.place sectors =
-        ap₂ (λ drive n. made drive n c.entries_of.result.items) c.new_drive_id-drive.ensures c.sectors.ensures.number
-        ∙ ap (λ (es : List Entry). made id sectors es)
-        (c.entries_of.ensures ∙ ap₂ (λ (drive : List ℕ) (arrays : List NewArray). entries_of drive c.args.place arrays) c.new_drive_id-drive.ensures c.as_slice.ensures.value) in
+    ap₂ (λ drive n. made drive n c.entries_of.result.items) c.new_drive_id-drive.ensures c.sectors.ensures.number
+    ∙ ap (λ (es : List Entry). made id sectors es)
+    (c.entries_of.ensures ∙ ap₂ (λ (drive : List ℕ) (arrays : List NewArray). entries_of drive c.args.place arrays) c.new_drive_id-drive.ensures c.as_slice.ensures.value) in
     subst (λ (t : Table). WritesTable (g.R.Rack.seen c.args.rack.now) (g.R.Rack.seen c.write_whole.new.rack) c.args.place t c.write_whole.result) same c.write_whole.ensures.writes

@@ -54,7 +54,7 @@ returns-in-Some-clause-some g c =
     let raid = c.new_raid-raid.result in
     let plan = c.args.plan.now in
     let back : c.into_inner-in-Some-2.result ≡ below_of (slices_in (rack_in c.in-Ok.volume)) =
-        c.into_inner-in-Some-2.ensures ∙ ap below_of (c.into_inner-in-Some.ensures ∙ ap slices_in c.into_inner.ensures) in
+    c.into_inner-in-Some-2.ensures ∙ ap below_of (c.into_inner-in-Some.ensures ∙ ap slices_in c.into_inner.ensures) in
     subst (λ r. WritesOnly (g.R.Rack.seen c.args.rack) (g.R.Rack.seen r) (IsPart plan (g.R.Rack.seen c.args.rack).sectors)) (sym back)
     (subst (λ r. WritesOnly (g.R.Rack.seen r) (g.R.Rack.seen (below_of (slices_in (rack_in c.in-Ok.volume)))) (IsPart plan (g.R.Rack.seen r).sectors)) c.new_raid-raid.ensures.below
     (making_only plan _ _ _ _ _ c.in-Ok.ensures.kept.0 c.new_raid-raid.ensures.fit c.new_raid-raid.ensures.new.laid))
@@ -82,17 +82,18 @@ returns-in-Some-clause-gone g c = λ disk same.
     let w = rack_in c.in-Ok.volume in
     let plan = c.args.plan.now in
     let back : c.into_inner-in-Some-2.result ≡ below_of (slices_in w) =
-        c.into_inner-in-Some-2.ensures ∙ ap below_of (c.into_inner-in-Some.ensures ∙ ap slices_in c.into_inner.ensures) in
+    c.into_inner-in-Some-2.ensures ∙ ap below_of (c.into_inner-in-Some.ensures ∙ ap slices_in c.into_inner.ensures) in
     let fit = new_fit plan c.args.birth.now c.requires.plan (g.R.Rack.seen (below_of (slices_in raid))) (tables (slices_in raid)) (arrays_in raid) c.new_raid-raid.ensures.new
-        c.new_raid-raid.ensures.fit (subst (λ r. (g.R.Rack.seen r).lasting) (sym c.new_raid-raid.ensures.below) c.requires.lasting) in
+    c.new_raid-raid.ensures.fit (subst (λ r. (g.R.Rack.seen r).lasting) (sym c.new_raid-raid.ensures.below) c.requires.lasting) in
     let state : c.state.result.now ≡ (raid_in w).state = c.state.ensures ∙ ap (λ r. (raid_in r).state) c.below.ensures in
     let marked = subst (λ (s : State). IsMarked s disk) state (subst (IsMarked c.state.result.now) (disk_of_fault same) c.in-Some.ensures) in
     let gone = marked_gone plan c.args.birth.now c.requires.plan (raid_in raid) (raid_in w) _ _ (tables (slices_in raid)) (tables (slices_in w)) c.in-Ok.ensures.kept.0.tables
-        c.in-Ok.ensures.kept.1.caused c.in-Ok.ensures.kept.1.book c.new_raid-raid.ensures.new.state fit.heeded c.new_raid-raid.ensures.new.laid disk marked in
-    let disks = c.requires.room.disks in
-    (let low = gone.0 in omega (arith, low, disks),
-    subst (λ r. Rose ((g.R.Rack.seen c.args.rack).faults disk) ((g.R.Rack.seen r).faults disk)) (sym back)
-    (subst (λ r. Rose ((g.R.Rack.seen r).faults disk) ((g.R.Rack.seen (below_of (slices_in w))).faults disk)) c.new_raid-raid.ensures.below gone.1))
+    c.in-Ok.ensures.kept.1.caused c.in-Ok.ensures.kept.1.book c.new_raid-raid.ensures.new.state fit.heeded c.new_raid-raid.ensures.new.laid disk marked in
+    let disks = c.requires.room.disks in (
+      let low = gone.0 in omega (arith, low, disks),
+      subst (λ r. Rose ((g.R.Rack.seen c.args.rack).faults disk) ((g.R.Rack.seen r).faults disk)) (sym back)
+          (subst (λ r. Rose ((g.R.Rack.seen r).faults disk) ((g.R.Rack.seen (below_of (slices_in w))).faults disk)) c.new_raid-raid.ensures.below gone.1),
+    )
   where
     disk_of_fault : {x y : ℕ} → Gone x ≡ Gone y → x ≡ y
     disk_of_fault same = cc
@@ -104,11 +105,12 @@ returns-in-Err-clause-gone g c = λ disk same.
     let plan = c.args.plan.now in
     let back : c.into_inner-in-Err-2.result ≡ below_of (slices_in w) = c.into_inner-in-Err-2.ensures ∙ ap below_of c.into_inner-in-Err.ensures in
     let fit = new_fit plan c.args.birth.now c.requires.plan (g.R.Rack.seen (below_of (slices_in raid))) (tables (slices_in raid)) (arrays_in raid) c.new_raid-raid.ensures.new
-        c.new_raid-raid.ensures.fit (subst (λ r. (g.R.Rack.seen r).lasting) (sym c.new_raid-raid.ensures.below) c.requires.lasting) in
+    c.new_raid-raid.ensures.fit (subst (λ r. (g.R.Rack.seen r).lasting) (sym c.new_raid-raid.ensures.below) c.requires.lasting) in
     let marked = subst (λ (s : State). IsMarked s disk) c.state-in-Err.ensures (fault_marked c.state-in-Err.result.now c.fault_of.result disk c.fault_of.ensures same) in
     let gone = marked_gone plan c.args.birth.now c.requires.plan (raid_in raid) (raid_in w) _ _ (tables (slices_in raid)) (tables (slices_in w)) c.in-Err.ensures.returned.0.tables
-        c.in-Err.ensures.returned.1.caused c.in-Err.ensures.returned.1.book c.new_raid-raid.ensures.new.state fit.heeded c.new_raid-raid.ensures.new.laid disk marked in
-    let disks = c.requires.room.disks in
-    (let low = gone.0 in omega (arith, low, disks),
-    subst (λ r. Rose ((g.R.Rack.seen c.args.rack).faults disk) ((g.R.Rack.seen r).faults disk)) (sym back)
-    (subst (λ r. Rose ((g.R.Rack.seen r).faults disk) ((g.R.Rack.seen (below_of (slices_in w))).faults disk)) c.new_raid-raid.ensures.below gone.1))
+    c.in-Err.ensures.returned.1.caused c.in-Err.ensures.returned.1.book c.new_raid-raid.ensures.new.state fit.heeded c.new_raid-raid.ensures.new.laid disk marked in
+    let disks = c.requires.room.disks in (
+      let low = gone.0 in omega (arith, low, disks),
+      subst (λ r. Rose ((g.R.Rack.seen c.args.rack).faults disk) ((g.R.Rack.seen r).faults disk)) (sym back)
+          (subst (λ r. Rose ((g.R.Rack.seen r).faults disk) ((g.R.Rack.seen (below_of (slices_in w))).faults disk)) c.new_raid-raid.ensures.below gone.1),
+    )
