@@ -1,10 +1,9 @@
 -- The volume over the arrays that the superblocks say is fit, as that on which it was made.
-use Rattle.std.proofs.Common.{◌≡◌, ℕ, zero, suc, ◌+◌, ◌*◌, ◌<◌, ◌≤◌, ◌^◌, List, get_or, length, slice_get, Some, refl, sym, ap, ap₂, subst, ◌∙◌, arith}
+use Rattle.std.proofs.Common.{◌≡◌, ℕ, zero, suc, ◌+◌, ◌*◌, ◌<◌, ◌≤◌, ◌^◌, refl, sym, ap, ap₂, subst, ◌∙◌}
 use Rattle.rack.specs.Seen.{Seen, Stays}
 use Rattle.slice_rack.specs.Slices.{Slices}
 use Rattle.slice_rack.specs.Sliced.{slices_of}
 use Rattle.slice_rack.specs.Runs.{inside_still}
-use Rattle.array_model.specs.View.{View, IsArray, sectors_of}
 use Rattle.lvm_group.specs.Runs.{Linear, data_start, place_of}
 use Rattle.lvm_group.specs.Shown.{IsInside, total}
 

@@ -1,18 +1,17 @@
 -- The tables of a new pool's drives can be written.
-use Rattle.std.proofs.Common.{◌≡◌, ℕ, zero, suc, ◌+◌, ◌-◌, ◌<◌, ◌≤◌, ◌==◌, nat_le, nat_lt, Bool, true, false, List, [], ◌∷◌, All, length, slice_get, Some, if◌then◌else◌, refl, sym, ap, subst, ◌∙◌, inl, inr, le-leb, lt-ltb, arith}
+use Rattle.std.proofs.Common.{◌≡◌, ℕ, zero, suc, ◌+◌, ◌-◌, ◌<◌, ◌≤◌, ◌==◌, nat_le, nat_lt, true, false, List, [], ◌∷◌, All, length, slice_get, Some, if◌then◌else◌, refl, sym, subst, inl, inr, le-leb, lt-ltb, arith}
 use Rattle.std.specs.List.{list_all}
 use Rattle.std.proofs.lemmas.Bool.{and_from, cases_Bool}
 use Rattle.std.proofs.lemmas.List.Elements.{All-nil, All-cons}
 use Rattle.std.proofs.lemmas.Option.{slice_get_within}
 use Rattle.rack.specs.Seen.{Seen}
 use Rattle.gpt_table.specs.declared.Entry.{Entry}
-use Rattle.gpt_table.specs.declared.Table.{Table}
 use Rattle.gpt_table.specs.Format.{Ascends, IsWritable, is_inside}
 use Rattle.array_image.specs.Places.{data_sector, drive_id, log_kind, log_sectors, raid_kind, state_sector}
 use Rattle.pool_format.specs.declared.Birth.{Birth}
 use Rattle.pool_format.specs.declared.planning.NewArray.{NewArray}
 use Rattle.pool_format.specs.declared.planning.NewPool.{NewPool}
-use Rattle.pool_format.specs.Parts.{entries_from, entries_of, entry_of, new_table}
+use Rattle.pool_format.specs.Parts.{entries_from, entry_of, new_table}
 use Rattle.pool_format.specs.Plan.{HasRoom, IsPlan, has}
 use Rattle.pool_format.proofs.Laying.{member_inside}
 

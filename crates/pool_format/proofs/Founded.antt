@@ -1,5 +1,5 @@
 -- The arrays of a new pool over its slices are a set of arrays, each whole.
-use Rattle.std.proofs.Common.{◌≡◌, ◌≢◌, ◌⊎◌, ℕ, pos, eqb-true, zero, suc, ◌+◌, ◌-◌, ◌*◌, ◌/◌, ◌<◌, ◌≤◌, ◌^◌, ◌==◌, ◌&&◌, not, nat_le, nat_lt, is_ok, Bool, true, false, List, [], ◌∷◌, get_or, map, length, slice_get, slice_index, if◌then◌else◌, Option, Some, None, Ok, option_map, unwrap_or, refl, sym, ap, subst, ◌∙◌, inl, inr, le-leb, lt-ltb, arith}
+use Rattle.std.proofs.Common.{◌≡◌, ℕ, pos, eqb-true, zero, suc, ◌+◌, ◌-◌, ◌*◌, ◌<◌, ◌≤◌, ◌^◌, ◌==◌, ◌&&◌, not, nat_le, nat_lt, Bool, true, false, List, [], ◌∷◌, get_or, map, length, slice_get, slice_index, if◌then◌else◌, Option, Some, None, Ok, option_map, unwrap_or, refl, sym, ap, subst, ◌∙◌, le-leb, lt-ltb, arith}
 use Rattle.std.specs.Option.{option_map_or}
 use Rattle.std.specs.List.{range_with_len, list_all}
 use Rattle.std.proofs.lemmas.Bool.{and_from, and_parts, both_ways}
@@ -12,14 +12,13 @@ use Rattle.md_super.specs.declared.superblock.Super.{Super}
 use Rattle.pool_state.specs.declared.contents.Drive.{Drive}
 use Rattle.pool_state.specs.declared.contents.State.{State}
 use Rattle.pool_state.specs.Valid.{has_arrays, has_epoch, has_places, is_drive, is_extent, is_valid}
-use Rattle.array_image.specs.Places.{data_sector, log_sectors, log_slice}
+use Rattle.array_image.specs.Places.{data_sector}
 use Rattle.array_image.specs.States.{is_current}
 use Rattle.array_model.specs.declared.Seat.{Seat}
-use Rattle.array_model.specs.declared.Seat.TheVariants.{Whole, Missing, Rebuilding}
-use Rattle.array_model.specs.View.{View, IsArray, is_missing_seat, place_at, sectors_of}
+use Rattle.array_model.specs.declared.Seat.TheVariants.{Whole, Rebuilding}
+use Rattle.array_model.specs.View.{View, IsArray, is_missing_seat, sectors_of}
 use Rattle.array_image.specs.Stripes.{capacity, mirror, parity}
 use Rattle.std.specs.Ordering.{int_eq}
-use Rattle.array_model.specs.Members.{HasSlices, slice_on}
 use Rattle.array_core.specs.declared.slots.Slot.{Slot}
 use Rattle.array_core.specs.Opening.{opened, slot_by, slots_found, super_at, view_found}
 use Rattle.array_core.specs.Slots.{place_by, places_by}
@@ -27,15 +26,14 @@ use Rattle.array_core.proofs.Rules.{get_map, get_range, zero_more}
 use Rattle.array_core.proofs.Opened.{current_below}
 use Rattle.array_core.proofs.Truths.{unsynced_left}
 use Rattle.raid_rack.specs.declared.arrays.Arrays.{Arrays}
-use Rattle.raid_rack.specs.Moves.{IsOfPool, IsSeated, IsSet}
-use Rattle.raid_rack.specs.Raid.{is_left}
-use Rattle.raid_rack.specs.RaidRack.{IsFit, IsRunning, no_array, raid_by}
+use Rattle.raid_rack.specs.Moves.{IsSeated}
+use Rattle.raid_rack.specs.RaidRack.{IsFit, no_array}
 use Rattle.pool_format.specs.declared.Birth.{Birth}
 use Rattle.pool_format.specs.declared.planning.NewArray.{NewArray}
 use Rattle.pool_format.specs.declared.planning.NewPool.{NewPool}
 use Rattle.pool_format.specs.Arrays.{new_found, new_view, new_views, view_or_none}
-use Rattle.pool_format.specs.Parts.{new_drive, new_drives, new_state, new_super}
-use Rattle.pool_format.specs.Plan.{HasRoom, IsNewArray, IsPlan, has}
+use Rattle.pool_format.specs.Parts.{new_drive, new_state, new_super}
+use Rattle.pool_format.specs.Plan.{IsNewArray, IsPlan, has}
 use Rattle.pool_format.specs.Slices.{AreLaid, sectors_planned}
 use Rattle.pool_format.specs.Volume.{IsNewRaid}
 use Rattle.pool_format.proofs.Extents.{extent_chunks}

@@ -1,24 +1,20 @@
 -- The volume of a new pool fits its arrays, and making it writes their slices alone.
-use Rattle.std.proofs.Common.{◌≡◌, ◌⊎◌, ℕ, pos, zero, suc, ◌+◌, ◌-◌, ◌*◌, ◌<◌, ◌≤◌, ◌^◌, ◌==◌, ◌&&◌, ◌||◌, not, nat_lt, Bool, true, false, List, [], ◌∷◌, get_or, map, length, slice_get, if◌then◌else◌, Option, Some, None, option_map, unwrap_or, refl, sym, ap, subst, ◌∙◌, inl, inr, eqb-true, lt-ltb, ltb-true, le-ltb, arith}
+use Rattle.std.proofs.Common.{◌≡◌, ◌⊎◌, ℕ, zero, suc, ◌+◌, ◌-◌, ◌*◌, ◌<◌, ◌≤◌, ◌^◌, ◌==◌, ◌&&◌, ◌||◌, not, nat_lt, Bool, true, false, List, [], ◌∷◌, map, length, slice_get, if◌then◌else◌, Some, None, option_map, unwrap_or, refl, sym, ap, subst, ◌∙◌, inl, inr, lt-ltb, le-ltb, arith}
 use Rattle.std.specs.List.{AllByRecursion, list_any, range_with_len}
 use Rattle.std.specs.Option.{option_map_or}
-use Rattle.std.specs.Ordering.{int_eq}
-use Rattle.std.proofs.Math.Nat.{add-mul, mul-add, mul-le-mul_left, mul-le-mul_right, mul_assoc}
-use Rattle.std.proofs.lemmas.Bool.{both_ways, cases_Bool, cases_lt}
+use Rattle.std.proofs.Math.Nat.{mul-add, mul-le-mul_right, mul_assoc}
+use Rattle.std.proofs.lemmas.Bool.{cases_lt}
 use Rattle.std.proofs.lemmas.List.{length-map}
 use Rattle.std.proofs.lemmas.Option.{get_or_from_slice_get, slice_get_within}
 use Rattle.rack.specs.Seen.{Seen, Rose}
 use Rattle.rack.specs.Sequences.{WritesOnly}
 use Rattle.rack.proofs.Writing.{only_weaker}
-use Rattle.slice_rack.specs.Slices.{Slices, disk_of, first_of, place_of, seat_of, sectors_of as slice_sectors}
+use Rattle.slice_rack.specs.Slices.{Slices, disk_of, place_of, seat_of, sectors_of as slice_sectors}
 use Rattle.slice_rack.specs.Sliced.{slices_of}
 use Rattle.slice_rack.specs.Runs.{IsSliced}
-use Rattle.md_super.specs.Profile.{is_mirror}
 use Rattle.pool_state.specs.declared.contents.State.{State}
-use Rattle.array_image.specs.Arrays.{first_layout}
 use Rattle.array_image.specs.States.{is_current}
-use Rattle.array_image.specs.Stripes.{capacity, mirror, parity}
-use Rattle.array_model.specs.View.{View, IsArray, HasFault, has_gone, sectors_of}
+use Rattle.array_model.specs.View.{View, IsArray, has_gone, sectors_of}
 use Rattle.lvm_group.specs.Growth.{AreBelow}
 use Rattle.lvm_group.specs.Own.{HoldAll}
 use Rattle.lvm_group.specs.Runs.{data_start}
@@ -30,12 +26,12 @@ use Rattle.pool_format.specs.declared.Birth.{Birth}
 use Rattle.pool_format.specs.declared.planning.NewArray.{NewArray}
 use Rattle.pool_format.specs.declared.planning.NewPool.{NewPool}
 use Rattle.pool_format.specs.Arrays.{new_view, new_views}
-use Rattle.pool_format.specs.Parts.{new_state, new_super}
-use Rattle.pool_format.specs.Plan.{HasRoom, IsNewArray, IsPlan}
-use Rattle.pool_format.specs.Slices.{AreLaid, first_planned, sectors_planned}
+use Rattle.pool_format.specs.Parts.{new_state}
+use Rattle.pool_format.specs.Plan.{HasRoom, IsPlan}
+use Rattle.pool_format.specs.Slices.{AreLaid, sectors_planned}
 use Rattle.pool_format.specs.Volume.{extents_of, sectors_in}
-use Rattle.pool_format.specs.Writing.{IsOfSlice, IsPart}
-use Rattle.pool_format.proofs.Founded.{drive_current, new_sectors, state_drives, view_at, views_count}
+use Rattle.pool_format.specs.Writing.{IsPart}
+use Rattle.pool_format.proofs.Founded.{drive_current, new_sectors, state_drives, view_at}
 use Rattle.pool_format.proofs.Opening.{members_few}
 use Rattle.array_core.proofs.Rules.{get_map}
 use Rattle.pool_state.specs.declared.contents.Drive.{Drive}
@@ -46,7 +42,7 @@ use Rattle.pool_format.specs.declared.formatting.CreateFault.{CreateFault}
 use Rattle.pool_format.specs.declared.formatting.CreateFault.TheVariants.{Gone}
 use Rattle.pool_format.specs.Volume.{IsFaultOf, IsMarked}
 use Rattle.pool_format.proofs.Laying.{member_inside}
-use Rattle.pool_format.proofs.Lists.{first_has, got, no_element}
+use Rattle.pool_format.proofs.Lists.{first_has, got}
 
 -- ---- slices
 

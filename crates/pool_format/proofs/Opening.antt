@@ -1,25 +1,23 @@
 -- The array that the superblocks of a new array make: whole, with the truth of one of its members.
-use Rattle.std.proofs.Common.{◌≡◌, ◌≢◌, ◌⊎◌, ℕ, zero, suc, ◌+◌, ◌*◌, ◌<◌, ◌≤◌, ◌^◌, ◌==◌, ◌&&◌, ◌||◌, not, nat_lt, bytes_eq, Bool, true, false, List, [], ◌∷◌, filter, find, map, length, sum_by, count_by, slice_get, if◌then◌else◌, Option, Some, None, option_map, unwrap_or, Result, Ok, Err, refl, sym, ap, subst, ◌∙◌, inl, inr, eq-eqb, eqb-true, arith}
+use Rattle.std.proofs.Common.{◌≡◌, ◌⊎◌, ℕ, zero, suc, ◌+◌, ◌*◌, ◌<◌, ◌≤◌, ◌==◌, ◌&&◌, ◌||◌, not, nat_lt, bytes_eq, Bool, true, false, List, [], ◌∷◌, filter, find, map, length, if◌then◌else◌, Option, Some, None, unwrap_or, Result, Ok, Err, refl, sym, ap, subst, ◌∙◌, inl, inr, eqb-true, arith}
 use Rattle.std.specs.Option.{option_and_then, option_map_or}
 use Rattle.std.specs.List.{range_with_len, list_all}
-use Rattle.std.proofs.lemmas.Bool.{and_from, both_ways, cases_Bool, cases_lt}
+use Rattle.std.proofs.lemmas.Bool.{and_from, cases_lt}
 use Rattle.std.proofs.lemmas.List.Sums.{sum_by-cons}
 use Rattle.std.proofs.lemmas.Slice.Eq.{bytes_eq-Decides}
 use Rattle.md_super.specs.declared.superblock.Super.{Super}
-use Rattle.array_image.specs.Arrays.{place_with}
 use Rattle.array_image.specs.Foremost.{ahead, foremost}
 use Rattle.array_image.specs.Supers.{is_named, is_unclean}
-use Rattle.array_model.specs.declared.Seat.TheVariants.{Whole, Missing}
-use Rattle.array_model.specs.View.{View, is_whole_seat, place_at}
+use Rattle.array_model.specs.View.{View, is_whole_seat}
 use Rattle.array_core.specs.declared.Found.{Found}
 use Rattle.array_core.specs.declared.slots.Slot.{Slot}
 use Rattle.array_core.specs.declared.ArrayFault.{ArrayFault}
 use Rattle.array_core.specs.declared.ArrayFault.TheVariants.{Foreign, TooFew, DirtyDegraded}
 use Rattle.array_core.specs.Opening.{lacking, opened, opened_by, share_set, slot_by, slots_found, super_at, truth_of, view_found}
-use Rattle.array_core.specs.Slots.{place_by, places_by}
+use Rattle.array_core.specs.Slots.{place_by}
 use Rattle.array_core.proofs.Lists.{foremost_first}
 use Rattle.array_core.proofs.Opened.{named_place}
-use Rattle.array_core.proofs.Rules.{get_map, get_range, placed, zero_more}
+use Rattle.array_core.proofs.Rules.{placed}
 use Rattle.array_core.specs.Model.{is_truth}
 use Rattle.pool_format.specs.declared.Birth.{Birth}
 use Rattle.pool_format.specs.declared.planning.NewArray.{NewArray}

@@ -1,8 +1,8 @@
 -- The plan of a rack's disks is sound, and the disks have room for it.
-use Rattle.std.proofs.Common.{◌≡◌, ℕ, zero, suc, ◌+◌, ◌-◌, ◌*◌, ◌<◌, ◌≤◌, ◌^◌, ◌==◌, nat_le, nat_lt, not, Bool, true, false, List, [], ◌∷◌, if◌then◌else◌, filter, length, map, position, remove, sum, sum_by, take, get_or, lt-ltb, slice_get, slice_index, Option, Some, None, Ok, refl, sym, ap, subst, unwrap_or, ◌∙◌, inl, inr, eq-eqb, arith}
+use Rattle.std.proofs.Common.{◌≡◌, ℕ, zero, suc, ◌+◌, ◌*◌, ◌<◌, ◌≤◌, ◌^◌, ◌==◌, nat_le, not, Bool, true, false, List, [], ◌∷◌, if◌then◌else◌, filter, length, map, position, remove, sum, get_or, lt-ltb, slice_get, slice_index, Some, None, Ok, refl, sym, ap, subst, unwrap_or, ◌∙◌, inl, inr, eq-eqb, arith}
 use Rattle.std.specs.List.{fold, range_with_len, position_or_len}
 use Rattle.std.proofs.Math.Nat.{mul-le-mul_right, mul-le-mul_left}
-use Rattle.std.proofs.lemmas.Bool.{both_ways, cases_Bool, cases_lt, ne_eqb}
+use Rattle.std.proofs.lemmas.Bool.{both_ways, cases_lt}
 use Rattle.std.proofs.lemmas.Option.{get_or_from_slice_get, slice_get_within}
 use Rattle.rack.specs.Seen.{Seen}
 use Rattle.layer_plan.specs.declared.Layer.{Layer}
@@ -15,9 +15,9 @@ use Rattle.pool_state.specs.Valid.{is_extent}
 use Rattle.array_image.specs.Places.{arrays_first}
 use Rattle.pool_format.specs.declared.planning.NewArray.{NewArray}
 use Rattle.pool_format.specs.declared.planning.NewPool.{NewPool}
-use Rattle.pool_format.specs.Plan.{AreLow, HasRoom, IsNewArray, IsPlan, IsPlanOf, arrays_from, has, slices_before, units_on}
+use Rattle.pool_format.specs.Plan.{AreLow, HasRoom, IsPlan, IsPlanOf, arrays_from, has, slices_before, units_on}
 use Rattle.pool_format.proofs.Lists.{first_has, got, no_element}
-use Rattle.pool_format.proofs.Units.{SaysPlan, all_small, extent_bounds, never_refused, unit_at, units_count, units_room, units_small}
+use Rattle.pool_format.proofs.Units.{SaysPlan, all_small, extent_bounds, never_refused, unit_at, units_count, units_room}
 use Rattle.pool_format.proofs.Laying.{member_inside}
 use Rattle.pool_format.proofs.Layered.{AreStacked, IsPlaced, arrays_count, arrays_ordered, arrays_placed, layering_stacked, member_units, slices_most}
 

@@ -1,21 +1,19 @@
 -- The superblocks of a new array are valid ones of the pool.
-use Rattle.std.proofs.Common.{◌≡◌, ◌⊎◌, ℕ, pos, ◌+◌, ◌-◌, ◌*◌, ◌/◌, ◌%◌, ◌<◌, ◌≤◌, ◌^◌, ◌==◌, ◌&&◌, ◌||◌, nat_le, nat_lt, Bool, true, false, is_ok, if◌then◌else◌, List, [], ◌∷◌, length, filter, refl, sym, ap, subst, ◌∙◌, inl, inr, eq-eqb, eqb-true, le-leb, lt-ltb, arith}
-use Rattle.std.specs.List.{list_all, range_with_len}
-use Rattle.std.proofs.Math.Nat.{mul-mod_left, mul-le-mul_left, mul-le-mul_right, mul_assoc}
-use Rattle.std.proofs.lemmas.Bool.{and_from, both_ways, cases_Bool}
+use Rattle.std.proofs.Common.{◌≡◌, ℕ, pos, ◌-◌, ◌*◌, ◌%◌, ◌<◌, ◌≤◌, ◌^◌, ◌==◌, ◌&&◌, ◌||◌, nat_le, nat_lt, Bool, true, false, is_ok, if◌then◌else◌, List, [], ◌∷◌, length, refl, sym, ap, ◌∙◌, eq-eqb, eqb-true, le-leb, lt-ltb, arith}
+use Rattle.std.specs.List.{list_all}
+use Rattle.std.proofs.Math.Nat.{mul-mod_left, mul-le-mul_left, mul_assoc}
+use Rattle.std.proofs.lemmas.Bool.{and_from, both_ways}
 use Rattle.std.proofs.lemmas.List.FromFn.{length-map-range_with_len}
 use Rattle.md_super.specs.declared.superblock.Super.{Super}
 use Rattle.std.specs.Ordering.{int_eq}
 use Rattle.md_super.specs.declared.superblock.Field.{Field}
 use Rattle.md_super.specs.Profile.{has_disks, is_height_of, is_mirror, is_raid5, first_broken, profiled, rules}
-use Rattle.pool_state.specs.Valid.{is_extent}
 use Rattle.array_image.specs.Supers.{has_roles, has_whole_row}
 use Rattle.array_core.specs.Model.{is_truth}
 use Rattle.pool_format.specs.declared.Birth.{Birth}
 use Rattle.pool_format.specs.declared.planning.NewArray.{NewArray}
-use Rattle.pool_format.specs.Plan.{IsNewArray, has}
-use Rattle.pool_format.specs.Parts.{chunk_of, layout_of, level_of, new_roles, new_super, role_of}
-use Rattle.pool_format.proofs.Lists.{filtered}
+use Rattle.pool_format.specs.Plan.{IsNewArray}
+use Rattle.pool_format.specs.Parts.{new_roles, new_super, role_of}
 use Rattle.pool_format.proofs.Roles.{new_has_roles}
 
 -- where all rules hold, none is broken

@@ -1,10 +1,8 @@
 -- The units of a drive, and what a plan says of them.
-use Rattle.std.proofs.Common.{◌≡◌, ◌↔◌, ℕ, ◌+◌, ◌-◌, ◌*◌, ◌/◌, ◌<◌, ◌≤◌, ◌^◌, ◌==◌, nat_le, nat_lt, List, map, position, length, get_or, slice_get, Bool, true, false, Some, Result, Ok, Err, refl, sym, ap, ◌∙◌, subst, inl, inr, leb-true, ltb-true, lt-ltb, arith}
-use Rattle.std.specs.List.{range_with_len}
+use Rattle.std.proofs.Common.{◌≡◌, ◌↔◌, ℕ, ◌+◌, ◌-◌, ◌*◌, ◌/◌, ◌<◌, ◌≤◌, ◌^◌, ◌==◌, nat_le, nat_lt, List, position, length, get_or, true, false, Some, Result, Ok, Err, refl, sym, ap, ◌∙◌, subst, inl, inr, leb-true, ltb-true, lt-ltb, arith}
 use Rattle.std.proofs.Math.Nat.{div-mul-le_self, mul-le-mul_left}
 use Rattle.std.proofs.lemmas.Bool.{and_parts, cases_Bool, cases_lt, cond-true, cond-false}
 use Rattle.std.proofs.lemmas.List.FromFn.{length-map-range_with_len, get_or-map-range_with_len}
-use Rattle.std.proofs.lemmas.Option.{get_or_from_slice_get, slice_get_within}
 use Rattle.rack.specs.Seen.{Seen}
 use Rattle.layer_plan.specs.declared.Layers.{Layers}
 use Rattle.layer_plan.specs.declared.PlanError.{PlanError}

@@ -1,17 +1,15 @@
 -- What the making of a pool answers.
-use Rattle.std.specs.Prelude.{◌≡◌, ℕ, ◌<◌, false, Result, MatchResult, List, length, slice_get, Some}
+use Rattle.std.specs.Prelude.{◌≡◌, ℕ, Result, MatchResult}
 use Rattle.rack.specs.declared.Back.{Back}
-use Rattle.rack.specs.Seen.{Seen, Rose}
+use Rattle.rack.specs.Seen.{Seen}
 use Rattle.rack.specs.Sequences.{WritesOnly}
-use Rattle.md_super.specs.declared.superblock.Super.{Super}
 use Rattle.lvm_group.specs.Runs.{Linear}
 use Rattle.lvm_group.specs.Made.{new_volume}
-use Rattle.array_model.specs.View.{View}
 use Rattle.raid_rack.specs.declared.arrays.Arrays.{Arrays}
 use Rattle.pool_format.specs.declared.Birth.{Birth}
 use Rattle.pool_format.specs.declared.planning.NewPool.{NewPool}
 use Rattle.pool_format.specs.Arrays.{new_views}
-use Rattle.pool_format.specs.Parts.{all_rows, new_state}
+use Rattle.pool_format.specs.Parts.{new_state}
 use Rattle.pool_format.specs.Plan.{IsPlanOf, units_on}
 use Rattle.pool_format.specs.Volume.{extents_of}
 use Rattle.pool_format.specs.Writing.{IsPart}

@@ -1,5 +1,5 @@
 -- The parts of a new pool: its state, the tables of its drives and the superblocks of its members.
-use Rattle.std.specs.Prelude.{ℕ, ℤ, pos, ◌+◌, ◌-◌, ◌++◌, ◌==◌, ◌^◌, suc, if◌then◌else◌, List, [], ◌∷◌, codes, decimal, replicate, map, length, position, slice_index, false}
+use Rattle.std.specs.Prelude.{ℕ, ℤ, pos, ◌+◌, ◌-◌, ◌++◌, ◌==◌, ◌^◌, if◌then◌else◌, List, [], ◌∷◌, codes, decimal, replicate, map, length, position, slice_index, false}
 use Rattle.std.specs.Option.{option_map_or}
 use Rattle.std.specs.List.{range_with_len}
 use Rattle.gpt_table.specs.declared.Entry.{Entry}

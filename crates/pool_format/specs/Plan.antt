@@ -1,5 +1,5 @@
 -- The plan of a new pool: the units of its drives, and its arrays with the slices of their members.
-use Rattle.std.specs.Prelude.{◌≡◌, ◌⊎◌, ℕ, Bool, true, ◌+◌, ◌-◌, ◌*◌, ◌<◌, ◌≤◌, ◌^◌, ◌==◌, List, [], ◌∷◌, All, map, filter, length, position, slice_get, Some, sum_by, take}
+use Rattle.std.specs.Prelude.{◌≡◌, ℕ, Bool, true, ◌+◌, ◌-◌, ◌*◌, ◌<◌, ◌≤◌, ◌^◌, ◌==◌, List, [], ◌∷◌, All, map, filter, length, position, slice_get, Some, sum_by, take}
 use Rattle.std.specs.List.{range_with_len, list_any}
 use Rattle.rack.specs.Seen.{Seen}
 use Rattle.shr_base.specs.Units.{units_of}

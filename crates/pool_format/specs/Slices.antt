@@ -1,5 +1,5 @@
 -- The slices of a new pool's drives: the log slice of each, and those of its members.
-use Rattle.std.specs.Prelude.{◌≡◌, ℕ, ◌+◌, ◌-◌, ◌*◌, ◌<◌, ◌≤◌, ◌==◌, if◌then◌else◌, nat_lt, List, slice_get, Option, Some, None}
+use Rattle.std.specs.Prelude.{◌≡◌, ℕ, ◌+◌, ◌-◌, ◌<◌, ◌==◌, if◌then◌else◌, nat_lt, List, slice_get, Some, None}
 use Rattle.std.specs.Option.{option_map_or}
 use Rattle.slice_rack.specs.Slices.{Slices, seat_of, first_of, sectors_of}
 use Rattle.array_image.specs.Places.{data_sector, log_sectors, place_of, slice_of, state_sector}

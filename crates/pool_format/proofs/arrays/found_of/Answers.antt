@@ -1,10 +1,9 @@
-use Rattle.std.proofs.Common.{◌≡◌, ◌≤◌, ℕ, List, [], ◌∷◌, ◌++◌, Some, length, map, take, get_or, ap, ap₂, sym, ◌∙◌, lit<, arith}
+use Rattle.std.proofs.Common.{◌≡◌, ◌≤◌, ℕ, List, Some, length, map, take, get_or, ap, ◌∙◌, lit<, arith}
 use Rattle.std.proofs.lemmas.List.{length-map, length-take-le}
 use Rattle.std.proofs.Math.Seq.{take-length}
 use Rattle.array_core.specs.declared.Found.{Found}
 use Rattle.array_core.proofs.Lists.{mapped_more}
 use Rattle.pool_format.specs.Parts.{new_super}
-use Rattle.pool_format.proofs.Roles.{new_has_roles}
 use Rattle.pool_format.proofs.arrays.found_of.Goals as goal
 
 pub push-requires : goal.push-requires

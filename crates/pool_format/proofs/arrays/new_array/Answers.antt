@@ -1,11 +1,10 @@
-use Rattle.std.proofs.Common.{◌≡◌, ◌∙◌, ◌<◌, ◌≤◌, ℕ, List, length, false, Some, Ok, Err, Result, ap, subst, sym, unwrap_or, arith}
+use Rattle.std.proofs.Common.{◌≡◌, ◌∙◌, List, length, false, Some, Ok, Err, ap, subst, sym, unwrap_or, arith}
 use Rattle.array_core.specs.declared.Found.{Found}
 use Rattle.array_core.specs.declared.ArrayFault.{ArrayFault}
 use Rattle.array_model.specs.View.{View}
-use Rattle.array_core.specs.Model.{is_truth}
 use Rattle.array_core.specs.Opening.{opened, truth_of}
 use Rattle.pool_format.specs.declared.planning.NewArray.{NewArray}
-use Rattle.pool_format.specs.Arrays.{new_found, new_view, view_or_none}
+use Rattle.pool_format.specs.Arrays.{new_view, view_or_none}
 use Rattle.pool_format.proofs.Extents.{extent_chunks}
 use Rattle.pool_format.proofs.Units.{extent_bounds}
 use Rattle.pool_format.proofs.Opening.{array_opens, members_few, truth_usable}

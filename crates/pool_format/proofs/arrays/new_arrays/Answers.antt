@@ -1,6 +1,4 @@
-use Rattle.std.proofs.Common.{◌≡◌, ◌⊎◌, ◌++◌, ◌∷◌, [], ◌+◌, ◌<◌, ℕ, List, Some, drop, length, get_or, slice_get, ap, ap₂, refl, subst, sym, ◌∙◌, inl, inr, lit<, arith}
-use Rattle.std.proofs.lemmas.List.{drop_more}
-use Rattle.std.proofs.lemmas.Option.{slice_get-get_or}
+use Rattle.std.proofs.Common.{◌≡◌, ◌++◌, ◌∷◌, [], ◌+◌, List, Some, drop, length, slice_get, ap, subst, sym, ◌∙◌, inl, inr, lit<, arith}
 use Rattle.array_model.specs.View.{View, IsArray}
 use Rattle.pool_format.specs.declared.planning.NewArray.{NewArray}
 use Rattle.pool_format.specs.Arrays.{new_view, new_views}

@@ -1,6 +1,5 @@
-use Rattle.std.proofs.Common.{◌≡◌, ◌<◌, ◌+◌, ℕ, Ok, Err, sym, subst, ◌∙◌, arith}
-use Rattle.pool_format.specs.Writing.{Lays}
-use Rattle.pool_format.proofs.Laying.{lays_after, lays_sync, lays_write, laid_then, log_part, room_then}
+use Rattle.std.proofs.Common.{Err, arith}
+use Rattle.pool_format.proofs.Laying.{lays_after, lays_sync, lays_write, laid_then, log_part}
 use Rattle.pool_format.proofs.drives.close_drive.Goals as goal
 
 pub returns-in-Err-clause-lays : goal.returns-in-Err-clause-lays

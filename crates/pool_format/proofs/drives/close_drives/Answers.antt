@@ -1,5 +1,5 @@
-use Rattle.std.proofs.Common.{◌≡◌, ◌<◌, ◌+◌, ℕ, Err, ap, subst, sym, ◌∙◌, arith}
-use Rattle.pool_format.proofs.Laying.{lays_after, lays_durable, lays_end, lays_none, lays_write, log_part, room_then}
+use Rattle.std.proofs.Common.{Err, arith}
+use Rattle.pool_format.proofs.Laying.{lays_after, lays_end, lays_none, room_then}
 use Rattle.pool_format.proofs.drives.close_drives.Goals as goal
 
 pub loop-place-init : goal.loop-place-init

@@ -1,7 +1,6 @@
-use Rattle.std.proofs.Common.{◌≡◌, ◌<◌, ◌+◌, ℕ, Ok, Err, refl, sym, subst, ◌∙◌, arith}
-use Rattle.pool_format.specs.Writing.{Lays}
+use Rattle.std.proofs.Common.{Err, refl, arith}
 use Rattle.pool_format.specs.Parts.{new_table}
-use Rattle.pool_format.proofs.Laying.{lays_after, lays_sync, lays_table, laid_then, room_then}
+use Rattle.pool_format.proofs.Laying.{lays_after, lays_sync, lays_table, laid_then}
 use Rattle.pool_format.proofs.drives.lay_drive.Goals as goal
 
 pub returns-in-Err-clause-lays : goal.returns-in-Err-clause-lays

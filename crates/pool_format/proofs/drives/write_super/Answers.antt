@@ -1,11 +1,8 @@
-use Rattle.std.proofs.Common.{◌≡◌, ◌+◌, ◌<◌, ◌≤◌, ℕ, true, length, sym, ap, subst, ◌∙◌, arith}
-use Rattle.std.specs.List.{range_with_len}
+use Rattle.std.proofs.Common.{◌+◌, length, sym, ap, ◌∙◌, arith}
 use Rattle.std.proofs.lemmas.List.FromFn.{length-map-range_with_len}
 use Rattle.md_super.specs.declared.superblock.Super.{Super}
 use Rattle.pool_format.specs.Parts.{role_of}
-use Rattle.pool_format.specs.Plan.{has}
-use Rattle.pool_format.specs.Writing.{IsOfSlice}
-use Rattle.pool_format.proofs.Laying.{IsInside, lays_write, member_inside, member_part}
+use Rattle.pool_format.proofs.Laying.{lays_write, member_inside, member_part}
 use Rattle.pool_format.proofs.drives.write_super.Goals as goal
 
 pub encode-block-requires : goal.encode-block-requires

@@ -1,18 +1,17 @@
-use Rattle.std.proofs.Common.{◌≡◌, ◌+◌, ◌*◌, ◌<◌, ℕ, List, Some, length, slice_get, get_or, ap, subst, sym, ◌∙◌, refl, arith}
-use Rattle.rack.specs.Seen.{Rose}
+use Rattle.std.proofs.Common.{◌≡◌, ◌*◌, ℕ, List, length, get_or, ap, subst, sym, ◌∙◌, arith}
 use Rattle.rack.specs.Joins.{rose_since}
 use Rattle.rack.specs.Sequences.{WritesOnly}
 use Rattle.pool_state.specs.declared.contents.State.{State}
 use Rattle.slice_rack.specs.SliceRack.{tables, below_of}
-use Rattle.array_model.specs.View.{View, IsArray, sectors_of}
+use Rattle.array_model.specs.View.{View, sectors_of}
 use Rattle.lvm_group.specs.Volume.{below_of as rack_in, linear}
-use Rattle.raid_rack.specs.RaidRack.{arrays_in, no_array, raid_in, raid_seen, slices_in}
+use Rattle.raid_rack.specs.RaidRack.{arrays_in, no_array, raid_seen, slices_in}
 use Rattle.pool_format.specs.Slices.{AreLaid}
 use Rattle.pool_format.specs.Volume.{IsNewRaid}
 use Rattle.pool_format.specs.Writing.{IsPart}
 use Rattle.pool_format.proofs.Building.{inside_same, slices_still}
 use Rattle.pool_format.proofs.Founded.{new_fit}
-use Rattle.pool_format.proofs.Laying.{laid_then, lays_after, room_then}
+use Rattle.pool_format.proofs.Laying.{laid_then}
 use Rattle.pool_format.proofs.formatting.build.Goals as goal
 
 pub returns-in-Err-make_volume-clause-some : goal.returns-in-Err-make_volume-clause-some

@@ -1,4 +1,3 @@
-use Rattle.std.proofs.Common.{Ok}
 use Rattle.pool_format.proofs.Laying.{lays_after}
 use Rattle.pool_format.proofs.formatting.conclude.Goals as goal
 

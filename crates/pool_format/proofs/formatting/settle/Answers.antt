@@ -1,5 +1,5 @@
-use Rattle.std.proofs.Common.{◌≡◌, ℕ, List, Some, slice_get, subst}
-use Rattle.array_model.specs.View.{View, IsArray}
+use Rattle.std.proofs.Common.{◌≡◌, List, Some, slice_get, subst}
+use Rattle.array_model.specs.View.{View}
 use Rattle.pool_format.proofs.formatting.settle.Goals as goal
 
 pub returns-clause-are : goal.returns-clause-are

@@ -1,4 +1,4 @@
-use Rattle.std.proofs.Common.{◌≡◌, ap, subst, sym, ◌∙◌, arith}
+use Rattle.std.proofs.Common.{ap, subst, sym, ◌∙◌, arith}
 use Rattle.std.proofs.Common.{ℕ, Ok, Err, List, refl, length, ◌<◌, ◌≤◌, ◌^◌}
 use Rattle.layer_plan.specs.declared.Layer.{Layer}
 use Rattle.array_image.specs.Places.{arrays_first}

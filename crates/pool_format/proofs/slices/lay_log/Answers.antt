@@ -1,4 +1,4 @@
-use Rattle.std.proofs.Common.{◌≡◌, ◌+◌, ◌*◌, ◌∙◌, sym, subst}
+use Rattle.std.proofs.Common.{◌+◌, ◌*◌, subst}
 use Rattle.slice_rack.specs.SliceRack.{tables, below_of}
 use Rattle.slice_rack.specs.Changes.{IsPast, IsWithin, Overlaps}
 use Rattle.pool_format.proofs.Slicing.{laid_seat, log_added}

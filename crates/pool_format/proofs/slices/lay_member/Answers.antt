@@ -1,8 +1,6 @@
-use Rattle.std.proofs.Common.{◌≡◌, ◌+◌, ◌*◌, ◌≤◌, ◌∙◌, ℕ, length, sym, subst, arith}
+use Rattle.std.proofs.Common.{◌≡◌, ◌+◌, ◌*◌, ◌∙◌, sym, subst, arith}
 use Rattle.std.proofs.lemmas.Option.{slice_get_past}
 use Rattle.slice_rack.specs.SliceRack.{tables, below_of}
-use Rattle.slice_rack.specs.Changes.{IsPast, IsWithin, Overlaps}
-use Rattle.pool_format.specs.declared.planning.NewArray.{NewArray}
 use Rattle.pool_format.specs.Slices.{AreLaid}
 use Rattle.pool_format.proofs.Laying.{member_inside}
 use Rattle.pool_format.proofs.Slicing.{laid_skip, member_added, none_planned, other_planned}

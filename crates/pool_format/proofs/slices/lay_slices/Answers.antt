@@ -1,5 +1,5 @@
-use Rattle.std.proofs.Common.{◌≡◌, ◌+◌, ◌*◌, ◌∙◌, ℕ, length, sym, subst, arith}
-use Rattle.slice_rack.specs.SliceRack.{tables, below_of}
+use Rattle.std.proofs.Common.{◌≡◌, ◌*◌, ◌∙◌, length, sym, subst, arith}
+use Rattle.slice_rack.specs.SliceRack.{tables}
 use Rattle.pool_format.specs.Plan.{HasRoom}
 use Rattle.pool_format.specs.Slices.{AreLaid}
 use Rattle.pool_format.proofs.Slicing.{laid_none}

@@ -1,4 +1,4 @@
-use Rattle.std.proofs.Common.{◌≡◌, ◌+◌, ◌*◌}
+use Rattle.std.proofs.Common.{◌≡◌, ◌*◌}
 use Rattle.slice_rack.specs.Sliced.{slices_of}
 use Rattle.slice_rack.specs.SliceRack.{tables, below_of}
 use Rattle.pool_format.specs.Slices.{AreLaid}

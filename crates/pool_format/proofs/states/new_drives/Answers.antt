@@ -1,5 +1,4 @@
-use Rattle.std.proofs.Common.{◌≡◌, ◌∷◌, ◌++◌, ℕ, false, List, [], map, length, slice_index, sym, ap, ap₂, ◌∙◌, arith, lit<, zero-add}
-use Rattle.std.specs.List.{range_with_len}
+use Rattle.std.proofs.Common.{◌∷◌, ◌++◌, ℕ, false, List, [], length, slice_index, sym, ap, ap₂, ◌∙◌, arith, lit<, zero-add}
 use Rattle.std.proofs.lemmas.List.FromFn.{length-map-range_with_len, map-range_with_len_more}
 use Rattle.pool_state.specs.declared.contents.Drive.{Drive}
 use Rattle.pool_format.specs.Parts.{new_drive}

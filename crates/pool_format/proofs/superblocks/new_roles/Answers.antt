@@ -1,4 +1,4 @@
-use Rattle.std.proofs.Common.{◌≡◌, ◌∷◌, ◌++◌, ℕ, List, [], map, length, sym, ap, ◌∙◌, arith, lit<, zero-add}
+use Rattle.std.proofs.Common.{◌∷◌, ◌++◌, ℕ, List, [], map, length, sym, ap, ◌∙◌, arith, lit<, zero-add}
 use Rattle.std.specs.List.{range_with_len}
 use Rattle.std.proofs.lemmas.List.FromFn.{length-map-range_with_len, map-range_with_len_more}
 use Rattle.pool_format.specs.Parts.{role_of}

@@ -1,10 +1,9 @@
-use Rattle.std.proofs.Common.{rules, w32, ◌≡◌, ℕ, ℤ, pos, List, length, sym, ap, ap₂, ◌∙◌}
+use Rattle.std.proofs.Common.{rules, w32, ◌≡◌, ℕ, ℤ, pos, List, length, ap, ap₂, ◌∙◌}
 use Rattle.std.proofs.lemmas.Int.{to_z-of_z}
 use Rattle.std.specs.Int.{cast_signed, cast_unsigned}
 use Rattle.md_super.specs.declared.superblock.Super.{Super}
 use Rattle.array_image.specs.Places.{array_id, drive_id, member_id}
 use Rattle.pool_format.specs.declared.Birth.{Birth}
-use Rattle.pool_format.specs.declared.planning.NewArray.{NewArray}
 use Rattle.pool_format.specs.Parts.{all_rows, chunk_of, layout_of, level_of, new_roles, set_name}
 use Rattle.pool_format.proofs.superblocks.new_super.Goals as goal
 

@@ -1,4 +1,4 @@
-use Rattle.std.proofs.Common.{◌≡◌, ℕ, sym, ap, arith}
+use Rattle.std.proofs.Common.{◌≡◌, sym, ap, arith}
 use Rattle.std.specs.Fmt.{digits}
 use Rattle.pool_format.specs.Parts.{set_name}
 use Rattle.pool_format.proofs.superblocks.set_name.Goals as goal

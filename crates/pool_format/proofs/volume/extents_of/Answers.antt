@@ -1,6 +1,6 @@
-use Rattle.std.proofs.Common.{◌≡◌, ◌++◌, ◌∷◌, [], ◌+◌, ◌<◌, ℕ, List, Some, drop, length, map, ap, refl, subst, sym, ◌∙◌, arith, unwrap_or}
+use Rattle.std.proofs.Common.{◌++◌, ◌+◌, ℕ, List, drop, length, map, ap, sym, ◌∙◌}
 use Rattle.pool_format.specs.declared.planning.NewArray.{NewArray}
-use Rattle.pool_format.proofs.Lists.{append_none, drop_at, drop_past, length_snoc, snoc_append}
+use Rattle.pool_format.proofs.Lists.{drop_at, length_snoc, snoc_append}
 use Rattle.pool_format.proofs.volume.extents_of.Goals as goal
 
 pub loop-number-preserved : goal.loop-number-preserved

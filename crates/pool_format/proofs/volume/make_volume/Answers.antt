@@ -1,8 +1,8 @@
-use Rattle.std.proofs.Common.{◌≡◌, ◌+◌, ◌*◌, ◌<◌, ◌≤◌, ◌^◌, ℕ, List, Some, length, slice_get, get_or, ap, subst, sym, ◌∙◌, refl, arith}
+use Rattle.std.proofs.Common.{◌≡◌, ◌<◌, ◌^◌, ℕ, List, Some, slice_get, get_or, ap, subst, sym, ◌∙◌, arith}
 use Rattle.rack.specs.Seen.{Rose}
 use Rattle.rack.specs.Sequences.{WritesOnly}
 use Rattle.slice_rack.specs.SliceRack.{tables, below_of}
-use Rattle.array_model.specs.View.{View, IsArray, sectors_of}
+use Rattle.array_model.specs.View.{View, sectors_of}
 use Rattle.lvm_group.specs.Growth.{AreBelow}
 use Rattle.lvm_group.specs.Own.{HoldAll}
 use Rattle.lvm_group.specs.Shown.{total}
@@ -11,8 +11,7 @@ use Rattle.pool_state.specs.declared.contents.State.{State}
 use Rattle.raid_rack.specs.RaidRack.{arrays_in, no_array, raid_in, slices_in}
 use Rattle.pool_format.specs.declared.formatting.CreateFault.TheVariants.{Gone}
 use Rattle.pool_format.specs.Arrays.{new_views}
-use Rattle.pool_format.specs.Plan.{HasRoom}
-use Rattle.pool_format.specs.Volume.{IsMarked, extents_of}
+use Rattle.pool_format.specs.Volume.{IsMarked}
 use Rattle.pool_format.specs.Writing.{IsPart}
 use Rattle.pool_format.proofs.Founded.{new_fit}
 use Rattle.pool_format.proofs.Making.{extents_below, extents_hold, fault_marked, making_only, marked_gone, total_small}

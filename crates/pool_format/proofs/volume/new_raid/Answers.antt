@@ -1,6 +1,6 @@
-use Rattle.std.proofs.Common.{◌≡◌, ◌*◌, ℕ, List, Some, length, slice_get, ap, subst, sym, ◌∙◌}
-use Rattle.slice_rack.specs.SliceRack.{tables, below_of}
-use Rattle.array_model.specs.View.{View, IsArray}
+use Rattle.std.proofs.Common.{◌≡◌, ◌*◌, List, Some, length, slice_get, subst, sym, ◌∙◌}
+use Rattle.slice_rack.specs.SliceRack.{tables}
+use Rattle.array_model.specs.View.{View}
 use Rattle.pool_format.specs.Slices.{AreLaid}
 use Rattle.pool_format.proofs.volume.new_raid.Goals as goal
 

@@ -1,7 +1,6 @@
-use Rattle.std.proofs.Common.{◌≡◌, ◌+◌, ◌<◌, ◌≤◌, ℕ, true, sym, subst, ◌∙◌, arith}
-use Rattle.pool_format.specs.Plan.{has}
+use Rattle.std.proofs.Common.{◌≡◌, ◌+◌, sym, subst, ◌∙◌, arith}
 use Rattle.pool_format.specs.Writing.{IsOfSlice}
-use Rattle.pool_format.proofs.Laying.{IsInside, lays_end, lays_none, member_inside, member_part}
+use Rattle.pool_format.proofs.Laying.{member_inside, member_part}
 use Rattle.pool_format.proofs.zeros.clear_member.Goals as goal
 
 pub overflow_add-array : goal.overflow_add-array

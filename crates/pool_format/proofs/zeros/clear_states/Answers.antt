@@ -1,5 +1,5 @@
-use Rattle.std.proofs.Common.{◌≡◌, ◌<◌, ◌+◌, ℕ, Err, ap, subst, sym, ◌∙◌, arith}
-use Rattle.pool_format.proofs.Laying.{lays_after, lays_durable, lays_end, lays_none, lays_write, log_part, room_then}
+use Rattle.std.proofs.Common.{Err, arith}
+use Rattle.pool_format.proofs.Laying.{lays_after, lays_durable, lays_end, lays_none, log_part}
 use Rattle.std.proofs.Common.{replicate}
 use Rattle.pool_format.proofs.zeros.clear_states.Goals as goal
 
