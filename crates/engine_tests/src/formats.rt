@@ -68,15 +68,31 @@ fn what_the_drives_say(rt: HostRuntime) -> Result<(), Fail> {
     let mut bay = volume.into_inner().into_inner().into_inner();
     let table = read_table(&mut bay, 1).ok().ok_or("a table")?.table;
     assert_eq!(rt; table.entries.len(), 3);
-    let copy = decode_state(&bay.sector_now(2, 2048)).ok().ok_or("a state")?;
-    assert_eq!(rt; (copy.own, copy.state.made, copy.state.drives.len()), (2, 2, 3));
+    let copy = decode_state(&bay.sector_now(2, 2048))
+        .ok()
+        .ok_or("a state")?;
+    assert_eq!(rt;
+        (copy.own, copy.state.made, copy.state.drives.len()),
+        (2, 2, 3)
+    );
     let mut block = [0; 1024];
     block[..512].copy_from_slice(&bay.sector_now(1, 10248));
     let first = decode(&block).ok().ok_or("a superblock")?;
-    assert_eq!(rt; (first.level, first.raid_disks, first.size, first.events), (5, 3, 3328, 1));
+    assert_eq!(rt;
+        (first.level, first.raid_disks, first.size, first.events),
+        (5, 3, 3328, 1)
+    );
     block[..512].copy_from_slice(&bay.sector_now(2, 15624));
     let second = decode(&block).ok().ok_or("a superblock")?;
-    assert_eq!(rt; (second.level, second.raid_disks, second.size, second.dev_number), (1, 2, 3328, 2));
+    assert_eq!(rt;
+        (
+            second.level,
+            second.raid_disks,
+            second.size,
+            second.dev_number
+        ),
+        (1, 2, 3328, 2)
+    );
     assert_eq!(rt; second.resync_offset, u64::MAX);
     Ok(())
 }
