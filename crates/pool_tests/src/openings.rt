@@ -1,26 +1,37 @@
 //! A pool is opened from its drives.
 
-use crate::drives::{blank, pool_of_two, state_on};
-use assembler::{Refusal, assemble};
+use crate::formats::{drives, made};
+use assembler::{Part, Refusal, assemble};
+use lvm_group::Volume;
+use pool_state::{State, decode_state};
 use rack::Rack;
 use rack_mem::MemBay;
+use raid_rack::RaidRack;
 use std::alloc::Global;
 use std::process::Abort;
 use std::test::Fail;
 
-/// Writes a sector of an opened volume and reads it and another one.
-fn use_volume(rt: &impl Abort, alloc: Global, bay: MemBay) -> Result<MemBay, Fail> {
-    let mut volume = match assemble(alloc, bay, 0) {
+/// A volume over disks in memory.
+type Pool = Volume<RaidRack<MemBay>>;
+
+/// The disks of a new pool of drives of so many sectors.
+fn disks(rt: &impl Abort, alloc: Global, sizes: &[u64]) -> Result<MemBay, Fail> {
+    Ok(disks_of(made(rt, alloc, sizes)?))
+}
+
+/// The disks below a volume.
+fn disks_of(volume: Pool) -> MemBay {
+    volume.into_inner().into_inner().into_inner()
+}
+
+/// The volume of the pool on these disks.
+fn opened(rt: &impl Abort, alloc: Global, bay: MemBay) -> Pool
+    ensures fit { (volume_of (linear result) (raid_seen (λ bay. seen_of (memory bay)) (below_of result))).fit }
+{
+    match assemble(alloc, bay, 0) {
         Ok(volume) => volume,
         Err(_) => panic!(rt; "no volume"),
-    };
-    assert_eq!(rt; volume.sectors(0), 1280);
-    let mut sector = [1; 512];
-    assert_eq!(rt; volume.read(0, 7, &mut sector), Ok(()));
-    assert_eq!(rt; volume.write(0, 1279, &[5; 512]), Ok(()));
-    assert_eq!(rt; volume.read(0, 1279, &mut sector), Ok(()));
-    assert_eq!(rt; sector, [5; 512]);
-    Ok(volume.into_inner().into_inner().into_inner())
+    }
 }
 
 /// Why no pool is opened.
@@ -31,28 +42,38 @@ fn refusal(rt: &impl Abort, alloc: Global, bay: MemBay) -> Refusal {
     }
 }
 
+/// The state in the first log sector of a disk.
+fn state_on(rt: &impl Abort, bay: &MemBay, disk: u32) -> State {
+    match decode_state(&bay.sector_now(disk, 2048)) {
+        Ok(copy) => copy.state,
+        Err(_) => panic!(rt; "no state"),
+    }
+}
+
 #[test]
 fn blank_disks_have_no_pool(rt: HostRuntime) -> Result<(), Fail> {
-    let bay = blank(&rt, rt.alloc())?;
+    let bay = drives(&rt, rt.alloc(), &[79104, 79104])?;
     assert_eq!(rt; refusal(&rt, rt.alloc(), bay), Refusal::NoPool);
     Ok(())
 }
 
 #[test]
-fn both_drives_make_the_volume(rt: HostRuntime) -> Result<(), Fail> {
-    let bay = pool_of_two(&rt, rt.alloc())?;
-    let bay = use_volume(&rt, rt.alloc(), bay)?;
-    assert_eq!(rt; state_on(&rt, &bay, 0).epoch, 1);
-    Ok(())
-}
-
-#[test]
 fn an_absent_drive_is_marked(rt: HostRuntime) -> Result<(), Fail> {
-    let mut bay = pool_of_two(&rt, rt.alloc())?;
-    assert!(rt; bay.disks() == 2);
-    bay.fail_disk(0);
-    let bay = use_volume(&rt, rt.alloc(), bay)?;
-    let state = state_on(&rt, &bay, 1);
+    let alloc = rt.alloc();
+    let mut bay = disks(&rt, alloc, &[79104, 79104, 80384])?;
+    assert!(rt; bay.disks() == 3);
+    bay.fail_disk(1);
+    let mut volume = opened(&rt, alloc, bay);
+    assert_eq!(rt; volume.sectors(0), 2560);
+    assert!(rt; 2559 < volume.sectors(0));
+    let mut sector = [1; 512];
+    assert_eq!(rt; volume.write(0, 2559, &[5; 512]), Ok(()));
+    assert_eq!(rt; volume.read(0, 2559, &mut sector), Ok(()));
+    assert_eq!(rt; sector, [5; 512]);
+    assert_eq!(rt; volume.read(0, 200, &mut sector), Ok(()));
+    assert_eq!(rt; sector, [0; 512]);
+    let bay = disks_of(volume);
+    let state = state_on(&rt, &bay, 0);
     assert_eq!(rt; state.epoch, 2);
     assert!(rt;
         state
@@ -60,7 +81,34 @@ fn an_absent_drive_is_marked(rt: HostRuntime) -> Result<(), Fail> {
             .as_slice()
             .iter()
             .map(|drive| drive.missing)
-            .eq([true, false])
+            .eq([false, true, false])
     );
+    Ok(())
+}
+
+#[test]
+fn two_absent_drives_are_too_many(rt: HostRuntime) -> Result<(), Fail> {
+    let alloc = rt.alloc();
+    let mut bay = disks(&rt, alloc, &[79104, 79104, 80384])?;
+    assert!(rt; bay.disks() == 3);
+    bay.fail_disk(0);
+    bay.fail_disk(2);
+    assert_eq!(rt; refusal(&rt, alloc, bay), Refusal::Absent { count: 2 });
+    Ok(())
+}
+
+#[test]
+fn a_damaged_superblock_is_named(rt: HostRuntime) -> Result<(), Fail> {
+    let alloc = rt.alloc();
+    let mut bay = disks(&rt, alloc, &[79104, 79104, 80384])?;
+    assert!(rt; 1 < bay.disks() && 10248 < bay.sectors(1));
+    let mut superblock = bay.sector_now(1, 10248);
+    superblock[200] ^= 1;
+    assert_eq!(rt; bay.write(1, 10248, &superblock), Ok(()));
+    let why = Refusal::Damaged {
+        place: 1,
+        part: Part::Superblock,
+    };
+    assert_eq!(rt; refusal(&rt, alloc, bay), why);
     Ok(())
 }

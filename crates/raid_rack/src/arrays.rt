@@ -77,6 +77,25 @@ impl<R: Rack> RaidRack<R> {
         }
     }
 
+    /// Takes other arrays in place of these, over the same slices: those of a pool that was made anew on them, with its state and a log
+    /// to which nothing is added. No array is written yet, and no sector is refused.
+    pub fn renew(&mut self, state: State, arrays: ArrayVec<Array, 16>, log: Log)
+        ensures slices { slices_in self.new ≡ slices_in self.old }
+        ensures state { (raid_in self.new).state ≡ state }
+        ensures arrays { arrays_of self.new ≡ arrays.items }
+        ensures number { (raid_in self.new).number ≡ log.number }
+        ensures refused { (n : ℕ) → refused_in self.new n ≡ 0 }
+        ensures written { (n : ℕ) → written_in self.new n ≡ false }
+    {
+        self.arrays = Arrays {
+            state,
+            all: arrays,
+            log,
+        };
+        self.refused = [0; 16];
+        self.written = [false; 16];
+    }
+
     /// The state of the pool, with the marks of the drives that were lost.
     pub fn state(&self) -> &State
         ensures { result.now ≡ (raid_in self.now).state }

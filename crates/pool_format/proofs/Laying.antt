@@ -1,0 +1,164 @@
+-- Calls in a row that write parts of a new pool.
+use Rattle.std.proofs.Common.{◌≡◌, ℕ, ◌+◌, ◌*◌, ◌<◌, ◌≤◌, ◌^◌, ◌==◌, ◌-◌, true, false, List, length, slice_get, if◌then◌else◌, Some, Result, Ok, Err, IfErr, sym, ap, subst, ◌∙◌, inl, inr, eq-eqb, arith}
+use Rattle.std.specs.Option.{option_map_or}
+use Rattle.std.proofs.lemmas.Bool.{ne_eqb}
+use Rattle.std.proofs.lemmas.Option.{slice_get_within}
+use Rattle.rack.specs.declared.Gone.{Gone}
+use Rattle.rack.specs.Seen.{Seen, Rose, Stays}
+use Rattle.rack.specs.Calls.{Writes, Syncs}
+use Rattle.rack.specs.Joins.{rose_since}
+use Rattle.rack.specs.Sequences.{WritesOnly, WritesDurably}
+use Rattle.rack.proofs.Durably.{durable_only}
+use Rattle.rack.proofs.Writing.{only_none, only_quiet, only_refused, only_then, only_weaker, only_written}
+use Rattle.gpt_table.specs.declared.Table.{Table}
+use Rattle.gpt_table.specs.Plans.{IsOfTable, WritesTable}
+use Rattle.array_image.specs.Places.{data_sector, log_sectors, place_of, slice_of, state_sector}
+use Rattle.pool_format.specs.declared.planning.NewArray.{NewArray}
+use Rattle.pool_format.specs.declared.planning.NewPool.{NewPool}
+use Rattle.pool_format.specs.Plan.{HasRoom, IsPlan, has}
+use Rattle.pool_format.specs.Slices.{first_planned, sectors_planned}
+use Rattle.pool_format.specs.Writing.{IsOfSlice, IsPart, Lays}
+use Rattle.pool_format.proofs.Lists.{filtered}
+
+-- ---- parts
+
+-- a sector of the log slice
+pub log_part : (plan : NewPool) (d at : ℕ) → d < length plan.units.items → at < log_sectors → IsOfSlice plan d (state_sector + at)
+log_part plan d at drive within =
+    let log : (slice_of (17 * d) == 0) ≡ true = eq-eqb (slice_of (17 * d)) 0 (omega arith) in
+    record {
+      drive = drive;
+      slice = 17 * d;
+      place = omega arith;
+      at = at;
+      within = subst (λ b. at < (if b then log_sectors else option_map_or (λ (a : NewArray). if has a.members.items (place_of (17 * d)) then a.size + data_sector else 0) (slice_get plan.arrays.items (slice_of (17 * d) - 1)) 0)) (sym log) within;
+      sector = ap (λ b. (if b then state_sector else option_map_or (λ (a : NewArray). a.first) (slice_get plan.arrays.items (slice_of (17 * d) - 1)) 0) + at) (sym log);
+    }
+
+-- a member is a drive
+pub member_drive : (plan : NewPool) → IsPlan plan → (n d : ℕ) (a : NewArray) → slice_get plan.arrays.items n ≡ Some a → has a.members.items d ≡ true → d < length plan.units.items
+member_drive plan is n d a at among =
+    let array = is.each n a at in
+    let low = (filtered array.reaches 0 (length plan.units.items) d (subst (λ xs. has xs d ≡ true) array.members_are among)).1 in
+    omega (arith, low)
+
+-- the sectors of a member's slice, and where it begins
+pub member_slice_is : (plan : NewPool) → IsPlan plan → (n d : ℕ) (a : NewArray) → slice_get plan.arrays.items n ≡ Some a → has a.members.items d ≡ true
+    → (sectors_planned plan.arrays.items (17 * d + n + 1) ≡ a.size + data_sector) × (first_planned plan.arrays.items (17 * d + n + 1) ≡ a.first)
+member_slice_is plan is n d a at among =
+    let arrays = plan.arrays.items in
+    let k = 17 * d + n + 1 in
+    let number = slice_get_within arrays n a at in
+    let few = is.few in
+    let slice : slice_of k ≡ n + 1 = omega (arith, number, few) in
+    let other : (slice_of k == 0) ≡ false = ne_eqb (slice_of k) 0 (λ same. omega (arith, same, slice)) in
+    let index : slice_of k - 1 ≡ n = omega (arith, slice) in
+    let place : place_of k ≡ d = omega (arith, number, few) in
+    let here : slice_get arrays (slice_of k - 1) ≡ Some a = ap (slice_get arrays) index ∙ at in (
+      ap (λ b. if b then log_sectors else option_map_or (λ (e : NewArray). if has e.members.items (place_of k) then e.size + data_sector else 0) (slice_get arrays (slice_of k - 1)) 0) other
+          ∙ ap (λ o. option_map_or (λ (e : NewArray). if has e.members.items (place_of k) then e.size + data_sector else 0) o 0) here
+          ∙ ap (λ p. if has a.members.items p then a.size + data_sector else 0) place
+          ∙ ap (λ b. if b then a.size + data_sector else 0) among,
+      ap (λ b. if b then state_sector else option_map_or (λ (e : NewArray). e.first) (slice_get arrays (slice_of k - 1)) 0) other
+          ∙ ap (λ o. option_map_or (λ (e : NewArray). e.first) o 0) here,
+    )
+
+-- a sector of a member's slice
+pub member_part : (plan : NewPool) → IsPlan plan → (n d at : ℕ) (a : NewArray) → slice_get plan.arrays.items n ≡ Some a → has a.members.items d ≡ true
+    → at < a.size + data_sector → IsOfSlice plan d (a.first + at)
+member_part plan is n d at a here among within =
+    let slice = member_slice_is plan is n d a here among in
+    let number = slice_get_within plan.arrays.items n a here in
+    let few = is.few in
+    record {
+      drive = member_drive plan is n d a here among;
+      slice = 17 * d + n + 1;
+      place = omega (arith, number, few);
+      at = at;
+      within = let size = slice.0 in omega (arith, within, size);
+      sector = ap (λ k. k + at) (sym slice.1);
+    }
+
+-- ---- calls
+
+-- so far parts were written alone
+abbrev pub Laid : NewPool → Seen → Seen → Type 0
+Laid plan a b = WritesOnly a b (IsPart plan a.sectors)
+
+part_early : (plan : NewPool) (a b : Seen) → Stays a b → (d s : ℕ) (v : List ℕ) → IsPart plan b.sectors d s v → IsPart plan a.sectors d s v
+part_early plan a b stays d s v (inl table) = inl (subst (λ n. IsOfTable n s) (stays.sectors d) table)
+part_early plan a b stays d s v (inr slice) = inr slice
+
+pub laid_then : (plan : NewPool) (a b c : Seen) → Laid plan a b → Laid plan b c → Laid plan a c
+laid_then plan a b c one two =
+    only_then (IsPart plan a.sectors) one (only_weaker (IsPart plan b.sectors) (IsPart plan a.sectors) (part_early plan a b one.stays) two)
+
+pub lays_after : (plan : NewPool) (a b c : Seen) (r : Result (Unit {0}) Gone) → Laid plan a b → Lays plan b c r → Lays plan a c r
+lays_after plan a b c (Ok x) one two = record { only = laid_then plan a b c one two.only; gone = tt }
+lays_after plan a b c (Err e) one two = record {
+  only = laid_then plan a b c one two.only;
+  gone = (subst (λ n. e.disk < n) one.stays.disks two.gone.0, rose_since (one.stays.faults e.disk) two.gone.1);
+}
+
+pub lays_end : (plan : NewPool) (a b : Seen) → Laid plan a b → Lays plan a b {X = Unit {0}} (Ok tt)
+lays_end plan a b laid = record { only = laid; gone = tt }
+
+pub lays_none : (plan : NewPool) (a : Seen) → a.fit → Laid plan a a
+lays_none plan a fit = only_none a (IsPart plan a.sectors) fit
+
+gone_inside : (a b : Seen) (disk : ℕ) (r : Result (Unit {0}) Gone) → disk < a.disks → IfErr r (λ e. (e.disk ≡ disk) × Rose (a.faults disk) (b.faults disk))
+    → IfErr r (λ e. (e.disk < a.disks) × Rose (a.faults e.disk) (b.faults e.disk))
+gone_inside a b disk (Ok x) inside gone = tt
+gone_inside a b disk (Err e) inside gone = (subst (λ k. k < a.disks) (sym gone.0) inside, subst (λ k. Rose (a.faults k) (b.faults k)) (sym gone.0) gone.1)
+
+pub lays_durable : (plan : NewPool) (a b : Seen) (disk sector : ℕ) (v : List ℕ) (r : Result (Unit {0}) Gone) → disk < a.disks → IsOfSlice plan disk sector
+    → WritesDurably a b disk sector v r → Lays plan a b r
+lays_durable plan a b disk sector v r inside part writes = record {
+  only =
+      only_weaker (λ d s w. (d ≡ disk) × (s ≡ sector) × (w ≡ v)) (IsPart plan a.sectors)
+      (λ d s w at. inr (subst (λ k. IsOfSlice plan k s) (sym at.0) (subst (IsOfSlice plan disk) (sym at.1) part))) (durable_only r writes);
+  gone = gone_inside a b disk r inside writes.gone;
+}
+
+pub lays_write : (plan : NewPool) (a b : Seen) (disk sector : ℕ) (v : List ℕ) (r : Result (Unit {0}) Gone) → disk < a.disks → IsOfSlice plan disk sector
+    → Writes a b disk sector v r → Lays plan a b r
+lays_write plan a b disk sector v (Ok x) inside part writes = record { only = only_written (IsPart plan a.sectors) disk sector v (inr part) writes; gone = tt }
+lays_write plan a b disk sector v (Err e) inside part writes = record {
+  only = only_refused (IsPart plan a.sectors) disk sector v e (inr part) writes;
+  gone = gone_inside a b disk (Err e) inside writes.cause.gone;
+}
+
+pub lays_sync : (plan : NewPool) (a b : Seen) (disk : ℕ) (r : Result (Unit {0}) Gone) → disk < a.disks → Syncs a b disk r → Lays plan a b r
+lays_sync plan a b disk r inside syncs = record { only = only_quiet (IsPart plan a.sectors) syncs.stays syncs.keeps; gone = gone_inside a b disk r inside syncs.gone }
+
+pub lays_table : (plan : NewPool) (a b : Seen) (disk : ℕ) (table : Table) (r : Result (Unit {0}) Gone) → disk < a.disks → table.sectors ≡ a.sectors disk
+    → WritesTable a b disk table r → Lays plan a b r
+lays_table plan a b disk table r inside size writes = record {
+  only =
+      only_weaker _ (IsPart plan a.sectors)
+      (λ d s v at. inl (subst (λ k. IsOfTable (a.sectors k) s) (sym at.0) (subst (λ n. IsOfTable n s) size (writes.within s v at.1)))) writes.follows;
+  gone = gone_inside a b disk r inside writes.gone;
+}
+
+-- the disks have room still
+pub room_then : (plan : NewPool) (a b : Seen) → Stays a b → HasRoom plan a → HasRoom plan b
+room_then plan a b stays room = record {
+  disks = stays.disks ∙ room.disks;
+  small = λ d below. let small = room.small d (subst (λ n. d < n) stays.disks below) in let same = stays.sectors d in omega (arith, small, same);
+  logs = λ d below. let logs = room.logs d (subst (λ n. d < n) stays.disks below) in let same = stays.sectors d in omega (arith, logs, same);
+  members = λ n d a at among. let fits = room.members n d a at among in let same = stays.sectors d in omega (arith, fits, same);
+}
+
+-- a member's slice lies inside its drive
+pub record IsInside (x : Seen) (d : ℕ) (a : NewArray) : Type 0 where
+  pub disk : d < x.disks
+  pub fits : a.first + (a.size + 2048) + 33 ≤ x.sectors d
+  pub small : x.sectors d < 2 ^ 48
+
+pub member_inside : (plan : NewPool) (x : Seen) → IsPlan plan → HasRoom plan x → (n d : ℕ) (a : NewArray) → slice_get plan.arrays.items n ≡ Some a → has a.members.items d ≡ true
+    → IsInside x d a
+member_inside plan x is room n d a at among =
+    let drive = member_drive plan is n d a at among in
+    let disks = room.disks in
+    let disk : d < x.disks = omega (arith, drive, disks) in
+    record { disk = disk; fits = room.members n d a at among; small = room.small d disk }

@@ -1,0 +1,14 @@
+pub mod Lists
+pub mod Units
+pub mod Layered
+pub mod Planned
+pub mod Laying
+pub mod Entries
+pub mod Slicing
+pub mod Roles
+pub mod Supers
+pub mod Extents
+pub mod Opening
+pub mod Founded
+pub mod Making
+pub mod Building
