@@ -8,8 +8,6 @@
 #[cfg(test)]
 mod arrays;
 #[cfg(test)]
-mod formats;
-#[cfg(test)]
 mod growth;
 #[cfg(test)]
 mod memory_disks;
