@@ -1,6 +1,6 @@
 //! Gates: which record counts, and whether it is pending.
 
-ghost use Rattle.std.specs.Prelude.{◌≡◌, ◌≤◌, ◌==◌, None, Some, false, MatchOption, bytes_eq, length, replicate};
+ghost use Rattle.std.specs.Prelude.{◌≡◌, ◌≤◌, ◌==◌, None, Some, MatchOption, bytes_eq, length, replicate};
 ghost use Rattle.shr_base.specs.Blocks.{bytes_at, put_at};
 ghost use Rattle.shr_base.specs.Crc.{crc32_of};
 ghost use Rattle.commit_log.specs.Bytes.{is_gate};
@@ -17,17 +17,6 @@ const WORD: [u8; 8] = *b"SHRGATE1";
 pub(crate) struct Gate {
     pub(crate) open: bool,
     pub(crate) number: u64,
-}
-
-/// The gate of a new pool: closed, with number 0.
-pub fn first_gate() -> [u8; 512]
-    ensures { gate_of result ≡ Some (record { is_open = false; number = 0 }) }
-{
-    let gate = Gate {
-        open: false,
-        number: 0,
-    };
-    gate.encode()
 }
 
 impl Gate {

@@ -26,5 +26,4 @@ mod scan;
 mod tests;
 mod writing;
 
-pub use gates::first_gate;
 pub use log::{Log, Looked, Target};

@@ -9,9 +9,9 @@ use crate::planning::{NewPool, array_at, has_member};
 use crate::superblocks::new_super;
 use crate::tables::write_table;
 use crate::zeros::clear_members;
-use commit_log::first_gate;
 use md_super::encode;
 use rack::{Gone, Rack};
+use shr_base::crc32;
 
 /// The sector of the gate, the second one of the log slice.
 const GATE_SECTOR: u64 = 2049;
@@ -97,6 +97,15 @@ fn write_supers<R: Rack>(
         }
     }
     Ok(())
+}
+
+/// The gate of a new pool's log: closed, with number 0 (docs/FORMATS.md, 'Commit log').
+fn first_gate() -> [u8; 512] {
+    let mut gate = [0; 512];
+    gate[..8].copy_from_slice(b"SHRGATE1");
+    let sum = crc32(&gate);
+    gate[8..12].copy_from_slice(&sum.to_le_bytes());
+    gate
 }
 
 /// Writes the closed gate and the superblocks of a place's drive, durably.
