@@ -195,6 +195,7 @@ module _ (plan : NewPool) (birth : Birth) (is : IsPlan plan) where
               row = refl;
               roles = roles_ok birth a n p plan.extent n_drives is.most na small_p few (length s.drives.items) (let many = drives_many in omega (arith, many));
               unsynced = unsynced_left false u;
+              zeroed = λ young. absurd (both_ways false refl young);
               rows = λ k to rebuilds.
                   let within = slice_get_within v.seats k (Rebuilding to) rebuilds in
                   let count = made.seats in
