@@ -1,5 +1,11 @@
 //! A pool is opened from its drives.
 
+ghost use Rattle.lvm_group.specs.Shown.{volume_of};
+ghost use Rattle.lvm_group.specs.Volume.{below_of, linear};
+ghost use Rattle.raid_rack.specs.RaidRack.{raid_seen};
+ghost use Rattle.rack_mem.specs.MemBay.{memory};
+ghost use Rattle.rack_mem.specs.Memory.{seen_of};
+
 use crate::formats::{drives, made};
 use assembler::{Part, Refusal, assemble};
 use lvm_group::Volume;
