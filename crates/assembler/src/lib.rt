@@ -7,8 +7,10 @@
 //! **Its model** is that of the parts: `Raid` of raid_rack, `Linear` of lvm_group, and the pool that contents of disks mean, of
 //! pool_image.
 //!
-//! **The contract of [`assemble`]**, whatever the disks tell. The volume is fit, so each of its calls may be made. Only drives of the
-//! pool are written, by what was read of the disks (`WritesDrives`). A refusal has its cause in what was read (`IsRefused`).
+//! **The contract of [`assemble`]**, whatever the disks tell. The volume is fit, so each of its calls may be made. Where it is refused
+//! before the drives have passed their checks, nothing is written but the pending record, on drives of the pool (`WritesDrives` of
+//! pool_rest). Inside the crate the arrays are those of the superblocks that were read, over the slices of the drives (`AreMembers` of
+//! specs/Members.antt). That the volume holds what the disks mean and the causes of refusals are promised by the parts alone.
 #![tactic(auto)]
 
 mod checks;
