@@ -2,6 +2,7 @@ mod Foremost
 mod Cut
 mod CutDrives
 mod Listed
+mod Damage
 mod OnDrives
 mod Agreeing
 mod Again
