@@ -1,2 +1,3 @@
 pub mod Members
 pub mod Refusing
+pub mod Volume

@@ -1,5 +1,17 @@
--- Refusals of an opening, by those of its parts.
-use Rattle.std.specs.Prelude.{Bool, true, false}
+-- Refusals of an opening, by those of its parts and by their causes.
+use Rattle.std.specs.Prelude.{◌≡◌, ℕ, nat_lt, not, ◌&&◌, if◌then◌else◌, Bool, true, false, List, Option, Some, None, option_map}
+use Rattle.std.specs.Option.{option_or}
+use Rattle.rack.specs.Seen.{Seen}
+use Rattle.pool_state.specs.declared.contents.State.{State}
+use Rattle.commit_log.specs.View.{names}
+use Rattle.pool_image.specs.Disks.{Seats}
+use Rattle.pool_image.specs.Meaning as meaning
+use Rattle.pool_scan.specs.declared.Known.{Known}
+use Rattle.pool_scan.specs.Choosing.{seat_by}
+use Rattle.pool_check.specs.declared.Part.{Part}
+use Rattle.pool_check.specs.declared.Part.TheVariants.{Log}
+use Rattle.pool_check.specs.Drives.{AreCopied, AreDrivesOf, Drives, Loses, found_with}
+use Rattle.pool_check.specs.Refusing.{is_well, part_by, refused_with}
 use Rattle.lvm_group.specs.declared.volume.VolumeFault.{VolumeFault}
 use Rattle.lvm_group.specs.declared.volume.VolumeFault.TheVariants as volume
 use Rattle.pool_check.specs.declared.CheckFault.{CheckFault}
@@ -34,3 +46,29 @@ is_early (TooFew array) = true
 is_early (DirtyDegraded array) = true
 is_early (BadVolume array) = false
 is_early Memory = false
+
+-- ---- by the pool that the disks make
+
+-- the meaning's refusal that it says, want of memory apart
+abbrev pub meant_by : Refusal → Option meaning.Refusal
+meant_by NoPool = Some meaning.no_pool
+meant_by TwoPools = Some meaning.two_pools
+meant_by (Absent count) = Some (meaning.absent count)
+meant_by (Damaged place part) = Some (meaning.damaged place (part_by part))
+meant_by (TooFew array) = Some (meaning.too_few array)
+meant_by (DirtyDegraded array) = Some (meaning.dirty_degraded array)
+meant_by (BadVolume array) = Some (meaning.bad_volume array)
+meant_by Memory = None
+
+-- the disks of the places, by what was read of the disks, but for places that have gone
+abbrev pub seats_left : List Known → State → List ℕ → Seats
+seats_left known s gone place = if nat_lt place 16 && not (names gone place) then seat_by s known place else None
+
+-- The drives didn't pass their check, by what was read of them: a place has lost its disk only where that refused a call, and the
+-- refusal is the first one of the pool that the disks left make, or else the log that isn't well formed.
+pub record FailsCheck (x y : Seen) (known : List Known) (s : State) (gone : List ℕ) (bad : Option ℕ) (why : Refusal) : Type 0 where
+  pub seats : Seats
+  pub loses : Loses x y (seats_left known s gone) seats
+  pub exact :
+      (o : Drives) → AreDrivesOf x seats o → AreCopied known seats o
+      → option_or (refused_with (is_well bad) None (found_with s seats o)) (option_map (λ place. meaning.damaged place meaning.in_log) bad) ≡ meant_by why

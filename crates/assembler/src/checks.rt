@@ -11,6 +11,7 @@ ghost use Rattle.array_image.specs.States.{current_places};
 ghost use Rattle.pool_check.specs.Drives.{seats_by};
 ghost use Rattle.pool_rest.specs.Standing.{IsLaid};
 ghost use Rattle.assembler.specs.Members.{AreMembers};
+ghost use Rattle.assembler.specs.Refusing.{FailsCheck};
 
 use crate::refusal::{Refusal, by_check};
 use commit_log::Log;
@@ -108,6 +109,7 @@ pub(crate) fn check<R: Rack>(rest: AtRest<R>) -> Result<Members<R>, Back<R, Refu
     ensures log { IfOk result (λ m. m.log ≡ rest.log) }
     ensures runs { IfOk result (λ m. R.runs (below_of rest.slices) (below_of m.slices)) }
     ensures kept { IfErr result (λ back. OnlyReads (R.seen (below_of rest.slices)) (R.seen back.rack)) }
+    ensures refused { IfErr result (λ back. FailsCheck (R.seen (below_of rest.slices)) (R.seen back.rack) rest.scan.disks.items rest.state rest.gone.items rest.damaged back.why) }
     ensures returned { IfErr result (λ back. R.runs (below_of rest.slices) back.rack) }
 {
     let mut slices = rest.slices;

@@ -6,7 +6,8 @@ ghost use Rattle.pool_rest.specs.Resting.{WritesDrives};
 ghost use Rattle.assembler.specs.Refusing.{is_early};
 ghost use Rattle.slice_rack.specs.SliceRack.{below_of};
 ghost use Rattle.lvm_group.specs.Shown.{total, volume_of};
-ghost use Rattle.lvm_group.specs.Volume.{below_of as rack_in, linear};
+ghost use Rattle.lvm_group.specs.Volume.{below_of as rack_in, linear, seqno_of};
+ghost use Rattle.assembler.specs.Volume.{OpensVolume, RefusesVolume};
 ghost use Rattle.raid_rack.specs.RaidRack.{IsFit, SliceRuns, arrays_in, raid_in, raid_seen, slices_in, slices_seen};
 ghost use Rattle.array_model.specs.View.{sectors_of};
 
@@ -30,7 +31,8 @@ fn open_volume<R: Rack>(
     requires some { 0 < (raid_in raid).state.joined }
     requires ready { (raid_in raid).state.joined ≤ (raid_in raid).state.made }
     ensures fit { IfOk result (λ volume. (volume_of (linear volume) (raid_seen R.seen (rack_in volume))).fit) }
-    ensures runs { IfOk result (λ volume. SliceRuns R.seen R.runs (slices_in raid) (slices_in (rack_in volume))) }
+    ensures opens { IfOk result (λ volume. OpensVolume R.seen R.runs raid (rack_in volume) (linear volume) (seqno_of volume)) }
+    ensures refused { IfErr result (λ back. RefusesVolume R.seen R.runs raid back.rack back.why) }
     ensures late { IfErr result (λ back. is_early back.why ≡ false) }
     ensures returned { IfErr result (λ back. R.runs (below_of (slices_in raid)) back.rack) }
 {
@@ -73,12 +75,6 @@ pub fn assemble<R: Rack>(
             });
         }
     };
-    if rest.scan.has_other_pool(&rest.state.pool) {
-        return Err(Back {
-            rack: rest.slices.into_inner(),
-            why: Refusal::TwoPools,
-        });
-    }
     let members = match check(rest) {
         Ok(members) => members,
         Err(back) => return Err(back),

@@ -90,11 +90,11 @@ module _ (a : Arrays) (n : ℕ) (whole : IsWholeArray a n) (room : 4 ≤ a.secto
           ap₂ (λ x y. record { label = Some label; header = x; group = y }) header
           (ap (group_in_area h area) header ∙ in_area_same area (option_and_then (area_header a n) area))
 
-map_below : {X : Type 0} (f g : ℕ → X) (s m : ℕ) → ((n : ℕ) → n < s + m → f n ≡ g n) → map f (range_with_len s m) ≡ map g (range_with_len s m)
+pub map_below : {X : Type 0} (f g : ℕ → X) (s m : ℕ) → ((n : ℕ) → n < s + m → f n ≡ g n) → map f (range_with_len s m) ≡ map g (range_with_len s m)
 map_below f g s zero same = refl
 map_below f g s (suc m) same = ap₂ (λ x xs. x ∷ xs) (same s (omega arith)) (map_below f g (s + 1) m (λ n low. same n (omega (arith, low))))
 
-find_below : (f g : ℕ → Bool) (s m : ℕ) → ((n : ℕ) → n < s + m → f n ≡ g n) → find f (range_with_len s m) ≡ find g (range_with_len s m)
+pub find_below : (f g : ℕ → Bool) (s m : ℕ) → ((n : ℕ) → n < s + m → f n ≡ g n) → find f (range_with_len s m) ≡ find g (range_with_len s m)
 find_below f g s zero same = refl
 find_below f g s (suc m) same =
     ap₂ (λ b o. if b then Some s else o) (same s (omega arith)) (find_below f g (s + 1) m (λ n low. same n (omega (arith, low))))

@@ -19,6 +19,7 @@ use Rattle.raid_rack.specs.Acts.{RaidActs}
 use Rattle.raid_rack.specs.Moves.{AreCaused, Brings, Mends, Moves, ReadsValue, SyncsOne, WritesOne, noted_at, written_at}
 use Rattle.raid_rack.specs.Runs.{RaidRuns}
 use Rattle.raid_rack.specs.RaidRack.{IsFit, IsRunning, KeepsRack, raid_by}
+use Rattle.raid_rack.specs.AllRuns.{Serves}
 use Rattle.raid_rack.proofs.Ended.{none_past}
 use Rattle.raid_rack.specs.Laws.{live_parts}
 use Rattle.raid_rack.proofs.Moving.{brings_then, moves_bring}
@@ -227,3 +228,17 @@ flags_kept p q m sector from noted others n not =
 pub runs_moves : (p : ℕ → Bool) (a b : Arrays) (x y : Seen) → IsFit a x → IsFit b y → StopsInside y → Moves (raid_by a) (raid_by b) x y → RaidRuns p p (raid_by a) (raid_by b) x y
 runs_moves p a b x y fit after inside moves =
     runs_call p p a b x y (λ n vals. vals) (λ n not. (not, λ was. refl)) fit after inside (moves_bring (raid_by a) (raid_by b) x y moves) (record { left = moves.left; cause = moves.cause })
+
+-- a call counts a refusal of its own array alone, and only of a spent sector
+pub served_call : (v w : Raid) (f g : ℕ → ℕ) (disk sector : ℕ) → sector < array_sectors (v.arrays disk)
+    → ((n : ℕ) → array_sectors (w.arrays n) ≡ array_sectors (v.arrays n)) → ((n y : ℕ) → live_of w n y → live_of v n y)
+    → ((n : ℕ) → (n ≡ disk → spent_of w disk sector ≡ false) → g n ≡ f n) → Serves v w f g
+served_call v w f g disk sector inside sectors spent uncounted =
+    record {
+      sectors = sectors;
+      spent = spent;
+      refused = λ n alive.
+          uncounted n (λ same.
+          subst (λ k. live_of w k sector) same
+          (alive sector (subst (λ k. sector < k) (sym (sectors n)) (subst (λ m. sector < array_sectors (v.arrays m)) (sym same) inside))));
+    }

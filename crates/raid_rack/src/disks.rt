@@ -4,7 +4,7 @@ ghost use Rattle.std.specs.Prelude.{◌≡◌, ℕ, ◌<◌, ◌≤◌, true, fa
 ghost use Rattle.rack.specs.Seen.{Rose};
 ghost use Rattle.rack.specs.Calls.{Reads, Syncs, Writes};
 ghost use Rattle.raid_rack.specs.Moves.{KeepsArrays, RaisesBy};
-ghost use Rattle.raid_rack.specs.AllRuns.{AreRuns};
+ghost use Rattle.raid_rack.specs.AllRuns.{AreRuns, serves_same, serves_then};
 ghost use Rattle.slice_rack.specs.SliceRack.{below_of, tables};
 ghost use Rattle.slice_rack.specs.Laws.{is_sound};
 ghost use Rattle.slice_rack.specs.Runs.{runs_join, runs_none};
@@ -87,6 +87,7 @@ impl<R: Rack> Rack for RaidRack<R> {
       runs_none (tables (slices_in rack)) (R.seen (below_of (slices_in rack))) (R.runs (below_of (slices_in rack)) (below_of (slices_in rack)))
           (R.runs_same (below_of (slices_in rack))),
       raid_runs_same (written_in rack) (raid_in rack) (slices_seen R.seen rack),
+      serves_same (raid_in rack) (refused_in rack),
     ) };
 
     ghost runs_then = { λ x y z one two. (
@@ -96,6 +97,7 @@ impl<R: Rack> Rack for RaidRack<R> {
           (R.runs (below_of (slices_in x)) (below_of (slices_in z))) one.0 two.0
           (R.runs_then (below_of (slices_in x)) (below_of (slices_in y)) (below_of (slices_in z)) one.0.below two.0.below),
       raid_runs_then (written_in x) (written_in y) (written_in z) (raid_in x) (raid_in y) (raid_in z) (slices_seen R.seen x) (slices_seen R.seen y) (slices_seen R.seen z) one.1 two.1,
+      serves_then (raid_in x) (raid_in y) (raid_in z) (refused_in x) (refused_in y) (refused_in z) one.2 two.2,
     ) };
 
     ghost runs_lenders = { λ x y runs. R.runs_lenders (below_of (slices_in x)) (below_of (slices_in y)) runs.0.below };
@@ -112,6 +114,7 @@ impl<R: Rack> RaidRack<R> {
         ensures refused { IfErr result (λ e. (e.disk ≡ disk) × (spent_of (raid_in self.old) disk sector ≡ true)
             × Rose (refused_in self.old disk) (refused_in self.new disk)) }
         ensures more { (n : ℕ) → refused_in self.old n ≤ refused_in self.new n }
+        ensures uncounted { (n : ℕ) → (n ≡ disk → spent_of (raid_in self.old) disk sector ≡ false) → refused_in self.new n ≡ refused_in self.old n }
     {
         if !self.arrays.is_spent(disk, sector) {
             return Ok(());
@@ -126,6 +129,7 @@ impl<R: Rack> RaidRack<R> {
         ensures same { self.new ≡ record self.old { refused = self.new.refused } }
         ensures rose { Rose (refused_in self.old disk) (refused_in self.new disk) }
         ensures more { (n : ℕ) → refused_in self.old n ≤ refused_in self.new n }
+        ensures others { (n : ℕ) → (n ≡ disk → ⊥) → refused_in self.new n ≡ refused_in self.old n }
     {
         let count = self.refused[disk as usize];
         self.refused[disk as usize] = count.saturating_add(1);

@@ -76,3 +76,6 @@ returns-clause-members g c =
     (subst (λ r. AreSlots (g.R.Rack.seen r).sectors (seats_by c.check_drives.new.seats) c.in-Ok.checked.arrays.items c.in-Ok.checked.extents.items) c.inner.ensures.value c.in-Ok.ensures.slots)
     (subst (λ r. (p d : ℕ) → seats_by c.check_drives.new.seats p ≡ Some d → arrays_first + 32 < (g.R.Rack.seen r).sectors d) c.inner.ensures.value c.in-Ok.ensures.room)
     c.absent_of-absent.ensures)
+
+pub returns-in-Err-check_drives-clause-refused : goal.returns-in-Err-check_drives-clause-refused
+returns-in-Err-check_drives-clause-refused g c = ?

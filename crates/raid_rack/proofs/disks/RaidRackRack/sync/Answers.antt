@@ -1,3 +1,4 @@
+use Rattle.std.proofs.Common.{refl}
 use Rattle.slice_rack.specs.SliceRack.{tables, below_of}
 use Rattle.raid_rack.specs.RaidRack.{written_in}
 use Rattle.raid_rack.specs.Laws.{stops_inside}
@@ -11,9 +12,12 @@ returns-clause-syncs g c =
     (stops_inside (tables c.sync_array.new.rack) (g.R.Rack.seen (below_of c.sync_array.new.rack))) c.sync_array.ensures.syncs
 
 pub returns-clause-runs : goal.returns-clause-runs
-returns-clause-runs g c = (
-  c.sync_array.ensures.runs,
-  runs_moves (written_in c.args.self.now) c.args.self.now.arrays c.sync_array.new.self _ _ c.requires.fit
-      (record { running = c.sync_array.ensures.running; heeded = c.sync_array.ensures.syncs.heeded })
-      (stops_inside (tables c.sync_array.new.rack) (g.R.Rack.seen (below_of c.sync_array.new.rack))) c.sync_array.ensures.syncs.moves,
-)
+returns-clause-runs g c =
+    let syncs = returns-clause-syncs g c in
+    (
+      c.sync_array.ensures.runs,
+      runs_moves (written_in c.args.self.now) c.args.self.now.arrays c.sync_array.new.self _ _ c.requires.fit
+          (record { running = c.sync_array.ensures.running; heeded = c.sync_array.ensures.syncs.heeded })
+          (stops_inside (tables c.sync_array.new.rack) (g.R.Rack.seen (below_of c.sync_array.new.rack))) c.sync_array.ensures.syncs.moves,
+      record { sectors = syncs.stays.sectors; spent = syncs.stays.spent; refused = λ n alive. refl },
+    )

@@ -1,0 +1,69 @@
+-- Refusals by their causes.
+use Rattle.std.proofs.Common.{◌≡◌, ◌⊎◌, ℕ, ◌<◌, ◌≤◌, ◌&&◌, Bool, true, false, nat_lt, not, if◌then◌else◌, List, Option, Some, None, option_map, inl, inr, refl, sym, ap, subst, ◌∙◌, lt-ltb, le-ltb}
+use Rattle.std.specs.Option.{option_or}
+use Rattle.std.proofs.lemmas.Bool.{cases_lt}
+use Rattle.rack.specs.Seen.{Seen}
+use Rattle.pool_state.specs.declared.contents.State.{State}
+use Rattle.commit_log.specs.View.{names}
+use Rattle.pool_image.specs.Meaning as meaning
+use Rattle.pool_scan.specs.declared.Known.{Known}
+use Rattle.pool_scan.specs.Choosing.{seat_by}
+use Rattle.pool_check.specs.declared.CheckFault.{CheckFault}
+use Rattle.pool_check.specs.declared.CheckFault.TheVariants.{Absent, Damaged, TooFew, DirtyDegraded}
+use Rattle.pool_check.specs.declared.Part.TheVariants.{Log}
+use Rattle.pool_check.specs.Drives.{AreCopied, AreDrivesOf, Drives, Loses, found_with, seats_by}
+use Rattle.pool_check.specs.Refusing.{is_well, refusal_by, refused_with}
+use Rattle.assembler.specs.declared.refusal.Refusal.TheVariants as refusal
+use Rattle.assembler.specs.Refusing.{FailsCheck, by_check, meant_by, seats_left}
+
+-- a check's fault says the meaning's refusal
+meant_check : (fault : CheckFault) → Some (refusal_by fault) ≡ meant_by (by_check fault)
+meant_check (Absent count) = refl
+meant_check (Damaged place part) = refl
+meant_check (TooFew array) = refl
+meant_check (DirtyDegraded array) = refl
+
+-- ---- the check of the drives, of which some places had gone before
+
+module _ (x y : Seen) (known : List Known) (s : State) (gone : List ℕ) (seats now : List (Option ℕ))
+    (each : (p : ℕ) → p < 16 → seats_by seats p ≡ (if names gone p then None else seat_by s known p))
+    (beyond : (p : ℕ) → 16 ≤ p → seats_by seats p ≡ None) (loses : Loses x y (seats_by seats) (seats_by now)) where
+  seats_are : (p : ℕ) → seats_by seats p ≡ seats_left known s gone p
+  seats_are p = elim (cases_lt p 16) [
+    | inl low ↦ each p low ∙ ap (λ b. if b && not (names gone p) then seat_by s known p else None) (sym (lt-ltb p 16 low)) ∙ of (names gone p)
+    | inr past ↦ beyond p past ∙ sym (ap (λ b. if b && not (names gone p) then seat_by s known p else None) (le-ltb p 16 past))
+  ]
+    where
+      of : (b : Bool) → (if b then None else seat_by s known p) ≡ (if not b then seat_by s known p else None)
+      of true = refl
+      of false = refl
+
+  loses_left : Loses x y (seats_left known s gone) (seats_by now)
+  loses_left = subst (λ before. Loses x y before (seats_by now)) (λ i p. seats_are p i) loses
+
+  -- a fault of it
+  pub fails_check : (bad : Option ℕ) (fault : CheckFault)
+      → ((o : Drives) → AreDrivesOf x (seats_by now) o → AreCopied known (seats_by now) o
+      → refused_with (is_well bad) None (found_with s (seats_by now) o) ≡ Some (refusal_by fault))
+      → FailsCheck x y known s gone bad (by_check fault)
+  fails_check bad fault exact =
+      record {
+        seats = seats_by now;
+        loses = loses_left;
+        exact = λ o are copied.
+            ap (λ r. option_or r (option_map (λ place. meaning.damaged place meaning.in_log) bad)) (exact o are copied) ∙ meant_check fault;
+      }
+
+  -- a log that isn't well formed on a drive that went in it
+  pub fails_log : (bad : Option ℕ) (place : ℕ) → bad ≡ Some place
+      → ((o : Drives) → AreDrivesOf x (seats_by now) o → AreCopied known (seats_by now) o
+      → refused_with (is_well bad) None (found_with s (seats_by now) o) ≡ None)
+      → FailsCheck x y known s gone bad (refusal.Damaged place Log)
+  fails_log bad place is exact =
+      record {
+        seats = seats_by now;
+        loses = loses_left;
+        exact = λ o are copied.
+            ap (λ r. option_or r (option_map (λ p. meaning.damaged p meaning.in_log) bad)) (exact o are copied)
+            ∙ ap (option_map (λ p. meaning.damaged p meaning.in_log)) is;
+      }

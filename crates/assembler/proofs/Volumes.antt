@@ -1,0 +1,126 @@
+-- The volume that is opened on arrays which hold what a pool's drives mean is the volume of the meaning.
+use Rattle.std.proofs.Common.{◌≡◌, ℕ, ◌+◌, ◌*◌, ◌<◌, ◌≤◌, Bool, true, false, ◌==◌, ◌&&◌, ◌||◌, not, nat_le, nat_lt, bytes_eq, if◌then◌else◌, List, [], map, Option, Some, None, refl, sym, ap, ap₂, subst, ◌∙◌, lt-ltb, ltb-true, arith}
+use Rattle.std.specs.Option.{option_map_or}
+use Rattle.std.specs.List.{list_all}
+use Rattle.rack.specs.Values.{MayLeave}
+use Rattle.rack.specs.Seen.{Image, IsLive, Seen}
+use Rattle.rack.specs.Sequences.{WritesOnly}
+use Rattle.lvm_text.specs.declared.group.Pv.{Pv}
+use Rattle.lvm_text.specs.declared.group.Group.{Group}
+use Rattle.lvm_group.specs.Brought.{IsBefore}
+use Rattle.lvm_group.specs.declared.parts.Part.{Part}
+use Rattle.lvm_group.specs.Group.{first_bad, has_own_label, names_array, group_in, has_own_head, is_bad, is_bad_by, is_only_lv, is_own_group, is_pv, is_pv_of, highest, differ, parts_in}
+use Rattle.lvm_group.specs.Ids.{array_named, pv_id, text_id}
+use Rattle.lvm_group.specs.Opening.{AreNow, AreServed, IsBadVolume, Opens, within_sectors}
+use Rattle.lvm_group.specs.Parts.{has_bad_text, part_of}
+use Rattle.lvm_group.specs.Laws.{array_below, sector_below, shows}
+use Rattle.lvm_group.specs.Runs.{IsOrderly, Linear, array_of, data_start, sector_of, sectors_in}
+use Rattle.lvm_group.specs.Shown.{IsInside, contents_of, volume_of}
+use Rattle.pool_image.specs.Drives.{Found}
+use Rattle.pool_image.specs.Meaning.{Volume, array_sectors, arrays_held, joined_arrays, volume_by}
+use Rattle.pool_image.specs.Volumes.{linear_of}
+use Rattle.pool_image.specs.Volumes as meant
+use Rattle.pool_image.proofs.Groups.{AreWholeArrays, bad_alike, find_below, group_alike, map_below}
+use Rattle.pool_image.proofs.Parts.{held_in}
+use Rattle.assembler.specs.Volume.{HoldsVolume, IsVolumeOf}
+
+-- ---- what is said of the joined arrays goes by these alone
+
+module _ (pool : List ℕ) (extent joined : ℕ) (f g : ℕ → ℕ) (same : (n : ℕ) → n < joined → f n ≡ g n) where
+  pv_same : (pv : Pv) (n : ℕ) → is_pv_of pool extent f joined pv n ≡ is_pv_of pool extent g joined pv n
+  pv_same pv n = of (nat_lt n joined) refl
+    where
+      of : (b : Bool) → nat_lt n joined ≡ b
+          → (b && (bytes_eq pv.id (text_id (pv_id pool n)) && ((pv.pe_start == data_start) && nat_le (data_start + pv.pe_count * extent) (f n))))
+          ≡ (b && (bytes_eq pv.id (text_id (pv_id pool n)) && ((pv.pe_start == data_start) && nat_le (data_start + pv.pe_count * extent) (g n))))
+      of false past = refl
+      of true low = ap (λ k. bytes_eq pv.id (text_id (pv_id pool n)) && ((pv.pe_start == data_start) && nat_le (data_start + pv.pe_count * extent) k)) (same n (ltb-true n joined low))
+
+  pvs_same : (pv : Pv) → is_pv pool extent f joined pv ≡ is_pv pool extent g joined pv
+  pvs_same pv = of (array_named pv.name)
+    where
+      of : (o : Option ℕ) → option_map_or (is_pv_of pool extent f joined pv) o false ≡ option_map_or (is_pv_of pool extent g joined pv) o false
+      of None = refl
+      of (Some n) = pv_same pv n
+
+  own_same : (group : Group) → is_own_group pool extent f joined group ≡ is_own_group pool extent g joined group
+  own_same group =
+      ap (λ (p : Pv → Bool). has_own_head pool extent group && (list_all p group.pvs && (differ group.pvs && is_only_lv pool group.pvs group.lvs)))
+      (λ i pv. pvs_same pv i)
+
+  group_same : (c e : Image) → ((n : ℕ) → n < joined → c n ≡ e n) → group_in c f joined ≡ group_in e g joined
+  group_same c e alike =
+      ap (λ parts. highest (map (λ part. part.group) parts))
+      (map_below (λ n. part_of (c n) (f n)) (λ n. part_of (e n) (g n)) 0 joined (λ n low.
+      let below : n < joined = omega (arith, low) in
+      ap₂ part_of (alike n below) (same n below)))
+
+  bad_same : (c e : Image) → ((n : ℕ) → n < joined → c n ≡ e n) → first_bad pool extent f joined c ≡ first_bad pool extent g joined e
+  unfolding first_bad
+  bad_same c e alike =
+      find_below (is_bad pool extent f joined c) (is_bad pool extent g joined e) 0 joined (λ n low.
+      let below : n < joined = omega (arith, low) in
+      ap₂ (λ o part. is_bad_by pool extent f joined o n part) (group_same c e alike) (ap₂ part_of (alike n below) (same n below))
+      ∙ ap (λ (own : Group → Bool). bad_by own (group_in e g joined) n (part_of (e n) (g n))) (λ i group. own_same group i))
+    where
+      bad_by : (Group → Bool) → Option Group → ℕ → Part → Bool
+      bad_by own group array part =
+          has_bad_text part
+          || ((option_map_or (λ h. names_array h array) group false && not (has_own_label pool array part))
+          || ((array == 0) && not (option_map_or own group false)))
+
+-- ---- the volume of the meaning
+
+-- what the arrays hold, as they were read and as the meaning has it
+module _ (f : Found) (a b : Seen) (sizes : (n : ℕ) → n < f.state.joined → a.sectors n ≡ array_sectors f n)
+    (whole : AreWholeArrays (joined_arrays f)) (served : AreServed a b f.state.joined) (now : AreNow a f.state.joined (arrays_held f)) where
+  alike : (n : ℕ) → n < f.state.joined → within_sectors a (arrays_held f) n ≡ held_in (joined_arrays f) n
+  alike n low = ap (λ (k : ℕ) (s : ℕ). if nat_lt s k then arrays_held f n s else []) (sizes n low)
+
+  pub opened_means : (l : Linear) (seqno : ℕ) → Opens f.state.pool.0 f.state.extent f.state.joined a b l seqno → IsVolumeOf f l
+  opened_means l seqno opens =
+      let means = opens.means (arrays_held f) served now in
+      record {
+        group = means.group;
+        group_is =
+            sym (group_alike (joined_arrays f) whole)
+            ∙ sym (group_same f.state.pool.0 f.state.extent f.state.joined a.sectors (array_sectors f) sizes (within_sectors a (arrays_held f)) (held_in (joined_arrays f)) alike)
+            ∙ means.found;
+        sound =
+            sym (bad_alike (joined_arrays f) whole)
+            ∙ sym (bad_same f.state.pool.0 f.state.extent f.state.joined a.sectors (array_sectors f) sizes (within_sectors a (arrays_held f)) (held_in (joined_arrays f)) alike)
+            ∙ means.sound;
+        linear = means.volume;
+      }
+
+  pub refused_means : (n : ℕ) → IsBadVolume f.state.pool.0 f.state.extent f.state.joined a b n → meant.first_bad (joined_arrays f) ≡ Some n
+  refused_means n bad =
+      sym (bad_alike (joined_arrays f) whole)
+      ∙ sym (bad_same f.state.pool.0 f.state.extent f.state.joined a.sectors (array_sectors f) sizes (within_sectors a (arrays_held f)) (held_in (joined_arrays f)) alike)
+      ∙ bad.bad_in (arrays_held f) served now
+
+-- each sector of the volume holds what the meaning's volume does
+pub volume_holds : (f : Found) (a b : Seen) (l : Linear) (of : IsVolumeOf f l) → IsOrderly l → IsInside l b → WritesOnly a b (IsBefore f.state.joined)
+    → ((n : ℕ) → n < f.state.joined → a.told n)
+    → ((n s : ℕ) (u : List ℕ) → n < f.state.joined → a.spent n s ≡ false → MayLeave (a.held n s) u → u ≡ arrays_held f n s)
+    → HoldsVolume (volume_of l b) (volume_by (linear_of (joined_arrays f) of.group) (arrays_held f))
+volume_holds f a b l of orderly inside writes told values =
+    record {
+      sectors = ap sectors_in of.linear;
+      contents = λ s u within alive left.
+          let low : s < sectors_in l = subst (λ (m : Linear). s < sectors_in m) (sym of.linear) within in
+          let n = array_of l s in
+          let t = sector_of l s in
+          let below = array_below l b s orderly inside low in
+          let array : n < f.state.joined = subst (λ (m : Linear). n < m.arrays) of.linear below in
+          let live : IsLive a b n t = record {
+            disk = let most = inside.arrays in omega (arith, most, below);
+            sector = sector_below l b s orderly inside low;
+            is_told = told n array;
+            unspent = alive;
+          } in
+          values n t u array (writes.stays.spent n t alive)
+          ((writes.others n t live (λ v before. let early = before.1 in absurd (omega (arith, early)))).within u left)
+          ∙ sym (shows l (arrays_held f) 0 s low)
+          ∙ ap (λ (m : Linear). contents_of m (arrays_held f) 0 s) of.linear;
+    }
