@@ -30,8 +30,8 @@ module _ (x y : Seen) (known : List Known) (s : State) (gone : List ℕ) (seats 
     (beyond : (p : ℕ) → 16 ≤ p → seats_by seats p ≡ None) (loses : Loses x y (seats_by seats) (seats_by now)) where
   seats_are : (p : ℕ) → seats_by seats p ≡ seats_left known s gone p
   seats_are p = elim (cases_lt p 16) [
-    | inl low ↦ each p low ∙ ap (λ b. if b && not (names gone p) then seat_by s known p else None) (sym (lt-ltb p 16 low)) ∙ of (names gone p)
-    | inr past ↦ beyond p past ∙ sym (ap (λ b. if b && not (names gone p) then seat_by s known p else None) (le-ltb p 16 past))
+    | inl low ↦ each p low ∙ of (names gone p) ∙ sym (ap (λ (b : Bool). if b && not (names gone p) then seat_by s known p else None) (lt-ltb p 16 low))
+    | inr past ↦ beyond p past ∙ sym (ap (λ (b : Bool). if b && not (names gone p) then seat_by s known p else None) (le-ltb p 16 past))
   ]
     where
       of : (b : Bool) → (if b then None else seat_by s known p) ≡ (if not b then seat_by s known p else None)

@@ -8,7 +8,6 @@ use Rattle.rack.specs.Sequences.{WritesOnly}
 use Rattle.lvm_text.specs.declared.group.Pv.{Pv}
 use Rattle.lvm_text.specs.declared.group.Group.{Group}
 use Rattle.lvm_group.specs.Brought.{IsBefore}
-use Rattle.lvm_group.specs.declared.parts.Part.{Part}
 use Rattle.lvm_group.specs.Group.{first_bad, has_own_label, names_array, group_in, has_own_head, is_bad, is_bad_by, is_only_lv, is_own_group, is_pv, is_pv_of, highest, differ, parts_in}
 use Rattle.lvm_group.specs.Ids.{array_named, pv_id, text_id}
 use Rattle.lvm_group.specs.Opening.{AreNow, AreServed, IsBadVolume, Opens, within_sectors}
@@ -61,13 +60,10 @@ module _ (pool : List ℕ) (extent joined : ℕ) (f g : ℕ → ℕ) (same : (n 
       find_below (is_bad pool extent f joined c) (is_bad pool extent g joined e) 0 joined (λ n low.
       let below : n < joined = omega (arith, low) in
       ap₂ (λ o part. is_bad_by pool extent f joined o n part) (group_same c e alike) (ap₂ part_of (alike n below) (same n below))
-      ∙ ap (λ (own : Group → Bool). bad_by own (group_in e g joined) n (part_of (e n) (g n))) (λ i group. own_same group i))
-    where
-      bad_by : (Group → Bool) → Option Group → ℕ → Part → Bool
-      bad_by own group array part =
-          has_bad_text part
-          || ((option_map_or (λ h. names_array h array) group false && not (has_own_label pool array part))
-          || ((array == 0) && not (option_map_or own group false)))
+      ∙ ap (λ (own : Group → Bool).
+      has_bad_text (part_of (e n) (g n))
+      || ((option_map_or (λ h. names_array h n) (group_in e g joined) false && not (has_own_label pool n (part_of (e n) (g n))))
+      || ((n == 0) && not (option_map_or own (group_in e g joined) false)))) (λ i group. own_same group i))
 
 -- ---- the volume of the meaning
 
@@ -75,7 +71,9 @@ module _ (pool : List ℕ) (extent joined : ℕ) (f g : ℕ → ℕ) (same : (n 
 module _ (f : Found) (a b : Seen) (sizes : (n : ℕ) → n < f.state.joined → a.sectors n ≡ array_sectors f n)
     (whole : AreWholeArrays (joined_arrays f)) (served : AreServed a b f.state.joined) (now : AreNow a f.state.joined (arrays_held f)) where
   alike : (n : ℕ) → n < f.state.joined → within_sectors a (arrays_held f) n ≡ held_in (joined_arrays f) n
-  alike n low = ap (λ (k : ℕ) (s : ℕ). if nat_lt s k then arrays_held f n s else []) (sizes n low)
+  alike n low =
+      let upto : ℕ → ℕ → List ℕ = λ k s. if nat_lt s k then arrays_held f n s else [] in
+      ap upto (sizes n low)
 
   pub opened_means : (l : Linear) (seqno : ℕ) → Opens f.state.pool.0 f.state.extent f.state.joined a b l seqno → IsVolumeOf f l
   opened_means l seqno opens =

@@ -22,7 +22,7 @@ use Rattle.assembler.specs.declared.refusal.Refusal.{Refusal}
 pub record OpensVolume {R : Type 0} (seen : R → Seen) (runs : R → R → Type 0) (x y : RaidRack R) (l : Linear) (seqno : ℕ) : Type 0 where
   pub opens : Opens (raid_in x).state.pool.0 (raid_in x).state.extent (raid_in x).state.joined (raid_seen seen x) (raid_seen seen y) l seqno
   pub brings : BringsUp (raid_in x).state.pool.0 (raid_in x).state.joined l seqno opens.runs.group (raid_seen seen x) (raid_seen seen y)
-  pub runs : AreRuns seen runs x y
+  pub kept : AreRuns seen runs x y
 
 -- None was, by what was read of them: the arrays were `last` then, over the rack that is given back.
 pub record RefusesVolume {R : Type 0} (seen : R → Seen) (runs : R → R → Type 0) (x : RaidRack R) (rack : R) (why : Refusal) : Type 0 where
@@ -32,7 +32,7 @@ pub record RefusesVolume {R : Type 0} (seen : R → Seen) (runs : R → R → Ty
   pub is : why ≡ by_volume fault
   pub cause : IsUnopened (raid_in x).state.pool.0 (raid_in x).state.extent (raid_in x).state.joined (raid_seen seen x) (raid_seen seen last) fault
   pub only : OnlyReads (raid_seen seen x) (raid_seen seen last)
-  pub runs : AreRuns seen runs x last
+  pub kept : AreRuns seen runs x last
 
 -- The volume of the meaning: that of the pool's group, which has no bad array.
 pub record IsVolumeOf (f : Found) (l : Linear) : Type 0 where

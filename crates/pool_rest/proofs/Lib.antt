@@ -2,7 +2,6 @@ mod Foremost
 mod Cut
 mod CutDrives
 mod Listed
-mod Damage
 mod OnDrives
 mod Agreeing
 mod Again

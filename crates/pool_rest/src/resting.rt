@@ -14,12 +14,12 @@ ghost use Rattle.pool_image.specs.Disks.{disks_of, identities_of};
 ghost use Rattle.commit_log.specs.View.{names, settled};
 ghost use Rattle.pool_scan.specs.Scanning.{AllTold, IsUnfaulted, now_in};
 ghost use Rattle.pool_scan.specs.Choosing.{AreOf, seat_by};
-ghost use Rattle.pool_rest.specs.Standing.{IsLasting, IsLaid, IsNewest, IsOnePool, IsCause, IsMeant, since};
+ghost use Rattle.pool_rest.specs.Standing.{IsLasting, IsLaid};
 ghost use Rattle.pool_state.specs.Valid.{is_valid};
 ghost use Rattle.pool_image.specs.Alike.{drive_gate, MeansTheSame};
 ghost use Rattle.pool_image.specs.Replay.{brought_state, standing_by};
 ghost use Rattle.pool_image.specs.Meaning.{has_other_pool};
-ghost use Rattle.pool_rest.specs.Resting.{IsOfDrive, IsReplayed, HaveCause, IsFlagged, HasDisk, HasRefused, StandsNow, RestsSo, WritesDrives, IsRefused, seated_state};
+ghost use Rattle.pool_rest.specs.Resting.{IsOfDrive, IsReplayed, HaveCause, IsFlagged, HasDisk, HasRefused, StandsNow, RestsSo, WritesDrives, seated_state};
 
 use crate::brought::brought_state as brought_by;
 use crate::laying::seat_drives;
@@ -330,11 +330,9 @@ fn seated_by(log: &Log, state: &State) -> State
     }
 }
 
-/// Replays the record of a pool as it stands, and looks at the disks once more. It takes no memory.
-fn replay_found<R: Rack>(
-    found: Standing<R>,
-    room: Scan,
-) -> Result<AtRest<R>, Back<R, FindFault>>
+/// Replays the record of a pool as it stands, and looks at the disks once more. It answers the rack alone where no disk has a state
+/// then. It takes no memory.
+fn replay_found<R: Rack>(found: Standing<R>, room: Scan) -> Result<AtRest<R>, R>
     requires fit { (slices_of (tables found.slices) (R.seen (below_of found.slices))).fit }
     requires count { length found.scan.disks.items ≡ (R.seen (below_of found.slices)).disks }
     requires few { length found.scan.disks.items < 2 ^ 32 }
@@ -353,16 +351,10 @@ fn replay_found<R: Rack>(
         → IsUnfaulted (R.seen (below_of found.slices)) (R.seen (below_of r.slices))
         → StandsNow (R.seen (below_of r.slices)) r.state r.log r.pending r.damaged) }
     ensures laid { IfOk result (λ r. IsLaid (R.seen (below_of r.slices)) r.scan.disks.items r.state (tables r.slices) r.on.items) }
-    ensures newest { IfOk result (λ r. AllTold (R.seen (below_of found.slices)) → IsLasting (R.seen (below_of found.slices))
-        → IsNewest (since (R.seen (below_of found.slices)) (R.seen (below_of r.slices))) (R.seen (below_of r.slices)) r.scan.disks.items r.state) }
-    ensures one { IfOk result (λ r. IsOnePool r.scan.disks.items r.state) }
     ensures runs { IfOk result (λ r. R.runs (below_of found.slices) (below_of r.slices)) }
-    ensures back { IfErr result (λ back. WritesOnly (R.seen (below_of found.slices)) (R.seen back.rack)
+    ensures back { IfErr result (λ back. WritesOnly (R.seen (below_of found.slices)) (R.seen back)
         (IsOfDrive (R.seen (below_of found.slices)) found.scan.disks.items (seated_state found.log.pending found.state))) }
-    ensures found { IfErr result (λ back. back.why ≢ FindFault.Memory) }
-    ensures refused { IfErr result (λ back. AllTold (R.seen (below_of found.slices)) → IsLasting (R.seen (below_of found.slices))
-        → IsCause (since (R.seen (below_of found.slices)) (R.seen back.rack)) (R.seen back.rack) back.why) }
-    ensures returned { IfErr result (λ back. R.runs (below_of found.slices) back.rack) }
+    ensures returned { IfErr result (λ back. R.runs (below_of found.slices) back) }
 {
     let seated = seated_by(&found.log, &found.state);
     let whole = found.looked.gone.is_empty() && are_there(&found.scan);
@@ -376,7 +368,7 @@ fn replay_found<R: Rack>(
     );
     let again = match look(done.rack, room, done.log) {
         Ok(again) => again,
-        Err(back) => return Err(back),
+        Err(rack) => return Err(rack),
     };
     let refused = Refused {
         scan: found.scan,
@@ -409,24 +401,15 @@ pub fn bring_to_rest<R: Rack>(alloc: Global, rack: R) -> Result<AtRest<R>, Back<
         → RestsSo (R.seen rack) (R.seen (below_of r.slices))) }
     ensures stands { IfOk result (λ r. AllTold (R.seen rack) → IsLasting (R.seen rack) → IsUnfaulted (R.seen rack) (R.seen (below_of r.slices))
         → StandsNow (R.seen (below_of r.slices)) r.state r.log r.pending r.damaged) }
-    // What was read of the disks is what they hold still, and the state is the newest of it, of one pool.
-    ensures newest { IfOk result (λ r. AllTold (R.seen rack) → IsLasting (R.seen rack)
-        → IsNewest (since (R.seen rack) (R.seen (below_of r.slices))) (R.seen (below_of r.slices)) r.scan.disks.items r.state) }
-    ensures one { IfOk result (λ r. IsOnePool r.scan.disks.items r.state) }
-    ensures single { IfOk result (λ r. AllTold (R.seen rack) → IsLasting (R.seen rack) → IsUnfaulted (R.seen rack) (R.seen (below_of r.slices))
-        → has_other_pool (disks_of (R.seen (below_of r.slices))) (standing_by (disks_of (R.seen (below_of r.slices))) (now_in (R.seen (below_of r.slices))) r.state) ≡ false) }
-    // So where nothing is pending any more, the pool means what it meant.
+    // So where nothing is pending any more and no other pool came, the pool means what it meant.
     ensures means { IfOk result (λ r. AllTold (R.seen rack) → IsLasting (R.seen rack) → IsUnfaulted (R.seen rack) (R.seen (below_of r.slices))
         → r.pending ≡ false → r.damaged ≡ None
+        → has_other_pool (disks_of (R.seen (below_of r.slices))) (standing_by (disks_of (R.seen (below_of r.slices))) (now_in (R.seen (below_of r.slices))) r.state) ≡ false
         → MeansTheSame (disks_of (R.seen rack)) (now_in (R.seen rack)) (now_in (R.seen (below_of r.slices)))) }
     ensures runs { IfOk result (λ r. R.runs rack (below_of r.slices)) }
     ensures back { IfErr result (λ back. OnlyReads (R.seen rack) (R.seen back.rack) ⊎ WritesDrives (R.seen rack) (R.seen back.rack)) }
-    ensures refused { IfErr result (λ back. IsRefused (R.seen rack) (R.seen back.rack) back.why) }
-    // Where no disk refused a call, the meaning of what the disks held or hold has this refusal.
-    ensures exact { IfErr result (λ back. AllTold (R.seen rack) → IsLasting (R.seen rack) → IsUnfaulted (R.seen rack) (R.seen back.rack)
-        → IsMeant (R.seen rack) back.why ⊎ IsMeant (R.seen back.rack) back.why) }
-    // Want of memory is found before any call to the rack.
-    ensures memory { IfErr result (λ back. back.why ≡ FindFault.Memory → back.rack ≡ rack) }
+    // Want of memory is found before anything is written.
+    ensures memory { IfErr result (λ back. back.why ≢ FindFault.NoPool → OnlyReads (R.seen rack) (R.seen back.rack)) }
     ensures returned { IfErr result (λ back. R.runs rack back.rack) }
 {
     let disks = rack.disks();
@@ -445,6 +428,9 @@ pub fn bring_to_rest<R: Rack>(alloc: Global, rack: R) -> Result<AtRest<R>, Back<
     }
     match replay_found(found, room) {
         Ok(rest) => Ok(rest),
-        Err(back) => Err(back),
+        Err(rack) => Err(Back {
+            rack,
+            why: FindFault::NoPool,
+        }),
     }
 }

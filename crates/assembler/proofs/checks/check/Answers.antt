@@ -4,11 +4,15 @@ use Rattle.array_image.specs.Places.{arrays_first}
 use Rattle.slice_rack.specs.SliceRack.{tables, below_of}
 use Rattle.slice_rack.specs.Sliced.{slices_of}
 use Rattle.slice_rack.specs.Runs.{inside_still}
-use Rattle.pool_check.specs.Drives.{IsSeating, Loses, seats_by}
+use Rattle.pool_check.specs.declared.Part.TheVariants.{Log}
+use Rattle.pool_check.specs.Drives.{AreDrivesOf, IsSeating, Loses, seats_by}
 use Rattle.pool_check.specs.Slots.{AreSlots}
 use Rattle.pool_check.proofs.Valid.{valid_fit}
 use Rattle.pool_rest.specs.Standing.{IsLaid}
 use Rattle.assembler.specs.Members.{AreMembers}
+use Rattle.assembler.specs.declared.refusal.Refusal.TheVariants.{Damaged}
+use Rattle.assembler.specs.Refusing.{FailsCheck, by_check}
+use Rattle.assembler.proofs.Refusals.{fails_check, fails_log}
 use Rattle.assembler.proofs.Unseated.{check_members, logs_only, no_members, seating, taken}
 use Rattle.assembler.proofs.checks.check.Goals as goal
 
@@ -77,5 +81,29 @@ returns-clause-members g c =
     (subst (λ r. (p d : ℕ) → seats_by c.check_drives.new.seats p ≡ Some d → arrays_first + 32 < (g.R.Rack.seen r).sectors d) c.inner.ensures.value c.in-Ok.ensures.room)
     c.absent_of-absent.ensures)
 
-pub returns-in-Err-check_drives-clause-refused : goal.returns-in-Err-check_drives-clause-refused
-returns-in-Err-check_drives-clause-refused g c = ?
+pub returns-in-Err-clause-refused : goal.returns-in-Err-clause-refused
+returns-in-Err-clause-refused g c =
+    let rest = c.args.rest in
+    let x : Seen = g.R.Rack.seen (below_of rest.slices) in
+    let known = rest.scan.disks.items in
+    let seats = c.seats_of-seats.result in
+    let now = c.check_drives.new.seats in
+    subst (λ why. FailsCheck x (g.R.Rack.seen c.into_inner.result) known rest.state rest.gone.items rest.damaged why) (sym c.by_check.ensures)
+    (subst (λ r. FailsCheck x (g.R.Rack.seen r) known rest.state rest.gone.items rest.damaged (by_check c.in-Err.fault)) (sym c.into_inner.ensures)
+    (fails_check x (g.R.Rack.seen c.check_drives.new.rack) known rest.state rest.gone.items seats now c.seats_of-seats.ensures.each c.seats_of-seats.ensures.beyond
+    (subst (λ r. Loses (g.R.Rack.seen r) (g.R.Rack.seen c.check_drives.new.rack) (seats_by seats) (seats_by now)) c.inner.ensures.value c.check_drives.ensures.seats)
+    rest.damaged c.in-Err.fault
+    (λ o are copied. c.in-Err.ensures.exact o (subst (λ r. AreDrivesOf (g.R.Rack.seen r) (seats_by now) o) (sym c.inner.ensures.value) are) copied)))
+
+pub returns-in-Some-clause-refused : goal.returns-in-Some-clause-refused
+returns-in-Some-clause-refused g c =
+    let rest = c.args.rest in
+    let x : Seen = g.R.Rack.seen (below_of rest.slices) in
+    let known = rest.scan.disks.items in
+    let seats = c.seats_of-seats.result in
+    let now = c.check_drives.new.seats in
+    subst (λ r. FailsCheck x (g.R.Rack.seen r) known rest.state rest.gone.items rest.damaged (Damaged c.in-Some.place Log)) (sym c.into_inner-in-Some.ensures)
+    (fails_log x (g.R.Rack.seen c.check_drives.new.rack) known rest.state rest.gone.items seats now c.seats_of-seats.ensures.each c.seats_of-seats.ensures.beyond
+    (subst (λ r. Loses (g.R.Rack.seen r) (g.R.Rack.seen c.check_drives.new.rack) (seats_by seats) (seats_by now)) c.inner.ensures.value c.check_drives.ensures.seats)
+    rest.damaged c.in-Some.place c.in-Some.is
+    (λ o are copied. (c.in-Ok.ensures.exact o (subst (λ r. AreDrivesOf (g.R.Rack.seen r) (seats_by now) o) (sym c.inner.ensures.value) are) copied).sound))

@@ -12,7 +12,7 @@ pub returns-in-Ok-open_volume-clause-runs : goal.returns-in-Ok-open_volume-claus
 returns-in-Ok-open_volume-clause-runs g c =
     g.met.R.Rack.runs_then _ _ _ c.in-Ok.ensures.runs
     (g.met.R.Rack.runs_then _ _ _ c.in-Ok-check.ensures.runs
-    (g.met.R.Rack.runs_then _ _ _ c.make_rack.ensures.runs.below c.in-Ok-open_volume.ensures.runs.below))
+    (g.met.R.Rack.runs_then _ _ _ c.make_rack.ensures.runs.below c.in-Ok-open_volume.ensures.opens.kept.0.below))
 
 pub returns-in-Err-open_volume-clause-returned : goal.returns-in-Err-open_volume-clause-returned
 returns-in-Err-open_volume-clause-returned g c =
