@@ -1,6 +1,15 @@
+mod Amid
+mod Arrays
+mod Copied
+mod Holding
+mod Rest
+mod Roles
 mod Running
 mod Seating
+mod Shows
 mod Sizes
+mod Still
+mod Truthful
 mod Unseated
 mod Whole
 mod Written
