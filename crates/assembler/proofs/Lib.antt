@@ -1,7 +1,16 @@
+mod Amid
+mod Arrays
+mod Copied
+mod Holding
 mod Refusals
+mod Rest
+mod Roles
 mod Running
 mod Seating
+mod Shows
 mod Sizes
+mod Still
+mod Truthful
 mod Unseated
 mod Volumes
 mod Whole

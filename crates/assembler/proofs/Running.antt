@@ -31,6 +31,7 @@ members_later s t x y checked absent stays m = record {
   current = m.current;
   absent_is = m.absent_is;
   logs = m.logs;
+  firsts = m.firsts;
   founded = m.founded;
   slots = subst (λ f. AreSlots f (seat_of t) checked.arrays.items checked.extents.items) (λ i d. sym (stays.sectors d) i) m.slots;
   members = m.members;

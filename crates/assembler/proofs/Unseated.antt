@@ -165,6 +165,13 @@ module _ (x : Seen) (known : List Known) (s : State) (t : Slices) (on : List ℕ
         let here = sym (seats_are p) ∙ seat in
         sizes (log_slice p) (λ none. none-some d (sym none ∙ ap (seats_by after) place ∙ here)) ∙ log_whole p d (still p d here) room
 
+    pub firsts_left : (p d : ℕ) → seat_of u p ≡ Some d → arrays_first ≤ x.sectors d → first_of u (log_slice p) ≡ state_sector
+    firsts_left p d seat room =
+        let place : place_of (log_slice p) ≡ p = omega arith in
+        let here = sym (seats_are p) ∙ seat in
+        let size = log_whole p d (still p d here) room in
+        firsts (log_slice p) (λ none. none-some d (sym none ∙ ap (seats_by after) place ∙ here)) ∙ laid.firsts (log_slice p) (omega (arith, size))
+
     -- ---- with the members' slices
 
     module _ (checked : Checked) (absent : List ℕ) (w : Slices) (kept : KeepsLogs u w)
@@ -201,6 +208,11 @@ module _ (x : Seen) (known : List Known) (s : State) (t : Slices) (on : List ℕ
             let wide = room p d (sym (seat_at p) ∙ seat) in
             let slice : slice_of (log_slice p) ≡ 0 = omega arith in
             kept.sectors (log_slice p) slice ∙ logs_left p d here (omega (arith, wide));
+        firsts = λ p d seat.
+            let here = sym (kept.seats p) ∙ seat in
+            let wide = room p d (sym (seat_at p) ∙ seat) in
+            let slice : slice_of (log_slice p) ≡ 0 = omega arith in
+            kept.firsts (log_slice p) slice ∙ firsts_left p d here (omega (arith, wide));
         founded = subst (λ f. AreFounded s f checked.arrays.items checked.stale.items) seats_same founded;
         slots = subst (λ f. AreSlots f (seat_of w) checked.arrays.items checked.extents.items) sectors_same
             (subst (λ f. AreSlots x.sectors f checked.arrays.items checked.extents.items) seats_same slots);

@@ -1,3 +1,4 @@
+pub mod Holding
 pub mod Members
 pub mod Refusing
 pub mod Volume

@@ -1,11 +1,11 @@
 -- The arrays of a pool over the slices of its drives, before they are a rack, whatever the disks tell.
 use Rattle.std.specs.Prelude.{◌≡◌, ℕ, ◌&&◌, true, is_none, List, Some}
 use Rattle.rack.specs.Seen.{Seen}
-use Rattle.slice_rack.specs.Slices.{Slices, seat_of, sectors_of}
+use Rattle.slice_rack.specs.Slices.{Slices, first_of, seat_of, sectors_of}
 use Rattle.slice_rack.specs.Sliced.{slices_of}
 use Rattle.pool_state.specs.declared.contents.State.{State}
 use Rattle.pool_state.specs.Valid.{is_valid}
-use Rattle.array_image.specs.Places.{log_slice, log_sectors}
+use Rattle.array_image.specs.Places.{log_slice, log_sectors, state_sector}
 use Rattle.array_image.specs.States.{is_current}
 use Rattle.commit_log.specs.View.{names}
 use Rattle.pool_check.specs.declared.Checked.{Checked}
@@ -22,6 +22,7 @@ pub record AreMembers (s : State) (t : Slices) (x : Seen) (checked : Checked) (a
   pub current : (p d : ℕ) → seat_of t p ≡ Some d → is_current s p ≡ true
   pub absent_is : (p : ℕ) → names absent p ≡ (is_none (seat_of t p) && is_current s p)
   pub logs : (p d : ℕ) → seat_of t p ≡ Some d → sectors_of t (log_slice p) ≡ log_sectors
+  pub firsts : (p d : ℕ) → seat_of t p ≡ Some d → first_of t (log_slice p) ≡ state_sector
   pub founded : AreFounded s (seat_of t) checked.arrays.items checked.stale.items
   pub slots : AreSlots x.sectors (seat_of t) checked.arrays.items checked.extents.items
   pub members : HasMembers (seat_of t) checked.arrays.items checked.extents.items t

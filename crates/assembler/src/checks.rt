@@ -8,8 +8,12 @@ ghost use Rattle.slice_rack.specs.Sliced.{slices_of};
 ghost use Rattle.pool_state.specs.Valid.{is_valid};
 ghost use Rattle.arrayvec.specs.ArrayVec.{array_vec_len};
 ghost use Rattle.array_image.specs.States.{current_places};
-ghost use Rattle.pool_check.specs.Drives.{seats_by};
+ghost use Rattle.pool_check.specs.Checking.{IsChecked};
+ghost use Rattle.pool_check.specs.Drives.{AreCopied, AreDrivesOf, seats_by};
+ghost use Rattle.pool_check.specs.Refusing.{is_well};
+ghost use Rattle.pool_image.specs.Drives.{Found};
 ghost use Rattle.pool_rest.specs.Standing.{IsLaid};
+ghost use Rattle.assembler.specs.Holding.{drives_of};
 ghost use Rattle.assembler.specs.Members.{AreMembers};
 ghost use Rattle.assembler.specs.Refusing.{FailsCheck};
 
@@ -105,6 +109,10 @@ pub(crate) fn check<R: Rack>(rest: AtRest<R>) -> Result<Members<R>, Back<R, Refu
     requires laid { IsLaid (R.seen (below_of rest.slices)) rest.scan.disks.items rest.state (tables rest.slices) rest.on.items }
     ensures only { IfOk result (λ m. OnlyReads (R.seen (below_of rest.slices)) (R.seen (below_of m.slices))) }
     ensures members { IfOk result (λ m. AreMembers m.state (tables m.slices) (R.seen (below_of m.slices)) m.checked m.absent.items) }
+    // The arrays are those of the pool that the disks left make, in which no drive is damaged.
+    ensures checked { IfOk result (λ m. (f : Found) → f.state ≡ rest.state → ((p : ℕ) → f.seats p ≡ seat_of (tables m.slices) p)
+        → AreDrivesOf (R.seen (below_of rest.slices)) f.seats (drives_of f) → AreCopied rest.scan.disks.items f.seats (drives_of f)
+        → IsChecked (is_well None) f m.checked) }
     ensures state { IfOk result (λ m. m.state ≡ rest.state) }
     ensures log { IfOk result (λ m. m.log ≡ rest.log) }
     ensures runs { IfOk result (λ m. R.runs (below_of rest.slices) (below_of m.slices)) }

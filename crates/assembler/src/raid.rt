@@ -10,6 +10,10 @@ ghost use Rattle.commit_log.specs.Phases.{AreLogs};
 ghost use Rattle.array_model.specs.View.{View, IsArray, sectors_of};
 ghost use Rattle.lvm_group.specs.Shown.{total};
 ghost use Rattle.raid_rack.specs.RaidRack.{IsFit, SliceRuns, arrays_in, raid_in, raid_seen, slices_in, slices_seen};
+ghost use Rattle.commit_log.specs.Opening.{ReplayCall};
+ghost use Rattle.pool_image.specs.Drives.{Found};
+ghost use Rattle.pool_scan.specs.Scanning.{IsUnfaulted};
+ghost use Rattle.assembler.specs.Holding.{HoldPool, HoldsArrays};
 ghost use Rattle.assembler.specs.Members.{AreMembers};
 
 use crate::checks::Members;
@@ -41,6 +45,11 @@ fn close_gates<R: Rack>(
     requires logs { absent.items ≡ [] → AreLogs (slice_sectors (tables slices.old)) (current_places state.now) }
     ensures runs { SliceRuns R.seen R.runs slices.old slices.new }
     ensures more { (p : ℕ) → names absent.items p ≡ true → names result.items p ≡ true }
+    ensures number { log.new.number ≡ log.old.number }
+    ensures closes { absent.items ≡ [] → ReplayCall log.old (current_places state.now) result.items (slices_of (tables slices.old) (R.seen (below_of slices.old))) (slices_of (tables slices.new) (R.seen (below_of slices.new))) }
+    // Where a place is absent nothing is called.
+    ensures still { (absent.items ≡ [] → ⊥) → slices.new ≡ slices.old }
+    ensures same { (absent.items ≡ [] → ⊥) → result.items ≡ absent.items }
 {
     if !absent.is_empty() {
         return absent;
@@ -58,6 +67,10 @@ pub(crate) fn make_rack<R: Rack>(members: Members<R>, seconds: u64) -> RaidRack<
     ensures joined { (raid_in result).state.joined ≡ members.state.joined }
     ensures extent { (raid_in result).state.extent ≡ members.state.extent }
     ensures small { total (λ n. sectors_of ((raid_in result).arrays n)) members.state.made < 2 ^ 52 }
+    // Where the disks are told and hold a sound pool at rest, and none refuses a call, the arrays hold what the pool's contents give.
+    ensures holds { (f : Found) → HoldPool members.state (tables members.slices) (R.seen (below_of members.slices)) members.checked members.log f
+        → IsUnfaulted (R.seen (below_of members.slices)) (R.seen (below_of (slices_in result)))
+        → HoldsArrays f (raid_in result) (slices_of (tables members.slices) (R.seen (below_of members.slices))) (slices_seen R.seen result) }
 {
     let Members {
         slices,

@@ -1,19 +1,22 @@
-use Rattle.std.proofs.Common.{◌≡◌, ◌+◌, ◌<◌, ℕ, Some, sym, ap, subst, ◌∙◌}
+use Rattle.std.proofs.Common.{◌≡◌, ◌+◌, ◌<◌, ℕ, Option, Some, None, refl, sym, ap, subst, ◌∙◌}
 use Rattle.rack.specs.Seen.{Seen, Stays}
 use Rattle.array_image.specs.Places.{arrays_first}
 use Rattle.slice_rack.specs.SliceRack.{tables, below_of}
 use Rattle.slice_rack.specs.Sliced.{slices_of}
 use Rattle.slice_rack.specs.Runs.{inside_still}
 use Rattle.pool_check.specs.declared.Part.TheVariants.{Log}
-use Rattle.pool_check.specs.Drives.{AreDrivesOf, IsSeating, Loses, seats_by}
+use Rattle.pool_check.specs.Checking.{IsChecked}
+use Rattle.pool_check.specs.Drives.{AreCopied, AreDrivesOf, IsSeating, Loses, found_with, seats_by}
+use Rattle.pool_check.specs.Refusing.{is_well}
 use Rattle.pool_check.specs.Slots.{AreSlots}
 use Rattle.pool_check.proofs.Valid.{valid_fit}
 use Rattle.pool_rest.specs.Standing.{IsLaid}
+use Rattle.assembler.specs.Holding.{drives_of}
 use Rattle.assembler.specs.Members.{AreMembers}
 use Rattle.assembler.specs.declared.refusal.Refusal.TheVariants.{Damaged}
 use Rattle.assembler.specs.Refusing.{FailsCheck, by_check}
 use Rattle.assembler.proofs.Refusals.{fails_check, fails_log}
-use Rattle.assembler.proofs.Unseated.{check_members, logs_only, no_members, seating, taken}
+use Rattle.assembler.proofs.Unseated.{check_members, logs_only, no_members, seating, seats_are, taken}
 use Rattle.assembler.proofs.checks.check.Goals as goal
 
 pub check_drives-requires-clause-seating : goal.check_drives-requires-clause-seating
@@ -107,3 +110,27 @@ returns-in-Some-clause-refused g c =
     (subst (λ r. Loses (g.R.Rack.seen r) (g.R.Rack.seen c.check_drives.new.rack) (seats_by seats) (seats_by now)) c.inner.ensures.value c.check_drives.ensures.seats)
     rest.damaged c.in-Some.place c.in-Some.is
     (λ o are copied. (c.in-Ok.ensures.exact o (subst (λ r. AreDrivesOf (g.R.Rack.seen r) (seats_by now) o) (sym c.inner.ensures.value) are) copied).sound))
+pub returns-clause-checked : goal.returns-clause-checked
+returns-clause-checked g c f state seats drives copied =
+    let rest = c.args.rest in
+    let x : Seen = g.R.Rack.seen (below_of rest.slices) in
+    let now = c.unseat_lost.ensures in
+    let left = seats_by c.check_drives.new.seats in
+    let seat : f.seats ≡ left = λ i p. (seats p ∙ c.lay_members.ensures.kept.seats p
+    ∙ seats_are x rest.scan.disks.items rest.state (tables rest.slices) rest.on.items c.requires.laid c.requires.fit
+    (g.R.Rack.seen c.check_drives.new.rack) c.seats_of-seats.result c.check_drives.new.seats
+    (taken x rest.scan.disks.items rest.state (tables rest.slices) rest.on.items c.requires.laid c.requires.fit rest.gone.items c.seats_of-seats.result c.seats_of-seats.ensures.beyond c.seats_of-seats.ensures.each)
+    (subst (λ r. Loses (g.R.Rack.seen r) (g.R.Rack.seen c.check_drives.new.rack) (seats_by c.seats_of-seats.result) left) c.inner.ensures.value c.check_drives.ensures.seats)
+    (tables c.unseat_lost.new.slices) c.unseat_lost.new.slices.orderly now.seats now.firsts now.sectors p) i in
+    let whole : rest.damaged ≡ None = none_of rest.damaged c.in_default.not-Some in
+    let found : IsChecked (is_well rest.damaged) (found_with rest.state left (drives_of f)) c.in-Ok.checked =
+    c.in-Ok.ensures.exact (drives_of f)
+    (subst (λ r. AreDrivesOf (g.R.Rack.seen r) left (drives_of f)) (sym c.inner.ensures.value) (subst (λ k. AreDrivesOf x k (drives_of f)) seat drives))
+    (subst (λ k. AreCopied rest.scan.disks.items k (drives_of f)) seat copied) in
+    subst (λ o. IsChecked (is_well o) f c.in-Ok.checked) whole
+    (subst (λ s. IsChecked (is_well rest.damaged) (found_with s f.seats (drives_of f)) c.in-Ok.checked) (sym state)
+    (subst (λ k. IsChecked (is_well rest.damaged) (found_with rest.state k (drives_of f)) c.in-Ok.checked) (sym seat) found))
+  where
+    none_of : (o : Option ℕ) → ((place : ℕ) → o ≡ Some place → ⊥) → o ≡ None
+    none_of None none = refl
+    none_of (Some place) none = absurd (none place refl)

@@ -1,15 +1,20 @@
-use Rattle.std.proofs.Common.{◌≡◌, ℕ, Some, slice_get, option_map, sym, ap, subst, ◌∙◌}
+use Rattle.std.proofs.Common.{◌≡◌, ℕ, ◌<◌, ◌≤◌, List, [], ◌∷◌, Some, slice_get, option_map, inl, inr, refl, sym, ap, subst, ◌∙◌, arith}
 use Rattle.std.proofs.lemmas.Option.{get_or_from_slice_get}
 use Rattle.arrayvec.specs.ArrayVec.{with_items}
-use Rattle.rack.specs.Seen.{Seen}
-use Rattle.slice_rack.specs.Slices.{Slices, seat_of}
+use Rattle.rack.specs.Seen.{Seen, Rose}
+use Rattle.rack.specs.Joins.{rose_before}
+use Rattle.slice_rack.specs.Slices.{Slices, disk_of, seat_of}
 use Rattle.slice_rack.specs.SliceRack.{tables, below_of}
-use Rattle.slice_rack.specs.Sliced.{slices_of}
-use Rattle.slice_rack.specs.Runs.{runs_join}
+use Rattle.slice_rack.specs.Sliced.{IsInside, slices_of}
+use Rattle.slice_rack.specs.Runs.{inside_still, runs_join}
+use Rattle.array_image.specs.States.{current_places}
 use Rattle.array_model.specs.View.{View, IsArray, sectors_of}
 use Rattle.array_core.specs.Seats.{gone, restarted}
-use Rattle.raid_rack.specs.RaidRack.{IsRunning, SliceRuns, arrays_in, no_array, raid_in, slices_in}
+use Rattle.raid_rack.specs.RaidRack.{IsRunning, SliceRuns, arrays_in, no_array, raid_in, slices_in, slices_seen}
+use Rattle.raid_rack.specs.Moves.{Mends}
 use Rattle.raid_rack.proofs.Mended.{each_items}
+use Rattle.assembler.specs.Holding.{HoldsArrays}
+use Rattle.assembler.proofs.Holding.{nobody_went, rack_closed, rack_still}
 use Rattle.assembler.proofs.Running.{array_now, current_logs, members_later, rack_running, twice}
 use Rattle.assembler.proofs.Sizes.{total_small}
 use Rattle.assembler.proofs.Whole.{whole_member}
@@ -89,3 +94,53 @@ returns-clause-small g c =
     ∙ ap sectors_of (get_or_from_slice_get items n (gone places (restarted v)) no_array
     (array_now m.state t x m.checked m.absent.items members rules places c.close_gates-gone.ensures.more items are n v is)))
     m.state.made members.founded.count
+
+pub returns-clause-holds : goal.returns-clause-holds
+returns-clause-holds g c f holds quiet =
+    let m = c.args.members in
+    let members = c.requires.members in
+    let x : Seen = g.R.Rack.seen (below_of m.slices) in
+    let t : Slices = tables m.slices in
+    let rules : (n : ℕ) (v : View) → slice_get m.checked.arrays.items n ≡ Some v → IsArray v =
+    λ n v is. c.rules.ensures n v (ap (λ xs. slice_get xs n) c.as_slice.ensures.value ∙ is) in
+    let places = c.close_gates-gone.result.items in
+    let closed = c.close_gates-gone.new.slices in
+    let first = (each_items m.checked.arrays c.as_mut_slice.result.now c.restart_rebuilds.new.arrays restarted c.as_mut_slice.ensures.value c.restart_rebuilds.ensures).0 in
+    let second = (each_items (with_items m.checked.arrays c.restart_rebuilds.new.arrays) c.as_mut_slice-2.result.now c.note_gone.new.arrays (gone places) c.as_mut_slice-2.ensures.value c.note_gone.ensures).0 in
+    let items = c.new-raid.result.arrays.all.items in
+    let are : (n : ℕ) (u : View) → slice_get m.checked.arrays.items n ≡ Some u → (raid_in c.new-raid.result).arrays n ≡ gone places (restarted u) =
+    λ n u is.
+    get_or_from_slice_get items n (gone places (restarted u)) no_array
+    (ap (λ xs. slice_get xs n) c.new-raid.ensures.arrays ∙ second n
+    ∙ ap (option_map (gone places)) (first n) ∙ twice places (slice_get m.checked.arrays.items n) ∙ ap (option_map (λ v. gone places (restarted v))) is) in
+    let number = c.new-raid.ensures.number ∙ c.close_gates-gone.ensures.number in
+    let after : Seen = slices_seen g.R.Rack.seen c.mark_gone.new.self in
+    let mends : Mends (raid_in c.new-raid.result) (raid_in c.mark_gone.new.self) (slices_of (tables closed) (g.R.Rack.seen (below_of closed))) after =
+    subst (λ k. Mends (raid_in c.new-raid.result) (raid_in c.mark_gone.new.self) (slices_of (tables k) (g.R.Rack.seen (below_of k))) after) c.new-raid.ensures.slices c.mark_gone.ensures.mends in
+    let still : (m.absent.items ≡ [] → ⊥) → HoldsArrays f (raid_in c.mark_gone.new.self) (slices_of t x) after = λ some.
+    rack_still f m.state t x m.checked m.absent.items places m.slices.orderly m.log holds members rules (raid_in c.new-raid.result) c.new-raid.ensures.state number are
+    (c.close_gates-gone.ensures.same some) (raid_in c.mark_gone.new.self) after
+    (subst (λ k. Mends (raid_in c.new-raid.result) (raid_in c.mark_gone.new.self) (slices_of (tables k) (g.R.Rack.seen (below_of k))) after) (c.close_gates-gone.ensures.still some) mends) in
+    let shut : m.absent.items ≡ [] → HoldsArrays f (raid_in c.mark_gone.new.self) (slices_of t x) after = λ none.
+    let replay = c.close_gates-gone.ensures.closes none in
+    let runs = c.close_gates-gone.ensures.runs in
+    rack_closed f m.state t x m.checked m.absent.items places m.slices.orderly m.log holds members rules (raid_in c.new-raid.result) c.new-raid.ensures.state number are
+    none (nobody_went m.log (current_places m.state) places (slices_of t x) (slices_of (tables closed) (g.R.Rack.seen (below_of closed))) replay
+    (λ d rose. quiet (disk_of t d)
+    (rose_before (later d)
+    (subst (λ u. Rose (x.faults (disk_of t d)) ((g.R.Rack.seen (below_of closed)).faults (disk_of u d))) runs.tables rose))))
+    (slices_of (tables closed) (g.R.Rack.seen (below_of closed))) replay (raid_in c.mark_gone.new.self) after mends in
+    by_list m.absent.items shut still
+  where
+    by_list : {P : Type 0} (ps : List ℕ) → (ps ≡ [] → P) → ((ps ≡ [] → ⊥) → P) → P
+    by_list [] none some = none refl
+    by_list (p ∷ ps) none some = some (λ is. cc)
+
+    later : (d : ℕ) → (g.R.Rack.seen (below_of c.close_gates-gone.new.slices)).faults (disk_of (tables c.args.members.slices) d) ≤ (g.R.Rack.seen (below_of (slices_in c.mark_gone.new.self))).faults (disk_of (tables c.args.members.slices) d)
+    later d =
+        let members = c.requires.members in
+        let first = c.close_gates-gone.ensures.runs in
+        let early = (first.apart members.fit.0 members.fit.1).stays in
+        let second = subst (λ k. SliceRuns g.R.Rack.seen g.R.Rack.runs k (slices_in c.mark_gone.new.self)) c.new-raid.ensures.slices c.mark_gone.ensures.runs in
+        let inside = subst (λ u. IsInside u (g.R.Rack.seen (below_of c.close_gates-gone.new.slices))) (sym first.tables) (inside_still early members.fit.1) in
+        (second.apart early.fit inside).stays.faults (disk_of (tables c.args.members.slices) d)

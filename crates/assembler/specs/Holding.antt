@@ -1,0 +1,82 @@
+-- What a pool's arrays hold where its disks are told.
+use Rattle.std.specs.Prelude.{◌≡◌, ℕ, ◌<◌, ◌&&◌, nat_lt, Bool, true, false, List, [], length, Some, None}
+use Rattle.rack.specs.Values.{MayLeave, Values, only}
+use Rattle.rack.specs.Seen.{Seen}
+use Rattle.rack.specs.Moments.{Leaves}
+use Rattle.slice_rack.specs.Slices.{Slices, seat_of, sectors_of}
+use Rattle.slice_rack.specs.Sliced.{slices_of as slices_seen}
+use Rattle.md_super.specs.declared.superblock.Super.{Super}
+use Rattle.pool_state.specs.declared.contents.State.{State}
+use Rattle.array_image.specs.Places.{log_slice}
+use Rattle.array_image.specs.States.{is_current}
+use Rattle.array_image.specs.Supers.{is_named}
+use Rattle.array_image.specs.Arrays.{array_in, replayed}
+use Rattle.array_image.specs.Left.{IsInside, reading}
+use Rattle.commit_log.specs.View.{LogView, left_of, names}
+use Rattle.commit_log.specs.Opening.{Finds}
+use Rattle.pool_image.specs.Disks.{disks_of, identities_of}
+use Rattle.pool_image.specs.Drives.{Found, slices_of}
+use Rattle.pool_image.specs.Meaning.{truth_of}
+use Rattle.pool_image.specs.Sound.{IsSoundState}
+use Rattle.pool_scan.specs.Scanning.{AllTold}
+use Rattle.pool_rest.specs.Standing.{IsLasting}
+use Rattle.pool_rest.specs.Resting.{AreSingle}
+use Rattle.pool_check.specs.declared.Checked.{Checked}
+use Rattle.pool_check.specs.Checking.{IsChecked}
+use Rattle.pool_check.specs.Drives.{Drives}
+use Rattle.pool_check.specs.Refusing.{is_well}
+use Rattle.raid_rack.specs.Raid.{Raid, IsTold, held_in, is_over, live_of, spent_of}
+use Rattle.raid_rack.specs.Marking.{SaysBetween}
+
+-- Disks are told, none of their sectors is spent or will be, and each has one value, of 512 bytes.
+pub record AreSteady (x : Seen) : Type 0 where
+  pub told : AllTold x
+  pub lasts : IsLasting x
+  pub single : AreSingle x
+  pub sized : (d u : ℕ) → d < x.disks → u < x.sectors d → length (x.held d u).current ≡ 512
+
+-- The pool of these disks: its state and its seats are those of the run, and its drives hold and say what they read as.
+pub record IsPoolOn (s : State) (t : Slices) (x : Seen) (f : Found) : Type 0 where
+  pub state : f.state ≡ s
+  pub seats : (p : ℕ) → f.seats p ≡ seat_of t p
+  pub disks : f.disks ≡ disks_of x
+  pub contents : (p d u : ℕ) → f.seats p ≡ Some d → u < x.sectors d → f.contents d u ≡ (x.held d u).current
+  pub copied : (p d : ℕ) → f.seats p ≡ Some d → (f.identities d).copied ≡ (identities_of f.disks f.contents d).copied
+
+-- The log is that of the places that have a log slice: no log is damaged, and nothing is pending.
+pub record IsIdle (s : State) (t : Slices) (x : Seen) (l : LogView) : Type 0 where
+  pub on : List ℕ
+  pub places : (p : ℕ) → names on p ≡ (is_current s p && nat_lt 0 (sectors_of t (log_slice p)))
+  pub is_pending : Bool
+  pub finds : Finds l on (left_of on []) is_pending None (reading (slices_seen t x))
+  pub none : l.pending ≡ []
+
+-- The arrays and the copies of the state agree, and each array's truth names its own place.
+pub record IsSoundPool (f : Found) : Type 0 where
+  pub rules : IsSoundState f
+  pub own : (n : ℕ) (u : Super) → n < f.state.made → truth_of f n ≡ Some u → is_named u u.dev_number ≡ true
+
+-- what a pool's drives are, but for its state and its seats
+abbrev pub drives_of : Found → Drives
+drives_of f = record { disks = f.disks; before = f.before; contents = f.contents; identities = f.identities }
+
+-- Disks that a pool is opened on: they are told, hold this pool at rest, which is sound, and the check of the drives found no fault.
+pub record HoldPool (s : State) (t : Slices) (x : Seen) (checked : Checked) (l : LogView) (f : Found) : Type 0 where
+  pub steady : AreSteady x
+  pub pool : IsPoolOn s t x f
+  pub log : IsIdle s t x l
+  pub sound : IsSoundPool f
+  pub checked_is : IsChecked (is_well None) f checked
+
+-- what the pool's contents give of an array
+abbrev pub pool_values : Found → ℕ → ℕ → Values
+pool_values f n y = only (array_in f.state (slices_of f) n y)
+
+-- Calls on slices a, which left arrays over slices b: each array that is ready for the volume is told, and each of its sectors that can
+-- be had has one value, which is that of the pool's contents. At each moment contents say so, by the pool's state or with marks more.
+pub record HoldsArrays (f : Found) (v : Raid) (a b : Seen) : Type 0 where
+  pub told : (n : ℕ) → n < f.state.joined → IsTold v b n
+  pub values : (n y : ℕ) (u : List ℕ) → n < f.state.joined → live_of v n y → MayLeave (held_in v b n y) u → u ≡ array_in f.state (slices_of f) n y
+  pub leaves :
+      (n : ℕ) → n < f.state.joined → is_over v n ≡ false → a.traced
+      → Leaves a b (λ c. IsInside a.sectors c → SaysBetween f.state v.state n (pool_values f n) (spent_of v n) (replayed a.sectors c))
