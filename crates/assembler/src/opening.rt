@@ -73,12 +73,6 @@ pub fn assemble<R: Rack>(
             });
         }
     };
-    if rest.scan.has_other_pool(&rest.state.pool) {
-        return Err(Back {
-            rack: rest.slices.into_inner(),
-            why: Refusal::TwoPools,
-        });
-    }
     let members = match check(rest) {
         Ok(members) => members,
         Err(back) => return Err(back),

@@ -10,23 +10,24 @@ use Rattle.rack.specs.Targets.{Target}
 use Rattle.rack.proofs.Writing.{only_then, only_quiet}
 use Rattle.pool_state.specs.declared.contents.State.{State}
 use Rattle.slice_rack.specs.Slices.{Slices}
-use Rattle.array_image.specs.Record.{is_target}
+use Rattle.array_image.specs.Record.{gate_of, is_target}
 use Rattle.gpt_table.specs.declared.Table.{Table}
 use Rattle.pool_image.specs.Disks.{Disks, Identity, disks_of, identities_of, id_by, newest}
 use Rattle.pool_image.specs.Replay.{logs_of, standing_by}
 use Rattle.pool_image.specs.Meaning.{has_other_pool}
-use Rattle.pool_image.specs.Alike.{Agree}
+use Rattle.pool_image.specs.Alike.{drive_gate, Agree}
 use Rattle.pool_image.proofs.Identities.{agree_identities, newest_same, other_same}
 use Rattle.pool_scan.specs.declared.Known.{Known}
 use Rattle.pool_scan.specs.Scanning.{AllTold, IsReadOr, IsScan, IsUnfaulted, as_read, copied_at, now_in, table_in}
 use Rattle.pool_scan.specs.Choosing.{AreOf, has_pool_other_than, seat_by}
 use Rattle.pool_scan.proofs.Chosen.{scan_says}
 use Rattle.pool_scan.proofs.Meant.{other_meant}
+use Rattle.pool_scan.proofs.Seated.{seat_by_stands}
 use Rattle.commit_log.specs.View.{LogView}
 use Rattle.pool_rest.specs.declared.standing.FindFault.{FindFault}
 use Rattle.pool_rest.specs.declared.standing.FindFault.TheVariants.{NoPool, TwoPools, Memory}
 use Rattle.pool_rest.specs.Standing.{IsLasting, IsLaid, IsNewest, IsOnePool, StandsAs, IsCause, since}
-use Rattle.pool_rest.specs.Resting.{IsOfDrive, IsReplayed, StandsNow}
+use Rattle.pool_rest.specs.Resting.{IsOfDrive, IsReplayed, AreShut, StandsNow}
 use Rattle.pool_rest.proofs.Agreeing.{disks_same, reads_agree, told_later, lasting_later, stands_now, replayed_later}
 use Rattle.pool_rest.proofs.Laid.{sectors_seen}
 
@@ -64,6 +65,23 @@ module _ {R : Type 0} (seen : R → Seen) (r0 ri rd rb : R) (same : ri ≡ r0) (
   again_stands t state m is_pending damaged meant told lasts free =
       let there : AllTold (seen rd) = told_later (seen r0) (seen rd) replay_only.stays told in
       stands_now (seen rd) (seen rb) state t m is_pending damaged reads there (lasting_later (seen r0) (seen rd) replay_only.stays lasts) (meant there (free_second free))
+
+  -- gates that were closed stay so
+  pub again_shut : (number : ℕ) → length known ≡ (seen r0).disks
+      → (AllTold (seen ri) → IsLasting (seen ri) → IsUnfaulted (seen ri) (seen rd) → AreShut (seen ri) (seen rd) known before s number)
+      → AllTold (seen r0) → IsLasting (seen r0) → IsUnfaulted (seen r0) (seen rb) → AreShut (seen r0) (seen rb) known before s' number
+  again_shut number count shut told lasts free p d few was is room =
+      let listed : d < length known = (seat_by_stands before known p d was).0 in
+      let there : d < (seen r0).disks = omega (arith, listed, count) in
+      ap gate_of
+      (reads_agree (seen rd) (seen rb) reads (told_later (seen r0) (seen rd) replay_only.stays told) (lasting_later (seen r0) (seen rd) replay_only.stays lasts) d drive_gate
+      (subst (λ n. d < n) (sym replay_only.stays.disks) there) (subst (λ n. drive_gate < n) (sym (replay_only.stays.sectors d)) (omega (arith, room))))
+      ∙ shut_first told lasts (free_first free) p d few was is room
+    where
+      shut_first : AllTold (seen r0) → IsLasting (seen r0) → IsUnfaulted (seen r0) (seen rd) → AreShut (seen r0) (seen rd) known before s' number
+      shut_first =
+          subst (λ z. AllTold (seen r0) → IsLasting (seen r0) → IsUnfaulted (seen r0) (seen rd) → AreShut (seen r0) (seen rd) known before z number) seated
+          (subst (λ r. AllTold (seen r) → IsLasting (seen r) → IsUnfaulted (seen r) (seen rd) → AreShut (seen r) (seen rd) known before s number) same shut)
 
 pub laid_later : (x y : Seen) (known : List Known) (s : State) (t : Slices) (on : List ℕ) → Stays x y → IsLaid x known s t on → IsLaid y known s t on
 laid_later x y known s t on stays laid = record {

@@ -10,6 +10,7 @@ use Rattle.array_image.specs.Record.{Gate, GateAt, gate_sector, gate_of, gate_in
 use Rattle.commit_log.specs.View.{names}
 use Rattle.commit_log.proofs.Deciding.{names_first, names_later}
 use Rattle.commit_log.proofs.Fewer.{pending_at_left}
+use Rattle.commit_log.proofs.LeftPlaces.{find_left}
 use Rattle.commit_log.proofs.Replayable.{pending_named}
 use Rattle.commit_log.proofs.Restored.{pending_at_by}
 
@@ -20,14 +21,6 @@ find_same f g [] same = refl
 find_same f g (q ∷ ps) same =
     ap₂ (λ b (o : Option ℕ). if b then Some q else o) (same q (names_first q ps)) (find_same f g ps (λ p named. same p (names_later q ps p named)))
 
-find_kept : (f g : ℕ → Bool) (ps : List ℕ) → ((p : ℕ) → f p ≡ false → g p ≡ false) → find g (filter f ps) ≡ find g ps
-find_kept f g [] none = refl
-find_kept f g (q ∷ ps) none = by (f q) refl (find_kept f g ps none)
-  where
-    by : (b : Bool) → f q ≡ b → find g (filter f ps) ≡ find g ps → find g (if b then q ∷ filter f ps else filter f ps) ≡ (if g q then Some q else find g ps)
-    by true is later = ap (λ (o : Option ℕ). if g q then Some q else o) later
-    by false is later = later ∙ sym (ap (λ b. if b then Some q else find g ps) (none q is))
-
 -- ---- the lowest damaged log
 
 -- places without a gate count for nothing
@@ -36,7 +29,7 @@ pub damaged_left : (f : ℕ → Bool) (c : Image) (ps : List ℕ) → ((p : ℕ)
 damaged_left f c ps none good =
     ap (λ (o : Option GateAt). find (λ p. is_bad_gate c p || option_map_or (λ a. (a.place == p) && is_none (record_in c a.place a.gate.number)) o false) (filter f ps))
     (pending_at_left f c ps none)
-    ∙ find_kept f (is_bad_log ps c) ps (λ p out. ap₂ (λ a b. a || b) (good p out) (of_pending p out (pending_at ps c) refl))
+    ∙ find_left f (is_bad_log ps c) (is_bad_log ps c) ps (λ p is. refl, λ p out. ap₂ (λ a b. a || b) (good p out) (of_pending p out (pending_at ps c) refl))
   where
     other : (p : ℕ) (a : GateAt) → gate_in c p ≡ None → gate_in c a.place ≡ Some a.gate → (b : Bool) → (a.place == p) ≡ b
         → (b && is_none (record_in c a.place a.gate.number)) ≡ false

@@ -52,6 +52,12 @@ pub record IsReplayed (x y : Seen) (before s : State) (xs : List Target) : Type 
   pub no_gate : (d : ℕ) → d < x.disks → drive_gate < x.sectors d → replayed_on (disks_of x) s xs (now_in x) d drive_gate ≡ now_in x d drive_gate
   pub gates : (d : ℕ) → d < x.disks → drive_gate < x.sectors d → (now_in y d drive_gate ≡ now_in x d drive_gate) ⊎ IsClosedOn before s x y d
 
+-- The gate of a place that has the same disk by two states is closed with this number, where the disk has a log slice.
+abbrev pub AreShut : Seen → Seen → List Known → State → State → ℕ → Type 0
+AreShut x y known before s number =
+    (p d : ℕ) → p < 16 → seat_by before known p ≡ Some d → seat_by s known p ≡ Some d → arrays_first ≤ x.sectors d
+    → gate_of (now_in y d drive_gate) ≡ Some (record { is_open = false; number = number })
+
 -- the disk of each place of a list refused a call
 abbrev pub HaveCause : Seen → Seen → List Known → State → List ℕ → Type 0
 HaveCause x y known s places = (p d : ℕ) → names places p ≡ true → seat_by s known p ≡ Some d → Rose (x.faults d) (y.faults d)

@@ -1,6 +1,6 @@
 use Rattle.slice_rack.specs.SliceRack.{below_of}
 use Rattle.raid_rack.specs.RaidRack.{slices_in}
-use Rattle.std.proofs.Common.{◌⊎◌, sym, subst, inr}
+use Rattle.std.proofs.Common.{◌⊎◌, inr}
 use Rattle.std.proofs.lemmas.Bool.{both_ways}
 use Rattle.rack.specs.Sequences.{OnlyReads}
 use Rattle.pool_rest.specs.Resting.{WritesDrives}
@@ -22,10 +22,6 @@ returns-in-Err-open_volume-clause-returned g c =
 
 pub returns-in-Err-check-clause-returned : goal.returns-in-Err-check-clause-returned
 returns-in-Err-check-clause-returned g c = g.met.R.Rack.runs_then _ _ _ c.in-Ok.ensures.runs c.in-Err-check.ensures.returned
-
-pub returns-then-has_other_pool-clause-early : goal.returns-then-has_other_pool-clause-early
-returns-then-has_other_pool-clause-early g c early =
-    inr (subst (λ r. WritesDrives (g.R.Rack.seen c.args.rack) (g.R.Rack.seen r)) (sym c.into_inner.ensures) c.in-Ok.ensures.only)
 
 pub returns-in-Err-check-clause-early : goal.returns-in-Err-check-clause-early
 returns-in-Err-check-clause-early g c early = inr (writes_then_reads _ _ _ c.in-Ok.ensures.only c.in-Err-check.ensures.kept)

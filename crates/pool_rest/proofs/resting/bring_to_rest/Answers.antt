@@ -8,9 +8,11 @@ use Rattle.pool_scan.specs.Scanning.{IsUnfaulted, now_in}
 use Rattle.pool_rest.specs.Standing.{IsLaid, IsNewest, IsOnePool, since}
 use Rattle.pool_rest.specs.Resting.{RestsSo, StandsNow, WritesDrives, seated_state}
 use Rattle.pool_rest.proofs.Agreeing.{told_later, lasting_later}
-use Rattle.pool_rest.proofs.Meant.{cause_meant}
+use Rattle.pool_rest.proofs.Meant.{cause_meant, gone_none}
 use Rattle.pool_rest.proofs.Again.{laid_later, newest_still, newest_from, cause_from, single_now}
-use Rattle.pool_rest.proofs.Joined.{no_elements, writes_idle, writes_since, since_so, since_stands, since_means, idle_so, idle_stands, idle_same}
+use Rattle.pool_rest.specs.SoundLogs.{IsSettled}
+use Rattle.pool_rest.proofs.Quiet.{none_flagged, settled_after, settled_idle}
+use Rattle.pool_rest.proofs.Joined.{no_elements, writes_idle, writes_since, free_before, free_after, since_rests, since_so, since_stands, since_means, idle_so, idle_stands, idle_same}
 use Rattle.pool_rest.proofs.resting.bring_to_rest.Goals as goal
 
 pub returns-then-pending_count-eq0-clause-only : goal.returns-then-pending_count-eq0-clause-only
@@ -95,6 +97,45 @@ returns-in-Ok-replay_found-clause-means g c =
     c.in-Ok-stand.ensures.only c.in-Ok-replay_found.ensures.only.stays c.in-Ok-stand.ensures.newest.scan c.in-Ok-stand.ensures.meant rest.state rest.log rest.pending rest.damaged
     (λ none. c.if-pending_count-eq0.false (c.pending_count.ensures ∙ ap length none))
     c.in-Ok-replay_found.ensures.replayed c.in-Ok-replay_found.ensures.stands c.in-Ok-stand.ensures.single (returns-in-Ok-replay_found-clause-single g c)
+
+pub returns-in-Ok-replay_found-clause-settled : goal.returns-in-Ok-replay_found-clause-settled
+returns-in-Ok-replay_found-clause-settled g c = λ told lasts free sound.
+    let rest = c.in-Ok-replay_found.rest in
+    let found = c.in-Ok-stand.found in
+    let only = c.in-Ok-stand.ensures.only in
+    let stays = c.in-Ok-replay_found.ensures.only.stays in
+    let some = λ none. c.if-pending_count-eq0.false (c.pending_count.ensures ∙ ap length none) in
+    let early = free_before (g.R.Rack.seen c.args.rack) (g.R.Rack.seen (below_of found.slices)) (g.R.Rack.seen (below_of rest.slices)) found.scan.disks.items found.state (tables found.slices) found.log found.looked.pending found.looked.damaged
+    only stays c.in-Ok-stand.ensures.newest.scan c.in-Ok-stand.ensures.meant free in
+    let later = free_after (g.R.Rack.seen c.args.rack) (g.R.Rack.seen (below_of found.slices)) (g.R.Rack.seen (below_of rest.slices)) found.scan.disks.items found.state (tables found.slices) found.log found.looked.pending found.looked.damaged
+    only stays c.in-Ok-stand.ensures.newest.scan c.in-Ok-stand.ensures.meant free in
+    settled_after (g.R.Rack.seen c.args.rack) (g.R.Rack.seen (below_of found.slices)) (g.R.Rack.seen (below_of rest.slices)) found.scan.disks.items found.state rest.state found.log rest.log found.looked.pending rest.pending found.looked.damaged rest.damaged (tables found.slices)
+    only stays c.in-Ok-stand.ensures.newest.scan some told lasts early (c.in-Ok-stand.ensures.meant told early)
+    (since_rests (g.R.Rack.seen c.args.rack) (g.R.Rack.seen (below_of found.slices)) (g.R.Rack.seen (below_of rest.slices)) found.scan.disks.items found.state (tables found.slices) found.log found.looked.pending found.looked.damaged
+    only stays c.in-Ok-stand.ensures.newest.scan c.in-Ok-stand.ensures.meant c.in-Ok-replay_found.ensures.replayed told lasts free)
+    (c.in-Ok-replay_found.ensures.shut (none_flagged (g.R.Rack.seen c.args.rack) (g.R.Rack.seen (below_of found.slices)) found.scan.disks.items c.in-Ok-stand.ensures.newest.scan early)
+    (gone_none (g.R.Rack.seen c.args.rack) (g.R.Rack.seen (below_of found.slices)) (tables found.slices) found.on.items found.looked.gone.items found.log found.looked.pending found.looked.damaged c.in-Ok-stand.ensures.looked early)
+    (told_later (g.R.Rack.seen c.args.rack) (g.R.Rack.seen (below_of found.slices)) only.stays told)
+    (lasting_later (g.R.Rack.seen c.args.rack) (g.R.Rack.seen (below_of found.slices)) only.stays lasts) later some)
+    (returns-in-Ok-replay_found-clause-stands g c told lasts free) sound
+    (returns-in-Ok-replay_found-clause-means g c told lasts free)
+
+pub returns-then-pending_count-eq0-clause-settled : goal.returns-then-pending_count-eq0-clause-settled
+returns-then-pending_count-eq0-clause-settled g c = λ told lasts free sound.
+    let rest = c.as_it_stands.ensures in
+    let found = c.in-Ok-stand.found in
+    let still = subst (λ k. IsUnfaulted (g.R.Rack.seen c.args.rack) (g.R.Rack.seen (below_of k))) rest.slices free in
+    let none = no_elements found.log.pending (sym c.pending_count.ensures ∙ c.if-pending_count-eq0.true) in
+    subst (λ k. IsSettled (g.R.Rack.seen c.args.rack) (g.R.Rack.seen (below_of k)) c.as_it_stands.result.state c.as_it_stands.result.pending c.as_it_stands.result.damaged) (sym rest.slices)
+    (subst (λ d. IsSettled (g.R.Rack.seen c.args.rack) (g.R.Rack.seen (below_of c.in-Ok-stand.found.slices)) c.as_it_stands.result.state c.as_it_stands.result.pending d) (sym rest.damaged)
+    (subst (λ p. IsSettled (g.R.Rack.seen c.args.rack) (g.R.Rack.seen (below_of c.in-Ok-stand.found.slices)) c.as_it_stands.result.state p found.looked.damaged) (sym rest.pending)
+    (subst (λ s. IsSettled (g.R.Rack.seen c.args.rack) (g.R.Rack.seen (below_of c.in-Ok-stand.found.slices)) s found.looked.pending found.looked.damaged) (sym rest.state)
+    (settled_idle (g.R.Rack.seen c.args.rack) (g.R.Rack.seen (below_of c.in-Ok-stand.found.slices)) found.state (tables found.slices) found.log found.looked.pending found.looked.damaged
+    c.in-Ok-stand.ensures.only told lasts (c.in-Ok-stand.ensures.meant told still)
+    (idle_stands (g.R.Rack.seen c.args.rack) (g.R.Rack.seen (below_of c.in-Ok-stand.found.slices)) found.state (tables found.slices) found.log found.looked.pending found.looked.damaged c.in-Ok-stand.ensures.only
+    c.in-Ok-stand.ensures.meant none told lasts still) none sound
+    (idle_same (g.R.Rack.seen c.args.rack) (g.R.Rack.seen (below_of c.in-Ok-stand.found.slices)) found.state (tables found.slices) found.log found.looked.pending found.looked.damaged c.in-Ok-stand.ensures.only
+    c.in-Ok-stand.ensures.meant none told lasts still)))))
 
 pub returns-in-Ok-replay_found-clause-runs : goal.returns-in-Ok-replay_found-clause-runs
 returns-in-Ok-replay_found-clause-runs g c = g.met.R.Rack.runs_then _ _ _ c.in-Ok-stand.ensures.runs c.in-Ok-replay_found.ensures.runs

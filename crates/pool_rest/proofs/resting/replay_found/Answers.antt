@@ -6,10 +6,10 @@ use Rattle.pool_scan.specs.Choosing.{AreOf}
 use Rattle.std.proofs.Common.{◌≡◌, true, sym, subst}
 use Rattle.rack.specs.Sequences.{WritesOnly}
 use Rattle.slice_rack.specs.SliceRack.{tables, below_of}
-use Rattle.pool_rest.specs.Resting.{IsOfDrive, IsReplayed, StandsNow, seated_state}
+use Rattle.pool_rest.specs.Resting.{IsOfDrive, IsReplayed, AreShut, StandsNow, seated_state}
 use Rattle.pool_rest.specs.Standing.{IsLaid, IsLasting, IsNewest, IsOnePool, since}
 use Rattle.pool_rest.proofs.Agreeing.{told_later, lasting_later}
-use Rattle.pool_rest.proofs.Again.{replay_only, again_only, again_replayed, again_stands, laid_later, newest_since, cause_since}
+use Rattle.pool_rest.proofs.Again.{replay_only, again_only, again_replayed, again_stands, again_shut, laid_later, newest_since, cause_since}
 use Rattle.pool_rest.proofs.resting.replay_found.Goals as goal
 
 pub returns-in-Err-clause-back : goal.returns-in-Err-clause-back
@@ -94,3 +94,14 @@ returns-in-Err-clause-refused g c = λ told lasts.
     cause_since (g.R.Rack.seen (below_of c.args.found.slices)) (g.R.Rack.seen c.replay_on-done.result.rack) (g.R.Rack.seen c.in-Err.back.rack) c.in-Err.back.why
     only.stays c.in-Err.ensures.kept (told_later (g.R.Rack.seen (below_of c.args.found.slices)) (g.R.Rack.seen c.replay_on-done.result.rack) only.stays told) (lasting_later (g.R.Rack.seen (below_of c.args.found.slices)) (g.R.Rack.seen c.replay_on-done.result.rack) only.stays lasts)
     c.in-Err.ensures.refused
+
+pub returns-clause-shut : goal.returns-clause-shut
+returns-clause-shut g c = λ there nobody told lasts free some.
+    let whole = c.is_whole-whole.ensures there nobody in
+    let same = c.as_it_stands-rest.ensures.slices in
+    subst (λ k. AreShut (g.R.Rack.seen (below_of c.args.found.slices)) (g.R.Rack.seen (below_of k)) c.args.found.scan.disks.items c.args.found.state (seated_state c.args.found.log.pending c.args.found.state) c.args.found.log.number)
+    (sym same)
+    (again_shut g.R.Rack.seen (below_of c.args.found.slices) c.into_inner.result c.replay_on-done.result.rack (below_of c.in-Ok.again.slices) c.into_inner.ensures c.args.found.scan.disks.items c.args.found.state
+    c.seated_by-seated.result (seated_state c.args.found.log.pending c.args.found.state) c.seated_by-seated.ensures c.replay_on-done.ensures.only c.in-Ok.ensures.only
+    c.args.found.log.number c.requires.count (λ told lasts free. c.replay_on-done.ensures.shut whole told lasts free some) told lasts
+    (subst (λ k. IsUnfaulted (g.R.Rack.seen (below_of c.args.found.slices)) (g.R.Rack.seen (below_of k))) same free))
