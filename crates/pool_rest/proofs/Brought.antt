@@ -1,9 +1,9 @@
 -- What disks say once a record is written that brings copies of one state: the state, and the seats by it.
-use Rattle.std.proofs.Common.{◌≡◌, ◌⊎◌, ℕ, ◌+◌, ◌<◌, ◌≤◌, ◌==◌, ◌&&◌, Bool, true, false, nat_lt, bytes_eq, if◌then◌else◌, position, slice_get, List, [], ◌∷◌, length, map, Option, Some, None, Ok, unwrap_or, option_map, refl, sym, ap, ap₂, subst, ◌∙◌, inl, inr, arith, zero, suc, eqb-true, eq-eqb, lt-ltb, ltb-true}
+use Rattle.std.proofs.Common.{◌≡◌, ◌⊎◌, ℕ, ◌+◌, ◌<◌, ◌≤◌, ◌==◌, ◌||◌, not, Bool, true, false, nat_lt, bytes_eq, if◌then◌else◌, position, slice_get, List, [], ◌∷◌, length, map, Option, Some, None, Ok, unwrap_or, option_map, refl, sym, ap, ap₂, subst, ◌∙◌, inl, inr, arith, zero, suc, eqb-true, eq-eqb, lt-ltb, ltb-true}
 use Rattle.std.specs.Option.{option_map_or, option_and_then}
 use Rattle.std.specs.Result.{result_ok}
-use Rattle.std.specs.List.{filter_map, list_all, position_or_len, range_with_len}
-use Rattle.std.proofs.lemmas.Bool.{cases_Bool, cases_eq, both_ways, ne_eqb}
+use Rattle.std.specs.List.{filter_map, list_all, list_any, position_or_len, range_with_len}
+use Rattle.std.proofs.lemmas.Bool.{cases_eq, both_ways, ne_eqb, or_parts}
 use Rattle.std.proofs.lemmas.List.Quantifiers.{position-Some}
 use Rattle.std.proofs.lemmas.Option.{none-some, cond_some, slice_get_cases}
 use Rattle.std.proofs.lemmas.Slice.Eq.{bytes_eq-Decides}
@@ -19,9 +19,10 @@ use Rattle.array_image.specs.Foremost.{foremost}
 use Rattle.array_image.specs.Places.{log_slice, state_sector, arrays_first}
 use Rattle.array_image.specs.Record.{is_target, are_apart}
 use Rattle.array_image.specs.States.{epoch_of, is_current}
-use Rattle.pool_image.specs.Disks.{Disks, Identity, Identities, Candidate, id_at, id_by, stands_for, candidate, identities_of, newest, seat_of}
+use Rattle.pool_image.specs.Disks.{Disks, Identity, Identities, Candidate, all_disks, id_at, id_by, stands_for, candidate, identities_of, newest, seat_of}
 use Rattle.pool_image.specs.Replay.{landed}
 use Rattle.pool_image.proofs.Identities.{table_same}
+use Rattle.pool_scan.specs.Choosing.{has_pool_other_than}
 use Rattle.pool_scan.proofs.Seated.{foremost_from}
 use Rattle.pool_rest.specs.Resting.{replayed_on}
 use Rattle.pool_rest.proofs.Fronts.{Front, IsLow, low_all, low_foremost, front_all, front_new}
@@ -182,6 +183,28 @@ module _ (disks : Disks) (c : Image) (z : State) (xs : List Target) (valid : lis
             ap (λ (k : Option Copied). stands_for z (record { copied = k; table = (late d).table })) new.1.1
             ∙ id_stays z (early d) new.0 stood ∙ sym stood
       ]
+
+  -- no other pool comes
+  pub other_still : has_pool_other_than z.pool.0 disks early ≡ false → has_pool_other_than z.pool.0 disks late ≡ false
+  other_still none =
+      any_false (λ d. option_map_or (λ copy. not (bytes_eq copy.state.pool.0 z.pool.0)) (early d).copied false)
+      (λ d. option_map_or (λ copy. not (bytes_eq copy.state.pool.0 z.pool.0)) (late d).copied false) (all_disks disks) each none
+    where
+      any_false : (f g : ℕ → Bool) (ds : List ℕ) → ((d : ℕ) → f d ≡ false → g d ≡ false) → list_any f ds ≡ false → list_any g ds ≡ false
+      any_false f g [] each none = refl
+      any_false f g (d ∷ ds) each none =
+          let parts = or_parts (f d) (list_any f ds) none in
+          ap₂ (λ a b. a || b) (each d parts.0) (any_false f g ds each parts.1)
+
+      each : (d : ℕ) → option_map_or (λ copy. not (bytes_eq copy.state.pool.0 z.pool.0)) (early d).copied false ≡ false
+          → option_map_or (λ copy. not (bytes_eq copy.state.pool.0 z.pool.0)) (late d).copied false ≡ false
+      each d own =
+          elim (copied_or d) [
+            | inl same ↦ ap (λ (o : Option Copied). option_map_or (λ copy. not (bytes_eq copy.state.pool.0 z.pool.0)) o false) same ∙ own
+            | inr new ↦
+                ap (λ (o : Option Copied). option_map_or (λ copy. not (bytes_eq copy.state.pool.0 z.pool.0)) o false) new.1.1
+                ∙ ap not ((bytes_eq-Decides z.pool.0 z.pool.0).1 refl)
+          ]
 
   -- so each place has the disk that it had, where no copy was of a later epoch
   module _ (low : (d : ℕ) (copy : Copied) → d < disks.count → (early d).copied ≡ Some copy → copy.state.epoch ≤ z.epoch) where

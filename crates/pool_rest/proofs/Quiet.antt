@@ -19,23 +19,29 @@ use Rattle.array_image.specs.States.{is_current, current_places}
 use Rattle.pool_image.specs.Disks.{Disks, disks_of, identities_of, newest, seat_of}
 use Rattle.pool_image.specs.Replay.{Standing, standing, standing_by, written}
 use Rattle.pool_image.specs.Alike.{drive_gate, IsSameButGates, MeansTheSame}
-use Rattle.pool_image.proofs.Identities.{newest_same, same_but_gates, seat_same}
+use Rattle.pool_image.specs.Meaning.{has_other_pool}
+use Rattle.pool_image.proofs.Identities.{newest_same, other_same, same_but_gates, seat_same}
 use Rattle.pool_image.proofs.Rested.{stood_by}
 use Rattle.commit_log.specs.View.{LogView, names}
 use Rattle.commit_log.proofs.Counting.{is_listed}
 use Rattle.commit_log.proofs.Deciding.{nothing_pending, record_pending}
+use Rattle.commit_log.proofs.Replaying.{pending_sound}
 use Rattle.commit_log.proofs.Undamaged.{whole_gates, whole_record}
 use Rattle.pool_scan.specs.declared.Known.{Known}
-use Rattle.pool_scan.specs.Scanning.{AllTold, IsScan, IsUnfaulted, now_in}
-use Rattle.pool_scan.specs.Choosing.{AreOf, seat_by}
-use Rattle.pool_scan.proofs.Meant.{scan_meant}
+use Rattle.pool_scan.specs.Scanning.{AllTold, IsScan, IsUnfaulted, as_read, now_in}
+use Rattle.pool_scan.specs.Choosing.{AreOf, has_pool_other_than, seat_by}
+use Rattle.pool_scan.proofs.Meant.{scan_meant, newest_meant, other_meant}
 use Rattle.pool_scan.proofs.Seated.{seat_by_is}
-use Rattle.pool_rest.specs.Standing.{IsLasting, HasLooked, StandsAs}
+use Rattle.shr_base.specs.declared.Id.{Id}
+use Rattle.pool_rest.specs.declared.standing.FindFault.{FindFault}
+use Rattle.pool_rest.specs.declared.standing.FindFault.TheVariants.{NoPool, TwoPools, Memory}
+use Rattle.pool_rest.specs.Standing.{IsLasting, StandsAs, IsCause, since}
 use Rattle.pool_rest.specs.Resting.{AreShut, Rests, StandsNow, seated_state}
 use Rattle.pool_rest.specs.SoundLogs.{IsSoundLog, HasSoundLogs, IsSettled}
-use Rattle.pool_rest.proofs.Agreeing.{disks_same, reads_agree, logs_agree}
-use Rattle.pool_rest.proofs.Meant.{few_newest, gone_none}
-use Rattle.pool_rest.proofs.Settled.{seats_same, newest_now, none_now, whole_now}
+use Rattle.pool_rest.proofs.Agreeing.{disks_same, told_later, reads_agree, logs_agree}
+use Rattle.pool_rest.proofs.Brought.{other_still}
+use Rattle.pool_rest.proofs.Meant.{few_newest}
+use Rattle.pool_rest.proofs.Settled.{newest_now, none_now, whole_now}
 
 some_standing : (x y : Standing) → Some x ≡ Some y → x ≡ y
 some_standing x y same = (cc)
@@ -106,13 +112,11 @@ none_flagged a x known scan free = all known (λ d k at gone. free d ((scan.each
 
 -- ---- a record was replayed
 
-module _ (a x b : Seen) (known : List Known) (st s : State) (m l : LogView) (is_pending p_now : Bool) (damaged d_now : Option ℕ) (t : Slices)
+module _ (a x b : Seen) (known : List Known) (st : State) (m : LogView) (is_pending : Bool) (damaged : Option ℕ) (t : Slices)
     (reads : OnlyReads a x) (stays : Stays x b) (scan : IsScan a x known) (some : m.pending ≢ [])
     (told : AllTold a) (lasts : IsLasting a) (free : IsUnfaulted a x)
     (stands : StandsAs a st t m is_pending damaged)
     (rests : Rests a b (standing_by (disks_of a) (now_in a) st))
-    (shut : AreShut x b known st (seated_state m.pending st) m.number)
-    (now : StandsNow b s l p_now d_now)
     (sound : HasSoundLogs (disks_of a) (now_in a)) where
   abbrev disks : Disks
   disks = disks_of a
@@ -163,56 +167,85 @@ module _ (a x b : Seen) (known : List Known) (st s : State) (m l : LogView) (is_
   few_before : length st.drives.items ≤ 16
   few_before = few_newest a st newest_before
 
-  closed : (p d : ℕ) → is_current st p ≡ true → is_current brought p ≡ true → seat_of st disks (identities_of disks c) p ≡ Some d
-      → seat_of brought disks (identities_of disks c) p ≡ Some d → arrays_first ≤ disks.sectors d → gate_of (e d drive_gate) ≡ Some (record { is_open = false; number = m.number })
-  closed p d was is seat_was seat_is room =
-      subst (λ z. AreShut x b known st z m.number) (ap (λ (xs : List Target). seated_state xs st) targets) shut
-      p d (let listed = is_listed st p was in omega (arith, listed, few_before))
-      (seat_by_is disks (identities_of disks c) known are st p ∙ seat_was) (seat_by_is disks (identities_of disks c) known are brought p ∙ seat_is)
-      (subst (λ n. arrays_first ≤ n) (sym (reads.stays.sectors d)) room)
+  told_now : AllTold b
+  told_now = told_later a b (stays_then reads.stays stays) told
 
-  kept : (d : ℕ) → d < disks.count → arrays_first ≤ disks.sectors d
-      → (e d drive_gate ≡ c d drive_gate) ⊎ ((g : Gate) × (gate_of (e d drive_gate) ≡ Some g) × (g.is_open ≡ false))
-  kept d there room =
-      elim (rests.gates d there (omega (arith, room))) [
-        | inl same ↦ inl same
-        | inr shut ↦ inr (shut.gate, shut.has, shut.closed)
-      ]
+  other_now : has_other_pool (disks_of a) (standing_by (disks_of a) (now_in a) st) ≡ false → has_pool_other_than brought.pool.0 disks (identities_of disks e) ≡ false
+  other_now one =
+      other_same disks (identities_of disks e) (identities_of disks (written disks before c)) same_contents.identities brought.pool.0
+      ∙ other_still disks c brought before.targets (pending_sound (current_places st) before.logs).valid (pending_sound (current_places st) before.logs).apart log.copies
+      (ap (λ (pool : Id). has_pool_other_than pool.0 disks (identities_of disks c)) log.pool ∙ one)
 
   newest_after : newest disks (identities_of disks e) ≡ Some brought
-  newest_after =
-      newest_now disks c e st brought m.number newest_before log few_before late newest_late source.0 source.1 (stands.number lasts source.0 source.1) closed kept
+  newest_after = newest_now disks c e st brought newest_before log few_before late newest_late source.0 source.1
 
-  pub settled_state : s ≡ brought
-  settled_state =
-      some_state s brought
-      (sym (newest_of (disks_of b) e s now.stands)
+  -- whatever refuses a pool after the replay isn't there
+  pub no_cause : (why : FindFault) → has_other_pool (disks_of a) (standing_by (disks_of a) (now_in a) st) ≡ false → IsUnfaulted a b → why ≢ Memory
+      → IsCause (since a b) b why → ⊥
+  no_cause NoPool one still found cause =
+      none-some brought
+      (sym (cause.2 told_now) ∙ newest_meant (since a b) b cause.0 cause.1 told_now still
       ∙ ap (λ (dk : Disks). newest dk (identities_of dk e)) (disks_same a b (stays_then reads.stays stays)) ∙ newest_after)
+  no_cause TwoPools one still found cause =
+      let two = cause.2 told_now in
+      let same : two.0 ≡ brought =
+      some_state two.0 brought
+      (sym two.1 ∙ newest_meant (since a b) b cause.0 cause.1 told_now still
+      ∙ ap (λ (dk : Disks). newest dk (identities_of dk e)) (disks_same a b (stays_then reads.stays stays)) ∙ newest_after) in
+      both_ways false refl
+      (sym (other_now one)
+      ∙ ap (λ (dk : Disks). has_pool_other_than brought.pool.0 dk (identities_of dk e)) (sym (disks_same a b (stays_then reads.stays stays)))
+      ∙ sym (other_meant (since a b) b brought.pool.0 cause.0 cause.1 told_now still)
+      ∙ ap (λ (z : State). has_pool_other_than z.pool.0 (disks_of b) (as_read (since a b) cause.0)) (sym same) ∙ two.2)
+  no_cause Memory one still found cause = found refl
 
-  none_after : pending_at (current_places s) (standing_by (disks_of b) e s).logs ≡ None
-  none_after =
-      ap₂ (λ (dk : Disks) (z : State). pending_at (current_places z) (standing_by dk e z).logs) (disks_same a b (stays_then reads.stays stays)) settled_state
-      ∙ none_now disks c e st brought m.number newest_before log few_before late newest_late source.0 source.1 (stands.number lasts source.0 source.1) closed kept
+  module _ (s : State) (l : LogView) (p_now : Bool) (d_now : Option ℕ) (shut : AreShut x b known st (seated_state m.pending st) m.number) (now : StandsNow b s l p_now d_now) where
+    closed : (p d : ℕ) → is_current st p ≡ true → is_current brought p ≡ true → seat_of st disks (identities_of disks c) p ≡ Some d
+        → seat_of brought disks (identities_of disks c) p ≡ Some d → arrays_first ≤ disks.sectors d → gate_of (e d drive_gate) ≡ Some (record { is_open = false; number = m.number })
+    closed p d was is seat_was seat_is room =
+        subst (λ z. AreShut x b known st z m.number) (ap (λ (xs : List Target). seated_state xs st) targets) shut
+        p d (let listed = is_listed st p was in omega (arith, listed, few_before))
+        (seat_by_is disks (identities_of disks c) known are st p ∙ seat_was) (seat_by_is disks (identities_of disks c) known are brought p ∙ seat_is)
+        (subst (λ n. arrays_first ≤ n) (sym (reads.stays.sectors d)) room)
 
-  whole_after : damaged_log (current_places s) (standing_by (disks_of b) e s).logs ≡ None
-  whole_after =
-      ap₂ (λ (dk : Disks) (z : State). damaged_log (current_places z) (standing_by dk e z).logs) (disks_same a b (stays_then reads.stays stays)) settled_state
-      ∙ whole_now disks c e st brought m.number newest_before log few_before late newest_late source.0 source.1 (stands.number lasts source.0 source.1) closed kept
+    kept : (d : ℕ) → d < disks.count → arrays_first ≤ disks.sectors d
+        → (e d drive_gate ≡ c d drive_gate) ⊎ ((g : Gate) × (gate_of (e d drive_gate) ≡ Some g) × (g.is_open ≡ false))
+    kept d there room =
+        elim (rests.gates d there (omega (arith, room))) [
+          | inl same ↦ inl same
+          | inr shut ↦ inr (shut.gate, shut.has, shut.closed)
+        ]
 
-  pub settled_after : (p_now ≡ false → d_now ≡ None → MeansTheSame (disks_of a) (now_in a) (now_in b)) → IsSettled a b s p_now d_now
-  settled_after means = record {
-    idle = idle;
-    whole = whole;
-    state = λ y is. settled_state ∙ ap (λ (z : Standing). seated_state z.targets z.state) (some_standing before y (sym stands.stands ∙ is));
-    none = none_after;
-    means = means idle whole;
-  }
-    where
-      idle : p_now ≡ false
-      idle = now.pending ∙ ap is_some none_after
+    pub settled_state : s ≡ brought
+    settled_state =
+        some_state s brought
+        (sym (newest_of (disks_of b) e s now.stands)
+        ∙ ap (λ (dk : Disks). newest dk (identities_of dk e)) (disks_same a b (stays_then reads.stays stays)) ∙ newest_after)
 
-      whole : d_now ≡ None
-      whole = now.damaged ∙ whole_after
+    none_after : pending_at (current_places s) (standing_by (disks_of b) e s).logs ≡ None
+    none_after =
+        ap₂ (λ (dk : Disks) (z : State). pending_at (current_places z) (standing_by dk e z).logs) (disks_same a b (stays_then reads.stays stays)) settled_state
+        ∙ none_now disks c e st brought newest_before log few_before late newest_late source.0 source.1 m.number (stands.number lasts source.0 source.1) closed kept
+
+    whole_after : damaged_log (current_places s) (standing_by (disks_of b) e s).logs ≡ None
+    whole_after =
+        ap₂ (λ (dk : Disks) (z : State). damaged_log (current_places z) (standing_by dk e z).logs) (disks_same a b (stays_then reads.stays stays)) settled_state
+        ∙ whole_now disks c e st brought newest_before log few_before late newest_late source.0 source.1 m.number (stands.number lasts source.0 source.1) closed kept
+
+    pub settled_after : (p_now ≡ false → d_now ≡ None → MeansTheSame (disks_of a) (now_in a) (now_in b)) → IsSettled a b s p_now d_now
+    settled_after means = record {
+      idle = idle;
+      whole = whole;
+      state = λ y is. settled_state ∙ ap (λ (z : Standing). seated_state z.targets z.state) (some_standing before y (sym stands.stands ∙ is));
+      none = none_after;
+      means = means idle whole;
+    }
+      where
+        idle : p_now ≡ false
+        idle = now.pending ∙ ap is_some none_after
+
+        whole : d_now ≡ None
+        whole = now.damaged ∙ whole_after
 
 -- ---- nothing was to be replayed
 

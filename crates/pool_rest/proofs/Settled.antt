@@ -108,17 +108,13 @@ none_open c ps number q named closed over = of_pending (pending_at ps c) refl
 
 -- ---- what the disks hold
 
-module _ (disks : Disks) (c e : Image) (st s : State) (number : ℕ)
+module _ (disks : Disks) (c e : Image) (st s : State)
     (newest_before : newest disks (identities_of disks c) ≡ Some st)
     (sound : IsSoundLog disks c (standing_by disks c st) s)
     (few_before : length st.drives.items ≤ 16)
     (late : (p : ℕ) → seat_of s disks (identities_of disks e) p ≡ seat_of s disks (identities_of disks (replayed_on disks s (standing_by disks c st).targets c)) p)
     (newest_late : newest disks (identities_of disks e) ≡ newest disks (identities_of disks (replayed_on disks s (standing_by disks c st).targets c)))
-    (a : GateAt) (source : pending_at (current_places st) (standing_by disks c st).logs ≡ Some a) (numbered : a.gate.number ≡ number)
-    (shut : (p d : ℕ) → is_current st p ≡ true → is_current s p ≡ true → seat_of st disks (identities_of disks c) p ≡ Some d → seat_of s disks (identities_of disks c) p ≡ Some d
-        → arrays_first ≤ disks.sectors d → gate_of (e d drive_gate) ≡ Some (record { is_open = false; number = number }))
-    (kept : (d : ℕ) → d < disks.count → arrays_first ≤ disks.sectors d
-        → (e d drive_gate ≡ c d drive_gate) ⊎ ((g : Gate) × (gate_of (e d drive_gate) ≡ Some g) × (g.is_open ≡ false))) where
+    (a : GateAt) (source : pending_at (current_places st) (standing_by disks c st).logs ≡ Some a) where
   abbrev before : Standing
   before = standing_by disks c st
 
@@ -199,69 +195,74 @@ module _ (disks : Disks) (c e : Image) (st s : State) (number : ℕ)
         | inr next ↦ (let copy = next.copy a source in few_drives copy.0 (record { state = s; own = a.place }) (ap result_ok (sound.copies a.place copy.0 copy.1)))
       ]
 
-  abbrev after : Standing
-  after = standing_by disks e s
+  module _ (number : ℕ) (numbered : a.gate.number ≡ number)
+      (shut : (p d : ℕ) → is_current st p ≡ true → is_current s p ≡ true → seat_of st disks (identities_of disks c) p ≡ Some d → seat_of s disks (identities_of disks c) p ≡ Some d
+          → arrays_first ≤ disks.sectors d → gate_of (e d drive_gate) ≡ Some (record { is_open = false; number = number }))
+      (kept : (d : ℕ) → d < disks.count → arrays_first ≤ disks.sectors d
+          → (e d drive_gate ≡ c d drive_gate) ⊎ ((g : Gate) × (gate_of (e d drive_gate) ≡ Some g) × (g.is_open ≡ false))) where
+    abbrev after : Standing
+    after = standing_by disks e s
 
-  -- what the gate of a current place is
-  abbrev IsPast : List ℕ → Type 0
-  IsPast block = (is_bad_block block ≡ false) × ((g : Gate) → gate_of block ≡ Some g → IsOver number g)
+    -- what the gate of a current place is
+    abbrev IsPast : List ℕ → Type 0
+    IsPast block = (is_bad_block block ≡ false) × ((g : Gate) → gate_of block ≡ Some g → IsOver number g)
 
-  nothing_past : IsPast []
-  nothing_past = (refl, λ g is. absurd (none-some g (sym no_gate_in_nothing ∙ is)))
+    nothing_past : IsPast []
+    nothing_past = (refl, λ g is. absurd (none-some g (sym no_gate_in_nothing ∙ is)))
 
-  closed_past : (block : List ℕ) (g : Gate) → gate_of block ≡ Some g → g.is_open ≡ false → IsPast block
-  closed_past block g is shut = (
-    ap (λ (o : Option Gate). is_there block && is_none o) is ∙ and_false (is_there block),
-    λ h at. inl (ap (λ (k : Gate). k.is_open) (some_gate h g (sym at ∙ is)) ∙ shut),
-  )
-    where
-      and_false : (b : Bool) → (b && false) ≡ false
-      and_false true = refl
-      and_false false = refl
+    closed_past : (block : List ℕ) (g : Gate) → gate_of block ≡ Some g → g.is_open ≡ false → IsPast block
+    closed_past block g is shut = (
+      ap (λ (o : Option Gate). is_there block && is_none o) is ∙ and_false (is_there block),
+      λ h at. inl (ap (λ (k : Gate). k.is_open) (some_gate h g (sym at ∙ is)) ∙ shut),
+    )
+      where
+        and_false : (b : Bool) → (b && false) ≡ false
+        and_false true = refl
+        and_false false = refl
 
-      some_gate : (h k : Gate) → Some h ≡ Some k → h ≡ k
-      some_gate h k same = (cc)
+        some_gate : (h k : Gate) → Some h ≡ Some k → h ≡ k
+        some_gate h k same = (cc)
 
-  gate_past : (p : ℕ) → is_current s p ≡ true → IsPast (after.logs (log_slice p) gate_sector)
-  gate_past p current =
-      subst IsPast (sym (log_read disks s (identities_of disks e) e p ∙ ap (log_gate disks e) (seats_same p)))
-      (of_seat (seat_of s disks (identities_of disks c) p) refl)
-    where
-      of_state : (d : ℕ) → seat_of s disks (identities_of disks c) p ≡ Some d → arrays_first ≤ disks.sectors d
-          → (is_current st p ≡ true) ⊎ (is_current st p ≡ false) → IsPast (e d drive_gate)
-      of_state d seat room (inl was) =
-          closed_past (e d drive_gate) (record { is_open = false; number = number })
-          (shut p d was current (sym (sound.seats p was current) ∙ seat) seat room) refl
-      of_state d seat room (inr joins) =
-          elim (kept d (seat_inside s disks (identities_of disks c) p d seat) room) [
-            | inr closed ↦ closed_past (e d drive_gate) closed.0 closed.1 closed.2
-            | inl same ↦
-                let up = sound.joining a p d source joins seat room in
-                subst IsPast (sym same) (up.formed, λ g is. inr (let most = up.low g is in omega (arith, most, numbered)))
-          ]
+    gate_past : (p : ℕ) → is_current s p ≡ true → IsPast (after.logs (log_slice p) gate_sector)
+    gate_past p current =
+        subst IsPast (sym (log_read disks s (identities_of disks e) e p ∙ ap (log_gate disks e) (seats_same p)))
+        (of_seat (seat_of s disks (identities_of disks c) p) refl)
+      where
+        of_state : (d : ℕ) → seat_of s disks (identities_of disks c) p ≡ Some d → arrays_first ≤ disks.sectors d
+            → (is_current st p ≡ true) ⊎ (is_current st p ≡ false) → IsPast (e d drive_gate)
+        of_state d seat room (inl was) =
+            closed_past (e d drive_gate) (record { is_open = false; number = number })
+            (shut p d was current (sym (sound.seats p was current) ∙ seat) seat room) refl
+        of_state d seat room (inr joins) =
+            elim (kept d (seat_inside s disks (identities_of disks c) p d seat) room) [
+              | inr closed ↦ closed_past (e d drive_gate) closed.0 closed.1 closed.2
+              | inl same ↦
+                  let up = sound.joining a p d source joins seat room in
+                  subst IsPast (sym same) (up.formed, λ g is. inr (let most = up.low g is in omega (arith, most, numbered)))
+            ]
 
-      of_room : (d : ℕ) → seat_of s disks (identities_of disks c) p ≡ Some d → (b : Bool) → nat_le arrays_first (disks.sectors d) ≡ b
-          → IsPast (option_map_or (λ (x : Extent). e d (x.first + gate_sector)) (if b then Some (record { first = state_sector; sectors = log_sectors }) else None) [])
-      of_room d seat true room = of_state d seat (leb-true arrays_first (disks.sectors d) room) (cases_Bool (is_current st p))
-      of_room d seat false room = nothing_past
+        of_room : (d : ℕ) → seat_of s disks (identities_of disks c) p ≡ Some d → (b : Bool) → nat_le arrays_first (disks.sectors d) ≡ b
+            → IsPast (option_map_or (λ (x : Extent). e d (x.first + gate_sector)) (if b then Some (record { first = state_sector; sectors = log_sectors }) else None) [])
+        of_room d seat true room = of_state d seat (leb-true arrays_first (disks.sectors d) room) (cases_Bool (is_current st p))
+        of_room d seat false room = nothing_past
 
-      of_seat : (o : Option ℕ) → seat_of s disks (identities_of disks c) p ≡ o → IsPast (log_gate disks e o)
-      of_seat None seat = nothing_past
-      of_seat (Some d) seat = of_room d seat (nat_le arrays_first (disks.sectors d)) refl
+        of_seat : (o : Option ℕ) → seat_of s disks (identities_of disks c) p ≡ o → IsPast (log_gate disks e o)
+        of_seat None seat = nothing_past
+        of_seat (Some d) seat = of_room d seat (nat_le arrays_first (disks.sectors d)) refl
 
-  source_closed : gate_in after.logs a.place ≡ Some (record { is_open = false; number = number })
-  source_closed =
-      ap gate_of (log_read disks s (identities_of disks e) e a.place ∙ ap (log_gate disks e) (seats_same a.place ∙ source_seat)
-      ∙ ap (λ b. option_map_or (λ (x : Extent). e source_disk.0 (x.first + gate_sector)) (if b then Some (record { first = state_sector; sectors = log_sectors }) else None) [])
-      (le-leb arrays_first (disks.sectors source_disk.0) source_disk.2))
-      ∙ shut a.place source_disk.0 source_current source_later source_disk.1 source_seat source_disk.2
+    source_closed : gate_in after.logs a.place ≡ Some (record { is_open = false; number = number })
+    source_closed =
+        ap gate_of (log_read disks s (identities_of disks e) e a.place ∙ ap (log_gate disks e) (seats_same a.place ∙ source_seat)
+        ∙ ap (λ b. option_map_or (λ (x : Extent). e source_disk.0 (x.first + gate_sector)) (if b then Some (record { first = state_sector; sectors = log_sectors }) else None) [])
+        (le-leb arrays_first (disks.sectors source_disk.0) source_disk.2))
+        ∙ shut a.place source_disk.0 source_current source_later source_disk.1 source_seat source_disk.2
 
-  pub none_now : pending_at (current_places s) after.logs ≡ None
-  none_now =
-      none_open after.logs (current_places s) number a.place (named_of s a.place few source_later) source_closed
-      (λ p g named is. (gate_past p (current_of s p few named)).1 g is)
+    pub none_now : pending_at (current_places s) after.logs ≡ None
+    none_now =
+        none_open after.logs (current_places s) number a.place (named_of s a.place few source_later) source_closed
+        (λ p g named is. (gate_past p (current_of s p few named)).1 g is)
 
-  pub whole_now : damaged_log (current_places s) after.logs ≡ None
-  whole_now =
-      whole_from after.logs (current_places s) (λ p named. (gate_past p (current_of s p few named)).0)
-      (λ x is. absurd (none-some x (sym none_now ∙ is)))
+    pub whole_now : damaged_log (current_places s) after.logs ≡ None
+    whole_now =
+        whole_from after.logs (current_places s) (λ p named. (gate_past p (current_of s p few named)).0)
+        (λ x is. absurd (none-some x (sym none_now ∙ is)))

@@ -382,6 +382,11 @@ fn replay_found<R: Rack>(
     ensures runs { IfOk result (λ r. R.runs (below_of found.slices) (below_of r.slices)) }
     ensures back { IfErr result (λ back. WritesOnly (R.seen (below_of found.slices)) (R.seen back.rack)
         (IsOfDrive (R.seen (below_of found.slices)) found.scan.disks.items (seated_state found.log.pending found.state))) }
+    ensures wrote { IfErr result (λ back. AllTold (R.seen (below_of found.slices)) → IsLasting (R.seen (below_of found.slices))
+        → IsUnfaulted (R.seen (below_of found.slices)) (R.seen back.rack)
+        → AreOf (disks_of (R.seen (below_of found.slices))) (identities_of (disks_of (R.seen (below_of found.slices))) (now_in (R.seen (below_of found.slices)))) found.scan.disks.items
+        → list_all is_target found.log.pending ≡ true
+        → IsReplayed (R.seen (below_of found.slices)) (R.seen back.rack) found.state (seated_state found.log.pending found.state) found.log.pending) }
     ensures found { IfErr result (λ back. back.why ≢ FindFault.Memory) }
     ensures refused { IfErr result (λ back. AllTold (R.seen (below_of found.slices)) → IsLasting (R.seen (below_of found.slices))
         → IsCause (since (R.seen (below_of found.slices)) (R.seen back.rack)) (R.seen back.rack) back.why) }
@@ -448,9 +453,12 @@ pub fn bring_to_rest<R: Rack>(alloc: Global, rack: R) -> Result<AtRest<R>, Back<
     ensures runs { IfOk result (λ r. R.runs rack (below_of r.slices)) }
     ensures back { IfErr result (λ back. OnlyReads (R.seen rack) (R.seen back.rack) ⊎ WritesDrives (R.seen rack) (R.seen back.rack)) }
     ensures refused { IfErr result (λ back. IsRefused (R.seen rack) (R.seen back.rack) back.why) }
-    // Where no disk refused a call, the meaning of what the disks held or hold has this refusal.
+    // Where no disk refused a call, the meaning of images has this refusal, or two pools are there only once the record is written.
     ensures exact { IfErr result (λ back. AllTold (R.seen rack) → IsLasting (R.seen rack) → IsUnfaulted (R.seen rack) (R.seen back.rack)
-        → IsMeant (R.seen rack) back.why ⊎ IsMeant (R.seen back.rack) back.why) }
+        → IsMeant (R.seen rack) back.why ⊎ ((back.why ≡ FindFault.TwoPools) × IsMeant (R.seen back.rack) back.why)) }
+    // And where the logs were sound too, no pool is refused once anything is written.
+    ensures found { IfErr result (λ back. AllTold (R.seen rack) → IsLasting (R.seen rack) → IsUnfaulted (R.seen rack) (R.seen back.rack)
+        → HasSoundLogs (disks_of (R.seen rack)) (now_in (R.seen rack)) → OnlyReads (R.seen rack) (R.seen back.rack)) }
     // Want of memory is found before any call to the rack.
     ensures memory { IfErr result (λ back. back.why ≡ FindFault.Memory → back.rack ≡ rack) }
     ensures returned { IfErr result (λ back. R.runs rack back.rack) }

@@ -8,10 +8,11 @@ use Rattle.pool_scan.specs.Scanning.{IsUnfaulted, now_in}
 use Rattle.pool_rest.specs.Standing.{IsLaid, IsNewest, IsOnePool, since}
 use Rattle.pool_rest.specs.Resting.{RestsSo, StandsNow, WritesDrives, seated_state}
 use Rattle.pool_rest.proofs.Agreeing.{told_later, lasting_later}
-use Rattle.pool_rest.proofs.Meant.{cause_meant, gone_none}
+use Rattle.pool_rest.proofs.Meant.{gone_none}
 use Rattle.pool_rest.proofs.Again.{laid_later, newest_still, newest_from, cause_from, single_now}
 use Rattle.pool_rest.specs.SoundLogs.{IsSettled}
-use Rattle.pool_rest.proofs.Quiet.{none_flagged, settled_after, settled_idle}
+use Rattle.pool_rest.proofs.Refusals.{meant_after}
+use Rattle.pool_rest.proofs.Quiet.{none_flagged, no_cause, settled_after, settled_idle}
 use Rattle.pool_rest.proofs.Joined.{no_elements, writes_idle, writes_since, free_before, free_after, since_rests, since_so, since_stands, since_means, idle_so, idle_stands, idle_same}
 use Rattle.pool_rest.proofs.resting.bring_to_rest.Goals as goal
 
@@ -109,15 +110,16 @@ returns-in-Ok-replay_found-clause-settled g c = λ told lasts free sound.
     only stays c.in-Ok-stand.ensures.newest.scan c.in-Ok-stand.ensures.meant free in
     let later = free_after (g.R.Rack.seen c.args.rack) (g.R.Rack.seen (below_of found.slices)) (g.R.Rack.seen (below_of rest.slices)) found.scan.disks.items found.state (tables found.slices) found.log found.looked.pending found.looked.damaged
     only stays c.in-Ok-stand.ensures.newest.scan c.in-Ok-stand.ensures.meant free in
-    settled_after (g.R.Rack.seen c.args.rack) (g.R.Rack.seen (below_of found.slices)) (g.R.Rack.seen (below_of rest.slices)) found.scan.disks.items found.state rest.state found.log rest.log found.looked.pending rest.pending found.looked.damaged rest.damaged (tables found.slices)
+    settled_after (g.R.Rack.seen c.args.rack) (g.R.Rack.seen (below_of found.slices)) (g.R.Rack.seen (below_of rest.slices)) found.scan.disks.items found.state found.log found.looked.pending found.looked.damaged (tables found.slices)
     only stays c.in-Ok-stand.ensures.newest.scan some told lasts early (c.in-Ok-stand.ensures.meant told early)
     (since_rests (g.R.Rack.seen c.args.rack) (g.R.Rack.seen (below_of found.slices)) (g.R.Rack.seen (below_of rest.slices)) found.scan.disks.items found.state (tables found.slices) found.log found.looked.pending found.looked.damaged
     only stays c.in-Ok-stand.ensures.newest.scan c.in-Ok-stand.ensures.meant c.in-Ok-replay_found.ensures.replayed told lasts free)
+    sound rest.state rest.log rest.pending rest.damaged
     (c.in-Ok-replay_found.ensures.shut (none_flagged (g.R.Rack.seen c.args.rack) (g.R.Rack.seen (below_of found.slices)) found.scan.disks.items c.in-Ok-stand.ensures.newest.scan early)
     (gone_none (g.R.Rack.seen c.args.rack) (g.R.Rack.seen (below_of found.slices)) (tables found.slices) found.on.items found.looked.gone.items found.log found.looked.pending found.looked.damaged c.in-Ok-stand.ensures.looked early)
     (told_later (g.R.Rack.seen c.args.rack) (g.R.Rack.seen (below_of found.slices)) only.stays told)
     (lasting_later (g.R.Rack.seen c.args.rack) (g.R.Rack.seen (below_of found.slices)) only.stays lasts) later some)
-    (returns-in-Ok-replay_found-clause-stands g c told lasts free) sound
+    (returns-in-Ok-replay_found-clause-stands g c told lasts free)
     (returns-in-Ok-replay_found-clause-means g c told lasts free)
 
 pub returns-then-pending_count-eq0-clause-settled : goal.returns-then-pending_count-eq0-clause-settled
@@ -188,17 +190,43 @@ returns-in-Err-replay_found-clause-refused g c =
           (lasting_later (g.R.Rack.seen c.args.rack) (g.R.Rack.seen (below_of c.in-Ok-stand.found.slices)) c.in-Ok-stand.ensures.only.stays lasts));
     })
 
+pub returns-in-Err-stand-clause-found : goal.returns-in-Err-stand-clause-found
+returns-in-Err-stand-clause-found g c = λ told lasts free sound. c.in-Err-stand.ensures.kept
+
 pub returns-in-Err-replay_found-clause-exact : goal.returns-in-Err-replay_found-clause-exact
 returns-in-Err-replay_found-clause-exact g c = λ told lasts free.
-    let stays = stays_then c.in-Ok-stand.ensures.only.stays c.in-Err-replay_found.ensures.back.stays in
-    inr
-    (cause_meant (since (g.R.Rack.seen c.args.rack) (g.R.Rack.seen c.in-Err-replay_found.back.rack)) (g.R.Rack.seen c.in-Err-replay_found.back.rack) c.in-Err-replay_found.back.why
-    (cause_from (g.R.Rack.seen c.args.rack) (g.R.Rack.seen (below_of c.in-Ok-stand.found.slices)) (g.R.Rack.seen c.in-Err-replay_found.back.rack) c.in-Err-replay_found.back.why
-    c.in-Ok-stand.ensures.only.stays
+    let found = c.in-Ok-stand.found in
+    let only = c.in-Ok-stand.ensures.only in
+    let stays = c.in-Err-replay_found.ensures.back.stays in
+    let early = free_before (g.R.Rack.seen c.args.rack) (g.R.Rack.seen (below_of found.slices)) (g.R.Rack.seen c.in-Err-replay_found.back.rack) found.scan.disks.items found.state (tables found.slices) found.log found.looked.pending found.looked.damaged
+    only stays c.in-Ok-stand.ensures.newest.scan c.in-Ok-stand.ensures.meant free in
+    meant_after (g.R.Rack.seen c.args.rack) (g.R.Rack.seen (below_of found.slices)) (g.R.Rack.seen c.in-Err-replay_found.back.rack) found.state only stays told free (c.in-Ok-stand.ensures.meant told early).stands
+    (c.in-Ok-stand.ensures.single told early)
+    (since_rests (g.R.Rack.seen c.args.rack) (g.R.Rack.seen (below_of found.slices)) (g.R.Rack.seen c.in-Err-replay_found.back.rack) found.scan.disks.items found.state (tables found.slices) found.log found.looked.pending found.looked.damaged
+    only stays c.in-Ok-stand.ensures.newest.scan c.in-Ok-stand.ensures.meant c.in-Err-replay_found.ensures.wrote told lasts free)
+    c.in-Err-replay_found.back.why c.in-Err-replay_found.ensures.found
+    (cause_from (g.R.Rack.seen c.args.rack) (g.R.Rack.seen (below_of found.slices)) (g.R.Rack.seen c.in-Err-replay_found.back.rack) c.in-Err-replay_found.back.why only.stays
     (c.in-Err-replay_found.ensures.refused
-    (told_later (g.R.Rack.seen c.args.rack) (g.R.Rack.seen (below_of c.in-Ok-stand.found.slices)) c.in-Ok-stand.ensures.only.stays told)
-    (lasting_later (g.R.Rack.seen c.args.rack) (g.R.Rack.seen (below_of c.in-Ok-stand.found.slices)) c.in-Ok-stand.ensures.only.stays lasts)))
-    (told_later (g.R.Rack.seen c.args.rack) (g.R.Rack.seen c.in-Err-replay_found.back.rack) stays told) free)
+    (told_later (g.R.Rack.seen c.args.rack) (g.R.Rack.seen (below_of found.slices)) only.stays told)
+    (lasting_later (g.R.Rack.seen c.args.rack) (g.R.Rack.seen (below_of found.slices)) only.stays lasts)))
+
+pub returns-in-Err-replay_found-clause-found : goal.returns-in-Err-replay_found-clause-found
+returns-in-Err-replay_found-clause-found g c = λ told lasts free sound.
+    let found = c.in-Ok-stand.found in
+    let only = c.in-Ok-stand.ensures.only in
+    let stays = c.in-Err-replay_found.ensures.back.stays in
+    let early = free_before (g.R.Rack.seen c.args.rack) (g.R.Rack.seen (below_of found.slices)) (g.R.Rack.seen c.in-Err-replay_found.back.rack) found.scan.disks.items found.state (tables found.slices) found.log found.looked.pending found.looked.damaged
+    only stays c.in-Ok-stand.ensures.newest.scan c.in-Ok-stand.ensures.meant free in
+    absurd
+    (no_cause (g.R.Rack.seen c.args.rack) (g.R.Rack.seen (below_of found.slices)) (g.R.Rack.seen c.in-Err-replay_found.back.rack) found.scan.disks.items found.state found.log found.looked.pending found.looked.damaged (tables found.slices)
+    only stays c.in-Ok-stand.ensures.newest.scan (λ none. c.if-pending_count-eq0.false (c.pending_count.ensures ∙ ap length none)) told lasts early (c.in-Ok-stand.ensures.meant told early)
+    (since_rests (g.R.Rack.seen c.args.rack) (g.R.Rack.seen (below_of found.slices)) (g.R.Rack.seen c.in-Err-replay_found.back.rack) found.scan.disks.items found.state (tables found.slices) found.log found.looked.pending found.looked.damaged
+    only stays c.in-Ok-stand.ensures.newest.scan c.in-Ok-stand.ensures.meant c.in-Err-replay_found.ensures.wrote told lasts free)
+    sound c.in-Err-replay_found.back.why (c.in-Ok-stand.ensures.single told early) free c.in-Err-replay_found.ensures.found
+    (cause_from (g.R.Rack.seen c.args.rack) (g.R.Rack.seen (below_of found.slices)) (g.R.Rack.seen c.in-Err-replay_found.back.rack) c.in-Err-replay_found.back.why only.stays
+    (c.in-Err-replay_found.ensures.refused
+    (told_later (g.R.Rack.seen c.args.rack) (g.R.Rack.seen (below_of found.slices)) only.stays told)
+    (lasting_later (g.R.Rack.seen c.args.rack) (g.R.Rack.seen (below_of found.slices)) only.stays lasts))))
 
 pub returns-in-Err-replay_found-clause-returned : goal.returns-in-Err-replay_found-clause-returned
 returns-in-Err-replay_found-clause-returned g c = g.met.R.Rack.runs_then _ _ _ c.in-Ok-stand.ensures.runs c.in-Err-replay_found.ensures.returned

@@ -105,3 +105,8 @@ returns-clause-shut g c = λ there nobody told lasts free some.
     c.seated_by-seated.result (seated_state c.args.found.log.pending c.args.found.state) c.seated_by-seated.ensures c.replay_on-done.ensures.only c.in-Ok.ensures.only
     c.args.found.log.number c.requires.count (λ told lasts free. c.replay_on-done.ensures.shut whole told lasts free some) told lasts
     (subst (λ k. IsUnfaulted (g.R.Rack.seen (below_of c.args.found.slices)) (g.R.Rack.seen (below_of k))) same free))
+
+pub returns-in-Err-clause-wrote : goal.returns-in-Err-clause-wrote
+returns-in-Err-clause-wrote g c =
+    again_replayed g.R.Rack.seen (below_of c.args.found.slices) c.into_inner.result c.replay_on-done.result.rack c.in-Err.back.rack c.into_inner.ensures c.args.found.scan.disks.items c.args.found.state
+    c.seated_by-seated.result (seated_state c.args.found.log.pending c.args.found.state) c.seated_by-seated.ensures c.replay_on-done.ensures.only c.in-Err.ensures.kept c.args.found.log.pending c.replay_on-done.ensures.replayed
