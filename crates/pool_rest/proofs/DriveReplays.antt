@@ -182,11 +182,11 @@ unread_none {unread = unread} parts free = none_named unread (no_unread parts fr
     none_named [] none = refl
     none_named (q ∷ ps) none = absurd (both_ways (names (q ∷ ps) q) (none q) (names_first q ps))
 
-pub shut_drives : {x w y : Seen} {known : List Known} {before s : State} {t u : Slices} {on unread closing lost : List ℕ} {l : LogView}
+pub shut_drives : (before : State) {x w y : Seen} {known : List Known} {s : State} {t u : Slices} {on unread closing lost : List ℕ} {l : LogView}
     → OnDrives x w y known s t u on unread closing lost l → AllTold x → IsLasting x → IsUnfaulted x y → l.pending ≢ []
     → ((p : ℕ) → p < 16 → names on p ≡ true → seat_by before known p ≡ seat_by s known p → names closing p ≡ true)
     → AreShut x y known before s l.number
-shut_drives {x} {w} {y} {known} {before} {s} {t} {u} {on} {unread} {closing} {lost} {l} parts told lasts free some all p d few was is room =
+shut_drives before {x} {w} {y} {known} {s} {t} {u} {on} {unread} {closing} {lost} {l} parts told lasts free some all p d few was is room =
     ap gate_of read
     ∙ parts.call.gates (inl some) no_one p (((slices_of u y).held (log_slice p) gate_sector).current) named
     (live_slice parts d drive_gate [] sliced (omega (arith, few)) now) (inl refl)

@@ -65,7 +65,8 @@ module _ {X : Type 0} (measure : X → ℕ) where
   pub none_all : (h : ℕ → Option X) (a n p : ℕ) (x : X) → foremost measure (map h (range_with_len a n)) ≡ None → a ≤ p → p < a + n → h p ≡ Some x → ⊥
   none_all h a zero p x none from past is = absurd (omega (arith, from, past))
   none_all h a (suc n) p x none from past is =
-      of_first (h a) refl (sym (foremost_joined (h a) (map h (range_with_len (a + 1) n))) ∙ none)
+      of_first (λ later below. none_all h (a + 1) n p x later (omega (arith, below)) (omega (arith, past)) is)
+      (h a) refl (sym (foremost_joined (h a) (map h (range_with_len (a + 1) n))) ∙ none)
     where
       no_ahead : (k : X) (o : Option X) → ahead measure k o ≡ None → ⊥
       no_ahead k None at = none-some k (sym at)
@@ -75,11 +76,12 @@ module _ {X : Type 0} (measure : X → ℕ) where
             | inr le ↦ none-some k (sym at ∙ ap (λ b. if b then Some y else Some k) (le-ltb (measure k) (measure y) le))
           ]
 
-      of_first : (o : Option X) → h a ≡ o → joined o (foremost measure (map h (range_with_len (a + 1) n))) ≡ None → ⊥
-      of_first (Some k) at later = no_ahead k (foremost measure (map h (range_with_len (a + 1) n))) later
-      of_first None at later =
+      of_first : (foremost measure (map h (range_with_len (a + 1) n)) ≡ None → a < p → ⊥)
+          → (o : Option X) → h a ≡ o → joined o (foremost measure (map h (range_with_len (a + 1) n))) ≡ None → ⊥
+      of_first rest (Some k) at later = no_ahead k (foremost measure (map h (range_with_len (a + 1) n))) later
+      of_first rest None at later =
           elim (cases_lt a p) [
-            | inl below ↦ none_all h (a + 1) n p x later (omega (arith, below)) (omega (arith, past)) is
+            | inl below ↦ rest later below
             | inr same ↦ (let here : a ≡ p = omega (arith, from, same) in none-some x (sym at ∙ ap h here ∙ is))
           ]
 

@@ -72,29 +72,30 @@ pub look_lands : (f : Target → Option Target) (xs : List Target) (k s d t : �
 unfolding look
 look_lands f [] k s d t u lands is none = none-some u is
 look_lands f (x ∷ xs) k s d t u lands is none =
-    of_look (look xs k s) refl is
+    of_look (λ w later. look_lands f xs k s d t w lands later (rest_none (f x) none)) (look xs k s) refl is
   where
+    first_none : (y : Target) (o : Option (List ℕ)) → option_or o (if is_at d t y then Some y.bytes else None) ≡ None → o ≡ None
+    first_none y None at = refl
+    first_none y (Some w) at = absurd (none-some w (sym at))
+
     rest_none : (o : Option Target) → look (cons_option o (filter_map f xs)) d t ≡ None → look (filter_map f xs) d t ≡ None
     rest_none None at = at
-    rest_none (Some y) at = first_none (look (filter_map f xs) d t) at
-      where
-        first_none : (o : Option (List ℕ)) → option_or o (if is_at d t y then Some y.bytes else None) ≡ None → o ≡ None
-        first_none None at = refl
-        first_none (Some w) at = absurd (none-some w (sym at))
+    rest_none (Some y) at = first_none y (look (filter_map f xs) d t) at
+
+    some_left : (v : List ℕ) (o : Option (List ℕ)) → option_or o (Some v) ≡ None → ⊥
+    some_left v None at = none-some v (sym at)
+    some_left v (Some w) at = none-some w (sym at)
 
     never : (v : List ℕ) → f x ≡ Some (record { disk = d; sector = t; bytes = v }) → ⊥
     never v gives =
-        some_left (look (filter_map f xs) d t)
+        some_left v (look (filter_map f xs) d t)
         (sym (ap (λ b. option_or (look (filter_map f xs) d t) (if b then Some v else None)) (at_itself (record { disk = d; sector = t; bytes = v })))
         ∙ ap (λ (o : Option Target). look (cons_option o (filter_map f xs)) d t) (sym gives) ∙ none)
-      where
-        some_left : (o : Option (List ℕ)) → option_or o (Some v) ≡ None → ⊥
-        some_left None at = none-some v (sym at)
-        some_left (Some w) at = none-some w (sym at)
 
-    of_look : (o : Option (List ℕ)) → look xs k s ≡ o → option_or o (if is_at k s x then Some x.bytes else None) ≡ Some u → ⊥
-    of_look (Some w) later at = look_lands f xs k s d t w lands later (rest_none (f x) none)
-    of_look None later at =
+    of_look : ((w : List ℕ) → look xs k s ≡ Some w → ⊥)
+        → (o : Option (List ℕ)) → look xs k s ≡ o → option_or o (if is_at k s x then Some x.bytes else None) ≡ Some u → ⊥
+    of_look rest (Some w) later at = rest w later
+    of_look rest None later at =
         let both = and_parts (x.disk == k) (x.sector == s) (cond_some (is_at k s x) x.bytes u at).0 in
         let there = lands x (eqb-true x.disk k both.0) (eqb-true x.sector s both.1) in
         never there.0 there.1
@@ -104,11 +105,8 @@ look_lands f (x ∷ xs) k s d t u lands is none =
 -- a sector of a member's slice lies in the arrays' part of its disk
 part_of_extent : (sectors : ℕ) (table : Option Table) (n k : ℕ) (e : Extent) → extent_by sectors table (n + 1) ≡ Some e → k < e.sectors
     → (arrays_first ≤ e.first + k) × (e.first + k + 33 < sectors)
-part_of_extent sectors None n k e is within = absurd (none-some e (sym (no_table n) ∙ is))
-  where
-    no_table : (n : ℕ) → extent_by sectors None (n + 1) ≡ None
-    unfolding extent_by
-    no_table n = ap (extent_by sectors None) (add-one n)
+unfolding extent_by
+part_of_extent sectors None n k e is within = absurd (none-some e (sym (ap (extent_by sectors None) (add-one n)) ∙ is))
 part_of_extent sectors (Some table) n k e is within =
     of_entry (find (λ e. e.number == n + 2) table.entries.items)
     (free_entry (extents_below sectors table n) (entry_extent sectors table n) e (sym (extent_by_is sectors table n) ∙ is))
@@ -135,15 +133,20 @@ pub record IsCopyAt (disks : Disks) (i : Identities) (z : State) (xs : List Targ
   pub seat : seat_of z disks i place ≡ Some d
   pub target : look xs (log_slice place) 0 ≡ Some v
 
+-- a target on a slice of a disk
+abbrev lying : Target → ℕ → Extent → Option Target
+lying x e f = if nat_lt x.sector f.sectors then Some (record { disk = e; sector = f.first + x.sector; bytes = x.bytes }) else None
+
 -- other targets land in the arrays' part
 pub where_landed : (disks : Disks) (i : Identities) (z : State) (xs : List Target) → list_all is_target xs ≡ true → are_apart xs ≡ true
     → (d t : ℕ) (v : List ℕ) → look (filter_map (landed disks i (seat_of z disks i)) xs) d t ≡ Some v
     → IsCopyAt disks i z xs d t v ⊎ ((arrays_first ≤ t) × (t + 33 < disks.sectors d))
+unfolding extent_by
 where_landed disks i z xs valid apart d t v is = of_from (look_from (landed disks i (seat_of z disks i)) xs d t v valid is)
   where
     of_extent : (x : Target) → is_target x ≡ true → look xs x.disk x.sector ≡ Some x.bytes → (e : ℕ) → seat_of z disks i (place_of x.disk) ≡ Some e
         → (o : Option Extent) → extent_by (disks.sectors e) (i e).table (slice_of x.disk) ≡ o
-        → option_and_then (λ (f : Extent). if nat_lt x.sector f.sectors then Some (record { disk = e; sector = f.first + x.sector; bytes = x.bytes }) else None) o
+        → option_and_then (lying x e) o
         ≡ Some (record { disk = d; sector = t; bytes = v })
         → IsCopyAt disks i z xs d t v ⊎ ((arrays_first ≤ t) × (t + 33 < disks.sectors d))
     of_extent x target has e seat None at same = absurd (none-some (record { disk = d; sector = t; bytes = v }) same)
@@ -182,16 +185,12 @@ where_landed disks i z xs valid apart d t v is = of_from (look_from (landed disk
             by false is at = absurd (both_ways false refl is)
 
         of_log : (e : ℕ) (f : Extent) → extent_by (disks.sectors e) (i e).table 0 ≡ Some f → (f.first ≡ state_sector) × (arrays_first ≤ disks.sectors e)
-        unfolding extent_by
         of_log e f at =
             let test = cond_some (nat_le arrays_first (disks.sectors e)) (record { first = state_sector; sectors = log_sectors }) f at in
             (sym (ap (λ (x : Extent). x.first) test.1), leb-true arrays_first (disks.sectors e) test.0)
 
     of_seat : (x : Target) → is_target x ≡ true → look xs x.disk x.sector ≡ Some x.bytes → (o : Option ℕ) → seat_of z disks i (place_of x.disk) ≡ o
-        → option_and_then
-        (λ e. option_and_then (λ (f : Extent). if nat_lt x.sector f.sectors then Some (record { disk = e; sector = f.first + x.sector; bytes = x.bytes }) else None)
-        (extent_by (disks.sectors e) (i e).table (slice_of x.disk)))
-        o
+        → option_and_then (λ e. option_and_then (lying x e) (extent_by (disks.sectors e) (i e).table (slice_of x.disk))) o
         ≡ Some (record { disk = d; sector = t; bytes = v })
         → IsCopyAt disks i z xs d t v ⊎ ((arrays_first ≤ t) × (t + 33 < disks.sectors d))
     of_seat x target has None seat same = absurd (none-some (record { disk = d; sector = t; bytes = v }) same)
@@ -214,10 +213,8 @@ copy_lands disks i z xs p d u seat room has =
     lands x disk sector =
         let of_place : place_of x.disk ≡ p = omega (arith, disk) in
         let of_slice : slice_of x.disk ≡ 0 = omega (arith, disk) in
-        ap (option_and_then (λ e. option_and_then (λ (f : Extent). if nat_lt x.sector f.sectors then Some (record { disk = e; sector = f.first + x.sector; bytes = x.bytes }) else None)
-        (extent_by (disks.sectors e) (i e).table (slice_of x.disk)))) (ap (seat_of z disks i) of_place ∙ seat)
-        ∙ ap (λ k. option_and_then (λ (f : Extent). if nat_lt x.sector f.sectors then Some (record { disk = d; sector = f.first + x.sector; bytes = x.bytes }) else None)
-        (extent_by (disks.sectors d) (i d).table k)) of_slice
-        ∙ ap (λ (b : Bool). option_and_then (λ (f : Extent). if nat_lt x.sector f.sectors then Some (record { disk = d; sector = f.first + x.sector; bytes = x.bytes }) else None)
-        (if b then Some (record { first = state_sector; sectors = log_sectors }) else None)) (le-leb arrays_first (disks.sectors d) room)
+        ap (λ (o : Option ℕ). option_and_then (λ e. option_and_then (lying x e) (extent_by (disks.sectors e) (i e).table (slice_of x.disk))) o)
+        (ap (seat_of z disks i) of_place ∙ seat)
+        ∙ ap (λ k. option_and_then (lying x d) (extent_by (disks.sectors d) (i d).table k)) of_slice
+        ∙ ap (λ (b : Bool). option_and_then (lying x d) (if b then Some (record { first = state_sector; sectors = log_sectors }) else None)) (le-leb arrays_first (disks.sectors d) room)
         ∙ ap (λ s. if nat_lt s log_sectors then Some (record { disk = d; sector = state_sector + s; bytes = x.bytes }) else None) sector

@@ -1,7 +1,7 @@
 mod Foremost
 mod Fronts
 mod Landings
-mod Brought
+mod BroughtCopies
 mod Cut
 mod CutDrives
 mod Listed

@@ -86,7 +86,7 @@ clean_meant a b known s t on m is_pending damaged is_new laid looked told free =
   targets = λ lasts. (looked.finds told lasts).targets ∙ same_pending few;
   pending = λ lasts. (looked.finds told lasts).is_pending_is ∙ ap is_some (same_pending_at few);
   number = λ lasts g is. number_is (looked.finds told lasts) g (same_pending_at few ∙ is) (looked.finds told lasts).number;
-  damaged = λ lasts. (looked.finds told lasts).damaged_is ∙ same_damaged few;
+  damaged_is = λ lasts. (looked.finds told lasts).damaged_is ∙ same_damaged few;
 }
   where
     seats : (p : ℕ) → seat_by s known p ≡ seat_of s (disks_of a) (identities_of (disks_of a) (now_in a)) p

@@ -1,5 +1,5 @@
 -- A pool whose logs were sound is quiet once it was brought to rest.
-use Rattle.std.proofs.Common.{◌≡◌, ◌≢◌, ◌⊎◌, ℕ, ◌+◌, ◌<◌, ◌≤◌, ◌==◌, ◌&&◌, not, Bool, true, false, nat_le, if◌then◌else◌, is_some, List, [], ◌∷◌, length, map, slice_get, codes, bytes_eq, replicate, Option, Some, None, refl, sym, ap, ap₂, subst, ◌∙◌, inl, inr, arith, leb-true}
+use Rattle.std.proofs.Common.{◌≡◌, ◌≢◌, ◌⊎◌, ℕ, suc, ◌+◌, ◌<◌, ◌≤◌, ◌==◌, ◌&&◌, not, Bool, true, false, nat_le, if◌then◌else◌, is_some, List, [], ◌∷◌, length, map, slice_get, codes, bytes_eq, replicate, Option, Some, None, refl, sym, ap, ap₂, subst, ◌∙◌, inl, inr, arith, leb-true}
 use Rattle.std.specs.List.{list_all, range_with_len}
 use Rattle.std.proofs.lemmas.Bool.{cases_Bool, both_ways, and_parts}
 use Rattle.std.proofs.lemmas.List.FromFn.{length-map-range_with_len}
@@ -39,7 +39,7 @@ use Rattle.pool_rest.specs.Standing.{IsLasting, StandsAs, IsCause, since}
 use Rattle.pool_rest.specs.Resting.{AreShut, Rests, StandsNow, seated_state}
 use Rattle.pool_rest.specs.SoundLogs.{IsSoundLog, HasSoundLogs, IsSettled}
 use Rattle.pool_rest.proofs.Agreeing.{disks_same, told_later, reads_agree, logs_agree}
-use Rattle.pool_rest.proofs.Brought.{other_still}
+use Rattle.pool_rest.proofs.BroughtCopies.{other_still}
 use Rattle.pool_rest.proofs.Meant.{few_newest}
 use Rattle.pool_rest.proofs.Settled.{newest_now, none_now, whole_now}
 
@@ -107,7 +107,7 @@ none_flagged a x known scan free = all known (λ d k at gone. free d ((scan.each
     all (k ∷ ks) none =
         elim (cases_Bool k.gone) [
           | inl gone ↦ absurd (none 0 k refl gone)
-          | inr there ↦ ap₂ (λ a b. not a && b) there (all ks (λ d j at gone. none (d + 1) j at gone))
+          | inr there ↦ ap₂ (λ a b. not a && b) there (all ks (λ d j at gone. none (suc d) j at gone))
         ]
 
 -- ---- a record was replayed
@@ -245,7 +245,7 @@ module _ (a x b : Seen) (known : List Known) (st : State) (m : LogView) (is_pend
         idle = now.pending ∙ ap is_some none_after
 
         whole : d_now ≡ None
-        whole = now.damaged ∙ whole_after
+        whole = now.damaged_is ∙ whole_after
 
 -- ---- nothing was to be replayed
 
@@ -258,7 +258,7 @@ pub settled_idle : (a b : Seen) (st : State) (t : Slices) (m : LogView) (is_pend
     → MeansTheSame (disks_of a) (now_in a) (now_in b) → IsSettled a b st is_pending damaged
 settled_idle a b st t m is_pending damaged reads told lasts stands now none sound means = record {
   idle = now.pending ∙ ap is_some none_after;
-  whole = now.damaged ∙ ap (damaged_log (current_places st)) logs_now ∙ log.whole;
+  whole = now.damaged_is ∙ ap (damaged_log (current_places st)) logs_now ∙ log.whole;
   state = λ y is. none_brought st ∙ ap (λ (xs : List Target). seated_state xs st) (sym empty) ∙ ap (λ (z : Standing). seated_state z.targets z.state) (some_standing before y (sym stands.stands ∙ is));
   none = none_after;
   means = means;

@@ -49,7 +49,7 @@ use Rattle.commit_log.proofs.Undamaged.{whole_from}
 use Rattle.commit_log.proofs.Replaying.{pending_sound}
 use Rattle.pool_rest.specs.Resting.{replayed_on}
 use Rattle.pool_rest.specs.SoundLogs.{IsLater, IsGateUpTo, IsSoundLog}
-use Rattle.pool_rest.proofs.Brought.{newest_latest, seats_still, newest_still, newest_later}
+use Rattle.pool_rest.proofs.BroughtCopies.{newest_latest, seats_still, newest_still, newest_later}
 use Rattle.pool_rest.proofs.SameMeaning.{log_read, log_gate}
 
 -- ---- gates that decide

@@ -95,7 +95,7 @@ pub record StandsNow (b : Seen) (s : State) (m : LogView) (is_pending : Bool) (d
   pub stands : standing (disks_of b) (now_in b) ≡ Some (standing_by (disks_of b) (now_in b) s)
   pub targets : m.pending ≡ (standing_by (disks_of b) (now_in b) s).targets
   pub pending : is_pending ≡ is_some (pending_at (current_places s) (standing_by (disks_of b) (now_in b) s).logs)
-  pub damaged : damaged ≡ damaged_log (current_places s) (standing_by (disks_of b) (now_in b) s).logs
+  pub damaged_is : damaged ≡ damaged_log (current_places s) (standing_by (disks_of b) (now_in b) s).logs
 
 -- the state whose drives a pending record is for
 abbrev pub seated_state : List Target → State → State

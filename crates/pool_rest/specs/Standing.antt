@@ -68,7 +68,7 @@ pub record StandsAs (a : Seen) (s : State) (t : Slices) (m : LogView) (is_pendin
   pub pending : IsLasting a → is_pending ≡ is_some (pending_at (current_places s) (standing_by (disks_of a) (now_in a) s).logs)
   pub number :
       IsLasting a → (g : GateAt) → pending_at (current_places s) (standing_by (disks_of a) (now_in a) s).logs ≡ Some g → g.gate.number ≡ m.number
-  pub damaged : IsLasting a → damaged ≡ damaged_log (current_places s) (standing_by (disks_of a) (now_in a) s).logs
+  pub damaged_is : IsLasting a → damaged ≡ damaged_log (current_places s) (standing_by (disks_of a) (now_in a) s).logs
 
 -- the disks as they are at the end, with the faults that they had at the start: what rose since then counts
 abbrev pub since : Seen → Seen → Seen

@@ -105,20 +105,19 @@ returns-in-Ok-replay_found-clause-settled g c = λ told lasts free sound.
     let found = c.in-Ok-stand.found in
     let only = c.in-Ok-stand.ensures.only in
     let stays = c.in-Ok-replay_found.ensures.only.stays in
-    let some = λ none. c.if-pending_count-eq0.false (c.pending_count.ensures ∙ ap length none) in
     let early = free_before (g.R.Rack.seen c.args.rack) (g.R.Rack.seen (below_of found.slices)) (g.R.Rack.seen (below_of rest.slices)) found.scan.disks.items found.state (tables found.slices) found.log found.looked.pending found.looked.damaged
     only stays c.in-Ok-stand.ensures.newest.scan c.in-Ok-stand.ensures.meant free in
     let later = free_after (g.R.Rack.seen c.args.rack) (g.R.Rack.seen (below_of found.slices)) (g.R.Rack.seen (below_of rest.slices)) found.scan.disks.items found.state (tables found.slices) found.log found.looked.pending found.looked.damaged
     only stays c.in-Ok-stand.ensures.newest.scan c.in-Ok-stand.ensures.meant free in
     settled_after (g.R.Rack.seen c.args.rack) (g.R.Rack.seen (below_of found.slices)) (g.R.Rack.seen (below_of rest.slices)) found.scan.disks.items found.state found.log found.looked.pending found.looked.damaged (tables found.slices)
-    only stays c.in-Ok-stand.ensures.newest.scan some told lasts early (c.in-Ok-stand.ensures.meant told early)
+    only stays c.in-Ok-stand.ensures.newest.scan (λ none. c.if-pending_count-eq0.false (c.pending_count.ensures ∙ ap length none)) told lasts early (c.in-Ok-stand.ensures.meant told early)
     (since_rests (g.R.Rack.seen c.args.rack) (g.R.Rack.seen (below_of found.slices)) (g.R.Rack.seen (below_of rest.slices)) found.scan.disks.items found.state (tables found.slices) found.log found.looked.pending found.looked.damaged
     only stays c.in-Ok-stand.ensures.newest.scan c.in-Ok-stand.ensures.meant c.in-Ok-replay_found.ensures.replayed told lasts free)
     sound rest.state rest.log rest.pending rest.damaged
     (c.in-Ok-replay_found.ensures.shut (none_flagged (g.R.Rack.seen c.args.rack) (g.R.Rack.seen (below_of found.slices)) found.scan.disks.items c.in-Ok-stand.ensures.newest.scan early)
     (gone_none (g.R.Rack.seen c.args.rack) (g.R.Rack.seen (below_of found.slices)) (tables found.slices) found.on.items found.looked.gone.items found.log found.looked.pending found.looked.damaged c.in-Ok-stand.ensures.looked early)
     (told_later (g.R.Rack.seen c.args.rack) (g.R.Rack.seen (below_of found.slices)) only.stays told)
-    (lasting_later (g.R.Rack.seen c.args.rack) (g.R.Rack.seen (below_of found.slices)) only.stays lasts) later some)
+    (lasting_later (g.R.Rack.seen c.args.rack) (g.R.Rack.seen (below_of found.slices)) only.stays lasts) later (λ none. c.if-pending_count-eq0.false (c.pending_count.ensures ∙ ap length none)))
     (returns-in-Ok-replay_found-clause-stands g c told lasts free)
     (returns-in-Ok-replay_found-clause-means g c told lasts free)
 
@@ -164,11 +163,11 @@ returns-then-pending_count-eq0-clause-single g c = λ told lasts free.
     (subst (λ k. Stays (g.R.Rack.seen c.args.rack) (g.R.Rack.seen (below_of k))) (sym c.as_it_stands.ensures.slices) c.in-Ok-stand.ensures.only.stays) told)
     free (returns-then-pending_count-eq0-clause-one g c)
 
-pub returns-in-Err-stand-clause-refused : goal.returns-in-Err-stand-clause-refused
-returns-in-Err-stand-clause-refused g c = inl (c.in-Err-stand.ensures.kept, c.in-Err-stand.ensures.refused)
+pub returns-in-Err-clause-refused : goal.returns-in-Err-clause-refused
+returns-in-Err-clause-refused g c = inl (c.in-Err.ensures.kept, c.in-Err.ensures.refused)
 
-pub returns-in-Err-stand-clause-exact : goal.returns-in-Err-stand-clause-exact
-returns-in-Err-stand-clause-exact g c = λ told lasts free. inl (c.in-Err-stand.ensures.exact told free)
+pub returns-in-Err-clause-exact : goal.returns-in-Err-clause-exact
+returns-in-Err-clause-exact g c = λ told lasts free. inl (c.in-Err.ensures.exact told free)
 
 pub returns-in-Err-replay_found-clause-back : goal.returns-in-Err-replay_found-clause-back
 returns-in-Err-replay_found-clause-back g c =
@@ -190,8 +189,8 @@ returns-in-Err-replay_found-clause-refused g c =
           (lasting_later (g.R.Rack.seen c.args.rack) (g.R.Rack.seen (below_of c.in-Ok-stand.found.slices)) c.in-Ok-stand.ensures.only.stays lasts));
     })
 
-pub returns-in-Err-stand-clause-found : goal.returns-in-Err-stand-clause-found
-returns-in-Err-stand-clause-found g c = λ told lasts free sound. c.in-Err-stand.ensures.kept
+pub returns-in-Err-clause-found : goal.returns-in-Err-clause-found
+returns-in-Err-clause-found g c = λ told lasts free sound. c.in-Err.ensures.kept
 
 pub returns-in-Err-replay_found-clause-exact : goal.returns-in-Err-replay_found-clause-exact
 returns-in-Err-replay_found-clause-exact g c = λ told lasts free.

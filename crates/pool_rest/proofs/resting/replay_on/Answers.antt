@@ -41,4 +41,4 @@ returns-clause-shut g c = λ whole told lasts free some.
     let parts = on_drives g.R.Rack.seen c.args.rack _ _ _ _ c.into_inner.result _ c.args.scan.now.disks.items c.args.state.now _ _ _ _ _ _ _ c.args.log
     c.new-slices.ensures.below c.seat_drives-on.ensures.below c.into_inner.ensures c.seat_drives-on.ensures.laid c.lay_drives-unread.ensures.only c.lay_drives-unread.ensures.cut
     c.lay_drives-unread.new.slices.orderly c.lay_drives-unread.ensures.fit c.replay-gone.ensures.runs c.replay-gone.ensures.replays in
-    shut_drives parts told lasts free some (c.closing_of-closing.ensures.all whole (unread_none parts free))
+    shut_drives c.args.before.now parts told lasts free some (c.closing_of-closing.ensures.all whole (unread_none parts free))

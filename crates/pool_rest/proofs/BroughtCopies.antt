@@ -138,10 +138,12 @@ module _ (disks : Disks) (c : Image) (z : State) (xs : List Target) (valid : lis
   copy_read : (d q : ℕ) (v : List ℕ) → IsCopyAt disks early z xs d state_sector v → look targets d state_sector ≡ Some v → (p : ℕ) × IsBroughtTo d p
   copy_read d q v copy is = (
     copy.place,
-    copy.seat,
-    ap (λ b. if b then result_ok (decoded (replayed_on disks z xs c d state_sector)) else None) (lt-ltb state_sector (disks.sectors d) (let long = copy.room in omega (arith, long)))
-        ∙ ap (λ (u : List ℕ). result_ok (decoded u)) (read_is d state_sector (Some v) is (let long = copy.room in omega (arith, long)))
-        ∙ ap result_ok (copies copy.place v copy.target),
+    (
+      copy.seat,
+      ap (λ b. if b then result_ok (decoded (replayed_on disks z xs c d state_sector)) else None) (lt-ltb state_sector (disks.sectors d) (let long = copy.room in omega (arith, long)))
+          ∙ ap (λ (u : List ℕ). result_ok (decoded u)) (read_is d state_sector (Some v) is (let long = copy.room in omega (arith, long)))
+          ∙ ap result_ok (copies copy.place v copy.target),
+    ),
   )
 
   copied_or : (d : ℕ) → ((late d).copied ≡ (early d).copied) ⊎ ((q : ℕ) × IsBroughtTo d q)
