@@ -1,5 +1,5 @@
 -- What disks say once a record is written that brings copies of one state: the state, and the seats by it.
-use Rattle.std.proofs.Common.{◌≡◌, ◌⊎◌, ℕ, ◌+◌, ◌<◌, ◌≤◌, ◌==◌, ◌||◌, not, Bool, true, false, nat_lt, bytes_eq, if◌then◌else◌, position, slice_get, List, [], ◌∷◌, length, map, Option, Some, None, Ok, unwrap_or, option_map, refl, sym, ap, ap₂, subst, ◌∙◌, inl, inr, arith, zero, suc, eqb-true, eq-eqb, lt-ltb, ltb-true}
+use Rattle.std.proofs.Common.{◌≡◌, ◌⊎◌, ℕ, ◌+◌, ◌<◌, ◌≤◌, ◌==◌, ◌||◌, not, Bool, true, false, nat_lt, bytes_eq, if◌then◌else◌, position, slice_get, List, [], ◌∷◌, length, map, Option, Some, None, Ok, unwrap_or, option_map, refl, sym, ap, ap₂, subst, ◌∙◌, inl, inr, arith, eqb-true, eq-eqb, lt-ltb, ltb-true}
 use Rattle.std.specs.Option.{option_map_or, option_and_then}
 use Rattle.std.specs.Result.{result_ok}
 use Rattle.std.specs.List.{filter_map, list_all, list_any, position_or_len, range_with_len}
@@ -25,7 +25,7 @@ use Rattle.pool_image.proofs.Identities.{table_same}
 use Rattle.pool_scan.specs.Choosing.{has_pool_other_than}
 use Rattle.pool_scan.proofs.Seated.{foremost_from}
 use Rattle.pool_rest.specs.Resting.{replayed_on}
-use Rattle.pool_rest.proofs.Fronts.{Front, IsLow, low_all, low_foremost, front_all, front_new}
+use Rattle.pool_rest.proofs.Fronts.{Front, low_all, low_foremost, front_all, front_new}
 use Rattle.pool_rest.proofs.Landings.{IsCopyAt, where_landed, copy_lands}
 
 -- ---- seats
@@ -235,7 +235,7 @@ module _ (disks : Disks) (c : Image) (z : State) (xs : List Target) (valid : lis
             inr (
               record { disk = d; epoch = z.epoch },
               ap₂ (λ (o : Option ℕ) (k : Option Copied). if option_map_or (λ q. q == p) o false then Some (record { disk = d; epoch = option_map_or epoch_of k 0 }) else None)
-              (stands_still d ∙ stood new) new.1.1
+                  (stands_still d ∙ stood new) new.1.1
                   ∙ ap (λ b. if b then Some (record { disk = d; epoch = z.epoch }) else None) (eq-eqb new.0 p here),
               (ap (seat_of z disks early) (sym here) ∙ new.1.0, refl),
             )

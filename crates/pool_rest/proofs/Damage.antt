@@ -1,12 +1,11 @@
 -- Which log is damaged goes by the places that have a log, and by their gates and the pending record.
-use Rattle.std.proofs.Common.{◌≡◌, ℕ, ◌==◌, ◌&&◌, ◌||◌, Bool, true, false, if◌then◌else◌, is_none, find, filter, List, [], ◌∷◌, Option, Some, None, refl, sym, ap, ap₂, ◌∙◌, inl, inr, eqb-true}
+use Rattle.std.proofs.Common.{◌≡◌, ℕ, ◌==◌, ◌&&◌, ◌||◌, Bool, true, false, if◌then◌else◌, is_none, find, filter, List, [], ◌∷◌, Option, Some, None, refl, sym, ap, ap₂, ◌∙◌, eqb-true}
 use Rattle.std.specs.Option.{option_map_or}
-use Rattle.std.proofs.lemmas.Bool.{cases_Bool}
 use Rattle.std.proofs.lemmas.Option.{none-some}
 use Rattle.rack.specs.Seen.{Image}
 use Rattle.rack.specs.Targets.{Target}
 use Rattle.array_image.specs.Places.{log_slice}
-use Rattle.array_image.specs.Record.{Gate, GateAt, gate_sector, gate_of, gate_in, is_there, is_bad_gate, record_in, pending_at, is_bad_log, damaged_log}
+use Rattle.array_image.specs.Record.{GateAt, gate_sector, gate_of, gate_in, is_there, is_bad_gate, record_in, pending_at, is_bad_log, damaged_log}
 use Rattle.commit_log.specs.View.{names}
 use Rattle.commit_log.proofs.Deciding.{names_first, names_later}
 use Rattle.commit_log.proofs.Fewer.{pending_at_left}

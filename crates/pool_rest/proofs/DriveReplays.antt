@@ -4,7 +4,7 @@ use Rattle.std.specs.Option.{option_map_or}
 use Rattle.std.specs.List.{filter_map, list_all, range_with_len, slice_index}
 use Rattle.std.proofs.lemmas.List.Folds.{list_any_at}
 use Rattle.std.proofs.lemmas.Bool.{cases_Bool, cases_eq, both_ways, and_from}
-use Rattle.rack.specs.Values.{MayLeave, IsSingle, Keeps}
+use Rattle.rack.specs.Values.{IsSingle, Keeps}
 use Rattle.rack.specs.Seen.{Seen, IsLive, Rose}
 use Rattle.rack.specs.Joins.{rose_early, rose_later, live_first}
 use Rattle.rack.specs.Sequences.{OnlyReads, WritesOnly}

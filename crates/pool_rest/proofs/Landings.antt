@@ -1,10 +1,9 @@
 -- Where a record's targets land on the disks.
-use Rattle.std.proofs.Common.{◌≡◌, ◌⊎◌, ℕ, zero, suc, ◌+◌, ◌-◌, ◌<◌, ◌≤◌, ◌==◌, ◌&&◌, ◌||◌, not, Bool, true, false, nat_lt, nat_le, bytes_eq, if◌then◌else◌, find, List, [], ◌∷◌, Option, Some, None, refl, sym, ap, ap₂, subst, ◌∙◌, inl, inr, arith, eq-eqb, eqb-true, ltb-true, leb-true, le-leb, add-one}
+use Rattle.std.proofs.Common.{◌≡◌, ◌⊎◌, ℕ, ◌+◌, ◌-◌, ◌<◌, ◌≤◌, ◌==◌, ◌&&◌, ◌||◌, not, Bool, true, false, nat_lt, nat_le, bytes_eq, if◌then◌else◌, find, List, [], ◌∷◌, Option, Some, None, refl, sym, ap, ap₂, subst, ◌∙◌, inl, inr, arith, eq-eqb, eqb-true, ltb-true, leb-true, le-leb, add-one}
 use Rattle.std.specs.Option.{option_or, option_and_then}
 use Rattle.std.specs.List.{filter_map, cons_option, list_all}
 use Rattle.std.proofs.lemmas.Bool.{cases_eq, both_ways, and_parts}
 use Rattle.std.proofs.lemmas.Option.{none-some, cond_some}
-use Rattle.rack.specs.Seen.{Image}
 use Rattle.rack.specs.Sequences.{IsPayload}
 use Rattle.rack.specs.Targets.{Target, is_at, look}
 use Rattle.gpt_table.specs.declared.Table.{Table}
@@ -13,9 +12,9 @@ use Rattle.pool_state.specs.declared.contents.State.{State}
 use Rattle.array_image.specs.Places.{place_of, slice_of, log_slice, state_sector, log_sectors, arrays_first, raid_kind}
 use Rattle.array_image.specs.Record.{is_target, are_apart}
 use Rattle.pool_image.specs.Disks.{Disks, Identities, seat_of}
-use Rattle.pool_image.specs.Replay.{Extent, log_extent, slice_entry, extents_below, entry_extent, extent_by, landed}
+use Rattle.pool_image.specs.Replay.{Extent, slice_entry, extents_below, entry_extent, extent_by, landed}
 use Rattle.commit_log.proofs.Story.{payload_is}
-use Rattle.pool_rest.proofs.Cut.{extent_at, extent_by_is, free_entry}
+use Rattle.pool_rest.proofs.Cut.{extent_by_is, free_entry}
 
 -- ---- targets that others come from
 

@@ -1,45 +1,40 @@
 -- A replay on slices that are cut by the drives' tables, as it is on the disks.
-use Rattle.std.proofs.Common.{◌≡◌, ◌≢◌, ◌⊎◌, ℕ, ◌+◌, ◌-◌, ◌<◌, ◌≤◌, ◌==◌, ◌||◌, Bool, true, false, nat_lt, nat_le, if◌then◌else◌, List, [], ◌∷◌, Option, Some, None, unwrap_or, refl, sym, ap, ap₂, subst, ◌∙◌, inl, inr, arith, eq-eqb, lt-ltb, le-ltb, ltb-true}
+use Rattle.std.proofs.Common.{◌≡◌, ◌≢◌, ◌⊎◌, ℕ, ◌+◌, ◌-◌, ◌<◌, ◌≤◌, ◌==◌, Bool, true, false, nat_lt, nat_le, if◌then◌else◌, List, [], ◌∷◌, Option, Some, None, unwrap_or, refl, sym, ap, ap₂, subst, ◌∙◌, inl, inr, arith, eq-eqb, le-ltb, ltb-true}
 use Rattle.std.specs.Option.{option_map_or, option_and_then}
-use Rattle.std.specs.List.{filter_map, cons_option, list_all, range_with_len, slice_index}
-use Rattle.std.proofs.lemmas.List.Folds.{list_any_at}
-use Rattle.rack.proofs.Writing.{only_then, only_quiet, only_weaker}
-use Rattle.commit_log.specs.Phases.{AreLogs}
+use Rattle.std.specs.List.{filter_map, cons_option, list_all}
 use Rattle.std.proofs.lemmas.Option.{none-some}
 use Rattle.std.proofs.lemmas.Bool.{cases_Bool, cases_eq, cases_lt, both_ways, and_parts}
-use Rattle.rack.specs.Values.{MayLeave, IsSingle, Keeps}
-use Rattle.rack.specs.Seen.{Seen, IsLive, Rose, Stays}
+use Rattle.rack.specs.Values.{MayLeave, Keeps}
+use Rattle.rack.specs.Seen.{Seen, IsLive, Stays}
 use Rattle.rack.specs.Joins.{rose_early, rose_later, live_first, stays_then}
 use Rattle.rack.specs.Sequences.{OnlyReads, WritesOnly}
 use Rattle.rack.specs.Targets.{Target, look}
 use Rattle.slice_rack.specs.Slices.{Slices, IsOrderly, seat_of, first_of, sectors_of, disk_of}
 use Rattle.slice_rack.specs.Sliced.{IsInside, slices_of}
-use Rattle.slice_rack.specs.Runs.{IsSliced, Runs}
+use Rattle.slice_rack.specs.Runs.{IsSliced}
 use Rattle.slice_rack.specs.Landing.{landing}
 use Rattle.slice_rack.proofs.Landed.{look_landed, look_nowhere}
 use Rattle.slice_rack.proofs.Running.{sliced_or}
 use Rattle.pool_state.specs.declared.contents.State.{State}
 use Rattle.gpt_table.specs.Changes.{the_table}
 use Rattle.gpt_table.specs.Disk.{now_on}
-use Rattle.array_image.specs.Places.{place_of, slice_of, log_slice, member_slice, state_sector, log_sectors, arrays_first}
-use Rattle.array_image.specs.Record.{gate_sector, gate_of, is_target}
+use Rattle.array_image.specs.Places.{place_of, slice_of, member_slice, state_sector, log_sectors, arrays_first}
+use Rattle.array_image.specs.Record.{is_target}
 use Rattle.pool_image.specs.Disks.{Identities, disks_of, identities_of}
 use Rattle.pool_image.specs.Disks as disks
 use Rattle.pool_image.specs.Replay.{Extent, log_extent, extent_by, landed}
 use Rattle.commit_log.specs.View.{LogView, names}
-use Rattle.commit_log.specs.Opening.{ReplayCall, IsShutting, HasWork}
-use Rattle.commit_log.proofs.Story.{valid_apart, logs_named}
+use Rattle.commit_log.specs.Opening.{ReplayCall, HasWork}
+use Rattle.commit_log.proofs.Story.{valid_apart}
 use Rattle.pool_scan.specs.declared.Known.{Known}
 use Rattle.pool_scan.specs.Scanning.{AllTold, IsUnfaulted, now_in}
 use Rattle.pool_scan.specs.Choosing.{AreOf, seat_by}
 use Rattle.pool_scan.proofs.Seated.{seat_by_is}
-use Rattle.pool_rest.proofs.Laid.{laid_logs}
-use Rattle.pool_rest.proofs.Meant.{none_listed}
 use Rattle.pool_rest.specs.Laying.{IsLaidBelow}
 use Rattle.pool_rest.specs.Members.{Lies, IsCutBelow}
 use Rattle.pool_rest.specs.Standing.{IsLasting}
 use Rattle.pool_image.specs.Alike.{drive_gate}
-use Rattle.pool_rest.specs.Resting.{IsOfDrive, replayed_on, IsClosedOn, IsReplayed}
+use Rattle.pool_rest.specs.Resting.{IsOfDrive}
 
 -- The parts of a replay: seats and log slices, members' slices by tables, and the log's call.
 pub record OnDrives (x w y : Seen) (known : List Known) (s : State) (t u : Slices) (on unread closing lost : List ℕ) (l : LogView) : Type 0 where

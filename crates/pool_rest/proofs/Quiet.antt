@@ -4,7 +4,7 @@ use Rattle.std.specs.List.{list_all, range_with_len}
 use Rattle.std.proofs.lemmas.Bool.{cases_Bool, both_ways, and_parts}
 use Rattle.std.proofs.lemmas.List.FromFn.{length-map-range_with_len}
 use Rattle.std.proofs.lemmas.Option.{none-some, cond_some}
-use Rattle.rack.specs.Seen.{Image, Seen, Rose, Stays}
+use Rattle.rack.specs.Seen.{Image, Seen, Stays}
 use Rattle.rack.specs.Joins.{stays_then}
 use Rattle.rack.specs.Sequences.{OnlyReads}
 use Rattle.rack.specs.Targets.{Target}
@@ -14,7 +14,7 @@ use Rattle.pool_state.specs.declared.contents.State.{State}
 use Rattle.slice_rack.specs.Slices.{Slices}
 use Rattle.array_image.specs.Foremost.{foremost}
 use Rattle.array_image.specs.Places.{log_slice, arrays_first}
-use Rattle.array_image.specs.Record.{Gate, GateAt, gate_of, half_of, log_bytes, target_at, is_target, are_apart, record_of, record_in, pending_at, pending, damaged_log}
+use Rattle.array_image.specs.Record.{Gate, GateAt, gate_of, half_of, log_bytes, target_at, is_target, are_apart, record_of, pending_at, pending, damaged_log}
 use Rattle.array_image.specs.States.{is_current, current_places}
 use Rattle.pool_image.specs.Disks.{Disks, disks_of, identities_of, newest, seat_of}
 use Rattle.pool_image.specs.Replay.{Standing, standing, standing_by, written}
@@ -22,14 +22,14 @@ use Rattle.pool_image.specs.Alike.{drive_gate, IsSameButGates, MeansTheSame}
 use Rattle.pool_image.specs.Meaning.{has_other_pool}
 use Rattle.pool_image.proofs.Identities.{newest_same, other_same, same_but_gates, seat_same}
 use Rattle.pool_image.proofs.Rested.{stood_by}
-use Rattle.commit_log.specs.View.{LogView, names}
+use Rattle.commit_log.specs.View.{LogView}
 use Rattle.commit_log.proofs.Counting.{is_listed}
 use Rattle.commit_log.proofs.Deciding.{nothing_pending, record_pending}
 use Rattle.commit_log.proofs.Replaying.{pending_sound}
 use Rattle.commit_log.proofs.Undamaged.{whole_gates, whole_record}
 use Rattle.pool_scan.specs.declared.Known.{Known}
 use Rattle.pool_scan.specs.Scanning.{AllTold, IsScan, IsUnfaulted, as_read, now_in}
-use Rattle.pool_scan.specs.Choosing.{AreOf, has_pool_other_than, seat_by}
+use Rattle.pool_scan.specs.Choosing.{AreOf, has_pool_other_than}
 use Rattle.pool_scan.proofs.Meant.{scan_meant, newest_meant, other_meant}
 use Rattle.pool_scan.proofs.Seated.{seat_by_is}
 use Rattle.shr_base.specs.declared.Id.{Id}

@@ -1,5 +1,5 @@
 -- What refuses a pool after its record was replayed, by the meaning of what the disks held and hold.
-use Rattle.std.proofs.Common.{◌≡◌, ◌≢◌, ◌⊎◌, false, if◌then◌else◌, Option, Some, None, option_map, refl, sym, ap, ◌∙◌, inl, inr}
+use Rattle.std.proofs.Common.{◌≡◌, ◌≢◌, ◌⊎◌, false, if◌then◌else◌, Some, None, option_map, refl, sym, ap, ◌∙◌, inl, inr}
 use Rattle.std.specs.Option.{option_map_or, option_and_then}
 use Rattle.rack.specs.Seen.{Image, Seen, Stays}
 use Rattle.rack.specs.Joins.{stays_then}
@@ -7,8 +7,8 @@ use Rattle.rack.specs.Sequences.{OnlyReads}
 use Rattle.pool_state.specs.declared.contents.State.{State}
 use Rattle.pool_image.specs.Disks.{Disks, disks_of, identities_of, newest, seat_of}
 use Rattle.pool_image.specs.Replay.{Standing, standing, standing_by, written}
-use Rattle.pool_image.specs.Drives.{Found, found_by, found}
-use Rattle.pool_image.specs.Meaning.{Refusal, no_pool, two_pools, has_other_pool, refused_by, refused_at, refusal_of}
+use Rattle.pool_image.specs.Drives.{found_by, found}
+use Rattle.pool_image.specs.Meaning.{no_pool, two_pools, has_other_pool, refused_by, refused_at, refusal_of}
 use Rattle.pool_image.specs.Alike.{IsSameButGates}
 use Rattle.pool_image.proofs.Identities.{newest_same, same_but_gates}
 use Rattle.pool_scan.specs.Scanning.{AllTold, IsUnfaulted, now_in}

@@ -18,29 +18,27 @@
 --
 -- Without the last premise of `IsSoundLog` 4 fails: a place that is current by `s` alone, whose gate is open with a greater number
 -- than the record's, makes another record pending. Sound images don't exclude it: their rules say nothing of gates.
-use Rattle.std.proofs.Common.{◌≡◌, ◌⊎◌, ℕ, ◌+◌, ◌<◌, ◌≤◌, ◌==◌, ◌&&◌, ◌||◌, not, Bool, true, false, nat_lt, nat_le, if◌then◌else◌, is_none, is_some, List, [], length, map, Option, Some, None, Ok, refl, sym, ap, ap₂, subst, ◌∙◌, inl, inr, arith, eq-eqb, option_map, leb-true, le-leb}
+use Rattle.std.proofs.Common.{◌≡◌, ◌⊎◌, ℕ, ◌+◌, ◌<◌, ◌≤◌, ◌==◌, ◌&&◌, ◌||◌, not, Bool, true, false, nat_le, if◌then◌else◌, is_none, List, [], length, map, Option, Some, None, refl, sym, ap, subst, ◌∙◌, inl, inr, arith, eq-eqb, option_map, leb-true, le-leb}
 use Rattle.std.specs.Option.{option_map_or, option_and_then}
 use Rattle.std.specs.Result.{result_ok}
 use Rattle.std.specs.List.{list_all, range_with_len}
-use Rattle.std.proofs.lemmas.Bool.{cases_Bool, cases_eq, both_ways, and_parts}
+use Rattle.std.proofs.lemmas.Bool.{cases_Bool, both_ways}
 use Rattle.std.proofs.lemmas.Option.{none-some, cond_some}
 use Rattle.rack.specs.Seen.{Image}
-use Rattle.rack.specs.Targets.{Target, look}
 use Rattle.pool_state.specs.declared.contents.Copied.{Copied}
 use Rattle.pool_state.specs.declared.contents.State.{State}
-use Rattle.pool_state.specs.Sector.{decoded}
 use Rattle.array_image.specs.Foremost.{foremost}
 use Rattle.array_image.specs.Places.{log_slice, state_sector, log_sectors, arrays_first}
-use Rattle.array_image.specs.Record.{Gate, GateAt, gate_sector, gate_of, gate_in, gates_in, is_there, is_bad_gate, is_open_if_of, pending_at, damaged_log}
+use Rattle.array_image.specs.Record.{Gate, GateAt, gate_sector, gate_of, gate_in, gates_in, is_there, is_open_if_of, pending_at, damaged_log}
 use Rattle.array_image.specs.States.{is_current, current_places}
-use Rattle.pool_image.specs.Disks.{Disks, Identities, identities_of, newest, seat_of}
-use Rattle.pool_image.specs.Replay.{Extent, Standing, log_extent, logs_of, standing_by}
+use Rattle.pool_image.specs.Disks.{Disks, identities_of, newest, seat_of}
+use Rattle.pool_image.specs.Replay.{Extent, Standing, standing_by}
 use Rattle.pool_image.specs.Alike.{drive_gate, is_bad_block}
 use Rattle.pool_image.proofs.Identities.{seat_inside}
 use Rattle.commit_log.specs.View.{names}
 use Rattle.commit_log.specs.Scans.{number_of}
 use Rattle.commit_log.proofs.Amid.{no_gate_in_nothing}
-use Rattle.commit_log.proofs.Deciding.{foremost_among, gate_at, gate_at_is, all_at, pending_is_decisive}
+use Rattle.commit_log.proofs.Deciding.{gate_at, all_at, pending_is_decisive}
 use Rattle.commit_log.proofs.Counting.{few_drives, is_listed}
 use Rattle.commit_log.proofs.Fewer.{names_filter, filter_names, current_of_all, pending_most}
 use Rattle.commit_log.proofs.Naming.{names_range}
@@ -48,7 +46,7 @@ use Rattle.commit_log.proofs.Replayable.{pending_named}
 use Rattle.commit_log.proofs.Undamaged.{whole_from}
 use Rattle.commit_log.proofs.Replaying.{pending_sound}
 use Rattle.pool_rest.specs.Resting.{replayed_on}
-use Rattle.pool_rest.specs.SoundLogs.{IsLater, IsGateUpTo, IsSoundLog}
+use Rattle.pool_rest.specs.SoundLogs.{IsSoundLog}
 use Rattle.pool_rest.proofs.BroughtCopies.{newest_latest, seats_still, newest_still, newest_later}
 use Rattle.pool_rest.proofs.SameMeaning.{log_read, log_gate}
 
@@ -197,9 +195,9 @@ module _ (disks : Disks) (c e : Image) (st s : State)
 
   module _ (number : ℕ) (numbered : a.gate.number ≡ number)
       (shut : (p d : ℕ) → is_current st p ≡ true → is_current s p ≡ true → seat_of st disks (identities_of disks c) p ≡ Some d → seat_of s disks (identities_of disks c) p ≡ Some d
-          → arrays_first ≤ disks.sectors d → gate_of (e d drive_gate) ≡ Some (record { is_open = false; number = number }))
+      → arrays_first ≤ disks.sectors d → gate_of (e d drive_gate) ≡ Some (record { is_open = false; number = number }))
       (kept : (d : ℕ) → d < disks.count → arrays_first ≤ disks.sectors d
-          → (e d drive_gate ≡ c d drive_gate) ⊎ ((g : Gate) × (gate_of (e d drive_gate) ≡ Some g) × (g.is_open ≡ false))) where
+      → (e d drive_gate ≡ c d drive_gate) ⊎ ((g : Gate) × (gate_of (e d drive_gate) ≡ Some g) × (g.is_open ≡ false))) where
     abbrev after : Standing
     after = standing_by disks e s
 

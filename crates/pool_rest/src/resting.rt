@@ -350,10 +350,7 @@ fn seated_by(log: &Log, state: &State) -> State
 }
 
 /// Replays the record of a pool as it stands, and looks at the disks once more. It takes no memory.
-fn replay_found<R: Rack>(
-    found: Standing<R>,
-    room: Scan,
-) -> Result<AtRest<R>, Back<R, FindFault>>
+fn replay_found<R: Rack>(found: Standing<R>, room: Scan) -> Result<AtRest<R>, Back<R, FindFault>>
     requires fit { (slices_of (tables found.slices) (R.seen (below_of found.slices))).fit }
     requires count { length found.scan.disks.items ≡ (R.seen (below_of found.slices)).disks }
     requires few { length found.scan.disks.items < 2 ^ 32 }
