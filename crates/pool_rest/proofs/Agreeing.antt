@@ -128,7 +128,7 @@ stands_now y b s t m is_pending damaged reads told lasts stands =
           (stands_agree (disks_of y) (now_in y) (now_in b) s agree stands.stands);
       targets = stands.targets lasts ∙ ap (pending (current_places s)) (sym now);
       pending = stands.pending lasts ∙ ap (λ (c : Image). is_some (pending_at (current_places s) c)) (sym now);
-      whole = λ none. ap (damaged_log (current_places s)) now ∙ stands.whole lasts none;
+      damaged_is = stands.damaged_is lasts ∙ ap (damaged_log (current_places s)) (sym now);
     }
 
 pub replayed_later : (x y b : Seen) (before s : State) (xs : List Target) → Stays x y → OnlyReads y b → AllTold x → IsLasting x

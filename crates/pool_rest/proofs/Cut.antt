@@ -20,7 +20,7 @@ use Rattle.pool_rest.specs.Members.{Lies, IsCutTo, KeepsOthers}
 -- ---- extents by a table
 
 -- that of an array
-abbrev extent_at : ℕ → Table → ℕ → Option Extent
+abbrev pub extent_at : ℕ → Table → ℕ → Option Extent
 extent_at sectors table n = free_of (extents_below sectors table n) (entry_extent sectors table n)
 
 last_of : {X : Type 0} (xs : List X) (y : X) → slice_get (xs ++ y ∷ []) (length xs) ≡ Some y
@@ -33,7 +33,7 @@ length_below sectors table zero = refl
 length_below sectors table (suc n) =
     length-append (extents_below sectors table n) (extent_at sectors table n ∷ []) ∙ ap (λ m. m + 1) (length_below sectors table n) ∙ add-one n
 
-extent_by_is : (sectors : ℕ) (table : Table) (n : ℕ) → extent_by sectors (Some table) (n + 1) ≡ extent_at sectors table n
+pub extent_by_is : (sectors : ℕ) (table : Table) (n : ℕ) → extent_by sectors (Some table) (n + 1) ≡ extent_at sectors table n
 unfolding extent_by extents_below
 extent_by_is sectors table n =
     ap (extent_by sectors (Some table)) (add-one n)
@@ -144,7 +144,7 @@ roomy_entry table n e valid is = of_entry (find (λ e. e.number == n + 2) table.
         entry_roomy table.sectors entry e
         (found_all (λ entry. is_inside table.sectors entry.slice ≡ true) (λ e. e.number == n + 2) table.entries.items entry valid.inside has) at
 
-free_entry : (lower : List (Option Extent)) (o : Option Extent) (e : Extent) → free_of lower o ≡ Some e → o ≡ Some e
+pub free_entry : (lower : List (Option Extent)) (o : Option Extent) (e : Extent) → free_of lower o ≡ Some e → o ≡ Some e
 free_entry lower None e is = absurd (none-some e is)
 free_entry lower (Some f) e is = of_test (shares_any lower f) is
   where

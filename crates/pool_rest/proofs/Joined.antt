@@ -135,16 +135,16 @@ module _ (a x b : Seen) (known : List Known) (st : State) (t : Slices) (m : LogV
       → IsReplayed x b st (seated_state m.pending st) m.pending)
       → (AllTold x → IsLasting x → IsUnfaulted x b → StandsNow b s l p d)
       → (AllTold a → IsUnfaulted a x → has_other_pool (disks_of a) (standing_by (disks_of a) (now_in a) st) ≡ false)
+      → (AllTold a → IsLasting a → IsUnfaulted a b → has_other_pool (disks_of b) (standing_by (disks_of b) (now_in b) s) ≡ false)
       → AllTold a → IsLasting a → IsUnfaulted a b → p ≡ false → d ≡ None
-      → has_other_pool (disks_of b) (standing_by (disks_of b) (now_in b) s) ≡ false
       → MeansTheSame (disks_of a) (now_in a) (now_in b)
-  since_means s l p d some replayed now one told lasts free idle whole still_one =
+  since_means s l p d some replayed now one still_one told lasts free idle whole =
       let stands = meant told (free_before free) in
       replayed_means a b st s l (stays_then reads.stays stays) stands.stands
       (nonempty_whole (current_places st) (standing_by (disks_of a) (now_in a) st).logs (λ none. some (stands.targets lasts ∙ none)))
       (since_rests replayed told lasts free)
       (subst (λ e. StandsNow b s l false e) whole (subst (λ q. StandsNow b s l q d) idle (since_stands s l p d now told lasts free)))
-      (one told (free_before free)) still_one
+      (one told (free_before free)) (still_one told lasts free)
 
 -- ---- nothing was to be replayed
 

@@ -39,3 +39,12 @@ pushed_other false m p on other = names_more on m p ∙ ap (λ b. names on p || 
 pub pushed_here : (out : Bool) (m : ℕ) (on : List ℕ) → names on m ≡ false → names (pushed out m on) m ≡ not out
 pushed_here true m on none = none
 pushed_here false m on none = names_more on m m ∙ ap₂ (λ a b. a || b) none (eq-eqb m m refl)
+
+-- unless it is left out, it does
+pub pushed_in : (out : Bool) (m : ℕ) (on : List ℕ) → out ≡ false → names (pushed out m on) m ≡ true
+pushed_in true m on is = cc
+pushed_in false m on is = names_more on m m ∙ ap (λ b. names on m || b) (eq-eqb m m refl) ∙ or_on (names on m)
+  where
+    or_on : (b : Bool) → (b || true) ≡ true
+    or_on true = refl
+    or_on false = refl

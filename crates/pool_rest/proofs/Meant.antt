@@ -1,9 +1,9 @@
 -- Where no disk refused a call, what was found is what the meaning of images says.
-use Rattle.std.proofs.Common.{◌≡◌, ◌∙◌, ℕ, ◌<◌, ◌≤◌, ◌&&◌, Bool, true, false, nat_lt, if◌then◌else◌, is_none, is_some, List, [], length, map, filter, Option, Some, None, option_map, refl, sym, ap, subst, inl, inr, arith, lt-ltb, le-ltb, ◌∷◌}
+use Rattle.std.proofs.Common.{◌≡◌, ◌∙◌, ℕ, ◌<◌, ◌≤◌, ◌&&◌, Bool, true, false, nat_lt, if◌then◌else◌, is_none, is_some, ◌⊎◌, List, [], length, map, filter, Option, Some, None, option_map, refl, sym, ap, subst, inl, inr, arith, lt-ltb, le-ltb, ◌∷◌}
 use Rattle.std.specs.Option.{option_map_or}
 use Rattle.std.specs.Result.{result_ok}
 use Rattle.std.specs.List.{range_with_len}
-use Rattle.std.proofs.lemmas.Bool.{cases_Bool, cases_lt, both_ways}
+use Rattle.std.proofs.lemmas.Bool.{and_parts, cases_Bool, cases_lt, both_ways}
 use Rattle.std.proofs.lemmas.Option.{none-some}
 use Rattle.rack.specs.Seen.{Image, Seen}
 use Rattle.slice_rack.specs.Slices.{Slices, disk_of, sectors_of}
@@ -19,13 +19,14 @@ use Rattle.pool_image.specs.Disks.{disks_of, newest, identities_of, seat_of}
 use Rattle.pool_image.specs.Replay.{logs_of, standing, standing_by}
 use Rattle.pool_image.specs.Meaning.{no_pool, two_pools, has_other_pool, refused_by, refused_at, refusal_of}
 use Rattle.pool_image.specs.Drives.{found}
-use Rattle.array_image.specs.Record.{GateAt, gate_sector, gate_of, gate_in, is_bad_gate, is_there, record_of, record_in, pending_at, pending, damaged_log}
+use Rattle.array_image.specs.Record.{Gate, GateAt, gate_sector, gate_of, gate_in, is_bad_gate, is_there, record_of, record_in, pending_at, pending, damaged_log}
 use Rattle.commit_log.specs.View.{LogView, names, is_left, left_of}
 use Rattle.commit_log.proofs.Amid.{no_gate_in_nothing}
 use Rattle.commit_log.proofs.Counting.{few_drives, is_listed}
 use Rattle.commit_log.proofs.LeftPlaces.{filter_out}
-use Rattle.commit_log.proofs.Fewer.{names_filter, filter_names, filter_both, current_of_all, pending_left, pending_at_left}
-use Rattle.commit_log.proofs.Undamaged.{whole_from, whole_gates, whole_record, whole_by}
+use Rattle.commit_log.proofs.Fewer.{names_filter, filter_both, current_of_all, pending_left, pending_at_left, pending_most}
+use Rattle.commit_log.proofs.Naming.{names_listed}
+use Rattle.commit_log.specs.Opening.{Finds}
 use Rattle.commit_log.proofs.Replayable.{pending_named}
 use Rattle.commit_log.proofs.Restored.{pending_by, pending_at_by}
 use Rattle.pool_scan.specs.declared.Known.{Known}
@@ -36,6 +37,7 @@ use Rattle.pool_scan.proofs.Meant.{scan_meant, newest_meant, other_meant}
 use Rattle.pool_rest.specs.declared.standing.FindFault.{FindFault}
 use Rattle.pool_rest.specs.declared.standing.FindFault.TheVariants.{NoPool, TwoPools, Memory}
 use Rattle.pool_rest.specs.Standing.{IsLaid, IsNewest, HasLooked, StandsAs, IsMeant, IsCause}
+use Rattle.pool_rest.proofs.Damage.{damaged_left, damaged_by}
 
 stands_so : (a b : Seen) (known : List Known) (s : State) → IsScan a b known → AllTold a → IsUnfaulted a b
     → newest (disks_of a) (as_read a known) ≡ Some s → standing (disks_of a) (now_in a) ≡ Some (standing_by (disks_of a) (now_in a) s)
@@ -83,7 +85,8 @@ clean_meant a b known s t on m is_pending damaged is_new laid looked told free =
   logs = same_logs;
   targets = λ lasts. (looked.finds told lasts).targets ∙ same_pending few;
   pending = λ lasts. (looked.finds told lasts).is_pending_is ∙ ap is_some (same_pending_at few);
-  whole = λ lasts none. whole_logs few (sym (looked.finds told lasts).damaged_is ∙ none);
+  number = λ lasts g is. number_is (looked.finds told lasts) g (same_pending_at few ∙ is) (looked.finds told lasts).number;
+  damaged_is = λ lasts. (looked.finds told lasts).damaged_is ∙ same_damaged few;
 }
   where
     seats : (p : ℕ) → seat_by s known p ≡ seat_of s (disks_of a) (identities_of (disks_of a) (now_in a)) p
@@ -161,20 +164,43 @@ clean_meant a b known s t on m is_pending damaged is_new laid looked told free =
         ∙ ap (λ ps. pending_at ps (reading (slices_of t a))) (sym (current_of_all s few))
         ∙ pending_at_by (reading (slices_of t a)) ((standing_by (disks_of a) (now_in a) s).logs) (current_places s) (gates_same few)
 
-    whole_logs : length s.drives.items ≤ 16 → damaged_log (left_of on []) (reading (slices_of t a)) ≡ None → damaged_log (current_places s) ((standing_by (disks_of a) (now_in a) s).logs) ≡ None
-    whole_logs few whole =
-        let fewer : damaged_log (filter (λ p. nat_lt 0 (sectors_of t (log_slice p))) (filter (is_current s) (range_with_len 0 16))) (reading (slices_of t a)) ≡ None = ap (λ ps. damaged_log ps (reading (slices_of t a))) (sym asked) ∙ whole in
-        let all : damaged_log (filter (is_current s) (range_with_len 0 16)) (reading (slices_of t a)) ≡ None =
-        whole_from (reading (slices_of t a)) (filter (is_current s) (range_with_len 0 16))
-        (λ p named. elim (cases_Bool (nat_lt 0 (sectors_of t (log_slice p)))) [
-          | inr out ↦ not_bad p out
-          | inl is ↦ whole_gates (reading (slices_of t a)) (filter (λ p. nat_lt 0 (sectors_of t (log_slice p))) (filter (is_current s) (range_with_len 0 16))) p fewer (filter_names (λ p. nat_lt 0 (sectors_of t (log_slice p))) (filter (is_current s) (range_with_len 0 16)) p is named)
-        ])
-        (λ g is. whole_record (reading (slices_of t a)) (filter (λ p. nat_lt 0 (sectors_of t (log_slice p))) (filter (is_current s) (range_with_len 0 16))) fewer g (pending_at_left (λ p. nat_lt 0 (sectors_of t (log_slice p))) (reading (slices_of t a)) (filter (is_current s) (range_with_len 0 16)) no_gate ∙ is)) in
-        whole_by ((standing_by (disks_of a) (now_in a) s).logs) (reading (slices_of t a)) (current_places s) (λ p named. sym (gates_same few p named))
-        (λ g is.
-        sym (records_same few g (sym (pending_at_by (reading (slices_of t a)) ((standing_by (disks_of a) (now_in a) s).logs) (current_places s) (gates_same few)) ∙ is)))
-        (ap (λ ps. damaged_log ps (reading (slices_of t a))) (current_of_all s few) ∙ all)
+    same_damaged : length s.drives.items ≤ 16
+        → damaged_log (left_of on []) (reading (slices_of t a)) ≡ damaged_log (current_places s) ((standing_by (disks_of a) (now_in a) s).logs)
+    same_damaged few =
+        ap (λ ps. damaged_log ps (reading (slices_of t a))) asked
+        ∙ damaged_left (λ p. nat_lt 0 (sectors_of t (log_slice p))) (reading (slices_of t a)) (filter (is_current s) (range_with_len 0 16)) no_gate not_bad
+        ∙ ap (λ ps. damaged_log ps (reading (slices_of t a))) (sym (current_of_all s few))
+        ∙ damaged_by (reading (slices_of t a)) ((standing_by (disks_of a) (now_in a) s).logs) (current_places s) (gates_same few) (records_same few)
+
+    -- the record that is pending has the log's number
+    named_asked : (p : ℕ) → names (left_of on []) p ≡ names on p
+    named_asked p =
+        names_listed (is_left on [])
+        (λ q past. elim (cases_Bool (is_left on [] q)) [
+          | inr other ↦ other
+          | inl here ↦
+              let current = (and_parts (is_current s q) _ (sym (laid.places q) ∙ sym (both_true (names on q)) ∙ here)).0 in
+              let listed = is_listed s q current in
+              absurd (omega (arith, past, listed, few))
+        ]) p
+        ∙ both_true (names on p)
+      where
+        both_true : (b : Bool) → (b && true) ≡ b
+        both_true true = refl
+        both_true false = refl
+
+    number_is : Finds m on (left_of on []) is_pending damaged (reading (slices_of t a)) → (g : GateAt) → pending_at (left_of on []) (reading (slices_of t a)) ≡ Some g
+        → ((m.number ≡ 0) ⊎ ((p : ℕ) × (h : Gate) × (names on p ≡ true) × (gate_in (reading (slices_of t a)) p ≡ Some h) × (h.number ≡ m.number)))
+        → g.gate.number ≡ m.number
+    number_is finds g is (inl nothing) =
+        let at = pending_named (left_of on []) (reading (slices_of t a)) g is in
+        omega (arith, finds.above g.place g.gate at.0 at.1, nothing)
+    number_is finds g is (inr some) =
+        let at = pending_named (left_of on []) (reading (slices_of t a)) g is in
+        let below = finds.above g.place g.gate at.0 at.1 in
+        let most = pending_most (reading (slices_of t a)) (left_of on []) g is some.0 (record { place = some.0; gate = some.1 })
+        (named_asked some.0 ∙ some.2) (ap (λ (o : Option Gate). option_map (λ h. record { place = some.0; gate = h }) o) some.3) in
+        omega (arith, below, most, some.4)
 
 -- ---- nobody is passed over
 
@@ -182,7 +208,7 @@ pub none_listed : (f : ℕ → Bool) (ks : List ℕ) → ((p : ℕ) → f p ≡ 
 none_listed f [] none = refl
 none_listed f (k ∷ ks) none = filter_out f k ks (none k) ∙ none_listed f ks none
 
-gone_none : (a b : Seen) (t : Slices) (on gone : List ℕ) (m : LogView) (is_pending : Bool) (damaged : Option ℕ)
+pub gone_none : (a b : Seen) (t : Slices) (on gone : List ℕ) (m : LogView) (is_pending : Bool) (damaged : Option ℕ)
     → HasLooked a b t on gone m is_pending damaged → IsUnfaulted a b → gone ≡ []
 gone_none a b t on gone m is_pending damaged looked free =
     looked.ordered

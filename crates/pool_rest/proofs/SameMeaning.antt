@@ -63,10 +63,10 @@ seat_none disks s i p out =
     ap (λ (b : Bool). if b then option_map (λ k. k.disk) (foremost (λ k. k.epoch) (map (candidate s i p) (all_disks disks))) else None) out
 
 -- what a log slice shows of the gate of a place
-abbrev log_gate : Disks → Image → Option ℕ → List ℕ
+abbrev pub log_gate : Disks → Image → Option ℕ → List ℕ
 log_gate disks c o = option_map_or (λ d. option_map_or (λ (x : Extent). c d (x.first + gate_sector)) (log_extent (disks.sectors d)) []) o []
 
-log_read : (disks : Disks) (s : State) (i : Identities) (c : Image) (p : ℕ) → logs_of disks (seat_of s disks i) c (log_slice p) gate_sector ≡ log_gate disks c (seat_of s disks i p)
+pub log_read : (disks : Disks) (s : State) (i : Identities) (c : Image) (p : ℕ) → logs_of disks (seat_of s disks i) c (log_slice p) gate_sector ≡ log_gate disks c (seat_of s disks i p)
 log_read disks s i c p =
     let of_place : place_of (log_slice p) ≡ p = omega arith in
     let first : slice_of (log_slice p) ≡ 0 = omega arith in

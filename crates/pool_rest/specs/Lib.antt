@@ -1,4 +1,5 @@
 pub mod Laying
 pub mod Members
 pub mod Resting
+pub mod SoundLogs
 pub mod Standing

@@ -1,5 +1,5 @@
 -- What the disks of a pool hold once its pending record is replayed.
-use Rattle.std.specs.Prelude.{◌≡◌, ◌≢◌, ◌⊎◌, ℕ, ◌+◌, ◌<◌, ◌≤◌, Bool, true, false, List, slice_get, Option, Some, None, is_some, unwrap_or}
+use Rattle.std.specs.Prelude.{◌≡◌, ◌≢◌, ◌⊎◌, ℕ, ◌+◌, ◌<◌, ◌≤◌, Bool, true, false, List, slice_get, Option, Some, is_some, unwrap_or}
 use Rattle.std.specs.List.{filter_map}
 use Rattle.rack.specs.Values.{IsSingle}
 use Rattle.rack.specs.Seen.{Image, Seen, Rose}
@@ -13,9 +13,12 @@ use Rattle.pool_image.specs.Replay.{Standing, standing, standing_by, brought_sta
 use Rattle.pool_image.specs.Alike.{drive_gate}
 use Rattle.commit_log.specs.View.{LogView, names}
 use Rattle.pool_scan.specs.declared.Known.{Known}
-use Rattle.rack.specs.Sequences.{WritesOnly}
-use Rattle.pool_scan.specs.Scanning.{IsScan, now_in}
+use Rattle.rack.specs.Sequences.{OnlyReads, WritesOnly}
+use Rattle.pool_scan.specs.Scanning.{AllTold, IsScan, now_in}
 use Rattle.pool_scan.specs.Choosing.{seat_by}
+use Rattle.pool_rest.specs.declared.standing.FindFault.{FindFault}
+use Rattle.pool_rest.specs.declared.standing.FindFault.TheVariants.{Memory}
+use Rattle.pool_rest.specs.Standing.{IsLasting, since, IsCause}
 
 -- a sector that a replay may write: of a drive of the state, in its log slice or in the arrays' part of its disk
 pub record IsOfDrive (x : Seen) (known : List Known) (s : State) (d t : ℕ) (v : List ℕ) : Type 0 where
@@ -49,6 +52,12 @@ pub record IsReplayed (x y : Seen) (before s : State) (xs : List Target) : Type 
   pub no_gate : (d : ℕ) → d < x.disks → drive_gate < x.sectors d → replayed_on (disks_of x) s xs (now_in x) d drive_gate ≡ now_in x d drive_gate
   pub gates : (d : ℕ) → d < x.disks → drive_gate < x.sectors d → (now_in y d drive_gate ≡ now_in x d drive_gate) ⊎ IsClosedOn before s x y d
 
+-- The gate of a place that has the same disk by two states is closed with this number, where the disk has a log slice.
+abbrev pub AreShut : Seen → Seen → List Known → State → State → ℕ → Type 0
+AreShut x y known before s number =
+    (p d : ℕ) → p < 16 → seat_by before known p ≡ Some d → seat_by s known p ≡ Some d → arrays_first ≤ x.sectors d
+    → gate_of (now_in y d drive_gate) ≡ Some (record { is_open = false; number = number })
+
 -- the disk of each place of a list refused a call
 abbrev pub HaveCause : Seen → Seen → List Known → State → List ℕ → Type 0
 HaveCause x y known s places = (p d : ℕ) → names places p ≡ true → seat_by s known p ≡ Some d → Rose (x.faults d) (y.faults d)
@@ -81,13 +90,12 @@ pub record Rests (a b : Seen) (before : Standing) : Type 0 where
   pub no_gate : (d : ℕ) → d < a.disks → drive_gate < a.sectors d → written (disks_of a) before (now_in a) d drive_gate ≡ now_in a d drive_gate
   pub gates : (d : ℕ) → d < a.disks → drive_gate < a.sectors d → (now_in b d drive_gate ≡ now_in a d drive_gate) ⊎ IsShutOn before a b d
 
--- The pool stands so on what the disks hold now: its newest state, the record that is pending there, and no log is damaged where none
--- is said to be.
+-- The pool stands so on what the disks hold now: its newest state, the record that is pending there, and which log is damaged.
 pub record StandsNow (b : Seen) (s : State) (m : LogView) (is_pending : Bool) (damaged : Option ℕ) : Type 0 where
   pub stands : standing (disks_of b) (now_in b) ≡ Some (standing_by (disks_of b) (now_in b) s)
   pub targets : m.pending ≡ (standing_by (disks_of b) (now_in b) s).targets
   pub pending : is_pending ≡ is_some (pending_at (current_places s) (standing_by (disks_of b) (now_in b) s).logs)
-  pub whole : damaged ≡ None → damaged_log (current_places s) (standing_by (disks_of b) (now_in b) s).logs ≡ None
+  pub damaged_is : damaged ≡ damaged_log (current_places s) (standing_by (disks_of b) (now_in b) s).logs
 
 -- the state whose drives a pending record is for
 abbrev pub seated_state : List Target → State → State
@@ -105,3 +113,13 @@ pub record WritesDrives (a b : Seen) : Type 0 where
   pub state : State
   pub scan : IsScan a b known
   pub only : WritesOnly a b (IsOfDrive a known state)
+
+-- Why no pool was found after a replay: by what was read then, which the disks hold still. Memory was had before it.
+pub record IsCauseAfter (a b : Seen) (why : FindFault) : Type 0 where
+  pub writes : WritesDrives a b
+  pub found : why ≢ Memory
+  pub cause : AllTold a → IsLasting a → IsCause (since a b) b why
+
+-- Why no pool was brought to rest: by what was read before anything was written, or after the replay.
+abbrev pub IsRefused : Seen → Seen → FindFault → Type 0
+IsRefused a b why = (OnlyReads a b × IsCause a b why) ⊎ IsCauseAfter a b why

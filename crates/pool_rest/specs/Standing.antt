@@ -5,10 +5,10 @@ use Rattle.pool_state.specs.declared.contents.State.{State}
 use Rattle.slice_rack.specs.Slices.{Slices, seat_of, first_of, sectors_of}
 use Rattle.slice_rack.specs.Sliced.{sliced, slices_of}
 use Rattle.array_image.specs.Places.{log_slice, state_sector}
-use Rattle.array_image.specs.Record.{pending_at, damaged_log}
+use Rattle.array_image.specs.Record.{GateAt, pending_at, damaged_log}
 use Rattle.array_image.specs.States.{is_current, current_places}
 use Rattle.array_image.specs.Left.{reading}
-use Rattle.pool_image.specs.Disks.{disks_of, newest}
+use Rattle.pool_image.specs.Disks.{Disks, Identities, disks_of, newest}
 use Rattle.pool_image.specs.Replay.{logs_of, standing, standing_by}
 use Rattle.pool_image.specs.Meaning.{no_pool, two_pools, refusal_of}
 use Rattle.commit_log.specs.View.{LogView, names, left_of, in_order}
@@ -16,7 +16,7 @@ use Rattle.commit_log.specs.Phases.{AreLogs}
 use Rattle.commit_log.specs.Opening.{Finds}
 use Rattle.pool_scan.specs.declared.Known.{Known}
 use Rattle.pool_scan.specs.Scanning.{AllTold, IsScan, as_read, now_in}
-use Rattle.pool_scan.specs.Choosing.{has_pool_other_than, seat_by}
+use Rattle.pool_scan.specs.Choosing.{AreOf, has_pool_other_than, seat_by}
 use Rattle.pool_rest.specs.Laying.{laid_sectors}
 use Rattle.pool_rest.specs.declared.standing.FindFault.{FindFault}
 use Rattle.pool_rest.specs.declared.standing.FindFault.TheVariants.{NoPool, TwoPools, Memory}
@@ -44,6 +44,11 @@ pub record IsNewest (a b : Seen) (known : List Known) (s : State) : Type 0 where
   pub scan : IsScan a b known
   pub newest : AllTold a → newest (disks_of a) (as_read a known) ≡ Some s
 
+-- No copy that was read is of another pool than the state.
+abbrev pub IsOnePool : List Known → State → Type 0
+IsOnePool known s =
+    (disks : Disks) (identities : Identities) → AreOf disks identities known → has_pool_other_than s.pool.0 disks identities ≡ false
+
 -- What was found of the pending record on these slices; `gone` are the places that refused a call in it.
 pub record HasLooked (a b : Seen) (t : Slices) (on gone : List ℕ) (m : LogView) (is_pending : Bool) (damaged : Option ℕ) : Type 0 where
   pub ordered : gone ≡ in_order gone
@@ -61,7 +66,13 @@ pub record StandsAs (a : Seen) (s : State) (t : Slices) (m : LogView) (is_pendin
   pub logs : (k u : ℕ) → k < 272 → reading (slices_of t a) k u ≡ (standing_by (disks_of a) (now_in a) s).logs k u
   pub targets : IsLasting a → m.pending ≡ (standing_by (disks_of a) (now_in a) s).targets
   pub pending : IsLasting a → is_pending ≡ is_some (pending_at (current_places s) (standing_by (disks_of a) (now_in a) s).logs)
-  pub whole : IsLasting a → damaged ≡ None → damaged_log (current_places s) (standing_by (disks_of a) (now_in a) s).logs ≡ None
+  pub number :
+      IsLasting a → (g : GateAt) → pending_at (current_places s) (standing_by (disks_of a) (now_in a) s).logs ≡ Some g → g.gate.number ≡ m.number
+  pub damaged_is : IsLasting a → damaged ≡ damaged_log (current_places s) (standing_by (disks_of a) (now_in a) s).logs
+
+-- the disks as they are at the end, with the faults that they had at the start: what rose since then counts
+abbrev pub since : Seen → Seen → Seen
+since a b = record b { faults = a.faults }
 
 -- and no pool is found where the meaning has this refusal
 abbrev pub IsMeant : Seen → FindFault → Type 0

@@ -11,9 +11,11 @@
 //! log finds is what they hold (`HasLooked`), all in specs/Standing.antt. A refusal has its cause in what was read (`IsCause`).
 //!
 //! **The contract of [`bring_to_rest`]** (specs/Resting.antt). Whatever holds, only sectors of drives are written, in their log slices
-//! and in the arrays' part of their disks (`WritesDrives`). Where no disk refused a call, the disks hold what they held with the
-//! pending record written, and no gate was mended or opened (`RestsSo`); the pool stands so on what they hold now (`StandsNow`); and
-//! where nothing is pending any more, they mean what they meant (`MeansTheSame` of pool_image).
+//! and in the arrays' part of their disks (`WritesDrives`). What was read last is what the disks hold, and of one pool (`IsNewest`,
+//! `IsOnePool`). Where no disk refused a call, the disks hold what they held with the pending record written, and no gate was mended or
+//! opened (`RestsSo`); the pool stands so on what they hold now (`StandsNow`); and where nothing is pending any more, they mean what they
+//! meant (`MeansTheSame` of pool_image). Nothing is pending where the logs were as commits leave them (`HasSoundLogs` and `IsSettled` of
+//! specs/SoundLogs.antt). A refusal has its cause in what was read, before anything was written or after the replay (`IsRefused`).
 #![tactic(auto)]
 
 mod brought;

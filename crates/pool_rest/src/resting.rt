@@ -1,6 +1,6 @@
 //! A pool at rest: its pending record is replayed.
 
-ghost use Rattle.std.specs.Prelude.{◌≡◌, ◌≢◌, ◌<◌, ◌⊎◌, ◌^◌, ◌==◌, ◌&&◌, ◌||◌, ℕ, List, true, false, length, [], Some, None, unwrap_or, IfOk, IfErr};
+ghost use Rattle.std.specs.Prelude.{◌≡◌, ◌≢◌, ◌<◌, ◌⊎◌, ◌^◌, ◌==◌, ◌&&◌, ◌||◌, not, ℕ, List, true, false, length, [], Some, None, unwrap_or, IfOk, IfErr};
 ghost use Rattle.std.specs.List.{list_all};
 ghost use Rattle.rack.specs.Values.{Keeps};
 ghost use Rattle.rack.specs.Seen.{IsLive};
@@ -14,12 +14,13 @@ ghost use Rattle.pool_image.specs.Disks.{disks_of, identities_of};
 ghost use Rattle.commit_log.specs.View.{names, settled};
 ghost use Rattle.pool_scan.specs.Scanning.{AllTold, IsUnfaulted, now_in};
 ghost use Rattle.pool_scan.specs.Choosing.{AreOf, seat_by};
-ghost use Rattle.pool_rest.specs.Standing.{IsLasting, IsLaid};
+ghost use Rattle.pool_rest.specs.Standing.{IsLasting, IsLaid, IsNewest, IsOnePool, IsCause, IsMeant, since};
 ghost use Rattle.pool_state.specs.Valid.{is_valid};
 ghost use Rattle.pool_image.specs.Alike.{drive_gate, MeansTheSame};
 ghost use Rattle.pool_image.specs.Replay.{brought_state, standing_by};
 ghost use Rattle.pool_image.specs.Meaning.{has_other_pool};
-ghost use Rattle.pool_rest.specs.Resting.{IsOfDrive, IsReplayed, HaveCause, IsFlagged, HasDisk, HasRefused, StandsNow, RestsSo, WritesDrives, seated_state};
+ghost use Rattle.pool_rest.specs.SoundLogs.{HasSoundLogs, IsSettled};
+ghost use Rattle.pool_rest.specs.Resting.{IsOfDrive, IsReplayed, AreShut, HaveCause, IsFlagged, HasDisk, HasRefused, StandsNow, RestsSo, WritesDrives, IsRefused, seated_state};
 
 use crate::brought::brought_state as brought_by;
 use crate::laying::seat_drives;
@@ -42,8 +43,10 @@ fn is_among(places: &Places, place: u32) -> bool
 /// Whether a place of a list has the same disk by two states.
 fn is_kept(scan: &Scan, before: &State, state: &State, on: &Places, place: u32) -> bool
     requires { length scan.now.disks.items < 2 ^ 32 }
-    ensures { result ≡ true
+    ensures kept { result ≡ true
         → (names on.now.items place ≡ true) × (seat_by before.now scan.now.disks.items place ≡ seat_by state.now scan.now.disks.items place) }
+    ensures all { names on.now.items place ≡ true → seat_by before.now scan.now.disks.items place ≡ seat_by state.now scan.now.disks.items place
+        → result ≡ true }
 {
     is_among(on, place) && scan.seat(before, place) == scan.seat(state, place)
 }
@@ -51,8 +54,10 @@ fn is_kept(scan: &Scan, before: &State, state: &State, on: &Places, place: u32) 
 /// The places of a list that have the disk that they had before, where their gates were found to be well formed.
 fn judged(scan: &Scan, before: &State, state: &State, on: &Places) -> Places
     requires { length scan.now.disks.items < 2 ^ 32 }
-    ensures { (p : ℕ) → names result.items p ≡ true
+    ensures kept { (p : ℕ) → names result.items p ≡ true
         → (names on.now.items p ≡ true) × (seat_by before.now scan.now.disks.items p ≡ seat_by state.now scan.now.disks.items p) }
+    ensures all { (p : ℕ) → p < 16 → names on.now.items p ≡ true
+        → seat_by before.now scan.now.disks.items p ≡ seat_by state.now scan.now.disks.items p → names result.items p ≡ true }
 {
     let mut places = Places::new();
     for place in 0..16 {
@@ -72,8 +77,10 @@ fn closing_of(
     on: &Places,
 ) -> Places
     requires { length scan.now.disks.items < 2 ^ 32 }
-    ensures { (p : ℕ) → names result.items p ≡ true
+    ensures kept { (p : ℕ) → names result.items p ≡ true
         → (names on.now.items p ≡ true) × (seat_by before.now scan.now.disks.items p ≡ seat_by state.now scan.now.disks.items p) }
+    ensures all { whole ≡ true → unread.now.items ≡ [] → (p : ℕ) → p < 16 → names on.now.items p ≡ true
+        → seat_by before.now scan.now.disks.items p ≡ seat_by state.now scan.now.disks.items p → names result.items p ≡ true }
 {
     if whole && unread.is_empty() {
         judged(scan, before, state, on)
@@ -113,8 +120,17 @@ fn is_flagged(scan: &Scan, disk: u32) -> bool
 }
 
 /// Whether no disk refused a call of a scan.
-fn are_there(scan: &Scan) -> bool {
+fn are_there(scan: &Scan) -> bool
+    ensures { result ≡ list_all (λ known. not known.gone) scan.now.disks.items }
+{
     scan.disks.as_slice().iter().all(|known| !known.gone)
+}
+
+/// Whether no disk refused a call of a scan, or when the pending record was looked for.
+fn is_whole(scan: &Scan, gone: &Places) -> bool
+    ensures { list_all (λ known. not known.gone) scan.now.disks.items ≡ true → gone.now.items ≡ [] → result ≡ true }
+{
+    gone.is_empty() && are_there(scan)
 }
 
 /// Whether a place of a list has this disk.
@@ -256,6 +272,9 @@ pub(crate) fn replay_on<R: Rack>(
         → AreOf (disks_of (R.seen rack)) (identities_of (disks_of (R.seen rack)) (now_in (R.seen rack))) scan.now.disks.items
         → list_all is_target log.pending ≡ true
         → IsReplayed (R.seen rack) (R.seen result.rack) before.now state.now log.pending }
+    // Where no disk refused a call, gates of places that have the same disk by both states are closed.
+    ensures shut { whole ≡ true → AllTold (R.seen rack) → IsLasting (R.seen rack) → IsUnfaulted (R.seen rack) (R.seen result.rack)
+        → log.pending ≢ [] → AreShut (R.seen rack) (R.seen result.rack) scan.now.disks.items before.now state.now log.number }
     ensures lost { HaveCause (R.seen rack) (R.seen result.rack) scan.now.disks.items state.now result.lost.items }
     ensures log { result.log ≡ settled log }
     ensures runs { R.runs rack result.rack }
@@ -330,9 +349,8 @@ fn seated_by(log: &Log, state: &State) -> State
     }
 }
 
-/// Replays the record of a pool as it stands, and looks at the disks once more. It answers the rack alone where no disk has a state
-/// then. It takes no memory.
-fn replay_found<R: Rack>(found: Standing<R>, room: Scan) -> Result<AtRest<R>, R>
+/// Replays the record of a pool as it stands, and looks at the disks once more. It takes no memory.
+fn replay_found<R: Rack>(found: Standing<R>, room: Scan) -> Result<AtRest<R>, Back<R, FindFault>>
     requires fit { (slices_of (tables found.slices) (R.seen (below_of found.slices))).fit }
     requires count { length found.scan.disks.items ≡ (R.seen (below_of found.slices)).disks }
     requires few { length found.scan.disks.items < 2 ^ 32 }
@@ -351,13 +369,28 @@ fn replay_found<R: Rack>(found: Standing<R>, room: Scan) -> Result<AtRest<R>, R>
         → IsUnfaulted (R.seen (below_of found.slices)) (R.seen (below_of r.slices))
         → StandsNow (R.seen (below_of r.slices)) r.state r.log r.pending r.damaged) }
     ensures laid { IfOk result (λ r. IsLaid (R.seen (below_of r.slices)) r.scan.disks.items r.state (tables r.slices) r.on.items) }
+    ensures shut { IfOk result (λ r. list_all (λ known. not known.gone) found.scan.disks.items ≡ true → found.looked.gone.items ≡ []
+        → AllTold (R.seen (below_of found.slices)) → IsLasting (R.seen (below_of found.slices))
+        → IsUnfaulted (R.seen (below_of found.slices)) (R.seen (below_of r.slices)) → found.log.pending ≢ []
+        → AreShut (R.seen (below_of found.slices)) (R.seen (below_of r.slices)) found.scan.disks.items found.state (seated_state found.log.pending found.state) found.log.number) }
+    ensures newest { IfOk result (λ r. AllTold (R.seen (below_of found.slices)) → IsLasting (R.seen (below_of found.slices))
+        → IsNewest (since (R.seen (below_of found.slices)) (R.seen (below_of r.slices))) (R.seen (below_of r.slices)) r.scan.disks.items r.state) }
+    ensures one { IfOk result (λ r. IsOnePool r.scan.disks.items r.state) }
     ensures runs { IfOk result (λ r. R.runs (below_of found.slices) (below_of r.slices)) }
-    ensures back { IfErr result (λ back. WritesOnly (R.seen (below_of found.slices)) (R.seen back)
+    ensures back { IfErr result (λ back. WritesOnly (R.seen (below_of found.slices)) (R.seen back.rack)
         (IsOfDrive (R.seen (below_of found.slices)) found.scan.disks.items (seated_state found.log.pending found.state))) }
-    ensures returned { IfErr result (λ back. R.runs (below_of found.slices) back) }
+    ensures wrote { IfErr result (λ back. AllTold (R.seen (below_of found.slices)) → IsLasting (R.seen (below_of found.slices))
+        → IsUnfaulted (R.seen (below_of found.slices)) (R.seen back.rack)
+        → AreOf (disks_of (R.seen (below_of found.slices))) (identities_of (disks_of (R.seen (below_of found.slices))) (now_in (R.seen (below_of found.slices)))) found.scan.disks.items
+        → list_all is_target found.log.pending ≡ true
+        → IsReplayed (R.seen (below_of found.slices)) (R.seen back.rack) found.state (seated_state found.log.pending found.state) found.log.pending) }
+    ensures found { IfErr result (λ back. back.why ≢ FindFault.Memory) }
+    ensures refused { IfErr result (λ back. AllTold (R.seen (below_of found.slices)) → IsLasting (R.seen (below_of found.slices))
+        → IsCause (since (R.seen (below_of found.slices)) (R.seen back.rack)) (R.seen back.rack) back.why) }
+    ensures returned { IfErr result (λ back. R.runs (below_of found.slices) back.rack) }
 {
     let seated = seated_by(&found.log, &found.state);
-    let whole = found.looked.gone.is_empty() && are_there(&found.scan);
+    let whole = is_whole(&found.scan, &found.looked.gone);
     let done = replay_on(
         found.slices.into_inner(),
         found.log,
@@ -368,7 +401,7 @@ fn replay_found<R: Rack>(found: Standing<R>, room: Scan) -> Result<AtRest<R>, R>
     );
     let again = match look(done.rack, room, done.log) {
         Ok(again) => again,
-        Err(rack) => return Err(rack),
+        Err(back) => return Err(back),
     };
     let refused = Refused {
         scan: found.scan,
@@ -401,15 +434,30 @@ pub fn bring_to_rest<R: Rack>(alloc: Global, rack: R) -> Result<AtRest<R>, Back<
         → RestsSo (R.seen rack) (R.seen (below_of r.slices))) }
     ensures stands { IfOk result (λ r. AllTold (R.seen rack) → IsLasting (R.seen rack) → IsUnfaulted (R.seen rack) (R.seen (below_of r.slices))
         → StandsNow (R.seen (below_of r.slices)) r.state r.log r.pending r.damaged) }
-    // So where nothing is pending any more and no other pool came, the pool means what it meant.
+    // What was read of the disks is what they hold still, and the state is the newest of it, of one pool.
+    ensures newest { IfOk result (λ r. AllTold (R.seen rack) → IsLasting (R.seen rack)
+        → IsNewest (since (R.seen rack) (R.seen (below_of r.slices))) (R.seen (below_of r.slices)) r.scan.disks.items r.state) }
+    ensures one { IfOk result (λ r. IsOnePool r.scan.disks.items r.state) }
+    ensures single { IfOk result (λ r. AllTold (R.seen rack) → IsLasting (R.seen rack) → IsUnfaulted (R.seen rack) (R.seen (below_of r.slices))
+        → has_other_pool (disks_of (R.seen (below_of r.slices))) (standing_by (disks_of (R.seen (below_of r.slices))) (now_in (R.seen (below_of r.slices))) r.state) ≡ false) }
+    // So where nothing is pending any more, the pool means what it meant.
     ensures means { IfOk result (λ r. AllTold (R.seen rack) → IsLasting (R.seen rack) → IsUnfaulted (R.seen rack) (R.seen (below_of r.slices))
         → r.pending ≡ false → r.damaged ≡ None
-        → has_other_pool (disks_of (R.seen (below_of r.slices))) (standing_by (disks_of (R.seen (below_of r.slices))) (now_in (R.seen (below_of r.slices))) r.state) ≡ false
         → MeansTheSame (disks_of (R.seen rack)) (now_in (R.seen rack)) (now_in (R.seen (below_of r.slices)))) }
+    // Where the logs were sound, nothing is pending any more and no log is damaged: it means what it meant.
+    ensures settled { IfOk result (λ r. AllTold (R.seen rack) → IsLasting (R.seen rack) → IsUnfaulted (R.seen rack) (R.seen (below_of r.slices))
+        → HasSoundLogs (disks_of (R.seen rack)) (now_in (R.seen rack)) → IsSettled (R.seen rack) (R.seen (below_of r.slices)) r.state r.pending r.damaged) }
     ensures runs { IfOk result (λ r. R.runs rack (below_of r.slices)) }
     ensures back { IfErr result (λ back. OnlyReads (R.seen rack) (R.seen back.rack) ⊎ WritesDrives (R.seen rack) (R.seen back.rack)) }
-    // Want of memory is found before anything is written.
-    ensures memory { IfErr result (λ back. back.why ≢ FindFault.NoPool → OnlyReads (R.seen rack) (R.seen back.rack)) }
+    ensures refused { IfErr result (λ back. IsRefused (R.seen rack) (R.seen back.rack) back.why) }
+    // Where no disk refused a call, the meaning of images has this refusal, or two pools are there only once the record is written.
+    ensures exact { IfErr result (λ back. AllTold (R.seen rack) → IsLasting (R.seen rack) → IsUnfaulted (R.seen rack) (R.seen back.rack)
+        → IsMeant (R.seen rack) back.why ⊎ ((back.why ≡ FindFault.TwoPools) × IsMeant (R.seen back.rack) back.why)) }
+    // And where the logs were sound too, no pool is refused once anything is written.
+    ensures found { IfErr result (λ back. AllTold (R.seen rack) → IsLasting (R.seen rack) → IsUnfaulted (R.seen rack) (R.seen back.rack)
+        → HasSoundLogs (disks_of (R.seen rack)) (now_in (R.seen rack)) → OnlyReads (R.seen rack) (R.seen back.rack)) }
+    // Want of memory is found before any call to the rack.
+    ensures memory { IfErr result (λ back. back.why ≡ FindFault.Memory → back.rack ≡ rack) }
     ensures returned { IfErr result (λ back. R.runs rack back.rack) }
 {
     let disks = rack.disks();
@@ -428,9 +476,6 @@ pub fn bring_to_rest<R: Rack>(alloc: Global, rack: R) -> Result<AtRest<R>, Back<
     }
     match replay_found(found, room) {
         Ok(rest) => Ok(rest),
-        Err(rack) => Err(Back {
-            rack,
-            why: FindFault::NoPool,
-        }),
+        Err(back) => Err(back),
     }
 }

@@ -1,16 +1,16 @@
 //! A pool as it stands on disks, before its pending record is replayed.
 
-ghost use Rattle.std.specs.Prelude.{◌≡◌, ◌<◌, ◌≤◌, ◌^◌, ℕ, length, IfOk, IfErr, IfSome, true, false, []};
+ghost use Rattle.std.specs.Prelude.{◌≡◌, ◌≢◌, ◌<◌, ◌≤◌, ◌^◌, ℕ, length, IfOk, IfErr, IfSome, true, false, []};
 ghost use Rattle.rack.specs.Sequences.{OnlyReads};
 ghost use Rattle.slice_rack.specs.Sliced.{slices_of};
 ghost use Rattle.slice_rack.specs.SliceRack.{tables, below_of};
 ghost use Rattle.pool_image.specs.Disks.{Disks, Identities, newest, disks_of};
 ghost use Rattle.pool_image.specs.Meaning.{has_other_pool};
 ghost use Rattle.pool_image.specs.Replay.{standing_by};
-ghost use Rattle.pool_scan.specs.Choosing.{AreOf, HasCopyOf, has_pool_other_than};
+ghost use Rattle.pool_scan.specs.Choosing.{AreOf, HasCopyOf};
 ghost use Rattle.pool_state.specs.Valid.{is_valid};
-ghost use Rattle.pool_rest.specs.Standing.{IsNewest, IsLaid, HasLooked, StandsAs, IsCause, IsMeant};
-ghost use Rattle.pool_scan.specs.Scanning.{AllTold, IsUnfaulted, as_read, now_in};
+ghost use Rattle.pool_rest.specs.Standing.{IsNewest, IsOnePool, IsLaid, HasLooked, StandsAs, IsCause, IsMeant};
+ghost use Rattle.pool_scan.specs.Scanning.{AllTold, IsUnfaulted, now_in};
 
 use crate::laying::seat_drives;
 use arrayvec::ArrayVec;
@@ -89,9 +89,13 @@ fn newest_of(scan: &Scan) -> Option<State>
     }
 }
 
-/// Looks at the disks of a rack with a scan and a log that have their memory: finds the newest state, and the record that is pending
-/// by it. Nothing is written. It answers the rack alone where no disk has a state.
-pub(crate) fn look<R: Rack>(rack: R, scan: Scan, log: Log) -> Result<Standing<R>, R>
+/// Looks at the disks of a rack with a scan and a log that have their memory: finds the newest state, of one pool, and the record that
+/// is pending by it. Nothing is written. It takes no memory.
+pub(crate) fn look<R: Rack>(
+    rack: R,
+    scan: Scan,
+    log: Log,
+) -> Result<Standing<R>, Back<R, FindFault>>
     requires fit { (R.seen rack).fit }
     requires small { (d : ℕ) → d < (R.seen rack).disks → (R.seen rack).sectors d < 2 ^ 48 }
     requires room { length scan.disks.items ≡ (R.seen rack).disks }
@@ -101,22 +105,35 @@ pub(crate) fn look<R: Rack>(rack: R, scan: Scan, log: Log) -> Result<Standing<R>
     ensures few { IfOk result (λ st. length st.scan.disks.items < 2 ^ 32) }
     ensures valid { IfOk result (λ st. is_valid st.state 0 ≡ true) }
     ensures newest { IfOk result (λ st. IsNewest (R.seen rack) (R.seen (below_of st.slices)) st.scan.disks.items st.state) }
+    ensures one { IfOk result (λ st. IsOnePool st.scan.disks.items st.state) }
     ensures laid { IfOk result (λ st. IsLaid (R.seen rack) st.scan.disks.items st.state (tables st.slices) st.on.items) }
     ensures looked { IfOk result (λ st. HasLooked (R.seen rack) (R.seen (below_of st.slices)) (tables st.slices) st.on.items st.looked.gone.items st.log st.looked.pending st.looked.damaged) }
     ensures meant { IfOk result (λ st. AllTold (R.seen rack) → IsUnfaulted (R.seen rack) (R.seen (below_of st.slices))
         → StandsAs (R.seen rack) st.state (tables st.slices) st.log st.looked.pending st.looked.damaged) }
+    ensures single { IfOk result (λ st. AllTold (R.seen rack) → IsUnfaulted (R.seen rack) (R.seen (below_of st.slices))
+        → has_other_pool (disks_of (R.seen rack)) (standing_by (disks_of (R.seen rack)) (now_in (R.seen rack)) st.state) ≡ false) }
     ensures runs { IfOk result (λ st. R.runs rack (below_of st.slices)) }
-    ensures kept { IfErr result (λ back. OnlyReads (R.seen rack) (R.seen back)) }
-    ensures none { IfErr result (λ back. IsCause (R.seen rack) (R.seen back) FindFault.NoPool) }
-    ensures returned { IfErr result (λ back. R.runs rack back) }
+    ensures kept { IfErr result (λ back. OnlyReads (R.seen rack) (R.seen back.rack)) }
+    ensures refused { IfErr result (λ back. IsCause (R.seen rack) (R.seen back.rack) back.why) }
+    ensures found { IfErr result (λ back. back.why ≢ FindFault.Memory) }
+    ensures returned { IfErr result (λ back. R.runs rack back.rack) }
 {
     let mut rack = rack;
     let mut scan = scan;
     let mut log = log;
     scan.read(&mut rack);
     let Some(state) = newest_of(&scan) else {
-        return Err(rack);
+        return Err(Back {
+            rack,
+            why: FindFault::NoPool,
+        });
     };
+    if scan.has_other_pool(&state.pool) {
+        return Err(Back {
+            rack,
+            why: FindFault::TwoPools,
+        });
+    }
     let mut slices = SliceRack::new(rack);
     let on = seat_drives(&mut slices, &scan, &state);
     let looked = log.pending(&mut slices, &on);
@@ -143,7 +160,7 @@ pub fn stand<R: Rack>(alloc: Global, rack: R) -> Result<Standing<R>, Back<R, Fin
     ensures few { IfOk result (λ st. length st.scan.disks.items < 2 ^ 32) }
     ensures valid { IfOk result (λ st. is_valid st.state 0 ≡ true) }
     ensures newest { IfOk result (λ st. IsNewest (R.seen rack) (R.seen (below_of st.slices)) st.scan.disks.items st.state) }
-    ensures one_pool { IfOk result (λ st. AllTold (R.seen rack) → has_pool_other_than st.state.pool.0 (disks_of (R.seen rack)) (as_read (R.seen rack) st.scan.disks.items) ≡ false) }
+    ensures one { IfOk result (λ st. IsOnePool st.scan.disks.items st.state) }
     ensures laid { IfOk result (λ st. IsLaid (R.seen rack) st.scan.disks.items st.state (tables st.slices) st.on.items) }
     ensures looked { IfOk result (λ st. HasLooked (R.seen rack) (R.seen (below_of st.slices)) (tables st.slices) st.on.items st.looked.gone.items st.log st.looked.pending st.looked.damaged) }
     // Where no disk refused a call, all of it is as the meaning of images says.
@@ -155,6 +172,8 @@ pub fn stand<R: Rack>(alloc: Global, rack: R) -> Result<Standing<R>, Back<R, Fin
     ensures kept { IfErr result (λ back. OnlyReads (R.seen rack) (R.seen back.rack)) }
     ensures refused { IfErr result (λ back. IsCause (R.seen rack) (R.seen back.rack) back.why) }
     ensures exact { IfErr result (λ back. AllTold (R.seen rack) → IsUnfaulted (R.seen rack) (R.seen back.rack) → IsMeant (R.seen rack) back.why) }
+    // Want of memory is found before any call to the rack.
+    ensures memory { IfErr result (λ back. back.why ≡ FindFault.Memory → back.rack ≡ rack) }
     ensures returned { IfErr result (λ back. R.runs rack back.rack) }
 {
     let disks = rack.disks();
@@ -165,20 +184,8 @@ pub fn stand<R: Rack>(alloc: Global, rack: R) -> Result<Standing<R>, Back<R, Fin
     let Ok(log) = Log::make(alloc) else {
         return Err(Back { rack, why });
     };
-    let found = match look(rack, scan, log) {
-        Ok(found) => found,
-        Err(rack) => {
-            return Err(Back {
-                rack,
-                why: FindFault::NoPool,
-            });
-        }
-    };
-    if found.scan.has_other_pool(&found.state.pool) {
-        return Err(Back {
-            rack: found.slices.into_inner(),
-            why: FindFault::TwoPools,
-        });
+    match look(rack, scan, log) {
+        Ok(found) => Ok(found),
+        Err(back) => Err(back),
     }
-    Ok(found)
 }

@@ -1,6 +1,6 @@
 use Rattle.slice_rack.specs.SliceRack.{below_of}
 use Rattle.raid_rack.specs.RaidRack.{slices_in}
-use Rattle.std.proofs.Common.{◌⊎◌, sym, subst, inr}
+use Rattle.std.proofs.Common.{◌⊎◌, inr}
 use Rattle.std.proofs.lemmas.Bool.{both_ways}
 use Rattle.rack.specs.Sequences.{OnlyReads}
 use Rattle.pool_rest.specs.Resting.{WritesDrives}

@@ -1,12 +1,19 @@
-use Rattle.std.proofs.Common.{sym, ap, subst, ◌∙◌, inr, length}
+use Rattle.std.proofs.Common.{sym, ap, subst, ◌∙◌, inl, inr, length}
+use Rattle.rack.specs.Seen.{Stays}
+use Rattle.rack.specs.Joins.{stays_then}
 use Rattle.slice_rack.specs.SliceRack.{tables, below_of}
 use Rattle.pool_image.specs.Disks.{disks_of}
 use Rattle.pool_image.specs.Alike.{MeansTheSame}
 use Rattle.pool_scan.specs.Scanning.{IsUnfaulted, now_in}
-use Rattle.pool_rest.specs.Standing.{IsLaid}
+use Rattle.pool_rest.specs.Standing.{IsLaid, IsNewest, IsOnePool, since}
 use Rattle.pool_rest.specs.Resting.{RestsSo, StandsNow, WritesDrives, seated_state}
-use Rattle.pool_rest.proofs.Again.{laid_later}
-use Rattle.pool_rest.proofs.Joined.{no_elements, writes_idle, writes_since, since_so, since_stands, since_means, idle_so, idle_stands, idle_same}
+use Rattle.pool_rest.proofs.Agreeing.{told_later, lasting_later}
+use Rattle.pool_rest.proofs.Meant.{gone_none}
+use Rattle.pool_rest.proofs.Again.{laid_later, newest_still, newest_from, cause_from, single_now}
+use Rattle.pool_rest.specs.SoundLogs.{IsSettled}
+use Rattle.pool_rest.proofs.Refusals.{meant_after}
+use Rattle.pool_rest.proofs.Quiet.{none_flagged, no_cause, settled_after, settled_idle}
+use Rattle.pool_rest.proofs.Joined.{no_elements, writes_idle, writes_since, free_before, free_after, since_rests, since_so, since_stands, since_means, idle_so, idle_stands, idle_same}
 use Rattle.pool_rest.proofs.resting.bring_to_rest.Goals as goal
 
 pub returns-then-pending_count-eq0-clause-only : goal.returns-then-pending_count-eq0-clause-only
@@ -45,7 +52,7 @@ returns-then-pending_count-eq0-clause-stands g c = λ told lasts free.
     (subst (λ k. IsUnfaulted (g.R.Rack.seen c.args.rack) (g.R.Rack.seen (below_of k))) rest.slices free))))))
 
 pub returns-then-pending_count-eq0-clause-means : goal.returns-then-pending_count-eq0-clause-means
-returns-then-pending_count-eq0-clause-means g c = λ told lasts free idle whole one.
+returns-then-pending_count-eq0-clause-means g c = λ told lasts free idle whole.
     let same = c.as_it_stands.ensures.slices in
     subst (λ k. MeansTheSame (disks_of (g.R.Rack.seen c.args.rack)) (now_in (g.R.Rack.seen c.args.rack)) (now_in (g.R.Rack.seen (below_of k)))) (sym same)
     (idle_same (g.R.Rack.seen c.args.rack) (g.R.Rack.seen (below_of c.in-Ok-stand.found.slices)) c.in-Ok-stand.found.state (tables c.in-Ok-stand.found.slices) c.in-Ok-stand.found.log c.in-Ok-stand.found.looked.pending c.in-Ok-stand.found.looked.damaged c.in-Ok-stand.ensures.only
@@ -68,21 +75,157 @@ returns-in-Ok-replay_found-clause-stands g c =
     since_stands (g.R.Rack.seen c.args.rack) (g.R.Rack.seen (below_of c.in-Ok-stand.found.slices)) (g.R.Rack.seen (below_of c.in-Ok-replay_found.rest.slices)) c.in-Ok-stand.found.scan.disks.items c.in-Ok-stand.found.state (tables c.in-Ok-stand.found.slices) c.in-Ok-stand.found.log c.in-Ok-stand.found.looked.pending c.in-Ok-stand.found.looked.damaged
     c.in-Ok-stand.ensures.only c.in-Ok-replay_found.ensures.only.stays c.in-Ok-stand.ensures.newest.scan c.in-Ok-stand.ensures.meant rest.state rest.log rest.pending rest.damaged c.in-Ok-replay_found.ensures.stands
 
+pub returns-in-Ok-replay_found-clause-newest : goal.returns-in-Ok-replay_found-clause-newest
+returns-in-Ok-replay_found-clause-newest g c = λ told lasts.
+    newest_from (g.R.Rack.seen c.args.rack) (g.R.Rack.seen (below_of c.in-Ok-stand.found.slices)) (g.R.Rack.seen (below_of c.in-Ok-replay_found.rest.slices)) c.in-Ok-replay_found.rest.scan.disks.items c.in-Ok-replay_found.rest.state
+    c.in-Ok-stand.ensures.only.stays
+    (c.in-Ok-replay_found.ensures.newest
+    (told_later (g.R.Rack.seen c.args.rack) (g.R.Rack.seen (below_of c.in-Ok-stand.found.slices)) c.in-Ok-stand.ensures.only.stays told)
+    (lasting_later (g.R.Rack.seen c.args.rack) (g.R.Rack.seen (below_of c.in-Ok-stand.found.slices)) c.in-Ok-stand.ensures.only.stays lasts))
+
+pub returns-in-Ok-replay_found-clause-single : goal.returns-in-Ok-replay_found-clause-single
+returns-in-Ok-replay_found-clause-single g c = λ told lasts free.
+    let stays = stays_then c.in-Ok-stand.ensures.only.stays c.in-Ok-replay_found.ensures.only.stays in
+    single_now (g.R.Rack.seen c.args.rack) (g.R.Rack.seen (below_of c.in-Ok-replay_found.rest.slices)) c.in-Ok-replay_found.rest.scan.disks.items c.in-Ok-replay_found.rest.state
+    (returns-in-Ok-replay_found-clause-newest g c told lasts)
+    (told_later (g.R.Rack.seen c.args.rack) (g.R.Rack.seen (below_of c.in-Ok-replay_found.rest.slices)) stays told)
+    free c.in-Ok-replay_found.ensures.one
+
 pub returns-in-Ok-replay_found-clause-means : goal.returns-in-Ok-replay_found-clause-means
 returns-in-Ok-replay_found-clause-means g c =
     let rest = c.in-Ok-replay_found.rest in
     since_means (g.R.Rack.seen c.args.rack) (g.R.Rack.seen (below_of c.in-Ok-stand.found.slices)) (g.R.Rack.seen (below_of c.in-Ok-replay_found.rest.slices)) c.in-Ok-stand.found.scan.disks.items c.in-Ok-stand.found.state (tables c.in-Ok-stand.found.slices) c.in-Ok-stand.found.log c.in-Ok-stand.found.looked.pending c.in-Ok-stand.found.looked.damaged
     c.in-Ok-stand.ensures.only c.in-Ok-replay_found.ensures.only.stays c.in-Ok-stand.ensures.newest.scan c.in-Ok-stand.ensures.meant rest.state rest.log rest.pending rest.damaged
     (λ none. c.if-pending_count-eq0.false (c.pending_count.ensures ∙ ap length none))
-    c.in-Ok-replay_found.ensures.replayed c.in-Ok-replay_found.ensures.stands c.in-Ok-stand.ensures.single
+    c.in-Ok-replay_found.ensures.replayed c.in-Ok-replay_found.ensures.stands c.in-Ok-stand.ensures.single (returns-in-Ok-replay_found-clause-single g c)
+
+pub returns-in-Ok-replay_found-clause-settled : goal.returns-in-Ok-replay_found-clause-settled
+returns-in-Ok-replay_found-clause-settled g c = λ told lasts free sound.
+    let rest = c.in-Ok-replay_found.rest in
+    let found = c.in-Ok-stand.found in
+    let only = c.in-Ok-stand.ensures.only in
+    let stays = c.in-Ok-replay_found.ensures.only.stays in
+    let early = free_before (g.R.Rack.seen c.args.rack) (g.R.Rack.seen (below_of found.slices)) (g.R.Rack.seen (below_of rest.slices)) found.scan.disks.items found.state (tables found.slices) found.log found.looked.pending found.looked.damaged
+    only stays c.in-Ok-stand.ensures.newest.scan c.in-Ok-stand.ensures.meant free in
+    let later = free_after (g.R.Rack.seen c.args.rack) (g.R.Rack.seen (below_of found.slices)) (g.R.Rack.seen (below_of rest.slices)) found.scan.disks.items found.state (tables found.slices) found.log found.looked.pending found.looked.damaged
+    only stays c.in-Ok-stand.ensures.newest.scan c.in-Ok-stand.ensures.meant free in
+    settled_after (g.R.Rack.seen c.args.rack) (g.R.Rack.seen (below_of found.slices)) (g.R.Rack.seen (below_of rest.slices)) found.scan.disks.items found.state found.log found.looked.pending found.looked.damaged (tables found.slices)
+    only stays c.in-Ok-stand.ensures.newest.scan (λ none. c.if-pending_count-eq0.false (c.pending_count.ensures ∙ ap length none)) told lasts early (c.in-Ok-stand.ensures.meant told early)
+    (since_rests (g.R.Rack.seen c.args.rack) (g.R.Rack.seen (below_of found.slices)) (g.R.Rack.seen (below_of rest.slices)) found.scan.disks.items found.state (tables found.slices) found.log found.looked.pending found.looked.damaged
+    only stays c.in-Ok-stand.ensures.newest.scan c.in-Ok-stand.ensures.meant c.in-Ok-replay_found.ensures.replayed told lasts free)
+    sound rest.state rest.log rest.pending rest.damaged
+    (c.in-Ok-replay_found.ensures.shut (none_flagged (g.R.Rack.seen c.args.rack) (g.R.Rack.seen (below_of found.slices)) found.scan.disks.items c.in-Ok-stand.ensures.newest.scan early)
+    (gone_none (g.R.Rack.seen c.args.rack) (g.R.Rack.seen (below_of found.slices)) (tables found.slices) found.on.items found.looked.gone.items found.log found.looked.pending found.looked.damaged c.in-Ok-stand.ensures.looked early)
+    (told_later (g.R.Rack.seen c.args.rack) (g.R.Rack.seen (below_of found.slices)) only.stays told)
+    (lasting_later (g.R.Rack.seen c.args.rack) (g.R.Rack.seen (below_of found.slices)) only.stays lasts) later (λ none. c.if-pending_count-eq0.false (c.pending_count.ensures ∙ ap length none)))
+    (returns-in-Ok-replay_found-clause-stands g c told lasts free)
+    (returns-in-Ok-replay_found-clause-means g c told lasts free)
+
+pub returns-then-pending_count-eq0-clause-settled : goal.returns-then-pending_count-eq0-clause-settled
+returns-then-pending_count-eq0-clause-settled g c = λ told lasts free sound.
+    let rest = c.as_it_stands.ensures in
+    let found = c.in-Ok-stand.found in
+    let still = subst (λ k. IsUnfaulted (g.R.Rack.seen c.args.rack) (g.R.Rack.seen (below_of k))) rest.slices free in
+    let none = no_elements found.log.pending (sym c.pending_count.ensures ∙ c.if-pending_count-eq0.true) in
+    subst (λ k. IsSettled (g.R.Rack.seen c.args.rack) (g.R.Rack.seen (below_of k)) c.as_it_stands.result.state c.as_it_stands.result.pending c.as_it_stands.result.damaged) (sym rest.slices)
+    (subst (λ d. IsSettled (g.R.Rack.seen c.args.rack) (g.R.Rack.seen (below_of c.in-Ok-stand.found.slices)) c.as_it_stands.result.state c.as_it_stands.result.pending d) (sym rest.damaged)
+    (subst (λ p. IsSettled (g.R.Rack.seen c.args.rack) (g.R.Rack.seen (below_of c.in-Ok-stand.found.slices)) c.as_it_stands.result.state p found.looked.damaged) (sym rest.pending)
+    (subst (λ s. IsSettled (g.R.Rack.seen c.args.rack) (g.R.Rack.seen (below_of c.in-Ok-stand.found.slices)) s found.looked.pending found.looked.damaged) (sym rest.state)
+    (settled_idle (g.R.Rack.seen c.args.rack) (g.R.Rack.seen (below_of c.in-Ok-stand.found.slices)) found.state (tables found.slices) found.log found.looked.pending found.looked.damaged
+    c.in-Ok-stand.ensures.only told lasts (c.in-Ok-stand.ensures.meant told still)
+    (idle_stands (g.R.Rack.seen c.args.rack) (g.R.Rack.seen (below_of c.in-Ok-stand.found.slices)) found.state (tables found.slices) found.log found.looked.pending found.looked.damaged c.in-Ok-stand.ensures.only
+    c.in-Ok-stand.ensures.meant none told lasts still) none sound
+    (idle_same (g.R.Rack.seen c.args.rack) (g.R.Rack.seen (below_of c.in-Ok-stand.found.slices)) found.state (tables found.slices) found.log found.looked.pending found.looked.damaged c.in-Ok-stand.ensures.only
+    c.in-Ok-stand.ensures.meant none told lasts still)))))
 
 pub returns-in-Ok-replay_found-clause-runs : goal.returns-in-Ok-replay_found-clause-runs
 returns-in-Ok-replay_found-clause-runs g c = g.met.R.Rack.runs_then _ _ _ c.in-Ok-stand.ensures.runs c.in-Ok-replay_found.ensures.runs
 
+pub returns-then-pending_count-eq0-clause-newest : goal.returns-then-pending_count-eq0-clause-newest
+returns-then-pending_count-eq0-clause-newest g c = λ told lasts.
+    let rest = c.as_it_stands.ensures in
+    subst (λ k. IsNewest (since (g.R.Rack.seen c.args.rack) (g.R.Rack.seen (below_of k))) (g.R.Rack.seen (below_of k)) c.as_it_stands.result.scan.disks.items c.as_it_stands.result.state) (sym rest.slices)
+    (subst (λ k. IsNewest (since (g.R.Rack.seen c.args.rack) (g.R.Rack.seen (below_of c.in-Ok-stand.found.slices))) (g.R.Rack.seen (below_of c.in-Ok-stand.found.slices)) k.disks.items c.as_it_stands.result.state) (sym rest.scan)
+    (subst (λ s. IsNewest (since (g.R.Rack.seen c.args.rack) (g.R.Rack.seen (below_of c.in-Ok-stand.found.slices))) (g.R.Rack.seen (below_of c.in-Ok-stand.found.slices)) c.in-Ok-stand.found.scan.disks.items s) (sym rest.state)
+    (newest_still (g.R.Rack.seen c.args.rack) (g.R.Rack.seen (below_of c.in-Ok-stand.found.slices)) c.in-Ok-stand.found.scan.disks.items c.in-Ok-stand.found.state c.requires.fit c.in-Ok-stand.ensures.only told lasts c.in-Ok-stand.ensures.newest)))
+
+pub returns-then-pending_count-eq0-clause-one : goal.returns-then-pending_count-eq0-clause-one
+returns-then-pending_count-eq0-clause-one g c =
+    let rest = c.as_it_stands.ensures in
+    subst (λ k. IsOnePool k.disks.items c.as_it_stands.result.state) (sym rest.scan)
+    (subst (λ s. IsOnePool c.in-Ok-stand.found.scan.disks.items s) (sym rest.state) c.in-Ok-stand.ensures.one)
+
+pub returns-then-pending_count-eq0-clause-single : goal.returns-then-pending_count-eq0-clause-single
+returns-then-pending_count-eq0-clause-single g c = λ told lasts free.
+    single_now (g.R.Rack.seen c.args.rack) (g.R.Rack.seen (below_of c.as_it_stands.result.slices)) c.as_it_stands.result.scan.disks.items c.as_it_stands.result.state
+    (returns-then-pending_count-eq0-clause-newest g c told lasts)
+    (told_later (g.R.Rack.seen c.args.rack) (g.R.Rack.seen (below_of c.as_it_stands.result.slices))
+    (subst (λ k. Stays (g.R.Rack.seen c.args.rack) (g.R.Rack.seen (below_of k))) (sym c.as_it_stands.ensures.slices) c.in-Ok-stand.ensures.only.stays) told)
+    free (returns-then-pending_count-eq0-clause-one g c)
+
+pub returns-in-Err-clause-refused : goal.returns-in-Err-clause-refused
+returns-in-Err-clause-refused g c = inl (c.in-Err.ensures.kept, c.in-Err.ensures.refused)
+
+pub returns-in-Err-clause-exact : goal.returns-in-Err-clause-exact
+returns-in-Err-clause-exact g c = λ told lasts free. inl (c.in-Err.ensures.exact told free)
+
 pub returns-in-Err-replay_found-clause-back : goal.returns-in-Err-replay_found-clause-back
 returns-in-Err-replay_found-clause-back g c =
-    inr (writes_since (g.R.Rack.seen c.args.rack) (g.R.Rack.seen (below_of c.in-Ok-stand.found.slices)) (g.R.Rack.seen c.in-Err-replay_found.rack) c.in-Ok-stand.found.scan.disks.items (seated_state c.in-Ok-stand.found.log.pending c.in-Ok-stand.found.state)
+    inr (writes_since (g.R.Rack.seen c.args.rack) (g.R.Rack.seen (below_of c.in-Ok-stand.found.slices)) (g.R.Rack.seen c.in-Err-replay_found.back.rack) c.in-Ok-stand.found.scan.disks.items (seated_state c.in-Ok-stand.found.log.pending c.in-Ok-stand.found.state)
     c.in-Ok-stand.ensures.only c.in-Ok-stand.ensures.newest.scan c.in-Err-replay_found.ensures.back)
+
+pub returns-in-Err-replay_found-clause-refused : goal.returns-in-Err-replay_found-clause-refused
+returns-in-Err-replay_found-clause-refused g c =
+    inr (record {
+      writes =
+          writes_since (g.R.Rack.seen c.args.rack) (g.R.Rack.seen (below_of c.in-Ok-stand.found.slices)) (g.R.Rack.seen c.in-Err-replay_found.back.rack) c.in-Ok-stand.found.scan.disks.items (seated_state c.in-Ok-stand.found.log.pending c.in-Ok-stand.found.state)
+          c.in-Ok-stand.ensures.only c.in-Ok-stand.ensures.newest.scan c.in-Err-replay_found.ensures.back;
+      found = c.in-Err-replay_found.ensures.found;
+      cause = λ told lasts.
+          cause_from (g.R.Rack.seen c.args.rack) (g.R.Rack.seen (below_of c.in-Ok-stand.found.slices)) (g.R.Rack.seen c.in-Err-replay_found.back.rack) c.in-Err-replay_found.back.why
+          c.in-Ok-stand.ensures.only.stays
+          (c.in-Err-replay_found.ensures.refused
+          (told_later (g.R.Rack.seen c.args.rack) (g.R.Rack.seen (below_of c.in-Ok-stand.found.slices)) c.in-Ok-stand.ensures.only.stays told)
+          (lasting_later (g.R.Rack.seen c.args.rack) (g.R.Rack.seen (below_of c.in-Ok-stand.found.slices)) c.in-Ok-stand.ensures.only.stays lasts));
+    })
+
+pub returns-in-Err-clause-found : goal.returns-in-Err-clause-found
+returns-in-Err-clause-found g c = λ told lasts free sound. c.in-Err.ensures.kept
+
+pub returns-in-Err-replay_found-clause-exact : goal.returns-in-Err-replay_found-clause-exact
+returns-in-Err-replay_found-clause-exact g c = λ told lasts free.
+    let found = c.in-Ok-stand.found in
+    let only = c.in-Ok-stand.ensures.only in
+    let stays = c.in-Err-replay_found.ensures.back.stays in
+    let early = free_before (g.R.Rack.seen c.args.rack) (g.R.Rack.seen (below_of found.slices)) (g.R.Rack.seen c.in-Err-replay_found.back.rack) found.scan.disks.items found.state (tables found.slices) found.log found.looked.pending found.looked.damaged
+    only stays c.in-Ok-stand.ensures.newest.scan c.in-Ok-stand.ensures.meant free in
+    meant_after (g.R.Rack.seen c.args.rack) (g.R.Rack.seen (below_of found.slices)) (g.R.Rack.seen c.in-Err-replay_found.back.rack) found.state only stays told free (c.in-Ok-stand.ensures.meant told early).stands
+    (c.in-Ok-stand.ensures.single told early)
+    (since_rests (g.R.Rack.seen c.args.rack) (g.R.Rack.seen (below_of found.slices)) (g.R.Rack.seen c.in-Err-replay_found.back.rack) found.scan.disks.items found.state (tables found.slices) found.log found.looked.pending found.looked.damaged
+    only stays c.in-Ok-stand.ensures.newest.scan c.in-Ok-stand.ensures.meant c.in-Err-replay_found.ensures.wrote told lasts free)
+    c.in-Err-replay_found.back.why c.in-Err-replay_found.ensures.found
+    (cause_from (g.R.Rack.seen c.args.rack) (g.R.Rack.seen (below_of found.slices)) (g.R.Rack.seen c.in-Err-replay_found.back.rack) c.in-Err-replay_found.back.why only.stays
+    (c.in-Err-replay_found.ensures.refused
+    (told_later (g.R.Rack.seen c.args.rack) (g.R.Rack.seen (below_of found.slices)) only.stays told)
+    (lasting_later (g.R.Rack.seen c.args.rack) (g.R.Rack.seen (below_of found.slices)) only.stays lasts)))
+
+pub returns-in-Err-replay_found-clause-found : goal.returns-in-Err-replay_found-clause-found
+returns-in-Err-replay_found-clause-found g c = λ told lasts free sound.
+    let found = c.in-Ok-stand.found in
+    let only = c.in-Ok-stand.ensures.only in
+    let stays = c.in-Err-replay_found.ensures.back.stays in
+    let early = free_before (g.R.Rack.seen c.args.rack) (g.R.Rack.seen (below_of found.slices)) (g.R.Rack.seen c.in-Err-replay_found.back.rack) found.scan.disks.items found.state (tables found.slices) found.log found.looked.pending found.looked.damaged
+    only stays c.in-Ok-stand.ensures.newest.scan c.in-Ok-stand.ensures.meant free in
+    absurd
+    (no_cause (g.R.Rack.seen c.args.rack) (g.R.Rack.seen (below_of found.slices)) (g.R.Rack.seen c.in-Err-replay_found.back.rack) found.scan.disks.items found.state found.log found.looked.pending found.looked.damaged (tables found.slices)
+    only stays c.in-Ok-stand.ensures.newest.scan (λ none. c.if-pending_count-eq0.false (c.pending_count.ensures ∙ ap length none)) told lasts early (c.in-Ok-stand.ensures.meant told early)
+    (since_rests (g.R.Rack.seen c.args.rack) (g.R.Rack.seen (below_of found.slices)) (g.R.Rack.seen c.in-Err-replay_found.back.rack) found.scan.disks.items found.state (tables found.slices) found.log found.looked.pending found.looked.damaged
+    only stays c.in-Ok-stand.ensures.newest.scan c.in-Ok-stand.ensures.meant c.in-Err-replay_found.ensures.wrote told lasts free)
+    sound c.in-Err-replay_found.back.why (c.in-Ok-stand.ensures.single told early) free c.in-Err-replay_found.ensures.found
+    (cause_from (g.R.Rack.seen c.args.rack) (g.R.Rack.seen (below_of found.slices)) (g.R.Rack.seen c.in-Err-replay_found.back.rack) c.in-Err-replay_found.back.why only.stays
+    (c.in-Err-replay_found.ensures.refused
+    (told_later (g.R.Rack.seen c.args.rack) (g.R.Rack.seen (below_of found.slices)) only.stays told)
+    (lasting_later (g.R.Rack.seen c.args.rack) (g.R.Rack.seen (below_of found.slices)) only.stays lasts))))
 
 pub returns-in-Err-replay_found-clause-returned : goal.returns-in-Err-replay_found-clause-returned
 returns-in-Err-replay_found-clause-returned g c = g.met.R.Rack.runs_then _ _ _ c.in-Ok-stand.ensures.runs c.in-Err-replay_found.ensures.returned

@@ -1,4 +1,4 @@
-use Rattle.std.proofs.Common.{◌≡◌, ◌≤◌, ℕ, true, length}
+use Rattle.std.proofs.Common.{◌≡◌, ◌<◌, ◌≤◌, ℕ, true, length}
 use Rattle.commit_log.specs.View.{names}
 use Rattle.pool_scan.specs.Choosing.{seat_by}
 use Rattle.pool_rest.proofs.resting.judged.Given as goal
@@ -8,4 +8,6 @@ invariant-loop-place l = record {
   few : length l.places.items ≤ l.place;
   each : (p : ℕ) → names l.places.items p ≡ true
       → (names l.on.items p ≡ true) × (seat_by l.before l.scan.disks.items p ≡ seat_by l.state l.scan.disks.items p);
+  all : (p : ℕ) → p < l.place → names l.on.items p ≡ true → seat_by l.before l.scan.disks.items p ≡ seat_by l.state l.scan.disks.items p
+      → names l.places.items p ≡ true;
 }

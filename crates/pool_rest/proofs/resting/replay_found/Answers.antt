@@ -6,14 +6,15 @@ use Rattle.pool_scan.specs.Choosing.{AreOf}
 use Rattle.std.proofs.Common.{◌≡◌, true, sym, subst}
 use Rattle.rack.specs.Sequences.{WritesOnly}
 use Rattle.slice_rack.specs.SliceRack.{tables, below_of}
-use Rattle.pool_rest.specs.Resting.{IsOfDrive, IsReplayed, StandsNow, seated_state}
-use Rattle.pool_rest.specs.Standing.{IsLaid, IsLasting}
-use Rattle.pool_rest.proofs.Again.{again_only, again_replayed, again_stands, laid_later}
+use Rattle.pool_rest.specs.Resting.{IsOfDrive, IsReplayed, AreShut, StandsNow, seated_state}
+use Rattle.pool_rest.specs.Standing.{IsLaid, IsLasting, IsNewest, IsOnePool, since}
+use Rattle.pool_rest.proofs.Agreeing.{told_later, lasting_later}
+use Rattle.pool_rest.proofs.Again.{replay_only, again_only, again_replayed, again_stands, again_shut, laid_later, newest_since, cause_since}
 use Rattle.pool_rest.proofs.resting.replay_found.Goals as goal
 
 pub returns-in-Err-clause-back : goal.returns-in-Err-clause-back
 returns-in-Err-clause-back g c =
-    again_only g.R.Rack.seen (below_of c.args.found.slices) c.into_inner.result c.replay_on-done.result.rack c.in-Err.rack c.into_inner.ensures c.args.found.scan.disks.items c.args.found.state
+    again_only g.R.Rack.seen (below_of c.args.found.slices) c.into_inner.result c.replay_on-done.result.rack c.in-Err.back.rack c.into_inner.ensures c.args.found.scan.disks.items c.args.found.state
     c.seated_by-seated.result (seated_state c.args.found.log.pending c.args.found.state) c.seated_by-seated.ensures c.replay_on-done.ensures.only c.in-Err.ensures.kept
 
 pub returns-in-Err-clause-returned : goal.returns-in-Err-clause-returned
@@ -67,3 +68,45 @@ pub returns-clause-runs : goal.returns-clause-runs
 returns-clause-runs g c =
     subst (λ k. g.R.Rack.runs (below_of c.args.found.slices) (below_of k)) (sym c.as_it_stands-rest.ensures.slices)
     (g.met.R.Rack.runs_then _ _ _ (subst (λ r. g.R.Rack.runs r c.replay_on-done.result.rack) c.into_inner.ensures c.replay_on-done.ensures.runs) c.in-Ok.ensures.runs)
+
+pub returns-clause-newest : goal.returns-clause-newest
+returns-clause-newest g c = λ told lasts.
+    let rest = c.as_it_stands-rest.ensures in
+    let only = replay_only g.R.Rack.seen (below_of c.args.found.slices) c.into_inner.result c.replay_on-done.result.rack (below_of c.in-Ok.again.slices) c.into_inner.ensures c.args.found.scan.disks.items c.args.found.state
+    c.seated_by-seated.result (seated_state c.args.found.log.pending c.args.found.state) c.seated_by-seated.ensures c.replay_on-done.ensures.only c.in-Ok.ensures.only in
+    subst (λ k. IsNewest (since (g.R.Rack.seen (below_of c.args.found.slices)) (g.R.Rack.seen (below_of k))) (g.R.Rack.seen (below_of k)) c.as_it_stands-rest.result.scan.disks.items c.as_it_stands-rest.result.state) (sym rest.slices)
+    (subst (λ k. IsNewest (since (g.R.Rack.seen (below_of c.args.found.slices)) (g.R.Rack.seen (below_of c.in-Ok.again.slices))) (g.R.Rack.seen (below_of c.in-Ok.again.slices)) k.disks.items c.as_it_stands-rest.result.state) (sym rest.scan)
+    (subst (λ s. IsNewest (since (g.R.Rack.seen (below_of c.args.found.slices)) (g.R.Rack.seen (below_of c.in-Ok.again.slices))) (g.R.Rack.seen (below_of c.in-Ok.again.slices)) c.in-Ok.again.scan.disks.items s) (sym rest.state)
+    (newest_since (g.R.Rack.seen (below_of c.args.found.slices)) (g.R.Rack.seen c.replay_on-done.result.rack) (g.R.Rack.seen (below_of c.in-Ok.again.slices)) c.in-Ok.again.scan.disks.items
+    only.stays c.in-Ok.ensures.only (told_later (g.R.Rack.seen (below_of c.args.found.slices)) (g.R.Rack.seen c.replay_on-done.result.rack) only.stays told) (lasting_later (g.R.Rack.seen (below_of c.args.found.slices)) (g.R.Rack.seen c.replay_on-done.result.rack) only.stays lasts)
+    c.in-Ok.again.state c.in-Ok.ensures.newest)))
+
+pub returns-clause-one : goal.returns-clause-one
+returns-clause-one g c =
+    let rest = c.as_it_stands-rest.ensures in
+    subst (λ k. IsOnePool k.disks.items c.as_it_stands-rest.result.state) (sym rest.scan)
+    (subst (λ s. IsOnePool c.in-Ok.again.scan.disks.items s) (sym rest.state) c.in-Ok.ensures.one)
+
+pub returns-in-Err-clause-refused : goal.returns-in-Err-clause-refused
+returns-in-Err-clause-refused g c = λ told lasts.
+    let only = replay_only g.R.Rack.seen (below_of c.args.found.slices) c.into_inner.result c.replay_on-done.result.rack c.in-Err.back.rack c.into_inner.ensures c.args.found.scan.disks.items c.args.found.state
+    c.seated_by-seated.result (seated_state c.args.found.log.pending c.args.found.state) c.seated_by-seated.ensures c.replay_on-done.ensures.only c.in-Err.ensures.kept in
+    cause_since (g.R.Rack.seen (below_of c.args.found.slices)) (g.R.Rack.seen c.replay_on-done.result.rack) (g.R.Rack.seen c.in-Err.back.rack) c.in-Err.back.why
+    only.stays c.in-Err.ensures.kept (told_later (g.R.Rack.seen (below_of c.args.found.slices)) (g.R.Rack.seen c.replay_on-done.result.rack) only.stays told) (lasting_later (g.R.Rack.seen (below_of c.args.found.slices)) (g.R.Rack.seen c.replay_on-done.result.rack) only.stays lasts)
+    c.in-Err.ensures.refused
+
+pub returns-clause-shut : goal.returns-clause-shut
+returns-clause-shut g c = λ there nobody told lasts free some.
+    let whole = c.is_whole-whole.ensures there nobody in
+    let same = c.as_it_stands-rest.ensures.slices in
+    subst (λ k. AreShut (g.R.Rack.seen (below_of c.args.found.slices)) (g.R.Rack.seen (below_of k)) c.args.found.scan.disks.items c.args.found.state (seated_state c.args.found.log.pending c.args.found.state) c.args.found.log.number)
+    (sym same)
+    (again_shut g.R.Rack.seen (below_of c.args.found.slices) c.into_inner.result c.replay_on-done.result.rack (below_of c.in-Ok.again.slices) c.into_inner.ensures c.args.found.scan.disks.items c.args.found.state
+    c.seated_by-seated.result (seated_state c.args.found.log.pending c.args.found.state) c.seated_by-seated.ensures c.replay_on-done.ensures.only c.in-Ok.ensures.only
+    c.args.found.log.number c.requires.count (λ told lasts free. c.replay_on-done.ensures.shut whole told lasts free some) told lasts
+    (subst (λ k. IsUnfaulted (g.R.Rack.seen (below_of c.args.found.slices)) (g.R.Rack.seen (below_of k))) same free))
+
+pub returns-in-Err-clause-wrote : goal.returns-in-Err-clause-wrote
+returns-in-Err-clause-wrote g c =
+    again_replayed g.R.Rack.seen (below_of c.args.found.slices) c.into_inner.result c.replay_on-done.result.rack c.in-Err.back.rack c.into_inner.ensures c.args.found.scan.disks.items c.args.found.state
+    c.seated_by-seated.result (seated_state c.args.found.log.pending c.args.found.state) c.seated_by-seated.ensures c.replay_on-done.ensures.only c.in-Err.ensures.kept c.args.found.log.pending c.replay_on-done.ensures.replayed

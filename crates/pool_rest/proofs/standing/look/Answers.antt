@@ -3,6 +3,10 @@ use Rattle.rack.specs.Seen.{Stays}
 use Rattle.rack.specs.Sequences.{OnlyReads}
 use Rattle.slice_rack.specs.SliceRack.{tables, below_of}
 use Rattle.pool_scan.proofs.Seated.{scan_later}
+use Rattle.pool_image.specs.Disks.{disks_of}
+use Rattle.pool_scan.specs.Scanning.{as_read}
+use Rattle.pool_scan.proofs.Chosen.{scan_says}
+use Rattle.pool_scan.proofs.Meant.{other_meant}
 use Rattle.pool_scan.proofs.Valid.{copy_valid}
 use Rattle.pool_rest.specs.Standing.{IsLaid}
 use Rattle.pool_rest.proofs.Laid.{laid_all, laid_logs, laid_none}
@@ -58,6 +62,27 @@ returns-clause-meant g c = λ told free.
     (tables c.pending-looked.new.rack) c.seat_drives-on.result.items c.pending-looked.result.gone.items c.pending-looked.new.self c.pending-looked.result.pending
     c.pending-looked.result.damaged (returns-clause-newest g c) (returns-clause-laid g c) (returns-clause-looked g c) told free
 
-pub returns-in_default-clause-none : goal.returns-in_default-clause-none
-returns-in_default-clause-none g c =
+pub returns-clause-one : goal.returns-clause-one
+returns-clause-one g c = λ disks identities are. sym (c.has_other_pool.ensures disks identities are) ∙ c.if-has_other_pool.false
+
+pub returns-clause-single : goal.returns-clause-single
+returns-clause-single g c = λ told free.
+    let newest = returns-clause-newest g c in
+    sym (other_meant (g.R.Rack.seen c.args.rack) (g.R.Rack.seen (below_of c.pending-looked.new.rack)) c.in-Some.state.pool.0 c.read.new.self.disks.items newest.scan told free)
+    ∙ returns-clause-one g c (disks_of (g.R.Rack.seen c.args.rack)) (as_read (g.R.Rack.seen c.args.rack) c.read.new.self.disks.items)
+    (scan_says (g.R.Rack.seen c.args.rack) (g.R.Rack.seen (below_of c.pending-looked.new.rack)) c.read.new.self.disks.items newest.scan told)
+
+pub returns-in_default-clause-refused : goal.returns-in_default-clause-refused
+returns-in_default-clause-refused g c =
     (c.read.new.self.disks.items, c.read.ensures.scanned, λ told. sym (c.in_default.ensures.newest _ _ (c.read.ensures.identities told)))
+
+pub returns-then-has_other_pool-clause-refused : goal.returns-then-has_other_pool-clause-refused
+returns-then-has_other_pool-clause-refused g c = (
+  c.read.new.self.disks.items,
+  c.read.ensures.scanned,
+  λ told. (
+    c.in-Some.state,
+    sym (c.in-Some.ensures.newest _ _ (c.read.ensures.identities told)),
+    sym (c.has_other_pool.ensures _ _ (c.read.ensures.identities told)) ∙ c.if-has_other_pool.true,
+  ),
+)

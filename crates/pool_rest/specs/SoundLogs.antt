@@ -1,0 +1,58 @@
+-- Logs as commits of a pool leave them: what the record that is pending there brings.
+use Rattle.std.specs.Prelude.{◌≡◌, ◌⊎◌, ℕ, ◌<◌, ◌≤◌, Bool, true, false, List, Option, Ok, Some, None}
+use Rattle.rack.specs.Seen.{Image, Seen}
+use Rattle.rack.specs.Targets.{look}
+use Rattle.pool_state.specs.declared.contents.State.{State}
+use Rattle.pool_state.specs.Sector.{decoded}
+use Rattle.array_image.specs.Places.{log_slice, arrays_first}
+use Rattle.array_image.specs.Record.{Gate, GateAt, gate_of, pending_at, damaged_log}
+use Rattle.array_image.specs.States.{is_current, current_places}
+use Rattle.pool_image.specs.Disks.{Disks, disks_of, seat_of}
+use Rattle.pool_image.specs.Replay.{Standing, standing, standing_by}
+use Rattle.pool_image.specs.Alike.{drive_gate, is_bad_block, MeansTheSame}
+use Rattle.pool_scan.specs.Scanning.{now_in}
+use Rattle.pool_rest.specs.Resting.{seated_state}
+
+-- a later state than the one that stands, of which the record has a copy for the place that it is read from, a current one of both
+pub record IsLater (before : Standing) (s : State) : Type 0 where
+  pub later : before.state.epoch < s.epoch
+  pub source : (a : GateAt) → pending_at (current_places before.state) before.logs ≡ Some a → is_current s a.place ≡ true
+  pub copy :
+      (a : GateAt) → pending_at (current_places before.state) before.logs ≡ Some a
+      → (u : List ℕ) × (look before.targets (log_slice a.place) 0 ≡ Some u)
+
+-- a sector is no gate, or one of a number up to this
+pub record IsGateUpTo (number : ℕ) (block : List ℕ) : Type 0 where
+  pub formed : is_bad_block block ≡ false
+  pub low : (g : Gate) → gate_of block ≡ Some g → g.number ≤ number
+
+-- The logs as they stand are well formed, and the record that is pending there may be one of a commit: the state that it brings is the
+-- one that stands or a later one of the same pool, and its copies are of this state, each of its own place. A place that is current by
+-- both states has one disk by both, and no other place of the later state has a gate of a greater number than the record's.
+pub record IsSoundLog (disks : Disks) (c : Image) (before : Standing) (s : State) : Type 0 where
+  pub whole : damaged_log (current_places before.state) before.logs ≡ None
+  pub next : (s ≡ before.state) ⊎ IsLater before s
+  pub pool : s.pool ≡ before.state.pool
+  pub copies :
+      (p : ℕ) (u : List ℕ) → look before.targets (log_slice p) 0 ≡ Some u → decoded u ≡ Ok (record { state = s; own = p })
+  pub seats :
+      (p : ℕ) → is_current before.state p ≡ true → is_current s p ≡ true
+      → seat_of s disks before.identities p ≡ seat_of before.state disks before.identities p
+  pub joining :
+      (a : GateAt) (p d : ℕ) → pending_at (current_places before.state) before.logs ≡ Some a
+      → is_current before.state p ≡ false → seat_of s disks before.identities p ≡ Some d → arrays_first ≤ disks.sectors d
+      → IsGateUpTo a.gate.number (c d drive_gate)
+
+-- contents whose logs are so
+pub record HasSoundLogs (disks : Disks) (c : Image) : Type 0 where
+  pub before : Standing
+  pub stands : standing disks c ≡ Some before
+  pub log : IsSoundLog disks c before (seated_state before.targets before.state)
+
+-- Nothing is pending and no log is damaged: the state is the one that the record brought, and the disks mean what they meant.
+pub record IsSettled (a b : Seen) (s : State) (is_pending : Bool) (damaged : Option ℕ) : Type 0 where
+  pub idle : is_pending ≡ false
+  pub whole : damaged ≡ None
+  pub state : (before : Standing) → standing (disks_of a) (now_in a) ≡ Some before → s ≡ seated_state before.targets before.state
+  pub none : pending_at (current_places s) (standing_by (disks_of b) (now_in b) s).logs ≡ None
+  pub means : MeansTheSame (disks_of a) (now_in a) (now_in b)
