@@ -2,6 +2,7 @@ mod Amid
 mod Arrays
 mod Copied
 mod Holding
+mod Later
 mod Rest
 mod Roles
 mod Running
