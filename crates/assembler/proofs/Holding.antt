@@ -239,7 +239,7 @@ nobody_went l on (p ∷ lost) a b replay quiet =
     absurd (let cause = replay.gone.cause p (ap (λ (k : Bool). k || names lost p) (eq-eqb p p refl)) in quiet cause.0 cause.2)
 
 module _ (f : Found) (s : State) (t : Slices) (x : Seen) (checked : Checked) (absent gone_now : List ℕ) (orderly : IsOrderly t) (l : LogView)
-    (holds : HoldPool s t x checked l f) (members : AreMembers s t x checked absent)
+    (holds : HoldPool s t x l f) (found : IsChecked (is_well None) f checked) (members : AreMembers s t x checked absent)
     (rules : (n : ℕ) (v : View) → slice_get checked.arrays.items n ≡ Some v → IsArray v)
     (v : Raid) (state : v.state ≡ s) (number : v.number ≡ l.number)
     (are : (n : ℕ) (u : View) → slice_get checked.arrays.items n ≡ Some u → v.arrays n ≡ gone gone_now (restarted u)) where
@@ -269,8 +269,8 @@ module _ (f : Found) (s : State) (t : Slices) (x : Seen) (checked : Checked) (ab
   rack_still none w c mends =
       let now : (n : ℕ) (u : View) → slice_get checked.arrays.items n ≡ Some u → before.arrays n ≡ gone absent (restarted u) =
       λ n u is. are n u is ∙ ap (λ ps. gone ps (restarted u)) none in
-      let opens = holds_still f t x checked absent orderly m holds.steady pool holds.checked_is holds.sound rules v.arrays v.number now l number log in
-      holds_marked f t x checked absent orderly m holds.steady pool holds.checked_is holds.sound rules v.arrays v.number now
+      let opens = holds_still f t x checked absent orderly m holds.steady pool found holds.sound rules v.arrays v.number now l number log in
+      holds_marked f t x checked absent orderly m holds.steady pool found holds.sound rules v.arrays v.number now
       (slices_seen t x) opens (stays_same (slices_seen t x) m.fit) (λ n place k low live. refl)
       (λ n less k spent after traced. leaves_same (slices_seen t x) (λ i. IsInside (sectors_of t) i → SaysBetween f.state k n (pool_values f n) spent (replayed (sectors_of t) i)))
       w c (subst (λ k. IsAfter k w.state) (state ∙ same) mends.moves.book)
@@ -285,9 +285,9 @@ module _ (f : Found) (s : State) (t : Slices) (x : Seen) (checked : Checked) (ab
       let call : ReplayCall l (current_places f.state) [] (slices_seen t x) b =
       subst (λ k. ReplayCall l (current_places k) [] (slices_seen t x) b) same
       (subst (λ lost. ReplayCall l (current_places s) lost (slices_seen t x) b) nobody replay) in
-      let opens = holds_closed f t x checked absent orderly m holds.steady pool holds.checked_is holds.sound rules v.arrays v.number now l log none number b call in
-      holds_marked f t x checked absent orderly m holds.steady pool holds.checked_is holds.sound rules v.arrays v.number now
-      b opens replay.stays (data_kept f t x checked absent orderly m holds.steady pool holds.checked_is holds.sound rules v.arrays v.number now l log.none b call)
-      (says_closing f t x checked absent orderly m holds.steady pool holds.checked_is holds.sound rules v.arrays v.number now l log none number b call)
+      let opens = holds_closed f t x checked absent orderly m holds.steady pool found holds.sound rules v.arrays v.number now l log none number b call in
+      holds_marked f t x checked absent orderly m holds.steady pool found holds.sound rules v.arrays v.number now
+      b opens replay.stays (data_kept f t x checked absent orderly m holds.steady pool found holds.sound rules v.arrays v.number now l log.none b call)
+      (says_closing f t x checked absent orderly m holds.steady pool found holds.sound rules v.arrays v.number now l log none number b call)
       w c (subst (λ k. IsAfter k w.state) (state ∙ same) mends.moves.book)
       (opened_raid before w b c opens ready (subst (λ k. Mends k w b c) before_is mends))

@@ -2,6 +2,7 @@ mod Amid
 mod Arrays
 mod Copied
 mod Holding
+mod Later
 mod Refusals
 mod Rest
 mod Roles

@@ -23,7 +23,7 @@ use Rattle.array_core.proofs.Leading.{foremost_leads, none_leads}
 use Rattle.commit_log.specs.View.{LogView, names}
 use Rattle.commit_log.specs.Phases.{AreLogs}
 use Rattle.commit_log.specs.AtRest.{AtRest, BringsCopies, CopiesAgree, Opened}
-use Rattle.pool_image.specs.Disks.{Disks, disks_of, identities_of}
+use Rattle.pool_image.specs.Disks.{Disks, Identity, disks_of, identities_of}
 use Rattle.pool_image.specs.Drives.{Found}
 use Rattle.pool_check.specs.declared.Checked.{Checked}
 use Rattle.pool_check.specs.Checking.{IsChecked}
@@ -85,7 +85,7 @@ module _ (f : Found) (t : Slices) (x : Seen) (checked : Checked) (absent : List 
   copy_read p d seat =
       let at = reads_state p d seat in
       ap (λ block. result_ok (decoded block)) at.1
-      ∙ sym (pool.copied p d (pool.seats p ∙ seat)
+      ∙ sym (ap (λ (i : Identity). i.copied) (pool.identities p d (pool.seats p ∙ seat))
       ∙ ap (λ (b : Bool). if b then result_ok (decoded (f.contents d state_sector)) else None)
       (lt-ltb state_sector (f.disks.sectors d) (subst (λ (disks : Disks). state_sector < disks.sectors d) (sym pool.disks) at.0)))
 

@@ -1,5 +1,5 @@
 -- The slices of a pool at rest, without the places that have lost their disk: what the members' slices are laid on.
-use Rattle.std.proofs.Common.{◌≡◌, ◌≢◌, ◌⊎◌, ℕ, ◌+◌, ◌<◌, ◌≤◌, ◌^◌, Bool, true, false, ◌==◌, ◌&&◌, nat_le, nat_lt, is_none, if◌then◌else◌, List, filter, length, slice_get, Option, Some, None, refl, sym, ap, subst, ◌∙◌, inl, inr, lt-ltb, le-ltb, le-leb, eqb-true, arith}
+use Rattle.std.proofs.Common.{◌≡◌, ◌≢◌, ◌⊎◌, ℕ, ◌+◌, ◌<◌, ◌≤◌, ◌^◌, Bool, true, false, ◌==◌, ◌&&◌, nat_le, nat_lt, is_none, if◌then◌else◌, List, [], filter, length, slice_get, Option, Some, None, refl, sym, ap, subst, ◌∙◌, inl, inr, lt-ltb, le-ltb, le-leb, eqb-true, arith}
 use Rattle.std.specs.Option.{option_map_or}
 use Rattle.std.proofs.lemmas.Bool.{cases_lt, ne_eqb}
 use Rattle.std.proofs.lemmas.Map.Views.{any-filter_same}
@@ -12,6 +12,8 @@ use Rattle.slice_rack.specs.Sliced.{slices_of}
 use Rattle.array_image.specs.Places.{arrays_first, log_sectors, log_slice, place_of, slice_of, state_sector}
 use Rattle.array_image.specs.States.{current_places, is_current}
 use Rattle.commit_log.specs.View.{names}
+use Rattle.pool_image.specs.Disks.{Seats}
+use Rattle.pool_scan.specs.Scanning.{IsUnfaulted}
 use Rattle.pool_scan.specs.declared.Known.{Known}
 use Rattle.pool_scan.specs.Choosing.{seat_by}
 use Rattle.pool_scan.proofs.Seated.{seat_by_stands}
@@ -218,3 +220,20 @@ module _ (x : Seen) (known : List Known) (s : State) (t : Slices) (on : List ℕ
             (subst (λ f. AreSlots x.sectors f checked.arrays.items checked.extents.items) seats_same slots);
         members = subst (λ f. HasMembers f checked.arrays.items checked.extents.items w) seats_same laid_w;
       }
+
+-- ---- where no disk refused a call
+
+pub nobody_lost : (x y : Seen) (before after : Seats) → IsUnfaulted x y → Loses x y before after → (p : ℕ) → after p ≡ before p
+nobody_lost x y before after quiet loses p = elim (loses p) [
+  | inl same ↦ same
+  | inr lost ↦ absurd (let goes = lost.1 in quiet goes.0 goes.2)
+]
+
+-- each disk of a place is that of its slices
+pub seats_before : (x : Seen) (known : List Known) (s : State) (t : Slices) (on : List ℕ) → IsLaid x known s t on → (gone : List ℕ) (seats : Seats) → gone ≡ []
+    → ((p : ℕ) → 16 ≤ p → seats p ≡ None) → ((p : ℕ) → p < 16 → seats p ≡ (if names gone p then None else seat_by s known p))
+    → (p : ℕ) → seats p ≡ seat_of t p
+seats_before x known s t on laid gone seats none beyond are p = elim (cases_lt p 16) [
+  | inr past ↦ beyond p past ∙ sym (laid.beyond p past)
+  | inl few ↦ are p few ∙ ap (λ ps. if names ps p then None else seat_by s known p) none ∙ sym (laid.seats p few)
+]

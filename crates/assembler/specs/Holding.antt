@@ -21,10 +21,7 @@ use Rattle.pool_image.specs.Sound.{IsSoundState}
 use Rattle.pool_scan.specs.Scanning.{AllTold}
 use Rattle.pool_rest.specs.Standing.{IsLasting}
 use Rattle.pool_rest.specs.Resting.{AreSingle}
-use Rattle.pool_check.specs.declared.Checked.{Checked}
-use Rattle.pool_check.specs.Checking.{IsChecked}
 use Rattle.pool_check.specs.Drives.{Drives}
-use Rattle.pool_check.specs.Refusing.{is_well}
 use Rattle.raid_rack.specs.Raid.{Raid, IsTold, held_in, is_over, live_of, spent_of}
 use Rattle.raid_rack.specs.Marking.{SaysBetween}
 
@@ -41,7 +38,7 @@ pub record IsPoolOn (s : State) (t : Slices) (x : Seen) (f : Found) : Type 0 whe
   pub seats : (p : ℕ) → f.seats p ≡ seat_of t p
   pub disks : f.disks ≡ disks_of x
   pub contents : (p d u : ℕ) → f.seats p ≡ Some d → u < x.sectors d → f.contents d u ≡ (x.held d u).current
-  pub copied : (p d : ℕ) → f.seats p ≡ Some d → (f.identities d).copied ≡ (identities_of f.disks f.contents d).copied
+  pub identities : (p d : ℕ) → f.seats p ≡ Some d → f.identities d ≡ identities_of f.disks f.contents d
 
 -- The log is that of the places that have a log slice: no log is damaged, and nothing is pending.
 pub record IsIdle (s : State) (t : Slices) (x : Seen) (l : LogView) : Type 0 where
@@ -60,13 +57,12 @@ pub record IsSoundPool (f : Found) : Type 0 where
 abbrev pub drives_of : Found → Drives
 drives_of f = record { disks = f.disks; before = f.before; contents = f.contents; identities = f.identities }
 
--- Disks that a pool is opened on: they are told, hold this pool at rest, which is sound, and the check of the drives found no fault.
-pub record HoldPool (s : State) (t : Slices) (x : Seen) (checked : Checked) (l : LogView) (f : Found) : Type 0 where
+-- Disks that a pool is opened on: they are told, and hold this pool at rest, which is sound.
+pub record HoldPool (s : State) (t : Slices) (x : Seen) (l : LogView) (f : Found) : Type 0 where
   pub steady : AreSteady x
   pub pool : IsPoolOn s t x f
   pub log : IsIdle s t x l
   pub sound : IsSoundPool f
-  pub checked_is : IsChecked (is_well None) f checked
 
 -- what the pool's contents give of an array
 abbrev pub pool_values : Found → ℕ → ℕ → Values

@@ -12,8 +12,9 @@ ghost use Rattle.pool_check.specs.Checking.{IsChecked};
 ghost use Rattle.pool_check.specs.Drives.{AreCopied, AreDrivesOf, seats_by};
 ghost use Rattle.pool_check.specs.Refusing.{is_well};
 ghost use Rattle.pool_image.specs.Drives.{Found};
+ghost use Rattle.pool_scan.specs.Scanning.{IsUnfaulted};
 ghost use Rattle.pool_rest.specs.Standing.{IsLaid};
-ghost use Rattle.assembler.specs.Holding.{drives_of};
+ghost use Rattle.assembler.specs.Holding.{HoldPool, drives_of};
 ghost use Rattle.assembler.specs.Members.{AreMembers};
 ghost use Rattle.assembler.specs.Refusing.{FailsCheck};
 
@@ -113,6 +114,10 @@ pub(crate) fn check<R: Rack>(rest: AtRest<R>) -> Result<Members<R>, Back<R, Refu
     ensures checked { IfOk result (λ m. (f : Found) → f.state ≡ rest.state → ((p : ℕ) → f.seats p ≡ seat_of (tables m.slices) p)
         → AreDrivesOf (R.seen (below_of rest.slices)) f.seats (drives_of f) → AreCopied rest.scan.disks.items f.seats (drives_of f)
         → IsChecked (is_well None) f m.checked) }
+    // A sound pool that the disks told at rest they still hold, where none refused a call.
+    ensures holds { IfOk result (λ m. (f : Found) → HoldPool rest.state (tables rest.slices) (R.seen (below_of rest.slices)) rest.log f
+        → rest.gone.items ≡ [] → IsUnfaulted (R.seen (below_of rest.slices)) (R.seen (below_of m.slices))
+        → HoldPool m.state (tables m.slices) (R.seen (below_of m.slices)) m.log f) }
     ensures state { IfOk result (λ m. m.state ≡ rest.state) }
     ensures log { IfOk result (λ m. m.log ≡ rest.log) }
     ensures runs { IfOk result (λ m. R.runs (below_of rest.slices) (below_of m.slices)) }

@@ -1,6 +1,6 @@
 //! The rack of a pool's arrays, made of the slices of its drives.
 
-ghost use Rattle.std.specs.Prelude.{◌≡◌, ◌<◌, ◌^◌, ℕ, [], slice_get, true, Some};
+ghost use Rattle.std.specs.Prelude.{◌≡◌, ◌<◌, ◌^◌, ℕ, [], slice_get, true, Some, None};
 ghost use Rattle.slice_rack.specs.SliceRack.{tables, below_of};
 ghost use Rattle.slice_rack.specs.Sliced.{slices_of};
 ghost use Rattle.slice_rack.specs.Slices.{sectors_of as slice_sectors};
@@ -13,6 +13,8 @@ ghost use Rattle.raid_rack.specs.RaidRack.{IsFit, SliceRuns, arrays_in, raid_in,
 ghost use Rattle.commit_log.specs.Opening.{ReplayCall};
 ghost use Rattle.pool_image.specs.Drives.{Found};
 ghost use Rattle.pool_scan.specs.Scanning.{IsUnfaulted};
+ghost use Rattle.pool_check.specs.Checking.{IsChecked};
+ghost use Rattle.pool_check.specs.Refusing.{is_well};
 ghost use Rattle.assembler.specs.Holding.{HoldPool, HoldsArrays};
 ghost use Rattle.assembler.specs.Members.{AreMembers};
 
@@ -67,9 +69,11 @@ pub(crate) fn make_rack<R: Rack>(members: Members<R>, seconds: u64) -> RaidRack<
     ensures joined { (raid_in result).state.joined ≡ members.state.joined }
     ensures extent { (raid_in result).state.extent ≡ members.state.extent }
     ensures small { total (λ n. sectors_of ((raid_in result).arrays n)) members.state.made < 2 ^ 52 }
-    // Where the disks are told and hold a sound pool at rest, and none refuses a call, the arrays hold what the pool's contents give.
-    ensures holds { (f : Found) → HoldPool members.state (tables members.slices) (R.seen (below_of members.slices)) members.checked members.log f
-        → IsUnfaulted (R.seen (below_of members.slices)) (R.seen (below_of (slices_in result)))
+    // Where the disks are told and hold a sound pool at rest, in which the check found no fault, the arrays hold what the pool's contents
+    // give. Where no place is absent gates are closed first, and then no disk is to refuse a call.
+    ensures holds { (f : Found) → HoldPool members.state (tables members.slices) (R.seen (below_of members.slices)) members.log f
+        → IsChecked (is_well None) f members.checked
+        → (members.absent.items ≡ [] → IsUnfaulted (R.seen (below_of members.slices)) (R.seen (below_of (slices_in result))))
         → HoldsArrays f (raid_in result) (slices_of (tables members.slices) (R.seen (below_of members.slices))) (slices_seen R.seen result) }
 {
     let Members {

@@ -1,6 +1,9 @@
-use Rattle.std.proofs.Common.{◌≡◌, ◌+◌, ◌<◌, ℕ, Option, Some, None, refl, sym, ap, subst, ◌∙◌}
+use Rattle.std.proofs.Common.{◌≡◌, ◌+◌, ◌<◌, ℕ, Option, Some, None, refl, sym, ap, subst, ◌∙◌, arith}
+use Rattle.std.proofs.lemmas.Option.{none-some}
 use Rattle.rack.specs.Seen.{Seen, Stays}
-use Rattle.array_image.specs.Places.{arrays_first}
+use Rattle.rack.specs.Sequences.{OnlyReads}
+use Rattle.slice_rack.specs.Slices.{Slices, place_of, seat_of}
+use Rattle.array_image.specs.Places.{arrays_first, log_slice, slice_of}
 use Rattle.slice_rack.specs.SliceRack.{tables, below_of}
 use Rattle.slice_rack.specs.Sliced.{slices_of}
 use Rattle.slice_rack.specs.Runs.{inside_still}
@@ -11,12 +14,14 @@ use Rattle.pool_check.specs.Refusing.{is_well}
 use Rattle.pool_check.specs.Slots.{AreSlots}
 use Rattle.pool_check.proofs.Valid.{valid_fit}
 use Rattle.pool_rest.specs.Standing.{IsLaid}
-use Rattle.assembler.specs.Holding.{drives_of}
+use Rattle.pool_scan.specs.Scanning.{IsUnfaulted}
+use Rattle.assembler.specs.Holding.{HoldPool, drives_of}
+use Rattle.assembler.proofs.Later.{holds_later}
 use Rattle.assembler.specs.Members.{AreMembers}
 use Rattle.assembler.specs.declared.refusal.Refusal.TheVariants.{Damaged}
 use Rattle.assembler.specs.Refusing.{FailsCheck, by_check}
 use Rattle.assembler.proofs.Refusals.{fails_check, fails_log}
-use Rattle.assembler.proofs.Unseated.{check_members, logs_only, no_members, seating, seats_are, taken}
+use Rattle.assembler.proofs.Unseated.{check_members, logs_only, no_members, nobody_lost, seating, seats_are, seats_before, taken}
 use Rattle.assembler.proofs.checks.check.Goals as goal
 
 pub check_drives-requires-clause-seating : goal.check_drives-requires-clause-seating
@@ -134,3 +139,39 @@ returns-clause-checked g c f state seats drives copied =
     none_of : (o : Option ℕ) → ((place : ℕ) → o ≡ Some place → ⊥) → o ≡ None
     none_of None none = refl
     none_of (Some place) none = absurd (none place refl)
+
+pub returns-clause-holds : goal.returns-clause-holds
+returns-clause-holds g c f holds nobody quiet =
+    let rest = c.args.rest in
+    let x : Seen = g.R.Rack.seen (below_of rest.slices) in
+    let y : Seen = g.R.Rack.seen c.check_drives.new.rack in
+    let t : Slices = tables rest.slices in
+    let u : Slices = tables c.unseat_lost.new.slices in
+    let w : Slices = tables c.lay_members.new.slices in
+    let now = c.unseat_lost.ensures in
+    let kept = c.lay_members.ensures.kept in
+    let end = c.lay_members.ensures.below ∙ now.below in
+    let before = seats_by c.seats_of-seats.result in
+    let after = seats_by c.check_drives.new.seats in
+    let were : (p d : ℕ) → before p ≡ Some d → seat_of t p ≡ Some d =
+    taken x rest.scan.disks.items rest.state t rest.on.items c.requires.laid c.requires.fit rest.gone.items c.seats_of-seats.result c.seats_of-seats.ensures.beyond c.seats_of-seats.ensures.each in
+    let loses : Loses x y before after =
+    subst (λ r. Loses (g.R.Rack.seen r) y before after) c.inner.ensures.value c.check_drives.ensures.seats in
+    let unfaulted : IsUnfaulted x y = subst (λ r. IsUnfaulted x (g.R.Rack.seen r)) end quiet in
+    let reads : OnlyReads x y = subst (λ r. OnlyReads (g.R.Rack.seen r) y) c.inner.ensures.value c.check_drives.ensures.only in
+    let still : (p : ℕ) → after p ≡ seat_of t p =
+    λ p. nobody_lost x y before after unfaulted loses p ∙ seats_before x rest.scan.disks.items rest.state t rest.on.items c.requires.laid rest.gone.items before nobody
+    c.seats_of-seats.ensures.beyond c.seats_of-seats.ensures.each p in
+    let seats : (p : ℕ) → seat_of w p ≡ seat_of t p =
+    λ p. kept.seats p
+    ∙ seats_are x rest.scan.disks.items rest.state t rest.on.items c.requires.laid c.requires.fit y c.seats_of-seats.result c.check_drives.new.seats were loses
+    u c.unseat_lost.new.slices.orderly now.seats now.firsts now.sectors p
+    ∙ still p in
+    let there : (p d : ℕ) → seat_of t p ≡ Some d → after (place_of (log_slice p)) ≡ None → ⊥ =
+    λ p d seat none. let place : place_of (log_slice p) ≡ p = omega arith in none-some d (sym none ∙ ap after place ∙ still p ∙ seat) in
+    let log : (p : ℕ) → slice_of (log_slice p) ≡ 0 = λ p. omega arith in
+    subst (λ r. HoldPool rest.state w (g.R.Rack.seen r) rest.log f) (sym end)
+    (holds_later rest.state t w x y rest.slices.orderly c.lay_members.new.slices.orderly reads c.requires.fit.1 seats
+    (λ p d seat. kept.sectors (log_slice p) (log p) ∙ now.sectors (log_slice p) (there p d seat))
+    (λ p d seat. kept.firsts (log_slice p) (log p) ∙ now.firsts (log_slice p) (there p d seat))
+    holds.steady rest.log f holds)

@@ -96,7 +96,7 @@ returns-clause-small g c =
     m.state.made members.founded.count
 
 pub returns-clause-holds : goal.returns-clause-holds
-returns-clause-holds g c f holds quiet =
+returns-clause-holds g c f holds found quiet =
     let m = c.args.members in
     let members = c.requires.members in
     let x : Seen = g.R.Rack.seen (below_of m.slices) in
@@ -118,15 +118,15 @@ returns-clause-holds g c f holds quiet =
     let mends : Mends (raid_in c.new-raid.result) (raid_in c.mark_gone.new.self) (slices_of (tables closed) (g.R.Rack.seen (below_of closed))) after =
     subst (λ k. Mends (raid_in c.new-raid.result) (raid_in c.mark_gone.new.self) (slices_of (tables k) (g.R.Rack.seen (below_of k))) after) c.new-raid.ensures.slices c.mark_gone.ensures.mends in
     let still : (m.absent.items ≡ [] → ⊥) → HoldsArrays f (raid_in c.mark_gone.new.self) (slices_of t x) after = λ some.
-    rack_still f m.state t x m.checked m.absent.items places m.slices.orderly m.log holds members rules (raid_in c.new-raid.result) c.new-raid.ensures.state number are
+    rack_still f m.state t x m.checked m.absent.items places m.slices.orderly m.log holds found members rules (raid_in c.new-raid.result) c.new-raid.ensures.state number are
     (c.close_gates-gone.ensures.same some) (raid_in c.mark_gone.new.self) after
     (subst (λ k. Mends (raid_in c.new-raid.result) (raid_in c.mark_gone.new.self) (slices_of (tables k) (g.R.Rack.seen (below_of k))) after) (c.close_gates-gone.ensures.still some) mends) in
     let shut : m.absent.items ≡ [] → HoldsArrays f (raid_in c.mark_gone.new.self) (slices_of t x) after = λ none.
     let replay = c.close_gates-gone.ensures.closes none in
     let runs = c.close_gates-gone.ensures.runs in
-    rack_closed f m.state t x m.checked m.absent.items places m.slices.orderly m.log holds members rules (raid_in c.new-raid.result) c.new-raid.ensures.state number are
+    rack_closed f m.state t x m.checked m.absent.items places m.slices.orderly m.log holds found members rules (raid_in c.new-raid.result) c.new-raid.ensures.state number are
     none (nobody_went m.log (current_places m.state) places (slices_of t x) (slices_of (tables closed) (g.R.Rack.seen (below_of closed))) replay
-    (λ d rose. quiet (disk_of t d)
+    (λ d rose. quiet none (disk_of t d)
     (rose_before (later d)
     (subst (λ u. Rose (x.faults (disk_of t d)) ((g.R.Rack.seen (below_of closed)).faults (disk_of u d))) runs.tables rose))))
     (slices_of (tables closed) (g.R.Rack.seen (below_of closed))) replay (raid_in c.mark_gone.new.self) after mends in
