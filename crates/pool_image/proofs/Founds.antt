@@ -111,7 +111,7 @@ extent_first f (suc n) e is = of_first (first_of f n) refl is
 
 module _ (f g : Found) (same : IsSamePool f g) where
   -- sectors of slices behind their second one
-  slices_same : (k t : ℕ) → 1 < t → slices_of g k t ≡ slices_of f k t
+  pub slices_same : (k t : ℕ) → 1 < t → slices_of g k t ≡ slices_of f k t
   unfolding slices_of
   slices_same k t behind =
       ap (λ o. option_map_or (λ (e : Extent). if nat_lt t e.sectors then slices_from g e.first k t else []) o []) (lies_same f g same (slice_of k))
@@ -125,16 +125,16 @@ module _ (f g : Found) (same : IsSamePool f g) where
           ap (λ (v : List ℕ). if nat_lt t e.sectors then v else [])
           (drive_same f g same (place_of k) (e.first + t) (λ is. absurd (omega (arith, is, behind, extent_first f (slice_of k) e has))))
 
-  supers_same : (n : ℕ) → SameSupers f.state n (slices_of g) (slices_of f)
+  pub supers_same : (n : ℕ) → SameSupers f.state n (slices_of g) (slices_of f)
   supers_same n place = super_of_sector f.state (slices_of g) (slices_of f) n place (slices_same (member_slice place n) super_sector (omega arith))
 
-  truths_same : (n : ℕ) → truth_of g n ≡ truth_of f n
+  pub truths_same : (n : ℕ) → truth_of g n ≡ truth_of f n
   truths_same n = ap (λ s. truth_in s (slices_of g) n) same.state ∙ truth_by_supers f.state (slices_of g) (slices_of f) n (supers_same n)
 
-  shapes_same : (n : ℕ) → shape_of g n ≡ shape_of f n
+  pub shapes_same : (n : ℕ) → shape_of g n ≡ shape_of f n
   shapes_same n = ap (λ s. shape_in s (slices_of g) n) same.state ∙ shape_by_supers f.state (slices_of g) (slices_of f) n (supers_same n)
 
-  super_same : (n place : ℕ) → super_at g n place ≡ super_at f n place
+  pub super_same : (n place : ℕ) → super_at g n place ≡ super_at f n place
   super_same n place = ap (λ s. super_in s (slices_of g) n place) same.state ∙ supers_same n place
 
   value_same : (n x : ℕ) → arrays_held g n x ≡ arrays_held f n x

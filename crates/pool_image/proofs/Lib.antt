@@ -6,6 +6,7 @@ pub mod Groups
 pub mod Identities
 pub mod Founds
 pub mod Rested
+pub mod SoundSame
 mod SeatExamples
 mod SoundExamples
 mod VolumeExamples

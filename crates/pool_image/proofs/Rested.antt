@@ -156,6 +156,7 @@ module _ (disks : Disks) (c e : Image) (before after : Standing) (rests : IsRest
     disks = refl;
     state = refl;
     seats = seats;
+    all = rests.same.identities;
     identities = λ p d seat. rests.same.identities d (seat_inside s disks (identities_of disks w) p d seat);
     contents = λ p d t seat within no_gate. rests.same.contents d t (seat_inside s disks (identities_of disks w) p d seat) within no_gate;
     logs = λ p d seat.
@@ -247,6 +248,7 @@ module _ (disks : Disks) (c e : Image) (s : State) (stands : standing disks c �
     disks = refl;
     state = refl;
     seats = late_seats;
+    all = ids;
     identities = λ p d seat. ids d (seat_inside s disks (identities_of disks c) p d seat);
     contents = λ p d t seat within no_gate. agree d t (seat_inside s disks (identities_of disks c) p d seat) within;
     logs = λ p d seat. ap₂ (λ b (l : Image). not b && not (is_bad_log (current_places s) l p)) (late_block p d seat) logs;

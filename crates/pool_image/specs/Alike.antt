@@ -21,11 +21,12 @@ pub record IsSameButGates (disks : Disks) (c e : Image) : Type 0 where
   pub identities : (d : ℕ) → d < disks.count → identities_of disks c d ≡ identities_of disks e d
   pub contents : (d s : ℕ) → d < disks.count → s < disks.sectors d → s ≢ drive_gate → c d s ≡ e d s
 
--- the same pool: as the state and the seats are, so is what the seated disks say and hold but for gates, and which logs are well formed
+-- the same pool: as the state and the seats are, so is what all disks say, what the seated ones hold but for gates, and which logs are well formed
 pub record IsSamePool (f g : Found) : Type 0 where
   pub disks : g.disks ≡ f.disks
   pub state : g.state ≡ f.state
   pub seats : (p : ℕ) → g.seats p ≡ f.seats p
+  pub all : (d : ℕ) → d < f.disks.count → g.identities d ≡ f.identities d
   pub identities : (p d : ℕ) → f.seats p ≡ Some d → g.identities d ≡ f.identities d
   pub contents : (p d t : ℕ) → f.seats p ≡ Some d → t < f.disks.sectors d → t ≢ drive_gate → g.contents d t ≡ f.contents d t
   pub logs : (p d : ℕ) → f.seats p ≡ Some d → has_log g p ≡ has_log f p
