@@ -1,5 +1,5 @@
 -- What a pool's arrays hold where its disks are told.
-use Rattle.std.specs.Prelude.{◌≡◌, ℕ, ◌<◌, ◌&&◌, nat_lt, Bool, true, false, List, [], length, Some, None}
+use Rattle.std.specs.Prelude.{◌≡◌, ℕ, ◌<◌, ◌&&◌, nat_lt, Bool, true, false, List, [], length, Option, Some, None}
 use Rattle.rack.specs.Values.{MayLeave, Values, only}
 use Rattle.rack.specs.Seen.{Seen}
 use Rattle.rack.specs.Moments.{Leaves}
@@ -15,12 +15,14 @@ use Rattle.array_image.specs.Left.{IsInside, reading}
 use Rattle.commit_log.specs.View.{LogView, left_of, names}
 use Rattle.commit_log.specs.Opening.{Finds}
 use Rattle.pool_image.specs.Disks.{disks_of, identities_of}
-use Rattle.pool_image.specs.Drives.{Found, slices_of}
+use Rattle.pool_image.specs.Drives.{Found, found, slices_of}
 use Rattle.pool_image.specs.Meaning.{truth_of}
 use Rattle.pool_image.specs.Sound.{IsSoundState}
-use Rattle.pool_scan.specs.Scanning.{AllTold}
+use Rattle.pool_scan.specs.declared.Known.{Known}
+use Rattle.pool_scan.specs.Choosing.{AreOf}
+use Rattle.pool_scan.specs.Scanning.{AllTold, now_in}
 use Rattle.pool_rest.specs.Standing.{IsLasting}
-use Rattle.pool_rest.specs.Resting.{AreSingle}
+use Rattle.pool_rest.specs.Resting.{AreSingle, StandsNow}
 use Rattle.pool_check.specs.Drives.{Drives}
 use Rattle.raid_rack.specs.Raid.{Raid, IsTold, held_in, is_over, live_of, spent_of}
 use Rattle.raid_rack.specs.Marking.{SaysBetween}
@@ -62,6 +64,17 @@ pub record HoldPool (s : State) (t : Slices) (x : Seen) (l : LogView) (f : Found
   pub steady : AreSteady x
   pub pool : IsPoolOn s t x f
   pub log : IsIdle s t x l
+  pub sound : IsSoundPool f
+
+-- Disks as they were brought to rest: they are told, their contents have this pool, which is sound, and nothing is pending there; the
+-- scan and the log say what they hold.
+pub record IsFoundOn (x : Seen) (known : List Known) (s : State) (t : Slices) (on : List ℕ) (l : LogView) (is_pending : Bool) (damaged : Option ℕ) (f : Found) : Type 0 where
+  pub steady : AreSteady x
+  pub found_is : found (disks_of x) (now_in x) ≡ Some f
+  pub scan : AreOf (disks_of x) (identities_of (disks_of x) (now_in x)) known
+  pub stands : StandsNow x s l is_pending damaged
+  pub finds : Finds l on (left_of on []) is_pending damaged (reading (slices_seen t x))
+  pub rested : is_pending ≡ false
   pub sound : IsSoundPool f
 
 -- what the pool's contents give of an array
