@@ -10,13 +10,13 @@ use Rattle.pool_state.specs.declared.contents.State.{State}
 use Rattle.array_image.specs.Places.{log_slice}
 use Rattle.array_image.specs.States.{is_current}
 use Rattle.array_image.specs.Supers.{is_named}
-use Rattle.array_image.specs.Arrays.{array_in, replayed}
+use Rattle.array_image.specs.Arrays.{replayed}
 use Rattle.array_image.specs.Left.{IsInside, reading}
 use Rattle.commit_log.specs.View.{LogView, left_of, names}
 use Rattle.commit_log.specs.Opening.{Finds}
 use Rattle.pool_image.specs.Disks.{disks_of, identities_of}
-use Rattle.pool_image.specs.Drives.{Found, found, slices_of}
-use Rattle.pool_image.specs.Meaning.{truth_of}
+use Rattle.pool_image.specs.Drives.{Found, found}
+use Rattle.pool_image.specs.Meaning.{array_sectors, arrays_held, truth_of}
 use Rattle.pool_image.specs.Sound.{IsSoundState}
 use Rattle.pool_scan.specs.declared.Known.{Known}
 use Rattle.pool_scan.specs.Choosing.{AreOf}
@@ -25,6 +25,8 @@ use Rattle.pool_rest.specs.Standing.{IsLasting}
 use Rattle.pool_rest.specs.Resting.{AreSingle, StandsNow}
 use Rattle.pool_check.specs.Drives.{Drives}
 use Rattle.raid_rack.specs.Raid.{Raid, IsTold, held_in, is_over, live_of, spent_of}
+use Rattle.array_model.specs.View.{sectors_of as sectors_in}
+use Rattle.raid_rack.specs.Book.{IsAfter}
 use Rattle.raid_rack.specs.Marking.{SaysBetween}
 
 -- Disks are told, none of their sectors is spent or will be, and each has one value, of 512 bytes.
@@ -79,13 +81,16 @@ pub record IsFoundOn (x : Seen) (known : List Known) (s : State) (t : Slices) (o
 
 -- what the pool's contents give of an array
 abbrev pub pool_values : Found → ℕ → ℕ → Values
-pool_values f n y = only (array_in f.state (slices_of f) n y)
+pool_values f n y = only (arrays_held f n y)
 
--- Calls on slices a, which left arrays over slices b: each array that is ready for the volume is told, and each of its sectors that can
--- be had has one value, which is that of the pool's contents. At each moment contents say so, by the pool's state or with marks more.
+-- Calls on slices a, which left arrays over slices b: marks alone may have come to the pool's state. Each array that is ready for the
+-- volume is told and has the pool's sectors, of which each that can be had has one value, that of the pool's contents. At each moment
+-- contents say so, by a state between the two.
 pub record HoldsArrays (f : Found) (v : Raid) (a b : Seen) : Type 0 where
+  pub after : IsAfter f.state v.state
   pub told : (n : ℕ) → n < f.state.joined → IsTold v b n
-  pub values : (n y : ℕ) (u : List ℕ) → n < f.state.joined → live_of v n y → MayLeave (held_in v b n y) u → u ≡ array_in f.state (slices_of f) n y
+  pub sectors : (n : ℕ) → n < f.state.joined → sectors_in (v.arrays n) ≡ array_sectors f n
+  pub values : (n y : ℕ) (u : List ℕ) → n < f.state.joined → live_of v n y → MayLeave (held_in v b n y) u → u ≡ arrays_held f n y
   pub leaves :
       (n : ℕ) → n < f.state.joined → is_over v n ≡ false → a.traced
       → Leaves a b (λ c. IsInside a.sectors c → SaysBetween f.state v.state n (pool_values f n) (spent_of v n) (replayed a.sectors c))
