@@ -6,14 +6,14 @@ use Rattle.std.proofs.lemmas.Bool.{and_parts, and_from, both_ways, cases_Bool}
 use Rattle.std.proofs.lemmas.List.{length-map}
 use Rattle.rack.specs.Values.{IsSingle}
 use Rattle.rack.specs.Seen.{Image, Held, Seen, IsLive}
-use Rattle.slice_rack.specs.Slices.{Slices, IsOrderly, disk_of, first_of, seat_of, sectors_of}
+use Rattle.slice_rack.specs.Slices.{Slices, IsOrderly, disk_of, first_of, seat_of, sectors_of as slice_sectors}
 use Rattle.slice_rack.specs.Sliced.{slices_of as slices_seen}
 use Rattle.slice_rack.specs.Laws.{disk_below, sector_below}
 use Rattle.md_super.specs.declared.superblock.Super.{Super}
 use Rattle.array_image.specs.Places.{data_sector, member_slice}
 use Rattle.array_image.specs.States.{is_current}
 use Rattle.array_image.specs.Supers.{is_named, is_rebuilding}
-use Rattle.array_image.specs.Arrays.{Member, Shape, array_in, layout_at, shape_by, shape_in, value_by}
+use Rattle.array_image.specs.Arrays.{Member, Shape, array_in, layout_at, sectors_by, shape_by, shape_in, value_by}
 use Rattle.array_image.specs.Stripes.{sector_in}
 use Rattle.array_image.specs.Held.{Among, current_in, held_by}
 use Rattle.array_image.proofs.Frames.{value_by_data}
@@ -23,7 +23,7 @@ use Rattle.array_image.specs.Left.{IsClosed}
 use Rattle.array_image.specs.SoundArray.{IsSoundArray, first_unsynced}
 use Rattle.array_model.specs.declared.Seat.{Seat}
 use Rattle.array_model.specs.declared.Seat.TheVariants.{Whole, Missing, Rebuilding}
-use Rattle.array_model.specs.View.{View, IsArray, is_whole_seat, member_on, place_at, seat_reach, seat_unless, shape_of}
+use Rattle.array_model.specs.View.{View, IsArray, is_whole_seat, member_on, place_at, seat_reach, seat_unless, sectors_of, shape_of}
 use Rattle.array_model.specs.Opened.{OpensOn}
 use Rattle.array_core.specs.Model.{is_truth}
 use Rattle.array_core.specs.declared.Found.{Found as FoundSuper}
@@ -34,7 +34,7 @@ use Rattle.array_core.proofs.Opened.{map_ranged}
 use Rattle.array_core.proofs.Rules.{get_map, get_range, zero_more}
 use Rattle.array_core.proofs.Truths.{truth_facts}
 use Rattle.pool_image.specs.Drives.{Found, slices_of}
-use Rattle.pool_image.specs.Meaning.{is_member, super_at, truth_of}
+use Rattle.pool_image.specs.Meaning.{array_sectors, is_member, super_at, truth_of}
 use Rattle.pool_check.specs.declared.Checked.{Checked}
 use Rattle.pool_check.specs.Layers.{AreOpened, IsOpened}
 use Rattle.raid_rack.specs.Moves.{IsSeated}
@@ -185,7 +185,7 @@ module _ (f : Found) (t : Slices) (x : Seen) (checked : Checked) (absent : List 
 
   -- a member's sectors that count are its slice's
   record Counting (k : Member) (s : ℕ) : Type 0 where
-    inside : data_sector + s < sectors_of t (member_slice k.place n)
+    inside : data_sector + s < slice_sectors t (member_slice k.place n)
     low : k.place < 16
     member : is_member f n k.place ≡ true
 
@@ -215,7 +215,7 @@ module _ (f : Found) (t : Slices) (x : Seen) (checked : Checked) (absent : List 
             member = ap (λ (o : Option Super). option_map_or (λ z. is_named z (place_at w j)) o false) of.truth_is ∙ position_named tr j usable low;
           }
 
-  live_at : (place s : ℕ) → s < sectors_of t (member_slice place n) → IsLive (slices_seen t x) (slices_seen t x) (member_slice place n) s
+  live_at : (place s : ℕ) → s < slice_sectors t (member_slice place n) → IsLive (slices_seen t x) (slices_seen t x) (member_slice place n) s
   live_at place s = live f t x checked absent orderly m steady pool opened (member_slice place n) s
 
   -- ---- what its slices hold
@@ -301,3 +301,11 @@ module _ (f : Found) (t : Slices) (x : Seen) (checked : Checked) (absent : List 
   -- and so do the slices give it as they read
   pub array_read : (y : ℕ) → value_by (shape_of (gone absent (restarted v))) e n y ≡ array_in f.state (slices_of f) n y
   array_read y = ap (λ (z : View). value_by (shape_of (gone absent (restarted z))) e n y) of.view ∙ read_now y
+
+  sectors_now : sectors_of w ≡ array_sectors f n
+  unfolding shape_of
+  sectors_now = sym (ap (λ (o : Option Shape). option_map_or sectors_by o 0) shape_found)
+
+  -- it has the pool's sectors
+  pub sectors_are : sectors_of (gone absent (restarted v)) ≡ array_sectors f n
+  sectors_are = ap (λ (z : View). sectors_of (gone absent (restarted z))) of.view ∙ sectors_now

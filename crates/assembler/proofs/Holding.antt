@@ -17,7 +17,7 @@ use Rattle.array_image.specs.Left.{IsInside, reading}
 use Rattle.array_image.proofs.Sources.{held_single}
 use Rattle.commit_log.specs.View.{LogView, left_of}
 use Rattle.commit_log.specs.Opening.{Finds, ReplayCall}
-use Rattle.array_model.specs.View.{View, IsArray, has_gone, shape_of}
+use Rattle.array_model.specs.View.{View, IsArray, has_gone, shape_of, sectors_of as array_sectors_of}
 use Rattle.array_model.specs.Opened.{OpensOn}
 use Rattle.array_model.proofs.Keeping.{live_on}
 use Rattle.array_core.specs.Seats.{gone, joined, names, restarted}
@@ -39,7 +39,7 @@ use Rattle.raid_rack.proofs.Seated.{names_joined}
 use Rattle.assembler.specs.Members.{AreMembers}
 use Rattle.assembler.specs.Holding.{AreSteady, HoldPool, HoldsArrays, IsIdle, IsPoolOn, IsSoundPool, pool_values}
 use Rattle.assembler.proofs.Amid.{closing_leaves, says_only}
-use Rattle.assembler.proofs.Arrays.{array_read, array_values, opens_array}
+use Rattle.assembler.proofs.Arrays.{array_read, array_values, opens_array, sectors_are}
 use Rattle.assembler.proofs.Rest.{copies_agree, log_there, opened_now}
 use Rattle.assembler.proofs.Shows.{few_made, few_place, got, none_past}
 use Rattle.assembler.proofs.Still.{opens_still, rest_closed}
@@ -215,9 +215,16 @@ module _ (f : Found) (t : Slices) (x : Seen) (checked : Checked) (absent : List 
       → (b.held (member_slice place n) s).current ≡ ((slices_seen t x).held (member_slice place n) s).current)
       → ((n : ℕ) → n < f.state.joined → (w : State) (spent : ℕ → Bool) → IsAfter f.state w → x.traced
       → Leaves (slices_seen t x) b (λ c. IsInside (sectors_of t) c → SaysBetween f.state w n (pool_values f n) spent (replayed (sectors_of t) c)))
-      → (w : Raid) (c : Seen) → IsAfter f.state w.state → OpenedRaid v w b c → HoldsArrays f w (slices_seen t x) c
-  holds_marked b opens stays kept closing w c after marks = record {
+      → (w : Raid) (c : Seen) → IsAfter f.state w.state → ((n : ℕ) → array_sectors_of (w.arrays n) ≡ array_sectors_of (arrays n))
+      → OpenedRaid v w b c → HoldsArrays f w (slices_seen t x) c
+  holds_marked b opens stays kept closing w c after sizes marks = record {
+    after = after;
     told = marks.told;
+    sectors = λ n less.
+        let made = low_joined n less in
+        let at = array_at n made in
+        sizes n ∙ ap array_sectors_of (are n at.0 at.1)
+        ∙ sectors_are f t x checked absent orderly m steady pool found.opened rules sound n less made at.0 at.1;
     values = λ n y u less alive may. value_held b opens kept n y u less ((marks.keeps n y less alive).within u may);
     leaves = λ n less goes traced.
         let says : (ℕ → ℕ) → Image → Type 0 = λ sectors i. IsInside sectors i → SaysBetween f.state w.state n (pool_values f n) (spent_of w n) (replayed sectors i) in
@@ -273,7 +280,7 @@ module _ (f : Found) (s : State) (t : Slices) (x : Seen) (checked : Checked) (ab
       holds_marked f t x checked absent orderly m holds.steady pool found holds.sound rules v.arrays v.number now
       (slices_seen t x) opens (stays_same (slices_seen t x) m.fit) (λ n place k low live. refl)
       (λ n less k spent after traced. leaves_same (slices_seen t x) (λ i. IsInside (sectors_of t) i → SaysBetween f.state k n (pool_values f n) spent (replayed (sectors_of t) i)))
-      w c (subst (λ k. IsAfter k w.state) (state ∙ same) mends.moves.book)
+      w c (subst (λ k. IsAfter k w.state) (state ∙ same) mends.moves.book) mends.moves.sectors
       (opened_raid before w (slices_seen t x) c opens ready (subst (λ k. Mends k w (slices_seen t x) c) before_is mends))
 
   -- where none is, and none goes
@@ -289,5 +296,5 @@ module _ (f : Found) (s : State) (t : Slices) (x : Seen) (checked : Checked) (ab
       holds_marked f t x checked absent orderly m holds.steady pool found holds.sound rules v.arrays v.number now
       b opens replay.stays (data_kept f t x checked absent orderly m holds.steady pool found holds.sound rules v.arrays v.number now l log.none b call)
       (says_closing f t x checked absent orderly m holds.steady pool found holds.sound rules v.arrays v.number now l log none number b call)
-      w c (subst (λ k. IsAfter k w.state) (state ∙ same) mends.moves.book)
+      w c (subst (λ k. IsAfter k w.state) (state ∙ same) mends.moves.book) mends.moves.sectors
       (opened_raid before w b c opens ready (subst (λ k. Mends k w b c) before_is mends))

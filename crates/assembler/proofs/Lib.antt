@@ -1,6 +1,7 @@
 mod Amid
 mod Arrays
 mod Copied
+mod Finding
 mod Holding
 mod Later
 mod Refusals

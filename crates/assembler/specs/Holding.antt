@@ -1,5 +1,5 @@
 -- What a pool's arrays hold where its disks are told.
-use Rattle.std.specs.Prelude.{◌≡◌, ℕ, ◌<◌, ◌&&◌, nat_lt, Bool, true, false, List, [], length, Some, None}
+use Rattle.std.specs.Prelude.{◌≡◌, ℕ, ◌<◌, ◌&&◌, nat_lt, Bool, true, false, List, [], length, Option, Some, None}
 use Rattle.rack.specs.Values.{MayLeave, Values, only}
 use Rattle.rack.specs.Seen.{Seen}
 use Rattle.rack.specs.Moments.{Leaves}
@@ -10,19 +10,23 @@ use Rattle.pool_state.specs.declared.contents.State.{State}
 use Rattle.array_image.specs.Places.{log_slice}
 use Rattle.array_image.specs.States.{is_current}
 use Rattle.array_image.specs.Supers.{is_named}
-use Rattle.array_image.specs.Arrays.{array_in, replayed}
+use Rattle.array_image.specs.Arrays.{replayed}
 use Rattle.array_image.specs.Left.{IsInside, reading}
 use Rattle.commit_log.specs.View.{LogView, left_of, names}
 use Rattle.commit_log.specs.Opening.{Finds}
 use Rattle.pool_image.specs.Disks.{disks_of, identities_of}
-use Rattle.pool_image.specs.Drives.{Found, slices_of}
-use Rattle.pool_image.specs.Meaning.{truth_of}
+use Rattle.pool_image.specs.Drives.{Found, found}
+use Rattle.pool_image.specs.Meaning.{array_sectors, arrays_held, truth_of}
 use Rattle.pool_image.specs.Sound.{IsSoundState}
-use Rattle.pool_scan.specs.Scanning.{AllTold}
+use Rattle.pool_scan.specs.declared.Known.{Known}
+use Rattle.pool_scan.specs.Choosing.{AreOf}
+use Rattle.pool_scan.specs.Scanning.{AllTold, now_in}
 use Rattle.pool_rest.specs.Standing.{IsLasting}
-use Rattle.pool_rest.specs.Resting.{AreSingle}
+use Rattle.pool_rest.specs.Resting.{AreSingle, StandsNow}
 use Rattle.pool_check.specs.Drives.{Drives}
 use Rattle.raid_rack.specs.Raid.{Raid, IsTold, held_in, is_over, live_of, spent_of}
+use Rattle.array_model.specs.View.{sectors_of as sectors_in}
+use Rattle.raid_rack.specs.Book.{IsAfter}
 use Rattle.raid_rack.specs.Marking.{SaysBetween}
 
 -- Disks are told, none of their sectors is spent or will be, and each has one value, of 512 bytes.
@@ -64,15 +68,29 @@ pub record HoldPool (s : State) (t : Slices) (x : Seen) (l : LogView) (f : Found
   pub log : IsIdle s t x l
   pub sound : IsSoundPool f
 
+-- Disks as they were brought to rest: they are told, their contents have this pool, which is sound, and nothing is pending there; the
+-- scan and the log say what they hold.
+pub record IsFoundOn (x : Seen) (known : List Known) (s : State) (t : Slices) (on : List ℕ) (l : LogView) (is_pending : Bool) (damaged : Option ℕ) (f : Found) : Type 0 where
+  pub steady : AreSteady x
+  pub found_is : found (disks_of x) (now_in x) ≡ Some f
+  pub scan : AreOf (disks_of x) (identities_of (disks_of x) (now_in x)) known
+  pub stands : StandsNow x s l is_pending damaged
+  pub finds : Finds l on (left_of on []) is_pending damaged (reading (slices_seen t x))
+  pub rested : is_pending ≡ false
+  pub sound : IsSoundPool f
+
 -- what the pool's contents give of an array
 abbrev pub pool_values : Found → ℕ → ℕ → Values
-pool_values f n y = only (array_in f.state (slices_of f) n y)
+pool_values f n y = only (arrays_held f n y)
 
--- Calls on slices a, which left arrays over slices b: each array that is ready for the volume is told, and each of its sectors that can
--- be had has one value, which is that of the pool's contents. At each moment contents say so, by the pool's state or with marks more.
+-- Calls on slices a, which left arrays over slices b: marks alone may have come to the pool's state. Each array that is ready for the
+-- volume is told and has the pool's sectors, of which each that can be had has one value, that of the pool's contents. At each moment
+-- contents say so, by a state between the two.
 pub record HoldsArrays (f : Found) (v : Raid) (a b : Seen) : Type 0 where
+  pub after : IsAfter f.state v.state
   pub told : (n : ℕ) → n < f.state.joined → IsTold v b n
-  pub values : (n y : ℕ) (u : List ℕ) → n < f.state.joined → live_of v n y → MayLeave (held_in v b n y) u → u ≡ array_in f.state (slices_of f) n y
+  pub sectors : (n : ℕ) → n < f.state.joined → sectors_in (v.arrays n) ≡ array_sectors f n
+  pub values : (n y : ℕ) (u : List ℕ) → n < f.state.joined → live_of v n y → MayLeave (held_in v b n y) u → u ≡ arrays_held f n y
   pub leaves :
       (n : ℕ) → n < f.state.joined → is_over v n ≡ false → a.traced
       → Leaves a b (λ c. IsInside a.sectors c → SaysBetween f.state v.state n (pool_values f n) (spent_of v n) (replayed a.sectors c))

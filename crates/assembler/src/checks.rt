@@ -9,12 +9,12 @@ ghost use Rattle.pool_state.specs.Valid.{is_valid};
 ghost use Rattle.arrayvec.specs.ArrayVec.{array_vec_len};
 ghost use Rattle.array_image.specs.States.{current_places};
 ghost use Rattle.pool_check.specs.Checking.{IsChecked};
-ghost use Rattle.pool_check.specs.Drives.{AreCopied, AreDrivesOf, seats_by};
+ghost use Rattle.pool_check.specs.Drives.{seats_by};
 ghost use Rattle.pool_check.specs.Refusing.{is_well};
 ghost use Rattle.pool_image.specs.Drives.{Found};
 ghost use Rattle.pool_scan.specs.Scanning.{IsUnfaulted};
 ghost use Rattle.pool_rest.specs.Standing.{IsLaid};
-ghost use Rattle.assembler.specs.Holding.{HoldPool, drives_of};
+ghost use Rattle.assembler.specs.Holding.{HoldPool, IsFoundOn};
 ghost use Rattle.assembler.specs.Members.{AreMembers};
 ghost use Rattle.assembler.specs.Refusing.{FailsCheck};
 
@@ -110,14 +110,11 @@ pub(crate) fn check<R: Rack>(rest: AtRest<R>) -> Result<Members<R>, Back<R, Refu
     requires laid { IsLaid (R.seen (below_of rest.slices)) rest.scan.disks.items rest.state (tables rest.slices) rest.on.items }
     ensures only { IfOk result (λ m. OnlyReads (R.seen (below_of rest.slices)) (R.seen (below_of m.slices))) }
     ensures members { IfOk result (λ m. AreMembers m.state (tables m.slices) (R.seen (below_of m.slices)) m.checked m.absent.items) }
-    // The arrays are those of the pool that the disks left make, in which no drive is damaged.
-    ensures checked { IfOk result (λ m. (f : Found) → f.state ≡ rest.state → ((p : ℕ) → f.seats p ≡ seat_of (tables m.slices) p)
-        → AreDrivesOf (R.seen (below_of rest.slices)) f.seats (drives_of f) → AreCopied rest.scan.disks.items f.seats (drives_of f)
-        → IsChecked (is_well None) f m.checked) }
-    // A sound pool that the disks told at rest they still hold, where none refused a call.
-    ensures holds { IfOk result (λ m. (f : Found) → HoldPool rest.state (tables rest.slices) (R.seen (below_of rest.slices)) rest.log f
+    // Where the disks are told at rest, and none has refused a call, they hold their pool, and the arrays are its own.
+    ensures holds { IfOk result (λ m. (f : Found)
+        → IsFoundOn (R.seen (below_of rest.slices)) rest.scan.disks.items rest.state (tables rest.slices) rest.on.items rest.log rest.pending rest.damaged f
         → rest.gone.items ≡ [] → IsUnfaulted (R.seen (below_of rest.slices)) (R.seen (below_of m.slices))
-        → HoldPool m.state (tables m.slices) (R.seen (below_of m.slices)) m.log f) }
+        → HoldPool m.state (tables m.slices) (R.seen (below_of m.slices)) m.log f × IsChecked (is_well None) f m.checked) }
     ensures state { IfOk result (λ m. m.state ≡ rest.state) }
     ensures log { IfOk result (λ m. m.log ≡ rest.log) }
     ensures runs { IfOk result (λ m. R.runs (below_of rest.slices) (below_of m.slices)) }

@@ -16,6 +16,7 @@ use Rattle.pool_check.proofs.Valid.{valid_fit}
 use Rattle.pool_rest.specs.Standing.{IsLaid}
 use Rattle.pool_scan.specs.Scanning.{IsUnfaulted}
 use Rattle.assembler.specs.Holding.{HoldPool, drives_of}
+use Rattle.assembler.proofs.Finding.{found_copied, found_drives, found_holds}
 use Rattle.assembler.proofs.Later.{holds_later}
 use Rattle.assembler.specs.Members.{AreMembers}
 use Rattle.assembler.specs.declared.refusal.Refusal.TheVariants.{Damaged}
@@ -115,33 +116,9 @@ returns-in-Some-clause-refused g c =
     (subst (λ r. Loses (g.R.Rack.seen r) (g.R.Rack.seen c.check_drives.new.rack) (seats_by seats) (seats_by now)) c.inner.ensures.value c.check_drives.ensures.seats)
     rest.damaged c.in-Some.place c.in-Some.is
     (λ o are copied. (c.in-Ok.ensures.exact o (subst (λ r. AreDrivesOf (g.R.Rack.seen r) (seats_by now) o) (sym c.inner.ensures.value) are) copied).sound))
-pub returns-clause-checked : goal.returns-clause-checked
-returns-clause-checked g c f state seats drives copied =
-    let rest = c.args.rest in
-    let x : Seen = g.R.Rack.seen (below_of rest.slices) in
-    let now = c.unseat_lost.ensures in
-    let left = seats_by c.check_drives.new.seats in
-    let seat : f.seats ≡ left = λ i p. (seats p ∙ c.lay_members.ensures.kept.seats p
-    ∙ seats_are x rest.scan.disks.items rest.state (tables rest.slices) rest.on.items c.requires.laid c.requires.fit
-    (g.R.Rack.seen c.check_drives.new.rack) c.seats_of-seats.result c.check_drives.new.seats
-    (taken x rest.scan.disks.items rest.state (tables rest.slices) rest.on.items c.requires.laid c.requires.fit rest.gone.items c.seats_of-seats.result c.seats_of-seats.ensures.beyond c.seats_of-seats.ensures.each)
-    (subst (λ r. Loses (g.R.Rack.seen r) (g.R.Rack.seen c.check_drives.new.rack) (seats_by c.seats_of-seats.result) left) c.inner.ensures.value c.check_drives.ensures.seats)
-    (tables c.unseat_lost.new.slices) c.unseat_lost.new.slices.orderly now.seats now.firsts now.sectors p) i in
-    let whole : rest.damaged ≡ None = none_of rest.damaged c.in_default.not-Some in
-    let found : IsChecked (is_well rest.damaged) (found_with rest.state left (drives_of f)) c.in-Ok.checked =
-    c.in-Ok.ensures.exact (drives_of f)
-    (subst (λ r. AreDrivesOf (g.R.Rack.seen r) left (drives_of f)) (sym c.inner.ensures.value) (subst (λ k. AreDrivesOf x k (drives_of f)) seat drives))
-    (subst (λ k. AreCopied rest.scan.disks.items k (drives_of f)) seat copied) in
-    subst (λ o. IsChecked (is_well o) f c.in-Ok.checked) whole
-    (subst (λ s. IsChecked (is_well rest.damaged) (found_with s f.seats (drives_of f)) c.in-Ok.checked) (sym state)
-    (subst (λ k. IsChecked (is_well rest.damaged) (found_with rest.state k (drives_of f)) c.in-Ok.checked) (sym seat) found))
-  where
-    none_of : (o : Option ℕ) → ((place : ℕ) → o ≡ Some place → ⊥) → o ≡ None
-    none_of None none = refl
-    none_of (Some place) none = absurd (none place refl)
 
 pub returns-clause-holds : goal.returns-clause-holds
-returns-clause-holds g c f holds nobody quiet =
+returns-clause-holds g c f is nobody quiet =
     let rest = c.args.rest in
     let x : Seen = g.R.Rack.seen (below_of rest.slices) in
     let y : Seen = g.R.Rack.seen c.check_drives.new.rack in
@@ -170,8 +147,25 @@ returns-clause-holds g c f holds nobody quiet =
     let there : (p d : ℕ) → seat_of t p ≡ Some d → after (place_of (log_slice p)) ≡ None → ⊥ =
     λ p d seat none. let place : place_of (log_slice p) ≡ p = omega arith in none-some d (sym none ∙ ap after place ∙ still p ∙ seat) in
     let log : (p : ℕ) → slice_of (log_slice p) ≡ 0 = λ p. omega arith in
-    subst (λ r. HoldPool rest.state w (g.R.Rack.seen r) rest.log f) (sym end)
-    (holds_later rest.state t w x y rest.slices.orderly c.lay_members.new.slices.orderly reads c.requires.fit.1 seats
-    (λ p d seat. kept.sectors (log_slice p) (log p) ∙ now.sectors (log_slice p) (there p d seat))
-    (λ p d seat. kept.firsts (log_slice p) (log p) ∙ now.firsts (log_slice p) (there p d seat))
-    holds.steady rest.log f holds)
+    let whole : rest.damaged ≡ None = none_of rest.damaged c.in_default.not-Some in
+    let holds : HoldPool rest.state t x rest.log f =
+    found_holds x rest.scan.disks.items rest.state t rest.on.items rest.log rest.pending rest.damaged f c.requires.laid c.requires.valid whole is in
+    let left : f.seats ≡ after = λ i p. (holds.pool.seats p ∙ sym (still p)) i in
+    let found : IsChecked (is_well rest.damaged) (found_with rest.state after (drives_of f)) c.in-Ok.checked =
+    c.in-Ok.ensures.exact (drives_of f)
+    (subst (λ r. AreDrivesOf (g.R.Rack.seen r) after (drives_of f)) (sym c.inner.ensures.value)
+    (subst (λ k. AreDrivesOf x k (drives_of f)) left (found_drives x rest.scan.disks.items rest.state t rest.on.items rest.log rest.pending rest.damaged f is)))
+    (subst (λ k. AreCopied rest.scan.disks.items k (drives_of f)) left (found_copied x rest.scan.disks.items rest.state t rest.on.items rest.log rest.pending rest.damaged f is)) in (
+      subst (λ r. HoldPool rest.state w (g.R.Rack.seen r) rest.log f) (sym end)
+          (holds_later rest.state t w x y rest.slices.orderly c.lay_members.new.slices.orderly reads c.requires.fit.1 seats
+          (λ p d seat. kept.sectors (log_slice p) (log p) ∙ now.sectors (log_slice p) (there p d seat))
+          (λ p d seat. kept.firsts (log_slice p) (log p) ∙ now.firsts (log_slice p) (there p d seat))
+          holds.steady rest.log f holds),
+      subst (λ o. IsChecked (is_well o) f c.in-Ok.checked) whole
+          (subst (λ k. IsChecked (is_well rest.damaged) (found_with k f.seats (drives_of f)) c.in-Ok.checked) (sym holds.pool.state)
+          (subst (λ k. IsChecked (is_well rest.damaged) (found_with rest.state k (drives_of f)) c.in-Ok.checked) (sym left) found)),
+    )
+  where
+    none_of : (o : Option ℕ) → ((place : ℕ) → o ≡ Some place → ⊥) → o ≡ None
+    none_of None none = refl
+    none_of (Some place) none = absurd (none place refl)
