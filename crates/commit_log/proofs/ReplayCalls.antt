@@ -42,6 +42,7 @@ pub record Replayed (l : LogView) (on lost : List ℕ) (closed : List ℕ) (a t 
   pub writes : Settles a t (IsTargeted l.pending) (IsPayload l.pending) (IsWanted a l.pending) w0 w1
   pub closes : Settles t b (IsLogOf on (length on)) (IsShut l w1 on closed) (IsShut l w1 on closed) w1 w2
   pub closed_is : gate_of closed ≡ Some (record { is_open = false; number = l.number })
+  pub sized : length closed ≡ 512
   pub logs : (p : ℕ) → names on p ≡ true → (p < 16) × (a.sectors (log_slice p) ≡ log_sectors)
   pub lost_are : (p : ℕ) → names lost p ≡ w2 p
   pub ordered : lost ≡ in_order lost
@@ -234,6 +235,12 @@ replay_call l on lost closed a t b w0 w1 w2 done =
     let all : Calls a b (IsCalled l on) (MayWrite l w1 on closed) w0 w2 = calls_of l on lost closed a t b w0 w1 w2 done in
     let stays : Stays a b = all.only.stays in
     let to_t : Stays a t = done.writes.calls.only.stays in
+    let shut : HasWork l → lost ≡ [] → (p : ℕ) → names on p ≡ true → IsLive a b (log_slice p) gate_sector
+    → (v : List ℕ) → MayLeave (b.held (log_slice p) gate_sector) v → v ≡ closed =
+    λ work none p named live v left.
+        let left2 : AllLeft w2 = λ q. sym (done.lost_are q) ∙ ap (λ ps. names ps q) none in
+        done.closes.durable (log_slice p) gate_sector closed v (live_second to_t live) (left2 (place_of (log_slice p)))
+        (work, (λ q. done.closes.calls.still q (left2 q), record { disk = named_log on p named; there = refl; value = refl })) left in
     record {
       stays = stays;
       gone = record {
@@ -250,12 +257,11 @@ replay_call l on lost closed a t b w0 w1 w2 done =
       stops = λ traced can. stops_of l on lost closed a t b w0 w1 w2 done traced can;
       after = λ can c stands. replays_of l closed a c can (after_of l on lost closed a t b w0 w1 w2 c done stays can stands) done.closed_is;
       rests = λ can someone c stands. rests_of l on lost closed a t b w0 w1 w2 c done stays can someone stands;
-      gates = λ work none p v named live left.
-          let left2 : AllLeft w2 = λ q. sym (done.lost_are q) ∙ ap (λ ps. names ps q) none in
-          ap gate_of
-          (done.closes.durable (log_slice p) gate_sector closed v (live_second to_t live) (left2 (place_of (log_slice p)))
-          (work, (λ q. done.closes.calls.still q (left2 q), record { disk = named_log on p named; there = refl; value = refl })) left)
-          ∙ done.closed_is;
+      gates = λ work none p v named live left. ap gate_of (shut work none p named live v left) ∙ done.closed_is;
+      durable = λ work none p named live.
+          let shuts = shut work none p named live in
+          let now = shuts (b.held (log_slice p) gate_sector).current (inl refl) in
+          (λ v left. shuts v left ∙ sym now, ap length now ∙ done.sized);
       numbers = λ can p live numbered v left.
           elim (all.only.within (log_slice p) gate_sector v live left) [
             | inl old ↦ numbered v old

@@ -1,6 +1,6 @@
 -- What looking for a pending record and replaying it do.
 use Rattle.std.specs.Prelude.{◌≡◌, ◌≢◌, ◌⊎◌, ℕ, ◌<◌, ◌≤◌, Bool, true, false, List, [], Option, Some, None, is_some, is_none}
-use Rattle.rack.specs.Values.{MayLeave, Keeps}
+use Rattle.rack.specs.Values.{IsSector, IsSingle, MayLeave, Keeps}
 use Rattle.rack.specs.Seen.{Image, Seen, IsLive, Stays, Rose}
 use Rattle.rack.specs.Moments.{Leaves}
 use Rattle.rack.specs.Calls.{KeepsAll}
@@ -93,11 +93,15 @@ pub record ReplayCall (l : LogView) (on lost : List ℕ) (a b : Seen) : Type 0 w
   pub after : CanReplay l a → (c : Image) → Stands b c → Replays a c
   -- where nobody went nothing is pending any more, and contents are as they are replayed
   pub rests : CanReplay l a → SomeoneDecides l.pending on lost a → (c : Image) → LogsStand b c → Rests l.number l.pending lost c
-  -- and each gate of `on` is closed with the log's number
+  -- and each gate of `on` is closed with the log's number, durably
   pub gates :
       HasWork l → lost ≡ [] → (p : ℕ) (v : List ℕ) → names on p ≡ true → IsLive a b (log_slice p) gate_sector
       → MayLeave (b.held (log_slice p) gate_sector) v
       → gate_of v ≡ Some (record { is_open = false; number = l.number })
+  -- which is one sector
+  pub durable :
+      HasWork l → lost ≡ [] → (p : ℕ) → names on p ≡ true → IsLive a b (log_slice p) gate_sector
+      → IsSingle (b.held (log_slice p) gate_sector) × IsSector (b.held (log_slice p) gate_sector).current
   pub numbers :
       CanReplay l a → (p : ℕ) → IsLive a b (log_slice p) gate_sector → IsNumbered l.number a p → IsNumbered l.number b p
   -- without work nothing is written

@@ -22,7 +22,8 @@ pub(crate) struct Gate {
 impl Gate {
     /// Its sector.
     pub(crate) fn encode(&self) -> [u8; 512]
-        ensures { gate_of result ≡ Some (record { is_open = self.now.open; number = self.now.number }) }
+        ensures gate { gate_of result ≡ Some (record { is_open = self.now.open; number = self.now.number }) }
+        ensures sized { length result ≡ 512 }
     {
         let mut block = [0; 512];
         put_gate(&mut block, if self.open { 1 } else { 0 }, self.number);

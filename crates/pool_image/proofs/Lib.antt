@@ -7,6 +7,7 @@ pub mod Identities
 pub mod Founds
 pub mod Rested
 pub mod SoundSame
+pub mod Wholes
 mod SeatExamples
 mod SoundExamples
 mod VolumeExamples

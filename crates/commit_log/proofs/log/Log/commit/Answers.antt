@@ -51,8 +51,8 @@ returns-clause-commits g c =
         targets = λ d s v is. (c.requires.had d s v is, valid_apart l.added d s v c.requires.valid is);
       };
       number_is = c.next-number.ensures ∙ ap (λ (m : LogView). next_number m.number) c.self.view_is;
-      opened_is = c.encode.ensures;
-      closed_is = c.encode-2.ensures;
+      opened_is = c.encode.ensures.gate;
+      closed_is = c.encode-2.ensures.gate;
       logs = λ p named. logs_named a.sectors c.args.on.now.items p c.requires.logs (subst (λ (xs : List ℕ). names xs p ≡ true) items named);
       lost_are = λ p. ap (λ (xs : List ℕ). names xs p) listed ∙ names_listed w4 c.list.ensures.beyond p;
       ordered = listed ∙ listed_in_order w4 c.list.ensures.beyond ∙ ap in_order (sym listed);

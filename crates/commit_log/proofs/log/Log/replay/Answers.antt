@@ -28,7 +28,8 @@ returns-clause-replays g c =
           subst (λ (xs : List Target). Settles a t (IsTargeted xs) (IsPayload xs) (IsWanted a xs) w0 w1)
           (ap (λ (m : LogView). m.pending) c.self.view_is) c.settle_targets.ensures.settles;
       closes = c.close.ensures.settles;
-      closed_is = c.encode.ensures ∙ ap (λ (m : LogView). Some (record { is_open = false; number = m.number })) c.self.view_is;
+      closed_is = c.encode.ensures.gate ∙ ap (λ (m : LogView). Some (record { is_open = false; number = m.number })) c.self.view_is;
+      sized = c.encode.ensures.sized;
       logs = λ p named. logs_named a.sectors c.args.on.now.items p c.requires.logs (subst (λ (xs : List ℕ). names xs p ≡ true) items named);
       lost_are = λ p. ap (λ (xs : List ℕ). names xs p) listed ∙ names_listed w2 c.list.ensures.beyond p;
       ordered = listed ∙ listed_in_order w2 c.list.ensures.beyond ∙ ap in_order (sym listed);
