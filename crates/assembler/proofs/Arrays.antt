@@ -1,5 +1,5 @@
 -- The arrays of a pool's drives, with the absent places noted, are those that its slices hold.
-use Rattle.std.proofs.Common.{◌≡◌, ◌≢◌, ℕ, zero, suc, ◌+◌, ◌%◌, ◌/◌, ◌<◌, ◌≤◌, Bool, true, false, ◌==◌, ◌&&◌, not, nat_lt, is_none, if◌then◌else◌, List, [], ◌∷◌, map, length, slice_get, Option, Some, None, option_map, unwrap_or, inl, inr, refl, sym, ap, ap₂, subst, ◌∙◌, eq-eqb, lt-ltb, arith}
+use Rattle.std.proofs.Common.{◌≡◌, ◌≢◌, ℕ, zero, suc, ◌+◌, ◌%◌, ◌/◌, ◌-◌, ◌<◌, ◌≤◌, Bool, true, false, ◌==◌, ◌&&◌, not, nat_lt, is_none, if◌then◌else◌, List, [], ◌∷◌, map, length, slice_get, Option, Some, None, option_map, unwrap_or, inl, inr, refl, sym, ap, ap₂, subst, ◌∙◌, eq-eqb, lt-ltb, arith}
 use Rattle.std.specs.Option.{option_map_or}
 use Rattle.std.specs.List.{range_with_len}
 use Rattle.std.proofs.lemmas.Bool.{and_parts, and_from, both_ways, cases_Bool}
@@ -12,9 +12,10 @@ use Rattle.slice_rack.specs.Laws.{disk_below, sector_below}
 use Rattle.md_super.specs.declared.superblock.Super.{Super}
 use Rattle.array_image.specs.Places.{data_sector, member_slice}
 use Rattle.array_image.specs.States.{is_current}
-use Rattle.array_image.specs.Supers.{is_named, is_rebuilding}
-use Rattle.array_image.specs.Arrays.{Member, Shape, array_in, layout_at, sectors_by, shape_by, shape_in, value_by}
-use Rattle.array_image.specs.Stripes.{sector_in}
+use Rattle.array_image.specs.Supers.{is_named, is_rebuilding, is_reshaping}
+use Rattle.md_super.specs.Profile.{is_mirror}
+use Rattle.array_image.specs.Arrays.{Member, Shape, array_in, first_layout, layout_at, sectors_by, shape_by, shape_in, value_by}
+use Rattle.array_image.specs.Stripes.{Layout, capacity, mirror, parity, sector_in, width}
 use Rattle.array_image.specs.Held.{Among, current_in, held_by}
 use Rattle.array_image.proofs.Frames.{value_by_data}
 use Rattle.array_image.proofs.Sources.{held_current}
@@ -34,6 +35,7 @@ use Rattle.array_core.proofs.Opened.{map_ranged}
 use Rattle.array_core.proofs.Rules.{get_map, get_range, zero_more}
 use Rattle.array_core.proofs.Truths.{truth_facts}
 use Rattle.pool_image.specs.Drives.{Found, slices_of}
+use Rattle.pool_image.proofs.Wholes.{value_sized}
 use Rattle.pool_image.specs.Meaning.{array_sectors, is_member, super_at, truth_of}
 use Rattle.pool_check.specs.declared.Checked.{Checked}
 use Rattle.pool_check.specs.Layers.{AreOpened, IsOpened}
@@ -95,6 +97,23 @@ seats_shape v w truth seats =
       is_whole = option_map_or is_whole_seat o false;
     }) (seats k (omega (arith, low)))) in
     λ i. record (shape_of v) { members = members i })
+
+-- an array has at least the sectors of a member
+sectors_least : (v : View) → IsArray v → v.truth.size ≤ sectors_of v
+sectors_least v array = by (first_layout v.truth) wide
+  where
+    wide : 2 ≤ width (first_layout v.truth)
+    wide = of (is_reshaping v.truth) refl (is_mirror v.truth) array.least
+      where
+        of : (r : Bool) → is_reshaping v.truth ≡ r → (m : Bool) → 2 ≤ v.truth.raid_disks
+            → 2 ≤ width (if r then parity (v.truth.raid_disks - 1) else if m then mirror v.truth.raid_disks else parity v.truth.raid_disks)
+        of true is m least = let many = (array.reshape is).1 in omega (arith, many)
+        of false is true least = least
+        of false is false least = least
+
+    by : (l : Layout) → 2 ≤ width l → v.truth.size ≤ capacity l v.truth.size
+    by (mirror n) many = omega arith
+    by (parity n) many = let more = mul_less 1 (n - 1) v.truth.size (omega (arith, many)) in omega (arith, more)
 
 module _ (f : Found) (t : Slices) (x : Seen) (checked : Checked) (absent : List ℕ) (orderly : IsOrderly t)
     (m : AreMembers f.state t x checked absent) (steady : AreSteady x) (pool : IsPoolOn f.state t x f)
@@ -309,3 +328,30 @@ module _ (f : Found) (t : Slices) (x : Seen) (checked : Checked) (absent : List 
   -- it has the pool's sectors
   pub sectors_are : sectors_of (gone absent (restarted v)) ≡ array_sectors f n
   sectors_are = ap (λ (z : View). sectors_of (gone absent (restarted z))) of.view ∙ sectors_now
+
+  -- each of its sectors has 512 bytes
+  pub array_whole : (y : ℕ) → length (array_in f.state (slices_of f) n y) ≡ 512
+  array_whole y =
+      ap (λ (o : Option Shape). length (option_map_or (λ shape. value_by shape (slices_of f) n y) o [])) shape_found
+      ∙ value_sized (shape_of w) (slices_of f) n y
+      (λ k s among counts.
+      let at = counting k s among counts in
+      let slice = member_slice k.place n in
+      ap length
+      (sym (reads_member f t x checked absent orderly m steady pool opened n k.place (data_sector + s) made at.low at.member)
+      ∙ reading_live (slices_seen t x) slice (data_sector + s) (live_at k.place (data_sector + s) at.inside))
+      ∙ steady.sized (disk_of t slice) (first_of t slice + (data_sector + s))
+      (disk_below t x slice (data_sector + s) orderly m.fit.1 at.inside) (sector_below t x slice (data_sector + s) m.fit.1 at.inside))
+
+  -- it has room for a label
+  pub array_room : 128 ≤ array_sectors f n
+  array_room =
+      let founded = m.founded.each n v is in
+      let truth : v.truth ≡ founded.truth = ap (λ (z : View). z.truth) founded.view in
+      let some : 0 < v.truth.size = subst (λ (z : Super). 0 < z.size) (sym truth) founded.some in
+      let array = rules n v is in
+      let rows = array.whole_rows in
+      let least : 128 ≤ v.truth.size = omega (arith, some, rows) in
+      let most : v.truth.size ≤ sectors_of (gone absent (restarted v)) = sectors_least v array in
+      let same = sectors_are in
+      omega (arith, least, most, same)

@@ -15,5 +15,6 @@ pub mod Slotted
 pub mod Laid
 pub mod Shown
 pub mod Valid
+pub mod Wells
 pub mod Founded
 pub mod Settled

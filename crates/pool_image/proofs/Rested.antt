@@ -60,7 +60,7 @@ stood_by disks c x is = of_newest (newest disks (identities_of disks c)) refl is
 -- ---- the logs of places
 
 -- the gate of a place stands on its drive
-gate_block : (f : Found) (p : ℕ) → slices_of f (log_slice p) gate_sector ≡ drive_sector f p drive_gate
+pub gate_block : (f : Found) (p : ℕ) → slices_of f (log_slice p) gate_sector ≡ drive_sector f p drive_gate
 unfolding slices_of extent_of
 gate_block f p =
     let of_place : place_of (log_slice p) ≡ p = omega arith in
