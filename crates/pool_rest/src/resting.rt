@@ -14,7 +14,7 @@ ghost use Rattle.pool_image.specs.Disks.{disks_of, identities_of};
 ghost use Rattle.commit_log.specs.View.{names, settled};
 ghost use Rattle.pool_scan.specs.Scanning.{AllTold, IsUnfaulted, now_in};
 ghost use Rattle.pool_scan.specs.Choosing.{AreOf, seat_by};
-ghost use Rattle.pool_rest.specs.Standing.{IsLasting, IsLaid, IsNewest, IsOnePool, IsCause, IsMeant, since};
+ghost use Rattle.pool_rest.specs.Standing.{IsLasting, IsLaid, IsNewest, IsOnePool, FindsAll, IsCause, IsMeant, since};
 ghost use Rattle.pool_state.specs.Valid.{is_valid};
 ghost use Rattle.pool_image.specs.Alike.{drive_gate, MeansTheSame};
 ghost use Rattle.pool_image.specs.Replay.{brought_state, standing_by};
@@ -368,6 +368,9 @@ fn replay_found<R: Rack>(found: Standing<R>, room: Scan) -> Result<AtRest<R>, Ba
     ensures stands { IfOk result (λ r. AllTold (R.seen (below_of found.slices)) → IsLasting (R.seen (below_of found.slices))
         → IsUnfaulted (R.seen (below_of found.slices)) (R.seen (below_of r.slices))
         → StandsNow (R.seen (below_of r.slices)) r.state r.log r.pending r.damaged) }
+    ensures looked { IfOk result (λ r. AllTold (R.seen (below_of found.slices)) → IsLasting (R.seen (below_of found.slices))
+        → IsUnfaulted (R.seen (below_of found.slices)) (R.seen (below_of r.slices))
+        → FindsAll (R.seen (below_of r.slices)) (tables r.slices) r.on.items r.log r.pending r.damaged) }
     ensures laid { IfOk result (λ r. IsLaid (R.seen (below_of r.slices)) r.scan.disks.items r.state (tables r.slices) r.on.items) }
     ensures shut { IfOk result (λ r. list_all (λ known. not known.gone) found.scan.disks.items ≡ true → found.looked.gone.items ≡ []
         → AllTold (R.seen (below_of found.slices)) → IsLasting (R.seen (below_of found.slices))
@@ -434,6 +437,9 @@ pub fn bring_to_rest<R: Rack>(alloc: Global, rack: R) -> Result<AtRest<R>, Back<
         → RestsSo (R.seen rack) (R.seen (below_of r.slices))) }
     ensures stands { IfOk result (λ r. AllTold (R.seen rack) → IsLasting (R.seen rack) → IsUnfaulted (R.seen rack) (R.seen (below_of r.slices))
         → StandsNow (R.seen (below_of r.slices)) r.state r.log r.pending r.damaged) }
+    // What the log has found of the pending record is what its slices hold still, and no place was passed over.
+    ensures looked { IfOk result (λ r. AllTold (R.seen rack) → IsLasting (R.seen rack) → IsUnfaulted (R.seen rack) (R.seen (below_of r.slices))
+        → FindsAll (R.seen (below_of r.slices)) (tables r.slices) r.on.items r.log r.pending r.damaged) }
     // What was read of the disks is what they hold still, and the state is the newest of it, of one pool.
     ensures newest { IfOk result (λ r. AllTold (R.seen rack) → IsLasting (R.seen rack)
         → IsNewest (since (R.seen rack) (R.seen (below_of r.slices))) (R.seen (below_of r.slices)) r.scan.disks.items r.state) }

@@ -7,9 +7,9 @@ use Rattle.std.proofs.Common.{◌≡◌, true, sym, subst}
 use Rattle.rack.specs.Sequences.{WritesOnly}
 use Rattle.slice_rack.specs.SliceRack.{tables, below_of}
 use Rattle.pool_rest.specs.Resting.{IsOfDrive, IsReplayed, AreShut, StandsNow, seated_state}
-use Rattle.pool_rest.specs.Standing.{IsLaid, IsLasting, IsNewest, IsOnePool, since}
+use Rattle.pool_rest.specs.Standing.{IsLaid, IsLasting, IsNewest, IsOnePool, FindsAll, since}
 use Rattle.pool_rest.proofs.Agreeing.{told_later, lasting_later}
-use Rattle.pool_rest.proofs.Again.{replay_only, again_only, again_replayed, again_stands, again_shut, laid_later, newest_since, cause_since}
+use Rattle.pool_rest.proofs.Again.{replay_only, again_only, again_replayed, again_stands, again_finds, again_shut, laid_later, newest_since, cause_since}
 use Rattle.pool_rest.proofs.resting.replay_found.Goals as goal
 
 pub returns-in-Err-clause-back : goal.returns-in-Err-clause-back
@@ -110,3 +110,19 @@ pub returns-in-Err-clause-wrote : goal.returns-in-Err-clause-wrote
 returns-in-Err-clause-wrote g c =
     again_replayed g.R.Rack.seen (below_of c.args.found.slices) c.into_inner.result c.replay_on-done.result.rack c.in-Err.back.rack c.into_inner.ensures c.args.found.scan.disks.items c.args.found.state
     c.seated_by-seated.result (seated_state c.args.found.log.pending c.args.found.state) c.seated_by-seated.ensures c.replay_on-done.ensures.only c.in-Err.ensures.kept c.args.found.log.pending c.replay_on-done.ensures.replayed
+
+pub returns-clause-looked : goal.returns-clause-looked
+returns-clause-looked g c =
+    let rest = c.as_it_stands-rest.ensures in
+    subst (λ k. AllTold (g.R.Rack.seen (below_of c.args.found.slices)) → IsLasting (g.R.Rack.seen (below_of c.args.found.slices))
+    → IsUnfaulted (g.R.Rack.seen (below_of c.args.found.slices)) (g.R.Rack.seen (below_of k))
+    → FindsAll (g.R.Rack.seen (below_of k)) (tables k) c.as_it_stands-rest.result.on.items c.as_it_stands-rest.result.log c.as_it_stands-rest.result.pending c.as_it_stands-rest.result.damaged)
+    (sym rest.slices)
+    (λ told lasts free.
+    subst (λ d. FindsAll (g.R.Rack.seen (below_of c.in-Ok.again.slices)) (tables c.in-Ok.again.slices) c.as_it_stands-rest.result.on.items c.as_it_stands-rest.result.log c.as_it_stands-rest.result.pending d) (sym rest.damaged)
+    (subst (λ p. FindsAll (g.R.Rack.seen (below_of c.in-Ok.again.slices)) (tables c.in-Ok.again.slices) c.as_it_stands-rest.result.on.items c.as_it_stands-rest.result.log p c.in-Ok.again.looked.damaged) (sym rest.pending)
+    (subst (λ m. FindsAll (g.R.Rack.seen (below_of c.in-Ok.again.slices)) (tables c.in-Ok.again.slices) c.as_it_stands-rest.result.on.items m c.in-Ok.again.looked.pending c.in-Ok.again.looked.damaged) (sym rest.log)
+    (subst (λ o. FindsAll (g.R.Rack.seen (below_of c.in-Ok.again.slices)) (tables c.in-Ok.again.slices) o.items c.in-Ok.again.log c.in-Ok.again.looked.pending c.in-Ok.again.looked.damaged) (sym rest.on)
+    (again_finds g.R.Rack.seen (below_of c.args.found.slices) c.into_inner.result c.replay_on-done.result.rack (below_of c.in-Ok.again.slices) c.into_inner.ensures c.args.found.scan.disks.items c.args.found.state
+    c.seated_by-seated.result (seated_state c.args.found.log.pending c.args.found.state) c.seated_by-seated.ensures c.replay_on-done.ensures.only c.in-Ok.ensures.only (tables c.in-Ok.again.slices) c.in-Ok.again.on.items c.in-Ok.again.looked.gone.items c.in-Ok.again.log c.in-Ok.again.looked.pending c.in-Ok.again.looked.damaged
+    c.in-Ok.again.slices.orderly c.in-Ok.ensures.fit c.in-Ok.ensures.looked told lasts free)))))
