@@ -12,6 +12,7 @@ mod Agreeing
 mod Again
 mod SameMeaning
 mod Settled
+mod Payloads
 mod Refusals
 mod Quiet
 mod Joined

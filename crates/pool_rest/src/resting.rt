@@ -20,7 +20,7 @@ ghost use Rattle.pool_image.specs.Alike.{drive_gate, MeansTheSame};
 ghost use Rattle.pool_image.specs.Replay.{brought_state, standing_by};
 ghost use Rattle.pool_image.specs.Meaning.{has_other_pool};
 ghost use Rattle.pool_rest.specs.SoundLogs.{HasSoundLogs, IsSettled};
-ghost use Rattle.pool_rest.specs.Resting.{IsOfDrive, IsReplayed, AreShut, HaveCause, IsFlagged, HasDisk, HasRefused, StandsNow, RestsSo, WritesDrives, IsRefused, seated_state};
+ghost use Rattle.pool_rest.specs.Resting.{IsOfDrive, IsReplayed, AreShut, HaveCause, IsFlagged, HasDisk, HasRefused, StandsNow, RestsSo, AreSingle, AreSectors, AreSteady, WritesDrives, IsRefused, seated_state};
 
 use crate::brought::brought_state as brought_by;
 use crate::laying::seat_drives;
@@ -435,6 +435,9 @@ pub fn bring_to_rest<R: Rack>(alloc: Global, rack: R) -> Result<AtRest<R>, Back<
     // Where no disk refused a call, the record is written and nothing else has changed but gates.
     ensures rests { IfOk result (λ r. AllTold (R.seen rack) → IsLasting (R.seen rack) → IsUnfaulted (R.seen rack) (R.seen (below_of r.slices))
         → RestsSo (R.seen rack) (R.seen (below_of r.slices))) }
+    // So where each sector was durable and had 512 bytes each is and has, but for gates that were closed.
+    ensures steady { IfOk result (λ r. AllTold (R.seen rack) → IsLasting (R.seen rack) → IsUnfaulted (R.seen rack) (R.seen (below_of r.slices))
+        → AreSingle (R.seen rack) → AreSectors (R.seen rack) → AreSteady (R.seen (below_of r.slices))) }
     ensures stands { IfOk result (λ r. AllTold (R.seen rack) → IsLasting (R.seen rack) → IsUnfaulted (R.seen rack) (R.seen (below_of r.slices))
         → StandsNow (R.seen (below_of r.slices)) r.state r.log r.pending r.damaged) }
     // What the log has found of the pending record is what its slices hold still, and no place was passed over.

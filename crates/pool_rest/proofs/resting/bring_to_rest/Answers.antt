@@ -13,6 +13,7 @@ use Rattle.pool_rest.proofs.Again.{laid_later, newest_still, newest_from, cause_
 use Rattle.pool_rest.specs.SoundLogs.{IsSettled}
 use Rattle.pool_rest.proofs.Refusals.{meant_after}
 use Rattle.pool_rest.proofs.Stood.{found_still}
+use Rattle.pool_rest.proofs.Payloads.{steady_after}
 use Rattle.pool_rest.proofs.Quiet.{none_flagged, no_cause, settled_after, settled_idle}
 use Rattle.pool_rest.proofs.Joined.{no_elements, writes_idle, writes_since, free_before, free_after, since_rests, since_so, since_stands, since_means, idle_so, idle_stands, idle_same}
 use Rattle.pool_rest.proofs.resting.bring_to_rest.Goals as goal
@@ -253,3 +254,15 @@ returns-in-Ok-replay_found-clause-looked g c = λ told lasts free.
     c.in-Ok-replay_found.ensures.looked
     (told_later (g.R.Rack.seen c.args.rack) (g.R.Rack.seen (below_of found.slices)) only.stays told)
     (lasting_later (g.R.Rack.seen c.args.rack) (g.R.Rack.seen (below_of found.slices)) only.stays lasts) later
+
+pub returns-then-pending_count-eq0-clause-steady : goal.returns-then-pending_count-eq0-clause-steady
+returns-then-pending_count-eq0-clause-steady g c = λ told lasts free single sized.
+    let stays = subst (λ k. Stays (g.R.Rack.seen c.args.rack) (g.R.Rack.seen (below_of k))) (sym c.as_it_stands.ensures.slices) c.in-Ok-stand.ensures.only.stays in
+    steady_after (g.R.Rack.seen c.args.rack) (g.R.Rack.seen (below_of c.as_it_stands.result.slices)) stays.disks stays.sectors
+    (returns-then-pending_count-eq0-clause-rests g c told lasts free) single sized
+
+pub returns-in-Ok-replay_found-clause-steady : goal.returns-in-Ok-replay_found-clause-steady
+returns-in-Ok-replay_found-clause-steady g c = λ told lasts free single sized.
+    let stays = stays_then c.in-Ok-stand.ensures.only.stays c.in-Ok-replay_found.ensures.only.stays in
+    steady_after (g.R.Rack.seen c.args.rack) (g.R.Rack.seen (below_of c.in-Ok-replay_found.rest.slices)) stays.disks stays.sectors
+    (returns-in-Ok-replay_found-clause-rests g c told lasts free) single sized
