@@ -1,5 +1,5 @@
 -- What the disks of a pool hold once its pending record is replayed.
-use Rattle.std.specs.Prelude.{◌≡◌, ◌≢◌, ◌⊎◌, ℕ, ◌+◌, ◌<◌, ◌≤◌, Bool, true, false, List, slice_get, Option, Some, is_some, unwrap_or}
+use Rattle.std.specs.Prelude.{◌≡◌, ◌≢◌, ◌⊎◌, ℕ, ◌+◌, ◌<◌, ◌≤◌, Bool, true, false, List, [], slice_get, Option, Some, is_some, unwrap_or}
 use Rattle.std.specs.List.{filter_map}
 use Rattle.rack.specs.Values.{IsSector, IsSingle, Keeps, MayLeave}
 use Rattle.rack.specs.Seen.{Image, Seen, Rose}
@@ -129,6 +129,10 @@ pub record AreSteady (x : Seen) : Type 0 where
   pub gates :
       (d : ℕ) → d < x.disks → drive_gate < x.sectors d
       → (IsSingle (x.held d drive_gate) × IsSector (x.held d drive_gate).current) ⊎ LeavesShut x d
+
+-- no target is to be written: nothing is pending on the disks, or a log is damaged
+abbrev pub IsIdle : Seen → Type 0
+IsIdle x = (before : Standing) → standing (disks_of x) (now_in x) ≡ Some before → before.targets ≡ []
 
 -- only drives of a state were written, by what was read of the disks
 pub record WritesDrives (a b : Seen) : Type 0 where

@@ -1,5 +1,6 @@
 use Rattle.std.proofs.Common.{sym, ap, subst, ◌∙◌, inl, inr, length}
 use Rattle.rack.specs.Seen.{Stays}
+use Rattle.rack.specs.Sequences.{OnlyReads}
 use Rattle.rack.specs.Joins.{stays_then}
 use Rattle.slice_rack.specs.SliceRack.{tables, below_of}
 use Rattle.pool_image.specs.Disks.{disks_of}
@@ -15,7 +16,7 @@ use Rattle.pool_rest.proofs.Refusals.{meant_after}
 use Rattle.pool_rest.proofs.Stood.{found_still}
 use Rattle.pool_rest.proofs.Payloads.{steady_after}
 use Rattle.pool_rest.proofs.Quiet.{none_flagged, no_cause, settled_after, settled_idle}
-use Rattle.pool_rest.proofs.Joined.{no_elements, writes_idle, writes_since, free_before, free_after, since_rests, since_so, since_stands, since_means, idle_so, idle_stands, idle_same}
+use Rattle.pool_rest.proofs.Joined.{no_elements, writes_idle, writes_since, free_before, free_after, since_rests, since_so, since_stands, since_means, not_idle, idle_so, idle_stands, idle_same}
 use Rattle.pool_rest.proofs.resting.bring_to_rest.Goals as goal
 
 pub returns-then-pending_count-eq0-clause-only : goal.returns-then-pending_count-eq0-clause-only
@@ -266,3 +267,26 @@ returns-in-Ok-replay_found-clause-steady g c = λ told lasts free single sized.
     let stays = stays_then c.in-Ok-stand.ensures.only.stays c.in-Ok-replay_found.ensures.only.stays in
     steady_after (g.R.Rack.seen c.args.rack) (g.R.Rack.seen (below_of c.in-Ok-replay_found.rest.slices)) stays.disks stays.sectors
     (returns-in-Ok-replay_found-clause-rests g c told lasts free) single sized
+
+pub returns-then-pending_count-eq0-clause-idle : goal.returns-then-pending_count-eq0-clause-idle
+returns-then-pending_count-eq0-clause-idle g c = λ told lasts free idle.
+    subst (λ k. OnlyReads (g.R.Rack.seen c.args.rack) (g.R.Rack.seen (below_of k))) (sym c.as_it_stands.ensures.slices) c.in-Ok-stand.ensures.only
+
+pub returns-in-Ok-replay_found-clause-idle : goal.returns-in-Ok-replay_found-clause-idle
+returns-in-Ok-replay_found-clause-idle g c = λ told lasts free idle.
+    let found = c.in-Ok-stand.found in
+    let early = free_before (g.R.Rack.seen c.args.rack) (g.R.Rack.seen (below_of found.slices)) (g.R.Rack.seen (below_of c.in-Ok-replay_found.rest.slices)) found.scan.disks.items found.state (tables found.slices) found.log found.looked.pending found.looked.damaged
+    c.in-Ok-stand.ensures.only c.in-Ok-replay_found.ensures.only.stays c.in-Ok-stand.ensures.newest.scan c.in-Ok-stand.ensures.meant free in
+    absurd (c.if-pending_count-eq0.false (c.pending_count.ensures ∙ ap length
+    (not_idle (g.R.Rack.seen c.args.rack) found.state (tables found.slices) found.log found.looked.pending found.looked.damaged (c.in-Ok-stand.ensures.meant told early) lasts idle)))
+
+pub returns-in-Err-clause-kept : goal.returns-in-Err-clause-kept
+returns-in-Err-clause-kept g c = λ told lasts free idle. c.in-Err.ensures.kept
+
+pub returns-in-Err-replay_found-clause-kept : goal.returns-in-Err-replay_found-clause-kept
+returns-in-Err-replay_found-clause-kept g c = λ told lasts free idle.
+    let found = c.in-Ok-stand.found in
+    let early = free_before (g.R.Rack.seen c.args.rack) (g.R.Rack.seen (below_of found.slices)) (g.R.Rack.seen c.in-Err-replay_found.back.rack) found.scan.disks.items found.state (tables found.slices) found.log found.looked.pending found.looked.damaged
+    c.in-Ok-stand.ensures.only c.in-Err-replay_found.ensures.back.stays c.in-Ok-stand.ensures.newest.scan c.in-Ok-stand.ensures.meant free in
+    absurd (c.if-pending_count-eq0.false (c.pending_count.ensures ∙ ap length
+    (not_idle (g.R.Rack.seen c.args.rack) found.state (tables found.slices) found.log found.looked.pending found.looked.damaged (c.in-Ok-stand.ensures.meant told early) lasts idle)))
