@@ -1,4 +1,5 @@
 mod Foremost
+mod GonePlaces
 mod Fronts
 mod Landings
 mod BroughtCopies

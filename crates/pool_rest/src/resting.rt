@@ -3,7 +3,7 @@
 ghost use Rattle.std.specs.Prelude.{◌≡◌, ◌≢◌, ◌<◌, ◌⊎◌, ◌^◌, ◌==◌, ◌&&◌, ◌||◌, not, ℕ, List, true, false, length, [], Some, None, unwrap_or, IfOk, IfErr};
 ghost use Rattle.std.specs.List.{list_all};
 ghost use Rattle.rack.specs.Values.{Keeps};
-ghost use Rattle.rack.specs.Seen.{IsLive};
+ghost use Rattle.rack.specs.Seen.{IsLive, Rose};
 ghost use Rattle.rack.specs.Sequences.{OnlyReads, WritesOnly};
 ghost use Rattle.slice_rack.specs.Slices.{seat_of as has_seat};
 ghost use Rattle.slice_rack.specs.SliceRack.{tables, below_of};
@@ -379,6 +379,10 @@ fn replay_found<R: Rack>(found: Standing<R>, room: Scan) -> Result<AtRest<R>, Ba
     ensures newest { IfOk result (λ r. AllTold (R.seen (below_of found.slices)) → IsLasting (R.seen (below_of found.slices))
         → IsNewest (since (R.seen (below_of found.slices)) (R.seen (below_of r.slices))) (R.seen (below_of r.slices)) r.scan.disks.items r.state) }
     ensures one { IfOk result (λ r. IsOnePool r.scan.disks.items r.state) }
+    // A place counts as gone by its disk's faults, or by those that were known.
+    ensures gone { IfOk result (λ r. (p d : ℕ) → names r.gone.items p ≡ true → seat_by r.state r.scan.disks.items p ≡ Some d
+        → Rose ((R.seen (below_of found.slices)).faults d) ((R.seen (below_of r.slices)).faults d)
+        ⊎ (IsFlagged found.scan.disks.items d ⊎ HasDisk found.scan.disks.items found.state found.looked.gone.items d)) }
     ensures runs { IfOk result (λ r. R.runs (below_of found.slices) (below_of r.slices)) }
     ensures back { IfErr result (λ back. WritesOnly (R.seen (below_of found.slices)) (R.seen back.rack)
         (IsOfDrive (R.seen (below_of found.slices)) found.scan.disks.items (seated_state found.log.pending found.state))) }
@@ -459,6 +463,9 @@ pub fn bring_to_rest<R: Rack>(alloc: Global, rack: R) -> Result<AtRest<R>, Back<
     // Where the logs were sound, nothing is pending any more and no log is damaged: it means what it meant.
     ensures settled { IfOk result (λ r. AllTold (R.seen rack) → IsLasting (R.seen rack) → IsUnfaulted (R.seen rack) (R.seen (below_of r.slices))
         → HasSoundLogs (disks_of (R.seen rack)) (now_in (R.seen rack)) → IsSettled (R.seen rack) (R.seen (below_of r.slices)) r.state r.pending r.damaged) }
+    // A place counts as gone only where its disk refused a call.
+    ensures gone { IfOk result (λ r. (p d : ℕ) → names r.gone.items p ≡ true → seat_by r.state r.scan.disks.items p ≡ Some d
+        → Rose ((R.seen rack).faults d) ((R.seen (below_of r.slices)).faults d)) }
     ensures runs { IfOk result (λ r. R.runs rack (below_of r.slices)) }
     ensures back { IfErr result (λ back. OnlyReads (R.seen rack) (R.seen back.rack) ⊎ WritesDrives (R.seen rack) (R.seen back.rack)) }
     ensures kept { IfErr result (λ back. AllTold (R.seen rack) → IsLasting (R.seen rack) → IsUnfaulted (R.seen rack) (R.seen back.rack)

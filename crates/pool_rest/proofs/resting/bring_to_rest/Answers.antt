@@ -1,7 +1,7 @@
-use Rattle.std.proofs.Common.{sym, ap, subst, ◌∙◌, inl, inr, length}
-use Rattle.rack.specs.Seen.{Stays}
+use Rattle.std.proofs.Common.{◌≡◌, Some, sym, ap, subst, ◌∙◌, inl, inr, length}
+use Rattle.rack.specs.Seen.{Stays, Rose}
 use Rattle.rack.specs.Sequences.{OnlyReads}
-use Rattle.rack.specs.Joins.{stays_then}
+use Rattle.rack.specs.Joins.{rose_early, rose_later, stays_then}
 use Rattle.slice_rack.specs.SliceRack.{tables, below_of}
 use Rattle.pool_image.specs.Disks.{disks_of}
 use Rattle.pool_image.specs.Alike.{MeansTheSame}
@@ -15,6 +15,8 @@ use Rattle.pool_rest.specs.SoundLogs.{IsSettled}
 use Rattle.pool_rest.proofs.Refusals.{meant_after}
 use Rattle.pool_rest.proofs.Stood.{found_still}
 use Rattle.pool_rest.proofs.Payloads.{steady_after}
+use Rattle.pool_rest.proofs.GonePlaces.{stands_rose}
+use Rattle.pool_scan.specs.Choosing.{seat_by}
 use Rattle.pool_rest.proofs.Quiet.{none_flagged, no_cause, settled_after, settled_idle}
 use Rattle.pool_rest.proofs.Joined.{no_elements, writes_idle, writes_since, free_before, free_after, since_rests, since_so, since_stands, since_means, not_idle, idle_so, idle_stands, idle_same}
 use Rattle.pool_rest.proofs.resting.bring_to_rest.Goals as goal
@@ -290,3 +292,27 @@ returns-in-Err-replay_found-clause-kept g c = λ told lasts free idle.
     c.in-Ok-stand.ensures.only c.in-Err-replay_found.ensures.back.stays c.in-Ok-stand.ensures.newest.scan c.in-Ok-stand.ensures.meant free in
     absurd (c.if-pending_count-eq0.false (c.pending_count.ensures ∙ ap length
     (not_idle (g.R.Rack.seen c.args.rack) found.state (tables found.slices) found.log found.looked.pending found.looked.damaged (c.in-Ok-stand.ensures.meant told early) lasts idle)))
+
+pub returns-then-pending_count-eq0-clause-gone : goal.returns-then-pending_count-eq0-clause-gone
+returns-then-pending_count-eq0-clause-gone g c = λ p d named seat.
+    let rest = c.as_it_stands.ensures in
+    let found = c.in-Ok-stand.found in
+    let stand = c.in-Ok-stand.ensures in
+    let seat_now : seat_by found.state found.scan.disks.items p ≡ Some d =
+    ap (λ s. seat_by s found.scan.disks.items p) (sym rest.state) ∙ ap (λ k. seat_by c.as_it_stands.result.state k.disks.items p) (sym rest.scan) ∙ seat in
+    subst (λ k. Rose ((g.R.Rack.seen c.args.rack).faults d) ((g.R.Rack.seen (below_of k)).faults d)) (sym rest.slices)
+    (stands_rose (g.R.Rack.seen c.args.rack) (g.R.Rack.seen (below_of found.slices)) found.scan.disks.items found.state (tables found.slices) found.on.items found.looked.gone.items found.log found.looked.pending found.looked.damaged
+    stand.newest.scan stand.laid stand.looked d
+    (elim (rest.gone p d named seat_now) [ inl looked ↦ inr (p, looked, seat_now) | inr flagged ↦ inl flagged ]))
+
+pub returns-in-Ok-replay_found-clause-gone : goal.returns-in-Ok-replay_found-clause-gone
+returns-in-Ok-replay_found-clause-gone g c = λ p d named seat.
+    let found = c.in-Ok-stand.found in
+    let stand = c.in-Ok-stand.ensures in
+    elim (c.in-Ok-replay_found.ensures.gone p d named seat) [
+      | inl rose ↦ rose_later (g.R.Rack.seen c.args.rack) (g.R.Rack.seen (below_of found.slices)) (g.R.Rack.seen (below_of c.in-Ok-replay_found.rest.slices)) d stand.only.stays rose
+      | inr known ↦
+          rose_early (g.R.Rack.seen c.args.rack) (g.R.Rack.seen (below_of found.slices)) (g.R.Rack.seen (below_of c.in-Ok-replay_found.rest.slices)) d c.in-Ok-replay_found.ensures.only.stays
+          (stands_rose (g.R.Rack.seen c.args.rack) (g.R.Rack.seen (below_of found.slices)) found.scan.disks.items found.state (tables found.slices) found.on.items found.looked.gone.items found.log found.looked.pending found.looked.damaged
+          stand.newest.scan stand.laid stand.looked d known)
+    ]
