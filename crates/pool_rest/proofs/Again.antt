@@ -9,7 +9,8 @@ use Rattle.rack.specs.Sequences.{OnlyReads, WritesOnly}
 use Rattle.rack.specs.Targets.{Target}
 use Rattle.rack.proofs.Writing.{only_then, only_quiet}
 use Rattle.pool_state.specs.declared.contents.State.{State}
-use Rattle.slice_rack.specs.Slices.{Slices}
+use Rattle.slice_rack.specs.Slices.{Slices, IsOrderly}
+use Rattle.slice_rack.specs.Sliced.{slices_of}
 use Rattle.array_image.specs.Record.{gate_of, is_target}
 use Rattle.gpt_table.specs.declared.Table.{Table}
 use Rattle.pool_image.specs.Disks.{Disks, Identity, disks_of, identities_of, id_by, newest}
@@ -26,10 +27,11 @@ use Rattle.pool_scan.proofs.Seated.{seat_by_stands}
 use Rattle.commit_log.specs.View.{LogView}
 use Rattle.pool_rest.specs.declared.standing.FindFault.{FindFault}
 use Rattle.pool_rest.specs.declared.standing.FindFault.TheVariants.{NoPool, TwoPools, Memory}
-use Rattle.pool_rest.specs.Standing.{IsLasting, IsLaid, IsNewest, IsOnePool, StandsAs, IsCause, since}
+use Rattle.pool_rest.specs.Standing.{IsLasting, IsLaid, IsNewest, IsOnePool, HasLooked, FindsAll, StandsAs, IsCause, since}
 use Rattle.pool_rest.specs.Resting.{IsOfDrive, IsReplayed, AreShut, StandsNow}
 use Rattle.pool_rest.proofs.Agreeing.{disks_same, reads_agree, told_later, lasting_later, stands_now, replayed_later}
 use Rattle.pool_rest.proofs.Laid.{sectors_seen}
+use Rattle.pool_rest.proofs.Stood.{found_still}
 
 module _ {R : Type 0} (seen : R → Seen) (r0 ri rd rb : R) (same : ri ≡ r0) (known : List Known) (before s s' : State) (seated : s ≡ s')
     (only : WritesOnly (seen ri) (seen rd) (IsOfDrive (seen ri) known s)) (reads : OnlyReads (seen rd) (seen rb)) where
@@ -65,6 +67,13 @@ module _ {R : Type 0} (seen : R → Seen) (r0 ri rd rb : R) (same : ri ≡ r0) (
   again_stands t state m is_pending damaged meant told lasts free =
       let there : AllTold (seen rd) = told_later (seen r0) (seen rd) replay_only.stays told in
       stands_now (seen rd) (seen rb) state t m is_pending damaged reads there (lasting_later (seen r0) (seen rd) replay_only.stays lasts) (meant there (free_second free))
+
+  pub again_finds : (t : Slices) (on gone : List ℕ) (m : LogView) (is_pending : Bool) (damaged : Option ℕ)
+      → IsOrderly t → (slices_of t (seen rb)).fit → HasLooked (seen rd) (seen rb) t on gone m is_pending damaged
+      → AllTold (seen r0) → IsLasting (seen r0) → IsUnfaulted (seen r0) (seen rb) → FindsAll (seen rb) t on m is_pending damaged
+  again_finds t on gone m is_pending damaged orderly fit looked told lasts free =
+      found_still (seen rd) (seen rb) t on gone m is_pending damaged orderly fit reads looked
+      (told_later (seen r0) (seen rd) replay_only.stays told) (lasting_later (seen r0) (seen rd) replay_only.stays lasts) (free_second free)
 
   -- gates that were closed stay so
   pub again_shut : (number : ℕ) → length known ≡ (seen r0).disks

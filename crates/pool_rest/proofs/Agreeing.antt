@@ -5,6 +5,7 @@ use Rattle.std.specs.List.{filter_map}
 use Rattle.std.proofs.lemmas.Bool.{and_parts}
 use Rattle.rack.specs.Values.{IsSingle, Keeps}
 use Rattle.rack.specs.Seen.{Image, Seen, IsLive, Stays}
+use Rattle.rack.specs.Joins.{keeps_then}
 use Rattle.rack.specs.Sequences.{OnlyReads}
 use Rattle.rack.specs.Targets.{Target, look}
 use Rattle.pool_state.specs.declared.contents.State.{State}
@@ -150,6 +151,10 @@ replayed_later x y b before s xs stays reads told lasts is = record {
           closed = shut.closed;
         })
   ];
+  leaves = λ d disk sector. elim (is.leaves d disk sector) [
+    | inl same ↦ inl (keeps_then (x.held d drive_gate) (y.held d drive_gate) (b.held d drive_gate) same (kept d drive_gate disk sector))
+    | inr shut ↦ inr (record { number = shut.number; each = λ v may. shut.each v ((kept d drive_gate disk sector).within v may) })
+  ];
 }
   where
     kept : (d t : ℕ) → d < x.disks → t < x.sectors d → Keeps (y.held d t) (b.held d t)
@@ -179,6 +184,12 @@ rests_by a x b s xs reads told lasts is targets = record {
           has = shut.has;
           closed = shut.closed;
         })
+  ];
+  leaves = λ d disk sector. elim (is.leaves d (in_x d disk) (on_x d drive_gate sector)) [
+    | inl same ↦
+        inl (keeps_then (a.held d drive_gate) (x.held d drive_gate) (b.held d drive_gate)
+        (reads.keeps.held d drive_gate (live_reads a x reads.stays told lasts d drive_gate disk sector)) same)
+    | inr shut ↦ inr shut
   ];
 }
   where
@@ -216,6 +227,7 @@ rests_idle a b s reads told lasts none = record {
       one v (kept.within v may) ∙ sym kept.current;
   no_gate = λ d disk sector. sym (same d drive_gate);
   gates = λ d disk sector. inl (agree d drive_gate disk sector);
+  leaves = λ d disk sector. inl (reads.keeps.held d drive_gate (live_reads a b reads.stays told lasts d drive_gate disk sector));
 }
   where
     agree : Agree (disks_of a) (now_in b) (now_in a)

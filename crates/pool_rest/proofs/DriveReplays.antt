@@ -4,9 +4,9 @@ use Rattle.std.specs.Option.{option_map_or}
 use Rattle.std.specs.List.{filter_map, list_all, range_with_len, slice_index}
 use Rattle.std.proofs.lemmas.List.Folds.{list_any_at}
 use Rattle.std.proofs.lemmas.Bool.{cases_Bool, cases_eq, both_ways, and_from}
-use Rattle.rack.specs.Values.{IsSingle, Keeps}
+use Rattle.rack.specs.Values.{IsSingle, Keeps, MayLeave}
 use Rattle.rack.specs.Seen.{Seen, IsLive, Rose}
-use Rattle.rack.specs.Joins.{rose_early, rose_later, live_first}
+use Rattle.rack.specs.Joins.{keeps_then, rose_early, rose_later, live_first}
 use Rattle.rack.specs.Sequences.{OnlyReads, WritesOnly}
 use Rattle.rack.specs.Targets.{Target, look}
 use Rattle.rack.proofs.Writing.{only_then, only_quiet, only_weaker}
@@ -34,7 +34,7 @@ use Rattle.pool_scan.proofs.Seated.{seat_by_is}
 use Rattle.pool_rest.specs.Laying.{IsLaidBelow}
 use Rattle.pool_rest.specs.Members.{IsCutBelow}
 use Rattle.pool_rest.specs.Standing.{IsLasting}
-use Rattle.pool_rest.specs.Resting.{IsOfDrive, replayed_on, IsClosedOn, IsReplayed, AreShut}
+use Rattle.pool_rest.specs.Resting.{IsOfDrive, replayed_on, IsClosedOn, IsReplayed, LeavesShut, AreShut}
 use Rattle.pool_rest.proofs.Laid.{laid_logs}
 use Rattle.pool_rest.proofs.Meant.{none_listed}
 use Rattle.pool_rest.proofs.OnDrives.{OnDrives, past_none, log_first, sliced_place, of_drive, no_unread, no_lost, landing_is, filter_same, live_slice, untouched, written_there, live_all, has_work_or, all_stays, no_target}
@@ -57,7 +57,8 @@ replayed_drives {x} {w} {y} {known} {before} {s} {t} {u} {on} {unread} {closing}
       contents d i disk sector no_gate (look (filter_map (landing u) l.pending) d i) refl;
   single = λ d i disk sector no_gate is. single d i disk sector no_gate is (look (filter_map (landing u) l.pending) d i) refl;
   no_gate = λ d disk there. put_is d drive_gate there ∙ ap (λ o. unwrap_or o (now_in x d drive_gate)) (no_target parts valid d drive_gate (omega arith) (omega arith));
-  gates = λ d disk there. gates d disk there;
+  gates = λ d disk there. elim (gates d disk there) [ inl kept ↦ inl kept.current | inr shut ↦ inr shut.0 ];
+  leaves = λ d disk there. elim (gates d disk there) [ inl kept ↦ inl kept | inr shut ↦ inr shut.1 ];
 }
   where
     ids : Identities
@@ -94,7 +95,7 @@ replayed_drives {x} {w} {y} {known} {before} {s} {t} {u} {on} {unread} {closing}
     no_one : lost ≡ []
     no_one = parts.call.gone.ordered ∙ none_listed (names lost) (range_with_len 0 16) (no_lost parts free)
 
-    gates : (d : ℕ) → d < x.disks → drive_gate < x.sectors d → (now_in y d drive_gate ≡ now_in x d drive_gate) ⊎ IsClosedOn before s x y d
+    gates : (d : ℕ) → d < x.disks → drive_gate < x.sectors d → Keeps (x.held d drive_gate) (y.held d drive_gate) ⊎ (IsClosedOn before s x y d × LeavesShut y d)
     gates d disk there = of_slice (sliced_or u d drive_gate (past_none parts))
       where
         here : IsLive x y d drive_gate
@@ -103,11 +104,13 @@ replayed_drives {x} {w} {y} {known} {before} {s} {t} {u} {on} {unread} {closing}
         now : IsLive w y d drive_gate
         now = record { disk = here.disk; sector = here.sector; is_told = parts.reads.stays.told d here.is_told; unspent = here.unspent }
 
-        read : now_in w d drive_gate ≡ now_in x d drive_gate
-        read = (parts.reads.keeps.held d drive_gate (live_first parts.apart.stays here)).current
+        later : Keeps (w.held d drive_gate) (y.held d drive_gate) → Keeps (x.held d drive_gate) (y.held d drive_gate)
+        later kept =
+            keeps_then (x.held d drive_gate) (w.held d drive_gate) (y.held d drive_gate)
+            (parts.reads.keeps.held d drive_gate (live_first parts.apart.stays here)) kept
 
         of_log : (is : IsSliced u d drive_gate []) → is.slice < 272 → slice_of is.slice ≡ 0 → is.at ≡ gate_sector
-            → (now_in y d drive_gate ≡ now_in x d drive_gate) ⊎ IsClosedOn before s x y d
+            → Keeps (x.held d drive_gate) (y.held d drive_gate) ⊎ (IsClosedOn before s x y d × LeavesShut y d)
         of_log is few log at = of_work (has_work_or l) (cases_Bool (names closing (place_of is.slice)))
           where
             slice : is.slice ≡ log_slice (place_of is.slice)
@@ -120,15 +123,31 @@ replayed_drives {x} {w} {y} {known} {before} {s} {t} {u} {on} {unread} {closing}
                 of_look None none = none
                 of_look (Some v) some = absurd (valid_apart l.pending is.slice is.at v valid some (log, omega (arith, at)))
 
-            kept : (IsShutting l closing is.slice is.at → ⊥) → now_in y d drive_gate ≡ now_in x d drive_gate
+            kept : (IsShutting l closing is.slice is.at → ⊥) → Keeps (x.held d drive_gate) (y.held d drive_gate)
             kept open_still =
-                subst (λ e. now_in y e drive_gate ≡ now_in w e drive_gate) (sym is.disk_is)
-                (subst (λ j. now_in y (disk_of u is.slice) j ≡ now_in w (disk_of u is.slice) j) (sym is.sector_is)
-                (parts.call.apart is.slice is.at (live_slice parts d drive_gate [] is few now) open_still no_target).current)
-                ∙ read
+                later
+                (subst (λ e. Keeps (w.held e drive_gate) (y.held e drive_gate)) (sym is.disk_is)
+                (subst (λ j. Keeps (w.held (disk_of u is.slice) j) (y.held (disk_of u is.slice) j)) (sym is.sector_is)
+                (parts.call.apart is.slice is.at (live_slice parts d drive_gate [] is few now) open_still no_target)))
+
+            here_too : (v : List ℕ) → MayLeave (y.held d drive_gate) v → MayLeave ((slices_of u y).held (log_slice (place_of is.slice)) gate_sector) v
+            here_too v may =
+                subst (λ k. MayLeave ((slices_of u y).held k gate_sector) v) slice
+                (subst (λ j. MayLeave ((slices_of u y).held is.slice j) v) at
+                (subst (λ j. MayLeave (y.held (disk_of u is.slice) j) v) is.sector_is (subst (λ e. MayLeave (y.held e drive_gate) v) is.disk_is may)))
+
+            shut : HasWork l → names closing (place_of is.slice) ≡ true → LeavesShut y d
+            shut work named = record {
+              number = l.number;
+              each = λ v may.
+                  parts.call.gates work no_one (place_of is.slice) v named
+                  (subst (λ k. IsLive (slices_of u w) (slices_of u y) k gate_sector) slice
+                  (subst (λ j. IsLive (slices_of u w) (slices_of u y) is.slice j) at (live_slice parts d drive_gate [] is few now)))
+                  (here_too v may);
+            }
 
             of_work : HasWork l ⊎ (HasWork l → ⊥) → (names closing (place_of is.slice) ≡ true) ⊎ (names closing (place_of is.slice) ≡ false)
-                → (now_in y d drive_gate ≡ now_in x d drive_gate) ⊎ IsClosedOn before s x y d
+                → Keeps (x.held d drive_gate) (y.held d drive_gate) ⊎ (IsClosedOn before s x y d × LeavesShut y d)
             of_work (inr idle) named = inl (kept (λ shut. idle shut.work))
             of_work (inl work) (inr other) = inl (kept (λ shut. both_ways (names closing (place_of is.slice)) other shut.named))
             of_work (inl work) (inl named) =
@@ -140,26 +159,20 @@ replayed_drives {x} {w} {y} {known} {before} {s} {t} {u} {on} {unread} {closing}
                 let first : first_of u is.slice ≡ state_sector = log_first parts is.slice log (omega (arith, is.within)) in
                 let ends : first_of u is.slice + sectors_of u is.slice ≤ w.sectors (disk_of u is.slice) = parts.inside.slices is.slice (omega (arith, is.within)) in
                 let room : w.sectors (disk_of u is.slice) ≡ x.sectors d = parts.reads.stays.sectors (disk_of u is.slice) ∙ ap x.sectors (sym is.disk_is) in
+                let leaves : LeavesShut y d = shut work named in
                 inr (record {
                   place = place;
                   was = sym (seat_by_is (disks_of x) ids known are before place) ∙ on_it.1 ∙ seat;
                   is = sym (seat_by_is (disks_of x) ids known are s place) ∙ seat;
                   room = omega (arith, ends, size, first, room);
-                  gate = record { is_open = false; number = l.number };
-                  has =
-                      ap gate_of
-                      (ap (λ e. now_in y e drive_gate) is.disk_is ∙ ap (λ j. now_in y (disk_of u is.slice) j) is.sector_is
-                      ∙ ap₂ (λ k j. ((slices_of u y).held k j).current) slice at)
-                      ∙ parts.call.gates work no_one place (((slices_of u y).held (log_slice place) gate_sector).current) named
-                      (subst (λ k. IsLive (slices_of u w) (slices_of u y) k gate_sector) slice
-                      (subst (λ j. IsLive (slices_of u w) (slices_of u y) is.slice j) at (live_slice parts d drive_gate [] is few now)))
-                      (inl refl);
+                  gate = record { is_open = false; number = leaves.number };
+                  has = leaves.each (now_in y d drive_gate) (inl refl);
                   closed = refl;
-                })
+                }, leaves)
 
         of_slice : ((is : (v : List ℕ) → IsSliced u d drive_gate v) × ((v : List ℕ) → (is v).slice < 272)) ⊎ ((v : List ℕ) → IsSliced u d drive_gate v → ⊥)
-            → (now_in y d drive_gate ≡ now_in x d drive_gate) ⊎ IsClosedOn before s x y d
-        of_slice (inr nowhere) = inl ((parts.apart.others d drive_gate now nowhere).current ∙ read)
+            → Keeps (x.held d drive_gate) (y.held d drive_gate) ⊎ (IsClosedOn before s x y d × LeavesShut y d)
+        of_slice (inr nowhere) = inl (later (parts.apart.others d drive_gate now nowhere))
         of_slice (inl some) =
             let is : IsSliced u d drive_gate [] = some.0 [] in
             elim (cases_eq (slice_of is.slice) 0) [

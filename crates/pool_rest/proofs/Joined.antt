@@ -25,7 +25,7 @@ use Rattle.pool_scan.specs.Choosing.{AreOf}
 use Rattle.pool_scan.proofs.Seated.{scan_later}
 use Rattle.pool_scan.proofs.Meant.{scan_meant}
 use Rattle.pool_rest.specs.Standing.{IsLasting, StandsAs}
-use Rattle.pool_rest.specs.Resting.{IsOfDrive, IsReplayed, Rests, RestsSo, StandsNow, WritesDrives, seated_state}
+use Rattle.pool_rest.specs.Resting.{IsOfDrive, IsReplayed, Rests, RestsSo, StandsNow, IsIdle, WritesDrives, seated_state}
 use Rattle.pool_rest.proofs.Agreeing.{told_later, lasting_later, stands_now, rests_by, rests_idle}
 use Rattle.pool_rest.proofs.SameMeaning.{replayed_means, idle_means, are_later, targets_valid}
 
@@ -145,6 +145,10 @@ module _ (a x b : Seen) (known : List Known) (st : State) (t : Slices) (m : LogV
       (since_rests replayed told lasts free)
       (subst (λ e. StandsNow b s l false e) whole (subst (λ q. StandsNow b s l q d) idle (since_stands s l p d now told lasts free)))
       (one told (free_before free)) (still_one told lasts free)
+
+-- what was found is what is pending on the disks: nothing, where nothing is
+pub not_idle : (a : Seen) (st : State) (t : Slices) (m : LogView) (is_pending : Bool) (damaged : Option ℕ) → StandsAs a st t m is_pending damaged → IsLasting a → IsIdle a → m.pending ≡ []
+not_idle a st t m is_pending damaged stands lasts idle = stands.targets lasts ∙ idle (standing_by (disks_of a) (now_in a) st) stands.stands
 
 -- ---- nothing was to be replayed
 

@@ -1,4 +1,5 @@
 mod Foremost
+mod GonePlaces
 mod Fronts
 mod Landings
 mod BroughtCopies
@@ -12,6 +13,7 @@ mod Agreeing
 mod Again
 mod SameMeaning
 mod Settled
+mod Payloads
 mod Refusals
 mod Quiet
 mod Joined

@@ -13,7 +13,7 @@ pub few_pushed : (out : Bool) (m : ℕ) (on : List ℕ) → length on ≤ m → 
 few_pushed true m on few = omega (arith, few)
 few_pushed false m on few = omega (arith, few, length-append on (m ∷ []))
 
-or_true : (a b : Bool) → (a || b) ≡ true → (a ≡ true) ⊎ (b ≡ true)
+pub or_true : (a b : Bool) → (a || b) ≡ true → (a ≡ true) ⊎ (b ≡ true)
 or_true true b is = inl refl
 or_true false b is = inr is
 

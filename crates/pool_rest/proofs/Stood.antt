@@ -15,8 +15,9 @@ use Rattle.commit_log.specs.View.{LogView, left_of}
 use Rattle.commit_log.specs.Phases.{AreLogs}
 use Rattle.commit_log.specs.Opening.{Finds, PendingCall}
 use Rattle.commit_log.proofs.Story.{logs_named}
-use Rattle.pool_scan.specs.Scanning.{AllTold}
-use Rattle.pool_rest.specs.Standing.{IsLasting, HasLooked}
+use Rattle.pool_scan.specs.Scanning.{AllTold, IsUnfaulted}
+use Rattle.pool_rest.specs.Standing.{IsLasting, HasLooked, FindsAll}
+use Rattle.pool_rest.proofs.Meant.{gone_none}
 
 -- slices read alike before reads and after them
 same_reading : (t : Slices) (a x : Seen) → IsOrderly t → IsInside t x → AllTold a → IsLasting a → OnlyReads a x → reading (slices_of t x) ≡ reading (slices_of t a)
@@ -65,3 +66,12 @@ pub only_reads_all : (t u : Slices) (a x b : Seen) (own : Type 0) → x.fit → 
 only_reads_all t u a x b own fit inside none reads runs looked =
     only_reads_join reads
     (only_reads_below t x b none (runs.apart fit inside) (subst (λ k. OnlyReads (slices_of t x) (slices_of k b)) runs.tables looked))
+
+-- what was found is what the slices hold still, where nobody was passed over
+pub found_still : (a b : Seen) (t : Slices) (on gone : List ℕ) (m : LogView) (is_pending : Bool) (damaged : Option ℕ)
+    → IsOrderly t → (slices_of t b).fit → OnlyReads a b → HasLooked a b t on gone m is_pending damaged → AllTold a → IsLasting a → IsUnfaulted a b
+    → FindsAll b t on m is_pending damaged
+found_still a b t on gone m is_pending damaged orderly fit reads looked told lasts free =
+    subst (λ c. Finds m on (left_of on []) is_pending damaged c) (sym (same_reading t a b orderly fit.1 told lasts reads))
+    (subst (λ g. Finds m on (left_of on g) is_pending damaged (reading (slices_of t a))) (gone_none a b t on gone m is_pending damaged looked free)
+    (looked.finds told lasts))

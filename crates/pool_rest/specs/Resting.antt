@@ -1,7 +1,7 @@
 -- What the disks of a pool hold once its pending record is replayed.
-use Rattle.std.specs.Prelude.{◌≡◌, ◌≢◌, ◌⊎◌, ℕ, ◌+◌, ◌<◌, ◌≤◌, Bool, true, false, List, slice_get, Option, Some, is_some, unwrap_or}
+use Rattle.std.specs.Prelude.{◌≡◌, ◌≢◌, ◌⊎◌, ℕ, ◌+◌, ◌<◌, ◌≤◌, Bool, true, false, List, [], slice_get, Option, Some, is_some, unwrap_or}
 use Rattle.std.specs.List.{filter_map}
-use Rattle.rack.specs.Values.{IsSingle}
+use Rattle.rack.specs.Values.{IsSector, IsSingle, Keeps, MayLeave}
 use Rattle.rack.specs.Seen.{Image, Seen, Rose}
 use Rattle.rack.specs.Targets.{Target, put}
 use Rattle.pool_state.specs.declared.contents.State.{State}
@@ -31,6 +31,19 @@ pub record IsOfDrive (x : Seen) (known : List Known) (s : State) (d t : ℕ) (v 
 abbrev pub AreSingle : Seen → Type 0
 AreSingle x = (d t : ℕ) → d < x.disks → t < x.sectors d → IsSingle (x.held d t)
 
+-- each sector of a disk has the bytes of one
+abbrev pub AreSectors : Seen → Type 0
+AreSectors x = (d t : ℕ) → d < x.disks → t < x.sectors d → IsSector (x.held d t).current
+
+-- whatever a stop leaves of a disk's gate, it is closed and has this number
+pub record LeavesShut (x : Seen) (d : ℕ) : Type 0 where
+  pub number : ℕ
+  pub each : (v : List ℕ) → MayLeave (x.held d drive_gate) v → gate_of v ≡ Some (record { is_open = false; number = number })
+
+-- a gate keeps its values, or is shut
+abbrev pub KeepsGate : Seen → Seen → ℕ → Type 0
+KeepsGate x y d = Keeps (x.held d drive_gate) (y.held d drive_gate) ⊎ LeavesShut y d
+
 -- contents with targets written whose places are those of a state
 abbrev pub replayed_on : Disks → State → List Target → Image → Image
 replayed_on disks s xs c = put disks.sectors (filter_map (landed disks (identities_of disks c) (seat_of s disks (identities_of disks c))) xs) c
@@ -51,6 +64,7 @@ pub record IsReplayed (x y : Seen) (before s : State) (xs : List Target) : Type 
   pub single : (d t : ℕ) → d < x.disks → t < x.sectors d → t ≢ drive_gate → IsSingle (x.held d t) → IsSingle (y.held d t)
   pub no_gate : (d : ℕ) → d < x.disks → drive_gate < x.sectors d → replayed_on (disks_of x) s xs (now_in x) d drive_gate ≡ now_in x d drive_gate
   pub gates : (d : ℕ) → d < x.disks → drive_gate < x.sectors d → (now_in y d drive_gate ≡ now_in x d drive_gate) ⊎ IsClosedOn before s x y d
+  pub leaves : (d : ℕ) → d < x.disks → drive_gate < x.sectors d → KeepsGate x y d
 
 -- The gate of a place that has the same disk by two states is closed with this number, where the disk has a log slice.
 abbrev pub AreShut : Seen → Seen → List Known → State → State → ℕ → Type 0
@@ -89,6 +103,7 @@ pub record Rests (a b : Seen) (before : Standing) : Type 0 where
   pub single : (d t : ℕ) → d < a.disks → t < a.sectors d → t ≢ drive_gate → IsSingle (a.held d t) → IsSingle (b.held d t)
   pub no_gate : (d : ℕ) → d < a.disks → drive_gate < a.sectors d → written (disks_of a) before (now_in a) d drive_gate ≡ now_in a d drive_gate
   pub gates : (d : ℕ) → d < a.disks → drive_gate < a.sectors d → (now_in b d drive_gate ≡ now_in a d drive_gate) ⊎ IsShutOn before a b d
+  pub leaves : (d : ℕ) → d < a.disks → drive_gate < a.sectors d → KeepsGate a b d
 
 -- The pool stands so on what the disks hold now: its newest state, the record that is pending there, and which log is damaged.
 pub record StandsNow (b : Seen) (s : State) (m : LogView) (is_pending : Bool) (damaged : Option ℕ) : Type 0 where
@@ -106,6 +121,18 @@ pub record RestsSo (a b : Seen) : Type 0 where
   pub before : Standing
   pub stands : standing (disks_of a) (now_in a) ≡ Some before
   pub rests : Rests a b before
+
+-- Each sector but gates has one value, and 512 bytes. So has a gate that wasn't shut; of one that was, each value is a closed gate.
+pub record AreSteady (x : Seen) : Type 0 where
+  pub single : (d t : ℕ) → d < x.disks → t < x.sectors d → t ≢ drive_gate → IsSingle (x.held d t)
+  pub sized : (d t : ℕ) → d < x.disks → t < x.sectors d → t ≢ drive_gate → IsSector (x.held d t).current
+  pub gates :
+      (d : ℕ) → d < x.disks → drive_gate < x.sectors d
+      → (IsSingle (x.held d drive_gate) × IsSector (x.held d drive_gate).current) ⊎ LeavesShut x d
+
+-- no target is to be written: nothing is pending on the disks, or a log is damaged
+abbrev pub IsIdle : Seen → Type 0
+IsIdle x = (before : Standing) → standing (disks_of x) (now_in x) ≡ Some before → before.targets ≡ []
 
 -- only drives of a state were written, by what was read of the disks
 pub record WritesDrives (a b : Seen) : Type 0 where

@@ -59,6 +59,10 @@ pub record HasLooked (a b : Seen) (t : Slices) (on gone : List ℕ) (m : LogView
   pub lent : m.is_lent ≡ true
   pub finds : AllTold a → IsLasting a → Finds m on (left_of on gone) is_pending damaged (reading (slices_of t a))
 
+-- What was found of the pending record on these slices is what they hold now, and no place was passed over.
+abbrev pub FindsAll : Seen → Slices → List ℕ → LogView → Bool → Option ℕ → Type 0
+FindsAll b t on m is_pending damaged = Finds m on (left_of on []) is_pending damaged (reading (slices_of t b))
+
 -- By the meaning of images, where no disk refused a call: the pool stands so on what the disks hold, the slices show its log
 -- slices, and the log has the record that is pending there.
 pub record StandsAs (a : Seen) (s : State) (t : Slices) (m : LogView) (is_pending : Bool) (damaged : Option ℕ) : Type 0 where

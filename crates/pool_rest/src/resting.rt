@@ -3,7 +3,7 @@
 ghost use Rattle.std.specs.Prelude.{◌≡◌, ◌≢◌, ◌<◌, ◌⊎◌, ◌^◌, ◌==◌, ◌&&◌, ◌||◌, not, ℕ, List, true, false, length, [], Some, None, unwrap_or, IfOk, IfErr};
 ghost use Rattle.std.specs.List.{list_all};
 ghost use Rattle.rack.specs.Values.{Keeps};
-ghost use Rattle.rack.specs.Seen.{IsLive};
+ghost use Rattle.rack.specs.Seen.{IsLive, Rose};
 ghost use Rattle.rack.specs.Sequences.{OnlyReads, WritesOnly};
 ghost use Rattle.slice_rack.specs.Slices.{seat_of as has_seat};
 ghost use Rattle.slice_rack.specs.SliceRack.{tables, below_of};
@@ -14,13 +14,13 @@ ghost use Rattle.pool_image.specs.Disks.{disks_of, identities_of};
 ghost use Rattle.commit_log.specs.View.{names, settled};
 ghost use Rattle.pool_scan.specs.Scanning.{AllTold, IsUnfaulted, now_in};
 ghost use Rattle.pool_scan.specs.Choosing.{AreOf, seat_by};
-ghost use Rattle.pool_rest.specs.Standing.{IsLasting, IsLaid, IsNewest, IsOnePool, IsCause, IsMeant, since};
+ghost use Rattle.pool_rest.specs.Standing.{IsLasting, IsLaid, IsNewest, IsOnePool, FindsAll, IsCause, IsMeant, since};
 ghost use Rattle.pool_state.specs.Valid.{is_valid};
 ghost use Rattle.pool_image.specs.Alike.{drive_gate, MeansTheSame};
 ghost use Rattle.pool_image.specs.Replay.{brought_state, standing_by};
 ghost use Rattle.pool_image.specs.Meaning.{has_other_pool};
 ghost use Rattle.pool_rest.specs.SoundLogs.{HasSoundLogs, IsSettled};
-ghost use Rattle.pool_rest.specs.Resting.{IsOfDrive, IsReplayed, AreShut, HaveCause, IsFlagged, HasDisk, HasRefused, StandsNow, RestsSo, WritesDrives, IsRefused, seated_state};
+ghost use Rattle.pool_rest.specs.Resting.{IsOfDrive, IsReplayed, AreShut, HaveCause, IsFlagged, HasDisk, HasRefused, StandsNow, RestsSo, AreSingle, AreSectors, AreSteady, IsIdle, WritesDrives, IsRefused, seated_state};
 
 use crate::brought::brought_state as brought_by;
 use crate::laying::seat_drives;
@@ -368,6 +368,9 @@ fn replay_found<R: Rack>(found: Standing<R>, room: Scan) -> Result<AtRest<R>, Ba
     ensures stands { IfOk result (λ r. AllTold (R.seen (below_of found.slices)) → IsLasting (R.seen (below_of found.slices))
         → IsUnfaulted (R.seen (below_of found.slices)) (R.seen (below_of r.slices))
         → StandsNow (R.seen (below_of r.slices)) r.state r.log r.pending r.damaged) }
+    ensures looked { IfOk result (λ r. AllTold (R.seen (below_of found.slices)) → IsLasting (R.seen (below_of found.slices))
+        → IsUnfaulted (R.seen (below_of found.slices)) (R.seen (below_of r.slices))
+        → FindsAll (R.seen (below_of r.slices)) (tables r.slices) r.on.items r.log r.pending r.damaged) }
     ensures laid { IfOk result (λ r. IsLaid (R.seen (below_of r.slices)) r.scan.disks.items r.state (tables r.slices) r.on.items) }
     ensures shut { IfOk result (λ r. list_all (λ known. not known.gone) found.scan.disks.items ≡ true → found.looked.gone.items ≡ []
         → AllTold (R.seen (below_of found.slices)) → IsLasting (R.seen (below_of found.slices))
@@ -376,6 +379,10 @@ fn replay_found<R: Rack>(found: Standing<R>, room: Scan) -> Result<AtRest<R>, Ba
     ensures newest { IfOk result (λ r. AllTold (R.seen (below_of found.slices)) → IsLasting (R.seen (below_of found.slices))
         → IsNewest (since (R.seen (below_of found.slices)) (R.seen (below_of r.slices))) (R.seen (below_of r.slices)) r.scan.disks.items r.state) }
     ensures one { IfOk result (λ r. IsOnePool r.scan.disks.items r.state) }
+    // A place counts as gone by its disk's faults, or by those that were known.
+    ensures gone { IfOk result (λ r. (p d : ℕ) → names r.gone.items p ≡ true → seat_by r.state r.scan.disks.items p ≡ Some d
+        → Rose ((R.seen (below_of found.slices)).faults d) ((R.seen (below_of r.slices)).faults d)
+        ⊎ (IsFlagged found.scan.disks.items d ⊎ HasDisk found.scan.disks.items found.state found.looked.gone.items d)) }
     ensures runs { IfOk result (λ r. R.runs (below_of found.slices) (below_of r.slices)) }
     ensures back { IfErr result (λ back. WritesOnly (R.seen (below_of found.slices)) (R.seen back.rack)
         (IsOfDrive (R.seen (below_of found.slices)) found.scan.disks.items (seated_state found.log.pending found.state))) }
@@ -428,12 +435,21 @@ pub fn bring_to_rest<R: Rack>(alloc: Global, rack: R) -> Result<AtRest<R>, Back<
     ensures few { IfOk result (λ r. length r.scan.disks.items < 2 ^ 32) }
     ensures valid { IfOk result (λ r. is_valid r.state 0 ≡ true) }
     ensures only { IfOk result (λ r. WritesDrives (R.seen rack) (R.seen (below_of r.slices))) }
+    // Where there is nothing to replay, nothing is written.
+    ensures idle { IfOk result (λ r. AllTold (R.seen rack) → IsLasting (R.seen rack) → IsUnfaulted (R.seen rack) (R.seen (below_of r.slices))
+        → IsIdle (R.seen rack) → OnlyReads (R.seen rack) (R.seen (below_of r.slices))) }
     ensures laid { IfOk result (λ r. IsLaid (R.seen (below_of r.slices)) r.scan.disks.items r.state (tables r.slices) r.on.items) }
     // Where no disk refused a call, the record is written and nothing else has changed but gates.
     ensures rests { IfOk result (λ r. AllTold (R.seen rack) → IsLasting (R.seen rack) → IsUnfaulted (R.seen rack) (R.seen (below_of r.slices))
         → RestsSo (R.seen rack) (R.seen (below_of r.slices))) }
+    // So where each sector was durable and had 512 bytes each is and has, but for gates that were closed.
+    ensures steady { IfOk result (λ r. AllTold (R.seen rack) → IsLasting (R.seen rack) → IsUnfaulted (R.seen rack) (R.seen (below_of r.slices))
+        → AreSingle (R.seen rack) → AreSectors (R.seen rack) → AreSteady (R.seen (below_of r.slices))) }
     ensures stands { IfOk result (λ r. AllTold (R.seen rack) → IsLasting (R.seen rack) → IsUnfaulted (R.seen rack) (R.seen (below_of r.slices))
         → StandsNow (R.seen (below_of r.slices)) r.state r.log r.pending r.damaged) }
+    // What the log has found of the pending record is what its slices hold still, and no place was passed over.
+    ensures looked { IfOk result (λ r. AllTold (R.seen rack) → IsLasting (R.seen rack) → IsUnfaulted (R.seen rack) (R.seen (below_of r.slices))
+        → FindsAll (R.seen (below_of r.slices)) (tables r.slices) r.on.items r.log r.pending r.damaged) }
     // What was read of the disks is what they hold still, and the state is the newest of it, of one pool.
     ensures newest { IfOk result (λ r. AllTold (R.seen rack) → IsLasting (R.seen rack)
         → IsNewest (since (R.seen rack) (R.seen (below_of r.slices))) (R.seen (below_of r.slices)) r.scan.disks.items r.state) }
@@ -447,8 +463,13 @@ pub fn bring_to_rest<R: Rack>(alloc: Global, rack: R) -> Result<AtRest<R>, Back<
     // Where the logs were sound, nothing is pending any more and no log is damaged: it means what it meant.
     ensures settled { IfOk result (λ r. AllTold (R.seen rack) → IsLasting (R.seen rack) → IsUnfaulted (R.seen rack) (R.seen (below_of r.slices))
         → HasSoundLogs (disks_of (R.seen rack)) (now_in (R.seen rack)) → IsSettled (R.seen rack) (R.seen (below_of r.slices)) r.state r.pending r.damaged) }
+    // A place counts as gone only where its disk refused a call.
+    ensures gone { IfOk result (λ r. (p d : ℕ) → names r.gone.items p ≡ true → seat_by r.state r.scan.disks.items p ≡ Some d
+        → Rose ((R.seen rack).faults d) ((R.seen (below_of r.slices)).faults d)) }
     ensures runs { IfOk result (λ r. R.runs rack (below_of r.slices)) }
     ensures back { IfErr result (λ back. OnlyReads (R.seen rack) (R.seen back.rack) ⊎ WritesDrives (R.seen rack) (R.seen back.rack)) }
+    ensures kept { IfErr result (λ back. AllTold (R.seen rack) → IsLasting (R.seen rack) → IsUnfaulted (R.seen rack) (R.seen back.rack)
+        → IsIdle (R.seen rack) → OnlyReads (R.seen rack) (R.seen back.rack)) }
     ensures refused { IfErr result (λ back. IsRefused (R.seen rack) (R.seen back.rack) back.why) }
     // Where no disk refused a call, the meaning of images has this refusal, or two pools are there only once the record is written.
     ensures exact { IfErr result (λ back. AllTold (R.seen rack) → IsLasting (R.seen rack) → IsUnfaulted (R.seen rack) (R.seen back.rack)

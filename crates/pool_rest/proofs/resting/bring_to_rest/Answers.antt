@@ -1,19 +1,24 @@
-use Rattle.std.proofs.Common.{sym, ap, subst, ◌∙◌, inl, inr, length}
-use Rattle.rack.specs.Seen.{Stays}
-use Rattle.rack.specs.Joins.{stays_then}
+use Rattle.std.proofs.Common.{◌≡◌, Some, sym, ap, subst, ◌∙◌, inl, inr, length}
+use Rattle.rack.specs.Seen.{Stays, Rose}
+use Rattle.rack.specs.Sequences.{OnlyReads}
+use Rattle.rack.specs.Joins.{rose_early, rose_later, stays_then}
 use Rattle.slice_rack.specs.SliceRack.{tables, below_of}
 use Rattle.pool_image.specs.Disks.{disks_of}
 use Rattle.pool_image.specs.Alike.{MeansTheSame}
 use Rattle.pool_scan.specs.Scanning.{IsUnfaulted, now_in}
-use Rattle.pool_rest.specs.Standing.{IsLaid, IsNewest, IsOnePool, since}
+use Rattle.pool_rest.specs.Standing.{IsLaid, IsNewest, IsOnePool, FindsAll, since}
 use Rattle.pool_rest.specs.Resting.{RestsSo, StandsNow, WritesDrives, seated_state}
 use Rattle.pool_rest.proofs.Agreeing.{told_later, lasting_later}
 use Rattle.pool_rest.proofs.Meant.{gone_none}
 use Rattle.pool_rest.proofs.Again.{laid_later, newest_still, newest_from, cause_from, single_now}
 use Rattle.pool_rest.specs.SoundLogs.{IsSettled}
 use Rattle.pool_rest.proofs.Refusals.{meant_after}
+use Rattle.pool_rest.proofs.Stood.{found_still}
+use Rattle.pool_rest.proofs.Payloads.{steady_after}
+use Rattle.pool_rest.proofs.GonePlaces.{stands_rose}
+use Rattle.pool_scan.specs.Choosing.{seat_by}
 use Rattle.pool_rest.proofs.Quiet.{none_flagged, no_cause, settled_after, settled_idle}
-use Rattle.pool_rest.proofs.Joined.{no_elements, writes_idle, writes_since, free_before, free_after, since_rests, since_so, since_stands, since_means, idle_so, idle_stands, idle_same}
+use Rattle.pool_rest.proofs.Joined.{no_elements, writes_idle, writes_since, free_before, free_after, since_rests, since_so, since_stands, since_means, not_idle, idle_so, idle_stands, idle_same}
 use Rattle.pool_rest.proofs.resting.bring_to_rest.Goals as goal
 
 pub returns-then-pending_count-eq0-clause-only : goal.returns-then-pending_count-eq0-clause-only
@@ -229,3 +234,85 @@ returns-in-Err-replay_found-clause-found g c = λ told lasts free sound.
 
 pub returns-in-Err-replay_found-clause-returned : goal.returns-in-Err-replay_found-clause-returned
 returns-in-Err-replay_found-clause-returned g c = g.met.R.Rack.runs_then _ _ _ c.in-Ok-stand.ensures.runs c.in-Err-replay_found.ensures.returned
+
+pub returns-then-pending_count-eq0-clause-looked : goal.returns-then-pending_count-eq0-clause-looked
+returns-then-pending_count-eq0-clause-looked g c = λ told lasts free.
+    let rest = c.as_it_stands.ensures in
+    let found = c.in-Ok-stand.found in
+    let still = subst (λ k. IsUnfaulted (g.R.Rack.seen c.args.rack) (g.R.Rack.seen (below_of k))) rest.slices free in
+    subst (λ k. FindsAll (g.R.Rack.seen (below_of k)) (tables k) c.as_it_stands.result.on.items c.as_it_stands.result.log c.as_it_stands.result.pending c.as_it_stands.result.damaged) (sym rest.slices)
+    (subst (λ d. FindsAll (g.R.Rack.seen (below_of c.in-Ok-stand.found.slices)) (tables c.in-Ok-stand.found.slices) c.as_it_stands.result.on.items c.as_it_stands.result.log c.as_it_stands.result.pending d) (sym rest.damaged)
+    (subst (λ p. FindsAll (g.R.Rack.seen (below_of c.in-Ok-stand.found.slices)) (tables c.in-Ok-stand.found.slices) c.as_it_stands.result.on.items c.as_it_stands.result.log p c.in-Ok-stand.found.looked.damaged) (sym rest.pending)
+    (subst (λ m. FindsAll (g.R.Rack.seen (below_of c.in-Ok-stand.found.slices)) (tables c.in-Ok-stand.found.slices) c.as_it_stands.result.on.items m c.in-Ok-stand.found.looked.pending c.in-Ok-stand.found.looked.damaged) (sym rest.log)
+    (subst (λ o. FindsAll (g.R.Rack.seen (below_of c.in-Ok-stand.found.slices)) (tables c.in-Ok-stand.found.slices) o.items c.in-Ok-stand.found.log c.in-Ok-stand.found.looked.pending c.in-Ok-stand.found.looked.damaged) (sym rest.on)
+    (found_still (g.R.Rack.seen c.args.rack) (g.R.Rack.seen (below_of c.in-Ok-stand.found.slices)) (tables found.slices) found.on.items found.looked.gone.items found.log found.looked.pending found.looked.damaged
+    c.in-Ok-stand.found.slices.orderly c.in-Ok-stand.ensures.fit c.in-Ok-stand.ensures.only c.in-Ok-stand.ensures.looked told lasts still)))))
+
+pub returns-in-Ok-replay_found-clause-looked : goal.returns-in-Ok-replay_found-clause-looked
+returns-in-Ok-replay_found-clause-looked g c = λ told lasts free.
+    let found = c.in-Ok-stand.found in
+    let only = c.in-Ok-stand.ensures.only in
+    let later = free_after (g.R.Rack.seen c.args.rack) (g.R.Rack.seen (below_of found.slices)) (g.R.Rack.seen (below_of c.in-Ok-replay_found.rest.slices)) found.scan.disks.items found.state (tables found.slices) found.log found.looked.pending found.looked.damaged
+    only c.in-Ok-replay_found.ensures.only.stays c.in-Ok-stand.ensures.newest.scan c.in-Ok-stand.ensures.meant free in
+    c.in-Ok-replay_found.ensures.looked
+    (told_later (g.R.Rack.seen c.args.rack) (g.R.Rack.seen (below_of found.slices)) only.stays told)
+    (lasting_later (g.R.Rack.seen c.args.rack) (g.R.Rack.seen (below_of found.slices)) only.stays lasts) later
+
+pub returns-then-pending_count-eq0-clause-steady : goal.returns-then-pending_count-eq0-clause-steady
+returns-then-pending_count-eq0-clause-steady g c = λ told lasts free single sized.
+    let stays = subst (λ k. Stays (g.R.Rack.seen c.args.rack) (g.R.Rack.seen (below_of k))) (sym c.as_it_stands.ensures.slices) c.in-Ok-stand.ensures.only.stays in
+    steady_after (g.R.Rack.seen c.args.rack) (g.R.Rack.seen (below_of c.as_it_stands.result.slices)) stays.disks stays.sectors
+    (returns-then-pending_count-eq0-clause-rests g c told lasts free) single sized
+
+pub returns-in-Ok-replay_found-clause-steady : goal.returns-in-Ok-replay_found-clause-steady
+returns-in-Ok-replay_found-clause-steady g c = λ told lasts free single sized.
+    let stays = stays_then c.in-Ok-stand.ensures.only.stays c.in-Ok-replay_found.ensures.only.stays in
+    steady_after (g.R.Rack.seen c.args.rack) (g.R.Rack.seen (below_of c.in-Ok-replay_found.rest.slices)) stays.disks stays.sectors
+    (returns-in-Ok-replay_found-clause-rests g c told lasts free) single sized
+
+pub returns-then-pending_count-eq0-clause-idle : goal.returns-then-pending_count-eq0-clause-idle
+returns-then-pending_count-eq0-clause-idle g c = λ told lasts free idle.
+    subst (λ k. OnlyReads (g.R.Rack.seen c.args.rack) (g.R.Rack.seen (below_of k))) (sym c.as_it_stands.ensures.slices) c.in-Ok-stand.ensures.only
+
+pub returns-in-Ok-replay_found-clause-idle : goal.returns-in-Ok-replay_found-clause-idle
+returns-in-Ok-replay_found-clause-idle g c = λ told lasts free idle.
+    let found = c.in-Ok-stand.found in
+    let early = free_before (g.R.Rack.seen c.args.rack) (g.R.Rack.seen (below_of found.slices)) (g.R.Rack.seen (below_of c.in-Ok-replay_found.rest.slices)) found.scan.disks.items found.state (tables found.slices) found.log found.looked.pending found.looked.damaged
+    c.in-Ok-stand.ensures.only c.in-Ok-replay_found.ensures.only.stays c.in-Ok-stand.ensures.newest.scan c.in-Ok-stand.ensures.meant free in
+    absurd (c.if-pending_count-eq0.false (c.pending_count.ensures ∙ ap length
+    (not_idle (g.R.Rack.seen c.args.rack) found.state (tables found.slices) found.log found.looked.pending found.looked.damaged (c.in-Ok-stand.ensures.meant told early) lasts idle)))
+
+pub returns-in-Err-clause-kept : goal.returns-in-Err-clause-kept
+returns-in-Err-clause-kept g c = λ told lasts free idle. c.in-Err.ensures.kept
+
+pub returns-in-Err-replay_found-clause-kept : goal.returns-in-Err-replay_found-clause-kept
+returns-in-Err-replay_found-clause-kept g c = λ told lasts free idle.
+    let found = c.in-Ok-stand.found in
+    let early = free_before (g.R.Rack.seen c.args.rack) (g.R.Rack.seen (below_of found.slices)) (g.R.Rack.seen c.in-Err-replay_found.back.rack) found.scan.disks.items found.state (tables found.slices) found.log found.looked.pending found.looked.damaged
+    c.in-Ok-stand.ensures.only c.in-Err-replay_found.ensures.back.stays c.in-Ok-stand.ensures.newest.scan c.in-Ok-stand.ensures.meant free in
+    absurd (c.if-pending_count-eq0.false (c.pending_count.ensures ∙ ap length
+    (not_idle (g.R.Rack.seen c.args.rack) found.state (tables found.slices) found.log found.looked.pending found.looked.damaged (c.in-Ok-stand.ensures.meant told early) lasts idle)))
+
+pub returns-then-pending_count-eq0-clause-gone : goal.returns-then-pending_count-eq0-clause-gone
+returns-then-pending_count-eq0-clause-gone g c = λ p d named seat.
+    let rest = c.as_it_stands.ensures in
+    let found = c.in-Ok-stand.found in
+    let stand = c.in-Ok-stand.ensures in
+    let seat_now : seat_by found.state found.scan.disks.items p ≡ Some d =
+    ap (λ s. seat_by s found.scan.disks.items p) (sym rest.state) ∙ ap (λ k. seat_by c.as_it_stands.result.state k.disks.items p) (sym rest.scan) ∙ seat in
+    subst (λ k. Rose ((g.R.Rack.seen c.args.rack).faults d) ((g.R.Rack.seen (below_of k)).faults d)) (sym rest.slices)
+    (stands_rose (g.R.Rack.seen c.args.rack) (g.R.Rack.seen (below_of found.slices)) found.scan.disks.items found.state (tables found.slices) found.on.items found.looked.gone.items found.log found.looked.pending found.looked.damaged
+    stand.newest.scan stand.laid stand.looked d
+    (elim (rest.gone p d named seat_now) [ inl looked ↦ inr (p, looked, seat_now) | inr flagged ↦ inl flagged ]))
+
+pub returns-in-Ok-replay_found-clause-gone : goal.returns-in-Ok-replay_found-clause-gone
+returns-in-Ok-replay_found-clause-gone g c = λ p d named seat.
+    let found = c.in-Ok-stand.found in
+    let stand = c.in-Ok-stand.ensures in
+    elim (c.in-Ok-replay_found.ensures.gone p d named seat) [
+      | inl rose ↦ rose_later (g.R.Rack.seen c.args.rack) (g.R.Rack.seen (below_of found.slices)) (g.R.Rack.seen (below_of c.in-Ok-replay_found.rest.slices)) d stand.only.stays rose
+      | inr known ↦
+          rose_early (g.R.Rack.seen c.args.rack) (g.R.Rack.seen (below_of found.slices)) (g.R.Rack.seen (below_of c.in-Ok-replay_found.rest.slices)) d c.in-Ok-replay_found.ensures.only.stays
+          (stands_rose (g.R.Rack.seen c.args.rack) (g.R.Rack.seen (below_of found.slices)) found.scan.disks.items found.state (tables found.slices) found.on.items found.looked.gone.items found.log found.looked.pending found.looked.damaged
+          stand.newest.scan stand.laid stand.looked d known)
+    ]

@@ -2,14 +2,18 @@ use Rattle.pool_image.specs.Disks.{disks_of, identities_of}
 use Rattle.std.specs.List.{list_all}
 use Rattle.array_image.specs.Record.{is_target}
 use Rattle.pool_scan.specs.Scanning.{AllTold, IsUnfaulted, now_in}
-use Rattle.pool_scan.specs.Choosing.{AreOf}
-use Rattle.std.proofs.Common.{◌≡◌, true, sym, subst}
+use Rattle.pool_scan.specs.Choosing.{AreOf, seat_by}
+use Rattle.commit_log.specs.View.{names}
+use Rattle.std.proofs.Common.{◌≡◌, ◌⊎◌, Some, true, sym, ap, subst, ◌∙◌, inl, inr}
+use Rattle.rack.specs.Seen.{Rose}
 use Rattle.rack.specs.Sequences.{WritesOnly}
 use Rattle.slice_rack.specs.SliceRack.{tables, below_of}
-use Rattle.pool_rest.specs.Resting.{IsOfDrive, IsReplayed, AreShut, StandsNow, seated_state}
-use Rattle.pool_rest.specs.Standing.{IsLaid, IsLasting, IsNewest, IsOnePool, since}
+use Rattle.pool_rest.specs.Resting.{IsOfDrive, IsReplayed, AreShut, IsFlagged, HasDisk, StandsNow, seated_state}
+use Rattle.pool_rest.specs.Standing.{IsLaid, IsLasting, IsNewest, IsOnePool, FindsAll, since}
 use Rattle.pool_rest.proofs.Agreeing.{told_later, lasting_later}
-use Rattle.pool_rest.proofs.Again.{replay_only, again_only, again_replayed, again_stands, again_shut, laid_later, newest_since, cause_since}
+use Rattle.pool_rest.proofs.Again.{replay_only, again_only, again_replayed, again_stands, again_finds, again_shut, laid_later, newest_since, cause_since}
+use Rattle.pool_rest.proofs.GonePlaces.{stands_rose, again_rose}
+use Rattle.pool_rest.proofs.Listed.{or_true}
 use Rattle.pool_rest.proofs.resting.replay_found.Goals as goal
 
 pub returns-in-Err-clause-back : goal.returns-in-Err-clause-back
@@ -110,3 +114,38 @@ pub returns-in-Err-clause-wrote : goal.returns-in-Err-clause-wrote
 returns-in-Err-clause-wrote g c =
     again_replayed g.R.Rack.seen (below_of c.args.found.slices) c.into_inner.result c.replay_on-done.result.rack c.in-Err.back.rack c.into_inner.ensures c.args.found.scan.disks.items c.args.found.state
     c.seated_by-seated.result (seated_state c.args.found.log.pending c.args.found.state) c.seated_by-seated.ensures c.replay_on-done.ensures.only c.in-Err.ensures.kept c.args.found.log.pending c.replay_on-done.ensures.replayed
+
+pub returns-clause-looked : goal.returns-clause-looked
+returns-clause-looked g c =
+    let rest = c.as_it_stands-rest.ensures in
+    subst (λ k. AllTold (g.R.Rack.seen (below_of c.args.found.slices)) → IsLasting (g.R.Rack.seen (below_of c.args.found.slices))
+    → IsUnfaulted (g.R.Rack.seen (below_of c.args.found.slices)) (g.R.Rack.seen (below_of k))
+    → FindsAll (g.R.Rack.seen (below_of k)) (tables k) c.as_it_stands-rest.result.on.items c.as_it_stands-rest.result.log c.as_it_stands-rest.result.pending c.as_it_stands-rest.result.damaged)
+    (sym rest.slices)
+    (λ told lasts free.
+    subst (λ d. FindsAll (g.R.Rack.seen (below_of c.in-Ok.again.slices)) (tables c.in-Ok.again.slices) c.as_it_stands-rest.result.on.items c.as_it_stands-rest.result.log c.as_it_stands-rest.result.pending d) (sym rest.damaged)
+    (subst (λ p. FindsAll (g.R.Rack.seen (below_of c.in-Ok.again.slices)) (tables c.in-Ok.again.slices) c.as_it_stands-rest.result.on.items c.as_it_stands-rest.result.log p c.in-Ok.again.looked.damaged) (sym rest.pending)
+    (subst (λ m. FindsAll (g.R.Rack.seen (below_of c.in-Ok.again.slices)) (tables c.in-Ok.again.slices) c.as_it_stands-rest.result.on.items m c.in-Ok.again.looked.pending c.in-Ok.again.looked.damaged) (sym rest.log)
+    (subst (λ o. FindsAll (g.R.Rack.seen (below_of c.in-Ok.again.slices)) (tables c.in-Ok.again.slices) o.items c.in-Ok.again.log c.in-Ok.again.looked.pending c.in-Ok.again.looked.damaged) (sym rest.on)
+    (again_finds g.R.Rack.seen (below_of c.args.found.slices) c.into_inner.result c.replay_on-done.result.rack (below_of c.in-Ok.again.slices) c.into_inner.ensures c.args.found.scan.disks.items c.args.found.state
+    c.seated_by-seated.result (seated_state c.args.found.log.pending c.args.found.state) c.seated_by-seated.ensures c.replay_on-done.ensures.only c.in-Ok.ensures.only (tables c.in-Ok.again.slices) c.in-Ok.again.on.items c.in-Ok.again.looked.gone.items c.in-Ok.again.log c.in-Ok.again.looked.pending c.in-Ok.again.looked.damaged
+    c.in-Ok.again.slices.orderly c.in-Ok.ensures.fit c.in-Ok.ensures.looked told lasts free)))))
+
+pub returns-clause-gone : goal.returns-clause-gone
+returns-clause-gone g c = λ p d named seat.
+    let rest = c.as_it_stands-rest.ensures in
+    let again = c.in-Ok.again in
+    let few = c.both-rest.ensures.few p named in
+    let seat_now : seat_by again.state again.scan.disks.items p ≡ Some d =
+    ap (λ s. seat_by s again.scan.disks.items p) (sym rest.state) ∙ ap (λ k. seat_by c.as_it_stands-rest.result.state k.disks.items p) (sym rest.scan) ∙ seat in
+    subst (λ k. Rose ((g.R.Rack.seen (below_of c.args.found.slices)).faults d) ((g.R.Rack.seen (below_of k)).faults d)
+    ⊎ (IsFlagged c.args.found.scan.disks.items d ⊎ HasDisk c.args.found.scan.disks.items c.args.found.state c.args.found.looked.gone.items d)) (sym rest.slices)
+    (again_rose g.R.Rack.seen (below_of c.args.found.slices) c.into_inner.result c.replay_on-done.result.rack (below_of again.slices) c.into_inner.ensures c.replay_on-done.ensures.only.stays c.in-Ok.ensures.only.stays
+    c.args.found.scan.disks.items c.args.found.state c.seated_by-seated.result c.args.found.looked.gone.items c.replay_on-done.result.lost.items c.replay_on-done.ensures.lost d
+    (elim (or_true (names c.as_it_stands-rest.result.gone.items p) (names c.refused_of-early.result.items p) (sym (c.both-rest.ensures.either p few) ∙ named)) [
+      | inl late ↦
+          inl (stands_rose (g.R.Rack.seen c.replay_on-done.result.rack) (g.R.Rack.seen (below_of again.slices)) again.scan.disks.items again.state (tables again.slices) again.on.items again.looked.gone.items again.log again.looked.pending again.looked.damaged
+          c.in-Ok.ensures.newest.scan c.in-Ok.ensures.laid c.in-Ok.ensures.looked d
+          (elim (rest.gone p d late seat_now) [ inl looked ↦ inr (p, looked, seat_now) | inr flagged ↦ inl flagged ]))
+      | inr early ↦ inr (c.refused_of-early.ensures p d early seat_now)
+    ]))
