@@ -229,11 +229,17 @@ nobody_lost x y before after quiet loses p = elim (loses p) [
   | inr lost ↦ absurd (let goes = lost.1 in quiet goes.0 goes.2)
 ]
 
--- each disk of a place is that of its slices
-pub seats_before : (x : Seen) (known : List Known) (s : State) (t : Slices) (on : List ℕ) → IsLaid x known s t on → (gone : List ℕ) (seats : Seats) → gone ≡ []
+-- each disk of a place is that of its slices, where no place with a disk has gone
+pub seats_before : (x : Seen) (known : List Known) (s : State) (t : Slices) (on : List ℕ) → IsLaid x known s t on → (gone : List ℕ) (seats : Seats)
+    → ((p d : ℕ) → names gone p ≡ true → seat_by s known p ≡ Some d → ⊥)
     → ((p : ℕ) → 16 ≤ p → seats p ≡ None) → ((p : ℕ) → p < 16 → seats p ≡ (if names gone p then None else seat_by s known p))
     → (p : ℕ) → seats p ≡ seat_of t p
-seats_before x known s t on laid gone seats none beyond are p = elim (cases_lt p 16) [
+seats_before x known s t on laid gone seats nobody beyond are p = elim (cases_lt p 16) [
   | inr past ↦ beyond p past ∙ sym (laid.beyond p past)
-  | inl few ↦ are p few ∙ ap (λ ps. if names ps p then None else seat_by s known p) none ∙ sym (laid.seats p few)
+  | inl few ↦ are p few ∙ of (names gone p) refl (seat_by s known p) refl ∙ sym (laid.seats p few)
 ]
+  where
+    of : (b : Bool) → names gone p ≡ b → (o : Option ℕ) → seat_by s known p ≡ o → (if b then None else o) ≡ o
+    of false is o seat = refl
+    of true is None seat = refl
+    of true is (Some d) seat = absurd (nobody p d is seat)

@@ -22,7 +22,7 @@ use Rattle.pool_scan.specs.declared.Known.{Known}
 use Rattle.pool_scan.specs.Choosing.{AreOf}
 use Rattle.pool_scan.specs.Scanning.{AllTold, now_in}
 use Rattle.pool_rest.specs.Standing.{IsLasting}
-use Rattle.pool_rest.specs.Resting.{AreSingle, StandsNow}
+use Rattle.pool_rest.specs.Resting.{AreSectors, AreSingle, StandsNow}
 use Rattle.pool_check.specs.Drives.{Drives}
 use Rattle.raid_rack.specs.Raid.{Raid, IsTold, held_in, is_over, live_of, spent_of}
 use Rattle.array_model.specs.View.{sectors_of as sectors_in}
@@ -34,7 +34,7 @@ pub record AreSteady (x : Seen) : Type 0 where
   pub told : AllTold x
   pub lasts : IsLasting x
   pub single : AreSingle x
-  pub sized : (d u : ℕ) → d < x.disks → u < x.sectors d → length (x.held d u).current ≡ 512
+  pub sized : AreSectors x
 
 -- The pool of these disks: its state and its seats are those of the run, and its drives hold and say what they read as.
 pub record IsPoolOn (s : State) (t : Slices) (x : Seen) (f : Found) : Type 0 where

@@ -113,7 +113,7 @@ pub(crate) fn check<R: Rack>(rest: AtRest<R>) -> Result<Members<R>, Back<R, Refu
     // Where the disks are told at rest, and none has refused a call, they hold their pool, and the arrays are its own.
     ensures holds { IfOk result (λ m. (f : Found)
         → IsFoundOn (R.seen (below_of rest.slices)) rest.scan.disks.items rest.state (tables rest.slices) rest.on.items rest.log rest.pending rest.damaged f
-        → rest.gone.items ≡ [] → IsUnfaulted (R.seen (below_of rest.slices)) (R.seen (below_of m.slices))
+        → ((p d : ℕ) → names rest.gone.items p ≡ true → seat_by rest.state rest.scan.disks.items p ≡ Some d → ⊥) → IsUnfaulted (R.seen (below_of rest.slices)) (R.seen (below_of m.slices))
         → HoldPool m.state (tables m.slices) (R.seen (below_of m.slices)) m.log f × IsChecked (is_well None) f m.checked) }
     ensures state { IfOk result (λ m. m.state ≡ rest.state) }
     ensures log { IfOk result (λ m. m.log ≡ rest.log) }

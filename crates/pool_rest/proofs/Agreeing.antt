@@ -3,7 +3,7 @@ use Rattle.std.proofs.Common.{◌≡◌, ℕ, ◌+◌, ◌<◌, ◌≤◌, ◌==
 use Rattle.std.specs.Option.{option_map_or, option_and_then}
 use Rattle.std.specs.List.{filter_map}
 use Rattle.std.proofs.lemmas.Bool.{and_parts}
-use Rattle.rack.specs.Values.{IsSingle, Keeps}
+use Rattle.rack.specs.Values.{IsSector, IsSingle, Keeps}
 use Rattle.rack.specs.Seen.{Image, Seen, IsLive, Stays}
 use Rattle.rack.specs.Joins.{keeps_then}
 use Rattle.rack.specs.Sequences.{OnlyReads}
@@ -153,7 +153,14 @@ replayed_later x y b before s xs stays reads told lasts is = record {
   ];
   leaves = λ d disk sector. elim (is.leaves d disk sector) [
     | inl same ↦ inl (keeps_then (x.held d drive_gate) (y.held d drive_gate) (b.held d drive_gate) same (kept d drive_gate disk sector))
-    | inr shut ↦ inr (record { number = shut.number; each = λ v may. shut.each v ((kept d drive_gate disk sector).within v may) })
+    | inr shut ↦
+        let keep = kept d drive_gate disk sector in
+        inr (record {
+          number = shut.number;
+          each = λ v may. shut.each v (keep.within v may);
+          single = λ v may. shut.single v (keep.within v may) ∙ sym keep.current;
+          sized = subst IsSector (sym keep.current) shut.sized;
+        })
   ];
 }
   where

@@ -4,7 +4,7 @@ use Rattle.std.specs.Option.{option_map_or}
 use Rattle.std.specs.List.{filter_map, list_all, range_with_len, slice_index}
 use Rattle.std.proofs.lemmas.List.Folds.{list_any_at}
 use Rattle.std.proofs.lemmas.Bool.{cases_Bool, cases_eq, both_ways, and_from}
-use Rattle.rack.specs.Values.{IsSingle, Keeps, MayLeave}
+use Rattle.rack.specs.Values.{IsSector, IsSingle, Keeps, MayLeave}
 use Rattle.rack.specs.Seen.{Seen, IsLive, Rose}
 use Rattle.rack.specs.Joins.{keeps_then, rose_early, rose_later, live_first}
 use Rattle.rack.specs.Sequences.{OnlyReads, WritesOnly}
@@ -137,14 +137,17 @@ replayed_drives {x} {w} {y} {known} {before} {s} {t} {u} {on} {unread} {closing}
                 (subst (λ j. MayLeave (y.held (disk_of u is.slice) j) v) is.sector_is (subst (λ e. MayLeave (y.held e drive_gate) v) is.disk_is may)))
 
             shut : HasWork l → names closing (place_of is.slice) ≡ true → LeavesShut y d
-            shut work named = record {
-              number = l.number;
-              each = λ v may.
-                  parts.call.gates work no_one (place_of is.slice) v named
-                  (subst (λ k. IsLive (slices_of u w) (slices_of u y) k gate_sector) slice
-                  (subst (λ j. IsLive (slices_of u w) (slices_of u y) is.slice j) at (live_slice parts d drive_gate [] is few now)))
-                  (here_too v may);
-            }
+            shut work named =
+                let live = subst (λ k. IsLive (slices_of u w) (slices_of u y) k gate_sector) slice
+                (subst (λ j. IsLive (slices_of u w) (slices_of u y) is.slice j) at (live_slice parts d drive_gate [] is few now)) in
+                let durable = parts.call.durable work no_one (place_of is.slice) named live in
+                let now_is = durable.0 (y.held d drive_gate).current (here_too (y.held d drive_gate).current (inl refl)) in
+                record {
+                  number = l.number;
+                  each = λ v may. parts.call.gates work no_one (place_of is.slice) v named live (here_too v may);
+                  single = λ v may. durable.0 v (here_too v may) ∙ sym now_is;
+                  sized = subst IsSector (sym now_is) durable.1;
+                }
 
             of_work : HasWork l ⊎ (HasWork l → ⊥) → (names closing (place_of is.slice) ≡ true) ⊎ (names closing (place_of is.slice) ≡ false)
                 → Keeps (x.held d drive_gate) (y.held d drive_gate) ⊎ (IsClosedOn before s x y d × LeavesShut y d)

@@ -188,17 +188,15 @@ written_sized disks c x stands sized d t disk sector =
 -- where each sector of the disks had one value and 512 bytes
 pub steady_after : (a b : Seen) → b.disks ≡ a.disks → ((d : ℕ) → b.sectors d ≡ a.sectors d) → RestsSo a b → AreSingle a → AreSectors a → AreSteady b
 steady_after a b disks sectors rests single sized = record {
-  single = λ d t disk sector no_gate. rests.rests.single d t (in_a d disk) (on_a d t sector) no_gate (single d t (in_a d disk) (on_a d t sector));
-  sized = λ d t disk sector no_gate.
-      subst IsSector (sym (rests.rests.contents d t (in_a d disk) (on_a d t sector) no_gate))
-      (written_sized (disks_of a) (now_in a) rests.before rests.stands sized d t (in_a d disk) (on_a d t sector));
-  gates = λ d disk sector. elim (rests.rests.leaves d (in_a d disk) (on_a d drive_gate sector)) [
-    | inl kept ↦
-        inl (
-          λ v may. single d drive_gate (in_a d disk) (on_a d drive_gate sector) v (kept.within v may) ∙ sym kept.current,
-          subst IsSector (sym kept.current) (sized d drive_gate (in_a d disk) (on_a d drive_gate sector)),
-        )
-    | inr shut ↦ inr shut
+  single = λ d t disk sector. elim (cases_eq t drive_gate) [
+    | inr no_gate ↦ rests.rests.single d t (in_a d disk) (on_a d t sector) no_gate (single d t (in_a d disk) (on_a d t sector))
+    | inl gate ↦ subst (λ k. IsSingle (b.held d k)) (sym gate) (one d disk (subst (λ k. k < b.sectors d) gate sector)).0
+  ];
+  sized = λ d t disk sector. elim (cases_eq t drive_gate) [
+    | inr no_gate ↦
+        subst IsSector (sym (rests.rests.contents d t (in_a d disk) (on_a d t sector) no_gate))
+        (written_sized (disks_of a) (now_in a) rests.before rests.stands sized d t (in_a d disk) (on_a d t sector))
+    | inl gate ↦ subst (λ k. IsSector (b.held d k).current) (sym gate) (one d disk (subst (λ k. k < b.sectors d) gate sector)).1
   ];
 }
   where
@@ -207,3 +205,12 @@ steady_after a b disks sectors rests single sized = record {
 
     on_a : (d t : ℕ) → t < b.sectors d → t < a.sectors d
     on_a d t there = subst (λ n. t < n) (sectors d) there
+
+    one : (d : ℕ) → d < b.disks → drive_gate < b.sectors d → IsSingle (b.held d drive_gate) × IsSector (b.held d drive_gate).current
+    one d disk sector = elim (rests.rests.leaves d (in_a d disk) (on_a d drive_gate sector)) [
+      | inl kept ↦ (
+            λ v may. single d drive_gate (in_a d disk) (on_a d drive_gate sector) v (kept.within v may) ∙ sym kept.current,
+            subst IsSector (sym kept.current) (sized d drive_gate (in_a d disk) (on_a d drive_gate sector)),
+          )
+      | inr shut ↦ (shut.single, shut.sized)
+    ]

@@ -35,10 +35,12 @@ AreSingle x = (d t : ℕ) → d < x.disks → t < x.sectors d → IsSingle (x.he
 abbrev pub AreSectors : Seen → Type 0
 AreSectors x = (d t : ℕ) → d < x.disks → t < x.sectors d → IsSector (x.held d t).current
 
--- whatever a stop leaves of a disk's gate, it is closed and has this number
+-- a disk's gate is closed, durably
 pub record LeavesShut (x : Seen) (d : ℕ) : Type 0 where
   pub number : ℕ
   pub each : (v : List ℕ) → MayLeave (x.held d drive_gate) v → gate_of v ≡ Some (record { is_open = false; number = number })
+  pub single : IsSingle (x.held d drive_gate)
+  pub sized : IsSector (x.held d drive_gate).current
 
 -- a gate keeps its values, or is shut
 abbrev pub KeepsGate : Seen → Seen → ℕ → Type 0
@@ -122,13 +124,10 @@ pub record RestsSo (a b : Seen) : Type 0 where
   pub stands : standing (disks_of a) (now_in a) ≡ Some before
   pub rests : Rests a b before
 
--- Each sector but gates has one value, and 512 bytes. So has a gate that wasn't shut; of one that was, each value is a closed gate.
+-- each sector of a disk has one value, of 512 bytes
 pub record AreSteady (x : Seen) : Type 0 where
-  pub single : (d t : ℕ) → d < x.disks → t < x.sectors d → t ≢ drive_gate → IsSingle (x.held d t)
-  pub sized : (d t : ℕ) → d < x.disks → t < x.sectors d → t ≢ drive_gate → IsSector (x.held d t).current
-  pub gates :
-      (d : ℕ) → d < x.disks → drive_gate < x.sectors d
-      → (IsSingle (x.held d drive_gate) × IsSector (x.held d drive_gate).current) ⊎ LeavesShut x d
+  pub single : AreSingle x
+  pub sized : AreSectors x
 
 -- no target is to be written: nothing is pending on the disks, or a log is damaged
 abbrev pub IsIdle : Seen → Type 0
