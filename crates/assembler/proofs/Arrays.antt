@@ -1,10 +1,9 @@
 -- The arrays of a pool's drives, with the absent places noted, are those that its slices hold.
-use Rattle.std.proofs.Common.{◌≡◌, ◌≢◌, ℕ, zero, suc, ◌+◌, ◌%◌, ◌/◌, ◌<◌, ◌≤◌, Bool, true, false, ◌==◌, ◌&&◌, not, nat_lt, is_none, if◌then◌else◌, List, [], ◌∷◌, map, length, slice_get, Option, Some, None, option_map, unwrap_or, inl, inr, refl, sym, ap, ap₂, subst, ◌∙◌, eq-eqb, lt-ltb, arith}
+use Rattle.std.proofs.Common.{◌≡◌, ◌≢◌, ℕ, zero, suc, ◌+◌, ◌%◌, ◌/◌, ◌<◌, ◌≤◌, Bool, true, false, ◌==◌, not, nat_lt, is_none, if◌then◌else◌, List, [], map, slice_get, Option, Some, None, option_map, unwrap_or, inl, inr, refl, sym, ap, subst, ◌∙◌, eq-eqb, lt-ltb, arith}
 use Rattle.std.specs.Option.{option_map_or}
 use Rattle.std.specs.List.{range_with_len}
 use Rattle.std.proofs.lemmas.Bool.{and_parts, and_from, both_ways, cases_Bool}
 use Rattle.std.proofs.lemmas.List.{length-map}
-use Rattle.rack.specs.Values.{IsSingle}
 use Rattle.rack.specs.Seen.{Image, Held, Seen, IsLive}
 use Rattle.slice_rack.specs.Slices.{Slices, IsOrderly, disk_of, first_of, seat_of, sectors_of as slice_sectors}
 use Rattle.slice_rack.specs.Sliced.{slices_of as slices_seen}
@@ -34,7 +33,7 @@ use Rattle.array_core.proofs.Opened.{map_ranged}
 use Rattle.array_core.proofs.Rules.{get_map, get_range, zero_more}
 use Rattle.array_core.proofs.Truths.{truth_facts}
 use Rattle.pool_image.specs.Drives.{Found, slices_of}
-use Rattle.pool_image.specs.Meaning.{array_sectors, is_member, super_at, truth_of}
+use Rattle.pool_image.specs.Meaning.{array_sectors, is_member, super_at}
 use Rattle.pool_check.specs.declared.Checked.{Checked}
 use Rattle.pool_check.specs.Layers.{AreOpened, IsOpened}
 use Rattle.raid_rack.specs.Moves.{IsSeated}
@@ -44,7 +43,7 @@ use Rattle.assembler.specs.Members.{AreMembers}
 use Rattle.assembler.specs.Holding.{AreSteady, IsPoolOn, IsSoundPool}
 use Rattle.assembler.proofs.Roles.{named_position}
 use Rattle.assembler.proofs.Seating.{array_seated}
-use Rattle.assembler.proofs.Shows.{few_made, few_place, live, now, reads_member}
+use Rattle.assembler.proofs.Shows.{few_place, live, now, reads_member}
 use Rattle.assembler.proofs.Truthful.{shape_now, shape_said, sound_now, super_gone, super_other, super_unseated, truth_now}
 
 -- ---- seats
