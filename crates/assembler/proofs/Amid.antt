@@ -1,5 +1,5 @@
 -- What contents of slices at rest say of the arrays at each moment, while gates that are open are closed.
-use Rattle.std.proofs.Common.{◌≡◌, ◌⊎◌, ℕ, ◌+◌, ◌<◌, ◌≤◌, Bool, true, false, nat_lt, if◌then◌else◌, List, [], Option, Some, None, unwrap_or, option_map, inl, inr, refl, sym, ap, subst, ◌∙◌, le-ltb, arith}
+use Rattle.std.proofs.Common.{◌≡◌, ℕ, ◌<◌, ◌≤◌, Bool, if◌then◌else◌, List, [], Some, unwrap_or, inl, inr, refl, sym, ap, subst, ◌∙◌, le-ltb, arith}
 use Rattle.std.specs.Option.{option_map_or}
 use Rattle.std.proofs.lemmas.Bool.{cases_lt}
 use Rattle.rack.specs.Values.{Values, IsSingle, MayLeave}
@@ -20,11 +20,9 @@ use Rattle.array_image.proofs.Frames.{Agree, shape_same, state_same, supers_same
 use Rattle.array_image.proofs.SoundFrames.{sound_same}
 use Rattle.commit_log.specs.View.{LogView}
 use Rattle.commit_log.specs.Standing.{LogsStand}
-use Rattle.commit_log.specs.Commits.{Stands}
 use Rattle.commit_log.specs.Opening.{ReplayCall, Replays}
 use Rattle.commit_log.proofs.Replayable.{opened_can_replay}
 use Rattle.array_model.specs.View.{shape_of}
-use Rattle.array_model.specs.Says.{Says}
 use Rattle.array_model.proofs.Keeping.{reading_live, reading_outside}
 use Rattle.raid_rack.specs.Book.{IsAfter, after_same}
 use Rattle.raid_rack.specs.Marking.{SaysBetween}

@@ -1,10 +1,10 @@
 -- The arrays of a pool's drives, with the absent places noted, are those that its slices hold.
 use Rattle.std.proofs.Common.{◌≡◌, ◌≢◌, ℕ, zero, suc, ◌+◌, ◌%◌, ◌/◌, ◌-◌, ◌<◌, ◌≤◌, Bool, true, false, ◌==◌, ◌&&◌, not, nat_lt, is_none, if◌then◌else◌, List, [], ◌∷◌, map, length, slice_get, Option, Some, None, option_map, unwrap_or, inl, inr, refl, sym, ap, ap₂, subst, ◌∙◌, eq-eqb, lt-ltb, arith}
 use Rattle.std.specs.Option.{option_map_or}
+use Rattle.std.proofs.Math.Nat.{mul-le-mul_right}
 use Rattle.std.specs.List.{range_with_len}
 use Rattle.std.proofs.lemmas.Bool.{and_parts, and_from, both_ways, cases_Bool}
 use Rattle.std.proofs.lemmas.List.{length-map}
-use Rattle.rack.specs.Values.{IsSingle}
 use Rattle.rack.specs.Seen.{Image, Held, Seen, IsLive}
 use Rattle.slice_rack.specs.Slices.{Slices, IsOrderly, disk_of, first_of, seat_of, sectors_of as slice_sectors}
 use Rattle.slice_rack.specs.Sliced.{slices_of as slices_seen}
@@ -46,7 +46,7 @@ use Rattle.assembler.specs.Members.{AreMembers}
 use Rattle.assembler.specs.Holding.{AreSteady, IsPoolOn, IsSoundPool}
 use Rattle.assembler.proofs.Roles.{named_position}
 use Rattle.assembler.proofs.Seating.{array_seated}
-use Rattle.assembler.proofs.Shows.{few_made, few_place, live, now, reads_member}
+use Rattle.assembler.proofs.Shows.{few_place, live, now, reads_member}
 use Rattle.assembler.proofs.Truthful.{shape_now, shape_said, sound_now, super_gone, super_other, super_unseated, truth_now}
 
 -- ---- seats
@@ -113,7 +113,7 @@ sectors_least v array = by (first_layout v.truth) wide
 
     by : (l : Layout) → 2 ≤ width l → v.truth.size ≤ capacity l v.truth.size
     by (mirror n) many = omega arith
-    by (parity n) many = let more = mul_less 1 (n - 1) v.truth.size (omega (arith, many)) in omega (arith, more)
+    by (parity n) many = let more : 1 * v.truth.size ≤ (n - 1) * v.truth.size = mul-le-mul_right v.truth.size (omega (arith, many)) in omega (arith, more)
 
 module _ (f : Found) (t : Slices) (x : Seen) (checked : Checked) (absent : List ℕ) (orderly : IsOrderly t)
     (m : AreMembers f.state t x checked absent) (steady : AreSteady x) (pool : IsPoolOn f.state t x f)

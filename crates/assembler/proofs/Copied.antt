@@ -1,5 +1,5 @@
 -- Each seated drive of a pool in which a check found no fault has a copy of the state.
-use Rattle.std.proofs.Common.{◌≡◌, ℕ, ◌<◌, ◌≤◌, Bool, true, false, ◌==◌, ◌||◌, not, nat_lt, if◌then◌else◌, is_none, is_some, find, List, [], ◌∷◌, Option, Some, None, option_map, inl, inr, refl, sym, ap, ◌∙◌, lt-ltb, le-ltb, arith}
+use Rattle.std.proofs.Common.{◌≡◌, ℕ, Bool, true, false, ◌||◌, not, if◌then◌else◌, is_none, is_some, find, List, [], ◌∷◌, Option, Some, None, option_map, inl, inr, refl, sym, ap, ◌∙◌}
 use Rattle.std.specs.Option.{option_and_then, option_or}
 use Rattle.std.proofs.lemmas.Bool.{both_ways, cases_eq, cases_lt, ne_eqb}
 use Rattle.std.proofs.lemmas.Option.{none-some}

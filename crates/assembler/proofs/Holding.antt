@@ -1,8 +1,8 @@
 -- The rack of a pool's arrays holds what the pool's contents give.
-use Rattle.std.proofs.Common.{◌≡◌, ◌⊎◌, ℕ, zero, suc, ◌+◌, ◌<◌, ◌≤◌, Bool, true, false, ◌==◌, ◌&&◌, ◌||◌, not, nat_lt, is_none, is_some, if◌then◌else◌, List, [], ◌∷◌, filter, length, slice_get, Option, Some, None, option_map, inl, inr, refl, sym, ap, subst, ◌∙◌, eq-eqb, lt-ltb, arith}
+use Rattle.std.proofs.Common.{◌≡◌, ℕ, ◌+◌, ◌<◌, ◌≤◌, Bool, true, false, ◌&&◌, ◌||◌, not, nat_lt, is_none, List, [], ◌∷◌, filter, slice_get, Some, None, inl, inr, refl, sym, ap, subst, ◌∙◌, eq-eqb, lt-ltb, arith}
 use Rattle.std.specs.List.{range_with_len}
 use Rattle.std.proofs.lemmas.Bool.{both_ways, cases_Bool}
-use Rattle.rack.specs.Values.{IsSingle, Keeps, MayLeave}
+use Rattle.rack.specs.Values.{MayLeave}
 use Rattle.rack.specs.Seen.{Image, Seen, IsLive, Rose, Stays}
 use Rattle.rack.specs.Joins.{leaves_same, leaves_then, leaves_weaker, stays_same}
 use Rattle.rack.specs.Moments.{Leaves}
@@ -10,7 +10,7 @@ use Rattle.rack.specs.Targets.{look}
 use Rattle.slice_rack.specs.Slices.{Slices, IsOrderly, seat_of, sectors_of}
 use Rattle.slice_rack.specs.Sliced.{slices_of as slices_seen}
 use Rattle.pool_state.specs.declared.contents.State.{State}
-use Rattle.array_image.specs.Places.{data_sector, log_slice, member_slice, slice_of}
+use Rattle.array_image.specs.Places.{data_sector, log_slice, member_slice}
 use Rattle.array_image.specs.States.{current_places, is_current}
 use Rattle.array_image.specs.Held.{IsSettled, held_by}
 use Rattle.array_image.specs.Left.{IsInside, reading}
@@ -20,7 +20,7 @@ use Rattle.commit_log.specs.Opening.{Finds, ReplayCall}
 use Rattle.array_model.specs.View.{View, IsArray, has_gone, shape_of, sectors_of as array_sectors_of}
 use Rattle.array_model.specs.Opened.{OpensOn}
 use Rattle.array_model.proofs.Keeping.{live_on}
-use Rattle.array_core.specs.Seats.{gone, joined, names, restarted}
+use Rattle.array_core.specs.Seats.{gone, names, restarted}
 use Rattle.pool_scan.proofs.Valid.{valid_arrays}
 use Rattle.array_image.specs.Arrays.{array_in, replayed, value_by}
 use Rattle.pool_image.specs.Drives.{Found, slices_of}
@@ -39,7 +39,7 @@ use Rattle.raid_rack.proofs.Seated.{names_joined}
 use Rattle.assembler.specs.Members.{AreMembers}
 use Rattle.assembler.specs.Holding.{AreSteady, HoldPool, HoldsArrays, IsIdle, IsPoolOn, IsSoundPool, pool_values}
 use Rattle.assembler.proofs.Amid.{closing_leaves, says_only}
-use Rattle.assembler.proofs.Arrays.{array_read, array_values, opens_array, sectors_are}
+use Rattle.assembler.proofs.Arrays.{array_room, array_whole, array_read, array_values, opens_array, sectors_are}
 use Rattle.assembler.proofs.Rest.{copies_agree, log_there, opened_now}
 use Rattle.assembler.proofs.Shows.{few_made, few_place, got, none_past}
 use Rattle.assembler.proofs.Still.{opens_still, rest_closed}
@@ -225,6 +225,14 @@ module _ (f : Found) (t : Slices) (x : Seen) (checked : Checked) (absent : List 
         let at = array_at n made in
         sizes n ∙ ap array_sectors_of (are n at.0 at.1)
         ∙ sectors_are f t x checked absent orderly m steady pool found.opened rules sound n less made at.0 at.1;
+    whole = λ n y less.
+        let made = low_joined n less in
+        let at = array_at n made in
+        array_whole f t x checked absent orderly m steady pool found.opened rules sound n less made at.0 at.1 y;
+    room = λ n less.
+        let made = low_joined n less in
+        let at = array_at n made in
+        array_room f t x checked absent orderly m steady pool found.opened rules sound n less made at.0 at.1;
     values = λ n y u less alive may. value_held b opens kept n y u less ((marks.keeps n y less alive).within u may);
     leaves = λ n less goes traced.
         let says : (ℕ → ℕ) → Image → Type 0 = λ sectors i. IsInside sectors i → SaysBetween f.state w.state n (pool_values f n) (spent_of w n) (replayed sectors i) in

@@ -1,15 +1,14 @@
 -- A pool that disks hold at rest they hold after reads, whose slices are those of the same drives.
-use Rattle.std.proofs.Common.{◌≡◌, ◌⊎◌, ℕ, ◌+◌, ◌<◌, ◌≤◌, Bool, true, false, ◌&&◌, nat_lt, is_none, is_some, if◌then◌else◌, List, [], length, Option, Some, None, unwrap_or, inl, inr, refl, sym, ap, ap₂, subst, ◌∙◌, ltb-true, arith}
-use Rattle.std.proofs.lemmas.Option.{none-some}
-use Rattle.rack.specs.Values.{IsSingle, Keeps}
-use Rattle.rack.specs.Seen.{Image, Seen, IsLive}
+use Rattle.std.proofs.Common.{◌≡◌, ℕ, ◌+◌, ◌<◌, Bool, true, false, ◌&&◌, nat_lt, is_none, is_some, if◌then◌else◌, List, [], length, Option, Some, None, unwrap_or, inl, inr, refl, sym, ap, ap₂, subst, ◌∙◌, ltb-true, arith}
+use Rattle.rack.specs.Values.{Keeps}
+use Rattle.rack.specs.Seen.{Image, Seen}
 use Rattle.rack.specs.Sequences.{OnlyReads}
 use Rattle.slice_rack.specs.Slices.{Slices, IsOrderly, disk_of, first_of, place_of, seat_of, sectors_of}
 use Rattle.slice_rack.specs.Sliced.{IsInside, slices_of as slices_seen}
 use Rattle.slice_rack.specs.Laws.{disk_below, sector_below}
 use Rattle.pool_state.specs.declared.contents.State.{State}
 use Rattle.array_image.specs.Places.{log_slice}
-use Rattle.array_image.specs.Record.{Gate, GateAt, gate_of, gate_in, is_there, pending_at, record_in, record_of}
+use Rattle.array_image.specs.Record.{GateAt, gate_of, gate_in, is_there, pending_at, record_in, record_of}
 use Rattle.array_image.specs.States.{is_current}
 use Rattle.array_image.specs.Left.{reading}
 use Rattle.array_image.proofs.Replays.{SameLogs}
@@ -17,10 +16,9 @@ use Rattle.commit_log.specs.View.{LogView, left_of, names}
 use Rattle.commit_log.specs.Opening.{Finds}
 use Rattle.commit_log.proofs.Restored.{pending_at_by, pending_by}
 use Rattle.commit_log.proofs.Undamaged.{whole_by}
-use Rattle.pool_image.specs.Disks.{Disks, disks_of}
+use Rattle.pool_image.specs.Disks.{disks_of}
 use Rattle.pool_image.specs.Drives.{Found}
-use Rattle.pool_rest.specs.Standing.{IsLasting}
-use Rattle.assembler.specs.Holding.{AreSteady, HoldPool, IsIdle, IsPoolOn}
+use Rattle.assembler.specs.Holding.{AreSteady, HoldPool}
 
 -- what a log finds goes by the log slices
 finds_logs : (l : LogView) (on places : List ℕ) (is_pending : Bool) (c e : Image) → SameLogs c e → Finds l on places is_pending None e → Finds l on places is_pending None c

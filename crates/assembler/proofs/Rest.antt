@@ -1,12 +1,10 @@
 -- The slices of a pool's drives are at rest, with the copies of its state.
-use Rattle.std.proofs.Common.{◌≡◌, ◌⊎◌, ℕ, zero, suc, ◌+◌, ◌<◌, ◌≤◌, Bool, true, false, ◌==◌, ◌&&◌, ◌||◌, not, nat_lt, if◌then◌else◌, is_none, is_some, List, [], map, length, slice_get, Option, Some, None, Result, Ok, Err, option_map, unwrap_or, inl, inr, refl, sym, ap, subst, ◌∙◌, eq-eqb, lt-ltb, le-ltb, ltb-true, arith}
+use Rattle.std.proofs.Common.{◌≡◌, ℕ, ◌+◌, ◌<◌, Bool, true, false, ◌==◌, ◌&&◌, nat_lt, if◌then◌else◌, is_none, List, [], map, length, Option, Some, None, Result, Ok, Err, option_map, unwrap_or, inl, refl, sym, ap, subst, ◌∙◌, eq-eqb, lt-ltb, ltb-true, arith}
 use Rattle.std.specs.Result.{result_ok}
-use Rattle.std.specs.Option.{option_map_or}
 use Rattle.std.specs.List.{range_with_len, slice_index}
 use Rattle.std.proofs.lemmas.Bool.{and_parts, both_ways}
 use Rattle.std.proofs.lemmas.List.Folds.{list_any_at}
 use Rattle.std.proofs.lemmas.Option.{none-some}
-use Rattle.rack.specs.Values.{IsSingle}
 use Rattle.rack.specs.Seen.{Image, Seen}
 use Rattle.rack.specs.Targets.{look}
 use Rattle.slice_rack.specs.Slices.{Slices, IsOrderly, disk_of, first_of, seat_of, sectors_of}
@@ -21,9 +19,8 @@ use Rattle.array_image.specs.Places.{log_sectors, log_slice, place_of, state_sec
 use Rattle.array_image.specs.States.{copy_in, epoch_of, is_current, state_in}
 use Rattle.array_core.proofs.Leading.{foremost_leads, none_leads}
 use Rattle.commit_log.specs.View.{LogView, names}
-use Rattle.commit_log.specs.Phases.{AreLogs}
-use Rattle.commit_log.specs.AtRest.{AtRest, BringsCopies, CopiesAgree, Opened}
-use Rattle.pool_image.specs.Disks.{Disks, Identity, disks_of, identities_of}
+use Rattle.commit_log.specs.AtRest.{AtRest, CopiesAgree, Opened}
+use Rattle.pool_image.specs.Disks.{Disks, Identity}
 use Rattle.pool_image.specs.Drives.{Found}
 use Rattle.pool_check.specs.declared.Checked.{Checked}
 use Rattle.pool_check.specs.Checking.{IsChecked}

@@ -1,9 +1,9 @@
 -- A place that a superblock's roles name is that of a position.
-use Rattle.std.proofs.Common.{◌≡◌, ℕ, zero, suc, ◌+◌, ◌<◌, ◌≤◌, Bool, true, false, ◌==◌, ◌&&◌, ◌||◌, nat_lt, if◌then◌else◌, List, [], ◌∷◌, filter, length, slice_get, get_or, unwrap_or, Option, Some, None, inl, inr, refl, sym, ap, ap₂, subst, ◌∙◌, eq-eqb, eqb-true, lt-ltb, ltb-true, le-ltb, arith}
+use Rattle.std.proofs.Common.{◌≡◌, ℕ, zero, suc, ◌+◌, ◌<◌, ◌≤◌, Bool, true, false, ◌==◌, ◌||◌, nat_lt, if◌then◌else◌, List, [], ◌∷◌, length, slice_get, Option, Some, None, inl, inr, refl, sym, ap, ap₂, subst, ◌∙◌, eq-eqb, eqb-true, lt-ltb, ltb-true, le-ltb, arith}
 use Rattle.std.specs.Prelude.{count_by}
 use Rattle.std.specs.Option.{option_map_or}
-use Rattle.std.specs.List.{list_all, list_any, range_with_len}
-use Rattle.std.proofs.lemmas.Bool.{and_parts, both_ways, cases_eq, cases_order, cases_Bool, ne_eqb}
+use Rattle.std.specs.List.{list_all, range_with_len}
+use Rattle.std.proofs.lemmas.Bool.{and_parts, both_ways, cases_eq, cases_order, ne_eqb}
 use Rattle.std.proofs.lemmas.List.Sums.{sum_by-cons}
 use Rattle.std.proofs.lemmas.List.Quantifiers.{position-Some}
 use Rattle.std.proofs.lemmas.Map.Views.{any-filter_same}
@@ -181,12 +181,15 @@ named_position t p roles few named =
         let place = position-Some (λ k. k == r) t.roles.items first.0 0 first.1 in
         let role : has_role t r p ≡ true = ap (λ o. option_map_or (λ k. k == r) o false) is ∙ eq-eqb r r refl in
         let first_role : has_role t r first.0 ≡ true =
-        ap (λ o. option_map_or (λ k. k == r) o false) (slice_get-get_or t.roles.items first.0 0 place.0) ∙ place.1 in
-        (r, below, first.1 ∙ ap Some (elim (cases_eq first.0 p) [
-          | inl same ↦ same
-          | inr other ↦
-              let two = count_two (has_role t r) (named_places t) first.0 p
-              (named_listed t first.0 (named_place t r first.0 (omega (arith, below, few)) first.1)) (named_listed t p named) first_role role other in
-              let one = each r below in
-              absurd (omega (arith, two, one))
-        ]))
+        ap (λ o. option_map_or (λ k. k == r) o false) (slice_get-get_or t.roles.items first.0 0 place.0) ∙ place.1 in (
+          r,
+          below,
+          first.1 ∙ ap Some (elim (cases_eq first.0 p) [
+            | inl same ↦ same
+            | inr other ↦
+                let two = count_two (has_role t r) (named_places t) first.0 p
+                (named_listed t first.0 (named_place t r first.0 (omega (arith, below, few)) first.1)) (named_listed t p named) first_role role other in
+                let one = each r below in
+                absurd (omega (arith, two, one))
+          ]),
+        )

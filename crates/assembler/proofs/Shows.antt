@@ -1,9 +1,8 @@
 -- What the slices of a pool's drives read as is what the pool's slices hold.
-use Rattle.std.proofs.Common.{◌≡◌, ℕ, zero, suc, ◌∷◌, ◌+◌, ◌<◌, ◌≤◌, Bool, true, false, ◌&&◌, nat_lt, if◌then◌else◌, List, [], length, slice_get, Option, Some, None, is_some, inl, inr, refl, sym, ap, ap₂, subst, ◌∙◌, ltb-true, lt-ltb, le-ltb, arith}
+use Rattle.std.proofs.Common.{◌≡◌, ℕ, zero, suc, ◌∷◌, ◌+◌, ◌<◌, ◌≤◌, Bool, true, false, ◌&&◌, nat_lt, if◌then◌else◌, List, [], length, slice_get, Option, Some, None, is_some, inl, inr, refl, sym, ap, subst, ◌∙◌, ltb-true, le-ltb, arith}
 use Rattle.std.specs.Prelude.{unwrap_or}
 use Rattle.std.specs.Option.{option_and_then, option_map_or}
-use Rattle.std.proofs.lemmas.Bool.{cases_lt, both_ways}
-use Rattle.std.proofs.lemmas.Option.{none-some}
+use Rattle.std.proofs.lemmas.Bool.{cases_lt}
 use Rattle.rack.specs.Seen.{Image, Seen, IsLive}
 use Rattle.slice_rack.specs.Slices.{Slices, IsOrderly, disk_of, first_of, sectors_of, seat_of}
 use Rattle.slice_rack.specs.Sliced.{sliced, slices_of as slices_seen}
@@ -15,14 +14,14 @@ use Rattle.array_image.specs.Supers.{is_named}
 use Rattle.array_image.specs.Left.{reading}
 use Rattle.array_model.specs.View.{View}
 use Rattle.pool_scan.proofs.Valid.{valid_places, valid_arrays}
-use Rattle.pool_image.specs.Disks.{Disks, Seats, disks_of}
+use Rattle.pool_image.specs.Disks.{Disks, Seats}
 use Rattle.pool_image.specs.Drives.{Found, slices_of}
 use Rattle.pool_image.specs.Meaning.{is_member}
 use Rattle.pool_image.proofs.Composed.{empty, same_slices}
 use Rattle.pool_check.specs.declared.Checked.{Checked}
 use Rattle.pool_check.specs.declared.Extent.{Extent}
 use Rattle.pool_check.specs.Layers.{AreOpened, IsOpened}
-use Rattle.pool_check.specs.Laying.{HasMembers, laid_at}
+use Rattle.pool_check.specs.Laying.{HasMembers}
 use Rattle.pool_check.specs.Slots.{AreSlots}
 use Rattle.pool_check.proofs.Shown.{member_shows}
 use Rattle.raid_rack.proofs.Noted.{current_few}

@@ -1,5 +1,5 @@
 -- Slices at rest on which nothing is pending, as calls find them though no gate was closed.
-use Rattle.std.proofs.Common.{◌≡◌, ◌⊎◌, ℕ, ◌+◌, ◌<◌, ◌≤◌, Bool, true, false, nat_lt, if◌then◌else◌, List, [], Result, Option, Some, None, Ok, Err, refl, sym, ap, subst, ◌∙◌, inl, inr, lt-ltb, arith}
+use Rattle.std.proofs.Common.{◌≡◌, ℕ, ◌<◌, Bool, true, false, nat_lt, if◌then◌else◌, List, [], Result, Some, Ok, Err, refl, sym, ap, subst, ◌∙◌, inl, inr, lt-ltb, arith}
 use Rattle.std.specs.Result.{result_ok}
 use Rattle.std.proofs.lemmas.Bool.{cases_lt}
 use Rattle.std.proofs.lemmas.Option.{none-some}
@@ -19,7 +19,7 @@ use Rattle.commit_log.specs.Standing.{LogsStand, StatesStand, deciding}
 use Rattle.commit_log.specs.Commits.{Stands}
 use Rattle.commit_log.specs.Opening.{CanReplay, StandsAmid}
 use Rattle.commit_log.specs.Kept.{IsNoLater, LogKept}
-use Rattle.commit_log.specs.AtRest.{AtRest, CopiesAgree, Opened}
+use Rattle.commit_log.specs.AtRest.{CopiesAgree, Opened}
 use Rattle.commit_log.proofs.Amid.{replayed_as}
 use Rattle.commit_log.proofs.Counting.{decides_small}
 use Rattle.commit_log.proofs.Epochs.{state_latest}

@@ -1,15 +1,15 @@
 -- The slices of a pool's drives have its superblocks, so each array's truth and shape.
-use Rattle.std.proofs.Common.{◌≡◌, ℕ, zero, suc, ◌+◌, ◌%◌, ◌<◌, ◌≤◌, Bool, true, false, not, nat_lt, if◌then◌else◌, List, [], length, slice_get, Option, Some, None, option_map, unwrap_or, inl, inr, refl, sym, ap, subst, ◌∙◌, arith}
+use Rattle.std.proofs.Common.{◌≡◌, ℕ, ◌+◌, ◌<◌, Bool, true, false, not, nat_lt, if◌then◌else◌, List, length, Option, Some, None, option_map, inl, inr, refl, sym, ap, subst, ◌∙◌, arith}
 use Rattle.std.specs.Option.{option_map_or}
 use Rattle.std.proofs.lemmas.Bool.{both_ways, cases_Bool}
 use Rattle.std.proofs.lemmas.Option.{none-some}
 use Rattle.rack.specs.Seen.{Image, Seen}
-use Rattle.slice_rack.specs.Slices.{Slices, IsOrderly, seat_of}
+use Rattle.slice_rack.specs.Slices.{Slices, IsOrderly}
 use Rattle.md_super.specs.declared.superblock.Super.{Super}
 use Rattle.array_image.specs.Places.{data_sector, member_slice, place_of, super_sector}
 use Rattle.array_image.specs.States.{is_current}
 use Rattle.array_image.specs.Supers.{is_named, super_in, truth_in}
-use Rattle.array_image.specs.Arrays.{Member, Shape, shape_by, shape_in}
+use Rattle.array_image.specs.Arrays.{Member, Shape, shape_by}
 use Rattle.array_image.specs.SoundArray.{IsSoundArray, first_unsynced}
 use Rattle.array_image.specs.Even.{AreEven}
 use Rattle.array_image.specs.Held.{Among}
@@ -19,15 +19,15 @@ use Rattle.array_model.proofs.Opening.{even_counted}
 use Rattle.array_core.specs.Contents.{current_super}
 use Rattle.array_core.specs.Model.{is_truth}
 use Rattle.array_core.specs.Opening.{super_at as super_found, view_found}
-use Rattle.array_core.proofs.Leading.{Leads, leads_foremost}
-use Rattle.array_core.proofs.Opened.{current_below, current_is, named_shape, super_place, truth_leads, truth_ranged}
+use Rattle.array_core.proofs.Leading.{leads_foremost}
+use Rattle.array_core.proofs.Opened.{current_is, named_shape, super_place, truth_leads, truth_ranged}
 use Rattle.pool_image.specs.Drives.{Found, slices_of}
 use Rattle.pool_image.specs.Meaning.{is_member, super_at, truth_of}
 use Rattle.pool_check.specs.declared.Checked.{Checked}
 use Rattle.pool_check.specs.Layers.{AreOpened, IsOpened}
 use Rattle.pool_check.proofs.Begins.{nothing_in}
 use Rattle.assembler.specs.Members.{AreMembers}
-use Rattle.assembler.specs.Holding.{AreSteady, IsPoolOn, IsSoundPool}
+use Rattle.assembler.specs.Holding.{AreSteady, IsPoolOn}
 use Rattle.assembler.proofs.Shows.{few_made, few_place, now, reads_member, reads_other, unseated}
 
 module _ (f : Found) (t : Slices) (x : Seen) (checked : Checked) (absent : List ℕ) (orderly : IsOrderly t)

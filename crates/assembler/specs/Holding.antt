@@ -91,6 +91,9 @@ pub record HoldsArrays (f : Found) (v : Raid) (a b : Seen) : Type 0 where
   pub told : (n : ℕ) → n < f.state.joined → IsTold v b n
   pub sectors : (n : ℕ) → n < f.state.joined → sectors_in (v.arrays n) ≡ array_sectors f n
   pub values : (n y : ℕ) (u : List ℕ) → n < f.state.joined → live_of v n y → MayLeave (held_in v b n y) u → u ≡ arrays_held f n y
+  -- the pool's own are whole sectors, with room for a label
+  pub whole : (n y : ℕ) → n < f.state.joined → length (arrays_held f n y) ≡ 512
+  pub room : (n : ℕ) → n < f.state.joined → 128 ≤ array_sectors f n
   pub leaves :
       (n : ℕ) → n < f.state.joined → is_over v n ≡ false → a.traced
       → Leaves a b (λ c. IsInside a.sectors c → SaysBetween f.state v.state n (pool_values f n) (spent_of v n) (replayed a.sectors c))

@@ -1,4 +1,5 @@
 pub mod Holding
 pub mod Members
 pub mod Refusing
+pub mod Sound
 pub mod Volume

@@ -12,6 +12,8 @@ use Rattle.pool_image.specs.Drives.{Found}
 use Rattle.pool_image.specs.Meaning.{Volume, group_of, joined_arrays}
 use Rattle.pool_image.specs.Volumes.{first_bad, linear_of}
 use Rattle.raid_rack.specs.declared.arrays.RaidRack.{RaidRack}
+use Rattle.array_model.specs.View.{sectors_of}
+use Rattle.raid_rack.specs.Raid.{Raid, live_of}
 use Rattle.raid_rack.specs.AllRuns.{AreRuns}
 use Rattle.raid_rack.specs.RaidRack.{raid_in, raid_seen, slices_in}
 use Rattle.slice_rack.specs.SliceRack.{below_of}
@@ -45,3 +47,7 @@ pub record IsVolumeOf (f : Found) (l : Linear) : Type 0 where
 pub record HoldsVolume (x : Seen) (v : Volume) : Type 0 where
   pub sectors : x.sectors 0 ≡ v.sectors
   pub contents : (s : ℕ) (u : List ℕ) → s < v.sectors → x.spent 0 s ≡ false → MayLeave (x.held 0 s) u → u ≡ v.contents s
+
+-- no sector of the arrays that are ready for the volume is spent
+abbrev pub AllLive : Raid → Type 0
+AllLive v = (n y : ℕ) → n < v.state.joined → y < sectors_of (v.arrays n) → live_of v n y

@@ -13,7 +13,6 @@ use Rattle.pool_check.specs.Drives.{AreCopied, AreDrivesOf, IsSeating, Loses, fo
 use Rattle.pool_check.specs.Refusing.{is_well}
 use Rattle.pool_check.specs.Slots.{AreSlots}
 use Rattle.pool_check.proofs.Valid.{valid_fit}
-use Rattle.pool_rest.specs.Standing.{IsLaid}
 use Rattle.pool_scan.specs.Scanning.{IsUnfaulted}
 use Rattle.assembler.specs.Holding.{HoldPool, drives_of}
 use Rattle.assembler.proofs.Finding.{found_copied, found_drives, found_holds}
