@@ -31,27 +31,27 @@ some_same : {X : Type 0} (a b : X) → Some a ≡ Some b → a ≡ b
 some_same a b same = cc
 
 module _ (x : Seen) (known : List Known) (s : State) (t : Slices) (on : List ℕ) (l : LogView) (is_pending : Bool) (damaged : Option ℕ) where
-  abbrev disks : Disks
+  abbrev pub disks : Disks
   disks = disks_of x
 
-  abbrev identities : Identities
+  abbrev pub identities : Identities
   identities = identities_of disks (now_in x)
 
-  abbrev seats : Seats
+  abbrev pub seats : Seats
   seats = pool_seat s disks identities
 
   -- the pool of these contents
-  abbrev g : Found
+  abbrev pub g : Found
   g = found_with s seats (drives_now x s)
 
   module _ (f : Found) (is : IsFoundOn x known s t on l is_pending damaged f) where
-    newest_is : newest disks identities ≡ Some s
+    pub newest_is : newest disks identities ≡ Some s
     newest_is =
         let by = stood_by disks (now_in x) (standing_by disks (now_in x) s) is.stands.stands in
         by.1 ∙ ap Some (sym (ap (λ (z : Standing). z.state) by.2))
 
     -- nothing is pending
-    idle : (standing_by disks (now_in x) s).targets ≡ []
+    pub idle : (standing_by disks (now_in x) s).targets ≡ []
     idle = none_pending (current_places s) (standing_by disks (now_in x) s).logs
         (none_of (pending_at (current_places s) (standing_by disks (now_in x) s).logs) (sym is.stands.pending ∙ is.rested))
       where
@@ -59,7 +59,7 @@ module _ (x : Seen) (known : List Known) (s : State) (t : Slices) (on : List ℕ
         none_of None none = refl
         none_of (Some a) none = absurd (both_ways true none refl)
 
-    same : g ≡ f
+    pub same : g ≡ f
     same = some_same g f (sym (found_is x s seats newest_is idle (λ p. refl)) ∙ is.found_is)
 
     pub found_drives : AreDrivesOf x f.seats (drives_of f)

@@ -4,6 +4,7 @@ mod Copied
 mod Finding
 mod Holding
 mod Later
+mod Meaning
 mod Refusals
 mod Rest
 mod Roles

@@ -1,5 +1,5 @@
 -- The volume that is opened on arrays which hold what a pool's drives mean is the volume of the meaning.
-use Rattle.std.proofs.Common.{◌≡◌, ℕ, ◌+◌, ◌*◌, ◌<◌, ◌≤◌, Bool, true, false, ◌==◌, ◌&&◌, ◌||◌, not, nat_le, nat_lt, bytes_eq, if◌then◌else◌, List, [], map, Option, Some, None, refl, sym, ap, ap₂, subst, ◌∙◌, lt-ltb, ltb-true, arith}
+use Rattle.std.proofs.Common.{◌≡◌, ℕ, ◌+◌, ◌*◌, ◌<◌, ◌≤◌, Bool, true, false, ◌==◌, ◌&&◌, ◌||◌, not, nat_le, nat_lt, bytes_eq, if◌then◌else◌, List, [], map, Option, Some, None, refl, sym, ap, ap₂, inl, inr, subst, ◌∙◌, lt-ltb, ltb-true, arith}
 use Rattle.std.specs.Option.{option_map_or}
 use Rattle.std.specs.List.{list_all}
 use Rattle.rack.specs.Values.{MayLeave}
@@ -20,8 +20,15 @@ use Rattle.pool_image.specs.Meaning.{Volume, array_sectors, arrays_held, joined_
 use Rattle.pool_image.specs.Volumes.{linear_of}
 use Rattle.pool_image.specs.Volumes as meant
 use Rattle.pool_image.proofs.Groups.{AreWholeArrays, bad_alike, find_below, group_alike, map_below}
-use Rattle.pool_image.proofs.Parts.{held_in}
-use Rattle.assembler.specs.Volume.{HoldsVolume, IsVolumeOf}
+use Rattle.pool_image.proofs.Parts.{held_in as shown_in}
+use Rattle.shr_base.specs.declared.Id.{Id}
+use Rattle.raid_rack.specs.declared.arrays.RaidRack.{RaidRack}
+use Rattle.raid_rack.specs.AllRuns.{AreRuns}
+use Rattle.raid_rack.specs.Book.{IsSameBook}
+use Rattle.raid_rack.specs.Raid.{held_in}
+use Rattle.raid_rack.specs.RaidRack.{raid_in, raid_seen, refused_in, slices_seen}
+use Rattle.assembler.specs.Holding.{HoldsArrays}
+use Rattle.assembler.specs.Volume.{AllLive, HoldsVolume, IsVolumeOf, OpensVolume}
 
 -- ---- what is said of the joined arrays goes by these alone
 
@@ -70,7 +77,7 @@ module _ (pool : List ℕ) (extent joined : ℕ) (f g : ℕ → ℕ) (same : (n 
 -- what the arrays hold, as they were read and as the meaning has it
 module _ (f : Found) (a b : Seen) (sizes : (n : ℕ) → n < f.state.joined → a.sectors n ≡ array_sectors f n)
     (whole : AreWholeArrays (joined_arrays f)) (served : AreServed a b f.state.joined) (now : AreNow a f.state.joined (arrays_held f)) where
-  alike : (n : ℕ) → n < f.state.joined → within_sectors a (arrays_held f) n ≡ held_in (joined_arrays f) n
+  alike : (n : ℕ) → n < f.state.joined → within_sectors a (arrays_held f) n ≡ shown_in (joined_arrays f) n
   alike n low =
       let upto : ℕ → ℕ → List ℕ = λ k s. if nat_lt s k then arrays_held f n s else [] in
       ap upto (sizes n low)
@@ -82,11 +89,11 @@ module _ (f : Found) (a b : Seen) (sizes : (n : ℕ) → n < f.state.joined → 
         group = means.group;
         group_is =
             sym (group_alike (joined_arrays f) whole)
-            ∙ sym (group_same f.state.pool.0 f.state.extent f.state.joined a.sectors (array_sectors f) sizes (within_sectors a (arrays_held f)) (held_in (joined_arrays f)) alike)
+            ∙ sym (group_same f.state.pool.0 f.state.extent f.state.joined a.sectors (array_sectors f) sizes (within_sectors a (arrays_held f)) (shown_in (joined_arrays f)) alike)
             ∙ means.found;
         sound =
             sym (bad_alike (joined_arrays f) whole)
-            ∙ sym (bad_same f.state.pool.0 f.state.extent f.state.joined a.sectors (array_sectors f) sizes (within_sectors a (arrays_held f)) (held_in (joined_arrays f)) alike)
+            ∙ sym (bad_same f.state.pool.0 f.state.extent f.state.joined a.sectors (array_sectors f) sizes (within_sectors a (arrays_held f)) (shown_in (joined_arrays f)) alike)
             ∙ means.sound;
         linear = means.volume;
       }
@@ -94,7 +101,7 @@ module _ (f : Found) (a b : Seen) (sizes : (n : ℕ) → n < f.state.joined → 
   pub refused_means : (n : ℕ) → IsBadVolume f.state.pool.0 f.state.extent f.state.joined a b n → meant.first_bad (joined_arrays f) ≡ Some n
   refused_means n bad =
       sym (bad_alike (joined_arrays f) whole)
-      ∙ sym (bad_same f.state.pool.0 f.state.extent f.state.joined a.sectors (array_sectors f) sizes (within_sectors a (arrays_held f)) (held_in (joined_arrays f)) alike)
+      ∙ sym (bad_same f.state.pool.0 f.state.extent f.state.joined a.sectors (array_sectors f) sizes (within_sectors a (arrays_held f)) (shown_in (joined_arrays f)) alike)
       ∙ bad.bad_in (arrays_held f) served now
 
 -- each sector of the volume holds what the meaning's volume does
@@ -122,3 +129,56 @@ volume_holds f a b l of orderly inside writes told values =
           ∙ sym (shows l (arrays_held f) 0 s low)
           ∙ ap (λ (m : Linear). contents_of m (arrays_held f) 0 s) of.linear;
     }
+
+-- ---- on the arrays that an opening has made
+
+module _ {R : Type 0} (seen : R → Seen) (runs : R → R → Type 0) (f : Found) (a : Seen) (x : RaidRack R)
+    (holds : HoldsArrays f (raid_in x) a (slices_seen seen x)) (fresh : (n : ℕ) → refused_in x n ≡ 0) where
+  book : IsSameBook f.state (raid_in x).state
+  book = holds.after.same
+
+  sizes : (n : ℕ) → n < f.state.joined → (raid_seen seen x).sectors n ≡ array_sectors f n
+  sizes n low = holds.sectors n low
+
+  whole : AreWholeArrays (joined_arrays f)
+  whole = record { whole = λ n low s inside. holds.whole n s low; room = λ n low. let room = holds.room n low in omega (arith, room) }
+
+  -- nothing is refused where no sector is spent in the end
+  served : (y : RaidRack R) → AreRuns seen runs x y → AllLive (raid_in y) → AreServed (raid_seen seen x) (raid_seen seen y) f.state.joined
+  served y kept alive n low rose =
+      let joined : (raid_in y).state.joined ≡ f.state.joined = kept.1.book.same.joined ∙ book.joined in
+      let same : refused_in y n ≡ refused_in x n = kept.2.refused n (λ s inside. alive n s (subst (λ k. n < k) (sym joined) low) inside) in
+      let none = fresh n in
+      elim rose [
+        | inl more ↦ omega (arith, more, same)
+        | inr last ↦ omega (arith, last, same, none)
+      ]
+
+  now : AreNow (raid_seen seen x) f.state.joined (arrays_held f)
+  now n low = record {
+    told = holds.told n low;
+    current = λ s inside alive. holds.values n s (held_in (raid_in x) (slices_seen seen x) n s).current low alive (inl refl);
+  }
+
+  pub volume_opened : (y : RaidRack R) (l : Linear) (seqno : ℕ) → OpensVolume seen runs x y l seqno → IsOrderly l → IsInside l (raid_seen seen y)
+      → AllLive (raid_in y) → (of : IsVolumeOf f l) × HoldsVolume (volume_of l (raid_seen seen y)) (volume_by (linear_of (joined_arrays f) of.group) (arrays_held f))
+  volume_opened y l seqno opens orderly inside alive =
+      let p = raid_seen seen x in
+      let q = raid_seen seen y in
+      let found : Opens f.state.pool.0 f.state.extent f.state.joined p q l seqno =
+      subst (λ k. Opens f.state.pool.0 f.state.extent k p q l seqno) book.joined
+      (subst (λ k. Opens f.state.pool.0 k (raid_in x).state.joined p q l seqno) book.extent
+      (subst (λ (k : Id). Opens k.0 (raid_in x).state.extent (raid_in x).state.joined p q l seqno) book.pool opens.opens)) in
+      let of = opened_means f p q sizes whole (served y opens.kept alive) now l seqno found in
+      (of, volume_holds f p q l of orderly inside (subst (λ k. WritesOnly p q (IsBefore k)) book.joined opens.brings.writes) holds.told
+      (λ n s u low live may. holds.values n s u low live may))
+
+  pub volume_refused : (y : RaidRack R) (n : ℕ) → IsBadVolume (raid_in x).state.pool.0 (raid_in x).state.extent (raid_in x).state.joined (raid_seen seen x) (raid_seen seen y) n
+      → AreRuns seen runs x y → AllLive (raid_in y) → meant.first_bad (joined_arrays f) ≡ Some n
+  volume_refused y n bad kept alive =
+      let p = raid_seen seen x in
+      let q = raid_seen seen y in
+      refused_means f p q sizes whole (served y kept alive) now n
+      (subst (λ k. IsBadVolume f.state.pool.0 f.state.extent k p q n) book.joined
+      (subst (λ k. IsBadVolume f.state.pool.0 k (raid_in x).state.joined p q n) book.extent
+      (subst (λ (k : Id). IsBadVolume k.0 (raid_in x).state.extent (raid_in x).state.joined p q n) book.pool bad)))

@@ -1,5 +1,5 @@
 -- What a pool's arrays hold where its disks are told.
-use Rattle.std.specs.Prelude.{◌≡◌, ℕ, ◌<◌, ◌&&◌, nat_lt, Bool, true, false, List, [], length, Option, Some, None}
+use Rattle.std.specs.Prelude.{◌≡◌, ℕ, ◌<◌, ◌≤◌, ◌&&◌, nat_lt, Bool, true, false, List, [], length, Option, Some, None}
 use Rattle.rack.specs.Values.{MayLeave, Values, only}
 use Rattle.rack.specs.Seen.{Seen}
 use Rattle.rack.specs.Moments.{Leaves}

@@ -12,6 +12,8 @@ ghost use Rattle.pool_check.specs.Checking.{IsChecked};
 ghost use Rattle.pool_check.specs.Drives.{seats_by};
 ghost use Rattle.pool_check.specs.Refusing.{is_well};
 ghost use Rattle.pool_image.specs.Drives.{Found};
+ghost use Rattle.commit_log.specs.View.{names};
+ghost use Rattle.pool_scan.specs.Choosing.{seat_by};
 ghost use Rattle.pool_scan.specs.Scanning.{IsUnfaulted};
 ghost use Rattle.pool_rest.specs.Standing.{IsLaid};
 ghost use Rattle.assembler.specs.Holding.{HoldPool, IsFoundOn};

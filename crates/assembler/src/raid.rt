@@ -9,7 +9,7 @@ ghost use Rattle.commit_log.specs.View.{names};
 ghost use Rattle.commit_log.specs.Phases.{AreLogs};
 ghost use Rattle.array_model.specs.View.{View, IsArray, sectors_of};
 ghost use Rattle.lvm_group.specs.Shown.{total};
-ghost use Rattle.raid_rack.specs.RaidRack.{IsFit, SliceRuns, arrays_in, raid_in, raid_seen, slices_in, slices_seen};
+ghost use Rattle.raid_rack.specs.RaidRack.{IsFit, SliceRuns, arrays_in, raid_in, raid_seen, refused_in, slices_in, slices_seen};
 ghost use Rattle.commit_log.specs.Opening.{ReplayCall};
 ghost use Rattle.pool_image.specs.Drives.{Found};
 ghost use Rattle.pool_scan.specs.Scanning.{IsUnfaulted};
@@ -65,6 +65,7 @@ pub(crate) fn make_rack<R: Rack>(members: Members<R>, seconds: u64) -> RaidRack<
     requires members { AreMembers members.state (tables members.slices) (R.seen (below_of members.slices)) members.checked members.absent.items }
     ensures fit { IsFit (arrays_in result) (slices_seen R.seen result) }
     ensures runs { SliceRuns R.seen R.runs members.slices (slices_in result) }
+    ensures fresh { (n : ℕ) → refused_in result n ≡ 0 }
     ensures made { (raid_in result).state.made ≡ members.state.made }
     ensures joined { (raid_in result).state.joined ≡ members.state.joined }
     ensures extent { (raid_in result).state.extent ≡ members.state.extent }

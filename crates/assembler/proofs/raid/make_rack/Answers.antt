@@ -144,3 +144,6 @@ returns-clause-holds g c f holds found quiet =
         let second = subst (λ k. SliceRuns g.R.Rack.seen g.R.Rack.runs k (slices_in c.mark_gone.new.self)) c.new-raid.ensures.slices c.mark_gone.ensures.runs in
         let inside = subst (λ u. IsInside u (g.R.Rack.seen (below_of c.close_gates-gone.new.slices))) (sym first.tables) (inside_still early members.fit.1) in
         (second.apart early.fit inside).stays.faults (disk_of (tables c.args.members.slices) d)
+
+pub returns-clause-fresh : goal.returns-clause-fresh
+returns-clause-fresh g c n = c.mark_gone.ensures.refused n ∙ c.new-raid.ensures.refused n
