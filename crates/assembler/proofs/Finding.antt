@@ -27,7 +27,7 @@ use Rattle.pool_check.proofs.Meant.{drives_now, found_is}
 use Rattle.raid_rack.proofs.Noted.{current_few}
 use Rattle.assembler.specs.Holding.{HoldPool, IsFoundOn, IsPoolOn, drives_of}
 
-some_same : {X : Type 0} (a b : X) → Some a ≡ Some b → a ≡ b
+pub some_same : {X : Type 0} (a b : X) → Some a ≡ Some b → a ≡ b
 some_same a b same = cc
 
 module _ (x : Seen) (known : List Known) (s : State) (t : Slices) (on : List ℕ) (l : LogView) (is_pending : Bool) (damaged : Option ℕ) where

@@ -1,6 +1,8 @@
+mod Alive
 mod Amid
 mod Arrays
 mod Copied
+mod Entry
 mod Finding
 mod Holding
 mod Later
