@@ -3,9 +3,8 @@ use Rattle.std.proofs.Common.{◌≡◌, ℕ, ◌<◌, Bool, true, false, List, 
 use Rattle.std.specs.Option.{option_map_or}
 use Rattle.rack.specs.Seen.{Seen, Stays}
 use Rattle.rack.specs.Joins.{rose_before, rose_since}
-use Rattle.slice_rack.specs.Slices.{Slices}
+use Rattle.slice_rack.specs.SliceRack.{below_of, tables}
 use Rattle.pool_state.specs.declared.contents.State.{State}
-use Rattle.commit_log.specs.View.{LogView}
 use Rattle.lvm_text.specs.declared.group.Group.{Group}
 use Rattle.pool_image.specs.Disks.{Disks, disks_of, identities_of}
 use Rattle.pool_image.specs.Drives.{Found, found}
@@ -15,14 +14,14 @@ use Rattle.pool_image.specs.Volumes.{linear_of}
 use Rattle.pool_image.specs.Alike.{IsSamePool, MeansTheSame}
 use Rattle.pool_image.proofs.Founds.{truths_same}
 use Rattle.pool_image.proofs.SoundSame.{sound_same}
-use Rattle.pool_scan.specs.declared.Known.{Known}
 use Rattle.pool_scan.specs.Choosing.{AreOf}
 use Rattle.pool_scan.specs.Scanning.{AllTold, IsUnfaulted, now_in}
 use Rattle.pool_scan.proofs.Meant.{scan_meant}
+use Rattle.pool_rest.specs.declared.resting.AtRest.{AtRest}
 use Rattle.pool_rest.specs.Resting as resting
 use Rattle.pool_rest.specs.Resting.{StandsNow}
-use Rattle.pool_rest.specs.SoundLogs.{IsSettled}
-use Rattle.pool_rest.specs.Standing.{FindsAll, IsNewest, since}
+use Rattle.pool_rest.specs.SoundLogs.{HasSoundLogs, IsSettled}
+use Rattle.pool_rest.specs.Standing.{FindsAll, IsLasting, IsNewest, since}
 use Rattle.assembler.specs.Holding.{IsFoundOn, IsSoundPool}
 use Rattle.assembler.specs.Sound.{HoldSound}
 use Rattle.assembler.specs.Volume.{IsVolumeOf}
@@ -36,12 +35,55 @@ quiet_first a b c stays quiet d rose = quiet d (rose_before (stays.faults d) ros
 pub quiet_last : (a b c : Seen) → Stays a b → IsUnfaulted a c → IsUnfaulted b c
 quiet_last a b c stays quiet d rose = quiet d (rose_since (stays.faults d) rose)
 
-module _ (a x : Seen) (known : List Known) (s : State) (t : Slices) (on : List ℕ) (l : LogView) (is_pending : Bool) (damaged : Option ℕ) (e : Found)
-    (sound : HoldSound a e) (stays : Stays a x) (quiet : IsUnfaulted a x) (newest : IsNewest (since a x) x known s) (stands : StandsNow x s l is_pending damaged)
-    (settled : IsSettled a x s is_pending damaged) (steady : resting.AreSteady x) (finds : FindsAll x t on l is_pending damaged)
-    (single : has_other_pool (disks_of x) (standing_by (disks_of x) (now_in x) s) ≡ false) where
+-- What an opening knows of a pool that was brought to rest, where the disks held a sound one and none refused a call.
+pub record IsRested {R : Type 0} (seen : R → Seen) (a : Seen) (rest : AtRest R) : Type 0 where
+  pub stays : Stays a (seen (below_of rest.slices))
+  pub quiet : IsUnfaulted a (seen (below_of rest.slices))
+  pub newest : IsNewest (since a (seen (below_of rest.slices))) (seen (below_of rest.slices)) rest.scan.disks.items rest.state
+  pub stands : StandsNow (seen (below_of rest.slices)) rest.state rest.log rest.pending rest.damaged
+  pub settled : IsSettled a (seen (below_of rest.slices)) rest.state rest.pending rest.damaged
+  pub steady : resting.AreSteady (seen (below_of rest.slices))
+  pub finds : FindsAll (seen (below_of rest.slices)) (tables rest.slices) rest.on.items rest.log rest.pending rest.damaged
+  pub single :
+      has_other_pool (disks_of (seen (below_of rest.slices)))
+      (standing_by (disks_of (seen (below_of rest.slices))) (now_in (seen (below_of rest.slices))) rest.state) ≡ false
+
+pub rested_so : {R : Type 0} (seen : R → Seen) (a : Seen) (rest : AtRest R) (e : Found) (sound : HoldSound a e)
+    → Stays a (seen (below_of rest.slices)) → IsUnfaulted a (seen (below_of rest.slices))
+    → (AllTold a → IsLasting a → IsNewest (since a (seen (below_of rest.slices))) (seen (below_of rest.slices)) rest.scan.disks.items rest.state)
+    → (AllTold a → IsLasting a → IsUnfaulted a (seen (below_of rest.slices)) → StandsNow (seen (below_of rest.slices)) rest.state rest.log rest.pending rest.damaged)
+    → (AllTold a → IsLasting a → IsUnfaulted a (seen (below_of rest.slices)) → HasSoundLogs (disks_of a) (now_in a)
+    → IsSettled a (seen (below_of rest.slices)) rest.state rest.pending rest.damaged)
+    → (AllTold a → IsLasting a → IsUnfaulted a (seen (below_of rest.slices)) → resting.AreSingle a → resting.AreSectors a → resting.AreSteady (seen (below_of rest.slices)))
+    → (AllTold a → IsLasting a → IsUnfaulted a (seen (below_of rest.slices))
+    → FindsAll (seen (below_of rest.slices)) (tables rest.slices) rest.on.items rest.log rest.pending rest.damaged)
+    → (AllTold a → IsLasting a → IsUnfaulted a (seen (below_of rest.slices))
+    → has_other_pool (disks_of (seen (below_of rest.slices)))
+    (standing_by (disks_of (seen (below_of rest.slices))) (now_in (seen (below_of rest.slices))) rest.state) ≡ false)
+    → IsRested seen a rest
+rested_so seen a rest e sound stays quiet newest stands settled steady finds single =
+    let told = sound.steady.told in
+    let lasts = sound.steady.lasts in
+    record {
+      stays = stays;
+      quiet = quiet;
+      newest = newest told lasts;
+      stands = stands told lasts quiet;
+      settled = settled told lasts quiet sound.logs;
+      steady = steady told lasts quiet sound.steady.single sound.steady.sized;
+      finds = finds told lasts quiet;
+      single = single told lasts quiet;
+    }
+
+module _ {R : Type 0} (seen : R → Seen) (a : Seen) (rest : AtRest R) (e : Found) (sound : HoldSound a e) (rested : IsRested seen a rest) where
+  abbrev x : Seen
+  x = seen (below_of rest.slices)
+
+  abbrev stays : Stays a x
+  stays = rested.stays
+
   abbrev means : MeansTheSame (disks_of a) (now_in a) (now_in x)
-  means = settled.means
+  means = rested.settled.means
 
   -- the pool now
   abbrev pub f : Found
@@ -62,7 +104,7 @@ module _ (a x : Seen) (known : List Known) (s : State) (t : Slices) (on : List �
     own = λ n u low is. sound.sound.own n u (subst (λ (k : State). n < k.made) pool.state low) (sym (truths_same e f pool n) ∙ is);
   }
 
-  pub rest_found : IsFoundOn x known s t on l is_pending damaged f
+  pub rest_found : IsFoundOn x rest.scan.disks.items rest.state (tables rest.slices) rest.on.items rest.log rest.pending rest.damaged f
   rest_found = record {
     steady = record {
       told = told;
@@ -70,14 +112,14 @@ module _ (a x : Seen) (known : List Known) (s : State) (t : Slices) (on : List �
         lasting = stays.lasting sound.steady.lasts.lasting;
         unspent = λ d u. stays.lasts sound.steady.lasts.lasting d u (sound.steady.lasts.unspent d u);
       };
-      single = steady.single;
-      sized = steady.sized;
+      single = rested.steady.single;
+      sized = rested.steady.sized;
     };
     found_is = subst (λ (k : Disks). found k (now_in x) ≡ Some f) disks_same means.found_now;
-    scan = scan_meant (since a x) x known newest.scan told quiet;
-    stands = stands;
-    finds = finds;
-    rested = settled.idle;
+    scan = scan_meant (since a x) x rest.scan.disks.items rested.newest.scan told rested.quiet;
+    stands = rested.stands;
+    finds = rested.finds;
+    rested = rested.settled.idle;
     sound = sound_now;
   }
 
@@ -86,7 +128,8 @@ module _ (a x : Seen) (known : List Known) (s : State) (t : Slices) (on : List �
   refusal_entry =
       sym means.refusal
       ∙ ap (λ (k : Disks). refusal_of k (now_in x)) disks_same
-      ∙ refusal_is x known s t on l is_pending damaged f rest_found settled.whole single
+      ∙ refusal_is x rest.scan.disks.items rest.state (tables rest.slices) rest.on.items rest.log rest.pending rest.damaged f rest_found
+      rested.settled.whole rested.single
 
   -- and where nothing is, they mean the volume of the pool's group
   pub meaning_entry : refused_by f ≡ None → (l : _) (of : IsVolumeOf f l) → meaning (disks_of a) (now_in a) ≡ Some (volume_by (linear_of (joined_arrays f) of.group) (arrays_held f) ∷ [])

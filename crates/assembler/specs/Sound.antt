@@ -10,7 +10,7 @@ use Rattle.pool_rest.specs.SoundLogs.{HasSoundLogs}
 use Rattle.raid_rack.specs.declared.arrays.RaidRack.{RaidRack}
 use Rattle.raid_rack.specs.RaidRack.{raid_in, slices_in}
 use Rattle.assembler.specs.declared.refusal.Refusal.{Refusal}
-use Rattle.assembler.specs.declared.refusal.Refusal.TheVariants.{Memory}
+use Rattle.assembler.specs.declared.refusal.Refusal.TheVariants.{Memory, TwoPools}
 use Rattle.assembler.specs.Holding.{AreSteady, IsSoundPool}
 use Rattle.assembler.specs.Refusing.{meant_by}
 use Rattle.assembler.specs.Volume.{AllLive, HoldsVolume}
@@ -35,6 +35,11 @@ pub record RanOut {R : Type 0} (rack : R) : Type 0 where
   pub back : below_of (slices_in last) ≡ rack
   pub spent : AllLive (raid_in last) → ⊥
 
--- Why disks are refused: memory ran out, or their meaning is refused so, or the arrays came to their end.
-abbrev pub IsMeantRefusal : {R : Type 0} → Seen → R → Refusal → Type 0
-IsMeantRefusal x rack why = (why ≡ Memory) ⊎ ((refusal_of (disks_of x) (now_in x) ≡ meant_by why) ⊎ RanOut rack)
+-- Why disks are refused: memory ran out, or their meaning is refused so, before the pending record is written or after it, or the arrays
+-- came to their end.
+abbrev pub IsMeantRefusal : {R : Type 0} → Seen → Seen → R → Refusal → Type 0
+IsMeantRefusal x y rack why =
+    (why ≡ Memory)
+    ⊎ ((refusal_of (disks_of x) (now_in x) ≡ meant_by why)
+    ⊎ (((why ≡ TwoPools) × (refusal_of (disks_of y) (now_in y) ≡ meant_by why))
+    ⊎ RanOut rack))

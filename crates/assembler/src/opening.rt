@@ -7,8 +7,11 @@ ghost use Rattle.assembler.specs.Refusing.{is_early};
 ghost use Rattle.slice_rack.specs.SliceRack.{below_of};
 ghost use Rattle.lvm_group.specs.Shown.{total, volume_of};
 ghost use Rattle.lvm_group.specs.Volume.{below_of as rack_in, linear, seqno_of};
-ghost use Rattle.assembler.specs.Volume.{OpensVolume, RefusesVolume};
-ghost use Rattle.raid_rack.specs.RaidRack.{IsFit, SliceRuns, arrays_in, raid_in, raid_seen, slices_in, slices_seen};
+ghost use Rattle.assembler.specs.Sound.{HoldSound, IsMeantBy, IsMeantRefusal};
+ghost use Rattle.assembler.specs.Volume.{AllLive, OpensVolume, RefusesVolume};
+ghost use Rattle.pool_image.specs.Drives.{Found};
+ghost use Rattle.pool_scan.specs.Scanning.{IsUnfaulted};
+ghost use Rattle.raid_rack.specs.RaidRack.{IsFit, arrays_in, raid_in, raid_seen, slices_in, slices_seen};
 ghost use Rattle.array_model.specs.View.{sectors_of};
 
 use crate::checks::check;
@@ -64,6 +67,12 @@ pub fn assemble<R: Rack>(
     ensures runs { IfOk result (λ volume. R.runs rack (below_of (slices_in (rack_in volume)))) }
     // Until the drives have passed their checks nothing is written but the pending record, on drives of the pool.
     ensures early { IfErr result (λ back. is_early back.why ≡ true → OnlyReads (R.seen rack) (R.seen back.rack) ⊎ WritesDrives (R.seen rack) (R.seen back.rack)) }
+    // Where the disks hold a sound pool and none refuses a call, the volume is the one that they mean; it is refused only as their
+    // meaning is, or for want of memory. Both hold as long as the arrays have no spent sector.
+    ensures meant { IfOk result (λ volume. (f : Found) → HoldSound (R.seen rack) f → IsUnfaulted (R.seen rack) (R.seen (below_of (slices_in (rack_in volume))))
+        → AllLive (raid_in (rack_in volume)) → IsMeantBy (R.seen rack) (volume_of (linear volume) (raid_seen R.seen (rack_in volume)))) }
+    ensures exact { IfErr result (λ back. (f : Found) → HoldSound (R.seen rack) f → IsUnfaulted (R.seen rack) (R.seen back.rack)
+        → IsMeantRefusal (R.seen rack) (R.seen back.rack) back.rack back.why) }
     ensures returned { IfErr result (λ back. R.runs rack back.rack) }
 {
     let rest = match bring_to_rest(alloc, rack) {

@@ -1,11 +1,21 @@
-use Rattle.slice_rack.specs.SliceRack.{below_of}
+use Rattle.slice_rack.specs.SliceRack.{below_of, tables}
+use Rattle.slice_rack.specs.Sliced.{slices_of}
 use Rattle.raid_rack.specs.RaidRack.{slices_in}
-use Rattle.std.proofs.Common.{◌⊎◌, inr}
+use Rattle.std.proofs.Common.{◌⊎◌, option_map, inl, inr, sym, ap, subst, ◌∙◌}
 use Rattle.std.proofs.lemmas.Bool.{both_ways}
+use Rattle.rack.specs.Seen.{Seen, Stays}
+use Rattle.rack.specs.Joins.{stays_then}
 use Rattle.rack.specs.Sequences.{OnlyReads}
+use Rattle.lvm_group.specs.Volume.{below_of as rack_in, linear, seqno_of}
+use Rattle.pool_image.specs.Meaning.{arrays_held, bad_volume, joined_arrays, volume_by}
+use Rattle.pool_image.specs.Volumes.{linear_of}
+use Rattle.pool_scan.specs.Scanning.{IsUnfaulted}
 use Rattle.pool_rest.specs.Resting.{WritesDrives}
 use Rattle.assembler.specs.Refusing.{is_early}
 use Rattle.assembler.proofs.Written.{writes_then_reads}
+use Rattle.assembler.proofs.Entry.{meaning_entry, quiet_first, quiet_last, refusal_entry, rest_found, rested_so}
+use Rattle.assembler.proofs.Meaning.{check_fails, check_passes}
+use Rattle.assembler.proofs.Volumes.{volume_opened, volume_why}
 use Rattle.assembler.proofs.opening.assemble.Goals as goal
 
 pub returns-in-Ok-open_volume-clause-runs : goal.returns-in-Ok-open_volume-clause-runs
@@ -28,3 +38,87 @@ returns-in-Err-check-clause-early g c early = inr (writes_then_reads _ _ _ c.in-
 
 pub returns-in-Err-open_volume-clause-early : goal.returns-in-Err-open_volume-clause-early
 returns-in-Err-open_volume-clause-early g c early = absurd (both_ways (is_early c.in-Err-open_volume.back.why) c.in-Err-open_volume.ensures.late early)
+
+pub returns-in-Ok-open_volume-clause-meant : goal.returns-in-Ok-open_volume-clause-meant
+returns-in-Ok-open_volume-clause-meant g c e sound quiet alive =
+    let seen = g.R.Rack.seen in
+    let a : Seen = seen c.args.rack in
+    let rest = c.in-Ok.rest in
+    let x : Seen = seen (below_of rest.slices) in
+    let m = c.in-Ok-check.members in
+    let y : Seen = seen (below_of m.slices) in
+    let raid = c.make_rack.result in
+    let z : Seen = seen (below_of (slices_in raid)) in
+    let volume = c.in-Ok-open_volume.volume in
+    let w : Seen = seen (below_of (slices_in (rack_in volume))) in
+    let opens = c.in-Ok-open_volume.ensures.opens in
+    let inside = c.make_rack.ensures.fit.running.set.fit in
+    let ax : Stays a x = c.in-Ok.ensures.only.only.stays in
+    let xy : Stays x y = c.in-Ok-check.ensures.only.stays in
+    let yz : Stays y z = (c.make_rack.ensures.runs.apart c.in-Ok-check.ensures.members.fit.0 c.in-Ok-check.ensures.members.fit.1).stays in
+    let to_z : IsUnfaulted a z = quiet_first a z w (opens.kept.0.apart inside.0 inside.1).stays quiet in
+    let to_y : IsUnfaulted a y = quiet_first a y z yz to_z in
+    let to_x : IsUnfaulted a x = quiet_first a x y xy to_y in
+    let rested = rested_so seen a rest e sound ax to_x c.in-Ok.ensures.newest c.in-Ok.ensures.stands c.in-Ok.ensures.settled c.in-Ok.ensures.steady c.in-Ok.ensures.looked c.in-Ok.ensures.single in
+    let f = rested.settled.means.now in
+    let found = rest_found seen a rest e sound rested in
+    let checked = c.in-Ok-check.ensures.holds f found (λ p d named seat. to_x d (c.in-Ok.ensures.gone p d named seat)) (quiet_last a x y ax to_y) in
+    let arrays = c.make_rack.ensures.holds f checked.0 checked.1 (λ none. quiet_last a y z (stays_then ax xy) to_z) in
+    let held = volume_opened seen g.R.Rack.runs f (slices_of (tables m.slices) y) raid arrays c.make_rack.ensures.fresh (rack_in volume) (linear volume) (seqno_of volume) opens
+    volume.orderly c.in-Ok-open_volume.ensures.fit.1 alive in
+    let none = check_passes x rest.scan.disks.items rest.state (tables rest.slices) rest.on.items rest.log rest.pending rest.damaged f found rested.settled.whole m.checked checked.1
+    ∙ ap (option_map bad_volume) held.0.sound in
+    record {
+      volume = volume_by (linear_of (joined_arrays f) held.0.group) (arrays_held f);
+      meant = meaning_entry seen a rest e sound rested none (linear volume) held.0;
+      holds = held.1;
+    }
+
+pub returns-in-Err-check-clause-exact : goal.returns-in-Err-check-clause-exact
+returns-in-Err-check-clause-exact g c e sound quiet =
+    let seen = g.R.Rack.seen in
+    let a : Seen = seen c.args.rack in
+    let rest = c.in-Ok.rest in
+    let x : Seen = seen (below_of rest.slices) in
+    let back = c.in-Err-check.back in
+    let y : Seen = seen back.rack in
+    let ax : Stays a x = c.in-Ok.ensures.only.only.stays in
+    let to_x : IsUnfaulted a x = quiet_first a x y c.in-Err-check.ensures.kept.stays quiet in
+    let rested = rested_so seen a rest e sound ax to_x c.in-Ok.ensures.newest c.in-Ok.ensures.stands c.in-Ok.ensures.settled c.in-Ok.ensures.steady c.in-Ok.ensures.looked c.in-Ok.ensures.single in
+    let f = rested.settled.means.now in
+    let found = rest_found seen a rest e sound rested in
+    elim (check_fails x rest.scan.disks.items rest.state (tables rest.slices) rest.on.items rest.log rest.pending rest.damaged f found rested.settled.whole y rest.gone.items back.why
+    c.in-Ok.ensures.valid (λ p d named seat. to_x d (c.in-Ok.ensures.gone p d named seat)) (quiet_last a x y ax quiet) c.in-Err-check.ensures.refused) [
+      | inl is ↦ inr (inl (refusal_entry seen a rest e sound rested ∙ is))
+      | inr memory ↦ inl memory
+    ]
+
+pub returns-in-Err-open_volume-clause-exact : goal.returns-in-Err-open_volume-clause-exact
+returns-in-Err-open_volume-clause-exact g c e sound quiet =
+    let seen = g.R.Rack.seen in
+    let a : Seen = seen c.args.rack in
+    let rest = c.in-Ok.rest in
+    let x : Seen = seen (below_of rest.slices) in
+    let m = c.in-Ok-check.members in
+    let y : Seen = seen (below_of m.slices) in
+    let raid = c.make_rack.result in
+    let z : Seen = seen (below_of (slices_in raid)) in
+    let back = c.in-Err-open_volume.back in
+    let refused = c.in-Err-open_volume.ensures.refused in
+    let w : Seen = seen (below_of (slices_in refused.last)) in
+    let inside = c.make_rack.ensures.fit.running.set.fit in
+    let ax : Stays a x = c.in-Ok.ensures.only.only.stays in
+    let xy : Stays x y = c.in-Ok-check.ensures.only.stays in
+    let yz : Stays y z = (c.make_rack.ensures.runs.apart c.in-Ok-check.ensures.members.fit.0 c.in-Ok-check.ensures.members.fit.1).stays in
+    let to_w : IsUnfaulted a w = subst (λ r. IsUnfaulted a (seen r)) (sym refused.back) quiet in
+    let to_z : IsUnfaulted a z = quiet_first a z w (refused.kept.0.apart inside.0 inside.1).stays to_w in
+    let to_y : IsUnfaulted a y = quiet_first a y z yz to_z in
+    let to_x : IsUnfaulted a x = quiet_first a x y xy to_y in
+    let rested = rested_so seen a rest e sound ax to_x c.in-Ok.ensures.newest c.in-Ok.ensures.stands c.in-Ok.ensures.settled c.in-Ok.ensures.steady c.in-Ok.ensures.looked c.in-Ok.ensures.single in
+    let f = rested.settled.means.now in
+    let found = rest_found seen a rest e sound rested in
+    let checked = c.in-Ok-check.ensures.holds f found (λ p d named seat. to_x d (c.in-Ok.ensures.gone p d named seat)) (quiet_last a x y ax to_y) in
+    let arrays = c.make_rack.ensures.holds f checked.0 checked.1 (λ none. quiet_last a y z (stays_then ax xy) to_z) in
+    volume_why seen g.R.Rack.runs f (slices_of (tables m.slices) y) raid arrays c.make_rack.ensures.fresh a (seen back.rack) back.rack back.why refused
+    (refusal_entry seen a rest e sound rested
+    ∙ check_passes x rest.scan.disks.items rest.state (tables rest.slices) rest.on.items rest.log rest.pending rest.damaged f found rested.settled.whole m.checked checked.1)
