@@ -47,8 +47,9 @@
 //! further. It is a part of a call that writes no value (`Brings`): each array gives its values, by the array before the step or after
 //! it. One lemma (`step_brings`) carries any step of `array_sync` along (`Steps`), where what it makes is an array of the pool
 //! (`IsNext`). A row is resynced (`ResyncsOne`) exactly where it can be once losses are mended, and where that is answered no image
-//! leaves it any more. A row of a member is rebuilt (`RebuildsOne`) where that is answered, and refused only where it can't be. The end of a plan (`ClosesPlan`) is a commit of the
-//! state's copies alone. A work is one of these three (`Does`), where it is due (`is_due`).
+//! leaves it any more. A row of a member is rebuilt (`RebuildsOne`) where that is answered, and refused only where it can't be. The
+//! end of a plan (`ClosesPlan`) is a commit of the state's copies alone. A work is one of these three (`Does`), where it is due
+//! (`is_due`).
 //!
 //! **What never falls.** Epochs, events and log numbers rise by a bounded number in a call (`RaisesBy`), and the slices of a drive
 //! that is marked missing stay as they are (`KeepsMarked`).
