@@ -64,6 +64,13 @@ impl Array {
         self.resync
     }
 
+    /// Whether it is young: made anew, and not given to the volume yet. Its rows are left to zero, and none to resync.
+    pub fn is_young(&self) -> bool
+        ensures { result ≡ self.now.young }
+    {
+        self.young
+    }
+
     /// The places that answered `Gone` since they were last heeded, in order. They are below 16.
     pub fn went(&self) -> &Places
         ensures places { result.now.items ≡ self.now.went }

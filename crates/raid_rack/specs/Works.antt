@@ -3,8 +3,11 @@ use Rattle.std.specs.Prelude.{◌≡◌, ℕ, ◌-◌, ◌/◌, ◌%◌, ◌<◌
 use Rattle.std.specs.Option.{option_map_or}
 use Rattle.rack.specs.Values.{Values}
 use Rattle.rack.specs.Seen.{Seen}
-use Rattle.pool_state.specs.declared.contents.Plan.TheVariants.{Nothing}
+use Rattle.pool_state.specs.declared.contents.Plan.{Plan}
+use Rattle.pool_state.specs.declared.contents.Plan.TheVariants.{Nothing, Add, Replace}
 use Rattle.pool_state.specs.declared.contents.State.{State}
+use Rattle.pool_state.specs.declared.contents.Work.{Work}
+use Rattle.pool_state.specs.declared.contents.Work.TheVariants.{Resync, Rebuild, TakeOver, Begin, Reshape, Finish, Make, Zero, Ready, Extend, Close}
 use Rattle.array_model.specs.declared.Seat.{Seat}
 use Rattle.array_model.specs.declared.Seat.TheVariants.{Whole, Missing, Rebuilding}
 use Rattle.array_model.specs.View.{View, rows_of}
@@ -96,3 +99,53 @@ pub record ClosesPlan (v w : Raid) (a b : Seen) : Type 0 where
   pub heeded : IsHeeded w
   pub arrays : KeepsArrays v w
   pub plan : w.state.plan ≡ Nothing
+
+-- a plan that has to end
+abbrev pub is_plan : Plan → Bool
+is_plan Nothing = false
+is_plan (Add place) = true
+is_plan (Replace place) = true
+
+-- ---- any work
+
+-- a work is due: its array has such a row left, or the plan hasn't ended
+abbrev pub is_due : Raid → Work → Bool
+is_due v (Resync array) = has_row v array
+is_due v (Rebuild array place) = is_rebuilding v array place
+is_due v (TakeOver array) = false
+is_due v (Begin array place) = false
+is_due v (Reshape array) = false
+is_due v (Finish array) = false
+is_due v (Make array height) = false
+is_due v (Zero array) = false
+is_due v (Ready array) = false
+is_due v Extend = false
+is_due v Close = is_plan v.state.plan
+
+-- what a work does that is due, and whether it is answered to have been done
+abbrev pub Does : Work → Raid → Raid → Seen → Seen → Bool → Type 0
+Does (Resync array) v w a b answered = ResyncsOne v w a b array answered
+Does (Rebuild array place) v w a b answered = RebuildsOne v w a b array place answered
+Does (TakeOver array) v w a b answered = ⊥
+Does (Begin array place) v w a b answered = ⊥
+Does (Reshape array) v w a b answered = ⊥
+Does (Finish array) v w a b answered = ⊥
+Does (Make array height) v w a b answered = ⊥
+Does (Zero array) v w a b answered = ⊥
+Does (Ready array) v w a b answered = ⊥
+Does Extend v w a b answered = ⊥
+Does Close v w a b answered = (answered ≡ true) × ClosesPlan v w a b
+
+-- the array that a work belongs to
+abbrev pub array_of : Work → ℕ
+array_of (Resync array) = array
+array_of (Rebuild array place) = array
+array_of (TakeOver array) = array
+array_of (Begin array place) = array
+array_of (Reshape array) = array
+array_of (Finish array) = array
+array_of (Make array height) = array
+array_of (Zero array) = array
+array_of (Ready array) = array
+array_of Extend = 0
+array_of Close = 0

@@ -4,7 +4,8 @@
 //! for all of them: the loss is noted in each array, all arrays are settled on the drives that are left, and one commit has its
 //! mark and their superblocks. A [`RaidRack`] holds the arrays with their state, their log and the slices below. It is a rack of
 //! them over any rack of drives: disk n is array n. It loses a drive ([`RaidRack::lose`]), resyncs a row ([`RaidRack::resync`]),
-//! rebuilds one ([`RaidRack::rebuild`]), ends a plan ([`RaidRack::close`]) and ends a run ([`RaidRack::clean`]).
+//! rebuilds one ([`RaidRack::rebuild`]), ends a plan ([`RaidRack::close`]), does whichever of these a work asks for
+//! ([`RaidRack::work`]), and ends a run ([`RaidRack::clean`]).
 //!
 //! **Its model.** `Raid` is what contracts see of it: the state, each array's `View`, the number of the log. `raid_of` is the rack
 //! that it shows: disk n is array n, a sector is held where no loss spent it, what a stop leaves is what the slices say once their
@@ -24,7 +25,7 @@
 //! | `Cleaning` | arrays that are ended: settled, with superblocks that leave their rows and no others |
 //! | `RaidRack` | the model of the struct |
 //! | `Runs` | what calls in a row do to the book and to images: marks have their cause, and arrays that aren't written leave their rows |
-//! | `Works` | a step of maintenance of one array, rows that are resynced and rebuilt, the end of a plan |
+//! | `Works` | a step of maintenance of one array, rows that are resynced and rebuilt, the end of a plan, and any of these works |
 //! | `AllRuns` | the same, with what calls keep of the slices below |
 //! | `Laws` | what holds of the rack at any moment |
 //! | `Acts` | what a whole call does |
@@ -46,7 +47,9 @@
 //! further. It is a part of a call that writes no value (`Brings`): each array gives its values, by the array before the step or after
 //! it. One lemma (`step_brings`) carries any step of `array_sync` along (`Steps`), where what it makes is an array of the pool
 //! (`IsNext`). A row is resynced (`ResyncsOne`) exactly where it can be once losses are mended, and where that is answered no image
-//! leaves it any more. A row of a member is rebuilt (`RebuildsOne`) where that is answered, and refused only where it can't be. The end of a plan (`ClosesPlan`) is a commit of the state's copies alone.
+//! leaves it any more. A row of a member is rebuilt (`RebuildsOne`) where that is answered, and refused only where it can't be. The
+//! end of a plan (`ClosesPlan`) is a commit of the state's copies alone. A work is one of these three (`Does`), where it is due
+//! (`is_due`).
 //!
 //! **What never falls.** Epochs, events and log numbers rise by a bounded number in a call (`RaisesBy`), and the slices of a drive
 //! that is marked missing stay as they are (`KeepsMarked`).

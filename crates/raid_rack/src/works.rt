@@ -14,6 +14,7 @@ use crate::losses::{add_copies, note_gone};
 use crate::marks::{current_places, end_plan};
 use array_core::Seat;
 use array_sync::{lacks_row, rebuild_row, resync_row};
+use pool_state::{Plan, Work};
 use rack::Rack;
 
 /// Sectors of a chunk: a row of a member's data.
@@ -109,6 +110,13 @@ impl Arrays {
         answer.is_ok() && !self.is_ended()
     }
 
+    /// Whether a plan has to end.
+    fn has_plan(&self) -> bool
+        ensures { result ≡ spec.is_plan (raid_by self.now).state.plan }
+    {
+        is_plan(&self.state.plan)
+    }
+
     /// Ends the plan: one commit has the state without it, on the current places. Whoever goes is marked. Where no place is left, the
     /// plan ends in this run alone.
     fn end_plan<S: Rack>(&mut self, rack: &mut S)
@@ -129,6 +137,16 @@ impl Arrays {
         let gone = self.log.commit(rack, &on);
         note_gone(self.all.as_mut_slice(), &gone);
         self.mend(rack);
+    }
+}
+
+/// Whether a plan is one that has to end.
+fn is_plan(plan: &Plan) -> bool
+    ensures { result ≡ spec.is_plan plan.now }
+{
+    match *plan {
+        Plan::Nothing => false,
+        Plan::Add { .. } | Plan::Replace { .. } => true,
     }
 }
 
@@ -205,16 +223,55 @@ impl<R: Rack> RaidRack<R> {
         }
     }
 
-    /// Ends the pool's plan: its state says that none is left, durably where a drive is left. No value moves.
-    pub fn close(&mut self)
+    /// Ends the pool's plan: its state says that none is left, durably where a drive is left. No value moves. It is refused exactly
+    /// where the plan has ended already, and then nothing changes.
+    pub fn close(&mut self) -> Result<(), Stuck>
         requires fit { IsFit (arrays_in self.old) (slices_seen R.seen self.old) }
-        ensures closes { spec.ClosesPlan (raid_in self.old) (raid_in self.new) (slices_seen R.seen self.old) (slices_seen R.seen self.new) }
+        ensures idle { spec.is_plan (raid_in self.old).state.plan ≡ false → (is_ok result ≡ false) × (self.new ≡ self.old) }
+        ensures closes { spec.is_plan (raid_in self.old).state.plan ≡ true
+            → (is_ok result ≡ true) × spec.ClosesPlan (raid_in self.old) (raid_in self.new) (slices_seen R.seen self.old) (slices_seen R.seen self.new) }
+        ensures named { IfErr result (λ e. e.array ≡ 0) }
         ensures keeps { KeepsRack (raid_seen R.seen self.old) (raid_seen R.seen self.new) }
         ensures raises { RaisesBy 18 (raid_in self.old) (raid_in self.new) }
         ensures written { (n : ℕ) → written_in self.new n ≡ written_in self.old n }
         ensures runs { SliceRuns R.seen R.runs (slices_in self.old) (slices_in self.new) }
         ensures book { RaidRuns (written_in self.old) (written_in self.new) (raid_in self.old) (raid_in self.new) (slices_seen R.seen self.old) (slices_seen R.seen self.new) }
     {
+        if !self.arrays.has_plan() {
+            return Err(Stuck { array: 0 });
+        }
         self.arrays.end_plan(&mut self.slices);
+        Ok(())
+    }
+
+    /// Does a work of maintenance: resyncs or rebuilds one row of an array, or ends the plan. No value moves. It is refused where the
+    /// work isn't due, and then nothing changes: its array has no such row left, or the plan has ended. A row is refused too where it
+    /// can't be had once the losses of this call are marked. Works that make arrays, or change their level or the number of their
+    /// members, aren't due yet, and the volume isn't extended here. A refusal names the work's array, and 0 where it has none.
+    pub fn work(&mut self, work: &Work) -> Result<(), Stuck>
+        requires fit { IsFit (arrays_in self.old) (slices_seen R.seen self.old) }
+        ensures idle { spec.is_due (raid_in self.old) work.now ≡ false → (is_ok result ≡ false) × (self.new ≡ self.old) }
+        ensures does { spec.is_due (raid_in self.old) work.now ≡ true
+            → spec.Does work.now (raid_in self.old) (raid_in self.new) (slices_seen R.seen self.old) (slices_seen R.seen self.new) (is_ok result) }
+        ensures named { IfErr result (λ e. e.array ≡ spec.array_of work.now) }
+        ensures keeps { KeepsRack (raid_seen R.seen self.old) (raid_seen R.seen self.new) }
+        ensures raises { RaisesBy 18 (raid_in self.old) (raid_in self.new) }
+        ensures written { (n : ℕ) → written_in self.new n ≡ written_in self.old n }
+        ensures runs { SliceRuns R.seen R.runs (slices_in self.old) (slices_in self.new) }
+        ensures book { RaidRuns (written_in self.old) (written_in self.new) (raid_in self.old) (raid_in self.new) (slices_seen R.seen self.old) (slices_seen R.seen self.new) }
+    {
+        match *work {
+            Work::Resync { array } => self.resync(array),
+            Work::Rebuild { array, place } => self.rebuild(array, place),
+            Work::Close => self.close(),
+            Work::TakeOver { array }
+            | Work::Begin { array, .. }
+            | Work::Reshape { array }
+            | Work::Finish { array }
+            | Work::Make { array, .. }
+            | Work::Zero { array }
+            | Work::Ready { array } => Err(Stuck { array }),
+            Work::Extend => Err(Stuck { array: 0 }),
+        }
     }
 }
