@@ -1,5 +1,5 @@
 -- What a replay on the drives leaves: the record written, gates closed, and who refused a call.
-use Rattle.std.proofs.Common.{◌≡◌, ◌≢◌, ◌⊎◌, ℕ, ◌+◌, ◌<◌, ◌≤◌, ◌==◌, ◌||◌, Bool, true, false, nat_lt, nat_le, if◌then◌else◌, List, [], ◌∷◌, Option, Some, None, unwrap_or, refl, sym, ap, ap₂, subst, ◌∙◌, inl, inr, arith, eq-eqb, lt-ltb, le-leb}
+use Rattle.std.proofs.Common.{◌≡◌, ◌≢◌, ◌⊎◌, ℕ, ◌+◌, ◌<◌, ◌≤◌, ◌==◌, ◌||◌, Bool, true, false, nat_lt, nat_le, if◌then◌else◌, List, [], ◌∷◌, Option, Some, None, unwrap_or, refl, sym, ap, subst, ◌∙◌, inl, inr, arith, eq-eqb, lt-ltb, le-leb}
 use Rattle.std.specs.Option.{option_map_or}
 use Rattle.std.specs.List.{filter_map, list_all, range_with_len, slice_index}
 use Rattle.std.proofs.lemmas.List.Folds.{list_any_at}
@@ -163,15 +163,18 @@ replayed_drives {x} {w} {y} {known} {before} {s} {t} {u} {on} {unread} {closing}
                 let ends : first_of u is.slice + sectors_of u is.slice ≤ w.sectors (disk_of u is.slice) = parts.inside.slices is.slice (omega (arith, is.within)) in
                 let room : w.sectors (disk_of u is.slice) ≡ x.sectors d = parts.reads.stays.sectors (disk_of u is.slice) ∙ ap x.sectors (sym is.disk_is) in
                 let leaves : LeavesShut y d = shut work named in
-                inr (record {
-                  place = place;
-                  was = sym (seat_by_is (disks_of x) ids known are before place) ∙ on_it.1 ∙ seat;
-                  is = sym (seat_by_is (disks_of x) ids known are s place) ∙ seat;
-                  room = omega (arith, ends, size, first, room);
-                  gate = record { is_open = false; number = leaves.number };
-                  has = leaves.each (now_in y d drive_gate) (inl refl);
-                  closed = refl;
-                }, leaves)
+                inr (
+                  record {
+                    place = place;
+                    was = sym (seat_by_is (disks_of x) ids known are before place) ∙ on_it.1 ∙ seat;
+                    is = sym (seat_by_is (disks_of x) ids known are s place) ∙ seat;
+                    room = omega (arith, ends, size, first, room);
+                    gate = record { is_open = false; number = leaves.number };
+                    has = leaves.each (now_in y d drive_gate) (inl refl);
+                    closed = refl;
+                  },
+                  leaves,
+                )
 
         of_slice : ((is : (v : List ℕ) → IsSliced u d drive_gate v) × ((v : List ℕ) → (is v).slice < 272)) ⊎ ((v : List ℕ) → IsSliced u d drive_gate v → ⊥)
             → Keeps (x.held d drive_gate) (y.held d drive_gate) ⊎ (IsClosedOn before s x y d × LeavesShut y d)

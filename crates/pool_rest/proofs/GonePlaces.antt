@@ -1,5 +1,5 @@
 -- Places count as gone by the faults of their disks.
-use Rattle.std.proofs.Common.{◌≡◌, ◌⊎◌, ℕ, ◌<◌, ◌||◌, ◌&&◌, Bool, true, false, nat_lt, List, Option, Some, unwrap_or, refl, sym, ap, subst, ◌∙◌, inl, inr, arith, ltb-true}
+use Rattle.std.proofs.Common.{◌≡◌, ◌⊎◌, ℕ, ◌<◌, Bool, true, nat_lt, List, Option, Some, unwrap_or, sym, ap, subst, ◌∙◌, inl, inr, arith, ltb-true}
 use Rattle.std.proofs.lemmas.Bool.{cases_lt, and_parts}
 use Rattle.rack.specs.Seen.{Seen, Stays, Rose}
 use Rattle.rack.specs.Joins.{rose_early, rose_later}

@@ -1,27 +1,26 @@
 -- The payloads of a pending record are sectors of the disks: so each sector has 512 bytes after a replay where each had before it.
-use Rattle.std.proofs.Common.{◌≡◌, ◌≢◌, ◌⊎◌, ℕ, zero, suc, ◌+◌, ◌<◌, ◌≤◌, ◌==◌, ◌%◌, ◌&&◌, Bool, true, false, nat_le, nat_lt, if◌then◌else◌, List, [], ◌∷◌, map, codes, bytes_eq, replicate, Option, Some, None, unwrap_or, refl, sym, ap, subst, ◌∙◌, inl, inr, arith, eq-eqb, lt-ltb, leb-true}
+use Rattle.std.proofs.Common.{◌≡◌, ℕ, zero, suc, ◌+◌, ◌<◌, ◌≤◌, ◌==◌, ◌%◌, ◌&&◌, Bool, true, false, nat_le, nat_lt, if◌then◌else◌, List, [], ◌∷◌, map, codes, bytes_eq, replicate, Option, Some, None, unwrap_or, refl, sym, ap, subst, ◌∙◌, inl, inr, arith, eq-eqb, lt-ltb, leb-true}
 use Rattle.std.specs.Option.{option_or, option_map_or, option_and_then}
 use Rattle.std.specs.List.{list_all, list_any, filter_map, cons_option, range_with_len}
-use Rattle.std.proofs.lemmas.Bool.{cases_eq, and_parts}
+use Rattle.std.proofs.lemmas.Bool.{and_parts}
 use Rattle.std.proofs.lemmas.Option.{none-some, cond_some}
-use Rattle.rack.specs.Values.{IsSector, IsSingle}
+use Rattle.rack.specs.Values.{IsSector}
 use Rattle.rack.specs.Seen.{Image, Seen}
 use Rattle.rack.specs.Targets.{Target, is_at, look}
 use Rattle.shr_base.specs.Blocks.{number_at, bytes_at, put_at}
 use Rattle.shr_base.specs.Crc.{crc32_of}
-use Rattle.pool_state.specs.declared.contents.State.{State}
 use Rattle.array_image.specs.Places.{place_of, slice_of, log_slice, state_sector, log_sectors, arrays_first}
 use Rattle.array_image.specs.Record.{Gate, GateAt, gate_sector, gate_of, gate_in, half_of, log_bytes, target_at, is_target, are_apart, is_bad_gate, record_of, record_in, pending_at, pending}
 use Rattle.array_image.specs.States.{current_places}
 use Rattle.pool_image.specs.Disks.{Disks, Identities, Seats, disks_of, identities_of, seat_of}
-use Rattle.pool_image.specs.Replay.{Extent, Standing, log_extent, extent_by, logs_of, standing, standing_by, brought_state, landed, written}
+use Rattle.pool_image.specs.Replay.{Extent, Standing, log_extent, extent_by, logs_of, standing, brought_state, landed, written}
 use Rattle.pool_image.specs.Alike.{drive_gate}
 use Rattle.pool_image.proofs.Identities.{seat_inside}
 use Rattle.pool_image.proofs.Rested.{stood_by}
 use Rattle.commit_log.proofs.Amid.{slice_of_log, place_of_log, no_gate_in_nothing}
 use Rattle.commit_log.proofs.Replayable.{pending_named}
 use Rattle.pool_scan.specs.Scanning.{now_in}
-use Rattle.pool_rest.specs.Resting.{AreSectors, AreSingle, AreSteady, LeavesShut, Rests, RestsSo}
+use Rattle.pool_rest.specs.Resting.{AreSectors, AreSingle, AreSteady, RestsSo}
 
 -- each target has the bytes of a sector
 abbrev AreSized : List Target → Type 0
