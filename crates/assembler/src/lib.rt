@@ -7,10 +7,13 @@
 //! **Its model** is that of the parts: `Raid` of raid_rack, `Linear` of lvm_group, and the pool that contents of disks mean, of
 //! pool_image.
 //!
-//! **The contract of [`assemble`]**, whatever the disks tell. The volume is fit, so each of its calls may be made. Where it is refused
-//! before the drives have passed their checks, nothing is written but the pending record, on drives of the pool (`WritesDrives` of
-//! pool_rest). Inside the crate the arrays are those of the superblocks that were read, over the slices of the drives (`AreMembers` of
-//! specs/Members.antt). That the volume holds what the disks mean and the causes of refusals are promised by the parts alone.
+//! **The contract of [`assemble`]**. Whatever the disks tell the volume is fit, so each of its calls may be made, and where it is refused
+//! before the drives have passed their checks nothing is written but the pending record, on drives of the pool (`WritesDrives` of
+//! pool_rest). Where the disks hold a sound pool (`HoldSound` of specs/Sound.antt) and none refuses a call, the volume is the one that
+//! they mean (`IsMeantBy`), and it is refused only as their meaning is, or for want of memory (`IsMeantRefusal`).
+//!
+//! Inside the crate the arrays are those of the superblocks that were read, over the slices of the drives (`AreMembers` of
+//! specs/Members.antt), and they hold what the pool's contents give (`HoldsArrays` of specs/Holding.antt).
 #![tactic(auto)]
 
 mod checks;
