@@ -10,7 +10,7 @@ use std::process::Abort;
 use std::test::Fail;
 
 /// When the pools are made.
-const BIRTH: Birth = Birth {
+pub(crate) const BIRTH: Birth = Birth {
     seconds: 1_700_000_000,
     pool: [7; 16],
 };

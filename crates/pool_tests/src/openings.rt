@@ -49,7 +49,7 @@ fn refusal(rt: &impl Abort, alloc: Global, bay: MemBay) -> Refusal {
 }
 
 /// The state in the first log sector of a disk.
-fn state_on(rt: &impl Abort, bay: &MemBay, disk: u32) -> State {
+pub(crate) fn state_on(rt: &impl Abort, bay: &MemBay, disk: u32) -> State {
     match decode_state(&bay.sector_now(disk, 2048)) {
         Ok(copy) => copy.state,
         Err(_) => panic!(rt; "no state"),
