@@ -11,12 +11,12 @@ below P zero = inl (λ k low. absurd (omega (arith, low)))
 below P (suc n) = elim (below P n) [
   | inr one ↦ let low = one.1 in inr (one.0, omega (arith, low), one.2)
   | inl none ↦ elim (cases_Bool (P n)) [
-      | inl is ↦ inr (n, omega arith, is)
-      | inr not ↦ inl (λ k low. elim (cases_eq k n) [
-          | inl here ↦ subst (λ j. P j ≡ false) (sym here) not
-          | inr other ↦ none k (omega (arith, low, other))
-        ])
-    ]
+    | inl is ↦ inr (n, omega arith, is)
+    | inr not ↦ inl (λ k low. elim (cases_eq k n) [
+      | inl here ↦ subst (λ j. P j ≡ false) (sym here) not
+      | inr other ↦ none k (omega (arith, low, other))
+    ])
+  ]
 ]
 
 rows : (v : Raid) (j : ℕ)
@@ -26,12 +26,12 @@ rows v zero = inl (λ n y low inside. absurd (omega (arith, low)))
 rows v (suc j) = elim (rows v j) [
   | inr one ↦ let low = one.2 in inr (one.0, one.1, omega (arith, low), one.3, one.4)
   | inl none ↦ elim (below (spent_of v j) (sectors_of (v.arrays j))) [
-      | inr one ↦ inr (j, one.0, omega arith, one.1, one.2)
-      | inl last ↦ inl (λ n y low inside. elim (cases_eq n j) [
-          | inl here ↦ subst (λ k. live_of v k y) (sym here) (last y (subst (λ k. y < sectors_of (v.arrays k)) here inside))
-          | inr other ↦ none n y (omega (arith, low, other)) inside
-        ])
-    ]
+    | inr one ↦ inr (j, one.0, omega arith, one.1, one.2)
+    | inl last ↦ inl (λ n y low inside. elim (cases_eq n j) [
+      | inl here ↦ subst (λ k. live_of v k y) (sym here) (last y (subst (λ k. y < sectors_of (v.arrays k)) here inside))
+      | inr other ↦ none n y (omega (arith, low, other)) inside
+    ])
+  ]
 ]
 
 pub all_live : (v : Raid) → AllLive v ⊎ (AllLive v → ⊥)

@@ -177,9 +177,11 @@ module _ {R : Type 0} (seen : R → Seen) (runs : R → R → Type 0) (f : Found
       subst (λ k. Opens f.state.pool.0 f.state.extent k p q l seqno) book.joined
       (subst (λ k. Opens f.state.pool.0 k (raid_in x).state.joined p q l seqno) book.extent
       (subst (λ (k : Id). Opens k.0 (raid_in x).state.extent (raid_in x).state.joined p q l seqno) book.pool opens.opens)) in
-      let of = opened_means f p q sizes whole (served y opens.kept alive) now l seqno found in
-      (of, volume_holds f p q l of orderly inside (subst (λ k. WritesOnly p q (IsBefore k)) book.joined opens.brings.writes) holds.told
-      (λ n s u low live may. holds.values n s u low live may))
+      let of = opened_means f p q sizes whole (served y opens.kept alive) now l seqno found in (
+        of,
+        volume_holds f p q l of orderly inside (subst (λ k. WritesOnly p q (IsBefore k)) book.joined opens.brings.writes) holds.told
+            (λ n s u low live may. holds.values n s u low live may),
+      )
 
   pub volume_refused : (y : RaidRack R) (n : ℕ) → IsBadVolume (raid_in x).state.pool.0 (raid_in x).state.extent (raid_in x).state.joined (raid_seen seen x) (raid_seen seen y) n
       → AreRuns seen runs x y → AllLive (raid_in y) → meant.first_bad (joined_arrays f) ≡ Some n

@@ -238,9 +238,9 @@ replay_call l on lost closed a t b w0 w1 w2 done =
     let shut : HasWork l → lost ≡ [] → (p : ℕ) → names on p ≡ true → IsLive a b (log_slice p) gate_sector
     → (v : List ℕ) → MayLeave (b.held (log_slice p) gate_sector) v → v ≡ closed =
     λ work none p named live v left.
-        let left2 : AllLeft w2 = λ q. sym (done.lost_are q) ∙ ap (λ ps. names ps q) none in
-        done.closes.durable (log_slice p) gate_sector closed v (live_second to_t live) (left2 (place_of (log_slice p)))
-        (work, (λ q. done.closes.calls.still q (left2 q), record { disk = named_log on p named; there = refl; value = refl })) left in
+    let left2 : AllLeft w2 = λ q. sym (done.lost_are q) ∙ ap (λ ps. names ps q) none in
+    done.closes.durable (log_slice p) gate_sector closed v (live_second to_t live) (left2 (place_of (log_slice p)))
+    (work, (λ q. done.closes.calls.still q (left2 q), record { disk = named_log on p named; there = refl; value = refl })) left in
     record {
       stays = stays;
       gone = record {

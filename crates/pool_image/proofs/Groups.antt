@@ -1,5 +1,5 @@
 -- The group of the joined arrays, and which of them are bad, as lvm_group says it of the same arrays.
-use Rattle.std.proofs.Common.{◌≡◌, ℕ, zero, suc, ◌+◌, ◌*◌, ◌/◌, ◌%◌, ◌<◌, ◌≤◌, Bool, true, false, ◌==◌, nat_lt, if◌then◌else◌, List, [], ◌∷◌, map, find, Option, Some, None, refl, sym, ap, ap₂, subst, ◌∙◌, inl, inr, lt-ltb, le-ltb, arith}
+use Rattle.std.proofs.Common.{◌≡◌, ℕ, zero, suc, ◌+◌, ◌/◌, ◌%◌, ◌<◌, ◌≤◌, Bool, ◌==◌, if◌then◌else◌, List, [], ◌∷◌, map, find, Option, Some, None, refl, sym, ap, ap₂, ◌∙◌, inl, inr, lt-ltb, le-ltb, arith}
 use Rattle.std.specs.Option.{option_and_then, option_map_or}
 use Rattle.std.specs.Result.{result_ok}
 use Rattle.std.specs.List.{range_with_len}
@@ -9,7 +9,6 @@ use Rattle.lvm_label.specs.declared.label.Label.{Label}
 use Rattle.lvm_label.specs.declared.header.Header.{Header}
 use Rattle.lvm_label.specs.Label.{label_in}
 use Rattle.lvm_label.specs.Header.{header_of, locations_at}
-use Rattle.lvm_text.specs.declared.group.Group.{Group}
 use Rattle.lvm_group.specs.Parts.{area_of, location_in, group_in_area, part_by}
 use Rattle.lvm_group.specs.Parts as part
 use Rattle.lvm_group.specs.Group.{highest, is_bad_by}

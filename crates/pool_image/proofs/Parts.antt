@@ -1,15 +1,12 @@
 -- What stands in an array for the group by the meaning of contents is what lvm_group has it to be, in arrays of whole sectors.
-use Rattle.std.proofs.Common.{◌≡◌, ℕ, zero, suc, ◌+◌, ◌-◌, ◌*◌, ◌/◌, ◌%◌, ◌<◌, ◌≤◌, Bool, true, false, ◌==◌, ◌&&◌, nat_le, nat_lt, min, if◌then◌else◌, List, [], ◌∷◌, ◌++◌, length, map, take, drop, find, slice_get, Option, Some, None, option_map, refl, sym, ap, ap₂, subst, ◌∙◌, inl, inr, lt-ltb, le-ltb, le-leb, ltb-true, leb-true, arith}
-use Rattle.std.specs.Option.{option_and_then, option_map_or}
+use Rattle.std.proofs.Common.{◌≡◌, ℕ, ◌+◌, ◌-◌, ◌*◌, ◌/◌, ◌%◌, ◌<◌, ◌≤◌, Bool, true, false, ◌==◌, ◌&&◌, nat_le, nat_lt, min, if◌then◌else◌, List, [], length, take, drop, slice_get, Option, Some, None, refl, sym, ap, ap₂, ◌∙◌, inl, inr, lt-ltb, le-ltb, le-leb, ltb-true, leb-true, arith}
+use Rattle.std.specs.Option.{option_and_then}
 use Rattle.std.specs.Result.{result_ok}
-use Rattle.std.specs.List.{flat_map, range_with_len}
 use Rattle.std.proofs.lemmas.Bool.{cases_Bool, cases_lt, and_parts, and_from}
 use Rattle.rack.specs.Seen.{Image}
 use Rattle.shr_base.specs.Crc.{lvm_crc_of}
 use Rattle.lvm_label.specs.declared.label.Area.{Area}
-use Rattle.lvm_label.specs.declared.label.Label.{Label}
 use Rattle.lvm_label.specs.declared.header.Location.{Location}
-use Rattle.lvm_label.specs.declared.header.Header.{Header}
 use Rattle.lvm_text.specs.declared.group.Group.{Group}
 use Rattle.lvm_text.specs.Words.{past_blanks, string_at, integer_at, item_at, body_at, value_at, first_value_at, separator_at, words_at}
 use Rattle.lvm_text.specs.Group.{group_of, found_at, name_of, number_in, number_at, text_in, text_at as text_on, section_in, section_at, logical_volumes, each_at, pv_at, stripe_in, kind_at, segment_at, numbered, segment_numbered, segments_at, lv_at, group_at as group_read, group_in as group_found}

@@ -1,9 +1,9 @@
 -- Bytes of an array in a row, sector by sector and all at once: the reading of a text by lvm_group is that of the meaning.
-use Rattle.std.proofs.Common.{◌≡◌, ℕ, zero, suc, ◌+◌, ◌-◌, ◌*◌, ◌/◌, ◌%◌, ◌<◌, ◌≤◌, min, List, [], ◌∷◌, ◌++◌, length, take, drop, slice_get, Option, Some, None, option_map, refl, sym, ap, ap₂, subst, ◌∙◌, inl, inr, append_assoc, arith}
+use Rattle.std.proofs.Common.{◌≡◌, ℕ, zero, suc, ◌+◌, ◌-◌, ◌*◌, ◌<◌, ◌≤◌, List, [], ◌∷◌, ◌++◌, length, take, drop, Some, refl, sym, ap, ap₂, ◌∙◌, inl, inr, arith}
 use Rattle.std.specs.List.{flat_map, range_with_len}
 use Rattle.std.proofs.lemmas.Bool.{cases_lt}
-use Rattle.lvm_group.specs.Parts.{Array, byte_at, row_at, behind}
-use Rattle.lvm_group.proofs.Rows.{row_piece, row_none}
+use Rattle.lvm_group.specs.Parts.{Array, row_at, behind}
+use Rattle.lvm_group.proofs.Rows.{row_piece}
 
 -- the sectors of an array from one on, so many
 unfoldable pub sectors_from : Array → ℕ → ℕ → List ℕ

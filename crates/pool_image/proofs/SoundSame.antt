@@ -1,8 +1,6 @@
 -- A pool that is the same but for gates is sound where the other one is.
-use Rattle.std.proofs.Common.{◌≡◌, ℕ, ◌+◌, ◌<◌, ◌≤◌, Bool, true, nat_lt, is_none, if◌then◌else◌, List, map, take, Option, Some, None, refl, sym, ap, subst, ◌∙◌, arith}
-use Rattle.rack.specs.Seen.{Image}
+use Rattle.std.proofs.Common.{◌≡◌, ℕ, ◌+◌, ◌<◌, nat_lt, is_none, if◌then◌else◌, List, map, take, Option, Some, None, sym, ap, subst, ◌∙◌, arith}
 use Rattle.md_super.specs.declared.superblock.Super.{Super}
-use Rattle.pool_state.specs.declared.contents.Copied.{Copied}
 use Rattle.array_image.specs.Places.{member_slice, data_sector}
 use Rattle.array_image.specs.Stripes.{AgreeIn, there, sector_in, width}
 use Rattle.array_image.specs.Arrays.{Member, Shape, column, layout_at}
@@ -42,8 +40,7 @@ module _ (f g : Found) (same : IsSamePool f g) where
   pub sound_same : IsSoundState f → IsSoundState g
   sound_same sound = record {
     arrays = λ n low.
-        let one = sound.arrays n (subst (λ s. n < s.made) same.state low) in
-        (
+        let one = sound.arrays n (subst (λ s. n < s.made) same.state low) in (
           one.0,
           truths_same f g same n ∙ one.1,
           subst (λ s. IsSoundArray s (slices_of g) n one.0) (sym same.state) (array_same n one.0 one.2),

@@ -1,9 +1,9 @@
 -- Sectors of an array have 512 bytes where those of its members do.
-use Rattle.std.proofs.Common.{◌≡◌, ℕ, zero, suc, ◌+◌, ◌<◌, Bool, true, false, nat_lt, if◌then◌else◌, List, [], ◌∷◌, length, map, take, Option, Some, None, inl, inr, refl, sym, ap, subst, ◌∙◌, ltb-true}
+use Rattle.std.proofs.Common.{◌≡◌, ℕ, zero, suc, ◌+◌, ◌<◌, Bool, true, false, nat_lt, if◌then◌else◌, List, [], ◌∷◌, length, map, take, Option, Some, None, inl, inr, refl, subst, ltb-true}
 use Rattle.std.specs.Option.{option_map_or}
 use Rattle.std.proofs.lemmas.Option.{none-some}
 use Rattle.rack.specs.Seen.{Image}
-use Rattle.parity.specs.Xor.{HasLength, xor_all, zeros}
+use Rattle.parity.specs.Xor.{HasLength, xor_all}
 use Rattle.array_image.specs.Places.{member_slice, data_sector}
 use Rattle.array_image.specs.Stripes.{Layout, Stripe, mirror, parity, at_position, first_there, given, position_in, sector_in, there, width, without}
 use Rattle.array_image.specs.Arrays.{Member, Shape, column, layout_at, value_by}

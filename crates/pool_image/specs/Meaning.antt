@@ -1,5 +1,5 @@
 -- The meaning of contents: the volumes that they hold, or why they are refused.
-use Rattle.std.specs.Prelude.{ℕ, ◌+◌, ◌*◌, Bool, false, true, ◌==◌, ◌&&◌, ◌||◌, not, nat_lt, bytes_eq, if◌then◌else◌, List, [], ◌∷◌, length, find, count_by, slice_get, Option, Some, None, option_map, is_some, is_none}
+use Rattle.std.specs.Prelude.{ℕ, ◌+◌, Bool, false, true, ◌==◌, ◌&&◌, ◌||◌, not, nat_lt, bytes_eq, if◌then◌else◌, List, [], ◌∷◌, find, count_by, Option, Some, None, option_map, is_some, is_none}
 use Rattle.std.specs.Option.{option_and_then, option_map_or, option_or}
 use Rattle.std.specs.List.{list_all, list_any, range_with_len}
 use Rattle.rack.specs.Seen.{Image}

@@ -1,6 +1,6 @@
 -- The volume of a group as the arrays' contents say it. What bytes stand in an array for the group is said here once more, over whole
 -- sectors; the rules of a group and its volume are those of lvm_group.
-use Rattle.std.specs.Prelude.{ℕ, ◌+◌, ◌-◌, ◌*◌, ◌/◌, ◌%◌, Bool, ◌==◌, ◌&&◌, nat_le, nat_lt, min, if◌then◌else◌, List, ◌++◌, map, take, drop, find, slice_get, Option, Some, None}
+use Rattle.std.specs.Prelude.{ℕ, ◌+◌, ◌-◌, ◌*◌, ◌/◌, ◌%◌, Bool, ◌==◌, ◌&&◌, nat_le, nat_lt, min, if◌then◌else◌, List, ◌++◌, map, take, drop, find, Option, Some, None}
 use Rattle.std.specs.Option.{option_and_then, option_map_or}
 use Rattle.std.specs.Result.{result_ok}
 use Rattle.std.specs.List.{flat_map, range_with_len}

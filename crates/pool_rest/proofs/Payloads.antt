@@ -208,8 +208,8 @@ steady_after a b disks sectors rests single sized = record {
     one : (d : ℕ) → d < b.disks → drive_gate < b.sectors d → IsSingle (b.held d drive_gate) × IsSector (b.held d drive_gate).current
     one d disk sector = elim (rests.rests.leaves d (in_a d disk) (on_a d drive_gate sector)) [
       | inl kept ↦ (
-            λ v may. single d drive_gate (in_a d disk) (on_a d drive_gate sector) v (kept.within v may) ∙ sym kept.current,
-            subst IsSector (sym kept.current) (sized d drive_gate (in_a d disk) (on_a d drive_gate sector)),
-          )
+        λ v may. single d drive_gate (in_a d disk) (on_a d drive_gate sector) v (kept.within v may) ∙ sym kept.current,
+        subst IsSector (sym kept.current) (sized d drive_gate (in_a d disk) (on_a d drive_gate sector)),
+      )
       | inr shut ↦ (shut.single, shut.sized)
     ]

@@ -13,8 +13,7 @@ returns-clause-syncs g c =
 
 pub returns-clause-runs : goal.returns-clause-runs
 returns-clause-runs g c =
-    let syncs = returns-clause-syncs g c in
-    (
+    let syncs = returns-clause-syncs g c in (
       c.sync_array.ensures.runs,
       runs_moves (written_in c.args.self.now) c.args.self.now.arrays c.sync_array.new.self _ _ c.requires.fit
           (record { running = c.sync_array.ensures.running; heeded = c.sync_array.ensures.syncs.heeded })
