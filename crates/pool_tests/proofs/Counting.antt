@@ -1,9 +1,9 @@
 -- Calls of a rack that counts its refusals are those of the rack below.
-use Rattle.std.proofs.Common.{◌≡◌, ℕ, ◌≤◌, List, Ok, Err, refl, inl, arith}
+use Rattle.std.proofs.Common.{◌≡◌, ℕ, ◌≤◌, List, Ok, Err, arith}
 use Rattle.rack.specs.declared.Gone.{Gone}
 use Rattle.rack.specs.Seen.{Held, Seen, IsPick, Rose, Stays, appended}
 use Rattle.rack.specs.Moments.{Leaves}
-use Rattle.rack.specs.Calls.{HasCause, KeepsAll, Reads, Syncs, Writes}
+use Rattle.rack.specs.Calls.{KeepsAll, Reads, Syncs, Writes}
 use Rattle.pool_tests.specs.Counted.{counted, live_below}
 
 stays_counted : {a b : Seen} {f g : ℕ} → f ≤ g → Stays a b → Stays (counted a f) (counted b g)

@@ -209,13 +209,13 @@ fn any_call_may_be_refused(rt: HostRuntime) -> Result<(), Fail> {
     panic!(rt; "calls are left");
 }
 
-/// Runs in which the drive of a place fails for good, at each of its calls.
+/// Runs in which the drive of a place fails for good, at each of its calls. The answer is how many calls it has in a run without losses.
 fn fails_everywhere(
     rt: &impl Abort,
     alloc: Global,
     pool: &NewPool,
     place: usize,
-) -> Result<(), Fail> {
+) -> Result<u64, Fail> {
     let mut from = [u64::MAX; 5];
     assert!(rt; place < 5);
     from[place] = pool.start;
@@ -223,10 +223,7 @@ fn fails_everywhere(
         let run = pool.run_failing(rt, alloc, from)?;
         match fails_once(rt, alloc, run, [place as u64, from[place]])? {
             Some(hit) => from[place] = hit.saturating_add(1),
-            None => {
-                assert!(rt; turn > 50);
-                return Ok(());
-            }
+            None => return Ok(turn),
         }
     }
     panic!(rt; "calls are left");
@@ -235,9 +232,15 @@ fn fails_everywhere(
 #[test]
 fn each_drive_may_fail_at_any_call(rt: HostRuntime) -> Result<(), Fail> {
     let pool = NewPool::new(&rt, rt.alloc())?;
+    let mut calls = 0u64;
     for place in 0..5 {
-        fails_everywhere(&rt, rt.alloc(), &pool, place)?;
+        let turns = fails_everywhere(&rt, rt.alloc(), &pool, place)?;
+        calls = calls.saturating_add(turns);
     }
+    // Each call of a run without losses is one of a drive.
+    let mut run = pool.run(&rt, rt.alloc())?;
+    let _plain = write_all(&rt, rt.alloc(), &mut run, [0, 0])?;
+    assert_eq!(rt; calls, run.met.calls.saturating_sub(pool.start));
     Ok(())
 }
 
