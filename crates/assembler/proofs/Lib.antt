@@ -2,6 +2,7 @@ mod Alive
 mod Amid
 mod Arrays
 mod Copied
+mod Drives
 mod Entry
 mod Finding
 mod Holding

@@ -242,3 +242,10 @@ seats_before x known s t on laid gone seats nobody beyond are p = elim (cases_lt
     of false is o seat = refl
     of true is None seat = refl
     of true is (Some d) seat = absurd (nobody p d is seat)
+
+-- a slice's disk was taken for its place
+pub taken_by : (x : Seen) (known : List Known) (s : State) (t : Slices) (on : List ℕ) → IsLaid x known s t on → (p d : ℕ) → seat_of t p ≡ Some d → seat_by s known p ≡ Some d
+taken_by x known s t on laid p d seat = elim (cases_lt p 16) [
+  | inl few ↦ sym (laid.seats p few) ∙ seat
+  | inr past ↦ absurd (none-some d (sym (laid.beyond p past) ∙ seat))
+]

@@ -3,3 +3,4 @@ pub mod Members
 pub mod Refusing
 pub mod Sound
 pub mod Volume
+pub mod Writing

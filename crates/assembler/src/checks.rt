@@ -117,6 +117,8 @@ pub(crate) fn check<R: Rack>(rest: AtRest<R>) -> Result<Members<R>, Back<R, Refu
         → IsFoundOn (R.seen (below_of rest.slices)) rest.scan.disks.items rest.state (tables rest.slices) rest.on.items rest.log rest.pending rest.damaged f
         → ((p d : ℕ) → names rest.gone.items p ≡ true → seat_by rest.state rest.scan.disks.items p ≡ Some d → ⊥) → IsUnfaulted (R.seen (below_of rest.slices)) (R.seen (below_of m.slices))
         → HoldPool m.state (tables m.slices) (R.seen (below_of m.slices)) m.log f × IsChecked (is_well None) f m.checked) }
+    // The slices lie on the disks that were taken for the places.
+    ensures seats { IfOk result (λ m. (p d : ℕ) → seat_of (tables m.slices) p ≡ Some d → seat_by rest.state rest.scan.disks.items p ≡ Some d) }
     ensures state { IfOk result (λ m. m.state ≡ rest.state) }
     ensures log { IfOk result (λ m. m.log ≡ rest.log) }
     ensures runs { IfOk result (λ m. R.runs (below_of rest.slices) (below_of m.slices)) }

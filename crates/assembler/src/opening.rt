@@ -9,6 +9,7 @@ ghost use Rattle.lvm_group.specs.Shown.{total, volume_of};
 ghost use Rattle.lvm_group.specs.Volume.{below_of as rack_in, linear, seqno_of};
 ghost use Rattle.assembler.specs.Sound.{HoldSound, IsMeantBy, IsMeantRefusal};
 ghost use Rattle.assembler.specs.Volume.{AllLive, OpensVolume, RefusesVolume};
+ghost use Rattle.assembler.specs.Writing.{WritesPool};
 ghost use Rattle.pool_image.specs.Drives.{Found};
 ghost use Rattle.pool_scan.specs.Scanning.{IsUnfaulted};
 ghost use Rattle.raid_rack.specs.RaidRack.{IsFit, arrays_in, raid_in, raid_seen, slices_in, slices_seen};
@@ -67,6 +68,9 @@ pub fn assemble<R: Rack>(
     ensures runs { IfOk result (λ volume. R.runs rack (below_of (slices_in (rack_in volume)))) }
     // Until the drives have passed their checks nothing is written but the pending record, on drives of the pool.
     ensures early { IfErr result (λ back. is_early back.why ≡ true → OnlyReads (R.seen rack) (R.seen back.rack) ⊎ WritesDrives (R.seen rack) (R.seen back.rack)) }
+    // In all, only drives are written: sectors of their log slices and of the arrays' part.
+    ensures drives { IfOk result (λ volume. WritesPool R.seen R.runs rack (below_of (slices_in (rack_in volume)))) }
+    ensures written { IfErr result (λ back. OnlyReads (R.seen rack) (R.seen back.rack) ⊎ (WritesDrives (R.seen rack) (R.seen back.rack) ⊎ WritesPool R.seen R.runs rack back.rack)) }
     // Where the disks hold a sound pool and none refuses a call, the volume is the one that they mean; it is refused only as their
     // meaning is, or for want of memory. Both hold as long as the arrays have no spent sector.
     ensures meant { IfOk result (λ volume. (f : Found) → HoldSound (R.seen rack) f → IsUnfaulted (R.seen rack) (R.seen (below_of (slices_in (rack_in volume))))

@@ -1,4 +1,4 @@
-use Rattle.std.proofs.Common.{◌≡◌, ◌+◌, ◌<◌, ℕ, Option, Some, None, refl, sym, ap, subst, ◌∙◌, arith}
+use Rattle.std.proofs.Common.{◌≡◌, ◌+◌, ◌<◌, ℕ, Option, Some, None, refl, sym, ap, inl, inr, subst, ◌∙◌, arith}
 use Rattle.std.proofs.lemmas.Option.{none-some}
 use Rattle.rack.specs.Seen.{Seen, Stays}
 use Rattle.rack.specs.Sequences.{OnlyReads}
@@ -21,7 +21,7 @@ use Rattle.assembler.specs.Members.{AreMembers}
 use Rattle.assembler.specs.declared.refusal.Refusal.TheVariants.{Damaged}
 use Rattle.assembler.specs.Refusing.{FailsCheck, by_check}
 use Rattle.assembler.proofs.Refusals.{fails_check, fails_log}
-use Rattle.assembler.proofs.Unseated.{check_members, logs_only, no_members, nobody_lost, seating, seats_are, seats_before, taken}
+use Rattle.assembler.proofs.Unseated.{check_members, logs_only, no_members, nobody_lost, seating, seats_are, seats_before, taken, taken_by}
 use Rattle.assembler.proofs.checks.check.Goals as goal
 
 pub check_drives-requires-clause-seating : goal.check_drives-requires-clause-seating
@@ -115,6 +115,23 @@ returns-in-Some-clause-refused g c =
     (subst (λ r. Loses (g.R.Rack.seen r) (g.R.Rack.seen c.check_drives.new.rack) (seats_by seats) (seats_by now)) c.inner.ensures.value c.check_drives.ensures.seats)
     rest.damaged c.in-Some.place c.in-Some.is
     (λ o are copied. (c.in-Ok.ensures.exact o (subst (λ r. AreDrivesOf (g.R.Rack.seen r) (seats_by now) o) (sym c.inner.ensures.value) are) copied).sound))
+
+pub returns-clause-seats : goal.returns-clause-seats
+returns-clause-seats g c p d seat =
+    let rest = c.args.rest in
+    let x : Seen = g.R.Rack.seen (below_of rest.slices) in
+    let known = rest.scan.disks.items in
+    let t : Slices = tables rest.slices in
+    let now = c.unseat_lost.ensures in
+    let were = taken x known rest.state t rest.on.items c.requires.laid c.requires.fit rest.gone.items c.seats_of-seats.result c.seats_of-seats.ensures.beyond c.seats_of-seats.ensures.each in
+    let loses = subst (λ r. Loses (g.R.Rack.seen r) (g.R.Rack.seen c.check_drives.new.rack) (seats_by c.seats_of-seats.result) (seats_by c.check_drives.new.seats)) c.inner.ensures.value c.check_drives.ensures.seats in
+    let after : seats_by c.check_drives.new.seats p ≡ Some d =
+    sym (c.lay_members.ensures.kept.seats p
+    ∙ seats_are x known rest.state t rest.on.items c.requires.laid c.requires.fit (g.R.Rack.seen c.check_drives.new.rack) c.seats_of-seats.result c.check_drives.new.seats were loses
+    (tables c.unseat_lost.new.slices) c.unseat_lost.new.slices.orderly now.seats now.firsts now.sectors p)
+    ∙ seat in
+    taken_by x known rest.state t rest.on.items c.requires.laid p d
+    (were p d (elim (loses p) [ inl same ↦ sym same ∙ after | inr lost ↦ absurd (none-some d (sym lost.0 ∙ after)) ]))
 
 pub returns-clause-holds : goal.returns-clause-holds
 returns-clause-holds g c f is nobody quiet =

@@ -5,7 +5,9 @@ use Rattle.std.proofs.Common.{◌⊎◌, option_map, inl, inr, sym, ap, subst, �
 use Rattle.std.proofs.lemmas.Bool.{both_ways}
 use Rattle.rack.specs.Seen.{Seen, Stays}
 use Rattle.rack.specs.Joins.{stays_then}
-use Rattle.rack.specs.Sequences.{OnlyReads}
+use Rattle.rack.specs.Sequences.{OnlyReads, WritesOnly}
+use Rattle.slice_rack.specs.Runs.{IsSliced}
+use Rattle.slice_rack.specs.Slices.{Slices}
 use Rattle.lvm_group.specs.Volume.{below_of as rack_in, linear, seqno_of}
 use Rattle.pool_image.specs.Meaning.{arrays_held, bad_volume, joined_arrays, volume_by}
 use Rattle.pool_image.specs.Volumes.{linear_of}
@@ -13,6 +15,7 @@ use Rattle.pool_scan.specs.Scanning.{IsUnfaulted}
 use Rattle.pool_rest.specs.Resting.{WritesDrives}
 use Rattle.assembler.specs.Refusing.{is_early}
 use Rattle.assembler.proofs.Written.{writes_then_reads}
+use Rattle.assembler.proofs.Drives.{members_drives}
 use Rattle.assembler.proofs.Entry.{meaning_entry, quiet_first, quiet_last, refusal_entry, rest_found, rested_so}
 use Rattle.assembler.proofs.Meaning.{check_fails, check_passes}
 use Rattle.assembler.proofs.Volumes.{volume_opened, volume_why}
@@ -122,3 +125,68 @@ returns-in-Err-open_volume-clause-exact g c e sound quiet =
     volume_why seen g.R.Rack.runs f (slices_of (tables m.slices) y) raid arrays c.make_rack.ensures.fresh a (seen back.rack) back.rack back.why refused
     (refusal_entry seen a rest e sound rested
     ∙ check_passes x rest.scan.disks.items rest.state (tables rest.slices) rest.on.items rest.log rest.pending rest.damaged f found rested.settled.whole m.checked checked.1)
+
+pub returns-in-Err-check-clause-written : goal.returns-in-Err-check-clause-written
+returns-in-Err-check-clause-written g c = inr (inl (writes_then_reads _ _ _ c.in-Ok.ensures.only c.in-Err-check.ensures.kept))
+
+pub returns-in-Ok-open_volume-clause-drives : goal.returns-in-Ok-open_volume-clause-drives
+returns-in-Ok-open_volume-clause-drives g c =
+    let seen = g.R.Rack.seen in
+    let rest = c.in-Ok.rest in
+    let m = c.in-Ok-check.members in
+    let raid = c.make_rack.result in
+    let volume = c.in-Ok-open_volume.volume in
+    let opens = c.in-Ok-open_volume.ensures.opens in
+    let inside = c.make_rack.ensures.fit.running.set.fit in
+    let t : Slices = tables m.slices in
+    let z : Seen = seen (below_of (slices_in raid)) in
+    let w : Seen = seen (below_of (slices_in (rack_in volume))) in
+    let first = c.make_rack.ensures.runs in
+    let second : WritesOnly z w (IsSliced t) = subst (λ (u : Slices). WritesOnly z w (IsSliced u)) first.tables (opens.kept.0.apart inside.0 inside.1) in
+    record {
+      mid = below_of rest.slices;
+      kept = (
+        c.in-Ok.ensures.runs,
+        g.met.R.Rack.runs_then _ _ _ c.in-Ok-check.ensures.runs (g.met.R.Rack.runs_then _ _ _ first.below opens.kept.0.below),
+      );
+      early = c.in-Ok.ensures.only;
+      known = rest.scan.disks.items;
+      state = rest.state;
+      newest = c.in-Ok.ensures.newest;
+      one = c.in-Ok.ensures.one;
+      late = members_drives m.state t (seen (below_of m.slices)) m.checked m.absent.items rest.scan.disks.items rest.state m.slices.orderly c.in-Ok-check.ensures.members
+          c.in-Ok-check.ensures.state c.in-Ok-check.ensures.seats (seen (below_of rest.slices)) z w c.in-Ok-check.ensures.only
+          (first.apart c.in-Ok-check.ensures.members.fit.0 c.in-Ok-check.ensures.members.fit.1) second;
+    }
+
+pub returns-in-Err-open_volume-clause-written : goal.returns-in-Err-open_volume-clause-written
+returns-in-Err-open_volume-clause-written g c =
+    let seen = g.R.Rack.seen in
+    let rest = c.in-Ok.rest in
+    let m = c.in-Ok-check.members in
+    let raid = c.make_rack.result in
+    let refused = c.in-Err-open_volume.ensures.refused in
+    let back = c.in-Err-open_volume.back.rack in
+    let inside = c.make_rack.ensures.fit.running.set.fit in
+    let t : Slices = tables m.slices in
+    let z : Seen = seen (below_of (slices_in raid)) in
+    let w : Seen = seen back in
+    let first = c.make_rack.ensures.runs in
+    let second : WritesOnly z w (IsSliced t) =
+    subst (λ r. WritesOnly z (seen r) (IsSliced t)) refused.back
+    (subst (λ (u : Slices). WritesOnly z (seen (below_of (slices_in refused.last))) (IsSliced u)) first.tables (refused.kept.0.apart inside.0 inside.1)) in
+    inr (inr (record {
+      mid = below_of rest.slices;
+      kept = (
+        c.in-Ok.ensures.runs,
+        g.met.R.Rack.runs_then _ _ _ c.in-Ok-check.ensures.runs (g.met.R.Rack.runs_then _ _ _ first.below c.in-Err-open_volume.ensures.returned),
+      );
+      early = c.in-Ok.ensures.only;
+      known = rest.scan.disks.items;
+      state = rest.state;
+      newest = c.in-Ok.ensures.newest;
+      one = c.in-Ok.ensures.one;
+      late = members_drives m.state t (seen (below_of m.slices)) m.checked m.absent.items rest.scan.disks.items rest.state m.slices.orderly c.in-Ok-check.ensures.members
+          c.in-Ok-check.ensures.state c.in-Ok-check.ensures.seats (seen (below_of rest.slices)) z w c.in-Ok-check.ensures.only
+          (first.apart c.in-Ok-check.ensures.members.fit.0 c.in-Ok-check.ensures.members.fit.1) second;
+    }))
