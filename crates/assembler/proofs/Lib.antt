@@ -1,4 +1,3 @@
-mod Alive
 mod Amid
 mod Arrays
 mod Copied

@@ -1,5 +1,5 @@
 -- The volume that is opened on arrays which hold what a pool's drives mean is the volume of the meaning.
-use Rattle.std.proofs.Common.{◌≡◌, ℕ, ◌+◌, ◌*◌, ◌<◌, ◌≤◌, Bool, true, false, ◌==◌, ◌&&◌, ◌||◌, not, nat_le, nat_lt, bytes_eq, if◌then◌else◌, List, [], map, Option, Some, None, option_map, refl, sym, ap, ap₂, inl, inr, subst, ◌∙◌, lt-ltb, ltb-true, arith}
+use Rattle.std.proofs.Common.{◌≡◌, ℕ, ◌+◌, ◌*◌, ◌<◌, ◌≤◌, Bool, true, false, ◌==◌, ◌&&◌, ◌||◌, not, nat_le, nat_lt, bytes_eq, if◌then◌else◌, List, [], map, Option, Some, None, refl, sym, ap, ap₂, inl, inr, subst, ◌∙◌, lt-ltb, ltb-true, arith}
 use Rattle.std.specs.Option.{option_map_or}
 use Rattle.std.specs.List.{list_all}
 use Rattle.rack.specs.Values.{MayLeave}
@@ -10,13 +10,13 @@ use Rattle.lvm_text.specs.declared.group.Group.{Group}
 use Rattle.lvm_group.specs.Brought.{IsBefore}
 use Rattle.lvm_group.specs.Group.{first_bad, has_own_label, names_array, group_in, has_own_head, is_bad, is_bad_by, is_only_lv, is_own_group, is_pv, is_pv_of, highest, differ, parts_in}
 use Rattle.lvm_group.specs.Ids.{array_named, pv_id, text_id}
-use Rattle.lvm_group.specs.Opening.{AreNow, AreServed, IsBadVolume, IsUnopened, Opens, within_sectors}
+use Rattle.lvm_group.specs.Opening.{AreNow, AreServed, IsBadVolume, Opens, within_sectors}
 use Rattle.lvm_group.specs.Parts.{has_bad_text, part_of}
 use Rattle.lvm_group.specs.Laws.{array_below, sector_below, shows}
 use Rattle.lvm_group.specs.Runs.{IsOrderly, Linear, array_of, data_start, sector_of, sectors_in}
 use Rattle.lvm_group.specs.Shown.{IsInside, contents_of, volume_of}
 use Rattle.pool_image.specs.Drives.{Found}
-use Rattle.pool_image.specs.Meaning.{Volume, array_sectors, arrays_held, bad_volume, joined_arrays, refusal_of, volume_by}
+use Rattle.pool_image.specs.Meaning.{Volume, array_sectors, arrays_held, joined_arrays, volume_by}
 use Rattle.pool_image.specs.Volumes.{linear_of}
 use Rattle.pool_image.specs.Volumes as meant
 use Rattle.pool_image.proofs.Groups.{AreWholeArrays, bad_alike, find_below, group_alike, map_below}
@@ -28,15 +28,7 @@ use Rattle.raid_rack.specs.Book.{IsSameBook}
 use Rattle.raid_rack.specs.Raid.{held_in}
 use Rattle.raid_rack.specs.RaidRack.{raid_in, raid_seen, refused_in, slices_seen}
 use Rattle.assembler.specs.Holding.{HoldsArrays}
-use Rattle.lvm_group.specs.declared.volume.VolumeFault.{VolumeFault}
-use Rattle.lvm_group.specs.declared.volume.VolumeFault.TheVariants as fault
-use Rattle.pool_image.specs.Disks.{disks_of}
-use Rattle.pool_scan.specs.Scanning.{now_in}
-use Rattle.assembler.specs.declared.refusal.Refusal.{Refusal}
-use Rattle.assembler.specs.Refusing.{by_volume, meant_by}
-use Rattle.assembler.specs.Sound.{IsMeantRefusal}
-use Rattle.assembler.specs.Volume.{AllLive, HoldsVolume, IsVolumeOf, OpensVolume, RefusesVolume}
-use Rattle.assembler.proofs.Alive.{all_live}
+use Rattle.assembler.specs.Volume.{AllLive, HoldsVolume, IsVolumeOf, OpensVolume}
 
 -- ---- what is said of the joined arrays goes by these alone
 
@@ -192,19 +184,3 @@ module _ {R : Type 0} (seen : R → Seen) (runs : R → R → Type 0) (f : Found
       (subst (λ k. IsBadVolume f.state.pool.0 f.state.extent k p q n) book.joined
       (subst (λ k. IsBadVolume f.state.pool.0 k (raid_in x).state.joined p q n) book.extent
       (subst (λ (k : Id). IsBadVolume k.0 (raid_in x).state.extent (raid_in x).state.joined p q n) book.pool bad)))
-
-  -- why none was opened, where the drives are refused for their volume alone
-  pub volume_why : (from to : Seen) (rack : R) (why : Refusal) → RefusesVolume seen runs x rack why
-      → refusal_of (disks_of from) (now_in from) ≡ option_map bad_volume (meant.first_bad (joined_arrays f)) → IsMeantRefusal from to rack why
-  volume_why from to rack why refused alone = by refused.fault refl
-    where
-      by : (fault : VolumeFault) → refused.fault ≡ fault → IsMeantRefusal from to rack why
-      by fault.Memory is = inl (refused.is ∙ ap (λ k. by_volume k) is)
-      by (fault.BadVolume n) is =
-          let cause = subst (λ k. IsUnopened (raid_in x).state.pool.0 (raid_in x).state.extent (raid_in x).state.joined (raid_seen seen x) (raid_seen seen refused.last) k) is refused.cause in
-          elim (all_live (raid_in refused.last)) [
-            | inr short ↦ inr (inr (inr (record { last = refused.last; back = refused.back; spent = short })))
-            | inl alive ↦
-                inr (inl (alone ∙ ap (option_map bad_volume) (volume_refused refused.last n cause refused.kept alive)
-                ∙ sym (ap meant_by (refused.is ∙ ap (λ k. by_volume k) is))))
-          ]

@@ -1,19 +1,16 @@
 -- Disks from which a pool is opened, and what an opening answers by what they mean.
 use Rattle.std.specs.Prelude.{◌≡◌, ◌⊎◌, ◌∷◌, [], Some}
 use Rattle.rack.specs.Seen.{Seen}
-use Rattle.slice_rack.specs.SliceRack.{below_of}
 use Rattle.pool_image.specs.Disks.{disks_of}
 use Rattle.pool_image.specs.Drives.{Found, found}
 use Rattle.pool_image.specs.Meaning.{Volume, meaning, refusal_of}
 use Rattle.pool_scan.specs.Scanning.{now_in}
 use Rattle.pool_rest.specs.SoundLogs.{HasSoundLogs}
-use Rattle.raid_rack.specs.declared.arrays.RaidRack.{RaidRack}
-use Rattle.raid_rack.specs.RaidRack.{raid_in, slices_in}
 use Rattle.assembler.specs.declared.refusal.Refusal.{Refusal}
-use Rattle.assembler.specs.declared.refusal.Refusal.TheVariants.{Memory, TwoPools}
+use Rattle.assembler.specs.declared.refusal.Refusal.TheVariants.{TwoPools}
 use Rattle.assembler.specs.Holding.{AreSteady, IsSoundPool}
 use Rattle.assembler.specs.Refusing.{meant_by}
-use Rattle.assembler.specs.Volume.{AllLive, HoldsVolume}
+use Rattle.assembler.specs.Volume.{HoldsVolume}
 
 -- Disks that hold a sound pool: they are told, each sector of them has one value, and by these the pool's logs, states and
 -- superblocks agree. A drive may be absent, and parts of it damaged.
@@ -29,17 +26,8 @@ pub record IsMeantBy (x y : Seen) : Type 0 where
   pub meant : meaning (disks_of x) (now_in x) ≡ Some (volume ∷ [])
   pub holds : HoldsVolume y volume
 
--- arrays came to their end: a sector was spent
-pub record RanOut {R : Type 0} (rack : R) : Type 0 where
-  pub last : RaidRack R
-  pub back : below_of (slices_in last) ≡ rack
-  pub spent : AllLive (raid_in last) → ⊥
-
--- Why disks are refused: memory ran out, or their meaning is refused so, before the pending record is written or after it, or the arrays
--- came to their end.
-abbrev pub IsMeantRefusal : {R : Type 0} → Seen → Seen → R → Refusal → Type 0
-IsMeantRefusal x y rack why =
-    (why ≡ Memory)
-    ⊎ ((refusal_of (disks_of x) (now_in x) ≡ meant_by why)
-    ⊎ (((why ≡ TwoPools) × (refusal_of (disks_of y) (now_in y) ≡ meant_by why))
-    ⊎ RanOut rack))
+-- Why disks are refused: their meaning is refused so before the pending record is written, or two pools are there once it is.
+abbrev pub IsMeantRefusal : Seen → Seen → Refusal → Type 0
+IsMeantRefusal x y why =
+    (refusal_of (disks_of x) (now_in x) ≡ meant_by why)
+    ⊎ ((why ≡ TwoPools) × (refusal_of (disks_of y) (now_in y) ≡ meant_by why))

@@ -71,12 +71,12 @@ pub fn assemble<R: Rack>(
     // In all, only drives are written: sectors of their log slices and of the arrays' part.
     ensures drives { IfOk result (λ volume. WritesPool R.seen R.runs rack (below_of (slices_in (rack_in volume)))) }
     ensures written { IfErr result (λ back. OnlyReads (R.seen rack) (R.seen back.rack) ⊎ (WritesDrives (R.seen rack) (R.seen back.rack) ⊎ WritesPool R.seen R.runs rack back.rack)) }
-    // Where the disks hold a sound pool and none refuses a call, the volume is the one that they mean; it is refused only as their
-    // meaning is, or for want of memory. Both hold as long as the arrays have no spent sector.
+    // Where the disks hold a sound pool and none refuses a call, the volume is the one that they mean, as long as no sector of the arrays
+    // is spent, and no refusal of the disks but their meaning's is answered.
     ensures meant { IfOk result (λ volume. (f : Found) → HoldSound (R.seen rack) f → IsUnfaulted (R.seen rack) (R.seen (below_of (slices_in (rack_in volume))))
         → AllLive (raid_in (rack_in volume)) → IsMeantBy (R.seen rack) (volume_of (linear volume) (raid_seen R.seen (rack_in volume)))) }
     ensures exact { IfErr result (λ back. (f : Found) → HoldSound (R.seen rack) f → IsUnfaulted (R.seen rack) (R.seen back.rack)
-        → IsMeantRefusal (R.seen rack) (R.seen back.rack) back.rack back.why) }
+        → is_early back.why ≡ true → IsMeantRefusal (R.seen rack) (R.seen back.rack) back.why) }
     ensures returned { IfErr result (λ back. R.runs rack back.rack) }
 {
     let rest = match bring_to_rest(alloc, rack) {

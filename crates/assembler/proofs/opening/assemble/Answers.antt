@@ -1,7 +1,7 @@
 use Rattle.slice_rack.specs.SliceRack.{below_of, tables}
 use Rattle.slice_rack.specs.Sliced.{slices_of}
 use Rattle.raid_rack.specs.RaidRack.{slices_in}
-use Rattle.std.proofs.Common.{◌⊎◌, option_map, inl, inr, sym, ap, subst, ◌∙◌}
+use Rattle.std.proofs.Common.{◌⊎◌, option_map, inl, inr, refl, sym, ap, subst, ◌∙◌}
 use Rattle.std.proofs.lemmas.Bool.{both_ways}
 use Rattle.rack.specs.Seen.{Seen, Stays}
 use Rattle.rack.specs.Joins.{stays_then}
@@ -13,12 +13,13 @@ use Rattle.pool_image.specs.Meaning.{arrays_held, bad_volume, joined_arrays, vol
 use Rattle.pool_image.specs.Volumes.{linear_of}
 use Rattle.pool_scan.specs.Scanning.{IsUnfaulted}
 use Rattle.pool_rest.specs.Resting.{WritesDrives}
+use Rattle.assembler.specs.declared.refusal.Refusal.TheVariants.{Memory}
 use Rattle.assembler.specs.Refusing.{is_early}
 use Rattle.assembler.proofs.Written.{writes_then_reads}
 use Rattle.assembler.proofs.Drives.{members_drives}
 use Rattle.assembler.proofs.Entry.{meaning_entry, quiet_first, quiet_last, refusal_entry, rest_found, rested_so}
 use Rattle.assembler.proofs.Meaning.{check_fails, check_passes}
-use Rattle.assembler.proofs.Volumes.{volume_opened, volume_why}
+use Rattle.assembler.proofs.Volumes.{volume_opened}
 use Rattle.assembler.proofs.opening.assemble.Goals as goal
 
 pub returns-in-Ok-open_volume-clause-runs : goal.returns-in-Ok-open_volume-clause-runs
@@ -78,7 +79,7 @@ returns-in-Ok-open_volume-clause-meant g c e sound quiet alive =
     }
 
 pub returns-in-Err-check-clause-exact : goal.returns-in-Err-check-clause-exact
-returns-in-Err-check-clause-exact g c e sound quiet =
+returns-in-Err-check-clause-exact g c e sound quiet early =
     let seen = g.R.Rack.seen in
     let a : Seen = seen c.args.rack in
     let rest = c.in-Ok.rest in
@@ -92,39 +93,13 @@ returns-in-Err-check-clause-exact g c e sound quiet =
     let found = rest_found seen a rest e sound rested in
     elim (check_fails x rest.scan.disks.items rest.state (tables rest.slices) rest.on.items rest.log rest.pending rest.damaged f found rested.settled.whole y rest.gone.items back.why
     c.in-Ok.ensures.valid (λ p d named seat. to_x d (c.in-Ok.ensures.gone p d named seat)) (quiet_last a x y ax quiet) c.in-Err-check.ensures.refused) [
-      | inl is ↦ inr (inl (refusal_entry seen a rest e sound rested ∙ is))
-      | inr memory ↦ inl memory
+      | inl is ↦ inl (refusal_entry seen a rest e sound rested ∙ is)
+      | inr memory ↦ absurd (both_ways (is_early Memory) refl (sym (ap is_early memory) ∙ early))
     ]
 
 pub returns-in-Err-open_volume-clause-exact : goal.returns-in-Err-open_volume-clause-exact
-returns-in-Err-open_volume-clause-exact g c e sound quiet =
-    let seen = g.R.Rack.seen in
-    let a : Seen = seen c.args.rack in
-    let rest = c.in-Ok.rest in
-    let x : Seen = seen (below_of rest.slices) in
-    let m = c.in-Ok-check.members in
-    let y : Seen = seen (below_of m.slices) in
-    let raid = c.make_rack.result in
-    let z : Seen = seen (below_of (slices_in raid)) in
-    let back = c.in-Err-open_volume.back in
-    let refused = c.in-Err-open_volume.ensures.refused in
-    let w : Seen = seen (below_of (slices_in refused.last)) in
-    let inside = c.make_rack.ensures.fit.running.set.fit in
-    let ax : Stays a x = c.in-Ok.ensures.only.only.stays in
-    let xy : Stays x y = c.in-Ok-check.ensures.only.stays in
-    let yz : Stays y z = (c.make_rack.ensures.runs.apart c.in-Ok-check.ensures.members.fit.0 c.in-Ok-check.ensures.members.fit.1).stays in
-    let to_w : IsUnfaulted a w = subst (λ r. IsUnfaulted a (seen r)) (sym refused.back) quiet in
-    let to_z : IsUnfaulted a z = quiet_first a z w (refused.kept.0.apart inside.0 inside.1).stays to_w in
-    let to_y : IsUnfaulted a y = quiet_first a y z yz to_z in
-    let to_x : IsUnfaulted a x = quiet_first a x y xy to_y in
-    let rested = rested_so seen a rest e sound ax to_x c.in-Ok.ensures.newest c.in-Ok.ensures.stands c.in-Ok.ensures.settled c.in-Ok.ensures.steady c.in-Ok.ensures.looked c.in-Ok.ensures.single in
-    let f = rested.settled.means.now in
-    let found = rest_found seen a rest e sound rested in
-    let checked = c.in-Ok-check.ensures.holds f found (λ p d named seat. to_x d (c.in-Ok.ensures.gone p d named seat)) (quiet_last a x y ax to_y) in
-    let arrays = c.make_rack.ensures.holds f checked.0 checked.1 (λ none. quiet_last a y z (stays_then ax xy) to_z) in
-    volume_why seen g.R.Rack.runs f (slices_of (tables m.slices) y) raid arrays c.make_rack.ensures.fresh a (seen back.rack) back.rack back.why refused
-    (refusal_entry seen a rest e sound rested
-    ∙ check_passes x rest.scan.disks.items rest.state (tables rest.slices) rest.on.items rest.log rest.pending rest.damaged f found rested.settled.whole m.checked checked.1)
+returns-in-Err-open_volume-clause-exact g c e sound quiet early =
+    absurd (both_ways (is_early c.in-Err-open_volume.back.why) c.in-Err-open_volume.ensures.late early)
 
 pub returns-in-Err-check-clause-written : goal.returns-in-Err-check-clause-written
 returns-in-Err-check-clause-written g c = inr (inl (writes_then_reads _ _ _ c.in-Ok.ensures.only c.in-Err-check.ensures.kept))
