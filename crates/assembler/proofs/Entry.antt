@@ -92,16 +92,16 @@ module _ {R : Type 0} (seen : R → Seen) (a : Seen) (rest : AtRest R) (e : Foun
   disks_same : disks_of a ≡ disks_of x
   disks_same = ap₂ (λ count sectors. record { count = count; sectors = sectors }) (sym stays.disks) (λ i d. sym (stays.sectors d) i)
 
-  pool : IsSamePool e f
-  pool = subst (λ (k : Found). IsSamePool k f) (some_same means.before e (sym means.found_before ∙ sound.found_is)) means.pool
+  pub pool_same : IsSamePool e f
+  pool_same = subst (λ (k : Found). IsSamePool k f) (some_same means.before e (sym means.found_before ∙ sound.found_is)) means.pool
 
   told : AllTold x
   told d disk = stays.told d (sound.steady.told d (subst (λ n. d < n) stays.disks disk))
 
   sound_now : IsSoundPool f
   sound_now = record {
-    rules = sound_same e f pool sound.sound.rules;
-    own = λ n u low is. sound.sound.own n u (subst (λ (k : State). n < k.made) pool.state low) (sym (truths_same e f pool n) ∙ is);
+    rules = sound_same e f pool_same sound.sound.rules;
+    own = λ n u low is. sound.sound.own n u (subst (λ (k : State). n < k.made) pool_same.state low) (sym (truths_same e f pool_same n) ∙ is);
   }
 
   pub rest_found : IsFoundOn x rest.scan.disks.items rest.state (tables rest.slices) rest.on.items rest.log rest.pending rest.damaged f

@@ -6,6 +6,7 @@ mod Entry
 mod Finding
 mod Holding
 mod Later
+mod Marks
 mod Meaning
 mod Refusals
 mod Rest

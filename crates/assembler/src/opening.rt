@@ -1,6 +1,6 @@
 //! From the disks of a rack to a volume.
 
-ghost use Rattle.std.specs.Prelude.{◌≡◌, ◌⊎◌, ◌<◌, ◌≤◌, ◌^◌, ℕ, true, false, IfOk, IfErr};
+ghost use Rattle.std.specs.Prelude.{◌≡◌, ◌⊎◌, ◌&&◌, is_some, ◌<◌, ◌≤◌, ◌^◌, ℕ, true, false, IfOk, IfErr};
 ghost use Rattle.rack.specs.Sequences.{OnlyReads};
 ghost use Rattle.pool_rest.specs.Resting.{WritesDrives};
 ghost use Rattle.assembler.specs.Refusing.{is_early};
@@ -9,6 +9,7 @@ ghost use Rattle.lvm_group.specs.Shown.{total, volume_of};
 ghost use Rattle.lvm_group.specs.Volume.{below_of as rack_in, linear, seqno_of};
 ghost use Rattle.assembler.specs.Sound.{HoldSound, IsMeantBy, IsMeantRefusal};
 ghost use Rattle.assembler.specs.Volume.{AllLive, OpensVolume, RefusesVolume};
+ghost use Rattle.array_image.specs.States.{is_current};
 ghost use Rattle.assembler.specs.Writing.{WritesPool};
 ghost use Rattle.pool_image.specs.Drives.{Found};
 ghost use Rattle.pool_scan.specs.Scanning.{IsUnfaulted};
@@ -75,6 +76,9 @@ pub fn assemble<R: Rack>(
     // is spent, and no refusal of the disks but their meaning's is answered.
     ensures meant { IfOk result (λ volume. (f : Found) → HoldSound (R.seen rack) f → IsUnfaulted (R.seen rack) (R.seen (below_of (slices_in (rack_in volume))))
         → AllLive (raid_in (rack_in volume)) → IsMeantBy (R.seen rack) (volume_of (linear volume) (raid_seen R.seen (rack_in volume)))) }
+    // Then those drives alone are marked missing that the pool had marked, or that have no disk.
+    ensures marks { IfOk result (λ volume. (f : Found) → HoldSound (R.seen rack) f → IsUnfaulted (R.seen rack) (R.seen (below_of (slices_in (rack_in volume))))
+        → (p : ℕ) → is_current (raid_in (rack_in volume)).state p ≡ (is_current f.state p && is_some (f.seats p))) }
     ensures exact { IfErr result (λ back. (f : Found) → HoldSound (R.seen rack) f → IsUnfaulted (R.seen rack) (R.seen back.rack)
         → is_early back.why ≡ true → IsMeantRefusal (R.seen rack) (R.seen back.rack) back.why) }
     ensures returned { IfErr result (λ back. R.runs rack back.rack) }

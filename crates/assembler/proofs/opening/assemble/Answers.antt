@@ -1,13 +1,16 @@
 use Rattle.slice_rack.specs.SliceRack.{below_of, tables}
 use Rattle.slice_rack.specs.Sliced.{slices_of}
-use Rattle.raid_rack.specs.RaidRack.{slices_in}
-use Rattle.std.proofs.Common.{◌⊎◌, option_map, inl, inr, refl, sym, ap, subst, ◌∙◌}
+use Rattle.raid_rack.specs.RaidRack.{raid_in, slices_in, slices_seen, written_in}
+use Rattle.pool_state.specs.declared.contents.State.{State}
+use Rattle.array_image.specs.States.{is_current}
+use Rattle.commit_log.specs.View.{names}
+use Rattle.std.proofs.Common.{◌≡◌, ◌⊎◌, ◌&&◌, ℕ, Bool, true, false, not, is_none, is_some, Option, Some, None, ap₂, option_map, inl, inr, refl, sym, ap, subst, ◌∙◌}
 use Rattle.std.proofs.lemmas.Bool.{both_ways}
-use Rattle.rack.specs.Seen.{Seen, Stays}
+use Rattle.rack.specs.Seen.{Rose, Seen, Stays}
 use Rattle.rack.specs.Joins.{stays_then}
 use Rattle.rack.specs.Sequences.{OnlyReads, WritesOnly}
 use Rattle.slice_rack.specs.Runs.{IsSliced}
-use Rattle.slice_rack.specs.Slices.{Slices}
+use Rattle.slice_rack.specs.Slices.{Slices, disk_of, seat_of}
 use Rattle.lvm_group.specs.Volume.{below_of as rack_in, linear, seqno_of}
 use Rattle.pool_image.specs.Meaning.{arrays_held, bad_volume, joined_arrays, volume_by}
 use Rattle.pool_image.specs.Volumes.{linear_of}
@@ -17,7 +20,8 @@ use Rattle.assembler.specs.declared.refusal.Refusal.TheVariants.{Memory}
 use Rattle.assembler.specs.Refusing.{is_early}
 use Rattle.assembler.proofs.Written.{writes_then_reads}
 use Rattle.assembler.proofs.Drives.{members_drives}
-use Rattle.assembler.proofs.Entry.{meaning_entry, quiet_first, quiet_last, refusal_entry, rest_found, rested_so}
+use Rattle.assembler.proofs.Entry.{meaning_entry, quiet_first, quiet_last, refusal_entry, pool_same, rest_found, rested_so}
+use Rattle.assembler.proofs.Marks.{marks_still}
 use Rattle.assembler.proofs.Meaning.{check_fails, check_passes}
 use Rattle.assembler.proofs.Volumes.{volume_opened}
 use Rattle.assembler.proofs.opening.assemble.Goals as goal
@@ -165,3 +169,52 @@ returns-in-Err-open_volume-clause-written g c =
           c.in-Ok-check.ensures.state c.in-Ok-check.ensures.seats (seen (below_of rest.slices)) z w c.in-Ok-check.ensures.only
           (first.apart c.in-Ok-check.ensures.members.fit.0 c.in-Ok-check.ensures.members.fit.1) second;
     }))
+
+pub returns-in-Ok-open_volume-clause-marks : goal.returns-in-Ok-open_volume-clause-marks
+returns-in-Ok-open_volume-clause-marks g c e sound quiet p =
+    let seen = g.R.Rack.seen in
+    let a : Seen = seen c.args.rack in
+    let rest = c.in-Ok.rest in
+    let x : Seen = seen (below_of rest.slices) in
+    let m = c.in-Ok-check.members in
+    let y : Seen = seen (below_of m.slices) in
+    let raid = c.make_rack.result in
+    let z : Seen = seen (below_of (slices_in raid)) in
+    let volume = c.in-Ok-open_volume.volume in
+    let w : Seen = seen (below_of (slices_in (rack_in volume))) in
+    let opens = c.in-Ok-open_volume.ensures.opens in
+    let inside = c.make_rack.ensures.fit.running.set.fit in
+    let members = c.in-Ok-check.ensures.members in
+    let ax : Stays a x = c.in-Ok.ensures.only.only.stays in
+    let xy : Stays x y = c.in-Ok-check.ensures.only.stays in
+    let yz : Stays y z = (c.make_rack.ensures.runs.apart members.fit.0 members.fit.1).stays in
+    let to_z : IsUnfaulted a z = quiet_first a z w (opens.kept.0.apart inside.0 inside.1).stays quiet in
+    let to_y : IsUnfaulted a y = quiet_first a y z yz to_z in
+    let to_x : IsUnfaulted a x = quiet_first a x y xy to_y in
+    let rested = rested_so seen a rest e sound ax to_x c.in-Ok.ensures.newest c.in-Ok.ensures.stands c.in-Ok.ensures.settled c.in-Ok.ensures.steady c.in-Ok.ensures.looked c.in-Ok.ensures.single in
+    let f = rested.settled.means.now in
+    let found = rest_found seen a rest e sound rested in
+    let checked = c.in-Ok-check.ensures.holds f found (λ q d named seat. to_x d (c.in-Ok.ensures.gone q d named seat)) (quiet_last a x y ax to_y) in
+    let from_z : IsUnfaulted z w = quiet_last a z w (stays_then ax (stays_then xy yz)) quiet in
+    let later = marks_still (written_in raid) (written_in (rack_in volume)) (raid_in raid) (raid_in (rack_in volume)) (slices_seen seen raid) (slices_seen seen (rack_in volume))
+    opens.kept.1 c.make_rack.ensures.fit.heeded c.in-Ok-open_volume.ensures.fit.0.heeded
+    (λ place fault. from_z (disk_of (tables (slices_in raid)) fault.0)
+    (subst (λ t. Rose (z.faults (disk_of (tables (slices_in raid)) fault.0)) (w.faults (disk_of t fault.0))) opens.kept.0.tables fault.2)) p in
+    later
+    ∙ c.make_rack.ensures.marks (quiet_last a y z (stays_then ax xy) to_z) p
+    ∙ marks_of (is_current m.state p) (is_none (seat_of (tables m.slices) p)) (names m.absent.items p) (members.absent_is p)
+    ∙ ap (λ b. is_current m.state p && b) (some_is (seat_of (tables m.slices) p))
+    ∙ ap₂ (λ (s : State) (o : Option ℕ). is_current s p && is_some o) (sym checked.0.pool.state) (sym (checked.0.pool.seats p))
+    ∙ ap₂ (λ (s : State) (o : Option ℕ). is_current s p && is_some o) (pool_same seen a rest e sound rested).state ((pool_same seen a rest e sound rested).seats p)
+  where
+    some_is : (o : Option ℕ) → not (is_none o) ≡ is_some o
+    some_is None = refl
+    some_is (Some d) = refl
+
+    marks_of : (current none absent : Bool) → absent ≡ (none && current) → (current && not absent) ≡ (current && not none)
+    marks_of true none absent is = ap not (is ∙ of none)
+      where
+        of : (b : Bool) → (b && true) ≡ b
+        of true = refl
+        of false = refl
+    marks_of false none absent is = refl

@@ -1,20 +1,22 @@
 use Rattle.std.proofs.Common.{◌≡◌, ℕ, ◌≤◌, List, [], ◌∷◌, Some, slice_get, option_map, refl, sym, ap, subst, ◌∙◌}
 use Rattle.std.proofs.lemmas.Option.{get_or_from_slice_get}
 use Rattle.arrayvec.specs.ArrayVec.{with_items}
-use Rattle.rack.specs.Seen.{Seen, Rose}
-use Rattle.rack.specs.Joins.{rose_before}
+use Rattle.rack.specs.Seen.{Seen, Stays, Rose}
+use Rattle.rack.specs.Joins.{rose_before, rose_since}
 use Rattle.slice_rack.specs.Slices.{Slices, disk_of, seat_of}
 use Rattle.slice_rack.specs.SliceRack.{tables, below_of}
 use Rattle.slice_rack.specs.Sliced.{IsInside, slices_of}
 use Rattle.slice_rack.specs.Runs.{inside_still, runs_join}
 use Rattle.array_image.specs.States.{current_places}
-use Rattle.array_model.specs.View.{View, IsArray, sectors_of}
+use Rattle.array_model.specs.View.{View, HasFault, IsArray, sectors_of}
 use Rattle.array_core.specs.Seats.{gone, restarted}
+use Rattle.commit_log.specs.View.{names}
 use Rattle.raid_rack.specs.RaidRack.{IsRunning, SliceRuns, arrays_in, no_array, raid_in, slices_in, slices_seen}
 use Rattle.raid_rack.specs.Moves.{Mends}
 use Rattle.raid_rack.proofs.Mended.{each_items}
 use Rattle.assembler.specs.Holding.{HoldsArrays}
 use Rattle.assembler.proofs.Holding.{nobody_went, rack_closed, rack_still}
+use Rattle.assembler.proofs.Marks.{marks_absent}
 use Rattle.assembler.proofs.Running.{array_now, current_logs, members_later, rack_running, twice}
 use Rattle.assembler.proofs.Sizes.{total_small}
 use Rattle.assembler.proofs.Whole.{whole_member}
@@ -147,3 +149,50 @@ returns-clause-holds g c f holds found quiet =
 
 pub returns-clause-fresh : goal.returns-clause-fresh
 returns-clause-fresh g c n = c.mark_gone.ensures.refused n ∙ c.new-raid.ensures.refused n
+
+pub returns-clause-marks : goal.returns-clause-marks
+returns-clause-marks g c quiet p =
+    let m = c.args.members in
+    let members = c.requires.members in
+    let seen = g.R.Rack.seen in
+    let y : Seen = seen (below_of m.slices) in
+    let t : Slices = tables m.slices in
+    let places = c.close_gates-gone.result.items in
+    let closed = c.close_gates-gone.new.slices in
+    let last = slices_in c.mark_gone.new.self in
+    let z : Seen = seen (below_of last) in
+    let first = (each_items m.checked.arrays c.as_mut_slice.result.now c.restart_rebuilds.new.arrays restarted c.as_mut_slice.ensures.value c.restart_rebuilds.ensures).0 in
+    let second = (each_items (with_items m.checked.arrays c.restart_rebuilds.new.arrays) c.as_mut_slice-2.result.now c.note_gone.new.arrays (gone places) c.as_mut_slice-2.ensures.value c.note_gone.ensures).0 in
+    let items = c.new-raid.result.arrays.all.items in
+    let are : (n : ℕ) (u : View) → slice_get m.checked.arrays.items n ≡ Some u → (raid_in c.new-raid.result).arrays n ≡ gone places (restarted u) =
+    λ n u is.
+    get_or_from_slice_get items n (gone places (restarted u)) no_array
+    (ap (λ xs. slice_get xs n) c.new-raid.ensures.arrays ∙ second n
+    ∙ ap (option_map (gone places)) (first n) ∙ twice places (slice_get m.checked.arrays.items n) ∙ ap (option_map (λ v. gone places (restarted v))) is) in
+    let before : Seen = slices_of (tables closed) (seen (below_of closed)) in
+    let after : Seen = slices_seen seen c.mark_gone.new.self in
+    let mends : Mends (raid_in c.new-raid.result) (raid_in c.mark_gone.new.self) before after =
+    subst (λ k. Mends (raid_in c.new-raid.result) (raid_in c.mark_gone.new.self) (slices_of (tables k) (seen (below_of k))) after) c.new-raid.ensures.slices c.mark_gone.ensures.mends in
+    let closing = c.close_gates-gone.ensures.runs in
+    let early : Stays y (seen (below_of closed)) = (closing.apart members.fit.0 members.fit.1).stays in
+    let marking = subst (λ k. SliceRuns seen g.R.Rack.runs k last) c.new-raid.ensures.slices c.mark_gone.ensures.runs in
+    let inside = subst (λ u. IsInside u (seen (below_of closed))) (sym closing.tables) (inside_still early members.fit.1) in
+    let later : Stays (seen (below_of closed)) z = (marking.apart early.fit inside).stays in
+    let unfaulted : (place : ℕ) → HasFault before after place → ⊥ = λ place fault.
+    quiet (disk_of (tables closed) fault.0)
+    (rose_since (early.faults (disk_of (tables closed) fault.0))
+    (subst (λ u. Rose ((seen (below_of closed)).faults (disk_of (tables closed) fault.0)) (z.faults (disk_of u fault.0))) marking.tables fault.2)) in
+    let nobody : m.absent.items ≡ [] → places ≡ [] = λ none.
+    nobody_went m.log (current_places m.state) places (slices_of t y) before (c.close_gates-gone.ensures.closes none)
+    (λ d rose. quiet (disk_of t d)
+    (rose_before (later.faults (disk_of t d))
+    (subst (λ u. Rose (y.faults (disk_of t d)) ((seen (below_of closed)).faults (disk_of u d))) closing.tables rose))) in
+    let same : (q : ℕ) → names places q ≡ names m.absent.items q =
+    by_list m.absent.items
+    (λ none q. ap (λ ps. names ps q) (nobody none) ∙ sym (ap (λ ps. names ps q) none))
+    (λ some q. ap (λ ps. names ps q) (c.close_gates-gone.ensures.same some)) in
+    marks_absent m.state t y m.checked m.absent.items places members (raid_in c.new-raid.result) c.new-raid.ensures.state are same (raid_in c.mark_gone.new.self) before after mends unfaulted p
+  where
+    by_list : {P : Type 0} (ps : List ℕ) → (ps ≡ [] → P) → ((ps ≡ [] → ⊥) → P) → P
+    by_list [] none some = none refl
+    by_list (p ∷ ps) none some = some (λ is. cc)
