@@ -1,96 +1,95 @@
--- What each call does to the volume of a pool.
-use Rattle.std.specs.Prelude.{◌≡◌, ◌↔◌, ℕ, ◌+◌, ◌<◌, ◌≤◌, List, Result, Err, OnOk, IfErr}
-use Rattle.rack.specs.declared.Gone.{Gone}
-use Rattle.rack.specs.Seen.{Image, Rose, Stays}
-use Rattle.rack.specs.Moments.{Leaves}
+-- What each call of a pool does.
+use Rattle.std.specs.Prelude.{◌≡◌, ◌⊎◌, ◌↔◌, ℕ, ◌<◌, ◌≤◌, ◌^◌, true, false, List, Option, Some, None, Result, Err, OnOk, OnErr}
+use Rattle.rack.specs.Seen.{Image, Seen, Rose, Stays}
+use Rattle.rack.specs.Sequences.{WritesOnly}
 use Rattle.flat_array.specs.Array.{FlatArray, written, flushed}
-use Rattle.pool.specs.declared.BareFault.{BareFault}
-use Rattle.pool.specs.declared.BareFault.TheVariants.{Range, Gone as DriveGone}
-use Rattle.pool.specs.DriveMap.{volume_sectors}
-use Rattle.pool.specs.View.{View, marked, cleaned}
-use Rattle.pool.specs.Volume.{Holds, Means, AreSingle}
+use Rattle.md_super.specs.declared.superblock.Super.{Super}
+use Rattle.array_image.specs.Left.{IsLeft}
+use Rattle.array_image.specs.Places.{log_slice}
+use Rattle.array_image.specs.States.{is_current}
+use Rattle.array_image.specs.Supers.{truth_in}
+use Rattle.array_core.specs.Superblocks.{is_settled, left_offset}
+use Rattle.slice_rack.specs.Slices.{disk_of}
+use Rattle.slice_rack.specs.Runs.{IsSliced}
+use Rattle.raid_rack.specs.Book.{IsAfter}
+use Rattle.raid_rack.specs.Losses.{has_other}
+use Rattle.raid_rack.specs.Raid.{IsTold, is_over}
+use Rattle.pool.specs.declared.calls.LoseFault.{LoseFault}
+use Rattle.pool.specs.declared.calls.LoseFault.TheVariants.{LastDrive, NoSuchDrive}
+use Rattle.pool.specs.declared.calls.SectorFault.{SectorFault}
+use Rattle.pool.specs.declared.calls.SectorFault.TheVariants.{Range, Spent}
+use Rattle.pool.specs.View.{View, book, slices_shown, volume}
+use Rattle.pool.specs.Volume.{Does, Holds, is_spent, size_of, unchanged}
 
--- a disk went: its count of faults rose in the call
-pub record WentIn (x y : View) (d : ℕ) : Type 0 where
-  pub disk : d < x.seen.disks
-  pub rose : Rose (x.seen.faults d) (y.seen.faults d)
+-- What each call keeps: the volume stays where it is, marks and nothing else come to the book, and of the bay's disks only sectors
+-- of slices are written.
+pub record Passes (x y : View) : Type 0 where
+  pub stays : Stays (volume x) (volume y)
+  pub linear : y.linear ≡ x.linear
+  pub slices : y.slices ≡ x.slices
+  pub marks : IsAfter (book x).state (book y).state
+  pub apart : WritesOnly x.bay y.bay (IsSliced x.slices)
 
--- a sector outside is refused so, exactly; a drive only where its faults rose
-pub record HasFault (x y : View) (sector : ℕ) {X : Type 0} (result : Result X BareFault) : Type 0 where
-  pub range : (result ≡ Err Range) ↔ (volume_sectors x.on.state ≤ sector)
-  pub gone : (d : ℕ) → result ≡ Err (DriveGone d) → WentIn x y d
+-- the faults of a place's drive rose
+abbrev pub DriveWent : View → View → ℕ → Type 0
+DriveWent x y place = Rose (x.bay.faults (disk_of x.slices (log_slice place))) (y.bay.faults (disk_of x.slices (log_slice place)))
 
--- what no call changes
-pub record IsSamePool (x y : View) : Type 0 where
-  pub stays : Stays x.seen y.seen
-  pub on : y.on ≡ x.on
-  pub unclean : y.unclean ≡ x.unclean
+-- drives come to be marked lost only where their faults rose, but for these places
+abbrev pub MarksBut : (ℕ → Type 0) → View → View → Type 0
+MarksBut lost x y =
+    (place : ℕ) → is_current (book x).state place ≡ true → is_current (book y).state place ≡ false → DriveWent x y place ⊎ lost place
 
--- the pool holds the array that a call leaves
-abbrev pub Becomes : View → View → (FlatArray → FlatArray) → Type 0
-Becomes x y change = (a : FlatArray) → Holds x a → Holds y (change a)
+abbrev pub Marks : View → View → Type 0
+Marks x y = MarksBut (λ place. ⊥) x y
 
--- a stop inside a call leaves a meaning of the array that it may leave
-abbrev pub LeavesMeanings : View → View → (FlatArray → FlatArray) → Type 0
-LeavesMeanings x y change =
-    x.seen.traced → (a : FlatArray) → Holds x a → Leaves x.seen y.seen (Means x.seen x.on (change a))
+-- A sector is refused exactly where it is outside the volume, and else exactly where it is spent when the call returns.
+pub record HasFault (x y : View) (sector : ℕ) {X : Type 0} (result : Result X SectorFault) : Type 0 where
+  pub range : (result ≡ Err Range) ↔ (size_of x ≤ sector)
+  pub served : OnOk result ((sector < size_of x) × (is_spent y sector ≡ false))
+  pub refused : result ≡ Err Spent → (sector < size_of x) × (is_spent y sector ≡ true)
 
--- a stop at a call's return leaves a meaning of the array after it
-abbrev pub EndsWithMeanings : View → View → (FlatArray → FlatArray) → Type 0
-EndsWithMeanings x y change =
-    x.seen.traced
-    → (a : FlatArray)
-    → Holds x a
-    → (i : Image)
-    → y.seen.stops y.seen.clock i
-    → Means x.seen x.on (change a) i
-
--- no sector changes
-abbrev pub unchanged : FlatArray → FlatArray
-unchanged a = a
-
--- a read gives the current value of the array and changes no value
-pub record ReadsSector (x y : View) (sector : ℕ) (into : List ℕ) {X : Type 0} (result : Result X BareFault)
-    : Type 0 where
-  pub pool : IsSamePool x y
-  pub members : y.members ≡ x.members
+-- a read gives the current value and changes none
+pub record ReadsSector (x y : View) (sector : ℕ) (into : List ℕ) {X : Type 0} (result : Result X SectorFault) : Type 0 where
+  pub passes : Passes x y
+  pub marks : Marks x y
   pub fault : HasFault x y sector result
   pub value : OnOk result ((a : FlatArray) → Holds x a → into ≡ (a.values sector).current)
-  pub becomes : Becomes x y unchanged
-  pub leaves : LeavesMeanings x y unchanged
-  pub ends : EndsWithMeanings x y unchanged
+  pub does : Does x y unchanged unchanged
 
--- a write appends its value, once both superblocks say durably that all rows are left to resync;
--- refused, it counts as written in what a stop may leave
-pub record WritesSector (x y : View) (sector : ℕ) (from : List ℕ) {X : Type 0} (result : Result X BareFault)
-    : Type 0 where
-  pub pool : IsSamePool x y
-  pub members : OnOk result (y.members ≡ marked x.members)
+-- a write appends its value; refused, it changes no sector that isn't spent
+pub record WritesSector (x y : View) (sector : ℕ) (from : List ℕ) {X : Type 0} (result : Result X SectorFault) : Type 0 where
+  pub passes : Passes x y
+  pub marks : Marks x y
   pub fault : HasFault x y sector result
-  pub becomes : OnOk result (Becomes x y (λ a. written a sector from))
-  pub leaves : LeavesMeanings x y (λ a. written a sector from)
-  pub ends : EndsWithMeanings x y (λ a. written a sector from)
+  pub written : OnOk result (Does x y (λ a. written a sector from) (λ a. written a sector from))
+  pub kept : OnErr result (Does x y unchanged unchanged)
 
--- the current value of each sector alone is left, on both members
-abbrev pub AreDurable : View → View → Type 0
-AreDurable x y = (a : FlatArray) → Holds x a → AreSingle y a
+-- a flush leaves the current value of each sector alone
+pub record Flushes (x y : View) : Type 0 where
+  pub passes : Passes x y
+  pub marks : Marks x y
+  pub does : Does x y unchanged flushed
 
--- a flush leaves the current value of each sector alone, on both members
-pub record Flushes (x y : View) {X : Type 0} (result : Result X Gone) : Type 0 where
-  pub pool : IsSamePool x y
-  pub members : y.members ≡ x.members
-  pub gone : IfErr result (λ e. WentIn x y e.disk)
-  pub becomes : OnOk result (Becomes x y flushed)
-  pub durable : OnOk result (AreDurable x y)
-  pub leaves : LeavesMeanings x y unchanged
-  pub ends : OnOk result (EndsWithMeanings x y flushed)
+-- A drive is lost. Refused exactly where the place isn't in the list or is marked missing, and else exactly where no other drive is left.
+pub record LosesDrive (x y : View) (place : ℕ) {X : Type 0} (result : Result X LoseFault) : Type 0 where
+  pub passes : Passes x y
+  pub marks : MarksBut (λ p. p ≡ place) x y
+  pub missing : (result ≡ Err NoSuchDrive) ↔ (is_current (book x).state place ≡ false)
+  pub last : (result ≡ Err LastDrive) ↔ ((is_current (book x).state place ≡ true) × (has_other (book x).state place ≡ false))
+  pub lost : OnOk result (is_current (book y).state place ≡ false)
+  pub does : Does x y unchanged unchanged
 
--- the end of a run flushes, and its superblocks say that no row is left to resync, unless the opening found some
-pub record Ends (x y : View) {X : Type 0} (result : Result X Gone) : Type 0 where
-  pub pool : IsSamePool x y
-  pub members : OnOk result (y.members ≡ cleaned x.unclean x.members)
-  pub gone : IfErr result (λ e. WentIn x y e.disk)
-  pub becomes : OnOk result (Becomes x y flushed)
-  pub durable : OnOk result (AreDurable x y)
-  pub leaves : LeavesMeanings x y unchanged
-  pub ends : OnOk result (EndsWithMeanings x y flushed)
+-- Where no disk's faults rose, an array whose superblocks said otherwise leaves in each image just the rows to resync that were left in it.
+abbrev pub LeavesItsRows : View → View → Type 0
+LeavesItsRows x y =
+    ((d : ℕ) → Rose (x.bay.faults d) (y.bay.faults d) → ⊥)
+    → (n : ℕ) → IsTold (book x) (slices_shown x) n → is_over (book y) n ≡ false → is_settled ((book x).arrays n) ≡ false
+    → (r : Image) → IsLeft (slices_shown y) r → (t : Super) → truth_in (book y).state r n ≡ Some t
+    → t.resync_offset ≡ left_offset ((book x).arrays n)
+
+-- The end of a run flushes the volume, and its superblocks leave no rows to resync but those that were left.
+pub record Ends (x y : View) : Type 0 where
+  pub passes : Passes x y
+  pub marks : Marks x y
+  pub does : Does x y unchanged flushed
+  pub rows : LeavesItsRows x y

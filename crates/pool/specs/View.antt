@@ -1,60 +1,67 @@
--- What a pool shows: its drives, which of them its members are, and what the members' superblocks say.
-use Rattle.std.specs.Prelude.{◌≡◌, ℕ, ◌+◌, ◌-◌, ◌^◌, ◌<◌, ◌==◌, min, Bool, true, if◌then◌else◌}
-use Rattle.rack.specs.Seen.{Seen}
-use Rattle.md_super.specs.declared.superblock.Super.{Super}
-use Rattle.pool.specs.declared.assembling.Assembled.{Assembled}
-use Rattle.pool.specs.declared.members.Members.{Members}
-use Rattle.pool.specs.DriveMap.{is_member_of}
-use Rattle.pool.specs.Sizes.{HasSizes}
-use Rattle.pool.specs.Assembling.{IsSeated}
+-- What a pool shows to contracts.
+use Rattle.std.specs.Prelude.{◌≡◌, ℕ, Bool, List}
+use Rattle.rack.specs.Seen.{Image, Seen}
+use Rattle.slice_rack.specs.Slices.{Slices, sectors_of}
+use Rattle.slice_rack.specs.Sliced.{sliced, slices_of}
+use Rattle.slice_rack.specs.SliceRack.{tables, below_of as rack_of}
+use Rattle.array_image.specs.Arrays.{arrays_in as arrays_held, replayed}
+use Rattle.lvm_group.specs.Runs.{Linear, array_of, sector_of}
+use Rattle.lvm_group.specs.Shown.{contents_of, volume_of}
+use Rattle.lvm_group.specs.Volume.{below_of, linear as linear_of}
+use Rattle.raid_rack.specs.declared.arrays.Arrays.{Arrays}
+use Rattle.raid_rack.specs.declared.arrays.RaidRack.{RaidRack}
+use Rattle.raid_rack.specs.Raid.{Raid, raid_of, spent_of}
+use Rattle.raid_rack.specs.RaidRack.{IsFit, arrays_in, raid_by, refused_in, slices_in}
+use Rattle.pool.specs.declared.Pool.{Pool}
 
--- what a pool shows to contracts
 pub record View : Type 1 where
-  -- its drives
-  pub seen : Seen
-  -- its state, and the disks of its places
-  pub on : Assembled
-  -- the superblocks of its members
-  pub members : Members
-  -- the opening found rows left to resync
-  pub unclean : Bool
+  -- the disks of its bay
+  pub bay : Seen
+  -- where the slices of its drives lie on them
+  pub slices : Slices
+  -- its arrays, with its state and the number of its log
+  pub arrays : Arrays
+  -- the spent answers of each array so far
+  pub refused : ℕ → ℕ
+  -- the extents of its volume on the arrays
+  pub linear : Linear
 
--- the parts of a pool, as it is shown
-abbrev pub view : Seen → Assembled → Members → Bool → View
-view seen on members unclean = record { seen = seen; on = on; members = members; unclean = unclean }
+-- its state and its arrays
+abbrev pub book : View → Raid
+book x = raid_by x.arrays
 
--- the superblock of a place
-abbrev pub member_of : Members → ℕ → Super
-member_of members place = if place == 0 then members.first else members.second
+-- its slices, as a rack
+abbrev pub slices_shown : View → Seen
+slices_shown x = slices_of x.slices x.bay
 
--- no row is left to resync
-abbrev pub all_rows : ℕ
-all_rows = 2 ^ 64 - 1
+-- its volume, as a rack of one disk
+abbrev pub volume : View → Seen
+volume x = volume_of x.linear (raid_of (IsFit x.arrays (slices_shown x)) x.refused (book x) (slices_shown x))
 
--- a superblock with one more event, and the rows from this sector on left to resync. Events stand still at their last value.
-abbrev pub raised : ℕ → Super → Super
-raised from s = record s { events = min (s.events + 1) (2 ^ 63 - 1); resync_offset = from }
+-- a sector of a volume can't be had by a book
+abbrev pub spent_by : Linear → Raid → ℕ → Bool
+spent_by l v s = spent_of v (array_of l s) (sector_of l s)
 
--- both members' superblocks so
-abbrev pub both_raised : ℕ → Members → Members
-both_raised from members = record { first = raised from members.first; second = raised from members.second }
+-- The contents of a volume in contents of the bay's disks: those that its arrays give once the pending record is replayed.
+abbrev pub contents_in : Slices → Linear → Image → ℕ → List ℕ
+contents_in t l disks s = contents_of l (arrays_held (replayed (sectors_of t) (sliced t disks))) 0 s
 
--- the superblocks while sectors are written: all rows are left to resync
-abbrev pub marked : Members → Members
-marked members = if members.first.resync_offset == 0 then members else both_raised 0 members
+-- ---- a pool
 
--- the superblocks after a clean end: no row is left, but where the opening found some
-abbrev pub cleaned : Bool → Members → Members
-cleaned unclean members =
-    if unclean
-    then members
-    else if members.first.resync_offset == all_rows
-    then members
-    else both_raised all_rows members
+-- its rack of arrays
+abbrev pub arrays_of : {R : Type 0} → Pool R → RaidRack R
+arrays_of pool = below_of pool.volume
 
--- a pool whose volume lies on its disks, with two superblocks of its array that say the same
-pub record IsPool (x : View) : Type 0 where
-  pub seated : IsSeated x.seen x.on
-  pub sizes : HasSizes x.on.state
-  pub member : (place : ℕ) → place < 2 → is_member_of x.on.state place (member_of x.members place) ≡ true
-  pub same : x.members.second.resync_offset ≡ x.members.first.resync_offset
+-- its bay
+abbrev pub bay_in : {R : Type 0} → Pool R → R
+bay_in pool = rack_of (slices_in (arrays_of pool))
+
+-- what it shows
+abbrev pub view : {R : Type 0} → (R → Seen) → Pool R → View
+view seen pool = record {
+  bay = seen (bay_in pool);
+  slices = tables (slices_in (arrays_of pool));
+  arrays = arrays_in (arrays_of pool);
+  refused = refused_in (arrays_of pool);
+  linear = linear_of pool.volume;
+}
