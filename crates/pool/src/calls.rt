@@ -132,7 +132,7 @@ impl<R: Bay> Pool<R> {
         ensures ended { Ends (view R.seen self.old) (view R.seen self.new) }
         ensures runs { R.runs (bay_in self.old) (bay_in self.new) }
     {
-        self.flush();
+        // Each array's members are synced before its superblocks are written, so no flush comes first.
         self.volume.inner().clean();
     }
 

@@ -1,0 +1,75 @@
+-- The end of a run.
+use Rattle.std.proofs.Common.{◌≡◌, ℕ, ◌<◌, refl, subst, lt-ltb}
+use Rattle.rack.specs.Values.{IsSingle}
+use Rattle.rack.specs.Seen.{Rose, Seen}
+use Rattle.slice_rack.specs.Slices.{Slices, disk_of}
+use Rattle.slice_rack.specs.SliceRack.{below_of, tables}
+use Rattle.array_image.proofs.Sources.{held_single}
+use Rattle.array_model.specs.View.{shape_of}
+use Rattle.lvm_group.specs.Laws.{live_below}
+use Rattle.lvm_group.specs.Runs.{array_of, sector_of}
+use Rattle.lvm_group.specs.Volume.{linear}
+use Rattle.raid_rack.specs.declared.arrays.Arrays.{Arrays}
+use Rattle.raid_rack.specs.declared.arrays.RaidRack.{RaidRack}
+use Rattle.raid_rack.specs.Cleaning.{CleansAll, LeavesItsRows as LeavesRowsOf}
+use Rattle.raid_rack.specs.Laws.{live_parts, stops_inside}
+use Rattle.raid_rack.specs.Raid.{IsTold, StopsInside, held_in, live_of, spent_of}
+use Rattle.raid_rack.specs.RaidRack.{IsFit, KeepsRack, SliceRuns, raid_by, raid_in, raid_seen, slices_in, slices_seen}
+use Rattle.raid_rack.proofs.Moving.{moves_bring}
+use Rattle.raid_rack.proofs.Serving.{whole_call}
+use Rattle.raid_rack.proofs.Whole.{before_amid}
+use Rattle.pool.specs.declared.Pool.{Pool}
+use Rattle.pool.specs.View.{View, arrays_of, book, slices_shown, view, volume}
+use Rattle.pool.specs.Calls.{Ends, LeavesItsRows}
+use Rattle.pool.proofs.Doing.{does_flush}
+use Rattle.pool.proofs.Reached.{reached_keeps, reached_stays, with_arrays}
+use Rattle.pool.proofs.Serving.{Laws, is_call}
+
+-- an array that was cleaned has one value in each sector that isn't spent
+cleaned_single : (a b : Arrays) (x y : Seen) (n s : ℕ) → IsFit a x → IsFit b y → StopsInside y → CleansAll (raid_by a) (raid_by b) x y
+    → n < a.state.made → IsTold (raid_by a) x n → live_of (raid_by b) n s → IsSingle (held_in (raid_by b) y n s)
+cleaned_single a b x y n s fit after inside cleans low told alive =
+    let v = raid_by a in
+    let w = raid_by b in
+    let goes = (live_parts w n s alive).0 in
+    let call = whole_call a b x y (λ n vals. vals) fit after (moves_bring v w x y cleans.moves) inside in
+    held_single (shape_of (w.arrays n)) n y.held s
+    (cleans.settled n (held_in v x n) (spent_of w n) (lt-ltb n a.state.made low) told.joined low goes (λ z unspent. (live_parts w n z unspent).1)
+    (before_amid v w x y (held_in v x) call n told goes))
+
+-- what the arrays say of it
+pub record IsCleaned {R : Type 0} (seen : R → Seen) (runs : R → R → Type 0) (old new : RaidRack R) : Type 0 where
+  pub cleans : CleansAll (raid_in old) (raid_in new) (slices_seen seen old) (slices_seen seen new)
+  pub images : LeavesRowsOf (raid_in old) (raid_in new) (slices_seen seen old) (slices_seen seen new)
+  pub keeps : KeepsRack (raid_seen seen old) (raid_seen seen new)
+  pub ran : SliceRuns seen runs (slices_in old) (slices_in new)
+
+-- where no disk of the bay has a new fault, no slice has one
+rows_left : (x y : View) → y.slices ≡ x.slices → LeavesRowsOf (book x) (book y) (slices_shown x) (slices_shown y) → LeavesItsRows x y
+rows_left x y same images quiet =
+    images
+    (λ place fault.
+    quiet (disk_of x.slices fault.0)
+    (subst (λ (t : Slices). Rose (x.bay.faults (disk_of x.slices fault.0)) (y.bay.faults (disk_of t fault.0))) same fault.2))
+
+pub end_done : {R : Type 0} (seen : R → Seen) (runs : R → R → Type 0) (laws : Laws seen) (p : Pool R) (raid : RaidRack R) → (volume (view seen p)).fit
+    → IsCleaned seen runs (arrays_of p) raid → Ends (view seen p) (view seen (with_arrays p raid))
+end_done seen runs laws p raid fit cleaned =
+    let x = view seen p in
+    let q = with_arrays p raid in
+    let y = view seen q in
+    let l = linear p.volume in
+    let moves = cleaned.cleans.moves in
+    let stays = reached_stays seen p raid fit cleaned.keeps in
+    let call = is_call seen runs laws p q fit stays refl cleaned.ran moves.book (record { left = moves.left; cause = moves.cause }) in
+    record {
+      passes = call.passes;
+      marks = call.marks;
+      does = does_flush x y call.passes call.sound (reached_keeps seen p raid fit cleaned.keeps)
+          (λ s v live left.
+          let below = live_below {l = l} {a = raid_seen seen (arrays_of p)} {b = raid_seen seen raid} p.volume.orderly stays.fit.1 live in
+          cleaned_single x.arrays y.arrays (slices_shown x) (slices_shown y) (array_of l s) (sector_of l s) fit.0 stays.fit.0
+          (stops_inside (tables (slices_in raid)) (seen (below_of (slices_in raid)))) cleaned.cleans
+          (subst (λ n. array_of l s < n) moves.book.same.made below.disk) below.is_told below.unspent v left);
+      rows = rows_left x y cleaned.ran.tables cleaned.images;
+    }

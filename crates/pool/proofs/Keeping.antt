@@ -1,0 +1,61 @@
+-- What a call of a pool keeps, by what the calls of its parts say.
+use Rattle.std.specs.Prelude.{unwrap_or}
+use Rattle.std.proofs.Common.{◌≡◌, ℕ, not, false, refl, sym, ap, subst, ◌∙◌, inl}
+use Rattle.std.proofs.lemmas.Bool.{both_ways, and_left}
+use Rattle.rack.specs.Seen.{Rose, Stays}
+use Rattle.rack.specs.Joins.{stays_same}
+use Rattle.rack.proofs.Writing.{only_none}
+use Rattle.slice_rack.specs.Slices.{Slices, disk_of, seat_of}
+use Rattle.slice_rack.specs.Runs.{IsSliced, Runs}
+use Rattle.array_image.specs.States.{is_current}
+use Rattle.commit_log.proofs.Kept.{place_of_log}
+use Rattle.array_model.specs.View.{HasFault as HasDriveFault}
+use Rattle.raid_rack.specs.Book.{IsAfter, after_same}
+use Rattle.raid_rack.specs.Moves.{AreCaused}
+use Rattle.raid_rack.specs.Raid.{Raid, gone_in, is_left}
+use Rattle.raid_rack.proofs.Whole.{heeded_left}
+use Rattle.pool.specs.View.{View, book, slices_shown, volume}
+use Rattle.pool.specs.Calls.{DriveWent, Marks, MarksBut, Passes}
+
+-- no call
+pub passes_same : (x : View) → (volume x).fit → Passes x x
+passes_same x fit = record {
+  stays = stays_same (volume x) fit;
+  linear = refl;
+  slices = refl;
+  marks = after_same (book x).state;
+  apart = only_none x.bay (IsSliced x.slices) fit.0.running.set.fit.0;
+}
+
+pub marks_same : (x : View) (lost : ℕ → Type 0) → MarksBut lost x x
+marks_same x lost place was now = absurd (both_ways (is_current (book x).state place) now was)
+
+-- the volume stays, and calls in a row of its slices run below it
+pub passes_of : {own : Type 0} (x y : View) → (volume x).fit → Stays (volume x) (volume y) → y.linear ≡ x.linear
+    → Runs x.slices y.slices x.bay y.bay own → IsAfter (book x).state (book y).state → Passes x y
+passes_of x y fit stays same runs marks = record {
+  stays = stays;
+  linear = same;
+  slices = runs.tables;
+  marks = marks;
+  apart = runs.apart fit.0.running.set.fit.0 fit.0.running.set.fit.1;
+}
+
+-- a fault of a place's slices is one of its drive
+pub went : (x y : View) (place : ℕ) → y.slices ≡ x.slices → HasDriveFault (slices_shown x) (slices_shown y) place → DriveWent x y place
+went x y place same fault =
+    subst (λ (d : ℕ). Rose (x.bay.faults d) (y.bay.faults d))
+    (ap (λ p. disk_at x.slices p) (fault.1 ∙ sym (place_of_log place)))
+    (subst (λ (t : Slices). Rose (x.bay.faults (disk_of x.slices fault.0)) (y.bay.faults (disk_of t fault.0))) same fault.2)
+  where
+    disk_at : Slices → ℕ → ℕ
+    disk_at t p = unwrap_or (seat_of t p) 0
+
+-- a place that is marked missing isn't left
+pub not_left : (v : Raid) (place : ℕ) → is_current v.state place ≡ false → is_left v place ≡ false
+not_left v place missing = and_left (is_current v.state place) (not (gone_in v place)) missing
+
+-- between calls each current place is left, so that whoever is marked has a fault
+pub marks_of : (x y : View) → (volume x).fit → y.slices ≡ x.slices → AreCaused (book x) (book y) (slices_shown x) (slices_shown y) → Marks x y
+marks_of x y fit same caused place was now =
+    inl (went x y place same (caused.cause place (heeded_left (book x) place fit.0.heeded was) (not_left (book y) place now)))

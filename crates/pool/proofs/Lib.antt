@@ -1,0 +1,6 @@
+mod Keeping
+mod Doing
+mod Serving
+mod Reached
+mod Losing
+mod Cleaning

@@ -1,0 +1,14 @@
+use Rattle.std.proofs.Common.{sym, subst}
+use Rattle.raid_rack.specs.RaidRack.{IsFit, arrays_in, slices_seen}
+use Rattle.pool.proofs.Cleaning.{IsCleaned, end_done}
+use Rattle.pool.proofs.Pool.end.Goals as goal
+
+pub clean-requires : goal.clean-requires
+clean-requires g c = record { fit = subst (λ r. IsFit (arrays_in r) (slices_seen g.R.Rack.seen r)) (sym c.inner.ensures.value) c.requires.0 }
+
+pub returns-clause-ended : goal.returns-clause-ended
+returns-clause-ended g c =
+    let own = c.clean.ensures in
+    end_done g.R.Rack.seen g.R.Rack.runs g.met.R.Rack.sound c.args.self.now c.clean.new.self c.requires
+    (subst (λ old. IsCleaned g.R.Rack.seen g.R.Rack.runs old c.clean.new.self) c.inner.ensures.value
+    (record { cleans = own.cleans; images = own.images; keeps = own.keeps; ran = own.runs }))

@@ -1,0 +1,178 @@
+-- What a pool's calls are to the array that its volume holds, by what the calls of its parts say.
+use Rattle.std.specs.Prelude.{Result}
+use Rattle.std.proofs.Common.{◌≡◌, ℕ, ◌<◌, ◌≤◌, Bool, true, false, List, Ok, Err, refl, sym, subst, ◌∙◌, arith}
+use Rattle.std.proofs.lemmas.Bool.{both_ways}
+use Rattle.rack.specs.declared.Gone.{Gone}
+use Rattle.rack.specs.Seen.{Seen, Stays}
+use Rattle.rack.specs.Moments.{IsSound}
+use Rattle.rack.specs.Calls.{Reads, Syncs, Writes}
+use Rattle.slice_rack.specs.SliceRack.{below_of, tables}
+use Rattle.slice_rack.specs.Laws as slices
+use Rattle.lvm_group.specs.Laws as volumes
+use Rattle.lvm_group.specs.Volume.{linear}
+use Rattle.raid_rack.specs.Laws.{raid_sound, stops_inside}
+use Rattle.raid_rack.specs.Moves.{AreCaused}
+use Rattle.raid_rack.specs.Book.{IsAfter}
+use Rattle.raid_rack.specs.RaidRack.{SliceRuns, raid_in, raid_seen, slices_in, slices_seen}
+use Rattle.pool.specs.declared.Pool.{Pool}
+use Rattle.pool.specs.declared.calls.SectorFault.{SectorFault}
+use Rattle.pool.specs.declared.calls.SectorFault.TheVariants.{Range, Spent}
+use Rattle.pool.specs.View.{View, arrays_of, bay_in, view, volume}
+use Rattle.pool.specs.Volume.{is_spent, size_of}
+use Rattle.pool.specs.Calls.{Flushes, HasFault, Marks, Passes, ReadsSector, WritesSector}
+use Rattle.pool.proofs.Keeping.{marks_of, marks_same, passes_of, passes_same}
+use Rattle.pool.proofs.Doing.{does_flush, does_kept, does_none, does_refused, does_write}
+
+-- ---- a call of the volume
+
+-- what holds of a rack's stops at any moment
+abbrev pub Laws : {R : Type 0} → (R → Seen) → Type 0
+Laws {R} seen = (rack : R) → (seen rack).fit → (seen rack).traced → IsSound (seen rack)
+
+pub sound_in : {R : Type 0} (seen : R → Seen) (laws : Laws seen) (pool : Pool R) → (volume (view seen pool)).fit → (seen (bay_in pool)).traced
+    → IsSound (volume (view seen pool))
+sound_in seen laws pool fit traced =
+    let raid = arrays_of pool in
+    let rack = slices_in raid in
+    let bay = seen (below_of rack) in
+    let drives = fit.0.running.set.fit in
+    volumes.is_sound (linear pool.volume) (raid_seen seen raid) pool.volume.orderly fit.1
+    (raid_sound (raid_in raid) (slices_seen seen raid) (stops_inside (tables rack) bay)
+    (slices.is_sound (tables rack) bay rack.orderly drives.1 (laws (bay_in pool) drives.0 traced)))
+
+-- what each call keeps and marks, and what holds of the volume after it
+pub record IsCall (x y : View) : Type 0 where
+  pub passes : Passes x y
+  pub marks : Marks x y
+  pub sound : y.bay.traced → IsSound (volume y)
+
+pub is_call : {R : Type 0} (seen : R → Seen) (runs : R → R → Type 0) (laws : Laws seen) (p q : Pool R) → (volume (view seen p)).fit
+    → Stays (volume (view seen p)) (volume (view seen q)) → linear q.volume ≡ linear p.volume
+    → SliceRuns seen runs (slices_in (arrays_of p)) (slices_in (arrays_of q))
+    → IsAfter (raid_in (arrays_of p)).state (raid_in (arrays_of q)).state
+    → AreCaused (raid_in (arrays_of p)) (raid_in (arrays_of q)) (slices_seen seen (arrays_of p)) (slices_seen seen (arrays_of q))
+    → IsCall (view seen p) (view seen q)
+is_call seen runs laws p q fit stays same ran marks caused = record {
+  passes = passes_of (view seen p) (view seen q) fit stays same ran marks;
+  marks = marks_of (view seen p) (view seen q) fit ran.tables caused;
+  sound = sound_in seen laws q stays.fit;
+}
+
+-- no call
+pub no_call : {R : Type 0} (seen : R → Seen) (laws : Laws seen) (p : Pool R) → (volume (view seen p)).fit → IsCall (view seen p) (view seen p)
+no_call seen laws p fit = record {
+  passes = passes_same (view seen p) fit;
+  marks = marks_same (view seen p) (λ place. ⊥);
+  sound = sound_in seen laws p fit;
+}
+
+-- ---- faults of a sector
+
+never_fault : (e : SectorFault) → ◌≡◌ {A = Result (Unit {0}) SectorFault} (Ok tt) (Err e) → ⊥
+never_fault e same = cc
+
+same_fault : (e f : SectorFault) → ◌≡◌ {A = Result (Unit {0}) SectorFault} (Err e) (Err f) → e ≡ f
+same_fault e f same = cc
+
+range_spent : Range ≡ Spent → ⊥
+range_spent same = cc
+
+pub fault_range : (x : View) (sector : ℕ) → size_of x ≤ sector → HasFault x x sector {X = Unit {0}} (Err Range)
+fault_range x sector past = record {
+  range = (λ same. past, λ out. refl);
+  served = tt;
+  refused = λ same. absurd (range_spent (same_fault Range Spent same));
+}
+
+pub fault_none : (x y : View) (sector : ℕ) → sector < size_of x → is_spent y sector ≡ false → HasFault x y sector {X = Unit {0}} (Ok tt)
+fault_none x y sector low alive = record {
+  range = (λ same. absurd (never_fault Range same), λ out. absurd (omega (arith, low, out)));
+  served = (low, alive);
+  refused = λ same. absurd (never_fault Spent same);
+}
+
+pub fault_spent : (x y : View) (sector : ℕ) → sector < size_of x → is_spent y sector ≡ true → HasFault x y sector {X = Unit {0}} (Err Spent)
+fault_spent x y sector low spent = record {
+  range = (λ same. absurd (range_spent (sym (same_fault Spent Range same))), λ out. absurd (omega (arith, low, out)));
+  served = tt;
+  refused = λ same. (low, spent);
+}
+
+-- ---- a read
+
+pub read_past : (x : View) (sector : ℕ) (into : List ℕ) → IsCall x x → size_of x ≤ sector → ReadsSector x x sector into {X = Unit {0}} (Err Range)
+read_past x sector into call past = record {
+  passes = call.passes;
+  marks = call.marks;
+  fault = fault_range x sector past;
+  value = tt;
+  does = does_none x call.passes call.sound;
+}
+
+pub read_done : (x y : View) (sector : ℕ) (into : List ℕ) → IsCall x y → sector < size_of x
+    → Reads (volume x) (volume y) 0 sector into {X = Unit {0}} (Ok tt) → ReadsSector x y sector into {X = Unit {0}} (Ok tt)
+read_done x y sector into call low reads = record {
+  passes = call.passes;
+  marks = call.marks;
+  fault = fault_none x y sector low reads.cause.served;
+  value = λ a holds.
+      reads.value holds.told
+      ∙ (holds.values sector (subst (λ n. sector < n) (sym holds.size) low) (reads.stays.spent 0 sector reads.cause.served)).current;
+  does = does_kept x y call.passes call.sound reads.keeps;
+}
+
+pub read_spent : (x y : View) (sector : ℕ) (into : List ℕ) (gone : Gone) → IsCall x y → sector < size_of x
+    → Reads (volume x) (volume y) 0 sector into {X = Unit {0}} (Err gone) → ReadsSector x y sector into {X = Unit {0}} (Err Spent)
+read_spent x y sector into gone call low reads = record {
+  passes = call.passes;
+  marks = call.marks;
+  fault = fault_spent x y sector low (reads.cause.spent tt);
+  value = tt;
+  does = does_kept x y call.passes call.sound reads.keeps;
+}
+
+-- ---- a write
+
+pub write_past : (x : View) (sector : ℕ) (from : List ℕ) → IsCall x x → size_of x ≤ sector → WritesSector x x sector from {X = Unit {0}} (Err Range)
+write_past x sector from call past = record {
+  passes = call.passes;
+  marks = call.marks;
+  fault = fault_range x sector past;
+  written = tt;
+  kept = does_none x call.passes call.sound;
+}
+
+pub write_done : (x y : View) (sector : ℕ) (from : List ℕ) → IsCall x y → sector < size_of x
+    → Writes (volume x) (volume y) 0 sector from {X = Unit {0}} (Ok tt) → WritesSector x y sector from {X = Unit {0}} (Ok tt)
+write_done x y sector from call low writes = record {
+  passes = call.passes;
+  marks = call.marks;
+  fault = fault_none x y sector low writes.cause.served;
+  written = does_write x y sector from call.passes call.sound writes.stops writes.done;
+  kept = tt;
+}
+
+pub write_spent : (x y : View) (sector : ℕ) (from : List ℕ) (gone : Gone) → IsCall x y → sector < size_of x
+    → Writes (volume x) (volume y) 0 sector from {X = Unit {0}} (Err gone) → WritesSector x y sector from {X = Unit {0}} (Err Spent)
+write_spent x y sector from gone call low writes =
+    let spent = writes.cause.spent tt in
+    record {
+      passes = call.passes;
+      marks = call.marks;
+      fault = fault_spent x y sector low spent;
+      written = tt;
+      kept = does_refused x y sector from call.passes call.sound spent writes.stops writes.failed;
+    }
+
+-- ---- a flush
+
+pub sync_done : (x y : View) (result : Result (Unit {0}) Gone) → IsCall x y → Syncs (volume x) (volume y) 0 result → Flushes x y
+sync_done x y (Ok u) call syncs = record {
+  passes = call.passes;
+  marks = call.marks;
+  does = does_flush x y call.passes call.sound syncs.keeps (λ s v live left. syncs.done s v live left);
+}
+sync_done x y (Err gone) call syncs = absurd (never (syncs.steady tt))
+  where
+    never : ◌≡◌ {A = Bool} false true → ⊥
+    never same = both_ways false refl same
