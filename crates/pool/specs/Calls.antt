@@ -1,6 +1,6 @@
 -- What each call of a pool does.
-use Rattle.std.specs.Prelude.{◌≡◌, ◌⊎◌, ◌↔◌, ℕ, ◌<◌, ◌≤◌, ◌^◌, true, false, List, Option, Some, None, Result, Err, OnOk, OnErr}
-use Rattle.rack.specs.Seen.{Image, Seen, Rose, Stays}
+use Rattle.std.specs.Prelude.{◌≡◌, ◌⊎◌, ◌↔◌, ℕ, ◌<◌, ◌≤◌, true, false, List, Some, Result, Err, OnOk, OnErr}
+use Rattle.rack.specs.Seen.{Image, Rose, Stays}
 use Rattle.rack.specs.Sequences.{WritesOnly}
 use Rattle.flat_array.specs.Array.{FlatArray, written, flushed}
 use Rattle.md_super.specs.declared.superblock.Super.{Super}
