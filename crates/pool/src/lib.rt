@@ -18,9 +18,8 @@ mod making;
 
 pub use assembler::{Part, Refusal};
 pub use calls::{LoseFault, SectorFault};
-pub use pool_format::{Birth, CreateFault};
-
 use lvm_group::Volume;
+pub use pool_format::{Birth, CreateFault};
 use rack::Rack;
 use raid_rack::RaidRack;
 
