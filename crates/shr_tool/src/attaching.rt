@@ -46,7 +46,7 @@ pub fn refuse_name<O: Sink>(out: &mut O, at: Unattached) -> Status
     match at.fault {
         AttachFault::Failed => {
             let mut text = ReplyText::new();
-            refused_number_reply(&mut text, b"attach", at.number);
+            refused_number_reply(&mut text, b"attach", u64::from(at.number));
             say(out, &text, Status::Refused)
         }
         AttachFault::Twice { .. } => refuse(out, b"twice", Status::Refused),

@@ -70,7 +70,7 @@ fn refuse_number<O: Sink>(out: &mut O, why: &[u8], number: u32) -> Status
     ensures says { O.told out.old → Says Status.Refused (refused_line (why.now ++ codes " " ++ decimal number)) (O.taken out.old) (O.taken out.new) result }
 {
     let mut text = ReplyText::new();
-    refused_number_reply(&mut text, why, number);
+    refused_number_reply(&mut text, why, u64::from(number));
     say(out, &text, Status::Refused)
 }
 
