@@ -4,7 +4,7 @@ ghost use Rattle.std.specs.Prelude.{◌≡◌, ◌≢◌, ◌≤◌, ◌++◌, c
 ghost use Rattle.shr_script.specs.Reply.{refused_line};
 ghost use Rattle.shr_tool.specs.Outcome.{HasStatusCause};
 ghost use Rattle.shr_tool.specs.Refusing.{part_word as word_for, refusal_words, refusal_status, plan_words, fault_words, fault_status};
-ghost use Rattle.shr_tool.specs.Run.{Says};
+ghost use Rattle.shr_tool.specs.Saying.{Says};
 
 use crate::saying::{refuse, say};
 use crate::status::Status;
