@@ -41,7 +41,6 @@ pub record IsMeant (x opened : Seen) (from : Moment) (a : FlatArray) : Type 0 wh
   pub live : AllLive from.book
   pub volume : Volume
   pub meant : meaning (disks_of x) (now_in x) ≡ Some (volume ∷ [])
-  pub size : a.size ≡ volume.sectors
   pub array : a ≡ fresh volume.sectors volume.contents
 
 -- The pool of attached disks was opened, and the script answered on it and ended. `opened` is the bay after the opening.
