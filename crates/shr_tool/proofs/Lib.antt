@@ -3,6 +3,6 @@ mod Examined
 mod FormLemmas
 mod LayoutLemmas
 mod Limits
-mod Opening
+mod Through
 mod Putting
 mod Told

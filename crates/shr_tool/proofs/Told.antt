@@ -12,7 +12,7 @@ happens_for :
     (P Q : Type 0) (stops : ℕ → Image → Type 0) (g : Ground) (p q : Moment) (a : FlatArray) (event : Event)
     → (Q → P) → Happens P stops g p q a event → Happens Q stops g p q a event
 happens_for P Q stops g p q a event for happens = record {
-  later = happens.later;
+  later = λ traced. happens.later (for traced);
   cause = happens.cause;
   marks = happens.marks;
   during = λ traced. happens.during (for traced);
@@ -33,7 +33,7 @@ ends_for :
     (T U S R : Type 0) (y : Seen) (g : Ground) (p q : Moment) (a : FlatArray)
     → (U → T) → (R → S) → EndsAt T S y g p q a → EndsAt U R y g p q a
 ends_for T U S R y g p q a told traced ends = record {
-  later = ends.later;
+  later = λ so. ends.later (traced so);
   after = ends.after;
   during = λ is so. ends.during (told is) (traced so);
   ended = λ is so. ends.ended (told is) (traced so);

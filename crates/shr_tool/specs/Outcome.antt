@@ -34,7 +34,7 @@ LeavesItsRows y g p q =
 
 -- The end of a pool: marks alone come to its book, what a stop inside it leaves means the array, and then its current values alone.
 pub record EndsAt (Told : Type 0) (Traced : Type 0) (y : Seen) (g : Ground) (p q : Moment) (a : FlatArray) : Type 0 where
-  pub later : p.clock ≤ q.clock
+  pub later : Traced → p.clock ≤ q.clock
   pub after : IsAfter p.book.state q.book.state
   pub during : Told → Traced → (k : ℕ) (i : Image) → p.clock < k → k ≤ q.clock → y.stops k i → MeansAt g q a i
   pub ended : Told → Traced → (i : Image) → y.stops q.clock i → MeansAt g q (flushed a) i

@@ -61,7 +61,7 @@ pub record MarksFor (g : Ground) (p q : Moment) (event : Event) : Type 0 where
 
 -- An event: what a stop inside it leaves means the array before it or after it, and one at its end the array after it. Told where stops are.
 pub record Happens (Traced : Type 0) (stops : ℕ → Image → Type 0) (g : Ground) (p q : Moment) (a : FlatArray) (event : Event) : Type 0 where
-  pub later : p.clock ≤ q.clock
+  pub later : Traced → p.clock ≤ q.clock
   pub cause : HasCause g p q event
   pub marks : MarksFor g p q event
   pub during :

@@ -65,20 +65,20 @@ pub fn answer_script<R: Bay, I: Source, O: Sink>(
     let mut refused = false;
     'lines: loop {
         match reader.next(input, SCRIPT_LIMIT) {
-            Ended::Fault => return stopped(Stop::SourceFault, refused),
-            Ended::Limit => return stopped(Stop::Limit, refused),
+            Ended::Fault => return stop_at(Stop::SourceFault, refused),
+            Ended::Limit => return stop_at(Stop::Limit, refused),
             Ended::Input => return answer_last(pool, reader.line(), refused, &mut text, out),
             Ended::LineFeed => {}
         }
         match answer_line(pool, reader.line(), &mut text, out) {
             Ok(answer) => refused = refused || answer == Answer::Spent,
-            Err(cause) => return stopped(cause, refused),
+            Err(cause) => return stop_at(cause, refused),
         }
     }
 }
 
 // A script that stopped.
-fn stopped(cause: Stop, refused: bool) -> Stopped
+fn stop_at(cause: Stop, refused: bool) -> Stopped
     ensures cause { result.cause ≡ cause }
     ensures refused { result.refused ≡ refused }
 {
@@ -103,8 +103,8 @@ fn answer_last<R: Bay, O: Sink>(
     ensures answers { O.told out.old → LastAnswers (view R.seen) refused result.refused result.cause (line_of (line_without_return line.now)) pool.old pool.new (O.taken out.old) (O.taken out.new) }
 {
     match answer_line(pool, line, text, out) {
-        Ok(answer) => stopped(Stop::Input, refused || answer == Answer::Spent),
-        Err(cause) => stopped(cause, refused),
+        Ok(answer) => stop_at(Stop::Input, refused || answer == Answer::Spent),
+        Err(cause) => stop_at(cause, refused),
     }
 }
 

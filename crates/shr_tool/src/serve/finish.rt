@@ -1,6 +1,6 @@
 //! Serves a pool: answers the script and ends the pool.
 
-ghost use Rattle.std.specs.Prelude.{◌≡◌, ◌≤◌, ◌×◌, ◌^◌};
+ghost use Rattle.std.specs.Prelude.{◌≡◌, ◌≤◌, ◌^◌};
 ghost use Rattle.flat_array.specs.Array.{FlatArray};
 ghost use Rattle.pool.specs.Calls.{Passes};
 ghost use Rattle.pool.specs.View.{bay_in, view, volume};

@@ -4,7 +4,7 @@ use Rattle.pool.specs.View.{arrays_of, bay_in, view}
 use Rattle.raid_rack.specs.RaidRack.{arrays_in}
 use Rattle.shr_tool.specs.Made.{MadeOn, NotMade}
 use Rattle.shr_tool.specs.Timeline.{ground_of}
-use Rattle.shr_tool.proofs.Opening.{fault_through}
+use Rattle.shr_tool.proofs.Through.{fault_through}
 use Rattle.shr_tool.proofs.making.create_attached.Goals as goal
 
 pub returns-in-Ok-clause-outcome : goal.returns-in-Ok-clause-outcome

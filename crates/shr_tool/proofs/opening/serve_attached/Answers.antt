@@ -4,7 +4,7 @@ use Rattle.rack.specs.Sequences.{WritesOnly}
 use Rattle.pool.specs.View.{bay_in, view}
 use Rattle.shr_tool.specs.Opened.{NotOpened, OpenedOn}
 use Rattle.shr_tool.specs.Timeline.{ground_of, moment_of}
-use Rattle.shr_tool.proofs.Opening.{pool_through, written_through, held_by_meant, traced_through}
+use Rattle.shr_tool.proofs.Through.{pool_through, written_through, held_by_meant, traced_through}
 use Rattle.shr_tool.proofs.Told.{outcome_for}
 use Rattle.shr_tool.proofs.opening.serve_attached.Goals as goal
 
