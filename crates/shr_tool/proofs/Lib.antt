@@ -1,8 +1,11 @@
 mod Attached
 mod Examined
+mod Filled
 mod FormLemmas
 mod LayoutLemmas
 mod Limits
-mod Through
+mod Meanings
+mod Performing
 mod Putting
+mod Through
 mod Told

@@ -1,0 +1,48 @@
+-- Commands that call nothing.
+use Rattle.std.proofs.Common.{rules, ◌++◌, codes, refl, sym, ◌∙◌, ap, Ok}
+use Rattle.std.specs.Prelude.{decimal}
+use Rattle.shr_script.specs.declared.Command.TheVariants.{Size, Quit, Unbuilt}
+use Rattle.shr_script.specs.Reply.{as_line}
+use Rattle.shr_tool.specs.Events.Event.{answered}
+use Rattle.shr_tool.proofs.Meanings.{sound_in}
+use Rattle.shr_tool.proofs.Performing.{still_done}
+use Rattle.shr_tool.proofs.perform.perform.Goals as goal
+
+pub returns-in-Size-clause-answers : goal.returns-in-Size-clause-answers
+returns-in-Size-clause-answers g c =
+    rw c.in-Size.is
+    (record {
+      event = answered (Ok Size);
+      line_is = refl;
+      answer_is = refl;
+      performs =
+          still_done _ (Ok Size) _ c.requires (sound_in g.R.Rack.seen g.met.R.Rack.sound c.args.pool.now c.requires)
+          (λ s touches. touches) (λ s touches. touches) (λ place loses. cc) (λ a holds. refl)
+          (λ a holds. c.size_reply.ensures ∙ ap (λ n. as_line (codes "size " ++ decimal n)) (c.size.ensures.size ∙ sym holds.size));
+    })
+
+pub returns-in-Quit-clause-answers : goal.returns-in-Quit-clause-answers
+returns-in-Quit-clause-answers g c =
+    rw c.in-Quit.is
+    (record {
+      event = answered (Ok Quit);
+      line_is = refl;
+      answer_is = refl;
+      performs =
+          still_done _ (Ok Quit) _ c.requires (sound_in g.R.Rack.seen g.met.R.Rack.sound c.args.pool.now c.requires)
+          (λ s touches. touches) (λ s touches. touches) (λ place loses. cc) (λ a holds. refl)
+          (λ a holds. search rules);
+    })
+
+pub returns-in-Unbuilt-clause-answers : goal.returns-in-Unbuilt-clause-answers
+returns-in-Unbuilt-clause-answers g c =
+    rw c.in-Unbuilt.is
+    (record {
+      event = answered (Ok Unbuilt);
+      line_is = refl;
+      answer_is = refl;
+      performs =
+          still_done _ (Ok Unbuilt) _ c.requires (sound_in g.R.Rack.seen g.met.R.Rack.sound c.args.pool.now c.requires)
+          (λ s touches. touches) (λ s touches. touches) (λ place loses. cc) (λ a holds. refl)
+          (λ a holds. c.refused_reply.ensures);
+    })
