@@ -1,6 +1,6 @@
 -- The flat run: what each line replies and leaves.
-use Rattle.std.specs.Prelude.{ℕ, ◌+◌, nat_le, nat_lt, if◌then◌else◌, List, [], ◌∷◌, ◌++◌, replicate, codes, decimal, Ok, Err}
-use Rattle.shr_script.specs.declared.Command.TheVariants.{Read, Write, Fill, Flush, Size, Quit, Unbuilt}
+use Rattle.std.specs.Prelude.{ℕ, ◌+◌, ◌-◌, nat_le, nat_lt, if◌then◌else◌, List, [], ◌∷◌, ◌++◌, replicate, codes, decimal, Ok, Err}
+use Rattle.shr_script.specs.declared.Command.TheVariants.{Read, Write, Fill, Flush, Size, Lose, Quit, Unbuilt}
 use Rattle.shr_script.specs.declared.LineFault.{LineFault}
 use Rattle.shr_script.specs.declared.LineFault.TheVariants.{Syntax, Memory}
 use Rattle.shr_script.specs.Line.{Line}
@@ -16,7 +16,7 @@ abbrev pub fault_word : LineFault → List ℕ
 fault_word Syntax = codes "syntax"
 fault_word Memory = codes "memory"
 
--- the reply to a line
+-- the reply to a line; a flat array has no drive that could be lost
 abbrev pub reply : FlatArray → Line → List ℕ
 reply a (Ok (Read sector)) =
     if nat_lt sector a.size then data_line (a.values sector).current else refused_line (codes "range")
@@ -26,6 +26,7 @@ reply a (Ok (Fill sector count byte)) =
     if nat_le (sector + count) a.size then as_line (codes "ok") else refused_line (codes "range")
 reply a (Ok Flush) = as_line (codes "ok")
 reply a (Ok Size) = as_line (codes "size " ++ decimal a.size)
+reply a (Ok (Lose place)) = refused_line (codes "no-such-drive")
 reply a (Ok Quit) = []
 reply a (Ok Unbuilt) = refused_line (codes "unbuilt")
 reply a (Err fault) = refused_line (fault_word fault)
@@ -38,9 +39,26 @@ after a (Ok (Fill sector count byte)) =
     if nat_le (sector + count) a.size then filled a sector count (uniform_sector byte) else a
 after a (Ok Flush) = flushed a
 after a (Ok Size) = a
+after a (Ok (Lose place)) = a
 after a (Ok Quit) = a
 after a (Ok Unbuilt) = a
 after a (Err fault) = a
+
+-- the reply to a line that is refused at a sector that can't be had
+abbrev pub spent_line : ℕ → List ℕ
+spent_line sector = refused_line (codes "spent " ++ decimal sector)
+
+-- the array after it: the sectors that the line fills before that one are written
+abbrev pub after_spent : FlatArray → Line → ℕ → FlatArray
+after_spent a (Ok (Read sector)) at = a
+after_spent a (Ok (Write sector bytes)) at = a
+after_spent a (Ok (Fill sector count byte)) at = filled a sector (at - sector) (uniform_sector byte)
+after_spent a (Ok Flush) at = a
+after_spent a (Ok Size) at = a
+after_spent a (Ok (Lose place)) at = a
+after_spent a (Ok Quit) at = a
+after_spent a (Ok Unbuilt) at = a
+after_spent a (Err fault) at = a
 
 -- the replies to lines in a row
 abbrev pub replies : FlatArray → List Line → List ℕ

@@ -116,6 +116,7 @@ impl FlatDisk {
             }
             Ok(Command::Flush) => put_line(b"ok", out),
             Ok(Command::Size) => put_size(alloc, self.size(), out),
+            Ok(Command::Lose { .. }) => put_refused(b"no-such-drive", out),
             Ok(Command::Quit) => Ok(()),
             Ok(Command::Unbuilt) => put_refused(b"unbuilt", out),
             Err(LineFault::Syntax) => put_refused(b"syntax", out),

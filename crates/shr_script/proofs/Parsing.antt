@@ -12,7 +12,7 @@ use Rattle.std.specs.Str.Parse.{digits_value}
 use Rattle.hex.specs.Hex.{decode_of}
 use Rattle.std.specs.List.{list_all, slice_split, onto_first, position_or_len}
 use Rattle.shr_script.specs.declared.Command.{Command}
-use Rattle.shr_script.specs.Line.{wrong, is_space, alone, read_words, write_words, fill_words, sector_of, byte_if, byte_of}
+use Rattle.shr_script.specs.Line.{wrong, is_space, alone, only_number, write_words, fill_words, sector_of, byte_if, byte_of}
 
 -- where a place is found, it is the first one that passes
 pub position-found :
@@ -80,11 +80,11 @@ split-begins p (x ∷ xs) =
     ([], slice_split p xs, refl)
     (onto_first-begins x (slice_split p xs))
 
--- a number with another word after it is no line
-pub read_words-more : (w xs : List ℕ) → read_words (w ∷ slice_split is_space xs) ≡ wrong
-read_words-more w xs =
+-- a word with another one after it doesn't stand alone
+pub only_number-more : (w xs : List ℕ) → only_number (w ∷ slice_split is_space xs) ≡ None
+only_number-more w xs =
     let begins = split-begins is_space xs in
-    subst (λ ws. read_words (w ∷ ws) ≡ wrong) (sym begins.2) refl
+    subst (λ ws. only_number (w ∷ ws) ≡ None) (sym begins.2) refl
 
 -- a number and digits with another word after them are no line
 pub write_words-more : (v w xs : List ℕ) → write_words (v ∷ w ∷ slice_split is_space xs) ≡ wrong

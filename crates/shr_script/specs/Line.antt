@@ -6,7 +6,7 @@ use Rattle.std.specs.Str.{bytes_eq}
 use Rattle.std.specs.Str.Parse.{digits_value}
 use Rattle.hex.specs.Hex.{decode_of}
 use Rattle.shr_script.specs.declared.Command.{Command}
-use Rattle.shr_script.specs.declared.Command.TheVariants.{Read, Write, Fill, Flush, Size, Quit, Unbuilt}
+use Rattle.shr_script.specs.declared.Command.TheVariants.{Read, Write, Fill, Flush, Size, Lose, Quit, Unbuilt}
 use Rattle.shr_script.specs.declared.LineFault.{LineFault}
 use Rattle.shr_script.specs.declared.LineFault.TheVariants.{Syntax}
 
@@ -47,10 +47,14 @@ abbrev pub read_of : Option ℕ → Line
 read_of (Some sector) = Ok (Read sector)
 read_of None = wrong
 
+-- the number of a word that stands alone
+abbrev pub only_number : List (List ℕ) → Option ℕ
+only_number [] = None
+only_number (word ∷ []) = number_of word
+only_number (word ∷ more ∷ words) = None
+
 abbrev pub read_words : List (List ℕ) → Line
-read_words [] = wrong
-read_words (sector ∷ []) = read_of (number_of sector)
-read_words (sector ∷ more ∷ words) = wrong
+read_words words = read_of (only_number words)
 
 -- `write S HEX`
 abbrev pub write_of : Option ℕ → Option (List ℕ) → Line
@@ -88,6 +92,11 @@ fill_words (sector ∷ count ∷ []) = wrong
 fill_words (sector ∷ count ∷ digits ∷ []) = fill_of (number_of sector) (number_of count) (byte_of digits)
 fill_words (sector ∷ count ∷ digits ∷ more ∷ words) = wrong
 
+-- `lose D`
+abbrev pub lose_of : Option ℕ → Line
+lose_of (Some place) = Ok (Lose place)
+lose_of None = wrong
+
 -- a word that stands alone
 abbrev pub alone : Command → List (List ℕ) → Line
 alone command [] = Ok command
@@ -99,7 +108,6 @@ is_unbuilt word =
     bytes_eq word (codes "step")
     || bytes_eq word (codes "add")
     || bytes_eq word (codes "replace")
-    || bytes_eq word (codes "lose")
     || bytes_eq word (codes "status")
 
 -- what a line of at most 1100 bytes says, by its first word
@@ -115,6 +123,8 @@ built_of first words =
     then alone Flush words
     else if bytes_eq first (codes "size")
     then alone Size words
+    else if bytes_eq first (codes "lose")
+    then lose_of (only_number words)
     else if bytes_eq first (codes "quit")
     then alone Quit words
     else wrong

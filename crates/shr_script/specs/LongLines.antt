@@ -74,7 +74,6 @@ is_unbuilt-take word =
     let step = bytes_eq-take 8 word (codes "step") (lit< tt) in
     let add = bytes_eq-take 8 word (codes "add") (lit< tt) in
     let replace = bytes_eq-take 8 word (codes "replace") (lit< tt) in
-    let lose = bytes_eq-take 8 word (codes "lose") (lit< tt) in
     let status = bytes_eq-take 8 word (codes "status") (lit< tt) in
     cc
 

@@ -51,6 +51,11 @@ pub enum Command {
     Flush,
     /// `size`: replies the number of sectors.
     Size,
+    /// `lose D`: the drive of a place is lost from here on.
+    Lose {
+        /// The number of the place.
+        place: u64,
+    },
     /// `quit`: ends the script, with no reply.
     Quit,
     /// A line whose first word is one of the commands that aren't built yet.

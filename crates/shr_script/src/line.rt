@@ -8,7 +8,7 @@ ghost use Rattle.std.specs.Str.Parse.{digits_value};
 ghost use Rattle.hex.specs.Hex.{decode_of};
 ghost use Rattle.std.specs.Option.{option_copied};
 ghost use Rattle.std.specs.Result.{result_transpose};
-ghost use Rattle.shr_script.specs.Line.{is_space, is_unbuilt as is_unbuilt_word, built_of, read_words, write_words, fill_words, fill_of, alone as stands_alone, words_line, line_of, number_of as number_in, sector_of as sector_in, byte_of as byte_in};
+ghost use Rattle.shr_script.specs.Line.{is_space, is_unbuilt as is_unbuilt_word, built_of, only_number as number_alone, read_of, lose_of, write_words, fill_words, fill_of, alone as stands_alone, words_line, line_of, number_of as number_in, sector_of as sector_in, byte_of as byte_in};
 ghost use Rattle.shr_script.specs.Script.{without_return as line_without_return};
 ghost use Rattle.shr_script.specs.Words.{words_after};
 
@@ -79,7 +79,6 @@ fn is_unbuilt(word: &[u8]) -> bool
     word == b"step".as_slice()
         || word == b"add".as_slice()
         || word == b"replace".as_slice()
-        || word == b"lose".as_slice()
         || word == b"status".as_slice()
 }
 
@@ -88,7 +87,7 @@ fn built_command(first: &[u8], rest: Option<&[u8]>) -> Result<Command, LineFault
     ensures { result ≡ built_of first.now (words_after (option_copied rest.entry)) }
 {
     if first == b"read".as_slice() {
-        read_command(rest)
+        read_command(only_number(rest))
     } else if first == b"write".as_slice() {
         write_command(rest)
     } else if first == b"fill".as_slice() {
@@ -97,6 +96,8 @@ fn built_command(first: &[u8], rest: Option<&[u8]>) -> Result<Command, LineFault
         alone(Command::Flush, rest)
     } else if first == b"size".as_slice() {
         alone(Command::Size, rest)
+    } else if first == b"lose".as_slice() {
+        lose_command(only_number(rest))
     } else if first == b"quit".as_slice() {
         alone(Command::Quit, rest)
     } else {
@@ -114,18 +115,37 @@ fn alone(command: Command, rest: Option<&[u8]>) -> Result<Command, LineFault>
     }
 }
 
-// `read S`
-fn read_command(rest: Option<&[u8]>) -> Result<Command, LineFault>
-    ensures { result ≡ read_words (words_after (option_copied rest.entry)) }
+// The number of a word that stands alone.
+fn only_number(rest: Option<&[u8]>) -> Option<u64>
+    ensures { result ≡ number_alone (words_after (option_copied rest.entry)) }
 {
     let Some(words) = rest else {
-        return Err(LineFault::Syntax);
+        return None;
     };
     let (word, more) = cut_word(words);
-    match (more, number_of(word)) {
-        (Some(_), _) => Err(LineFault::Syntax),
-        (None, None) => Err(LineFault::Syntax),
-        (None, Some(sector)) => Ok(Command::Read { sector }),
+    match more {
+        Some(_) => None,
+        None => number_of(word),
+    }
+}
+
+// `read S`
+fn read_command(sector: Option<u64>) -> Result<Command, LineFault>
+    ensures { result ≡ read_of sector }
+{
+    match sector {
+        Some(sector) => Ok(Command::Read { sector }),
+        None => Err(LineFault::Syntax),
+    }
+}
+
+// `lose D`
+fn lose_command(place: Option<u64>) -> Result<Command, LineFault>
+    ensures { result ≡ lose_of place }
+{
+    match place {
+        Some(place) => Ok(Command::Lose { place }),
+        None => Err(LineFault::Syntax),
     }
 }
 

@@ -37,7 +37,7 @@ pub fn refused_reply(text: &mut ReplyText, why: &[u8])
 }
 
 /// `refused WHY N`
-pub fn refused_number_reply(text: &mut ReplyText, why: &[u8], number: u32)
+pub fn refused_number_reply(text: &mut ReplyText, why: &[u8], number: u64)
     requires { length why.now ≤ 100 }
     ensures { text.new.items ≡ refused_line (why.now ++ codes " " ++ decimal number) }
 {

@@ -1,5 +1,5 @@
 -- Names that are attached one after the other.
-use Rattle.std.proofs.Common.{◌≡◌, ◌≢◌, ◌⊎◌, ℕ, zero, suc, ◌+◌, ◌<◌, List, [], ◌∷◌, ◌++◌, length, length-append, map, get_or, take, drop, slice_get, Option, Some, Result, Ok, Err, refl, sym, ◌∙◌, ap, subst, inl, inr, arith}
+use Rattle.std.proofs.Common.{◌≡◌, ◌≢◌, ◌⊎◌, ℕ, zero, suc, ◌+◌, ◌<◌, ◌≤◌, List, [], ◌∷◌, ◌++◌, length, length-append, append_assoc, map, get_or, take, drop, slice_get, Option, Some, Result, Ok, Err, refl, sym, ◌∙◌, ap, subst, inl, inr, arith}
 use Rattle.std.specs.Option.{option_and_then}
 use Rattle.std.proofs.lemmas.Bool.{cases_lt}
 use Rattle.std.proofs.lemmas.Option.{slice_get_within}
@@ -7,7 +7,7 @@ use Rattle.std.proofs.lemmas.List.{map-append, take_more, take-append-drop}
 use Rattle.rack.specs.declared.AttachFault.{AttachFault}
 use Rattle.rack.specs.declared.AttachFault.TheVariants.{Failed, Twice, Memory}
 use Rattle.rack.specs.Seen.{Seen}
-use Rattle.rack.specs.Shelf.{Shelf, Waiting, SameDisk, IsFrom, Adds, Attaches}
+use Rattle.rack.specs.Shelf.{Shelf, Waiting, SameDisk, IsFrom, IsSame, Adds, Attaches}
 use Rattle.rack.specs.Joins.{rose_since}
 use Rattle.shr_tool.specs.Entry.{waiting_at, sectors_in, contents_in, IsWaiting}
 use Rattle.shr_tool.specs.Attaching.{AreAttached, IsUnattached, HasAttachCause}
@@ -178,6 +178,32 @@ fault_cause x y z s t u names rest name r (Twice d) is old attaches =
     }
 fault_cause x y z s t u names rest name r Memory is old attaches = tt
 
+-- the front of two lists
+take_front : (xs ys : List (List ℕ)) → take (length xs) (xs ++ ys) ≡ xs
+take_front [] ys = refl
+take_front (x ∷ xs) ys = ap (λ l. x ∷ l) (take_front xs ys)
+
+-- after a refusal the disks are as they were
+attached_still :
+    (x y z : Seen) (s t u : Shelf) (names : List (List ℕ))
+    → s.faults ≤ u.faults
+    → IsSame y z t u
+    → AreAttached x y s t names
+    → AreAttached x z s u names
+attached_still x y z s t u names faults same old = record {
+  disks = same.disks ∙ old.disks;
+  clock = same.clock ∙ old.clock;
+  attached = same.names ∙ old.attached;
+  differ = old.differ;
+  faults = faults;
+  unfaulted = λ d below. (same.others d).faults ∙ old.unfaulted d below;
+  traced = λ traced told. same.traced (old.traced traced told);
+  told = λ told. same.told (old.told told);
+  others = λ n none. same.ready n ∙ old.others n none;
+  waited = λ told d below. waiting_kept y z d (waiting_at s.ready names d) (same.others d) (old.waited told d below);
+  past = λ told traced k i until stops. old.past told traced k i until (same.past k i stops);
+}
+
 -- attaching stops at a name
 pub unattached :
     (x y z : Seen) (s t u : Shelf) (names rest : List (List ℕ)) (name : List ℕ) (r : Result ℕ AttachFault) (fault : AttachFault) (number : ℕ)
@@ -185,17 +211,25 @@ pub unattached :
     → number ≡ y.disks
     → AreAttached x y s t names
     → Attaches y z t u name r
-    → IsUnattached s u ((names ++ name ∷ []) ++ rest) number fault
+    → IsUnattached x z s u ((names ++ name ∷ []) ++ rest) number fault
 unattached x y z s t u names rest name r fault number is count old attaches =
     let here : number ≡ length names = count ∙ old.disks in
     let more : length (names ++ name ∷ []) ≡ length names + 1 = length-append names (name ∷ []) in
     let all : length ((names ++ name ∷ []) ++ rest) ≡ length (names ++ name ∷ []) + length rest =
     length-append (names ++ name ∷ []) rest in
+    let refused : Attaches y z t u name (Err fault) = subst (λ p. Attaches y z t u name p) is attaches in
+    let few = old.faults in
+    let grows = attaches.faults in
+    let front : take number ((names ++ name ∷ []) ++ rest) ≡ names =
+    ap (λ n. take n ((names ++ name ∷ []) ++ rest)) here
+    ∙ ap (take (length names)) (append_assoc names (name ∷ []) rest)
+    ∙ take_front names (name ∷ rest) in
     record {
       inside = omega arith;
       cause =
           subst (λ n. HasAttachCause fault s u ((names ++ name ∷ []) ++ rest) n) (sym here)
           (fault_cause x y z s t u names rest name r fault is old attaches);
+      before = subst (λ ns. AreAttached x z s u ns) (sym front) (attached_still x y z s t u names (omega arith) refused.refused old);
     }
 
 -- the words up to a place, the one there, and the rest

@@ -16,7 +16,7 @@ use Rattle.shr_tool.specs.declared.status.Status.TheVariants.{Refused, Memory, S
 use Rattle.shr_tool.specs.Entry.{waiting_at, sectors_in, contents_in, IsEntryImage}
 use Rattle.shr_tool.specs.Attaching.{AreAttached, IsUnattached}
 use Rattle.shr_tool.specs.Run.{Says, SaysFault}
-use Rattle.shr_tool.specs.Examining.{ShowsImage, Examined, ExamineOutcome, attach_refused, twice_refused, no_memory}
+use Rattle.shr_tool.specs.Examining.{ShowsImage, Examined}
 
 -- a disk that was attached is live after reads
 live_after :
@@ -127,15 +127,3 @@ memory_said line out out' status says same =
       | inl said ↦ memory_no_refused (sym said.0 ∙ same)
       | inr unsaid ↦ sink_no_refused (sym unsaid.0 ∙ same)
     ]
-
--- a name that can't be attached
-pub name_refused :
-    (x v : Seen) (s w : Shelf) (names : List (List ℕ)) (out out' : List ℕ) (status : Status) (fault : AttachFault) (number : ℕ)
-    → IsUnattached s w names number fault
-    → SaysFault fault number out out' status
-    → ExamineOutcome x s v w names out out' status
-name_refused x v s w names out out' status Failed number at says =
-    attach_refused (record { number = number; inside = at.inside; rose = at.cause; says = says })
-name_refused x v s w names out out' status (Twice d) number at says =
-    twice_refused (record { first = d; second = number; twice = at.cause; says = says })
-name_refused x v s w names out out' status NoRoom number at says = no_memory says

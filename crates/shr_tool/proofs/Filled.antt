@@ -1,43 +1,49 @@
 -- Sectors of a pool that are filled one after the other.
-use Rattle.std.proofs.Common.{◌≡◌, ℕ, ◌+◌, ◌-◌, ◌<◌, ◌≤◌, nat_le, nat_lt, ◌&&◌, Bool, true, false, if◌then◌else◌, List, Result, Ok, Err, refl, sym, ◌∙◌, ap, subst, arith}
+use Rattle.std.proofs.Common.{◌≡◌, ◌⊎◌, ℕ, ◌+◌, ◌-◌, ◌<◌, ◌≤◌, nat_le, nat_lt, ◌&&◌, Bool, true, false, if◌then◌else◌, List, Result, Ok, Err, refl, sym, ◌∙◌, ap, subst, inl, inr, arith}
+use Rattle.std.proofs.lemmas.Bool.{cases_lt}
 use Rattle.std.proofs.lemmas.Grind.{common_steps}
 use Rattle.std.proofs.lemmas.Bool.Decides.{nat_tests}
 use Rattle.rack.specs.Values.{Values, MayLeave, append}
 use Rattle.rack.specs.Seen.{Image}
-use Rattle.rack.specs.Joins.{may_leave-append, rose_since, leaves_same, leaves_weaker, leaves_then}
-use Rattle.flat_array.specs.Array.{FlatArray, written, filled}
+use Rattle.rack.specs.Moments.{IsSound}
+use Rattle.rack.specs.Joins.{leaves_same, may_leave-append}
+use Rattle.flat_array.specs.Array.{FlatArray, filled, written}
 use Rattle.flat_array.proofs.Filling.{filled_none, filled_next}
-use Rattle.pool.specs.declared.BareFault.{BareFault}
-use Rattle.pool.specs.declared.BareFault.TheVariants.{Gone as DriveGone}
-use Rattle.pool.specs.View.{View, IsPool}
-use Rattle.pool.specs.Volume.{Holds, volume_of}
-use Rattle.pool.specs.Calls.{IsSamePool, WentIn, Becomes, LeavesMeanings, EndsWithMeanings, WritesSector}
-use Rattle.pool.proofs.Steps.{IsDrives}
-use Rattle.shr_tool.specs.Meaning.{meaning_in}
-use Rattle.shr_tool.specs.Filling.{Fills}
-use Rattle.shr_tool.proofs.Meanings.{same_pool, pools_then, means_of, ends_now}
+use Rattle.pool.specs.declared.calls.SectorFault.{SectorFault}
+use Rattle.pool.specs.declared.calls.SectorFault.TheVariants.{Range, Spent}
+use Rattle.pool.specs.View.{View, contents_in, volume}
+use Rattle.pool.specs.Volume.{Does, Holds, Means, is_spent, size_of, unchanged}
+use Rattle.pool.specs.Calls.{Marks, Passes, WritesSector}
+use Rattle.shr_tool.specs.declared.perform.SpentAt.{SpentAt}
+use Rattle.shr_tool.specs.Filling.{Fills, FillsSome}
+use Rattle.shr_tool.proofs.Meanings.{does_none, does_then, marks_same, marks_then, passes_same, passes_then}
 
--- so many sectors have been filled
-pub record IsFilled (x y : View) (sector count : ℕ) (bytes : List ℕ) : Type 0 where
-  pub pool : IsSamePool x y
-  pub becomes : Becomes x y (λ a. filled a sector count bytes)
-  pub leaves : LeavesMeanings x y (λ a. filled a sector count bytes)
-  pub ends : EndsWithMeanings x y (λ a. filled a sector count bytes)
+-- The sectors up to one have been filled, and the last one of them isn't spent.
+pub record IsFilled (x y : View) (sector at : ℕ) (bytes : List ℕ) : Type 0 where
+  pub passes : Passes x y
+  pub marks : Marks x y
+  pub some : FillsSome x y sector (at - sector) bytes
+  pub last : (s : ℕ) → s + 1 ≡ at → sector ≤ s → is_spent y s ≡ false
 
 -- no sector has
 pub filled_start :
-    (x : View) (sector : ℕ) (bytes : List ℕ) → IsPool x → IsDrives x.seen → IsFilled x x sector (sector - sector) bytes
-filled_start x sector bytes pool drives =
-    let none : (a : FlatArray) → filled a sector (sector - sector) bytes ≡ a =
-    λ a.
-    ap (λ n. filled a sector n bytes) (omega arith) ∙ filled_none a sector bytes in
+    (x : View) (sector : ℕ) (bytes : List ℕ) → (volume x).fit → (x.bay.traced → IsSound (volume x)) → IsFilled x x sector sector bytes
+filled_start x sector bytes fit sound =
+    let still = does_none x (passes_same x fit) sound in
+    let same : (a : FlatArray) → a ≡ filled a sector (sector - sector) bytes =
+    λ a. sym (ap (λ n. filled a sector n bytes) (omega arith) ∙ filled_none a sector bytes) in
     record {
-      pool = same_pool x pool;
-      becomes = λ a holds. subst (λ b. Holds x b) (sym (none a)) holds;
-      leaves = λ traced a holds. leaves_same x.seen (meaning_in x (filled a sector (sector - sector) bytes));
-      ends =
-          λ traced a holds i stops.
-          subst (λ b. meaning_in x b i) (sym (none a)) (ends_now x pool drives traced a holds i stops);
+      passes = passes_same x fit;
+      marks = marks_same x (λ place. ⊥);
+      some = record {
+        does = record {
+          becomes = λ a holds. subst (λ b. Holds x b) (same a) holds;
+          leaves = λ traced a holds. leaves_same x.bay (Means x (filled a sector (sector - sector) bytes));
+          ends = λ traced a holds i stopped. subst (λ b. Means x b i) (same a) (still.ends traced a holds i stopped);
+        };
+        unspent = λ s from before. absurd (omega arith);
+      };
+      last = λ s next from. absurd (omega arith);
     }
 
 -- a value that may be left before a sector is filled may be left after it
@@ -60,108 +66,105 @@ inside_later sector few count s most inside = grind (arith, nat_tests, common_st
 
 -- what means an array with fewer sectors filled means it with all
 means_filled :
-    (x : View) (a : FlatArray) (sector few count : ℕ) (bytes : List ℕ) (i : Image)
+    (y : View) (a : FlatArray) (sector few count : ℕ) (bytes : List ℕ) (i : Image)
     → few ≤ count
-    → meaning_in x (filled a sector few bytes) i
-    → meaning_in x (filled a sector count bytes) i
-means_filled x a sector few count bytes i most means =
-    record {
-      shows = means.shows;
-      picks =
-          λ s inside.
-          value_later
-          (nat_le sector s && nat_lt s (sector + few))
-          (nat_le sector s && nat_lt s (sector + count))
-          (a.values s) bytes (volume_of x.on 0 i s)
-          (inside_later sector few count s most)
-          (means.picks s inside);
-      guarded = means.guarded;
-    }
+    → Means y (filled a sector few bytes) i
+    → Means y (filled a sector count bytes) i
+means_filled y a sector few count bytes i most means s inside unspent =
+    value_later
+    (nat_le sector s && nat_lt s (sector + few))
+    (nat_le sector s && nat_lt s (sector + count))
+    (a.values s)
+    bytes
+    (contents_in y.slices y.linear i s)
+    (inside_later sector few count s most)
+    (means s inside unspent)
 
--- the stops of one write more
-leaves_next :
-    (x m y : View) (sector at count : ℕ) (bytes : List ℕ) {X : Type 0} (r : Result X BareFault)
-    → sector ≤ at
-    → at + 1 - sector ≤ count
-    → IsFilled x m sector (at - sector) bytes
-    → WritesSector m y at bytes r
-    → LeavesMeanings x y (λ a. filled a sector count bytes)
-leaves_next x m y sector at count bytes r from most before writes traced a holds =
-    let fewer : at - sector ≤ count = omega arith in
-    let All : Image → Type 0 = meaning_in x (filled a sector count bytes) in
-    leaves_then All
-    (leaves_weaker (meaning_in x (filled a sector (at - sector) bytes)) All
-    (λ i means. means_filled x a sector (at - sector) count bytes i fewer means)
-    (before.leaves traced a holds))
-    (leaves_weaker (meaning_in m (written (filled a sector (at - sector) bytes) at bytes)) All
-    (λ i means.
-    means_filled x a sector (at + 1 - sector) count bytes i most
-    (subst (λ b. meaning_in x b i) (filled_next a sector at bytes from) (means_of x m _ i before.pool means)))
-    (writes.leaves (before.pool.stays.traced traced) (filled a sector (at - sector) bytes) (before.becomes a holds)))
-
--- one sector more
+-- one sector more, which isn't spent
 pub filled_step :
-    (x m y : View) (sector at : ℕ) (bytes : List ℕ) (r : Result (Unit {0}) BareFault)
+    (x y z : View) (sector at : ℕ) (bytes : List ℕ) (r : Result (Unit {0}) SectorFault)
     → r ≡ Ok tt
     → sector ≤ at
-    → IsFilled x m sector (at - sector) bytes
-    → WritesSector m y at bytes r
-    → IsFilled x y sector (at + 1 - sector) bytes
-filled_step x m y sector at bytes r done from before writes_r =
-    let writes : WritesSector m y at bytes {X = Unit {0}} (Ok tt) =
-    subst (λ q. WritesSector m y at bytes q) done writes_r in
+    → IsFilled x y sector at bytes
+    → WritesSector y z at bytes r
+    → IsFilled x z sector (at + 1) bytes
+filled_step x y z sector at bytes r done from before writes_r =
+    let writes : WritesSector y z at bytes {X = Unit {0}} (Ok tt) = subst (λ q. WritesSector y z at bytes q) done writes_r in
+    let alive = writes.fault.served.1 in
     record {
-      pool = pools_then x m y before.pool writes.pool;
-      becomes =
-          λ a holds.
-          subst (λ b. Holds y b) (filled_next a sector at bytes from)
-          (writes.becomes (filled a sector (at - sector) bytes) (before.becomes a holds));
-      leaves = leaves_next x m y sector at (at + 1 - sector) bytes r from (omega arith) before writes_r;
-      ends =
-          λ traced a holds i stops.
-          subst (λ b. meaning_in x b i) (filled_next a sector at bytes from)
-          (means_of x m _ i before.pool
-          (writes.ends (before.pool.stays.traced traced) (filled a sector (at - sector) bytes) (before.becomes a holds) i stops));
+      passes = passes_then x y z before.passes writes.passes;
+      marks = marks_then x y z before.passes writes.passes before.marks writes.marks;
+      some = record {
+        does =
+            does_then x y z (λ a. filled a sector (at - sector) bytes) (λ a. written a at bytes) (λ a. filled a sector (at + 1 - sector) bytes)
+            before.passes writes.passes
+            (λ a. filled_next a sector at bytes from)
+            (λ a i means. means_filled z a sector (at - sector) (at + 1 - sector) bytes i (omega arith) means)
+            before.some.does writes.written;
+        unspent = λ s low high.
+            elim (cases_lt s at) [
+              | inl early ↦ before.some.unspent s low (omega arith)
+              | inr late ↦
+                  let here : s ≡ at = omega arith in
+                  subst (λ t. is_spent x t ≡ false) (sym here) (before.passes.stays.spent 0 at (writes.passes.stays.spent 0 at alive))
+            ];
+      };
+      last = λ s next low. subst (λ t. is_spent z t ≡ false) (let here : at ≡ s = omega arith in here) alive;
     }
 
--- all sectors are filled
+-- all of them
 pub filled_all :
     (x y : View) (sector at count : ℕ) (bytes : List ℕ)
-    → at - sector ≡ count
-    → IsFilled x y sector (at - sector) bytes
-    → Fills x y sector count bytes {X = Unit {0}} (Ok tt)
-filled_all x y sector at count bytes all is_filled =
-    let filled_so : IsFilled x y sector count bytes = subst (λ n. IsFilled x y sector n bytes) all is_filled in
+    → at ≡ sector + count
+    → IsFilled x y sector at bytes
+    → Fills x y sector count bytes (Ok tt)
+filled_all x y sector at count bytes all done =
+    let many : at - sector ≡ count = omega arith in
     record {
-      pool = filled_so.pool;
-      gone = tt;
-      becomes = filled_so.becomes;
-      leaves = filled_so.leaves;
-      ends = filled_so.ends;
+      passes = done.passes;
+      marks = done.marks;
+      done = (subst (λ n. FillsSome x y sector n bytes) many done.some, λ s next low. done.last s (next ∙ sym all) low);
+      refused = tt;
     }
 
--- a drive that went in a later call went since an earlier one
-pub went_since : (x y z : View) (d : ℕ) → IsSamePool x y → WentIn y z d → WentIn x z d
-went_since x y z d same went =
-    record {
-      disk = subst (λ n. d < n) same.stays.disks went.disk;
-      rose = rose_since (same.stays.faults d) went.rose;
-    }
-
--- a drive refused one of the writes
-pub filled_broken :
-    (x m y : View) (sector at count : ℕ) (bytes : List ℕ) (r : Result (Unit {0}) BareFault) (d : ℕ)
-    → r ≡ Err (DriveGone d)
+-- a write was refused, of a sector inside
+pub filled_spent :
+    (x y z : View) (sector at count : ℕ) (bytes : List ℕ) (r : Result (Unit {0}) SectorFault)
+    → r ≡ Err Spent
     → sector ≤ at
     → at < sector + count
-    → IsFilled x m sector (at - sector) bytes
-    → WritesSector m y at bytes r
-    → Fills x y sector count bytes {X = Unit {0}} (Err (record { disk = d }))
-filled_broken x m y sector at count bytes r d broken from inside before writes =
+    → IsFilled x y sector at bytes
+    → WritesSector y z at bytes r
+    → Fills x z sector count bytes (Err (record { sector = at }))
+filled_spent x y z sector at count bytes r refused from inside before writes_r =
+    let writes : WritesSector y z at bytes {X = Unit {0}} (Err Spent) = subst (λ q. WritesSector y z at bytes q) refused writes_r in
     record {
-      pool = pools_then x m y before.pool writes.pool;
-      gone = went_since x m y d before.pool (writes.fault.gone d broken);
-      becomes = tt;
-      leaves = leaves_next x m y sector at count bytes r from (omega arith) before writes;
-      ends = tt;
+      passes = passes_then x y z before.passes writes.passes;
+      marks = marks_then x y z before.passes writes.passes before.marks writes.marks;
+      done = tt;
+      refused = (
+        from,
+        inside,
+        (writes.fault.refused refl).1,
+        record {
+          does =
+              does_then x y z (λ a. filled a sector (at - sector) bytes) unchanged (λ a. filled a sector (at - sector) bytes)
+              before.passes writes.passes (λ a. refl) (λ a i means. means) before.some.does writes.kept;
+          unspent = before.some.unspent;
+        },
+      );
     }
+
+-- none was refused as outside
+pub never_outside :
+    (x y z : View) (sector at count : ℕ) (bytes : List ℕ) (r : Result (Unit {0}) SectorFault)
+    → r ≡ Err Range
+    → at < sector + count
+    → sector + count ≤ size_of x
+    → Passes x y
+    → WritesSector y z at bytes r
+    → ⊥
+never_outside x y z sector at count bytes r refused before inside passes writes =
+    let past : size_of y ≤ at = writes.fault.range.0 refused in
+    let same : size_of y ≡ size_of x = passes.stays.sectors 0 in
+    omega arith

@@ -1,17 +1,11 @@
-pub mod Limits
-pub mod Meanings
-pub mod Filled
-pub mod Performing
-pub mod History
-pub mod Stopping
-pub mod Finishing
-pub mod FormLemmas
-pub mod Putting
-pub mod LayoutLemmas
-pub mod Attached
-pub mod OnePool
-pub mod Entering
-pub mod Carried
-pub mod Served
-pub mod Made
-pub mod Examined
+mod Attached
+mod Examined
+mod Filled
+mod FormLemmas
+mod LayoutLemmas
+mod Limits
+mod Meanings
+mod Performing
+mod Putting
+mod Through
+mod Told

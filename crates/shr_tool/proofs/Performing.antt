@@ -1,53 +1,128 @@
--- A call of the pool does a command of the flat array.
-use Rattle.std.proofs.Common.{◌≡◌, ◌⊎◌, ℕ, ◌+◌, ◌<◌, ◌≤◌, true, false, nat_le, nat_lt, List, Result, Ok, Err, codes, refl, sym, ◌∙◌, ap, subst, inl, inr, arith}
-use Rattle.std.proofs.lemmas.Bool.{cases_lt}
+-- A call of the pool answers a line as an event has it.
+use Rattle.std.proofs.Common.{◌≡◌, ◌⊎◌, ℕ, ◌+◌, ◌-◌, ◌<◌, ◌≤◌, Bool, true, false, not, nat_le, nat_lt, List, length, Result, Ok, Err, OnErr, codes, refl, sym, ◌∙◌, ap, subst, inl, inr, arith}
+use Rattle.std.specs.Prelude.{min, slice_get}
+use Rattle.std.specs.Option.{option_map_or}
+use Rattle.std.proofs.lemmas.Bool.{both_ways, cases_lt, cases_Bool}
 use Rattle.std.proofs.lemmas.Bool.Decides.{nat_tests}
-use Rattle.rack.specs.declared.Gone.{Gone}
-use Rattle.rack.specs.Joins.{leaves_same, leaves_weaker}
+use Rattle.std.proofs.lemmas.Option.{slice_get_past}
+use Rattle.std.proofs.Math.Nat.{le-min, min-eq_left}
+use Rattle.rack.specs.Moments.{IsSound}
+use Rattle.rack.specs.Joins.{leaves_weaker}
 use Rattle.shr_script.specs.Line.{Line}
-use Rattle.shr_script.specs.declared.Command.TheVariants.{Read, Write, Fill, Flush}
-use Rattle.flat_array.specs.Array.{FlatArray, written, filled}
+use Rattle.shr_script.specs.declared.Command.TheVariants.{Read, Write, Fill, Flush, Lose}
 use Rattle.shr_script.specs.Reply.{data_line, as_line, refused_line}
-use Rattle.flat_array.specs.Reply.{reply as reply_to, after, uniform_sector}
-use Rattle.pool.specs.declared.BareFault.{BareFault}
-use Rattle.pool.specs.declared.BareFault.TheVariants.{Range, Gone as DriveGone}
-use Rattle.pool.specs.DriveMap.{volume_sectors}
-use Rattle.pool.specs.View.{View, IsPool}
-use Rattle.pool.specs.Volume.{Holds}
-use Rattle.pool.specs.Calls.{HasFault, LeavesMeanings, unchanged, ReadsSector, WritesSector, Flushes}
-use Rattle.pool.proofs.Steps.{IsDrives}
-use Rattle.shr_tool.specs.Meaning.{meaning_in}
-use Rattle.shr_tool.specs.Timeline.{LeavesEither, Performs, Breaks}
-use Rattle.shr_tool.specs.Filling.{Fills}
-use Rattle.shr_tool.proofs.Meanings.{same_pool, ends_now}
+use Rattle.flat_array.specs.Array.{FlatArray, filled, flushed, written}
+use Rattle.flat_array.specs.Reply.{reply, after, spent_line, uniform_sector}
+use Rattle.array_image.specs.States.{is_current}
+use Rattle.raid_rack.specs.Losses.{has_other}
+use Rattle.pool.specs.declared.calls.LoseFault.{LoseFault}
+use Rattle.pool.specs.declared.calls.LoseFault.TheVariants.{LastDrive, NoSuchDrive}
+use Rattle.pool.specs.declared.calls.SectorFault.{SectorFault}
+use Rattle.pool.specs.declared.calls.SectorFault.TheVariants.{Range, Spent}
+use Rattle.pool.specs.View.{View, book, spent_by, volume}
+use Rattle.pool.specs.Volume.{Does, Holds, Means, is_spent, size_of, unchanged}
+use Rattle.pool.specs.Calls.{Flushes, HasFault, LosesDrive, Marks, Passes, ReadsSector, WritesSector}
+use Rattle.shr_tool.specs.declared.perform.SpentAt.{SpentAt}
+use Rattle.shr_tool.specs.Events.{Event, Touches, TouchesLast, becomes, text_of}
+use Rattle.shr_tool.specs.Events.Event.{answered, spent, lost, last}
+use Rattle.shr_tool.specs.Timeline.{HasCause, MarksFor, Performs, ground_of, moment_of}
+use Rattle.shr_tool.specs.Filling.{Fills, FillsSome}
+use Rattle.shr_tool.proofs.Meanings.{does_none, marks_same, passes_same}
 
--- a call that wasn't refused for its range speaks of a sector inside
-inside_sectors :
-    {x y : View} {sector : ℕ} {r : Result (Unit {0}) BareFault}
-    → HasFault x y sector r
-    → (r ≡ Err Range → ⊥)
-    → sector < volume_sectors x.on.state
-inside_sectors {x} {y} {sector} fault other =
-    elim (cases_lt sector (volume_sectors x.on.state)) [
-      | inl inside ↦ inside
-      | inr outside ↦ absurd (other (fault.range.1 outside))
-    ]
+-- ---- any line
 
-answered_inside : (r : Result (Unit {0}) BareFault) → r ≡ Ok tt → r ≡ Err Range → ⊥
-answered_inside r answered refused = cc
+-- why an event was answered so on a pool
+abbrev Cause : View → View → Event → Type 0
+Cause x y event = HasCause (ground_of x) (moment_of x) (moment_of y) event
 
-broken_inside : (r : Result (Unit {0}) BareFault) (d : ℕ) → r ≡ Err (DriveGone d) → r ≡ Err Range → ⊥
-broken_inside r d broken refused = cc
+-- the marks of a call that loses no drive itself
+marks_for : (x y : View) (event : Event) → Passes x y → Marks x y → MarksFor (ground_of x) (moment_of x) (moment_of y) event
+marks_for x y event passes marks = record {
+  after = passes.marks;
+  cause = λ place was now. elim (marks place was now) [ inl rose ↦ inl rose | inr none ↦ absurd none ];
+}
 
--- the test of a sector inside
+-- A call answers a line by what it does: stops inside it leave the array before the line or after it.
+performs_by :
+    (x y : View) (event : Event) (text : List ℕ) (during now : FlatArray → FlatArray)
+    → Passes x y
+    → Cause x y event
+    → MarksFor (ground_of x) (moment_of x) (moment_of y) event
+    → ((a : FlatArray) → Holds x a → text ≡ text_of a event)
+    → ((a : FlatArray) → Holds x a → now a ≡ becomes a event)
+    → ((a : FlatArray) → Holds x a → (during a ≡ a) ⊎ (during a ≡ becomes a event))
+    → Does x y during now
+    → Performs x y event text
+performs_by x y event text during now passes cause marks text_is same one_of does = record {
+  passes = passes;
+  cause = cause;
+  marks = marks;
+  text_is = text_is;
+  holds = λ a holds. subst (λ b. Holds y b) (same a holds) (does.becomes a holds);
+  leaves = λ traced a holds.
+      leaves_weaker (Means y (during a)) (λ i. Means y a i ⊎ Means y (becomes a event) i)
+      (λ i means.
+      elim (one_of a holds) [
+        | inl before ↦ inl (subst (λ b. Means y b i) before means)
+        | inr after ↦ inr (subst (λ b. Means y b i) after means)
+      ])
+      (does.leaves traced a holds);
+  ends = λ traced a holds i stopped. subst (λ b. Means y b i) (same a holds) (does.ends traced a holds i stopped);
+}
+
+-- what is spent when a call returns, in the sectors of the volume before it
+spent_at : (x y : View) (s : ℕ) (b : Bool) → Passes x y → is_spent y s ≡ b → spent_by x.linear (book y) s ≡ b
+spent_at x y s b passes is = subst (λ l. spent_by l (book y) s ≡ b) passes.linear is
+
+-- a line that touches no sector and loses no drive
+touches_none :
+    (x y : View) (line : Line)
+    → ((s : ℕ) → Touches (size_of x) line s → ⊥)
+    → ((s : ℕ) → TouchesLast (size_of x) line s → ⊥)
+    → ((place : ℕ) → line ≡ Ok (Lose place) → ⊥)
+    → Cause x y (answered line)
+touches_none x y line none never other =
+    (λ s touches. absurd (none s touches), λ s touches. absurd (never s touches), λ place is. absurd (other place is))
+
+-- a line that touches one sector, which isn't spent when it returns
+touches_one :
+    (x y : View) (line : Line) (sector : ℕ)
+    → Passes x y
+    → is_spent y sector ≡ false
+    → ((s : ℕ) → Touches (size_of x) line s → s ≡ sector)
+    → ((s : ℕ) → TouchesLast (size_of x) line s → s ≡ sector)
+    → ((place : ℕ) → line ≡ Ok (Lose place) → ⊥)
+    → Cause x y (answered line)
+touches_one x y line sector passes alive one same other = (
+  λ s touches. subst (λ t. is_spent x t ≡ false) (sym (one s touches)) (passes.stays.spent 0 sector alive),
+  λ s touches. subst (λ t. spent_by x.linear (book y) t ≡ false) (sym (same s touches)) (spent_at x y sector false passes alive),
+  λ place is. absurd (other place is),
+)
+
+-- a line that calls nothing
+pub still_done :
+    (x : View) (line : Line) (text : List ℕ)
+    → (volume x).fit
+    → (x.bay.traced → IsSound (volume x))
+    → ((s : ℕ) → Touches (size_of x) line s → ⊥)
+    → ((s : ℕ) → TouchesLast (size_of x) line s → ⊥)
+    → ((place : ℕ) → line ≡ Ok (Lose place) → ⊥)
+    → ((a : FlatArray) → Holds x a → a ≡ after a line)
+    → ((a : FlatArray) → Holds x a → text ≡ reply a line)
+    → Performs x x (answered line) text
+still_done x line text fit sound none never other same is =
+    performs_by x x (answered line) text unchanged unchanged (passes_same x fit) (touches_none x x line none never other)
+    (marks_for x x (answered line) (passes_same x fit) (marks_same x (λ place. ⊥)))
+    is same (λ a holds. inl refl) (does_none x (passes_same x fit) sound)
+
+-- ---- the tests of a flat array
+
 below_test : (s n : ℕ) → s < n → nat_lt s n ≡ true
 below_test s n below = grind (arith, nat_tests)
 
--- and of one outside
 past_test : (s n : ℕ) → n ≤ s → nat_lt s n ≡ false
 past_test s n past = grind (arith, nat_tests)
 
--- the test of sectors that are all inside
 within_test : (s n : ℕ) → s ≤ n → nat_le s n ≡ true
 within_test s n within = grind (arith, nat_tests)
 
@@ -55,242 +130,342 @@ beyond_test : (s n : ℕ) → n < s → nat_le s n ≡ false
 beyond_test s n beyond = grind (arith, nat_tests)
 
 -- a sector of the volume is one of the array
-inside_array :
-    (x : View) (a : FlatArray) (sector : ℕ) → Holds x a → sector < volume_sectors x.on.state → sector < a.size
-inside_array x a sector holds inside = subst (λ n. sector < n) (sym holds.size) inside
+inside_array : (x : View) (a : FlatArray) (sector : ℕ) → Holds x a → sector < size_of x → nat_lt sector a.size ≡ true
+inside_array x a sector holds inside = below_test sector a.size (subst (λ n. sector < n) (sym holds.size) inside)
 
--- a command that calls nothing
-pub still_done :
-    (x : View) (command : Line) (text : List ℕ)
-    → IsPool x
-    → IsDrives x.seen
-    → ((a : FlatArray) → Holds x a → after a command ≡ a)
-    → ((a : FlatArray) → Holds x a → text ≡ reply_to a command)
-    → Performs x x command text
-still_done x command text pool drives same reply =
-    record {
-      pool = same_pool x pool;
-      becomes = λ a holds. subst (λ b. Holds x b) (sym (same a holds)) holds;
-      reply = reply;
-      leaves = λ traced a holds. leaves_same x.seen (λ i. meaning_in x a i ⊎ meaning_in x (after a command) i);
-      ends =
-          λ traced a holds i stops.
-          subst (λ b. meaning_in x b i) (sym (same a holds)) (ends_now x pool drives traced a holds i stops);
-    }
+outside_array : (x : View) (a : FlatArray) (sector : ℕ) → Holds x a → size_of x ≤ sector → nat_lt sector a.size ≡ false
+outside_array x a sector holds past = past_test sector a.size (subst (λ n. n ≤ sector) (sym holds.size) past)
 
--- a meaning of the array before is one of either
-either_before :
-    (x y : View) (command : Line) → LeavesMeanings x y unchanged → LeavesEither x y command
-either_before x y command leaves traced a holds =
-    leaves_weaker (meaning_in x a) (λ i. meaning_in x a i ⊎ meaning_in x (after a command) i) (λ i means. inl means)
-    (leaves traced a holds)
+-- ---- a read
 
--- a read
 pub read_done :
-    (x y : View) (sector : ℕ) (into text : List ℕ) (r : Result (Unit {0}) BareFault)
+    (x y : View) (sector : ℕ) (into text : List ℕ) (r : Result (Unit {0}) SectorFault)
     → r ≡ Ok tt
     → text ≡ data_line into
     → ReadsSector x y sector into r
-    → Performs x y (Ok (Read sector)) text
-read_done x y sector into text r answered is reads_r =
-    let inside = inside_sectors reads_r.fault (answered_inside r answered) in
-    let reads : ReadsSector x y sector into {X = Unit {0}} (Ok tt) =
-    subst (λ q. ReadsSector x y sector into q) answered reads_r in
-    record {
-      pool = reads.pool;
-      becomes = reads.becomes;
-      reply =
-          λ a holds.
-          let test = below_test sector a.size (inside_array x a sector holds inside) in
-          rw test (is ∙ ap data_line (reads.value a holds));
-      leaves = either_before x y (Ok (Read sector)) reads.leaves;
-      ends = reads.ends;
-    }
+    → Performs x y (answered (Ok (Read sector))) text
+read_done x y sector into text r is_ok is reads_r =
+    let reads : ReadsSector x y sector into {X = Unit {0}} (Ok tt) = subst (λ q. ReadsSector x y sector into q) is_ok reads_r in
+    let served = reads.fault.served in
+    performs_by x y (answered (Ok (Read sector))) text unchanged unchanged reads.passes
+    (touches_one x y (Ok (Read sector)) sector reads.passes served.1 (λ s touches. touches.0) (λ s touches. touches.0) (λ place loses. cc))
+    (marks_for x y _ reads.passes reads.marks)
+    (λ a holds. rw (inside_array x a sector holds served.0) (is ∙ ap data_line (reads.value a holds)))
+    (λ a holds. refl)
+    (λ a holds. inl refl)
+    reads.does
 
 pub read_outside :
-    (x y : View) (sector : ℕ) (into text : List ℕ) (r : Result (Unit {0}) BareFault)
-    → IsPool x
-    → IsDrives x.seen
+    (x y : View) (sector : ℕ) (into text : List ℕ) (r : Result (Unit {0}) SectorFault)
     → r ≡ Err Range
     → text ≡ refused_line (codes "range")
     → ReadsSector x y sector into r
-    → Performs x x (Ok (Read sector)) text
-read_outside x y sector into text r pool drives refused is reads =
+    → Performs x y (answered (Ok (Read sector))) text
+read_outside x y sector into text r refused is reads =
     let past = reads.fault.range.0 refused in
-    still_done x (Ok (Read sector)) text pool drives (λ a holds. refl)
-    (λ a holds. rw (past_test sector a.size (subst (λ n. n ≤ sector) (sym holds.size) past)) is)
+    performs_by x y (answered (Ok (Read sector))) text unchanged unchanged reads.passes
+    (touches_none x y (Ok (Read sector)) (λ s touches. let inside = touches.1 in omega arith)
+    (λ s touches. let inside = touches.1 in omega arith) (λ place loses. cc))
+    (marks_for x y _ reads.passes reads.marks)
+    (λ a holds. rw (outside_array x a sector holds past) is)
+    (λ a holds. refl)
+    (λ a holds. inl refl)
+    reads.does
 
-pub read_broken :
-    (x y : View) (sector : ℕ) (into : List ℕ) (r : Result (Unit {0}) BareFault) (d : ℕ)
-    → r ≡ Err (DriveGone d)
+pub read_spent :
+    (x y : View) (sector : ℕ) (into text : List ℕ) (r : Result (Unit {0}) SectorFault)
+    → r ≡ Err Spent
+    → text ≡ spent_line sector
     → ReadsSector x y sector into r
-    → Breaks x y (Ok (Read sector)) d
-read_broken x y sector into r d broken reads =
-    record { pool = reads.pool; went = reads.fault.gone d broken; leaves = either_before x y (Ok (Read sector)) reads.leaves }
+    → Performs x y (spent (Ok (Read sector)) sector) text
+read_spent x y sector into text r refused is reads =
+    let gone = reads.fault.refused refused in
+    performs_by x y (spent (Ok (Read sector)) sector) text unchanged unchanged reads.passes
+    (
+      (refl, gone.0),
+      spent_at x y sector true reads.passes gone.1,
+      λ s touches before. absurd (let same = touches.0 in omega arith),
+    )
+    (marks_for x y _ reads.passes reads.marks)
+    (λ a holds. is)
+    (λ a holds. refl)
+    (λ a holds. inl refl)
+    reads.does
 
--- a write of a sector inside
-after_write :
-    (a : FlatArray) (sector : ℕ) (v : List ℕ) → sector < a.size → after a (Ok (Write sector v)) ≡ written a sector v
-after_write a sector v inside = rw (below_test sector a.size inside) refl
-
-write_either :
-    (x y : View) (sector : ℕ) (v : List ℕ)
-    → sector < volume_sectors x.on.state
-    → LeavesMeanings x y (λ a. written a sector v)
-    → LeavesEither x y (Ok (Write sector v))
-write_either x y sector v inside leaves traced a holds =
-    let is = after_write a sector v (inside_array x a sector holds inside) in
-    leaves_weaker
-    (meaning_in x (written a sector v))
-    (λ i. meaning_in x a i ⊎ meaning_in x (after a (Ok (Write sector v))) i)
-    (λ i means. inr (subst (λ b. meaning_in x b i) (sym is) means))
-    (leaves traced a holds)
+-- ---- a write
 
 pub write_done :
-    (x y : View) (sector : ℕ) (v text : List ℕ) (r : Result (Unit {0}) BareFault)
+    (x y : View) (sector : ℕ) (v text : List ℕ) (r : Result (Unit {0}) SectorFault)
     → r ≡ Ok tt
     → text ≡ as_line (codes "ok")
     → WritesSector x y sector v r
-    → Performs x y (Ok (Write sector v)) text
-write_done x y sector v text r answered is writes_r =
-    let inside = inside_sectors writes_r.fault (answered_inside r answered) in
-    let writes : WritesSector x y sector v {X = Unit {0}} (Ok tt) =
-    subst (λ q. WritesSector x y sector v q) answered writes_r in
-    record {
-      pool = writes.pool;
-      becomes =
-          λ a holds.
-          subst (λ b. Holds y b)
-          (sym (after_write a sector v (inside_array x a sector holds inside)))
-          (writes.becomes a holds);
-      reply = λ a holds. let test = below_test sector a.size (inside_array x a sector holds inside) in rw test is;
-      leaves = write_either x y sector v inside writes.leaves;
-      ends =
-          λ traced a holds i stops.
-          subst (λ b. meaning_in x b i)
-          (sym (after_write a sector v (inside_array x a sector holds inside)))
-          (writes.ends traced a holds i stops);
-    }
+    → Performs x y (answered (Ok (Write sector v))) text
+write_done x y sector v text r is_ok is writes_r =
+    let writes : WritesSector x y sector v {X = Unit {0}} (Ok tt) = subst (λ q. WritesSector x y sector v q) is_ok writes_r in
+    let served = writes.fault.served in
+    let same : (a : FlatArray) → Holds x a → written a sector v ≡ after a (Ok (Write sector v)) =
+    λ a holds. rw (inside_array x a sector holds served.0) refl in
+    performs_by x y (answered (Ok (Write sector v))) text (λ a. written a sector v) (λ a. written a sector v) writes.passes
+    (touches_one x y (Ok (Write sector v)) sector writes.passes served.1 (λ s touches. touches.0) (λ s touches. touches.0) (λ place loses. cc))
+    (marks_for x y _ writes.passes writes.marks)
+    (λ a holds. rw (inside_array x a sector holds served.0) is)
+    same
+    (λ a holds. inr (same a holds))
+    writes.written
 
 pub write_outside :
-    (x y : View) (sector : ℕ) (v text : List ℕ) (r : Result (Unit {0}) BareFault)
-    → IsPool x
-    → IsDrives x.seen
+    (x y : View) (sector : ℕ) (v text : List ℕ) (r : Result (Unit {0}) SectorFault)
     → r ≡ Err Range
     → text ≡ refused_line (codes "range")
     → WritesSector x y sector v r
-    → Performs x x (Ok (Write sector v)) text
-write_outside x y sector v text r pool drives refused is writes =
-    let past = writes.fault.range.0 refused in
-    let test : (a : FlatArray) → Holds x a → nat_lt sector a.size ≡ false =
-    λ a holds. past_test sector a.size (subst (λ n. n ≤ sector) (sym holds.size) past) in
-    still_done x (Ok (Write sector v)) text pool drives (λ a holds. rw (test a holds) refl) (λ a holds. rw (test a holds) is)
+    → Performs x y (answered (Ok (Write sector v))) text
+write_outside x y sector v text r refused is writes_r =
+    let writes : WritesSector x y sector v {X = Unit {0}} (Err Range) = subst (λ q. WritesSector x y sector v q) refused writes_r in
+    let past = writes.fault.range.0 refl in
+    performs_by x y (answered (Ok (Write sector v))) text unchanged unchanged writes.passes
+    (touches_none x y (Ok (Write sector v)) (λ s touches. let inside = touches.1 in omega arith)
+    (λ s touches. let inside = touches.1 in omega arith) (λ place loses. cc))
+    (marks_for x y _ writes.passes writes.marks)
+    (λ a holds. rw (outside_array x a sector holds past) is)
+    (λ a holds. rw (outside_array x a sector holds past) refl)
+    (λ a holds. inl refl)
+    writes.kept
 
-pub write_broken :
-    (x y : View) (sector : ℕ) (v : List ℕ) (r : Result (Unit {0}) BareFault) (d : ℕ)
-    → r ≡ Err (DriveGone d)
+pub write_spent :
+    (x y : View) (sector : ℕ) (v text : List ℕ) (r : Result (Unit {0}) SectorFault)
+    → r ≡ Err Spent
+    → text ≡ spent_line sector
     → WritesSector x y sector v r
-    → Breaks x y (Ok (Write sector v)) d
-write_broken x y sector v r d broken writes =
-    record {
-      pool = writes.pool;
-      went = writes.fault.gone d broken;
-      leaves = write_either x y sector v (inside_sectors writes.fault (broken_inside r d broken)) writes.leaves;
-    }
+    → Performs x y (spent (Ok (Write sector v)) sector) text
+write_spent x y sector v text r refused is writes_r =
+    let writes : WritesSector x y sector v {X = Unit {0}} (Err Spent) = subst (λ q. WritesSector x y sector v q) refused writes_r in
+    let gone = writes.fault.refused refl in
+    performs_by x y (spent (Ok (Write sector v)) sector) text unchanged unchanged writes.passes
+    (
+      (refl, gone.0),
+      spent_at x y sector true writes.passes gone.1,
+      λ s touches before. absurd (let same = touches.0 in omega arith),
+    )
+    (marks_for x y _ writes.passes writes.marks)
+    (λ a holds. is)
+    (λ a holds. refl)
+    (λ a holds. inl refl)
+    writes.kept
 
--- a fill of sectors inside
-after_fill :
-    (x : View) (a : FlatArray) (sector count byte : ℕ)
-    → Holds x a
-    → sector + count ≤ volume_sectors x.on.state
-    → after a (Ok (Fill sector count byte)) ≡ filled a sector count (uniform_sector byte)
-after_fill x a sector count byte holds inside =
-    rw (within_test (sector + count) a.size (subst (λ n. sector + count ≤ n) (sym holds.size) inside)) refl
+-- ---- a fill
 
-fill_either :
-    (x y : View) (sector count byte : ℕ)
-    → sector + count ≤ volume_sectors x.on.state
-    → LeavesMeanings x y (λ a. filled a sector count (uniform_sector byte))
-    → LeavesEither x y (Ok (Fill sector count byte))
-fill_either x y sector count byte inside leaves traced a holds =
-    let is = after_fill x a sector count byte holds inside in
-    leaves_weaker
-    (meaning_in x (filled a sector count (uniform_sector byte)))
-    (λ i. meaning_in x a i ⊎ meaning_in x (after a (Ok (Fill sector count byte))) i)
-    (λ i means. inr (subst (λ b. meaning_in x b i) (sym is) means))
-    (leaves traced a holds)
+-- sectors of the volume are sectors of the array
+all_inside : (x : View) (a : FlatArray) (end : ℕ) → Holds x a → end ≤ size_of x → nat_le end a.size ≡ true
+all_inside x a end holds inside = within_test end a.size (subst (λ n. end ≤ n) (sym holds.size) inside)
 
 pub fill_done :
-    (x y : View) (sector count byte : ℕ) (text : List ℕ) (r : Result (Unit {0}) Gone)
-    → sector + count ≤ volume_sectors x.on.state
+    (x y : View) (sector count byte : ℕ) (text : List ℕ) (r : Result (Unit {0}) SpentAt)
+    → sector + count ≤ size_of x
     → r ≡ Ok tt
     → text ≡ as_line (codes "ok")
     → Fills x y sector count (uniform_sector byte) r
-    → Performs x y (Ok (Fill sector count byte)) text
-fill_done x y sector count byte text r inside answered is fills_r =
-    let fills : Fills x y sector count (uniform_sector byte) {X = Unit {0}} (Ok tt) =
-    subst (λ q. Fills x y sector count (uniform_sector byte) q) answered fills_r in
-    record {
-      pool = fills.pool;
-      becomes =
-          λ a holds. subst (λ b. Holds y b) (sym (after_fill x a sector count byte holds inside)) (fills.becomes a holds);
-      reply =
-          λ a holds.
-          rw (within_test (sector + count) a.size (subst (λ n. sector + count ≤ n) (sym holds.size) inside)) is;
-      leaves = fill_either x y sector count byte inside fills.leaves;
-      ends =
-          λ traced a holds i stops.
-          subst (λ b. meaning_in x b i)
-          (sym (after_fill x a sector count byte holds inside))
-          (fills.ends traced a holds i stops);
-    }
+    → Performs x y (answered (Ok (Fill sector count byte))) text
+fill_done x y sector count byte text r inside is_ok is fills_r =
+    let fills : Fills x y sector count (uniform_sector byte) (Ok tt) =
+    subst (λ q. Fills x y sector count (uniform_sector byte) q) is_ok fills_r in
+    let same : (a : FlatArray) → Holds x a → filled a sector count (uniform_sector byte) ≡ after a (Ok (Fill sector count byte)) =
+    λ a holds. rw (all_inside x a (sector + count) holds inside) refl in
+    performs_by x y (answered (Ok (Fill sector count byte))) text (λ a. filled a sector count (uniform_sector byte))
+    (λ a. filled a sector count (uniform_sector byte))
+    fills.passes
+    (
+      λ s touches. fills.done.0.unspent s touches.0 touches.1,
+      λ s touches. spent_at x y s false fills.passes (fills.done.1 s touches.0 touches.1),
+      λ place loses. absurd (let other : ⊥ = cc in other),
+    )
+    (marks_for x y _ fills.passes fills.marks)
+    (λ a holds. rw (all_inside x a (sector + count) holds inside) is)
+    same
+    (λ a holds. inr (same a holds))
+    fills.done.0.does
+
+pub fill_spent :
+    (x y : View) (sector count byte : ℕ) (text : List ℕ) (r : Result (Unit {0}) SpentAt) (at : SpentAt)
+    → sector + count ≤ size_of x
+    → r ≡ Err at
+    → text ≡ spent_line at.sector
+    → Fills x y sector count (uniform_sector byte) r
+    → Performs x y (spent (Ok (Fill sector count byte)) at.sector) text
+fill_spent x y sector count byte text r at inside refused is fills_r =
+    let fills : Fills x y sector count (uniform_sector byte) (Err at) =
+    subst (λ q. Fills x y sector count (uniform_sector byte) q) refused fills_r in
+    let from = fills.refused.0 in
+    let before = fills.refused.1 in
+    let some : FillsSome x y sector (at.sector - sector) (uniform_sector byte) = fills.refused.3 in
+    performs_by x y (spent (Ok (Fill sector count byte)) at.sector) text
+    (λ a. filled a sector (at.sector - sector) (uniform_sector byte))
+    (λ a. filled a sector (at.sector - sector) (uniform_sector byte))
+    fills.passes
+    (
+      (from, before, inside),
+      spent_at x y at.sector true fills.passes fills.refused.2,
+      λ s touches early. some.unspent s touches.0 (omega arith),
+    )
+    (marks_for x y _ fills.passes fills.marks)
+    (λ a holds. is)
+    (λ a holds. refl)
+    (λ a holds. inr refl)
+    some.does
 
 pub fill_outside :
     (x : View) (sector count byte : ℕ) (text : List ℕ)
-    → IsPool x
-    → IsDrives x.seen
-    → volume_sectors x.on.state < sector + count
+    → (volume x).fit
+    → (x.bay.traced → IsSound (volume x))
+    → size_of x < sector + count
     → text ≡ refused_line (codes "range")
-    → Performs x x (Ok (Fill sector count byte)) text
-fill_outside x sector count byte text pool drives past is =
+    → Performs x x (answered (Ok (Fill sector count byte))) text
+fill_outside x sector count byte text fit sound past is =
     let test : (a : FlatArray) → Holds x a → nat_le (sector + count) a.size ≡ false =
     λ a holds. beyond_test (sector + count) a.size (subst (λ n. n < sector + count) (sym holds.size) past) in
-    still_done x (Ok (Fill sector count byte)) text pool drives (λ a holds. rw (test a holds) refl)
+    still_done x (Ok (Fill sector count byte)) text fit sound
+    (λ s touches. let inside = touches.2 in omega arith)
+    (λ s touches. let inside = touches.2 in omega arith)
+    (λ place loses. cc)
+    (λ a holds. rw (test a holds) refl)
     (λ a holds. rw (test a holds) is)
 
-pub fill_broken :
-    (x y : View) (sector count byte : ℕ) (r : Result (Unit {0}) Gone) (e : Gone)
-    → sector + count ≤ volume_sectors x.on.state
-    → r ≡ Err e
-    → Fills x y sector count (uniform_sector byte) r
-    → Breaks x y (Ok (Fill sector count byte)) e.disk
-fill_broken x y sector count byte r e inside broken fills_r =
-    let fills : Fills x y sector count (uniform_sector byte) {X = Unit {0}} (Err e) =
-    subst (λ q. Fills x y sector count (uniform_sector byte) q) broken fills_r in
-    record { pool = fills.pool; went = fills.gone; leaves = fill_either x y sector count byte inside fills.leaves }
+-- ---- a flush
 
--- a flush
 pub flush_done :
-    (x y : View) (text : List ℕ) (r : Result (Unit {0}) Gone)
+    (x y : View) (text : List ℕ) → text ≡ as_line (codes "ok") → Flushes x y → Performs x y (answered (Ok Flush)) text
+flush_done x y text is flushes =
+    performs_by x y (answered (Ok Flush)) text unchanged flushed flushes.passes
+    (touches_none x y (Ok Flush) (λ s touches. touches) (λ s touches. touches) (λ place loses. cc))
+    (marks_for x y _ flushes.passes flushes.marks)
+    (λ a holds. is)
+    (λ a holds. refl)
+    (λ a holds. inl refl)
+    flushes.does
+
+-- ---- the loss of a drive
+
+-- a pool has at most 16 drives
+none_past : (x : View) (place : ℕ) → (volume x).fit → 16 ≤ place → is_current (book x).state place ≡ false
+none_past x place fit past =
+    let few = fit.0.running.set.few in
+    let none = slice_get_past (book x).state.drives.items place (omega arith) in
+    ap (λ drive. option_map_or (λ d. not d.missing) drive false) none
+
+-- a place as the call has it: itself, or no place, like itself
+pub record IsCut (at place : ℕ) : Type 0 where
+  pub same : place < 16 → at ≡ place
+  pub past : 16 ≤ place → 16 ≤ at
+
+-- the place of a line, cut at the last number of 32 bits
+pub is_cut : (at place most : ℕ) → most ≡ 4294967295 → at ≡ min place most → IsCut at place
+is_cut at place most most_is least = record {
+  same = λ small. least ∙ min-eq_left (omega arith);
+  past = λ great. subst (λ n. 16 ≤ n) (sym least) (le-min great (omega arith));
+}
+
+current_cut : (x : View) (at place : ℕ) → (volume x).fit → IsCut at place → is_current (book x).state at ≡ is_current (book x).state place
+current_cut x at place fit cut =
+    elim (cases_lt place 16) [
+      | inl inside ↦ ap (is_current (book x).state) (cut.same inside)
+      | inr past ↦ none_past x at fit (cut.past past) ∙ sym (none_past x place fit past)
+    ]
+
+-- a current place is that of the call
+cut_current : (x : View) (at place : ℕ) → (volume x).fit → IsCut at place → is_current (book x).state at ≡ true → at ≡ place
+cut_current x at place fit cut current =
+    elim (cases_lt place 16) [
+      | inl inside ↦ cut.same inside
+      | inr past ↦ absurd (both_ways (is_current (book x).state at) (none_past x at fit (cut.past past)) current)
+    ]
+
+pub lose_done :
+    (x y : View) (at place : ℕ) (text : List ℕ) (r : Result (Unit {0}) LoseFault)
+    → (volume x).fit
+    → IsCut at place
     → r ≡ Ok tt
     → text ≡ as_line (codes "ok")
-    → Flushes x y r
-    → Performs x y (Ok Flush) text
-flush_done x y text r answered is flushes_r =
-    let flushes : Flushes x y {X = Unit {0}} (Ok tt) = subst (λ q. Flushes x y q) answered flushes_r in
-    record {
-      pool = flushes.pool;
-      becomes = flushes.becomes;
-      reply = λ a holds. is;
-      leaves = either_before x y (Ok Flush) flushes.leaves;
-      ends = flushes.ends;
-    }
+    → LosesDrive x y at r
+    → Performs x y (lost place) text
+lose_done x y at place text r fit cut is_ok is loses_r =
+    let loses : LosesDrive x y at {X = Unit {0}} (Ok tt) = subst (λ q. LosesDrive x y at q) is_ok loses_r in
+    let current : is_current (book x).state at ≡ true =
+    elim (cases_Bool (is_current (book x).state at)) [
+      | inl current ↦ current
+      | inr missing ↦ absurd (let other = loses.missing.1 missing in cc)
+    ] in
+    let same : at ≡ place = cut_current x at place fit cut current in
+    performs_by x y (lost place) text unchanged unchanged loses.passes
+    (
+      subst (λ p. is_current (book x).state p ≡ true) same current,
+      subst (λ p. is_current (book y).state p ≡ false) same loses.lost,
+    )
+    (record {
+      after = loses.passes.marks;
+      cause = λ p was now. elim (loses.marks p was now) [ inl rose ↦ inl rose | inr this ↦ inr (ap lost (sym (this ∙ same))) ];
+    })
+    (λ a holds. is)
+    (λ a holds. refl)
+    (λ a holds. inl refl)
+    loses.does
 
-pub flush_broken :
-    (x y : View) (r : Result (Unit {0}) Gone) (e : Gone)
-    → r ≡ Err e
-    → Flushes x y r
-    → Breaks x y (Ok Flush) e.disk
-flush_broken x y r e broken flushes_r =
-    let flushes : Flushes x y {X = Unit {0}} (Err e) = subst (λ q. Flushes x y q) broken flushes_r in
-    record { pool = flushes.pool; went = flushes.gone; leaves = either_before x y (Ok Flush) flushes.leaves }
+-- what holds where a call is refused
+pub kept_by : {X E K : Type 0} (r : Result X E) (e : E) → r ≡ Err e → OnErr r K → K
+kept_by {X} {E} {K} r e refused kept = subst (λ q. OnErr q K) refused kept
+
+-- refused, it marks no drive
+still_marks :
+    (x y : View) (event : Event) → Passes x y → book y ≡ book x → MarksFor (ground_of x) (moment_of x) (moment_of y) event
+still_marks x y event passes same = record {
+  after = passes.marks;
+  cause = λ p was now.
+      absurd
+      (both_ways (is_current (book x).state p) (subst (λ b. is_current b.state p ≡ false) same now) was);
+}
+
+pub lose_missing :
+    (x y : View) (at place : ℕ) (text : List ℕ) (r : Result (Unit {0}) LoseFault)
+    → (volume x).fit
+    → IsCut at place
+    → r ≡ Err NoSuchDrive
+    → book y ≡ book x
+    → text ≡ refused_line (codes "no-such-drive")
+    → LosesDrive x y at r
+    → Performs x y (answered (Ok (Lose place))) text
+lose_missing x y at place text r fit cut refused same is loses =
+    let missing = loses.missing.0 refused in
+    performs_by x y (answered (Ok (Lose place))) text unchanged unchanged loses.passes
+    (
+      λ s touches. absurd touches,
+      λ s touches. absurd touches,
+      λ p line.
+          let this : place ≡ p = cc in
+          subst (λ q. is_current (book x).state q ≡ false) this (sym (current_cut x at place fit cut) ∙ missing),
+    )
+    (still_marks x y _ loses.passes same)
+    (λ a holds. is)
+    (λ a holds. refl)
+    (λ a holds. inl refl)
+    loses.does
+
+pub lose_last :
+    (x y : View) (at place : ℕ) (text : List ℕ) (r : Result (Unit {0}) LoseFault)
+    → (volume x).fit
+    → IsCut at place
+    → r ≡ Err LastDrive
+    → book y ≡ book x
+    → text ≡ refused_line (codes "last-drive")
+    → LosesDrive x y at r
+    → Performs x y (last place) text
+lose_last x y at place text r fit cut refused same is loses =
+    let cause = loses.last.0 refused in
+    let this : at ≡ place = cut_current x at place fit cut cause.0 in
+    performs_by x y (last place) text unchanged unchanged loses.passes
+    (
+      subst (λ p. is_current (book x).state p ≡ true) this cause.0,
+      subst (λ p. has_other (book x).state p ≡ false) this cause.1,
+    )
+    (still_marks x y _ loses.passes same)
+    (λ a holds. is)
+    (λ a holds. refl)
+    (λ a holds. inl refl)
+    loses.does

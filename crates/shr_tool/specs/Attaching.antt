@@ -1,5 +1,5 @@
 -- Attaching the names of the words, in their order.
-use Rattle.std.specs.Prelude.{◌≡◌, ◌≢◌, ℕ, ◌<◌, ◌≤◌, List, length, slice_get, Some}
+use Rattle.std.specs.Prelude.{◌≡◌, ◌≢◌, ℕ, ◌<◌, ◌≤◌, List, length, slice_get, take, Some}
 use Rattle.rack.specs.declared.AttachFault.{AttachFault}
 use Rattle.rack.specs.declared.AttachFault.TheVariants.{Failed, Twice, Memory}
 use Rattle.rack.specs.Seen.{Image, Seen, Rose}
@@ -36,6 +36,8 @@ HasAttachCause (Twice d) s t names number = IsTwice names d number
 HasAttachCause Memory s t names number = Unit {0}
 
 -- attaching stopped at a name
-pub record IsUnattached (s t : Shelf) (names : List (List ℕ)) (number : ℕ) (fault : AttachFault) : Type 0 where
+pub record IsUnattached (x y : Seen) (s t : Shelf) (names : List (List ℕ)) (number : ℕ) (fault : AttachFault) : Type 0 where
   pub inside : number < length names
   pub cause : HasAttachCause fault s t names number
+  -- those before it are, and their disks hold what waited
+  pub before : AreAttached x y s t (take number names)

@@ -11,7 +11,8 @@ use Rattle.image_text.specs.Putting.{AddsLines}
 use Rattle.shr_tool.specs.declared.status.Status.{Status}
 use Rattle.shr_tool.specs.declared.status.Status.TheVariants.{Done, Sink, Refused, Memory}
 use Rattle.shr_tool.specs.Entry.{waiting_at, sectors_in, contents_in, IsEntryImage}
-use Rattle.shr_tool.specs.Run.{Says, AttachRefused, TwiceRefused}
+use Rattle.shr_tool.specs.Run.{NameRefused}
+use Rattle.shr_tool.specs.Saying.{Says}
 
 -- the lines of an image were put, or whole lines of them and why no more came, or the sink refused one
 pub data ShowsImage (lines : List (List ℕ)) (out out' : List ℕ) (status : Status) : Type 0 where
@@ -34,7 +35,6 @@ pub record Examined (x : Seen) (s : Shelf) (y : Seen) (names : List (List ℕ)) 
 
 -- how `examine` came out
 pub data ExamineOutcome (x : Seen) (s : Shelf) (y : Seen) (t : Shelf) (names : List (List ℕ)) (out out' : List ℕ) (status : Status) : Type 0 where
-  attach_refused : AttachRefused s t names out out' status → ExamineOutcome x s y t names out out' status
-  twice_refused : TwiceRefused names out out' status → ExamineOutcome x s y t names out out' status
+  name_refused : NameRefused x y s t names out out' status → ExamineOutcome x s y t names out out' status
   no_memory : Says Memory (refused_line (codes "memory")) out out' status → ExamineOutcome x s y t names out out' status
   examined : Examined x s y names out out' status → ExamineOutcome x s y t names out out' status

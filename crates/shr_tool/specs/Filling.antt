@@ -1,14 +1,21 @@
 -- Sectors of a pool that are filled one after the other, as one event.
-use Rattle.std.specs.Prelude.{ℕ, List, Result, OnOk, IfErr}
-use Rattle.rack.specs.declared.Gone.{Gone}
-use Rattle.flat_array.specs.Array.{filled}
+use Rattle.std.specs.Prelude.{◌≡◌, ◌⊎◌, ℕ, ◌+◌, ◌-◌, ◌<◌, ◌≤◌, true, false, List, Result, OnOk, IfErr}
+use Rattle.flat_array.specs.Array.{FlatArray, filled}
+use Rattle.pool.specs.Calls.{Marks, Passes}
 use Rattle.pool.specs.View.{View}
-use Rattle.pool.specs.Calls.{IsSamePool, WentIn, Becomes, LeavesMeanings, EndsWithMeanings}
+use Rattle.pool.specs.Volume.{Does, is_spent}
+use Rattle.shr_tool.specs.declared.perform.SpentAt.{SpentAt}
 
--- so many sectors have these bytes appended; a stop inside counts as after all of them
-pub record Fills (x y : View) (sector count : ℕ) (bytes : List ℕ) {X : Type 0} (result : Result X Gone) : Type 0 where
-  pub pool : IsSamePool x y
-  pub gone : IfErr result (λ e. WentIn x y e.disk)
-  pub becomes : OnOk result (Becomes x y (λ a. filled a sector count bytes))
-  pub leaves : LeavesMeanings x y (λ a. filled a sector count bytes)
-  pub ends : OnOk result (EndsWithMeanings x y (λ a. filled a sector count bytes))
+-- So many sectors from one on have these bytes appended; none of them was spent before. A stop inside counts as after all of them.
+pub record FillsSome (x y : View) (sector count : ℕ) (bytes : List ℕ) : Type 0 where
+  pub does : Does x y (λ a. filled a sector count bytes) (λ a. filled a sector count bytes)
+  pub unspent : (s : ℕ) → sector ≤ s → s < sector + count → is_spent x s ≡ false
+
+-- All of them have, and the last one isn't spent; or those before the first that is refused, which is spent.
+pub record Fills (x y : View) (sector count : ℕ) (bytes : List ℕ) (result : Result (Unit {0}) SpentAt) : Type 0 where
+  pub passes : Passes x y
+  pub marks : Marks x y
+  pub done : OnOk result (FillsSome x y sector count bytes × ((s : ℕ) → s + 1 ≡ sector + count → sector ≤ s → is_spent y s ≡ false))
+  pub refused :
+      IfErr result
+      (λ at. (sector ≤ at.sector) × (at.sector < sector + count) × (is_spent y at.sector ≡ true) × FillsSome x y sector (at.sector - sector) bytes)

@@ -10,7 +10,7 @@ use Rattle.layer_plan.specs.declared.PlanError.TheVariants.{TooFew, TooMany, NoR
 use Rattle.layer_plan.specs.Slicing.{IsSlicing, IsBest, load, slicing_capacity}
 use Rattle.layer_plan.specs.Layering.{IsLayering, array_of}
 use Rattle.shr_tool.specs.declared.status.Status.{Status}
-use Rattle.shr_tool.specs.declared.status.Status.TheVariants.{Done, Words, Limit, Source, Sink, Refused, Memory}
+use Rattle.shr_tool.specs.declared.status.Status.TheVariants.{Done, Words, Limit, Source, Sink, Refused, Memory, Spent}
 
 -- each place after a space
 abbrev pub spaced : List ℕ → List ℕ
@@ -108,6 +108,7 @@ PutsBy Source before after text = ⊥
 PutsBy Sink before after text = AddsPrefix before after text
 PutsBy Refused before after text = after ≡ before ++ text
 PutsBy Memory before after text = ⊥
+PutsBy Spent before after text = ⊥
 
 -- the status after all was put, or that of the sink where it failed
 abbrev pub ended : {E : Type 0} → Result (Unit {0}) E → Status → Status

@@ -1,144 +1,101 @@
 -- How a script on a pool came out, by the status that is answered.
-use Rattle.std.specs.Prelude.{◌≡◌, ◌⊎◌, ℕ, ◌<◌, ◌≤◌, ◌^◌, List, [], ◌∷◌, ◌++◌, length, take, false, codes, decimal}
+use Rattle.std.specs.Prelude.{◌≡◌, ◌⊎◌, ℕ, ◌<◌, ◌≤◌, ◌^◌, Bool, true, false, List, [], ◌∷◌, ◌++◌, length, take}
 use Rattle.rack.specs.Seen.{Image, Seen, Rose}
 use Rattle.io_ends.specs.Sink.{AddsPrefix}
+use Rattle.md_super.specs.declared.superblock.Super.{Super}
+use Rattle.array_image.specs.Left.{IsLeft}
+use Rattle.array_image.specs.Supers.{truth_in}
+use Rattle.array_core.specs.Superblocks.{is_settled, left_offset}
+use Rattle.slice_rack.specs.Sliced.{slices_of}
+use Rattle.raid_rack.specs.Book.{IsAfter}
+use Rattle.raid_rack.specs.Raid.{IsTold, is_over}
 use Rattle.shr_script.specs.Line.{Line}
 use Rattle.flat_array.specs.Array.{FlatArray, flushed}
 use Rattle.shr_script.specs.Script.{script_of, cut_script_of}
-use Rattle.shr_script.specs.Reply.{refused_line}
-use Rattle.flat_array.specs.Reply.{reply, replies, array_after}
-use Rattle.pool.specs.View.{View, all_rows}
-use Rattle.pool.specs.Volume.{Holds, AreSingle}
-use Rattle.pool.specs.Calls.{WentIn, Becomes, LeavesMeanings, EndsWithMeanings, AreDurable, unchanged}
-use Rattle.shr_tool.specs.Meaning.{Meaning}
 use Rattle.shr_tool.specs.declared.status.Status.{Status}
-use Rattle.shr_tool.specs.declared.status.Status.TheVariants.{Done, Words, Limit, Source, Sink, Refused, Memory}
-use Rattle.shr_tool.specs.Timeline.{Timeline}
+use Rattle.shr_tool.specs.declared.status.Status.TheVariants.{Done, Words, Limit, Source, Sink, Refused, Memory, Spent}
+use Rattle.shr_tool.specs.declared.serve.Stop.{Stop}
+use Rattle.shr_tool.specs.declared.serve.Stop.TheVariants.{Quit as AtQuit, Input, SourceFault, Limit as AtLimit, SinkFault}
+use Rattle.shr_tool.specs.Events.{Event, any_spent, array_by, lines_of, text_of, texts}
+use Rattle.shr_tool.specs.Timeline.{Ground, Moment, MarksFor, MeansAt, Timeline}
 
--- the events of commands in a row, and after them what one that broke off, or the end, may have left
-pub record Lasts (y : Seen) (means : Meaning) (from : ℕ) (a : FlatArray) (commands broken : List Line) : Type 0 where
-  pub last : ℕ
-  pub timeline : Timeline means y.stops a from commands last
-  pub until : last ≤ y.clock
-  pub during :
-      (k : ℕ) (i : Image)
-      → last < k
-      → k ≤ y.clock
-      → y.stops k i
-      → means (array_after a commands) i ⊎ means (array_after a (commands ++ broken)) i
+-- no disk's faults rose since they were counted so
+abbrev pub NoneRose : (ℕ → ℕ) → (ℕ → ℕ) → Type 0
+NoneRose before after = (d : ℕ) → Rose (before d) (after d) → ⊥
 
--- a disk's faults have risen since they were counted so
-pub record DriveWent (y : Seen) (counts : ℕ → ℕ) (d : ℕ) : Type 0 where
-  pub disk : d < y.disks
-  pub rose : Rose (counts d) (y.faults d)
+-- Where no disk's faults rose in the end of a pool, an array whose superblocks said otherwise leaves in each image just the rows to
+-- resync that were left in it before.
+abbrev pub LeavesItsRows : Seen → Ground → Moment → Moment → Type 0
+LeavesItsRows y g p q =
+    NoneRose p.faults q.faults
+    → (n : ℕ) → n < g.linear.arrays → is_over q.book n ≡ false → is_settled (p.book.arrays n) ≡ false
+    → (r : Image) → IsLeft (slices_of g.slices y) r → (t : Super) → truth_in q.book.state r n ≡ Some t
+    → t.resync_offset ≡ left_offset (p.book.arrays n)
 
--- the pool was ended after these commands: it holds what they left, durably, and one value in each sector
-pub record Durable (y : View) (Traced : Type 0) (means : Meaning) (a : FlatArray) (commands : List Line) : Type 0 where
-  pub holds : Holds y (flushed (array_after a commands))
-  -- on both members
-  pub single : AreSingle y (array_after a commands)
-  -- no row is left to resync, unless the opening found some
-  pub clean : y.unclean ≡ false → y.members.first.resync_offset ≡ all_rows
-  pub ends : Traced → (i : Image) → y.seen.stops y.seen.clock i → means (flushed (array_after a commands)) i
+-- The end of a pool: marks alone come to its book, what a stop inside it leaves means the array, and then its current values alone.
+pub record EndsAt (Told : Type 0) (Traced : Type 0) (y : Seen) (g : Ground) (p q : Moment) (a : FlatArray) : Type 0 where
+  pub later : Traced → p.clock ≤ q.clock
+  pub after : IsAfter p.book.state q.book.state
+  pub during : Told → Traced → (k : ℕ) (i : Image) → p.clock < k → k ≤ q.clock → y.stops k i → MeansAt g q a i
+  pub ended : Told → Traced → (i : Image) → y.stops q.clock i → MeansAt g q (flushed a) i
+  pub rows : Told → LeavesItsRows y g p q
 
--- the pool was ended, or a drive went
-abbrev pub EndsPool : View → Type 0 → Meaning → (ℕ → ℕ) → FlatArray → List Line → Type 0
-EndsPool y Traced means counts a commands =
-    Durable y Traced means a commands ⊎ ((d : ℕ) × DriveWent y.seen counts d)
+-- Events of a script from a moment on, and the end of the pool: the disks show it afterwards, and where the pool told its volume to hold
+-- an array, each of the volume's arrays is told by the last book.
+pub record Lasts (Told Traced : Type 0) (y : Seen) (g : Ground) (from : Moment) (a : FlatArray) (events : List Event) : Type 0 where
+  pub last : Moment
+  pub timeline : Timeline (Traced × Told) y.stops g from a events last
+  pub final : Moment
+  pub clock : final.clock ≡ y.clock
+  pub faults : (d : ℕ) → final.faults d ≡ y.faults d
+  pub ends : EndsAt Told Traced y g last final (array_by a events)
+  pub told : Told → (n : ℕ) → n < g.linear.arrays → IsTold final.book (slices_of g.slices y) n
 
--- all commands of the text were answered, and the pool was ended
-pub record DoneOutcome (y : View) (Traced : Type 0) (means : Meaning) (from : ℕ) (a : FlatArray) (text out out' : List ℕ)
-    : Type 0 where
-  pub commands : List Line
-  pub script : script_of text ≡ commands
-  pub put : out' ≡ out ++ replies a commands
-  pub durable : Durable y Traced means a commands
-  pub lasts : Traced → Lasts y.seen means from a commands []
+-- all lines of the text were answered, and the pool was ended; sectors were refused as spent, or none
+pub record DoneOutcome (is_refused : Bool) (Told Traced : Type 0) (y : Seen) (g : Ground) (from : Moment) (a : FlatArray) (text out out' : List ℕ) : Type 0 where
+  pub events : List Event
+  pub script : script_of text ≡ lines_of events
+  pub spent : any_spent events ≡ is_refused
+  pub put : Told → out' ≡ out ++ texts a events
+  pub lasts : Lasts Told Traced y g from a events
 
 -- a script's limit was reached with more to come
-pub record LimitOutcome (y : View) (Traced : Type 0) (means : Meaning) (counts : ℕ → ℕ) (from : ℕ) (a : FlatArray) (text out out' : List ℕ)
-    : Type 0 where
+pub record LimitOutcome (Told Traced : Type 0) (y : Seen) (g : Ground) (from : Moment) (a : FlatArray) (text out out' : List ℕ) : Type 0 where
   pub longer : 2 ^ 32 < length text
-  pub commands : List Line
-  pub script : cut_script_of (take (2 ^ 32) text) ≡ commands
-  pub put : out' ≡ out ++ replies a commands
-  pub lasts : Traced → Lasts y.seen means from a commands []
-  pub ended : EndsPool y Traced means counts a commands
+  pub events : List Event
+  pub script : cut_script_of (take (2 ^ 32) text) ≡ lines_of events
+  pub put : Told → out' ≡ out ++ texts a events
+  pub lasts : Lasts Told Traced y g from a events
 
 -- the source failed after these bytes
-pub record SourceOutcome (y : View) (Traced : Type 0) (means : Meaning) (counts : ℕ → ℕ) (from : ℕ) (a : FlatArray) (text rest out out' : List ℕ)
-    : Type 0 where
+pub record SourceOutcome (Told Traced : Type 0) (y : Seen) (g : Ground) (from : Moment) (a : FlatArray) (text rest out out' : List ℕ) : Type 0 where
   pub taken : List ℕ
   pub text_is : text ≡ taken ++ rest
-  pub commands : List Line
-  pub script : cut_script_of taken ≡ commands
-  pub put : out' ≡ out ++ replies a commands
-  pub lasts : Traced → Lasts y.seen means from a commands []
-  pub ended : EndsPool y Traced means counts a commands
+  pub events : List Event
+  pub script : cut_script_of taken ≡ lines_of events
+  pub put : Told → out' ≡ out ++ texts a events
+  pub lasts : Lasts Told Traced y g from a events
 
--- the sink refused the reply to the last command
-pub record ReplyOutcome (y : View) (Traced : Type 0) (means : Meaning) (counts : ℕ → ℕ) (from : ℕ) (a : FlatArray) (text out out' : List ℕ)
-    : Type 0 where
-  pub before : List Line
-  pub last : Line
+-- the sink refused the reply to the last line that was begun
+pub record SinkOutcome (Told Traced : Type 0) (y : Seen) (g : Ground) (from : Moment) (a : FlatArray) (text out out' : List ℕ) : Type 0 where
+  pub before : List Event
+  pub last : Event
   pub more : List Line
-  pub script : script_of text ≡ before ++ last ∷ more
-  pub put : AddsPrefix (out ++ replies a before) out' (reply (array_after a before) last)
-  pub lasts : Traced → Lasts y.seen means from a (before ++ last ∷ []) []
-  pub ended : EndsPool y Traced means counts a (before ++ last ∷ [])
+  pub script : script_of text ≡ lines_of (before ++ last ∷ []) ++ more
+  pub put : Told → AddsPrefix (out ++ texts a before) out' (text_of (array_by a before) last)
+  pub lasts : Lasts Told Traced y g from a (before ++ last ∷ [])
 
--- `refused drive-gone D`
-abbrev pub drive_line : ℕ → List ℕ
-drive_line d = refused_line (codes "drive-gone " ++ decimal d)
-
--- a drive refused the command after these, or the end
-pub record DriveOutcome (y : View) (Traced : Type 0) (means : Meaning) (counts : ℕ → ℕ) (from : ℕ) (a : FlatArray) (text : List ℕ) (d : ℕ) (commands : List Line)
-    : Type 0 where
-  pub went : DriveWent y.seen counts d
-  pub broken : List Line
-  pub more : List Line
-  pub script : script_of text ≡ commands ++ broken ++ more
-  pub lasts : Traced → Lasts y.seen means from a commands broken
-
--- and this was said
-pub record DriveSaid (y : View) (Traced : Type 0) (means : Meaning) (counts : ℕ → ℕ) (from : ℕ) (a : FlatArray) (text out out' : List ℕ)
-    : Type 0 where
-  pub drive : ℕ
-  pub commands : List Line
-  pub outcome : DriveOutcome y Traced means counts from a text drive commands
-  pub put : out' ≡ (out ++ replies a commands) ++ drive_line drive
-
--- or the sink refused it after a prefix
-pub record DriveUnsaid (y : View) (Traced : Type 0) (means : Meaning) (counts : ℕ → ℕ) (from : ℕ) (a : FlatArray) (text out out' : List ℕ)
-    : Type 0 where
-  pub drive : ℕ
-  pub commands : List Line
-  pub outcome : DriveOutcome y Traced means counts from a text drive commands
-  pub put : AddsPrefix (out ++ replies a commands) out' (drive_line drive)
-
--- how a script came out; Traced: stops are told; means: what images meant when it began; counts, from: the disks' counts
--- of faults and the clock then; a: the array that the pool held then
-abbrev pub Outcome :
-    Status → View → Type 0 → Meaning → (ℕ → ℕ) → ℕ → FlatArray → List ℕ → List ℕ → List ℕ → List ℕ → Type 0
-Outcome Done y Traced means counts from a text rest out out' = DoneOutcome y Traced means from a text out out'
-Outcome Words y Traced means counts from a text rest out out' = ⊥
-Outcome Limit y Traced means counts from a text rest out out' = LimitOutcome y Traced means counts from a text out out'
-Outcome Source y Traced means counts from a text rest out out' =
-    SourceOutcome y Traced means counts from a text rest out out'
-Outcome Sink y Traced means counts from a text rest out out' =
-    ReplyOutcome y Traced means counts from a text out out' ⊎ DriveUnsaid y Traced means counts from a text out out'
-Outcome Refused y Traced means counts from a text rest out out' = DriveSaid y Traced means counts from a text out out'
-Outcome Memory y Traced means counts from a text rest out out' = ⊥
-
--- the line of a drive that is gone was put, or refused after a prefix
-abbrev pub SaysGone : Status → ℕ → List ℕ → List ℕ → Type 0
-SaysGone Done d out out' = ⊥
-SaysGone Words d out out' = ⊥
-SaysGone Limit d out out' = ⊥
-SaysGone Source d out out' = ⊥
-SaysGone Sink d out out' = AddsPrefix out out' (drive_line d)
-SaysGone Refused d out out' = out' ≡ out ++ drive_line d
-SaysGone Memory d out out' = ⊥
+-- How a script came out on a pool that held an array, where that was told. `from` is the moment when it began, `y` what the disks show
+-- in the end.
+abbrev pub Outcome : Status → Type 0 → Type 0 → Seen → Ground → Moment → FlatArray → List ℕ → List ℕ → List ℕ → List ℕ → Type 0
+Outcome Done Told Traced y g from a text rest out out' = DoneOutcome false Told Traced y g from a text out out'
+Outcome Words Told Traced y g from a text rest out out' = ⊥
+Outcome Limit Told Traced y g from a text rest out out' = LimitOutcome Told Traced y g from a text out out'
+Outcome Source Told Traced y g from a text rest out out' = SourceOutcome Told Traced y g from a text rest out out'
+Outcome Sink Told Traced y g from a text rest out out' = SinkOutcome Told Traced y g from a text out out'
+Outcome Refused Told Traced y g from a text rest out out' = ⊥
+Outcome Memory Told Traced y g from a text rest out out' = ⊥
+Outcome Spent Told Traced y g from a text rest out out' = DoneOutcome true Told Traced y g from a text out out'
 
 -- a fault is answered only where its count rose, and words are refused before anything is done
 abbrev pub HasStatusCause : Status → ℕ → ℕ → ℕ → ℕ → Type 0
@@ -149,29 +106,14 @@ HasStatusCause Source source source' sink sink' = Rose source source'
 HasStatusCause Sink source source' sink sink' = Rose sink sink'
 HasStatusCause Refused source source' sink sink' = Unit {0}
 HasStatusCause Memory source source' sink sink' = Unit {0}
+HasStatusCause Spent source source' sink sink' = Unit {0}
 
--- a drive refused the end of the pool, and this was said
-pub record EndsGone (x y : View) (status : Status) (out out' : List ℕ) : Type 0 where
-  pub drive : ℕ
-  pub went : WentIn x y drive
-  pub leaves : LeavesMeanings x y unchanged
-  pub says : SaysGone status drive out out'
-
--- the pool was ended: all is durable on both members
-pub record EndsDone (x y : View) (out out' : List ℕ) : Type 0 where
-  pub becomes : Becomes x y flushed
-  pub durable : AreDurable x y
-  pub clean : y.unclean ≡ false → y.members.first.resync_offset ≡ all_rows
-  pub leaves : LeavesMeanings x y unchanged
-  pub ends : EndsWithMeanings x y flushed
-  pub put : out' ≡ out
-
--- how the end came out
-abbrev pub EndsOutcome : Status → View → View → List ℕ → List ℕ → Type 0
-EndsOutcome Done x y out out' = EndsDone x y out out'
-EndsOutcome Words x y out out' = ⊥
-EndsOutcome Limit x y out out' = ⊥
-EndsOutcome Source x y out out' = ⊥
-EndsOutcome Sink x y out out' = EndsGone x y Sink out out'
-EndsOutcome Refused x y out out' = EndsGone x y Refused out out'
-EndsOutcome Memory x y out out' = ⊥
+-- the status of a script that stopped so, on a pool that was ended
+abbrev pub status_by : Stop → Bool → Status
+status_by AtQuit true = Spent
+status_by AtQuit false = Done
+status_by Input true = Spent
+status_by Input false = Done
+status_by SourceFault is_refused = Source
+status_by AtLimit is_refused = Limit
+status_by SinkFault is_refused = Sink

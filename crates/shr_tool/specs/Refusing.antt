@@ -2,12 +2,12 @@
 use Rattle.std.specs.Prelude.{ℕ, List, ◌++◌, codes, decimal}
 use Rattle.layer_plan.specs.declared.PlanError.{PlanError}
 use Rattle.layer_plan.specs.declared.PlanError.TheVariants.{TooFew as FewDrives, TooMany, NoRoom}
-use Rattle.pool.specs.declared.assembling.Part.{Part}
-use Rattle.pool.specs.declared.assembling.Part.TheVariants.{Table, State, Log, Superblock}
-use Rattle.pool.specs.declared.assembling.Refusal.{Refusal}
-use Rattle.pool.specs.declared.assembling.Refusal.TheVariants.{NoPool, TwoPools, Absent, Damaged, TooFew, DirtyDegraded, BadVolume, Memory}
-use Rattle.pool.specs.declared.creating.CreateFault.{CreateFault}
-use Rattle.pool.specs.declared.creating.CreateFault.TheVariants.{Layout, Gone, Memory as NoMemory}
+use Rattle.pool_check.specs.declared.Part.{Part}
+use Rattle.pool_check.specs.declared.Part.TheVariants.{Table, State, Log, Superblock}
+use Rattle.assembler.specs.declared.refusal.Refusal.{Refusal}
+use Rattle.assembler.specs.declared.refusal.Refusal.TheVariants.{NoPool, TwoPools, Absent, Damaged, TooFew, DirtyDegraded, BadVolume, Memory}
+use Rattle.pool_format.specs.declared.formatting.CreateFault.{CreateFault}
+use Rattle.pool_format.specs.declared.formatting.CreateFault.TheVariants.{Layout, Gone, Memory as NoMemory}
 use Rattle.shr_tool.specs.declared.status.Status.{Status}
 use Rattle.shr_tool.specs.declared.status.Status.TheVariants.{Refused, Memory as OfMemory}
 

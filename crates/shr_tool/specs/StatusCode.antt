@@ -1,7 +1,7 @@
 -- The numbers of the statuses.
 use Rattle.std.specs.Prelude.{ℕ}
 use Rattle.shr_tool.specs.declared.status.Status.{Status}
-use Rattle.shr_tool.specs.declared.status.Status.TheVariants.{Done, Words, Limit, Source, Sink, Refused, Memory}
+use Rattle.shr_tool.specs.declared.status.Status.TheVariants.{Done, Words, Limit, Source, Sink, Refused, Memory, Spent}
 
 -- the number that the program ends with
 abbrev pub code_of : Status → ℕ
@@ -12,3 +12,4 @@ code_of Source = 4
 code_of Sink = 5
 code_of Refused = 6
 code_of Memory = 7
+code_of Spent = 8

@@ -1,47 +1,88 @@
 -- A run as a list of events at moments that never fall.
-use Rattle.std.specs.Prelude.{◌≡◌, ◌⊎◌, ℕ, ◌<◌, ◌≤◌, List, [], ◌∷◌}
-use Rattle.rack.specs.Seen.{Image}
+use Rattle.std.specs.Prelude.{◌≡◌, ◌⊎◌, ℕ, ◌<◌, ◌≤◌, true, false, List, [], ◌∷◌, Ok}
+use Rattle.rack.specs.Seen.{Image, Rose}
 use Rattle.rack.specs.Moments.{Leaves}
-use Rattle.shr_script.specs.Line.{Line}
+use Rattle.shr_script.specs.declared.Command.TheVariants.{Lose}
 use Rattle.flat_array.specs.Array.{FlatArray}
-use Rattle.flat_array.specs.Reply.{reply as reply_to, after}
-use Rattle.pool.specs.View.{View}
-use Rattle.pool.specs.Volume.{Holds}
-use Rattle.pool.specs.Calls.{IsSamePool, WentIn, Becomes, EndsWithMeanings}
-use Rattle.shr_tool.specs.Meaning.{Meaning, meaning_in}
+use Rattle.array_image.specs.Places.{log_slice}
+use Rattle.array_image.specs.States.{is_current}
+use Rattle.slice_rack.specs.Slices.{Slices, disk_of}
+use Rattle.lvm_group.specs.Runs.{Linear, sectors_in}
+use Rattle.raid_rack.specs.Book.{IsAfter}
+use Rattle.raid_rack.specs.Losses.{has_other}
+use Rattle.raid_rack.specs.Raid.{Raid}
+use Rattle.pool.specs.Calls.{Passes}
+use Rattle.pool.specs.View.{View, book, contents_in, spent_by}
+use Rattle.pool.specs.Volume.{Holds, Means, PicksLive}
+use Rattle.shr_tool.specs.Events.{Event, Touches, TouchesLast, becomes, text_of}
+use Rattle.shr_tool.specs.Events.Event.{answered, spent, lost, last}
 
--- an event: a stop inside it leaves a meaning of the array before it or after it, and one at its end of the array after it
-pub record Happens (means : Meaning) (stops : ℕ → Image → Type 0) (a b : FlatArray) (from to : ℕ) : Type 0 where
-  pub later : from ≤ to
-  pub during : (k : ℕ) (i : Image) → from < k → k ≤ to → stops k i → means a i ⊎ means b i
-  pub ended : (i : Image) → stops to i → means b i
+-- What is known between two events: the clock, the disks' counts of faults, and the pool's state and arrays.
+pub record Moment : Type 0 where
+  pub clock : ℕ
+  pub faults : ℕ → ℕ
+  pub book : Raid
 
--- the events of commands in a row, from one moment to another
-abbrev pub Timeline : Meaning → (ℕ → Image → Type 0) → FlatArray → ℕ → List Line → ℕ → Type 0
-Timeline means stops a from [] to = from ≡ to
-Timeline means stops a from (command ∷ commands) to =
-    (at : ℕ)
-    × Happens means stops a (after a command) from at
-    × Timeline means stops (after a command) at commands to
+-- where a pool's volume lies on the disks of its bay
+pub record Ground : Type 0 where
+  pub slices : Slices
+  pub linear : Linear
 
--- a stop inside a command leaves a meaning of the array before it or after it
-abbrev pub LeavesEither : View → View → Line → Type 0
-LeavesEither x y command =
-    x.seen.traced
-    → (a : FlatArray)
-    → Holds x a
-    → Leaves x.seen y.seen (λ i. meaning_in x a i ⊎ meaning_in x (after a command) i)
+abbrev pub moment_of : View → Moment
+moment_of x = record { clock = x.bay.clock; faults = x.bay.faults; book = book x }
 
--- a command was done on the pool, and this is its reply
-pub record Performs (x y : View) (command : Line) (text : List ℕ) : Type 0 where
-  pub pool : IsSamePool x y
-  pub becomes : Becomes x y (λ a. after a command)
-  pub reply : (a : FlatArray) → Holds x a → text ≡ reply_to a command
-  pub leaves : LeavesEither x y command
-  pub ends : EndsWithMeanings x y (λ a. after a command)
+abbrev pub ground_of : View → Ground
+ground_of x = record { slices = x.slices; linear = x.linear }
 
--- a drive refused a command, which may have been done
-pub record Breaks (x y : View) (command : Line) (d : ℕ) : Type 0 where
-  pub pool : IsSamePool x y
-  pub went : WentIn x y d
-  pub leaves : LeavesEither x y command
+-- contents of the disks mean an array, in the sectors that aren't spent at a moment
+abbrev pub MeansAt : Ground → Moment → FlatArray → Image → Type 0
+MeansAt g q a disks = PicksLive (spent_by g.linear q.book) a (contents_in g.slices g.linear disks)
+
+-- Why an event was answered so: the sector that it refuses is spent at its end, and those that it served weren't before, nor is the last
+-- one at its end; a drive that is lost was current, and another one is left.
+abbrev pub HasCause : Ground → Moment → Moment → Event → Type 0
+HasCause g p q (answered line) =
+    ((s : ℕ) → Touches (sectors_in g.linear) line s → spent_by g.linear p.book s ≡ false)
+    × ((s : ℕ) → TouchesLast (sectors_in g.linear) line s → spent_by g.linear q.book s ≡ false)
+    × ((place : ℕ) → line ≡ Ok (Lose place) → is_current p.book.state place ≡ false)
+HasCause g p q (spent line sector) =
+    Touches (sectors_in g.linear) line sector
+    × (spent_by g.linear q.book sector ≡ true)
+    × ((s : ℕ) → Touches (sectors_in g.linear) line s → s < sector → spent_by g.linear p.book s ≡ false)
+HasCause g p q (lost place) = (is_current p.book.state place ≡ true) × (is_current q.book.state place ≡ false)
+HasCause g p q (last place) = (is_current p.book.state place ≡ true) × (has_other p.book.state place ≡ false)
+
+-- Marks alone come to the pool's state, each of a drive whose disk's faults rose or that the script lost.
+pub record MarksFor (g : Ground) (p q : Moment) (event : Event) : Type 0 where
+  pub after : IsAfter p.book.state q.book.state
+  pub cause :
+      (place : ℕ) → is_current p.book.state place ≡ true → is_current q.book.state place ≡ false
+      → Rose (p.faults (disk_of g.slices (log_slice place))) (q.faults (disk_of g.slices (log_slice place))) ⊎ (event ≡ lost place)
+
+-- An event: what a stop inside it leaves means the array before it or after it, and one at its end the array after it. Told where stops are.
+pub record Happens (Traced : Type 0) (stops : ℕ → Image → Type 0) (g : Ground) (p q : Moment) (a : FlatArray) (event : Event) : Type 0 where
+  pub later : Traced → p.clock ≤ q.clock
+  pub cause : HasCause g p q event
+  pub marks : MarksFor g p q event
+  pub during :
+      Traced → (k : ℕ) (i : Image) → p.clock < k → k ≤ q.clock → stops k i
+      → MeansAt g q a i ⊎ MeansAt g q (becomes a event) i
+  pub ended : Traced → (i : Image) → stops q.clock i → MeansAt g q (becomes a event) i
+
+-- events in a row, from one moment to another
+abbrev pub Timeline : Type 0 → (ℕ → Image → Type 0) → Ground → Moment → FlatArray → List Event → Moment → Type 0
+Timeline Traced stops g p a [] q = p ≡ q
+Timeline Traced stops g p a (event ∷ events) q =
+    (at : Moment)
+    × Happens Traced stops g p at a event
+    × Timeline Traced stops g at (becomes a event) events q
+
+-- A line was answered on a pool by this text.
+pub record Performs (x y : View) (event : Event) (text : List ℕ) : Type 0 where
+  pub passes : Passes x y
+  pub cause : HasCause (ground_of x) (moment_of x) (moment_of y) event
+  pub marks : MarksFor (ground_of x) (moment_of x) (moment_of y) event
+  pub text_is : (a : FlatArray) → Holds x a → text ≡ text_of a event
+  pub holds : (a : FlatArray) → Holds x a → Holds y (becomes a event)
+  pub leaves : x.bay.traced → (a : FlatArray) → Holds x a → Leaves x.bay y.bay (λ i. Means y a i ⊎ Means y (becomes a event) i)
+  pub ends : x.bay.traced → (a : FlatArray) → Holds x a → (i : Image) → y.bay.stops y.bay.clock i → Means y (becomes a event) i

@@ -24,7 +24,7 @@ pub struct Unattached {
 pub fn attach_all<B: Bay>(bay: &mut B, names: &[String]) -> Result<(), Unattached>
     requires { (B.seen bay.old).disks ≡ 0 }
     ensures attached { IfOk result (λ done. AreAttached (B.seen bay.old) (B.seen bay.new) (B.shelf bay.old) (B.shelf bay.new) (map string_bytes names.now)) }
-    ensures unattached { IfErr result (λ at. IsUnattached (B.shelf bay.old) (B.shelf bay.new) (map string_bytes names.now) at.number at.fault) }
+    ensures unattached { IfErr result (λ at. IsUnattached (B.seen bay.old) (B.seen bay.new) (B.shelf bay.old) (B.shelf bay.new) (map string_bytes names.now) at.number at.fault) }
 {
     for name in names {
         let number = bay.disks();
@@ -46,7 +46,7 @@ pub fn refuse_name<O: Sink>(out: &mut O, at: Unattached) -> Status
     match at.fault {
         AttachFault::Failed => {
             let mut text = ReplyText::new();
-            refused_number_reply(&mut text, b"attach", at.number);
+            refused_number_reply(&mut text, b"attach", u64::from(at.number));
             say(out, &text, Status::Refused)
         }
         AttachFault::Twice { .. } => refuse(out, b"twice", Status::Refused),

@@ -1,4 +1,4 @@
-//! The program `shr_tool`: makes and serves a pool of two image files.
+//! The program `shr_tool`: makes and serves pools of two to sixteen image files.
 //!
 //! `main` makes the real bay, input, output and birth, and calls [`run::run`], which does all that
 //! the program does over any bay, source and sink.

@@ -1,10 +1,11 @@
 //! `create E NAME..`: makes a pool of zeros of the named disks.
 
-ghost use Rattle.std.specs.Prelude.{◌≡◌, ◌≢◌, ◌≤◌, length, map, string_bytes, true};
+ghost use Rattle.std.specs.Prelude.{◌≡◌, ◌≢◌, ◌≤◌, map, string_bytes, true};
 ghost use Rattle.pool_state.specs.Valid.{is_extent};
 ghost use Rattle.shr_tool.specs.Outcome.{HasStatusCause};
-ghost use Rattle.shr_tool.specs.Making.{MakeOutcome};
-ghost use Rattle.shr_tool.specs.Run.{CreateOutcome, Says, created_line};
+ghost use Rattle.shr_tool.specs.Made.{MakeOutcome, created_line};
+ghost use Rattle.shr_tool.specs.Run.{CreateOutcome};
+ghost use Rattle.shr_tool.specs.Saying.{Says};
 
 use crate::attaching::{attach_all, refuse_name};
 use crate::refusals::refuse_create;
@@ -15,9 +16,11 @@ use itoa::Buffer;
 use pool::{Birth, Pool};
 use rack::{Bay, Rack};
 use shr_script::{ReplyText, add};
+use std::alloc::Global;
 
 /// Attaches the disks, and makes their pool.
 pub fn create<B: Bay, O: Sink>(
+    alloc: Global,
     bay: &mut B,
     names: &[String],
     extent: u32,
@@ -25,33 +28,37 @@ pub fn create<B: Bay, O: Sink>(
     out: &mut O,
 ) -> Status
     requires none { (B.seen bay.old).disks ≡ 0 }
-    requires few { length names.now ≤ 2 }
     requires extent { is_extent extent ≡ true }
     ensures sink { O.faults out.old ≤ O.faults out.new }
     ensures cause { HasStatusCause result 0 0 (O.faults out.old) (O.faults out.new) }
     ensures other { result ≢ Status.Limit }
-    ensures outcome { O.told out.old → CreateOutcome (B.seen bay.old) (B.shelf bay.old) (B.seen bay.new) (B.shelf bay.new)
+    ensures outcome { O.told out.old → CreateOutcome B.seen B.shelf B.runs bay.old bay.new
         (map string_bytes names.now) extent birth.now (O.taken out.old) (O.taken out.new) result }
 {
     match attach_all(bay, names) {
-        Ok(()) => create_attached(bay, extent, birth, out),
+        Ok(()) => create_attached(alloc, bay, extent, birth, out),
         Err(at) => refuse_name(out, at),
     }
 }
 
 // Makes a pool of the attached disks, and ends it. All of it is durable before the end, which only syncs.
-fn create_attached<B: Bay, O: Sink>(bay: &mut B, extent: u32, birth: &Birth, out: &mut O) -> Status
-    requires few { (B.seen bay.old).disks ≤ 2 }
+fn create_attached<B: Bay, O: Sink>(
+    alloc: Global,
+    bay: &mut B,
+    extent: u32,
+    birth: &Birth,
+    out: &mut O,
+) -> Status
     requires extent { is_extent extent ≡ true }
     ensures sink { O.faults out.old ≤ O.faults out.new }
     ensures cause { HasStatusCause result 0 0 (O.faults out.old) (O.faults out.new) }
     ensures other { result ≢ Status.Limit }
-    ensures outcome { O.told out.old → MakeOutcome (B.seen bay.old) (B.seen bay.new) extent birth.now (O.taken out.old) (O.taken out.new) result }
+    ensures outcome { O.told out.old → MakeOutcome B.seen B.runs bay.old bay.new extent birth.now (O.taken out.old) (O.taken out.new) result }
 {
-    match Pool::create(bay, extent, birth) {
+    match Pool::create(alloc, bay, extent, birth) {
         Ok(mut pool) => {
             let sectors = pool.size();
-            let _ = pool.end();
+            pool.end();
             say_created(out, sectors)
         }
         Err(back) => refuse_create(out, back.why),

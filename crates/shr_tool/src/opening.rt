@@ -29,8 +29,8 @@ pub fn serve<B: Bay, I: Source, O: Sink>(
     ensures sink { O.faults out.old ≤ O.faults out.new }
     ensures cause { HasStatusCause result (I.faults input.old) (I.faults input.new) (O.faults out.old) (O.faults out.new) }
     ensures limit { I.told input.old → KeepsLimit (result ≡ Status.Limit) (2 ^ 32) (I.left input.old) (I.left input.new) }
-    ensures outcome { I.told input.old → O.told out.old → ServeOutcome (B.seen bay.old) (B.shelf bay.old) (B.seen bay.new) (B.shelf bay.new)
-        (map string_bytes names.now) (I.left input.old) (I.left input.new) (O.taken out.old) (O.taken out.new) result }
+    ensures outcome { I.told input.old → O.told out.old → ServeOutcome B.seen B.shelf B.runs bay.old bay.new (map string_bytes names.now)
+        (I.left input.old) (I.left input.new) (O.taken out.old) (O.taken out.new) result }
 {
     match attach_all(bay, names) {
         Ok(()) => serve_attached(alloc, bay, seconds, input, out),
@@ -50,7 +50,7 @@ fn serve_attached<B: Bay, I: Source, O: Sink>(
     ensures sink { O.faults out.old ≤ O.faults out.new }
     ensures cause { HasStatusCause result (I.faults input.old) (I.faults input.new) (O.faults out.old) (O.faults out.new) }
     ensures limit { I.told input.old → KeepsLimit (result ≡ Status.Limit) (2 ^ 32) (I.left input.old) (I.left input.new) }
-    ensures outcome { I.told input.old → O.told out.old → OpenOutcome (B.seen bay.old) (B.seen bay.new)
+    ensures outcome { I.told input.old → O.told out.old → OpenOutcome B.seen B.runs bay.old bay.new
         (I.left input.old) (I.left input.new) (O.taken out.old) (O.taken out.new) result }
 {
     match Pool::open(alloc, bay, seconds) {

@@ -1,37 +1,50 @@
 //! A line of a script, answered on a pool.
 
-ghost use Rattle.std.specs.Prelude.{◌≡◌, ◌+◌, ◌≤◌, replicate, Ok, OnOk, IfErr};
-ghost use Rattle.shr_script.specs.declared.Command.TheVariants.{Read, Write, Fill, Flush, Size};
-ghost use Rattle.flat_array.specs.Reply.{fault_word};
-ghost use Rattle.pool.specs.DriveMap.{volume_sectors};
-ghost use Rattle.pool.specs.View.{IsPool};
-ghost use Rattle.shr_tool.specs.Meaning.{view_of};
-ghost use Rattle.shr_tool.specs.Timeline.{Performs, Breaks};
+ghost use Rattle.std.specs.Prelude.{◌≡◌, ◌+◌, ◌≤◌, ◌<◌, replicate, Ok, OnOk, IfErr, Result};
+ghost use Rattle.shr_script.specs.declared.Command.TheVariants.{Read, Write, Fill, Flush, Lose};
+ghost use Rattle.flat_array.specs.Reply.{fault_word, spent_line};
+ghost use Rattle.pool.specs.View.{bay_in, view, volume};
+ghost use Rattle.pool.specs.Volume.{size_of};
+ghost use Rattle.shr_tool.specs.Serving.{Answers};
 ghost use Rattle.shr_tool.specs.Filling.{Fills};
 
-use pool::{BareFault, Pool};
-use rack::{Bay, Gone, Rack};
+use pool::{LoseFault, Pool, SectorFault};
+use rack::{Bay, Rack};
 use shr_script::{
-    Command, LineFault, ReplyText, data_reply, line_reply, refused_reply, size_reply,
+    Command, LineFault, ReplyText, data_reply, line_reply, refused_number_reply, refused_reply,
+    size_reply,
 };
 
-/// Answers a line: does its command, or says why it is none. A drive's refusal leaves no reply.
+/// How a line was answered.
+#[derive(Clone, Copy, Debug, PartialEq, Eq)]
+pub enum Answer {
+    /// By its reply, or a refusal that isn't the one below.
+    Given,
+    /// A sector was refused, since too many of its copies are lost.
+    Spent,
+}
+
+/// The first sector of a row of writes that was refused, since too many of its copies are lost.
+#[derive(Clone, Copy, Debug, PartialEq, Eq)]
+struct SpentAt {
+    sector: u64,
+}
+
+/// Answers a line: does its command, or says why it is none.
 pub fn answer_in<R: Bay>(
     pool: &mut Pool<R>,
     line: &Result<Command, LineFault>,
     text: &mut ReplyText,
-) -> Result<(), Gone>
-    requires { IsPool (view_of R.seen pool.old) }
-    ensures pool { IsPool (view_of R.seen pool.new) }
-    ensures runs { R.runs pool.old.bay pool.new.bay }
-    ensures done { OnOk result (Performs (view_of R.seen pool.old) (view_of R.seen pool.new) line.now text.new.items) }
-    ensures gone { IfErr result (λ e. Breaks (view_of R.seen pool.old) (view_of R.seen pool.new) line.now e.disk) }
+) -> Answer
+    requires { (volume (view R.seen pool.old)).fit }
+    ensures answers { Answers (view R.seen pool.old) (view R.seen pool.new) line.now result text.new.items }
+    ensures runs { R.runs (bay_in pool.old) (bay_in pool.new) }
 {
     match line {
         Ok(command) => perform(pool, command, text),
         Err(fault) => {
             refused_reply(text, word_of(*fault));
-            Ok(())
+            Answer::Given
         }
     }
 }
@@ -47,52 +60,50 @@ fn word_of(fault: LineFault) -> &'static [u8]
 }
 
 // Does a command and sets its reply.
-fn perform<R: Bay>(pool: &mut Pool<R>, command: &Command, text: &mut ReplyText) -> Result<(), Gone>
-    requires { IsPool (view_of R.seen pool.old) }
-    ensures pool { IsPool (view_of R.seen pool.new) }
-    ensures runs { R.runs pool.old.bay pool.new.bay }
-    ensures done { OnOk result (Performs (view_of R.seen pool.old) (view_of R.seen pool.new) (Ok command.now) text.new.items) }
-    ensures gone { IfErr result (λ e. Breaks (view_of R.seen pool.old) (view_of R.seen pool.new) (Ok command.now) e.disk) }
+fn perform<R: Bay>(pool: &mut Pool<R>, command: &Command, text: &mut ReplyText) -> Answer
+    requires { (volume (view R.seen pool.old)).fit }
+    ensures answers { Answers (view R.seen pool.old) (view R.seen pool.new) (Ok command.now) result text.new.items }
+    ensures runs { R.runs (bay_in pool.old) (bay_in pool.new) }
 {
     match command {
-        Command::Read { sector } => perform_read(pool, *sector, text),
-        Command::Write { sector, bytes } => perform_write(pool, *sector, bytes, text),
+        Command::Read { sector } => return perform_read(pool, *sector, text),
+        Command::Write { sector, bytes } => return perform_write(pool, *sector, bytes, text),
         Command::Fill {
             sector,
             count,
             byte,
-        } => perform_fill(pool, *sector, *count, *byte, text),
+        } => return perform_fill(pool, *sector, *count, *byte, text),
+        Command::Lose { place } => perform_lose(pool, *place, text),
         Command::Flush => perform_flush(pool, text),
-        Command::Size => {
-            size_reply(text, pool.size());
-            Ok(())
-        }
-        Command::Quit => {
-            text.clear();
-            Ok(())
-        }
-        Command::Unbuilt => {
-            refused_reply(text, b"unbuilt");
-            Ok(())
-        }
+        Command::Size => size_reply(text, pool.size()),
+        Command::Quit => text.clear(),
+        Command::Unbuilt => refused_reply(text, b"unbuilt"),
     }
+    Answer::Given
+}
+
+// `refused spent S`
+fn spent_reply(text: &mut ReplyText, sector: u64) -> Answer
+    ensures text { text.new.items ≡ spent_line sector }
+    ensures answer { result ≡ Answer.Spent }
+{
+    refused_number_reply(text, b"spent", sector);
+    Answer::Spent
 }
 
 // `read S`
-fn perform_read<R: Bay>(pool: &mut Pool<R>, sector: u64, text: &mut ReplyText) -> Result<(), Gone>
-    requires { IsPool (view_of R.seen pool.old) }
-    ensures pool { IsPool (view_of R.seen pool.new) }
-    ensures runs { R.runs pool.old.bay pool.new.bay }
-    ensures done { OnOk result (Performs (view_of R.seen pool.old) (view_of R.seen pool.new) (Ok (Read sector)) text.new.items) }
-    ensures gone { IfErr result (λ e. Breaks (view_of R.seen pool.old) (view_of R.seen pool.new) (Ok (Read sector)) e.disk) }
+fn perform_read<R: Bay>(pool: &mut Pool<R>, sector: u64, text: &mut ReplyText) -> Answer
+    requires { (volume (view R.seen pool.old)).fit }
+    ensures answers { Answers (view R.seen pool.old) (view R.seen pool.new) (Ok (Read sector)) result text.new.items }
+    ensures runs { R.runs (bay_in pool.old) (bay_in pool.new) }
 {
     let mut bytes = [0; 512];
     match pool.read(sector, &mut bytes) {
         Ok(()) => data_reply(text, &bytes),
-        Err(BareFault::Range) => refused_reply(text, b"range"),
-        Err(BareFault::Gone { disk }) => return Err(Gone { disk }),
+        Err(SectorFault::Range) => refused_reply(text, b"range"),
+        Err(SectorFault::Spent) => return spent_reply(text, sector),
     }
-    Ok(())
+    Answer::Given
 }
 
 // `write S HEX`
@@ -101,19 +112,17 @@ fn perform_write<R: Bay>(
     sector: u64,
     bytes: &[u8; 512],
     text: &mut ReplyText,
-) -> Result<(), Gone>
-    requires { IsPool (view_of R.seen pool.old) }
-    ensures pool { IsPool (view_of R.seen pool.new) }
-    ensures runs { R.runs pool.old.bay pool.new.bay }
-    ensures done { OnOk result (Performs (view_of R.seen pool.old) (view_of R.seen pool.new) (Ok (Write sector bytes.now)) text.new.items) }
-    ensures gone { IfErr result (λ e. Breaks (view_of R.seen pool.old) (view_of R.seen pool.new) (Ok (Write sector bytes.now)) e.disk) }
+) -> Answer
+    requires { (volume (view R.seen pool.old)).fit }
+    ensures answers { Answers (view R.seen pool.old) (view R.seen pool.new) (Ok (Write sector bytes.now)) result text.new.items }
+    ensures runs { R.runs (bay_in pool.old) (bay_in pool.new) }
 {
     match pool.write(sector, bytes) {
         Ok(()) => line_reply(text, b"ok"),
-        Err(BareFault::Range) => refused_reply(text, b"range"),
-        Err(BareFault::Gone { disk }) => return Err(Gone { disk }),
+        Err(SectorFault::Range) => refused_reply(text, b"range"),
+        Err(SectorFault::Spent) => return spent_reply(text, sector),
     }
-    Ok(())
+    Answer::Given
 }
 
 // `fill S N XX`
@@ -123,59 +132,68 @@ fn perform_fill<R: Bay>(
     count: u64,
     byte: u8,
     text: &mut ReplyText,
-) -> Result<(), Gone>
-    requires { IsPool (view_of R.seen pool.old) }
-    ensures pool { IsPool (view_of R.seen pool.new) }
-    ensures runs { R.runs pool.old.bay pool.new.bay }
-    ensures done { OnOk result (Performs (view_of R.seen pool.old) (view_of R.seen pool.new) (Ok (Fill sector count byte)) text.new.items) }
-    ensures gone { IfErr result (λ e. Breaks (view_of R.seen pool.old) (view_of R.seen pool.new) (Ok (Fill sector count byte)) e.disk) }
+) -> Answer
+    requires { (volume (view R.seen pool.old)).fit }
+    ensures answers { Answers (view R.seen pool.old) (view R.seen pool.new) (Ok (Fill sector count byte)) result text.new.items }
+    ensures runs { R.runs (bay_in pool.old) (bay_in pool.new) }
 {
     let size = pool.size();
     if count > size || sector > size - count {
         refused_reply(text, b"range");
-        return Ok(());
+        return Answer::Given;
     }
     match fill_sectors(pool, sector, count, &[byte; 512]) {
-        Ok(()) => line_reply(text, b"ok"),
-        Err(gone) => return Err(gone),
+        Ok(()) => {
+            line_reply(text, b"ok");
+            Answer::Given
+        }
+        Err(at) => spent_reply(text, at.sector),
     }
-    Ok(())
 }
 
-// Writes the same bytes to sectors of the volume, one after the other.
+// Writes the same bytes to sectors of the volume, one after the other, up to the first that is refused.
 fn fill_sectors<R: Bay>(
     pool: &mut Pool<R>,
     sector: u64,
     count: u64,
     bytes: &[u8; 512],
-) -> Result<(), Gone>
-    requires pool { IsPool (view_of R.seen pool.old) }
-    requires inside { sector + count ≤ volume_sectors pool.old.on.state }
-    ensures pool { IsPool (view_of R.seen pool.new) }
-    ensures runs { R.runs pool.old.bay pool.new.bay }
-    ensures fills { Fills (view_of R.seen pool.old) (view_of R.seen pool.new) sector count bytes.now result }
+) -> Result<(), SpentAt>
+    requires fit { (volume (view R.seen pool.old)).fit }
+    requires inside { sector + count ≤ size_of (view R.seen pool.old) }
+    ensures fills { Fills (view R.seen pool.old) (view R.seen pool.new) sector count bytes.now result }
+    ensures runs { R.runs (bay_in pool.old) (bay_in pool.new) }
 {
     for at in sector..sector + count {
         match pool.write(at, bytes) {
             Ok(()) => {}
-            Err(BareFault::Range) => unreachable!(),
-            Err(BareFault::Gone { disk }) => return Err(Gone { disk }),
+            Err(SectorFault::Range) => unreachable!(),
+            Err(SectorFault::Spent) => return Err(SpentAt { sector: at }),
         }
     }
     Ok(())
 }
 
 // `flush`
-fn perform_flush<R: Bay>(pool: &mut Pool<R>, text: &mut ReplyText) -> Result<(), Gone>
-    requires { IsPool (view_of R.seen pool.old) }
-    ensures pool { IsPool (view_of R.seen pool.new) }
-    ensures runs { R.runs pool.old.bay pool.new.bay }
-    ensures done { OnOk result (Performs (view_of R.seen pool.old) (view_of R.seen pool.new) (Ok Flush) text.new.items) }
-    ensures gone { IfErr result (λ e. Breaks (view_of R.seen pool.old) (view_of R.seen pool.new) (Ok Flush) e.disk) }
+fn perform_flush<R: Bay>(pool: &mut Pool<R>, text: &mut ReplyText)
+    requires { (volume (view R.seen pool.old)).fit }
+    ensures answers { Answers (view R.seen pool.old) (view R.seen pool.new) (Ok Flush) Answer.Given text.new.items }
+    ensures runs { R.runs (bay_in pool.old) (bay_in pool.new) }
 {
-    match pool.flush() {
+    pool.flush();
+    line_reply(text, b"ok");
+}
+
+// `lose D`
+fn perform_lose<R: Bay>(pool: &mut Pool<R>, place: u64, text: &mut ReplyText)
+    requires { (volume (view R.seen pool.old)).fit }
+    ensures answers { Answers (view R.seen pool.old) (view R.seen pool.new) (Ok (Lose place)) Answer.Given text.new.items }
+    ensures runs { R.runs (bay_in pool.old) (bay_in pool.new) }
+{
+    // No place is greater than the last number of 32 bits.
+    let place = place.min(u64::from(u32::MAX)) as u32;
+    match pool.lose(place) {
         Ok(()) => line_reply(text, b"ok"),
-        Err(gone) => return Err(gone),
+        Err(LoseFault::NoSuchDrive) => refused_reply(text, b"no-such-drive"),
+        Err(LoseFault::LastDrive) => refused_reply(text, b"last-drive"),
     }
-    Ok(())
 }

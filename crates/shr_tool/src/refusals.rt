@@ -4,7 +4,7 @@ ghost use Rattle.std.specs.Prelude.{◌≡◌, ◌≢◌, ◌≤◌, ◌++◌, c
 ghost use Rattle.shr_script.specs.Reply.{refused_line};
 ghost use Rattle.shr_tool.specs.Outcome.{HasStatusCause};
 ghost use Rattle.shr_tool.specs.Refusing.{part_word as word_for, refusal_words, refusal_status, plan_words, fault_words, fault_status};
-ghost use Rattle.shr_tool.specs.Run.{Says};
+ghost use Rattle.shr_tool.specs.Saying.{Says};
 
 use crate::saying::{refuse, say};
 use crate::status::Status;
@@ -70,7 +70,7 @@ fn refuse_number<O: Sink>(out: &mut O, why: &[u8], number: u32) -> Status
     ensures says { O.told out.old → Says Status.Refused (refused_line (why.now ++ codes " " ++ decimal number)) (O.taken out.old) (O.taken out.new) result }
 {
     let mut text = ReplyText::new();
-    refused_number_reply(&mut text, why, number);
+    refused_number_reply(&mut text, why, u64::from(number));
     say(out, &text, Status::Refused)
 }
 

@@ -10,7 +10,8 @@ ghost use Rattle.shr_tool.specs.LayoutText.{Prints};
 ghost use Rattle.shr_tool.specs.Forms.{is_built, uses_disks};
 ghost use Rattle.shr_script.specs.Reply.{refused_line};
 ghost use Rattle.shr_tool.specs.Limits.{KeepsLimit};
-ghost use Rattle.shr_tool.specs.Run.{Ended, Says, ServeOutcome, CreateOutcome};
+ghost use Rattle.shr_tool.specs.Run.{ServeOutcome, CreateOutcome};
+ghost use Rattle.shr_tool.specs.Saying.{Ended, Says};
 ghost use Rattle.shr_tool.specs.Examining.{ExamineOutcome};
 
 use crate::examining::examine_image;
@@ -39,12 +40,10 @@ pub fn run<B: Bay, I: Source, O: Sink>(
 
     // The form of the words decides what is done. Want of memory to parse them is said, and nothing else is done.
     ensures serve { form_in (map string_bytes words.now) ≡ Some Serve → I.told input.old → O.told out.old
-        → Ended result (ServeOutcome (B.seen bay.old) (B.shelf bay.old) (B.seen bay.new) (B.shelf bay.new)
-        (map string_bytes (drop 1 words.now)) (I.left input.old) (I.left input.new) (O.taken out.old) (O.taken out.new)) }
+        → Ended result (ServeOutcome B.seen B.shelf B.runs bay.old bay.new (map string_bytes (drop 1 words.now)) (I.left input.old) (I.left input.new) (O.taken out.old) (O.taken out.new)) }
 
-    ensures create { (extent : ℕ) → form_in (map string_bytes words.now) ≡ Some (Create extent) → length words.now ≤ 4 → O.told out.old
-        → Ended result (CreateOutcome (B.seen bay.old) (B.shelf bay.old) (B.seen bay.new) (B.shelf bay.new)
-        (map string_bytes (drop 2 words.now)) extent birth.now (O.taken out.old) (O.taken out.new)) }
+    ensures create { (extent : ℕ) → form_in (map string_bytes words.now) ≡ Some (Create extent) → O.told out.old
+        → Ended result (CreateOutcome B.seen B.shelf B.runs bay.old bay.new (map string_bytes (drop 2 words.now)) extent birth.now (O.taken out.old) (O.taken out.new)) }
 
     ensures layout { (request : _) → form_in (map string_bytes words.now) ≡ Some (Layout request) → O.told out.old
         → Ended result (λ status. Prints (O.told out.old) status (units_asked request) (O.taken out.old) (O.taken out.new)
@@ -57,7 +56,7 @@ pub fn run<B: Bay, I: Source, O: Sink>(
     ensures wrong { form_in (map string_bytes words.now) ≡ None → O.told out.old
         → Ended result (λ status. Says Words (refused_line (codes "words")) (O.taken out.old) (O.taken out.new) status
         ⊎ Says Memory (refused_line (codes "memory")) (O.taken out.old) (O.taken out.new) status) }
-    ensures unbuilt { (form : _) → form_in (map string_bytes words.now) ≡ Some form → is_built form (length words.now) ≡ false → O.told out.old
+    ensures unbuilt { (form : _) → form_in (map string_bytes words.now) ≡ Some form → is_built form ≡ false → O.told out.old
         → Ended result (λ status. Says Refused (refused_line (codes "unbuilt")) (O.taken out.old) (O.taken out.new) status
         ⊎ Says Memory (refused_line (codes "memory")) (O.taken out.old) (O.taken out.new) status) }
 
@@ -65,7 +64,7 @@ pub fn run<B: Bay, I: Source, O: Sink>(
     ensures words { result ≡ 2 → form_in (map string_bytes words.now) ≡ None }
 
     // Only `serve`, `create` and `examine` touch the bay, and only `serve` the input.
-    ensures untouched { uses_disks (form_in (map string_bytes words.now)) (length words.now) ≡ false → bay.new ≡ bay.old }
+    ensures untouched { uses_disks (form_in (map string_bytes words.now)) ≡ false → bay.new ≡ bay.old }
     ensures unread { form_in (map string_bytes words.now) ≢ Some Serve → input.new ≡ input.old }
 
     // The limit of a script is answered exactly where more bytes were taken and no `quit` line ends before it.
@@ -84,10 +83,10 @@ pub fn run<B: Bay, I: Source, O: Sink>(
         Form::Layout { request } => print_layout(&request, out).code(),
         Form::Serve => serve(alloc, bay, behind(words, 1), birth.seconds, input, out).code(),
         Form::Examine => examine_image(alloc, bay, behind(words, 1), out).code(),
-        Form::Create { extent } if words.len() <= 4 => {
-            create(bay, behind(words, 2), extent, birth, out).code()
+        Form::Create { extent } => {
+            create(alloc, bay, behind(words, 2), extent, birth, out).code()
         }
-        Form::Create { .. } | Form::Import | Form::Export | Form::Status | Form::Trial { .. } => {
+        Form::Import | Form::Export | Form::Status | Form::Trial { .. } => {
             refuse(out, b"unbuilt", Status::Refused).code()
         }
     }

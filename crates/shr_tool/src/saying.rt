@@ -4,7 +4,7 @@ ghost use Rattle.std.specs.Prelude.{◌≡◌, ◌≢◌, ◌⊎◌, ◌≤◌, 
 ghost use Rattle.rack.specs.Seen.{Rose};
 ghost use Rattle.shr_script.specs.Reply.{refused_line};
 ghost use Rattle.shr_tool.specs.Outcome.{HasStatusCause};
-ghost use Rattle.shr_tool.specs.Run.{IsSaid, Says};
+ghost use Rattle.shr_tool.specs.Saying.{IsSaid, Says};
 
 use crate::status::Status;
 use io_ends::Sink;

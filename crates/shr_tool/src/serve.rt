@@ -2,21 +2,20 @@
 
 mod finish;
 
-ghost use Rattle.std.specs.Prelude.{◌≡◌, ◌≢◌, ◌<◌, ◌≤◌, ◌^◌, Some, Ok, IsOk, IfErr};
+ghost use Rattle.std.specs.Prelude.{◌≡◌, ◌≢◌, ◌<◌, ◌≤◌, ◌^◌, ◌||◌, Some, Ok, IsOk, IfErr};
 ghost use Rattle.shr_script.specs.declared.Command.TheVariants.{Quit};
 ghost use Rattle.shr_script.specs.Line.{line_of};
 ghost use Rattle.shr_script.specs.Script.{without_return as line_without_return};
-ghost use Rattle.pool.specs.View.{IsPool};
-ghost use Rattle.pool.specs.Calls.{IsSamePool};
-ghost use Rattle.shr_tool.specs.Meaning.{view_of};
+ghost use Rattle.pool.specs.Calls.{Passes};
+ghost use Rattle.pool.specs.View.{bay_in, view, volume};
 ghost use Rattle.shr_tool.specs.Limits.{KeepsLimit};
-ghost use Rattle.shr_tool.specs.Serving.{IsReplied, LineAnswers, Serves, HasCause, answer_of};
+ghost use Rattle.shr_tool.specs.Serving.{IsReplied, LineAnswers, Serves, HasStopCause, LastAnswers};
 
-use crate::perform::answer_in;
+use crate::perform::{Answer, answer_in};
 pub use finish::serve_pool;
 use io_ends::{Sink, Source};
 use pool::Pool;
-use rack::{Bay, Gone, Rack};
+use rack::{Bay, Rack};
 use shr_script::{
     Command, Ended, LineFault, LineReader, ReplyText, SCRIPT_LIMIT, next_line, without_return,
 };
@@ -34,11 +33,15 @@ pub enum Stop {
     Limit,
     /// The sink refused a reply.
     SinkFault,
-    /// A drive refused a call.
-    DriveGone {
-        /// The number of its disk.
-        disk: u32,
-    },
+}
+
+/// How far a script was answered.
+#[derive(Clone, Copy, Debug, PartialEq, Eq)]
+pub struct Stopped {
+    /// Why no further.
+    pub cause: Stop,
+    /// Whether a sector was refused, since too many of its copies are lost.
+    pub refused: bool,
 }
 
 /// Answers the lines of the input until one of the causes in [`Stop`].
@@ -46,54 +49,62 @@ pub fn answer_script<R: Bay, I: Source, O: Sink>(
     pool: &mut Pool<R>,
     input: &mut I,
     out: &mut O,
-) -> Stop
-    requires { IsPool (view_of R.seen pool.old) }
-    ensures pool { IsPool (view_of R.seen pool.new) }
-    ensures runs { R.runs pool.old.bay pool.new.bay }
-    ensures same { IsSamePool (view_of R.seen pool.old) (view_of R.seen pool.new) }
+) -> Stopped
+    requires { (volume (view R.seen pool.old)).fit }
+    ensures passes { Passes (view R.seen pool.old) (view R.seen pool.new) }
+    ensures runs { R.runs (bay_in pool.old) (bay_in pool.new) }
     ensures source { I.faults input.old ≤ I.faults input.new }
     ensures sink { O.faults out.old ≤ O.faults out.new }
-    ensures cause { HasCause result (view_of R.seen pool.old) (view_of R.seen pool.new) (I.faults input.old) (I.faults input.new) (O.faults out.old) (O.faults out.new) }
+    ensures cause { HasStopCause result.cause (I.faults input.old) (I.faults input.new) (O.faults out.old) (O.faults out.new) }
     ensures told { O.told out.old → O.told out.new }
-    ensures limit { I.told input.old → KeepsLimit (result ≡ Stop.Limit) (2 ^ 32) (I.left input.old) (I.left input.new) }
-    ensures serves { I.told input.old → O.told out.old → Serves result (view_of R.seen pool.old) (view_of R.seen pool.new) (I.left input.old) (I.left input.new) (O.taken out.old) (O.taken out.new) }
+    ensures limit { I.told input.old → KeepsLimit (result.cause ≡ Stop.Limit) (2 ^ 32) (I.left input.old) (I.left input.new) }
+    ensures serves { I.told input.old → O.told out.old → Serves result.cause (view R.seen pool.old) (view R.seen pool.new) (I.left input.old) (I.left input.new) (O.taken out.old) (O.taken out.new) result.refused }
 {
     let mut reader = LineReader::new();
     let mut text = ReplyText::new();
+    let mut refused = false;
     'lines: loop {
         match reader.next(input, SCRIPT_LIMIT) {
-            Ended::Fault => return Stop::SourceFault,
-            Ended::Limit => return Stop::Limit,
-            Ended::Input => return answer_last(pool, reader.line(), &mut text, out),
+            Ended::Fault => return stop_at(Stop::SourceFault, refused),
+            Ended::Limit => return stop_at(Stop::Limit, refused),
+            Ended::Input => return answer_last(pool, reader.line(), refused, &mut text, out),
             Ended::LineFeed => {}
         }
         match answer_line(pool, reader.line(), &mut text, out) {
-            Ok(()) => {}
-            Err(stop) => return stop,
+            Ok(answer) => refused = refused || answer == Answer::Spent,
+            Err(cause) => return stop_at(cause, refused),
         }
     }
 }
 
-// Answers the last line of the input.
+// A script that stopped.
+fn stop_at(cause: Stop, refused: bool) -> Stopped
+    ensures cause { result.cause ≡ cause }
+    ensures refused { result.refused ≡ refused }
+{
+    Stopped { cause, refused }
+}
+
+// Answers the last line of the input. `refused`: whether a line before it was refused for a spent sector.
 fn answer_last<R: Bay, O: Sink>(
     pool: &mut Pool<R>,
     line: &[u8],
+    refused: bool,
     text: &mut ReplyText,
     out: &mut O,
-) -> Stop
-    requires { IsPool (view_of R.seen pool.old) }
-    ensures pool { IsPool (view_of R.seen pool.new) }
-    ensures runs { R.runs pool.old.bay pool.new.bay }
-    ensures same { IsSamePool (view_of R.seen pool.old) (view_of R.seen pool.new) }
+) -> Stopped
+    requires { (volume (view R.seen pool.old)).fit }
+    ensures passes { Passes (view R.seen pool.old) (view R.seen pool.new) }
+    ensures runs { R.runs (bay_in pool.old) (bay_in pool.new) }
     ensures sink { O.faults out.old ≤ O.faults out.new }
-    ensures cause { HasCause result (view_of R.seen pool.old) (view_of R.seen pool.new) 0 0 (O.faults out.old) (O.faults out.new) }
+    ensures cause { HasStopCause result.cause 0 0 (O.faults out.old) (O.faults out.new) }
     ensures told { O.told out.old → O.told out.new }
-    ensures other { result ≢ Stop.Limit }
-    ensures answers { O.told out.old → LineAnswers (view_of R.seen) (answer_of result) (line_of (line_without_return line.now)) pool.old pool.new (O.taken out.old) (O.taken out.new) }
+    ensures other { result.cause ≢ Stop.Limit }
+    ensures answers { O.told out.old → LastAnswers (view R.seen) refused result.refused result.cause (line_of (line_without_return line.now)) pool.old pool.new (O.taken out.old) (O.taken out.new) }
 {
     match answer_line(pool, line, text, out) {
-        Ok(()) => Stop::Input,
-        Err(stop) => stop,
+        Ok(answer) => stop_at(Stop::Input, refused || answer == Answer::Spent),
+        Err(cause) => stop_at(cause, refused),
     }
 }
 
@@ -103,20 +114,19 @@ fn answer_line<R: Bay, O: Sink>(
     line: &[u8],
     text: &mut ReplyText,
     out: &mut O,
-) -> Result<(), Stop>
-    requires { IsPool (view_of R.seen pool.old) }
-    ensures pool { IsPool (view_of R.seen pool.new) }
-    ensures runs { R.runs pool.old.bay pool.new.bay }
-    ensures same { IsSamePool (view_of R.seen pool.old) (view_of R.seen pool.new) }
+) -> Result<Answer, Stop>
+    requires { (volume (view R.seen pool.old)).fit }
+    ensures passes { Passes (view R.seen pool.old) (view R.seen pool.new) }
+    ensures runs { R.runs (bay_in pool.old) (bay_in pool.new) }
     ensures sink { O.faults out.old ≤ O.faults out.new }
-    ensures cause { IfErr result (λ stop. HasCause stop (view_of R.seen pool.old) (view_of R.seen pool.new) 0 0 (O.faults out.old) (O.faults out.new)) }
+    ensures cause { IfErr result (λ stop. HasStopCause stop 0 0 (O.faults out.old) (O.faults out.new)) }
     ensures told { O.told out.old → O.told out.new }
     ensures goes_on { IsOk result → line_of (line_without_return line.now) ≢ Some (Ok Quit) }
     ensures other { IfErr result (λ stop. stop ≢ Stop.Limit) }
-    ensures answers { O.told out.old → LineAnswers (view_of R.seen) result (line_of (line_without_return line.now)) pool.old pool.new (O.taken out.old) (O.taken out.new) }
+    ensures answers { O.told out.old → LineAnswers (view R.seen) result (line_of (line_without_return line.now)) pool.old pool.new (O.taken out.old) (O.taken out.new) }
 {
     match next_line(without_return(line)).transpose() {
-        None => Ok(()),
+        None => Ok(Answer::Given),
         Some(Ok(Command::Quit)) => Err(Stop::Quit),
         Some(said) => answer(pool, &said, text, out),
     }
@@ -128,24 +138,20 @@ fn answer<R: Bay, O: Sink>(
     said: &Result<Command, LineFault>,
     text: &mut ReplyText,
     out: &mut O,
-) -> Result<(), Stop>
-    requires pool { IsPool (view_of R.seen pool.old) }
+) -> Result<Answer, Stop>
+    requires fit { (volume (view R.seen pool.old)).fit }
     requires replied { IsReplied said.now }
-    ensures pool { IsPool (view_of R.seen pool.new) }
-    ensures runs { R.runs pool.old.bay pool.new.bay }
-    ensures same { IsSamePool (view_of R.seen pool.old) (view_of R.seen pool.new) }
+    ensures passes { Passes (view R.seen pool.old) (view R.seen pool.new) }
+    ensures runs { R.runs (bay_in pool.old) (bay_in pool.new) }
     ensures sink { O.faults out.old ≤ O.faults out.new }
-    ensures cause { IfErr result (λ stop. HasCause stop (view_of R.seen pool.old) (view_of R.seen pool.new) 0 0 (O.faults out.old) (O.faults out.new)) }
+    ensures cause { IfErr result (λ stop. HasStopCause stop 0 0 (O.faults out.old) (O.faults out.new)) }
     ensures told { O.told out.old → O.told out.new }
     ensures other { IfErr result (λ stop. stop ≢ Stop.Limit) }
-    ensures answers { O.told out.old → LineAnswers (view_of R.seen) result (Some said.now) pool.old pool.new (O.taken out.old) (O.taken out.new) }
+    ensures answers { O.told out.old → LineAnswers (view R.seen) result (Some said.now) pool.old pool.new (O.taken out.old) (O.taken out.new) }
 {
-    match answer_in(pool, said, text) {
-        Ok(()) => {}
-        Err(gone) => return Err(Stop::DriveGone { disk: gone.disk }),
-    }
+    let answer = answer_in(pool, said, text);
     match out.put(text.as_slice()) {
-        Ok(()) => Ok(()),
+        Ok(()) => Ok(answer),
         Err(_) => Err(Stop::SinkFault),
     }
 }

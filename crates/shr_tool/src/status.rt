@@ -20,6 +20,8 @@ pub enum Status {
     Refused,
     /// No memory could be had.
     Memory,
+    /// A sector was refused, since too many of its copies are lost, and none of the others came.
+    Spent,
 }
 
 impl Status {
@@ -35,6 +37,7 @@ impl Status {
             Status::Sink => 5,
             Status::Refused => 6,
             Status::Memory => 7,
+            Status::Spent => 8,
         }
     }
 }

@@ -4,6 +4,7 @@ mod examining;
 mod faults;
 mod forms;
 mod limits;
+mod losses;
 mod order;
 mod pools;
 mod scripts;
@@ -29,7 +30,7 @@ const SECTORS: u64 = 128;
 const DISK_SECTORS: u64 = 77952;
 
 // The calls that a bay of a test keeps.
-const ROOM: u64 = 10000;
+const ROOM: u64 = 60000;
 
 const BIRTH: Birth = Birth {
     seconds: 0,
@@ -78,14 +79,30 @@ fn run_over<B: Bay, I: Source>(
     Ok(Ran { status, put })
 }
 
-// Makes a pool of the disks `M` and `N`, of so many sectors each, and gives them back as they are then.
-fn made(rt: &impl Abort, alloc: Global, sectors: u64) -> Result<MemBay, Fail> {
-    let mut bay = bay_of(rt, alloc, &[("M", sectors), ("N", sectors)])?;
+// Makes a pool of these disks, with extents of 128 sectors, and gives them back as they are then, and what was put.
+fn made_of(
+    rt: &impl Abort,
+    alloc: Global,
+    disks: &[(&str, u64)],
+) -> Result<(MemBay, Vec<u8>), Fail> {
+    let mut bay = bay_of(rt, alloc, disks)?;
+    let mut words = Vec::new(alloc);
+    words.push("create")?;
+    words.push("128")?;
+    for (name, _) in disks {
+        words.push(*name)?;
+    }
     assert!(rt; bay.disks() == 0);
     let input = MemSource::new(Vec::new(alloc), None);
-    let ran = run_over(alloc, &["create", "128", "M", "N"], &mut bay, input, None)?;
+    let ran = run_over(alloc, words.as_slice(), &mut bay, input, None)?;
     assert_eq!(rt; ran.status, 0);
-    now_of(rt, alloc, &bay)
+    Ok((now_of(rt, alloc, &bay)?, ran.put))
+}
+
+// Makes a pool of the disks `M` and `N`, of so many sectors each, and gives them back as they are then.
+fn made(rt: &impl Abort, alloc: Global, sectors: u64) -> Result<MemBay, Fail> {
+    let (bay, _) = made_of(rt, alloc, &[("M", sectors), ("N", sectors)])?;
+    Ok(bay)
 }
 
 // A bay with nothing attached, over what the disks of this one have now.
@@ -95,11 +112,27 @@ fn now_of(rt: &impl Abort, alloc: Global, bay: &MemBay) -> Result<MemBay, Fail> 
     Ok(bay.image_at(alloc, moment, Pick::Newest)?)
 }
 
-// Serves a script from the disks `M` and `N` of a bay, on which nothing is attached.
-fn serve(rt: &impl Abort, alloc: Global, bay: &mut MemBay, script: &[u8]) -> Result<Ran, Fail> {
+// Serves a script from these disks of a bay, on which nothing is attached.
+fn serve_on(
+    rt: &impl Abort,
+    alloc: Global,
+    bay: &mut MemBay,
+    names: &[&str],
+    script: &[u8],
+) -> Result<Ran, Fail> {
+    let mut words = Vec::new(alloc);
+    words.push("serve")?;
+    for name in names {
+        words.push(*name)?;
+    }
     assert!(rt; bay.disks() == 0);
     let input = MemSource::new(script.to_vec(alloc)?, None);
-    run_over(alloc, &["serve", "M", "N"], bay, input, None)
+    run_over(alloc, words.as_slice(), bay, input, None)
+}
+
+// Serves a script from the disks `M` and `N`.
+fn serve(rt: &impl Abort, alloc: Global, bay: &mut MemBay, script: &[u8]) -> Result<Ran, Fail> {
+    serve_on(rt, alloc, bay, &["M", "N"], script)
 }
 
 // A line without the carriage return at its end.

@@ -68,7 +68,7 @@ pub fn refusal_text(text: &mut ReplyText, error: PlanError)
     match error {
         PlanError::TooFew => refused_reply(text, b"too-few"),
         PlanError::TooMany => refused_reply(text, b"too-many"),
-        PlanError::NoRoom { drive } => refused_number_reply(text, b"no-room", drive),
+        PlanError::NoRoom { drive } => refused_number_reply(text, b"no-room", u64::from(drive)),
     }
 }
 

@@ -1,6 +1,7 @@
 //! `examine` on the images of a pool, and on a disk that fails.
 
-use super::{DISK_SECTORS, bay_of, made, run_over};
+use super::pools::made_of_three;
+use super::{bay_of, run_over};
 use io_ends::MemSource;
 use rack::Rack;
 use rack_mem::MemBay;
@@ -27,12 +28,12 @@ fn check(
 
 #[test]
 fn an_image_of_a_new_pool(rt: HostRuntime) -> Result<(), Fail> {
-    let mut bay = made(&rt, rt.alloc(), DISK_SECTORS)?;
+    let mut bay = made_of_three(&rt, rt.alloc())?;
     let wanted =
-        "image 77952\ntable primary\nmd none\nlvm none\nslice 1 2048 8192\nmd none\nlvm none\n\
-        slice 2 10240 4224\nmd level 1 members 2 chunk 0 size 2176 events 1 \
-        resync 18446744073709551615 role 1 features 0\nlvm none\n";
-    check(&rt, rt.alloc(), &mut bay, "N", wanted, 0)
+        "image 79104\ntable primary\nmd none\nlvm none\nslice 1 2048 8192\nmd none\nlvm none\n\
+        slice 2 10240 5376\nmd level 5 members 3 chunk 128 size 3328 events 1 \
+        resync 18446744073709551615 role 0 features 0\n";
+    check(&rt, rt.alloc(), &mut bay, "A", wanted, 0)
 }
 
 #[test]

@@ -1,7 +1,6 @@
-//! Ends and drives that fail at each of their calls in turn.
+//! Ends that fail at each of their calls in turn.
 
-use super::stops::calls_of_opening;
-use super::{DISK_SECTORS, ROOM, flat_replies, made, now_of, run_over, serve};
+use super::{DISK_SECTORS, flat_replies, made, now_of, run_over};
 use io_ends::{Failed, MemSource, Source};
 use rack::Rack;
 use std::alloc::Global;
@@ -106,45 +105,6 @@ fn a_source_that_fails_after_the_last_byte_is_not_at_its_end(rt: HostRuntime) ->
         assert_eq!(rt; ran.put.as_slice(), want.as_bytes(), "{script:?}");
         assert_eq!(rt; ran.status, status, "{script:?}");
         assert_eq!(rt; bay.sector_now(0, 14336), [0; 512]);
-    }
-    Ok(())
-}
-
-// The disk of each call of those lines and of the end, beginning with the mark of the first write.
-const DISKS: [u32; 23] = [
-    0, 0, 1, 1, 1, 0, 0, 1, 0, 1, 0, 0, 1, 0, 0, 1, 0, 1, 0, 0, 0, 1, 1,
-];
-
-// The number of calls after which each line has its reply.
-const LAST_CALLS: [usize; 10] = [6, 7, 9, 11, 12, 12, 12, 14, 15, 17];
-
-// A line so many times.
-fn repeated(alloc: Global, line: &str, times: u64) -> Result<String, Fail> {
-    let mut text = String::new(alloc);
-    for _ in 0..times {
-        text.push_str(line)?;
-    }
-    Ok(text)
-}
-
-#[test]
-fn a_drive_that_fails_ends_the_script(rt: HostRuntime) -> Result<(), Fail> {
-    let alloc = rt.alloc();
-    let pool = made(&rt, alloc, DISK_SECTORS)?;
-    let opening = calls_of_opening(&rt, alloc)?;
-    for (call, disk) in DISKS.iter().enumerate() {
-        // Reads before the lines leave the bay room for so many calls.
-        let reads = ROOM.wrapping_sub(opening).wrapping_sub(call as u64);
-        let mut script = repeated(alloc, "read 0\n", reads)?;
-        script.push_str(TEN_LINES)?;
-        let lines = LAST_CALLS.iter().filter(|last| **last <= call).count();
-        let mut want = repeated(alloc, "data -\n", reads)?;
-        want.push_str(first_replies(alloc, lines)?.as_str())?;
-        writeln!(want, "refused drive-gone {disk}")?;
-        let mut bay = now_of(&rt, alloc, &pool)?;
-        let ran = serve(&rt, alloc, &mut bay, script.as_bytes())?;
-        assert_eq!(rt; ran.put.as_slice(), want.as_bytes(), "call {call}");
-        assert_eq!(rt; ran.status, 6, "call {call}");
     }
     Ok(())
 }

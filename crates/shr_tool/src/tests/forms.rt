@@ -74,8 +74,7 @@ fn words_that_are_no_form_are_refused(rt: HostRuntime) -> Result<(), Fail> {
 
 #[test]
 fn forms_that_are_not_built_are_refused(rt: HostRuntime) -> Result<(), Fail> {
-    let rows: [&[&str]; 5] = [
-        &["create", "128", "M", "N", "L"],
+    let rows: [&[&str]; 4] = [
         &["import", "M"],
         &["export", "M"],
         &["status", "M"],

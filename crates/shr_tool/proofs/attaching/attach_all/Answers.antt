@@ -12,7 +12,7 @@ returns-in-Err-clause-unattached g c =
     let split = words_split string_bytes names index c.name-item.result c.loop-name-test.true c.name-item.is in
     let named = ap (λ n. (so_far ++ n ∷ []) ++ split.0) (sym c.as_str.ensures.value) in
     subst
-    (λ all. IsUnattached (g.B.Bay.shelf c.args.bay.now) (g.B.Bay.shelf c.attach.new.self) all c.disks-number.result c.in-Err.fault)
+    (λ all. IsUnattached (g.B.Rack.seen c.args.bay.now) (g.B.Rack.seen c.attach.new.self) (g.B.Bay.shelf c.args.bay.now) (g.B.Bay.shelf c.attach.new.self) all c.disks-number.result c.in-Err.fault)
     (sym (split.1 ∙ named))
     (unattached _ _ _ _ _ _ so_far split.0 c.as_str.result.now c.attach.result c.in-Err.fault c.disks-number.result c.in-Err.is
     c.disks-number.ensures c.loop-name.invariant c.attach.ensures.attaches)

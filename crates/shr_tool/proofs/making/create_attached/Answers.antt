@@ -1,42 +1,55 @@
 -- The pool holds the bay's reference, and gives the bay back as it left it.
 use Rattle.std.proofs.Common.{◌≡◌, ◌∙◌, sym, subst, inl, inr}
-use Rattle.shr_tool.specs.Making.{MadeOn, NotMadeOn}
-use Rattle.layer_plan.specs.declared.PlanError.TheVariants.{TooFew}
-use Rattle.shr_tool.proofs.Made.{creates_of, refused_of, made_on, not_made_on}
+use Rattle.pool.specs.View.{arrays_of, bay_in, view}
+use Rattle.raid_rack.specs.RaidRack.{arrays_in}
+use Rattle.shr_tool.specs.Made.{MadeOn, NotMade}
+use Rattle.shr_tool.specs.Timeline.{ground_of}
+use Rattle.shr_tool.proofs.Through.{fault_through}
 use Rattle.shr_tool.proofs.making.create_attached.Goals as goal
 
 pub returns-in-Ok-clause-outcome : goal.returns-in-Ok-clause-outcome
 returns-in-Ok-clause-outcome g c =
     let seen = g.B.Rack.seen in
+    let runs = g.B.Rack.runs in
     let taken = g.O.Sink.taken in
+    let pool = c.in-Ok.pool in
     let last = c.end.new.self in
-    let creates = creates_of _ _ c.args.extent c.args.birth.now c.requires.few (c.in-Ok.ensures.layout TooFew).1 c.in-Ok.ensures.made in
-    let back : c.bay-1.given.0 ≡ last.bay.now =
-    c.bay-1.given.1 (sym (c.end.ensures.runs.0 ∙ c.in-Ok.ensures.kept.0)) in
+    let makes = c.in-Ok.ensures in
+    let ends = c.end.ensures in
+    let back : c.bay-1.given.0 ≡ (bay_in last).now =
+    c.bay-1.given.1 (sym (ends.runs.0 ∙ makes.runs.0)) in
     λ sink.
     inr
     (subst
-    (λ b. MadeOn (seen c.args.bay.now) (seen b) c.args.extent c.args.birth.now (taken c.args.out.now) (taken c.say_created.new.out) c.say_created.result)
+    (λ b. MadeOn seen runs c.args.bay.now b c.args.extent c.args.birth.now (taken c.args.out.now) (taken c.say_created.new.out) c.say_created.result)
     (sym back)
-    (made_on _ _ _ _ _ _ _ _ _ c.args.extent c.args.birth.now c.end.result c.size-sectors.result _ _ _ creates
-    c.size-sectors.ensures.size c.end.ensures.ended
-    (c.say_created.ensures.says sink)))
+    (record {
+      made = (bay_in pool).now;
+      kept = (makes.runs.1, ends.runs.1);
+      arrays = arrays_in (arrays_of pool);
+      ground = ground_of (view _ pool);
+      is_made = makes.made;
+      apart = ends.ended.passes.apart;
+      says = c.say_created.ensures.says sink;
+    }))
 
 pub returns-in-Err-clause-outcome : goal.returns-in-Err-clause-outcome
 returns-in-Err-clause-outcome g c =
     let seen = g.B.Rack.seen in
+    let runs = g.B.Rack.runs in
     let taken = g.O.Sink.taken in
     let back = c.in-Err.back in
-    let refused =
-    refused_of (λ r. seen r.now) _ back.rack c.args.extent c.args.birth.now back.why
-    (g.met.B.Bay.always_fit c.args.bay.now)
-    (λ fault. (c.in-Err.ensures.layout fault).0)
-    c.in-Err.ensures.unchanged c.in-Err.ensures.given_back in
+    let refuses = c.in-Err.ensures in
     let same : c.bay-in-Err-1.given.0 ≡ back.rack.now =
-    c.bay-in-Err-1.given.1 (sym c.in-Err.ensures.returned.0) in
+    c.bay-in-Err-1.given.1 (sym refuses.returned.0) in
     λ sink.
     inl
     (subst
-    (λ b. NotMadeOn (seen c.args.bay.now) (seen b) c.args.extent c.args.birth.now (taken c.args.out.now) (taken c.refuse_create.new.out) c.refuse_create.result)
+    (λ b. NotMade seen runs c.args.bay.now b c.args.extent (taken c.args.out.now) (taken c.refuse_create.new.out) c.refuse_create.result)
     (sym same)
-    (not_made_on _ _ _ _ back.why _ _ _ refused (c.refuse_create.ensures.says sink)))
+    (record {
+      why = back.why;
+      says = c.refuse_create.ensures.says sink;
+      kept = refuses.returned.1;
+      cause = fault_through seen (λ r. r.now) c.args.bay back.rack c.args.extent back.why refuses.layout refuses.unchanged refuses.gone refuses.some;
+    }))

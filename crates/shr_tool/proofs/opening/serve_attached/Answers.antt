@@ -1,39 +1,67 @@
 -- The pool holds the bay's reference, and gives the bay back as it left it.
-use Rattle.std.proofs.Common.{◌≡◌, ◌∙◌, sym, subst, inl, inr}
-use Rattle.shr_tool.specs.Opened.{OpenedOn, NotOpenedOn}
-use Rattle.shr_tool.proofs.Served.{opened_on, not_opened_on}
+use Rattle.std.proofs.Common.{◌≡◌, ◌∙◌, sym, subst, refl, inl, inr}
+use Rattle.rack.specs.Sequences.{WritesOnly}
+use Rattle.pool.specs.View.{bay_in, view}
+use Rattle.shr_tool.specs.Opened.{NotOpened, OpenedOn}
+use Rattle.shr_tool.specs.Timeline.{ground_of, moment_of}
+use Rattle.shr_tool.proofs.Through.{pool_through, written_through, held_by_meant, traced_through}
+use Rattle.shr_tool.proofs.Told.{outcome_for}
 use Rattle.shr_tool.proofs.opening.serve_attached.Goals as goal
 
 pub returns-in-Ok-clause-outcome : goal.returns-in-Ok-clause-outcome
 returns-in-Ok-clause-outcome g c =
     let seen = g.B.Rack.seen in
+    let runs = g.B.Rack.runs in
     let left = g.I.Source.left in
     let taken = g.O.Sink.taken in
+    let pool = c.in-Ok.pool in
     let last = c.serve_pool.new.pool in
-    let opens = c.in-Ok.ensures.opened in
-    let same = c.serve_pool.ensures.same in
-    let back : c.bay-1.given.0 ≡ last.bay.now =
-    c.bay-1.given.1 (sym (c.serve_pool.ensures.runs.0 ∙ c.in-Ok.ensures.kept.0)) in
+    let opens = c.in-Ok.ensures in
+    let serves = c.serve_pool.ensures in
+    let back : c.bay-1.given.0 ≡ (bay_in last).now =
+    c.bay-1.given.1 (sym (serves.runs.0 ∙ opens.runs.0)) in
+    let so = λ r s (ran : _). ran.1 in
     λ source sink.
     inr
     (subst
-    (λ b. OpenedOn (seen c.args.bay.now) (seen b) (left c.args.input.now) (left c.serve_pool.new.input) (taken c.args.out.now) (taken c.serve_pool.new.out) c.serve_pool.result)
+    (λ b. OpenedOn seen runs c.args.bay.now b (left c.args.input.now) (left c.serve_pool.new.input) (taken c.args.out.now) (taken c.serve_pool.new.out) c.serve_pool.result)
     (sym back)
-    (opened_on _ _ _ _ _ _ _ _ _ _ _ _ _ _ (g.met.B.Bay.always_fit c.args.bay.now) opens same
-    (c.serve_pool.ensures.passes source sink)
-    (c.serve_pool.ensures.outcome source sink)))
+    (record {
+      opened = (bay_in pool).now;
+      kept = (opens.runs.1, serves.runs.1);
+      drives = pool_through seen _ runs (λ r. r.now) so c.args.bay (bay_in pool) opens.drives;
+      ground = ground_of (view _ pool);
+      from = moment_of (view _ pool);
+      clock = refl;
+      faults = λ d. refl;
+      marks = opens.marks;
+      apart = serves.passes.apart;
+      outcome = λ a.
+          outcome_for c.serve_pool.result _ _ _ _ _ _ _ a _ _ _ _
+          (λ meant. held_by_meant _ (view _ pool) a opens.meant opens.told meant)
+          (λ traced. traced_through _ _ _ _ opens.drives traced)
+          (serves.outcome source sink a);
+    }))
 
 pub returns-in-Err-clause-outcome : goal.returns-in-Err-clause-outcome
 returns-in-Err-clause-outcome g c =
     let seen = g.B.Rack.seen in
+    let runs = g.B.Rack.runs in
     let taken = g.O.Sink.taken in
     let back = c.in-Err.back in
-    let stays = c.in-Err.ensures.stays in
+    let refuses = c.in-Err.ensures in
     let same : c.bay-in-Err-1.given.0 ≡ back.rack.now =
-    c.bay-in-Err-1.given.1 (sym c.in-Err.ensures.returned.0) in
+    c.bay-in-Err-1.given.1 (sym refuses.returned.0) in
     λ source sink.
     inl
     (subst
-    (λ b. NotOpenedOn (seen c.args.bay.now) (seen b) (taken c.args.out.now) (taken c.refuse_open.new.out) c.refuse_open.result)
+    (λ b. NotOpened seen runs c.args.bay.now b (taken c.args.out.now) (taken c.refuse_open.new.out) c.refuse_open.result)
     (sym same)
-    (not_opened_on _ _ back.why _ _ _ stays c.in-Err.ensures.refused (c.refuse_open.ensures.says sink)))
+    (record {
+      why = back.why;
+      says = c.refuse_open.ensures.says sink;
+      kept = refuses.returned.1;
+      early = refuses.early;
+      written = written_through seen _ runs (λ r. r.now) (λ r s ran. ran.1) c.args.bay back.rack refuses.written;
+      exact = refuses.exact;
+    }))

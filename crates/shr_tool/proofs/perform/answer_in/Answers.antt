@@ -1,15 +1,21 @@
 -- A line that is no command calls nothing.
-use Rattle.std.proofs.Common.{Err, refl, ◌∙◌, ap}
+use Rattle.std.proofs.Common.{Err, Ok, refl, ◌∙◌, ap}
 use Rattle.shr_script.specs.Reply.{refused_line}
-use Rattle.shr_tool.specs.Meaning.{view_of}
+use Rattle.shr_tool.specs.Events.Event.{answered}
+use Rattle.shr_tool.proofs.Meanings.{sound_in}
 use Rattle.shr_tool.proofs.Performing.{still_done}
 use Rattle.shr_tool.proofs.perform.answer_in.Goals as goal
 
-pub returns-in-Err-clause-done : goal.returns-in-Err-clause-done
-returns-in-Err-clause-done g c =
+pub returns-in-Err-clause-answers : goal.returns-in-Err-clause-answers
+returns-in-Err-clause-answers g c =
     let pool = c.args.pool.now in
     rw c.in-Err.is
-    (still_done (view_of g.R.Rack.seen pool) (Err _) _ c.requires
-    (record { unspent = g.met.R.Bay.unspent pool.bay; sound = λ traced. g.met.R.Rack.sound pool.bay (g.met.R.Bay.always_fit pool.bay) traced })
-    (λ a holds. refl)
-    (λ a holds. c.refused_reply.ensures ∙ ap refused_line c.word_of.ensures))
+    (record {
+      event = answered (Err _);
+      line_is = refl;
+      answer_is = refl;
+      performs =
+          still_done _ (Err _) _ c.requires (sound_in g.R.Rack.seen g.met.R.Rack.sound pool c.requires)
+          (λ s touches. touches) (λ s touches. touches) (λ place loses. cc) (λ a holds. refl)
+          (λ a holds. c.refused_reply.ensures ∙ ap refused_line c.word_of.ensures);
+    })

@@ -3,33 +3,46 @@ use Rattle.std.proofs.Common.{rules, ◌++◌, codes, refl, sym, ◌∙◌, ap, 
 use Rattle.std.specs.Prelude.{decimal}
 use Rattle.shr_script.specs.declared.Command.TheVariants.{Size, Quit, Unbuilt}
 use Rattle.shr_script.specs.Reply.{as_line}
-use Rattle.shr_tool.specs.Meaning.{view_of}
+use Rattle.shr_tool.specs.Events.Event.{answered}
+use Rattle.shr_tool.proofs.Meanings.{sound_in}
 use Rattle.shr_tool.proofs.Performing.{still_done}
 use Rattle.shr_tool.proofs.perform.perform.Goals as goal
 
-pub returns-in-Size-clause-done : goal.returns-in-Size-clause-done
-returns-in-Size-clause-done g c =
-    let pool = c.args.pool.now in
+pub returns-in-Size-clause-answers : goal.returns-in-Size-clause-answers
+returns-in-Size-clause-answers g c =
     rw c.in-Size.is
-    (still_done (view_of g.R.Rack.seen pool) (Ok Size) _ c.requires
-    (record { unspent = g.met.R.Bay.unspent pool.bay; sound = λ traced. g.met.R.Rack.sound pool.bay (g.met.R.Bay.always_fit pool.bay) traced })
-    (λ a holds. refl)
-    (λ a holds. c.size_reply.ensures ∙ ap (λ n. as_line (codes "size " ++ decimal n)) (c.size.ensures.size ∙ sym holds.size)))
+    (record {
+      event = answered (Ok Size);
+      line_is = refl;
+      answer_is = refl;
+      performs =
+          still_done _ (Ok Size) _ c.requires (sound_in g.R.Rack.seen g.met.R.Rack.sound c.args.pool.now c.requires)
+          (λ s touches. touches) (λ s touches. touches) (λ place loses. cc) (λ a holds. refl)
+          (λ a holds. c.size_reply.ensures ∙ ap (λ n. as_line (codes "size " ++ decimal n)) (c.size.ensures.size ∙ sym holds.size));
+    })
 
-pub returns-in-Quit-clause-done : goal.returns-in-Quit-clause-done
-returns-in-Quit-clause-done g c =
-    let pool = c.args.pool.now in
+pub returns-in-Quit-clause-answers : goal.returns-in-Quit-clause-answers
+returns-in-Quit-clause-answers g c =
     rw c.in-Quit.is
-    (still_done (view_of g.R.Rack.seen pool) (Ok Quit) _ c.requires
-    (record { unspent = g.met.R.Bay.unspent pool.bay; sound = λ traced. g.met.R.Rack.sound pool.bay (g.met.R.Bay.always_fit pool.bay) traced })
-    (λ a holds. refl)
-    (λ a holds. search rules))
+    (record {
+      event = answered (Ok Quit);
+      line_is = refl;
+      answer_is = refl;
+      performs =
+          still_done _ (Ok Quit) _ c.requires (sound_in g.R.Rack.seen g.met.R.Rack.sound c.args.pool.now c.requires)
+          (λ s touches. touches) (λ s touches. touches) (λ place loses. cc) (λ a holds. refl)
+          (λ a holds. search rules);
+    })
 
-pub returns-in-Unbuilt-clause-done : goal.returns-in-Unbuilt-clause-done
-returns-in-Unbuilt-clause-done g c =
-    let pool = c.args.pool.now in
+pub returns-in-Unbuilt-clause-answers : goal.returns-in-Unbuilt-clause-answers
+returns-in-Unbuilt-clause-answers g c =
     rw c.in-Unbuilt.is
-    (still_done (view_of g.R.Rack.seen pool) (Ok Unbuilt) _ c.requires
-    (record { unspent = g.met.R.Bay.unspent pool.bay; sound = λ traced. g.met.R.Rack.sound pool.bay (g.met.R.Bay.always_fit pool.bay) traced })
-    (λ a holds. refl)
-    (λ a holds. c.refused_reply.ensures))
+    (record {
+      event = answered (Ok Unbuilt);
+      line_is = refl;
+      answer_is = refl;
+      performs =
+          still_done _ (Ok Unbuilt) _ c.requires (sound_in g.R.Rack.seen g.met.R.Rack.sound c.args.pool.now c.requires)
+          (λ s touches. touches) (λ s touches. touches) (λ place loses. cc) (λ a holds. refl)
+          (λ a holds. c.refused_reply.ensures);
+    })

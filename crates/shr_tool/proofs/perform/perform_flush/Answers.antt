@@ -1,8 +1,14 @@
-use Rattle.shr_tool.proofs.Performing.{flush_done, flush_broken}
+use Rattle.std.proofs.Common.{refl, Ok}
+use Rattle.shr_script.specs.declared.Command.TheVariants.{Flush}
+use Rattle.shr_tool.specs.Events.Event.{answered}
+use Rattle.shr_tool.proofs.Performing.{flush_done}
 use Rattle.shr_tool.proofs.perform.perform_flush.Goals as goal
 
-pub returns-clause-done : goal.returns-clause-done
-returns-clause-done g c = flush_done _ _ _ _ c.in-Ok.is c.line_reply.ensures c.flush.ensures.flushed
-
-pub returns-in-Err-clause-gone : goal.returns-in-Err-clause-gone
-returns-in-Err-clause-gone g c = flush_broken _ _ _ _ c.in-Err.is c.flush.ensures.flushed
+pub returns-clause-answers : goal.returns-clause-answers
+returns-clause-answers g c =
+    record {
+      event = answered (Ok Flush);
+      line_is = refl;
+      answer_is = refl;
+      performs = flush_done _ _ _ c.line_reply.ensures c.flush.ensures.flushes;
+    }

@@ -1,0 +1,93 @@
+-- A pool holds a reference to its bay: what is done through it is done to the bay.
+use Rattle.std.proofs.Common.{◌≡◌, ◌⊎◌, ◌↔◌, ℕ, ◌<◌, List, [], ◌∷◌, Option, Some, None, refl, sym, subst, ◌∙◌, ap, inl, inr}
+use Rattle.rack.specs.Seen.{Seen, Rose}
+use Rattle.rack.specs.Values.{Values, MayLeave, Keeps, only}
+use Rattle.rack.specs.Sequences.{OnlyReads}
+use Rattle.flat_array.specs.Array.{FlatArray, fresh}
+use Rattle.layer_plan.specs.declared.PlanError.{PlanError}
+use Rattle.pool_image.specs.Drives.{Found}
+use Rattle.pool_image.specs.Meaning.{Volume}
+use Rattle.pool_scan.specs.Scanning.{IsUnfaulted}
+use Rattle.pool_rest.specs.Resting.{WritesDrives}
+use Rattle.raid_rack.specs.Raid.{IsTold}
+use Rattle.assembler.specs.Sound.{HoldSound, IsMeantBy}
+use Rattle.assembler.specs.Volume.{AllLive}
+use Rattle.assembler.specs.Writing.{WritesPool}
+use Rattle.pool_format.specs.declared.formatting.CreateFault.{CreateFault}
+use Rattle.pool_format.specs.declared.formatting.CreateFault.TheVariants.{Layout, Gone, Memory}
+use Rattle.pool_format.specs.Format.{IsGivenBack}
+use Rattle.pool_format.specs.Plan.{IsUnplanned, units_on}
+use Rattle.pool_format.specs.Volume.{HasLayout}
+use Rattle.pool.specs.View.{View, book, slices_shown, volume}
+use Rattle.pool.specs.Volume.{Holds}
+use Rattle.shr_tool.specs.Made.{HasFaultCause}
+use Rattle.shr_tool.specs.Opened.{IsMeant}
+use Rattle.shr_tool.specs.Timeline.{moment_of}
+
+-- a bay that is reached through references is written as they are
+pub pool_through :
+    {R B : Type 0} (shown : B → Seen) (runs : R → R → Type 0) (does : B → B → Type 0) (to : R → B)
+    → ((r s : R) → runs r s → does (to r) (to s))
+    → (r s : R) → WritesPool (λ q. shown (to q)) runs r s → WritesPool shown does (to r) (to s)
+pool_through shown runs does to so r s writes = record {
+  mid = to writes.mid;
+  kept = (so r writes.mid writes.kept.0, so writes.mid s writes.kept.1);
+  early = writes.early;
+  known = writes.known;
+  state = writes.state;
+  newest = writes.newest;
+  one = writes.one;
+  late = writes.late;
+}
+
+pub written_through :
+    {R B : Type 0} (shown : B → Seen) (runs : R → R → Type 0) (does : B → B → Type 0) (to : R → B)
+    → ((r s : R) → runs r s → does (to r) (to s))
+    → (r s : R)
+    → OnlyReads (shown (to r)) (shown (to s)) ⊎ (WritesDrives (shown (to r)) (shown (to s)) ⊎ WritesPool (λ q. shown (to q)) runs r s)
+    → OnlyReads (shown (to r)) (shown (to s)) ⊎ (WritesDrives (shown (to r)) (shown (to s)) ⊎ WritesPool shown does (to r) (to s))
+written_through shown runs does to so r s (inl reads) = inl reads
+written_through shown runs does to so r s (inr (inl drives)) = inr (inl drives)
+written_through shown runs does to so r s (inr (inr pool)) = inr (inr (pool_through shown runs does to so r s pool))
+
+-- values of which a stop can leave one alone
+keeps_only : (v : List ℕ) (h : Values) → ((u : List ℕ) → MayLeave h u → u ≡ v) → Keeps (only v) h
+keeps_only v h alone = record { current = alone h.current (inl refl); within = λ u leaves. inl (alone u leaves) }
+
+first_of : Volume → Option (List Volume) → Volume
+first_of other None = other
+first_of other (Some []) = other
+first_of other (Some (v ∷ more)) = v
+
+-- the volume that is opened holds the array that the disks meant
+pub held_by_meant :
+    (x : Seen) (v : View) (a : FlatArray)
+    → ((f : Found) → HoldSound x f → IsUnfaulted x v.bay → AllLive (book v) → IsMeantBy x (volume v))
+    → ((f : Found) → HoldSound x f → IsUnfaulted x v.bay → (n : ℕ) → n < v.linear.arrays → IsTold (book v) (slices_shown v) n)
+    → IsMeant x v.bay (moment_of v) a
+    → Holds v a
+held_by_meant x v a opens told meant =
+    let by = opens meant.pool meant.sound meant.unfaulted meant.live in
+    let same : by.volume ≡ meant.volume = ap (first_of meant.volume) (sym by.meant ∙ meant.meant) in
+    subst (λ b. Holds v b) (ap (λ (w : Volume). fresh w.sectors w.contents) same ∙ sym meant.array)
+    (record {
+      told = told meant.pool meant.sound meant.unfaulted;
+      size = sym by.holds.sectors;
+      values = λ s inside alive. keeps_only (by.volume.contents s) ((volume v).held 0 s) (λ u leaves. by.holds.contents s u inside alive leaves);
+    })
+
+-- stops stay told in an opening
+pub traced_through : {R : Type 0} (shown : R → Seen) (runs : R → R → Type 0) (r s : R) → WritesPool shown runs r s → (shown r).traced → (shown s).traced
+traced_through shown runs r s writes traced = writes.late.stays.traced (writes.early.only.stays.traced traced)
+
+-- why no pool was made on a bay that is reached through a reference
+pub fault_through :
+    {R B : Type 0} (shown : B → Seen) (to : R → B) (r s : R) (extent : ℕ) (why : CreateFault)
+    → ((fault : PlanError) → (why ≡ Layout fault) ↔ IsUnplanned (units_on (shown (to r)) extent) fault)
+    → ((fault : PlanError) → why ≡ Layout fault → s ≡ r)
+    → ((disk : ℕ) → why ≡ Gone disk → (disk < (shown (to r)).disks) × Rose ((shown (to r)).faults disk) ((shown (to s)).faults disk))
+    → (HasLayout why → IsGivenBack (shown (to r)) (shown (to s)) extent)
+    → HasFaultCause shown why (to r) (to s) extent
+fault_through shown to r s extent (Layout error) planned same gone back = ((planned error).0 refl, ap to (same error refl))
+fault_through shown to r s extent (Gone disk) planned same gone back = ((gone disk refl).0, (gone disk refl).1, back tt)
+fault_through shown to r s extent Memory planned same gone back = back tt

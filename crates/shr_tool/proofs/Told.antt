@@ -1,0 +1,99 @@
+-- How a script came out, where the array is told for another reason.
+use Rattle.std.proofs.Common.{◌≡◌, ℕ, List, [], ◌∷◌}
+use Rattle.rack.specs.Seen.{Image, Seen}
+use Rattle.flat_array.specs.Array.{FlatArray}
+use Rattle.shr_tool.specs.declared.status.Status.{Status}
+use Rattle.shr_tool.specs.declared.status.Status.TheVariants.{Done, Words, Limit, Source, Sink, Refused, Memory, Spent}
+use Rattle.shr_tool.specs.Events.{Event, becomes}
+use Rattle.shr_tool.specs.Outcome.{EndsAt, Lasts, Outcome}
+use Rattle.shr_tool.specs.Timeline.{Ground, Moment, Happens, Timeline}
+
+happens_for :
+    (P Q : Type 0) (stops : ℕ → Image → Type 0) (g : Ground) (p q : Moment) (a : FlatArray) (event : Event)
+    → (Q → P) → Happens P stops g p q a event → Happens Q stops g p q a event
+happens_for P Q stops g p q a event for happens = record {
+  later = λ traced. happens.later (for traced);
+  cause = happens.cause;
+  marks = happens.marks;
+  during = λ traced. happens.during (for traced);
+  ended = λ traced. happens.ended (for traced);
+}
+
+timeline_for :
+    (P Q : Type 0) (stops : ℕ → Image → Type 0) (g : Ground) (p : Moment) (a : FlatArray) (events : List Event) (q : Moment)
+    → (Q → P) → Timeline P stops g p a events q → Timeline Q stops g p a events q
+timeline_for P Q stops g p a [] q for line = line
+timeline_for P Q stops g p a (event ∷ events) q for line = (
+  line.0,
+  happens_for P Q stops g p line.0 a event for line.1,
+  timeline_for P Q stops g line.0 (becomes a event) events q for line.2,
+)
+
+ends_for :
+    (T U S R : Type 0) (y : Seen) (g : Ground) (p q : Moment) (a : FlatArray)
+    → (U → T) → (R → S) → EndsAt T S y g p q a → EndsAt U R y g p q a
+ends_for T U S R y g p q a told traced ends = record {
+  later = λ so. ends.later (traced so);
+  after = ends.after;
+  during = λ is so. ends.during (told is) (traced so);
+  ended = λ is so. ends.ended (told is) (traced so);
+  rows = λ is. ends.rows (told is);
+}
+
+lasts_for :
+    (T U S R : Type 0) (y : Seen) (g : Ground) (from : Moment) (a : FlatArray) (events : List Event)
+    → (U → T) → (R → S) → Lasts T S y g from a events → Lasts U R y g from a events
+lasts_for T U S R y g from a events told traced lasts = record {
+  last = lasts.last;
+  timeline = timeline_for (S × T) (R × U) y.stops g from a events lasts.last (λ is. (traced is.0, told is.1)) lasts.timeline;
+  final = lasts.final;
+  clock = lasts.clock;
+  faults = lasts.faults;
+  ends = ends_for T U S R y g lasts.last lasts.final _ told traced lasts.ends;
+  told = λ is. lasts.told (told is);
+}
+
+-- the same run, told where the array is told
+pub outcome_for :
+    (status : Status) (T U S R : Type 0) (y : Seen) (g : Ground) (from : Moment) (a : FlatArray) (text rest out out' : List ℕ)
+    → (U → T) → (R → S) → Outcome status T S y g from a text rest out out' → Outcome status U R y g from a text rest out out'
+outcome_for Done T U S R y g from a text rest out out' told traced o = record {
+  events = o.events;
+  script = o.script;
+  spent = o.spent;
+  put = λ is. o.put (told is);
+  lasts = lasts_for T U S R y g from a o.events told traced o.lasts;
+}
+outcome_for Words T U S R y g from a text rest out out' told traced o = absurd o
+outcome_for Limit T U S R y g from a text rest out out' told traced o = record {
+  longer = o.longer;
+  events = o.events;
+  script = o.script;
+  put = λ is. o.put (told is);
+  lasts = lasts_for T U S R y g from a o.events told traced o.lasts;
+}
+outcome_for Source T U S R y g from a text rest out out' told traced o = record {
+  taken = o.taken;
+  text_is = o.text_is;
+  events = o.events;
+  script = o.script;
+  put = λ is. o.put (told is);
+  lasts = lasts_for T U S R y g from a o.events told traced o.lasts;
+}
+outcome_for Sink T U S R y g from a text rest out out' told traced o = record {
+  before = o.before;
+  last = o.last;
+  more = o.more;
+  script = o.script;
+  put = λ is. o.put (told is);
+  lasts = lasts_for T U S R y g from a _ told traced o.lasts;
+}
+outcome_for Refused T U S R y g from a text rest out out' told traced o = absurd o
+outcome_for Memory T U S R y g from a text rest out out' told traced o = absurd o
+outcome_for Spent T U S R y g from a text rest out out' told traced o = record {
+  events = o.events;
+  script = o.script;
+  spent = o.spent;
+  put = λ is. o.put (told is);
+  lasts = lasts_for T U S R y g from a o.events told traced o.lasts;
+}

@@ -1,0 +1,87 @@
+-- What a line of a script does on a pool: as a flat array of sectors has it, or what lost drives make of it.
+use Rattle.std.specs.Prelude.{◌≡◌, ℕ, ◌+◌, ◌-◌, ◌<◌, ◌≤◌, ◌||◌, Bool, true, false, List, [], ◌∷◌, ◌++◌, codes, decimal, Option, Some, None, Ok, Err}
+use Rattle.shr_script.specs.declared.Command.TheVariants.{Read, Write, Fill, Flush, Size, Lose, Quit, Unbuilt}
+use Rattle.shr_script.specs.Line.{Line}
+use Rattle.shr_script.specs.Reply.{as_line, refused_line}
+use Rattle.flat_array.specs.Array.{FlatArray}
+use Rattle.flat_array.specs.Reply.{after, after_spent, reply, spent_line}
+
+pub data Event : Type 0 where
+  -- the line was answered as the flat array answers it: `lose` so where no drive has the place
+  answered : Line → Event
+  -- it was refused at this sector, of which too many copies are lost
+  spent : Line → ℕ → Event
+  -- the drive of a place was lost
+  lost : ℕ → Event
+  -- it wasn't, being the last one
+  last : ℕ → Event
+
+-- the line
+abbrev pub line_of : Event → Line
+line_of (answered line) = line
+line_of (spent line sector) = line
+line_of (lost place) = Ok (Lose place)
+line_of (last place) = Ok (Lose place)
+
+-- its reply
+abbrev pub text_of : FlatArray → Event → List ℕ
+text_of a (answered line) = reply a line
+text_of a (spent line sector) = spent_line sector
+text_of a (lost place) = as_line (codes "ok")
+text_of a (last place) = refused_line (codes "last-drive")
+
+-- the array after it
+abbrev pub becomes : FlatArray → Event → FlatArray
+becomes a (answered line) = after a line
+becomes a (spent line sector) = after_spent a line sector
+becomes a (lost place) = a
+becomes a (last place) = a
+
+-- the replies to events in a row, and the array after them
+abbrev pub texts : FlatArray → List Event → List ℕ
+texts a [] = []
+texts a (event ∷ events) = text_of a event ++ texts (becomes a event) events
+
+abbrev pub array_by : FlatArray → List Event → FlatArray
+array_by a [] = a
+array_by a (event ∷ events) = array_by (becomes a event) events
+
+-- their lines
+abbrev pub lines_of : List Event → List Line
+lines_of [] = []
+lines_of (event ∷ events) = line_of event ∷ lines_of events
+
+-- whether a sector was refused
+abbrev pub is_spent : Event → Bool
+is_spent (answered line) = false
+is_spent (spent line sector) = true
+is_spent (lost place) = false
+is_spent (last place) = false
+
+abbrev pub any_spent : List Event → Bool
+any_spent [] = false
+any_spent (event ∷ events) = is_spent event || any_spent events
+
+-- a sector that a line reads or writes, of a volume of so many sectors
+abbrev pub Touches : ℕ → Line → ℕ → Type 0
+Touches size (Ok (Read sector)) s = (s ≡ sector) × (sector < size)
+Touches size (Ok (Write sector bytes)) s = (s ≡ sector) × (sector < size)
+Touches size (Ok (Fill sector count byte)) s = (sector ≤ s) × (s < sector + count) × (sector + count ≤ size)
+Touches size (Ok Flush) s = ⊥
+Touches size (Ok Size) s = ⊥
+Touches size (Ok (Lose place)) s = ⊥
+Touches size (Ok Quit) s = ⊥
+Touches size (Ok Unbuilt) s = ⊥
+Touches size (Err fault) s = ⊥
+
+-- the last one of them
+abbrev pub TouchesLast : ℕ → Line → ℕ → Type 0
+TouchesLast size (Ok (Read sector)) s = (s ≡ sector) × (sector < size)
+TouchesLast size (Ok (Write sector bytes)) s = (s ≡ sector) × (sector < size)
+TouchesLast size (Ok (Fill sector count byte)) s = (s + 1 ≡ sector + count) × (sector ≤ s) × (sector + count ≤ size)
+TouchesLast size (Ok Flush) s = ⊥
+TouchesLast size (Ok Size) s = ⊥
+TouchesLast size (Ok (Lose place)) s = ⊥
+TouchesLast size (Ok Quit) s = ⊥
+TouchesLast size (Ok Unbuilt) s = ⊥
+TouchesLast size (Err fault) s = ⊥

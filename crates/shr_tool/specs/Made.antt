@@ -1,0 +1,52 @@
+-- How the making of a pool on attached disks came out.
+use Rattle.std.specs.Prelude.{◌≡◌, ◌⊎◌, ℕ, ◌<◌, List, ◌++◌, codes, decimal}
+use Rattle.rack.specs.Seen.{Seen, Rose}
+use Rattle.rack.specs.Sequences.{WritesOnly}
+use Rattle.slice_rack.specs.Runs.{IsSliced}
+use Rattle.lvm_group.specs.Runs.{sectors_in}
+use Rattle.raid_rack.specs.declared.arrays.Arrays.{Arrays}
+use Rattle.shr_script.specs.Reply.{as_line, refused_line}
+use Rattle.pool_format.specs.declared.Birth.{Birth}
+use Rattle.pool_format.specs.declared.formatting.CreateFault.{CreateFault}
+use Rattle.pool_format.specs.declared.formatting.CreateFault.TheVariants.{Layout, Gone, Memory}
+use Rattle.pool_format.specs.Format.{IsGivenBack, IsMade}
+use Rattle.pool_format.specs.Plan.{IsUnplanned, units_on}
+use Rattle.shr_tool.specs.declared.status.Status.{Status}
+use Rattle.shr_tool.specs.declared.status.Status.TheVariants.{Done}
+use Rattle.shr_tool.specs.Refusing.{fault_words, fault_status}
+use Rattle.shr_tool.specs.Saying.{Says}
+use Rattle.shr_tool.specs.Timeline.{Ground}
+
+-- `created N`
+abbrev pub created_line : ℕ → List ℕ
+created_line sectors = as_line (codes "created " ++ decimal sectors)
+
+-- why none was made: the disks have no plan, and nothing was called; or a disk refused a call
+abbrev pub HasFaultCause : {R : Type 0} → (R → Seen) → CreateFault → R → R → ℕ → Type 0
+HasFaultCause seen (Layout error) bay after extent = IsUnplanned (units_on (seen bay) extent) error × (after ≡ bay)
+HasFaultCause seen (Gone disk) bay after extent =
+    (disk < (seen bay).disks) × Rose ((seen bay).faults disk) ((seen after).faults disk) × IsGivenBack (seen bay) (seen after) extent
+HasFaultCause seen Memory bay after extent = IsGivenBack (seen bay) (seen after) extent
+
+-- no pool was made on the disks
+pub record NotMade {R : Type 0} (seen : R → Seen) (runs : R → R → Type 0) (bay after : R) (extent : ℕ) (out out' : List ℕ) (status : Status) : Type 0 where
+  pub why : CreateFault
+  pub says : Says (fault_status why) (refused_line (fault_words why)) out out' status
+  pub kept : runs bay after
+  pub cause : HasFaultCause seen why bay after extent
+
+-- a pool was made on the disks, and ended: `made` is the bay when it was made
+pub record MadeOn {R : Type 0} (seen : R → Seen) (runs : R → R → Type 0) (bay after : R) (extent : ℕ) (birth : Birth) (out out' : List ℕ) (status : Status)
+    : Type 0 where
+  pub made : R
+  pub kept : runs bay made × runs made after
+  pub arrays : Arrays
+  pub ground : Ground
+  pub is_made : IsMade (seen bay) (seen made) extent birth arrays ground.linear
+  pub apart : WritesOnly (seen made) (seen after) (IsSliced ground.slices)
+  pub says : Says Done (created_line (sectors_in ground.linear)) out out' status
+
+-- how it came out
+abbrev pub MakeOutcome : {R : Type 0} → (R → Seen) → (R → R → Type 0) → R → R → ℕ → Birth → List ℕ → List ℕ → Status → Type 0
+MakeOutcome seen runs bay after extent birth out out' status =
+    NotMade seen runs bay after extent out out' status ⊎ MadeOn seen runs bay after extent birth out out' status
