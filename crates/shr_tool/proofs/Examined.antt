@@ -15,7 +15,7 @@ use Rattle.shr_tool.specs.declared.status.Status.{Status}
 use Rattle.shr_tool.specs.declared.status.Status.TheVariants.{Refused, Memory, Sink}
 use Rattle.shr_tool.specs.Entry.{waiting_at, sectors_in, contents_in, IsEntryImage}
 use Rattle.shr_tool.specs.Attaching.{AreAttached, IsUnattached}
-use Rattle.shr_tool.specs.Run.{Says, SaysFault}
+use Rattle.shr_tool.specs.Saying.{Says}
 use Rattle.shr_tool.specs.Examining.{ShowsImage, Examined}
 
 -- a disk that was attached is live after reads

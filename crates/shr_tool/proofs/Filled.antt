@@ -1,5 +1,5 @@
 -- Sectors of a pool that are filled one after the other.
-use Rattle.std.proofs.Common.{◌≡◌, ◌⊎◌, ℕ, ◌+◌, ◌-◌, ◌<◌, ◌≤◌, nat_le, nat_lt, ◌&&◌, Bool, true, false, if◌then◌else◌, List, Result, Ok, Err, refl, sym, ◌∙◌, ap, subst, inl, inr, arith}
+use Rattle.std.proofs.Common.{◌≡◌, ℕ, ◌+◌, ◌-◌, ◌<◌, ◌≤◌, nat_le, nat_lt, ◌&&◌, Bool, true, false, if◌then◌else◌, List, Result, Ok, Err, refl, sym, ◌∙◌, ap, subst, inl, inr, arith}
 use Rattle.std.proofs.lemmas.Bool.{cases_lt}
 use Rattle.std.proofs.lemmas.Grind.{common_steps}
 use Rattle.std.proofs.lemmas.Bool.Decides.{nat_tests}
@@ -10,11 +10,10 @@ use Rattle.rack.specs.Joins.{leaves_same, may_leave-append}
 use Rattle.flat_array.specs.Array.{FlatArray, filled, written}
 use Rattle.flat_array.proofs.Filling.{filled_none, filled_next}
 use Rattle.pool.specs.declared.calls.SectorFault.{SectorFault}
-use Rattle.pool.specs.declared.calls.SectorFault.TheVariants.{Range, Spent}
+use Rattle.pool.specs.declared.calls.SectorFault.TheVariants.{Spent}
 use Rattle.pool.specs.View.{View, contents_in, volume}
-use Rattle.pool.specs.Volume.{Does, Holds, Means, is_spent, size_of, unchanged}
+use Rattle.pool.specs.Volume.{Holds, Means, is_spent, unchanged}
 use Rattle.pool.specs.Calls.{Marks, Passes, WritesSector}
-use Rattle.shr_tool.specs.declared.perform.SpentAt.{SpentAt}
 use Rattle.shr_tool.specs.Filling.{Fills, FillsSome}
 use Rattle.shr_tool.proofs.Meanings.{does_none, does_then, marks_same, marks_then, passes_same, passes_then}
 
@@ -154,17 +153,3 @@ filled_spent x y z sector at count bytes r refused from inside before writes_r =
         },
       );
     }
-
--- none was refused as outside
-pub never_outside :
-    (x y z : View) (sector at count : ℕ) (bytes : List ℕ) (r : Result (Unit {0}) SectorFault)
-    → r ≡ Err Range
-    → at < sector + count
-    → sector + count ≤ size_of x
-    → Passes x y
-    → WritesSector y z at bytes r
-    → ⊥
-never_outside x y z sector at count bytes r refused before inside passes writes =
-    let past : size_of y ≤ at = writes.fault.range.0 refused in
-    let same : size_of y ≡ size_of x = passes.stays.sectors 0 in
-    omega arith

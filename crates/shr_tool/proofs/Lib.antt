@@ -1,11 +1,15 @@
 mod Attached
 mod Examined
 mod Filled
+mod Finishing
 mod FormLemmas
+mod History
+mod Joined
 mod LayoutLemmas
 mod Limits
 mod Meanings
 mod Performing
 mod Putting
+mod Stopping
 mod Through
 mod Told

@@ -1,5 +1,5 @@
 -- What calls of a pool in a row do to the array that its volume holds.
-use Rattle.std.proofs.Common.{◌≡◌, ◌⊎◌, ℕ, ◌<◌, ◌^◌, true, false, refl, sym, ◌∙◌, ap, subst, inl, inr, arith}
+use Rattle.std.proofs.Common.{◌≡◌, ℕ, ◌<◌, ◌^◌, refl, sym, ◌∙◌, subst, inl, inr, arith}
 use Rattle.std.proofs.lemmas.Bool.{both_ways, cases_Bool}
 use Rattle.rack.specs.Seen.{Image, Rose, Seen}
 use Rattle.rack.specs.Moments.{IsSound, Leaves}
@@ -26,7 +26,7 @@ use Rattle.lvm_group.specs.Runs.{Linear}
 use Rattle.lvm_group.specs.Shown.{contents_of}
 use Rattle.raid_rack.specs.Book.{after_same, after_then}
 use Rattle.pool.specs.View.{View, arrays_of, bay_in, book, contents_in, view, volume}
-use Rattle.pool.specs.Volume.{Does, Holds, Means, is_spent, size_of, unchanged}
+use Rattle.pool.specs.Volume.{Does, Holds, Means, size_of, unchanged}
 use Rattle.pool.specs.Calls.{DriveWent, Marks, MarksBut, Passes}
 
 -- ---- no call
@@ -76,8 +76,7 @@ does_none x passes sound = record {
   leaves = λ traced a holds. leaves_same x.bay (Means x a);
   ends = λ traced a holds i stopped s inside unspent.
       (holds.values s inside unspent).within (contents_in x.slices x.linear i s)
-      ((sound traced).only_held (volume_in x i)
-      (
+      ((sound traced).only_held (volume_in x i) (
         arrays_in (replayed (sectors_of x.slices) (sliced x.slices i)),
         (sliced x.slices i, (i, stopped, λ d t. refl), λ n t. refl),
         λ d t. refl,

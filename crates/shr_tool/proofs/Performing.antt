@@ -1,6 +1,6 @@
 -- A call of the pool answers a line as an event has it.
-use Rattle.std.proofs.Common.{◌≡◌, ◌⊎◌, ℕ, ◌+◌, ◌-◌, ◌<◌, ◌≤◌, Bool, true, false, not, nat_le, nat_lt, List, length, Result, Ok, Err, OnErr, codes, refl, sym, ◌∙◌, ap, subst, inl, inr, arith}
-use Rattle.std.specs.Prelude.{min, slice_get}
+use Rattle.std.proofs.Common.{◌≡◌, ◌⊎◌, ℕ, ◌+◌, ◌-◌, ◌<◌, ◌≤◌, Bool, true, false, not, nat_le, nat_lt, List, Result, Ok, Err, OnErr, codes, refl, sym, ◌∙◌, ap, subst, inl, inr, arith}
+use Rattle.std.specs.Prelude.{min}
 use Rattle.std.specs.Option.{option_map_or}
 use Rattle.std.proofs.lemmas.Bool.{both_ways, cases_lt, cases_Bool}
 use Rattle.std.proofs.lemmas.Bool.Decides.{nat_tests}
@@ -21,7 +21,7 @@ use Rattle.pool.specs.declared.calls.SectorFault.{SectorFault}
 use Rattle.pool.specs.declared.calls.SectorFault.TheVariants.{Range, Spent}
 use Rattle.pool.specs.View.{View, book, spent_by, volume}
 use Rattle.pool.specs.Volume.{Does, Holds, Means, is_spent, size_of, unchanged}
-use Rattle.pool.specs.Calls.{Flushes, HasFault, LosesDrive, Marks, Passes, ReadsSector, WritesSector}
+use Rattle.pool.specs.Calls.{Flushes, LosesDrive, Marks, Passes, ReadsSector, WritesSector}
 use Rattle.shr_tool.specs.declared.perform.SpentAt.{SpentAt}
 use Rattle.shr_tool.specs.Events.{Event, Touches, TouchesLast, becomes, text_of}
 use Rattle.shr_tool.specs.Events.Event.{answered, spent, lost, last}
@@ -180,8 +180,7 @@ pub read_spent :
     → Performs x y (spent (Ok (Read sector)) sector) text
 read_spent x y sector into text r refused is reads =
     let gone = reads.fault.refused refused in
-    performs_by x y (spent (Ok (Read sector)) sector) text unchanged unchanged reads.passes
-    (
+    performs_by x y (spent (Ok (Read sector)) sector) text unchanged unchanged reads.passes (
       (refl, gone.0),
       spent_at x y sector true reads.passes gone.1,
       λ s touches before. absurd (let same = touches.0 in omega arith),
@@ -240,8 +239,7 @@ pub write_spent :
 write_spent x y sector v text r refused is writes_r =
     let writes : WritesSector x y sector v {X = Unit {0}} (Err Spent) = subst (λ q. WritesSector x y sector v q) refused writes_r in
     let gone = writes.fault.refused refl in
-    performs_by x y (spent (Ok (Write sector v)) sector) text unchanged unchanged writes.passes
-    (
+    performs_by x y (spent (Ok (Write sector v)) sector) text unchanged unchanged writes.passes (
       (refl, gone.0),
       spent_at x y sector true writes.passes gone.1,
       λ s touches before. absurd (let same = touches.0 in omega arith),
@@ -272,8 +270,7 @@ fill_done x y sector count byte text r inside is_ok is fills_r =
     λ a holds. rw (all_inside x a (sector + count) holds inside) refl in
     performs_by x y (answered (Ok (Fill sector count byte))) text (λ a. filled a sector count (uniform_sector byte))
     (λ a. filled a sector count (uniform_sector byte))
-    fills.passes
-    (
+    fills.passes (
       λ s touches. fills.done.0.unspent s touches.0 touches.1,
       λ s touches. spent_at x y s false fills.passes (fills.done.1 s touches.0 touches.1),
       λ place loses. absurd (let other : ⊥ = cc in other),
@@ -300,8 +297,7 @@ fill_spent x y sector count byte text r at inside refused is fills_r =
     performs_by x y (spent (Ok (Fill sector count byte)) at.sector) text
     (λ a. filled a sector (at.sector - sector) (uniform_sector byte))
     (λ a. filled a sector (at.sector - sector) (uniform_sector byte))
-    fills.passes
-    (
+    fills.passes (
       (from, before, inside),
       spent_at x y at.sector true fills.passes fills.refused.2,
       λ s touches early. some.unspent s touches.0 (omega arith),
@@ -394,8 +390,7 @@ lose_done x y at place text r fit cut is_ok is loses_r =
       | inr missing ↦ absurd (let other = loses.missing.1 missing in cc)
     ] in
     let same : at ≡ place = cut_current x at place fit cut current in
-    performs_by x y (lost place) text unchanged unchanged loses.passes
-    (
+    performs_by x y (lost place) text unchanged unchanged loses.passes (
       subst (λ p. is_current (book x).state p ≡ true) same current,
       subst (λ p. is_current (book y).state p ≡ false) same loses.lost,
     )
@@ -433,8 +428,7 @@ pub lose_missing :
     → Performs x y (answered (Ok (Lose place))) text
 lose_missing x y at place text r fit cut refused same is loses =
     let missing = loses.missing.0 refused in
-    performs_by x y (answered (Ok (Lose place))) text unchanged unchanged loses.passes
-    (
+    performs_by x y (answered (Ok (Lose place))) text unchanged unchanged loses.passes (
       λ s touches. absurd touches,
       λ s touches. absurd touches,
       λ p line.
@@ -459,8 +453,7 @@ pub lose_last :
 lose_last x y at place text r fit cut refused same is loses =
     let cause = loses.last.0 refused in
     let this : at ≡ place = cut_current x at place fit cut cause.0 in
-    performs_by x y (last place) text unchanged unchanged loses.passes
-    (
+    performs_by x y (last place) text unchanged unchanged loses.passes (
       subst (λ p. is_current (book x).state p ≡ true) this cause.0,
       subst (λ p. has_other (book x).state p ≡ false) this cause.1,
     )

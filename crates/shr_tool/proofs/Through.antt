@@ -66,6 +66,7 @@ pub held_by_meant :
     → ((f : Found) → HoldSound x f → IsUnfaulted x v.bay → (n : ℕ) → n < v.linear.arrays → IsTold (book v) (slices_shown v) n)
     → IsMeant x v.bay (moment_of v) a
     → Holds v a
+unfolding first_of
 held_by_meant x v a opens told meant =
     let by = opens meant.pool meant.sound meant.unfaulted meant.live in
     let same : by.volume ≡ meant.volume = ap (first_of meant.volume) (sym by.meant ∙ meant.meant) in

@@ -35,6 +35,7 @@ ends_for :
 ends_for T U S R y g p q a told traced ends = record {
   later = λ so. ends.later (traced so);
   after = ends.after;
+  cause = ends.cause;
   during = λ is so. ends.during (told is) (traced so);
   ended = λ is so. ends.ended (told is) (traced so);
   rows = λ is. ends.rows (told is);

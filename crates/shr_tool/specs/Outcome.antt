@@ -1,11 +1,14 @@
 -- How a script on a pool came out, by the status that is answered.
-use Rattle.std.specs.Prelude.{◌≡◌, ◌⊎◌, ℕ, ◌<◌, ◌≤◌, ◌^◌, Bool, true, false, List, [], ◌∷◌, ◌++◌, length, take}
+use Rattle.std.specs.Prelude.{◌≡◌, ℕ, ◌<◌, ◌≤◌, ◌^◌, Bool, true, false, List, [], ◌∷◌, ◌++◌, length, take, Some}
 use Rattle.rack.specs.Seen.{Image, Seen, Rose}
 use Rattle.io_ends.specs.Sink.{AddsPrefix}
 use Rattle.md_super.specs.declared.superblock.Super.{Super}
 use Rattle.array_image.specs.Left.{IsLeft}
+use Rattle.array_image.specs.Places.{log_slice}
+use Rattle.array_image.specs.States.{is_current}
 use Rattle.array_image.specs.Supers.{truth_in}
 use Rattle.array_core.specs.Superblocks.{is_settled, left_offset}
+use Rattle.slice_rack.specs.Slices.{disk_of}
 use Rattle.slice_rack.specs.Sliced.{slices_of}
 use Rattle.raid_rack.specs.Book.{IsAfter}
 use Rattle.raid_rack.specs.Raid.{IsTold, is_over}
@@ -17,7 +20,7 @@ use Rattle.shr_tool.specs.declared.status.Status.TheVariants.{Done, Words, Limit
 use Rattle.shr_tool.specs.declared.serve.Stop.{Stop}
 use Rattle.shr_tool.specs.declared.serve.Stop.TheVariants.{Quit as AtQuit, Input, SourceFault, Limit as AtLimit, SinkFault}
 use Rattle.shr_tool.specs.Events.{Event, any_spent, array_by, lines_of, text_of, texts}
-use Rattle.shr_tool.specs.Timeline.{Ground, Moment, MarksFor, MeansAt, Timeline}
+use Rattle.shr_tool.specs.Timeline.{Ground, Moment, MeansAt, Timeline}
 
 -- no disk's faults rose since they were counted so
 abbrev pub NoneRose : (ℕ → ℕ) → (ℕ → ℕ) → Type 0
@@ -32,10 +35,14 @@ LeavesItsRows y g p q =
     → (r : Image) → IsLeft (slices_of g.slices y) r → (t : Super) → truth_in q.book.state r n ≡ Some t
     → t.resync_offset ≡ left_offset (p.book.arrays n)
 
--- The end of a pool: marks alone come to its book, what a stop inside it leaves means the array, and then its current values alone.
+-- The end of a pool: marks alone come to its book, each of a drive whose disk's faults rose, what a stop inside it leaves means the array,
+-- and then its current values alone. The clock is told where stops are.
 pub record EndsAt (Told : Type 0) (Traced : Type 0) (y : Seen) (g : Ground) (p q : Moment) (a : FlatArray) : Type 0 where
   pub later : Traced → p.clock ≤ q.clock
   pub after : IsAfter p.book.state q.book.state
+  pub cause :
+      (place : ℕ) → is_current p.book.state place ≡ true → is_current q.book.state place ≡ false
+      → Rose (p.faults (disk_of g.slices (log_slice place))) (q.faults (disk_of g.slices (log_slice place)))
   pub during : Told → Traced → (k : ℕ) (i : Image) → p.clock < k → k ≤ q.clock → y.stops k i → MeansAt g q a i
   pub ended : Told → Traced → (i : Image) → y.stops q.clock i → MeansAt g q (flushed a) i
   pub rows : Told → LeavesItsRows y g p q

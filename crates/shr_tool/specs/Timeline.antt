@@ -59,7 +59,8 @@ pub record MarksFor (g : Ground) (p q : Moment) (event : Event) : Type 0 where
       (place : ℕ) → is_current p.book.state place ≡ true → is_current q.book.state place ≡ false
       → Rose (p.faults (disk_of g.slices (log_slice place))) (q.faults (disk_of g.slices (log_slice place))) ⊎ (event ≡ lost place)
 
--- An event: what a stop inside it leaves means the array before it or after it, and one at its end the array after it. Told where stops are.
+-- An event: what a stop inside it leaves means the array before it or after it, and one at its end the array after it. The clock is told
+-- where stops are.
 pub record Happens (Traced : Type 0) (stops : ℕ → Image → Type 0) (g : Ground) (p q : Moment) (a : FlatArray) (event : Event) : Type 0 where
   pub later : Traced → p.clock ≤ q.clock
   pub cause : HasCause g p q event

@@ -9,7 +9,7 @@ ghost use Rattle.shr_script.specs.Script.{without_return as line_without_return}
 ghost use Rattle.pool.specs.Calls.{Passes};
 ghost use Rattle.pool.specs.View.{bay_in, view, volume};
 ghost use Rattle.shr_tool.specs.Limits.{KeepsLimit};
-ghost use Rattle.shr_tool.specs.Serving.{IsReplied, LineAnswers, Serves, HasStopCause, LastAnswers};
+ghost use Rattle.shr_tool.specs.Serving.{IsReplied, LineAnswers, Serves, HasStopCause, LastAnswers, refuses};
 
 use crate::perform::{Answer, answer_in};
 pub use finish::serve_pool;
@@ -71,9 +71,19 @@ pub fn answer_script<R: Bay, I: Source, O: Sink>(
             Ended::LineFeed => {}
         }
         match answer_line(pool, reader.line(), &mut text, out) {
-            Ok(answer) => refused = refused || answer == Answer::Spent,
+            Ok(answer) => refused |= is_spent(answer),
             Err(cause) => return stop_at(cause, refused),
         }
+    }
+}
+
+// Whether an answer refuses a spent sector.
+fn is_spent(answer: Answer) -> bool
+    ensures { result ≡ refuses answer }
+{
+    match answer {
+        Answer::Given => false,
+        Answer::Spent => true,
     }
 }
 
@@ -103,7 +113,7 @@ fn answer_last<R: Bay, O: Sink>(
     ensures answers { O.told out.old → LastAnswers (view R.seen) refused result.refused result.cause (line_of (line_without_return line.now)) pool.old pool.new (O.taken out.old) (O.taken out.new) }
 {
     match answer_line(pool, line, text, out) {
-        Ok(answer) => stop_at(Stop::Input, refused || answer == Answer::Spent),
+        Ok(answer) => stop_at(Stop::Input, refused | is_spent(answer)),
         Err(cause) => stop_at(cause, refused),
     }
 }

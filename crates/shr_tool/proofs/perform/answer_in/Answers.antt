@@ -1,5 +1,5 @@
 -- A line that is no command calls nothing.
-use Rattle.std.proofs.Common.{Err, Ok, refl, ◌∙◌, ap}
+use Rattle.std.proofs.Common.{Err, refl, ◌∙◌, ap}
 use Rattle.shr_script.specs.Reply.{refused_line}
 use Rattle.shr_tool.specs.Events.Event.{answered}
 use Rattle.shr_tool.proofs.Meanings.{sound_in}

@@ -1,5 +1,5 @@
 -- The place of the call is that of the line, or both are no place.
-use Rattle.std.proofs.Common.{refl, sym, ◌∙◌, ap, subst, Err, Ok, arith}
+use Rattle.std.proofs.Common.{refl, ◌∙◌, ap, Err, Ok}
 use Rattle.shr_script.specs.declared.Command.TheVariants.{Lose}
 use Rattle.pool.specs.View.{book, view}
 use Rattle.shr_tool.specs.Events.Event.{answered, last, lost}

@@ -1,7 +1,6 @@
 -- Each answer of a write is an event.
-use Rattle.std.proofs.Common.{refl, sym, ◌∙◌, ap, subst, Err, Ok}
+use Rattle.std.proofs.Common.{refl, sym, ◌∙◌, ap, Err, Ok}
 use Rattle.shr_script.specs.declared.Command.TheVariants.{Write}
-use Rattle.pool.specs.View.{view}
 use Rattle.shr_tool.specs.Events.Event.{answered, spent}
 use Rattle.shr_tool.specs.Serving.{refuses}
 use Rattle.shr_tool.proofs.Performing.{write_done, write_outside, write_spent}

@@ -1,6 +1,6 @@
 use Rattle.std.proofs.Common.{subst}
 use Rattle.shr_tool.specs.declared.status.Status.TheVariants.{Refused}
-use Rattle.shr_tool.specs.Run.{Says}
+use Rattle.shr_tool.specs.Saying.{Says}
 use Rattle.shr_tool.proofs.refusals.refuse_damaged.Goals as goal
 
 pub returns-clause-says : goal.returns-clause-says

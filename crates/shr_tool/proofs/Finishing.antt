@@ -1,0 +1,179 @@
+-- How a script came out, from why it stopped and how the pool was ended.
+use Rattle.std.proofs.Common.{◌≡◌, ℕ, ◌<◌, Bool, true, false, List, [], ◌∷◌, ◌++◌, refl, sym, ◌∙◌, ap, subst, inl, inr}
+use Rattle.rack.specs.Seen.{Rose}
+use Rattle.array_image.specs.Left.{IsLeft}
+use Rattle.array_image.specs.Places.{log_slice}
+use Rattle.slice_rack.specs.Slices.{disk_of}
+use Rattle.slice_rack.specs.Sliced.{slices_of}
+use Rattle.raid_rack.specs.Raid.{IsTold}
+use Rattle.flat_array.specs.Array.{FlatArray, flushed}
+use Rattle.pool.specs.View.{View, book}
+use Rattle.pool.specs.Volume.{Holds}
+use Rattle.pool.specs.Calls.{Ends}
+use Rattle.shr_tool.specs.declared.serve.Stop.{Stop}
+use Rattle.shr_tool.specs.declared.serve.Stop.TheVariants.{Quit as AtQuit, Input, SourceFault, Limit as AtLimit, SinkFault}
+use Rattle.shr_tool.specs.declared.status.Status.{Status}
+use Rattle.shr_tool.specs.declared.status.Status.TheVariants.{Limit}
+use Rattle.shr_tool.specs.Events.{Event, array_by}
+use Rattle.shr_tool.specs.Timeline.{ground_of, moment_of}
+use Rattle.shr_tool.specs.Serving.{HasStopCause, Ran, Serves, StopsAtEnd}
+use Rattle.shr_tool.specs.Outcome.{DoneOutcome, EndsAt, HasStatusCause, Lasts, LeavesItsRows, Outcome, status_by}
+use Rattle.shr_tool.proofs.History.{means_at, ran_before}
+use Rattle.shr_tool.proofs.Meanings.{passes_then}
+
+-- the end of a pool leaves the rows that were left
+rows_at :
+    (x m y : View) (a : FlatArray) (events : List Event)
+    → Ran x m events
+    → Ends m y
+    → Holds x a
+    → LeavesItsRows y.bay (ground_of x) (moment_of m) (moment_of y)
+rows_at x m y a events ran ends holds none n inside over settled r left t truth =
+    ends.rows none n
+    ((ran.holds a holds).told n (subst (λ l. n < l.arrays) (sym ran.passes.linear) inside))
+    over settled r
+    (subst (λ s. IsLeft (slices_of s y.bay) r) (sym (passes_then x m y ran.passes ends.passes).slices) left)
+    t truth
+
+-- as an event after the script's
+ends_at :
+    (x m y : View) (a : FlatArray) (events : List Event)
+    → Ran x m events
+    → Ends m y
+    → EndsAt (Holds x a) x.bay.traced y.bay (ground_of x) (moment_of m) (moment_of y) (array_by a events)
+ends_at x m y a events ran ends =
+    let b = array_by a events in
+    let passes = passes_then x m y ran.passes ends.passes in
+    record {
+      later = λ traced. (ends.passes.apart.stops (ran.passes.stays.traced traced)).later;
+      after = ends.passes.marks;
+      cause =
+          λ place was now.
+          subst (λ t. Rose (m.bay.faults (disk_of t (log_slice place))) (y.bay.faults (disk_of t (log_slice place)))) ran.passes.slices
+          (elim (ends.marks place was now) [ inl rose ↦ rose | inr never ↦ absurd never ]);
+      during =
+          λ holds traced k i since until stops.
+          means_at x y b i passes
+          ((ends.does.leaves (ran.passes.stays.traced traced) b (ran.holds a holds)).new k i since until stops);
+      ended =
+          λ holds traced i stops.
+          means_at x y (flushed b) i passes (ends.does.ends (ran.passes.stays.traced traced) b (ran.holds a holds) i stops);
+      rows = λ holds. rows_at x m y a events ran ends holds;
+    }
+
+-- the events of a script, and the end of the pool
+pub lasts_of :
+    (x m y : View) (a : FlatArray) (events : List Event)
+    → Ran x m events
+    → Ends m y
+    → Lasts (Holds x a) x.bay.traced y.bay (ground_of x) (moment_of x) a events
+lasts_of x m y a events ran ends =
+    let passes = passes_then x m y ran.passes ends.passes in
+    record {
+      last = moment_of m;
+      timeline = ran_before x m y events a ran ends.passes;
+      final = moment_of y;
+      clock = refl;
+      faults = λ d. refl;
+      ends = ends_at x m y a events ran ends;
+      told =
+          λ holds n inside.
+          subst (λ s. IsTold (book y) (slices_of s y.bay) n) passes.slices
+          ((ends.does.becomes (array_by a events) (ran.holds a holds)).told n
+          (subst (λ l. n < l.arrays) (sym passes.linear) inside));
+    }
+
+-- all lines were answered
+done_outcome :
+    (x m y : View) (a : FlatArray) (text out out' : List ℕ) (refused : Bool)
+    → StopsAtEnd x m text out out' refused
+    → Ends m y
+    → DoneOutcome refused (Holds x a) x.bay.traced y.bay (ground_of x) (moment_of x) a text out out'
+done_outcome x m y a text out out' refused stops ends = record {
+  events = stops.events;
+  script = stops.script;
+  spent = stops.spent;
+  put = stops.answered.put a;
+  lasts = lasts_of x m y a stops.events stops.answered.ran ends;
+}
+
+-- by why the script stopped
+outcome_of :
+    (stop : Stop) (refused : Bool) (x m y : View) (a : FlatArray) (text rest out out' : List ℕ)
+    → Serves stop x m text rest out out' refused
+    → Ends m y
+    → Outcome (status_by stop refused) (Holds x a) x.bay.traced y.bay (ground_of x) (moment_of x) a text rest out out'
+outcome_of AtQuit true x m y a text rest out out' stops ends = done_outcome x m y a text out out' true stops ends
+outcome_of AtQuit false x m y a text rest out out' stops ends = done_outcome x m y a text out out' false stops ends
+outcome_of Input true x m y a text rest out out' stops ends = done_outcome x m y a text out out' true stops.0 ends
+outcome_of Input false x m y a text rest out out' stops ends = done_outcome x m y a text out out' false stops.0 ends
+outcome_of SourceFault refused x m y a text rest out out' stops ends = record {
+  taken = stops.taken;
+  text_is = stops.text_is;
+  events = stops.events;
+  script = stops.script;
+  put = stops.answered.put a;
+  lasts = lasts_of x m y a stops.events stops.answered.ran ends;
+}
+outcome_of AtLimit refused x m y a text rest out out' stops ends = record {
+  longer = stops.longer;
+  events = stops.events;
+  script = stops.script;
+  put = stops.answered.put a;
+  lasts = lasts_of x m y a stops.events stops.answered.ran ends;
+}
+outcome_of SinkFault refused x m y a text rest out out' stops ends = record {
+  before = stops.before;
+  last = stops.last;
+  more = stops.more;
+  script = stops.script;
+  put = stops.put a;
+  lasts = lasts_of x m y a (stops.before ++ stops.last ∷ []) stops.ran ends;
+}
+
+pub outcome_by :
+    (stop : Stop) (refused : Bool) (status : Status) (x m y : View) (a : FlatArray) (text rest out out' : List ℕ)
+    → status ≡ status_by stop refused
+    → Serves stop x m text rest out out' refused
+    → Ends m y
+    → Outcome status (Holds x a) x.bay.traced y.bay (ground_of x) (moment_of x) a text rest out out'
+outcome_by stop refused status x m y a text rest out out' is stops ends =
+    subst (λ s. Outcome s (Holds x a) x.bay.traced y.bay (ground_of x) (moment_of x) a text rest out out') (sym is)
+    (outcome_of stop refused x m y a text rest out out' stops ends)
+
+-- ---- the status
+
+cause_of :
+    (stop : Stop) (refused : Bool) (source source' sink sink' : ℕ)
+    → HasStopCause stop source source' sink sink'
+    → HasStatusCause (status_by stop refused) source source' sink sink'
+cause_of AtQuit true source source' sink sink' cause = tt
+cause_of AtQuit false source source' sink sink' cause = tt
+cause_of Input true source source' sink sink' cause = tt
+cause_of Input false source source' sink sink' cause = tt
+cause_of SourceFault refused source source' sink sink' cause = cause
+cause_of AtLimit refused source source' sink sink' cause = tt
+cause_of SinkFault refused source source' sink sink' cause = cause
+
+pub status_cause :
+    (stop : Stop) (refused : Bool) (status : Status) (source source' sink sink' : ℕ)
+    → status ≡ status_by stop refused
+    → HasStopCause stop source source' sink sink'
+    → HasStatusCause status source source' sink sink'
+status_cause stop refused status source source' sink sink' is cause =
+    subst (λ s. HasStatusCause s source source' sink sink') (sym is) (cause_of stop refused source source' sink sink' cause)
+
+pub status_limit : (stop : Stop) (refused : Bool) (status : Status) → status ≡ status_by stop refused → stop ≡ AtLimit → status ≡ Limit
+status_limit stop refused status is at = is ∙ ap (λ s. status_by s refused) at
+
+limit_of : (stop : Stop) (refused : Bool) → status_by stop refused ≡ Limit → stop ≡ AtLimit
+limit_of AtQuit true is = absurd (let wrong = is in cc)
+limit_of AtQuit false is = absurd (let wrong = is in cc)
+limit_of Input true is = absurd (let wrong = is in cc)
+limit_of Input false is = absurd (let wrong = is in cc)
+limit_of SourceFault refused is = absurd (let wrong = is in cc)
+limit_of AtLimit refused is = refl
+limit_of SinkFault refused is = absurd (let wrong = is in cc)
+
+pub limit_status : (stop : Stop) (refused : Bool) (status : Status) → status ≡ status_by stop refused → status ≡ Limit → stop ≡ AtLimit
+limit_status stop refused status is at = limit_of stop refused (sym is ∙ at)

@@ -1,0 +1,154 @@
+-- Each line adds its event to those answered.
+use Rattle.std.proofs.Common.{◌≡◌, ◌||◌, ◌++◌, ◌^◌, refl, ◌∙◌, ap, arith}
+use Rattle.shr_script.specs.Line.{line_of}
+use Rattle.shr_script.specs.Script.{without_return}
+use Rattle.shr_script.specs.LongLines.{line_of-kept}
+use Rattle.pool.specs.View.{bay_in, view}
+use Rattle.shr_tool.proofs.Meanings.{passes_same, passes_then}
+use Rattle.shr_tool.proofs.History.{history_none}
+use Rattle.shr_tool.proofs.Limits.{passed_none, passed_line, part_within, line_within, most_over}
+use Rattle.shr_tool.proofs.Stopping.{line_answered, line_stopped, last_answered, line_script, last_script, last_length, limit_stopped, no_limit, serves_as, source_stopped}
+use Rattle.shr_tool.proofs.serve.answer_script.Goals as goal
+
+pub lines-init : goal.lines-init
+lines-init g c =
+    let left = g.I.Source.left c.args.input.now in
+    record {
+      runs = g.met.R.Rack.runs_same (bay_in c.args.pool.now);
+      passes = passes_same _ c.requires;
+      source = omega arith;
+      sink = omega arith;
+      source_told = λ told. told;
+      sink_told = λ told. told;
+      within = let none = c.new-reader.ensures.taken in omega arith;
+      passed =
+          λ source.
+          passed_none _ _ _ (ap (λ xs. xs ++ left) c.new-reader.ensures.pending) c.new-reader.ensures.consumed;
+      history =
+          λ source sink.
+          history_none _ _ _ _ _ c.requires (ap (λ xs. xs ++ left) c.new-reader.ensures.pending) c.new-reader.ensures.consumed;
+    }
+
+pub returns-in-Fault-clause-serves : goal.returns-in-Fault-clause-serves
+returns-in-Fault-clause-serves g c =
+    λ source sink.
+    serves_as _ _ _ _ _ _ _ _ _ _ c.stop_at.ensures.cause c.stop_at.ensures.refused
+    (source_stopped _ _ _ _ _ _ _ _ _ _ _ _
+    (c.lines.invariant.history source sink)
+    (c.in-Fault.ensures.read (c.lines.invariant.source_told source))
+    (ap (λ xs. xs ++ g.I.Source.left c.next.new.input) (c.next.ensures.emptied c.in-Fault.is)))
+
+pub returns-in-Limit-clause-serves : goal.returns-in-Limit-clause-serves
+returns-in-Limit-clause-serves g c =
+    λ source sink.
+    serves_as _ _ _ _ _ _ _ _ _ _ c.stop_at-in-Limit.ensures.cause c.stop_at-in-Limit.ensures.refused
+    (limit_stopped _ _ _ _ _ _ _ _ _ _ _
+    (c.lines.invariant.history source sink)
+    (c.in-Limit.ensures.read (c.lines.invariant.source_told source)))
+
+pub returns-in-Input-clause-serves : goal.returns-in-Input-clause-serves
+returns-in-Input-clause-serves g c =
+    λ source sink.
+    let h = c.lines.invariant.history source sink in
+    let r = c.in-Input.ensures.read (c.lines.invariant.source_told source) in
+    let is : line_of (without_return c.line.result.now) ≡ line_of (without_return r.part.bytes) =
+    ap (λ xs. line_of (without_return xs)) (c.line.ensures ∙ r.part.kept) ∙ line_of-kept r.part.bytes in
+    last_answered (view g.R.Rack.seen) _ _ _ _ _ _ _ _ _ _ h.events _ _ h.answered
+    (last_script _ _ _ _ _ _ _ _ _ _ _ h r _ is)
+    h.spent
+    (last_length _ _ _ _ _ _ _ _ _ _ _ h r (let within = c.next.ensures.within (λ same. cc) in omega arith))
+    (c.answer_last.ensures.answers (c.lines.invariant.sink_told sink))
+
+pub lines-preserved : goal.lines-preserved
+lines-preserved g c =
+    let before = c.lines.invariant in
+    record {
+      runs = g.met.R.Rack.runs_then _ _ _ before.runs c.answer_line.ensures.runs;
+      passes = passes_then _ _ _ before.passes c.answer_line.ensures.passes;
+      source = let old = before.source in let now = c.next.ensures.faults in omega arith;
+      sink = let old = before.sink in let now = c.answer_line.ensures.sink in omega arith;
+      source_told = λ told. c.next.ensures.told (before.source_told told);
+      sink_told = λ told. c.answer_line.ensures.told (before.sink_told told);
+      within = c.next.ensures.within (λ same. cc);
+      passed =
+          λ source.
+          let r = c.in-LineFeed.ensures.read (before.source_told source) in
+          let is : line_of (without_return c.line-in-lines.result.now) ≡ line_of (without_return r.part.bytes) =
+          ap (λ xs. line_of (without_return xs)) (c.line-in-lines.ensures ∙ r.part.kept)
+          ∙ line_of-kept r.part.bytes in
+          passed_line _ _ _ _ _ _ (before.passed source) r (λ same. c.in-Ok.ensures.goes_on refl (is ∙ same));
+      history =
+          λ source sink.
+          let h = before.history source sink in
+          let r = c.in-LineFeed.ensures.read (before.source_told source) in
+          let is : line_of (without_return c.line-in-lines.result.now) ≡ line_of (without_return r.part.bytes) =
+          ap (λ xs. line_of (without_return xs)) (c.line-in-lines.ensures ∙ r.part.kept)
+          ∙ line_of-kept r.part.bytes in
+          line_answered (view g.R.Rack.seen) _ _ _ _ _ _ _ _ _ _ _ _ _ _ _ _ h r is
+          (ap (λ b. c.lines.refused || b) c.is_spent-refused.ensures)
+          (c.in-Ok.ensures.answers (before.sink_told sink));
+    }
+
+pub returns-in-Err-clause-serves : goal.returns-in-Err-clause-serves
+returns-in-Err-clause-serves g c =
+    λ source sink.
+    let h = c.lines.invariant.history source sink in
+    let r = c.in-LineFeed.ensures.read (c.lines.invariant.source_told source) in
+    let is : line_of (without_return c.line-in-lines.result.now) ≡ line_of (without_return r.part.bytes) =
+    ap (λ xs. line_of (without_return xs)) (c.line-in-lines.ensures ∙ r.part.kept)
+    ∙ line_of-kept r.part.bytes in
+    serves_as _ _ _ _ _ _ _ _ _ _ c.stop_at-in-Err.ensures.cause c.stop_at-in-Err.ensures.refused
+    (line_stopped (view g.R.Rack.seen) _ _ _ _ _ _ _ _ _ h.events _ _ c.in-Err.cause h.answered
+    (line_script _ _ _ _ _ _ _ _ _ _ _ h r _ is)
+    h.spent
+    (c.in-Err.ensures.answers (c.lines.invariant.sink_told sink)))
+
+pub returns-in-Input-clause-passes : goal.returns-in-Input-clause-passes
+returns-in-Input-clause-passes g c = passes_then _ _ _ c.lines.invariant.passes c.answer_last.ensures.passes
+
+pub returns-in-Err-clause-passes : goal.returns-in-Err-clause-passes
+returns-in-Err-clause-passes g c = passes_then _ _ _ c.lines.invariant.passes c.answer_line.ensures.passes
+
+pub returns-in-Fault-clause-limit : goal.returns-in-Fault-clause-limit
+returns-in-Fault-clause-limit g c =
+    λ source.
+    let reader = c.next.new.self in
+    part_within _ (2 ^ 32) _ _ (g.I.Source.left c.next.new.input) _ reader.piece reader.start reader.end _ _
+    (c.lines.invariant.passed source)
+    (c.in-Fault.ensures.read (c.lines.invariant.source_told source))
+    reader.size reader.in_piece
+    (c.next.ensures.within (λ same. cc))
+    (no_limit _ _ c.stop_at.ensures.cause (λ same. cc))
+
+pub returns-in-Limit-clause-limit : goal.returns-in-Limit-clause-limit
+returns-in-Limit-clause-limit g c =
+    λ source.
+    let reader = c.next.new.self in
+    most_over _ (2 ^ 32) _ _ (g.I.Source.left c.next.new.input) _ reader.piece reader.start reader.end _ _
+    (c.lines.invariant.passed source)
+    (c.in-Limit.ensures.read (c.lines.invariant.source_told source))
+    reader.size reader.in_piece
+    (c.next.ensures.past c.in-Limit.is)
+    c.stop_at-in-Limit.ensures.cause
+
+pub returns-in-Input-clause-limit : goal.returns-in-Input-clause-limit
+returns-in-Input-clause-limit g c =
+    λ source.
+    let reader = c.next.new.self in
+    part_within _ (2 ^ 32) _ _ (g.I.Source.left c.next.new.input) _ reader.piece reader.start reader.end _ _
+    (c.lines.invariant.passed source)
+    (c.in-Input.ensures.read (c.lines.invariant.source_told source)).part
+    reader.size reader.in_piece
+    (c.next.ensures.within (λ same. cc))
+    c.answer_last.ensures.other
+
+pub returns-in-Err-clause-limit : goal.returns-in-Err-clause-limit
+returns-in-Err-clause-limit g c =
+    λ source.
+    let reader = c.next.new.self in
+    line_within _ (2 ^ 32) _ _ (g.I.Source.left c.next.new.input) _ reader.piece reader.start reader.end _ _
+    (c.lines.invariant.passed source)
+    (c.in-LineFeed.ensures.read (c.lines.invariant.source_told source))
+    reader.size reader.in_piece
+    (c.next.ensures.within (λ same. cc))
+    (no_limit _ _ c.stop_at-in-Err.ensures.cause c.in-Err.ensures.other)

@@ -1,0 +1,31 @@
+-- How a script came out, by why it stopped.
+use Rattle.std.proofs.Common.{◌^◌}
+use Rattle.pool.specs.View.{view}
+use Rattle.shr_tool.proofs.Finishing.{limit_status, outcome_by, status_cause, status_limit}
+use Rattle.shr_tool.proofs.Meanings.{passes_then}
+use Rattle.shr_tool.proofs.Limits.{keeps_limit}
+use Rattle.shr_tool.proofs.serve.finish.serve_pool.Goals as goal
+
+pub returns-clause-passes : goal.returns-clause-passes
+returns-clause-passes g c = passes_then _ _ _ c.answer_script-stopped.ensures.passes c.end.ensures.ended.passes
+
+pub returns-clause-runs : goal.returns-clause-runs
+returns-clause-runs g c = g.met.R.Rack.runs_then _ _ _ c.answer_script-stopped.ensures.runs c.end.ensures.runs
+
+pub returns-clause-cause : goal.returns-clause-cause
+returns-clause-cause g c = status_cause _ _ _ _ _ _ _ c.status_of.ensures c.answer_script-stopped.ensures.cause
+
+pub returns-clause-limit : goal.returns-clause-limit
+returns-clause-limit g c =
+    λ source.
+    keeps_limit (2 ^ 32) _ _
+    (status_limit _ _ _ c.status_of.ensures)
+    (limit_status _ _ _ c.status_of.ensures)
+    (c.answer_script-stopped.ensures.limit source)
+
+pub returns-clause-outcome : goal.returns-clause-outcome
+returns-clause-outcome g c =
+    λ source sink a.
+    outcome_by _ _ _ _ _ (view g.R.Rack.seen c.end.new.self) a _ _ _ _ c.status_of.ensures
+    (c.answer_script-stopped.ensures.serves source sink)
+    c.end.ensures.ended
