@@ -59,6 +59,7 @@ fn create_attached<B: Bay, O: Sink>(
         Ok(mut pool) => {
             let sectors = pool.size();
             pool.end();
+            let _bay = pool.into_inner();
             say_created(out, sectors)
         }
         Err(back) => refuse_create(out, back.why),

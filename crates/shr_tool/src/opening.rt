@@ -54,7 +54,11 @@ fn serve_attached<B: Bay, I: Source, O: Sink>(
         (I.left input.old) (I.left input.new) (O.taken out.old) (O.taken out.new) result }
 {
     match Pool::open(alloc, bay, seconds) {
-        Ok(mut pool) => serve_pool(&mut pool, input, out),
+        Ok(mut pool) => {
+            let status = serve_pool(&mut pool, input, out);
+            let _bay = pool.into_inner();
+            status
+        }
         Err(back) => refuse_open(out, back.why),
     }
 }

@@ -1,5 +1,5 @@
 -- The pool holds the bay's reference, and gives the bay back as it left it.
-use Rattle.std.proofs.Common.{◌≡◌, ◌∙◌, sym, subst, inl, inr}
+use Rattle.std.proofs.Common.{◌≡◌, ◌∙◌, ap, sym, subst, inl, inr}
 use Rattle.pool.specs.View.{arrays_of, bay_in, view}
 use Rattle.raid_rack.specs.RaidRack.{arrays_in}
 use Rattle.shr_tool.specs.Made.{MadeOn, NotMade}
@@ -16,8 +16,9 @@ returns-in-Ok-clause-outcome g c =
     let last = c.end.new.self in
     let makes = c.in-Ok.ensures in
     let ends = c.end.ensures in
+    let inner = c.into_inner-bay.ensures in
     let back : c.bay-1.given.0 ≡ (bay_in last).now =
-    c.bay-1.given.1 (sym (ends.runs.0 ∙ makes.runs.0)) in
+    c.bay-1.given.1 (sym (ap (λ b. b.ghost_name) inner ∙ ends.runs.0 ∙ makes.runs.0)) ∙ ap (λ b. b.now) inner in
     λ sink.
     inr
     (subst
@@ -51,5 +52,5 @@ returns-in-Err-clause-outcome g c =
       why = back.why;
       says = c.refuse_create.ensures.says sink;
       kept = refuses.returned.1;
-      cause = fault_through seen (λ r. r.now) c.args.bay back.rack c.args.extent back.why refuses.layout refuses.unchanged refuses.gone refuses.some;
+      cause = fault_through seen (λ r. r.now) _ back.rack c.args.extent back.why refuses.layout refuses.unchanged refuses.gone refuses.some;
     }))

@@ -1,5 +1,5 @@
 -- The pool holds the bay's reference, and gives the bay back as it left it.
-use Rattle.std.proofs.Common.{◌≡◌, ◌∙◌, sym, subst, refl, inl, inr}
+use Rattle.std.proofs.Common.{◌≡◌, ◌∙◌, ap, sym, subst, refl, inl, inr}
 use Rattle.rack.specs.Sequences.{WritesOnly}
 use Rattle.pool.specs.View.{bay_in, view}
 use Rattle.shr_tool.specs.Opened.{NotOpened, OpenedOn}
@@ -18,8 +18,9 @@ returns-in-Ok-clause-outcome g c =
     let last = c.serve_pool.new.pool in
     let opens = c.in-Ok.ensures in
     let serves = c.serve_pool.ensures in
+    let inner = c.into_inner-bay.ensures in
     let back : c.bay-1.given.0 ≡ (bay_in last).now =
-    c.bay-1.given.1 (sym (serves.runs.0 ∙ opens.runs.0)) in
+    c.bay-1.given.1 (sym (ap (λ b. b.ghost_name) inner ∙ serves.runs.0 ∙ opens.runs.0)) ∙ ap (λ b. b.now) inner in
     let so = λ r s (ran : _). ran.1 in
     λ source sink.
     inr
@@ -29,7 +30,7 @@ returns-in-Ok-clause-outcome g c =
     (record {
       opened = (bay_in pool).now;
       kept = (opens.runs.1, serves.runs.1);
-      drives = pool_through seen _ runs (λ r. r.now) so c.args.bay (bay_in pool) opens.drives;
+      drives = pool_through seen _ runs (λ r. r.now) so _ (bay_in pool) opens.drives;
       ground = ground_of (view _ pool);
       from = moment_of (view _ pool);
       clock = refl;
@@ -62,6 +63,6 @@ returns-in-Err-clause-outcome g c =
       says = c.refuse_open.ensures.says sink;
       kept = refuses.returned.1;
       early = refuses.early;
-      written = written_through seen _ runs (λ r. r.now) (λ r s ran. ran.1) c.args.bay back.rack refuses.written;
+      written = written_through seen _ runs (λ r. r.now) (λ r s ran. ran.1) _ back.rack refuses.written;
       exact = refuses.exact;
     }))

@@ -34,5 +34,5 @@ returns-in-Create-clause-create g c =
           (c.create.ensures.outcome out)),
     )
 
-pub returns-in-Create-2-clause-unbuilt : goal.returns-in-Create-2-clause-unbuilt
-returns-in-Create-2-clause-unbuilt g c = λ form is unbuilt out. (c.refuse-in-Create-2.result, c.code-in-Create-2.ensures, inl (c.refuse-in-Create-2.ensures.says out))
+pub returns-in-Import-clause-unbuilt : goal.returns-in-Import-clause-unbuilt
+returns-in-Import-clause-unbuilt g c = λ form is unbuilt out. (c.refuse-in-Import.result, c.code-in-Import.ensures, inl (c.refuse-in-Import.ensures.says out))
