@@ -13,11 +13,15 @@ use Rattle.array_model.specs.declared.Seat.TheVariants.{Whole, Missing, Rebuildi
 use Rattle.array_model.specs.View.{View, HasFault, HasGeometry, has_gone, is_missing_seat, place_at, present, shape_of, spent_in}
 use Rattle.array_core.specs.Seats.{names}
 use Rattle.array_sync.proofs.Adopted.{same_lists}
+use Rattle.raid_rack.specs.declared.arrays.RaidRack.{RaidRack}
+use Rattle.raid_rack.specs.AllRuns.{AreRuns}
 use Rattle.raid_rack.specs.Laws.{live_parts}
 use Rattle.raid_rack.specs.Moves.{AreCaused, IsHeeded, IsSet, KeepsArrays}
 use Rattle.raid_rack.specs.Raid.{Raid, gone_in, is_empty, is_left, is_over, is_used_up, live_of}
-use Rattle.raid_rack.proofs.Over.{not_false, or_from, or_parts}
+use Rattle.raid_rack.specs.RaidRack.{IsFit, arrays_in, raid_in, slices_seen}
+use Rattle.raid_rack.proofs.Over.{not_false, or_from, or_parts, used_still}
 use Rattle.raid_rack.proofs.Ranges.{any_wider}
+use Rattle.raid_rack.proofs.Whole.{heeded_gone}
 
 -- an array's shape goes by its geometry and its seats
 shape_same : (u w : View) → HasGeometry u.truth w.truth → w.seats ≡ u.seats → shape_of w ≡ shape_of u
@@ -92,3 +96,20 @@ module _ (v w : Raid) (a b : Seen) (before : IsSet v a) (after : IsSet w b) (hee
       (or_from (is_empty w) (is_used_up w || (present (w.arrays n).seats == 0)) (ap not some)
       (or_from (is_used_up w) (present (w.arrays n).seats == 0) fresh (ap (λ (s : List Seat). present s == 0) seats ∙ rest.1)))
       (ap₂ (λ (shape : Shape) (resync : ℕ). spent_by shape resync y) (shape_same (v.arrays n) (w.arrays n) same.geometry seats) same.resync ∙ parts.1)
+
+-- ---- calls of a rack in a row
+
+module _ {R : Type 0} (seen : R → Seen) (runs : R → R → Type 0) (x y : RaidRack R) (kept : AreRuns seen runs x y) where
+  pub runs_unused : is_used_up (raid_in y) ≡ false → is_used_up (raid_in x) ≡ false
+  runs_unused fresh =
+      let book = kept.1.book in
+      used_still (raid_in x) (raid_in y) kept.1.number book.epoch book.same.made kept.1.events fresh
+
+  pub runs_live : IsFit (arrays_in x) (slices_seen seen x) → IsFit (arrays_in y) (slices_seen seen y)
+      → ((place : ℕ) → HasFault (slices_seen seen x) (slices_seen seen y) place → ⊥) → is_used_up (raid_in y) ≡ false
+      → (n z : ℕ) → n < (raid_in x).state.made → live_of (raid_in x) n z → live_of (raid_in y) n z
+  runs_live before after quiet fresh =
+      live_still (raid_in x) (raid_in y) (slices_seen seen x) (slices_seen seen y) before.running.set after.running.set after.heeded kept.2.arrays kept.1.caused
+      kept.1.book.same.made
+      (λ n p low gone. absurd (both_ways (gone_in (raid_in x) p) (heeded_gone (raid_in x) before.heeded p) gone))
+      quiet fresh

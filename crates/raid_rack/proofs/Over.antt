@@ -5,7 +5,7 @@ use Rattle.std.specs.List.{list_any, range_with_len}
 use Rattle.array_image.specs.States.{is_current}
 use Rattle.array_model.specs.View.{present}
 use Rattle.raid_rack.specs.Raid.{Raid, gone_in, is_left, is_empty, is_used_up, is_over, last_number}
-use Rattle.raid_rack.proofs.Ranges.{any_some, any_none, any_wider, none_narrower}
+use Rattle.raid_rack.proofs.Ranges.{any_some, any_from, any_none, any_wider, none_narrower}
 
 pub or_parts : (b c : Bool) → (b || c) ≡ false → (b ≡ false) × (c ≡ false)
 or_parts true c is = absurd (both_ways true is refl)
@@ -32,6 +32,10 @@ someone_left v n goes =
     let at = any_some (is_left v) 0 16 (not_false (list_any (is_left v) (range_with_len 0 16)) parts.0) in
     let both = and_parts (is_current v.state at.0) (not (gone_in v at.0)) at.3 in
     (at.0, both.0, not_true (gone_in v at.0) both.1)
+
+-- a pool of which a place is left isn't empty
+pub not_empty : (v : Raid) (p : ℕ) → p < 16 → is_left v p ≡ true → is_empty v ≡ false
+not_empty v p few left = ap not (any_from (is_left v) 0 16 p (omega arith) few left)
 
 -- a member that is left
 pub member_left : (v : Raid) (n : ℕ) → is_over v n ≡ false → 0 < present (v.arrays n).seats
