@@ -1,5 +1,5 @@
 -- The arrays of a pool's drives, with the absent places noted, are those that its slices hold.
-use Rattle.std.proofs.Common.{◌≡◌, ◌≢◌, ℕ, zero, suc, ◌+◌, ◌*◌, ◌%◌, ◌/◌, ◌-◌, ◌<◌, ◌≤◌, Bool, true, false, ◌==◌, ◌&&◌, not, nat_lt, is_none, if◌then◌else◌, List, [], ◌∷◌, map, length, slice_get, Option, Some, None, option_map, unwrap_or, inl, inr, refl, sym, ap, ap₂, subst, ◌∙◌, eq-eqb, lt-ltb, arith}
+use Rattle.std.proofs.Common.{◌≡◌, ◌≢◌, ℕ, zero, suc, ◌+◌, ◌*◌, ◌%◌, ◌/◌, ◌-◌, ◌<◌, ◌≤◌, Bool, true, false, ◌==◌, not, nat_lt, is_none, if◌then◌else◌, List, [], map, length, slice_get, Option, Some, None, option_map, unwrap_or, inl, inr, refl, sym, ap, subst, ◌∙◌, eq-eqb, lt-ltb, arith}
 use Rattle.std.specs.Option.{option_map_or}
 use Rattle.std.proofs.Math.Nat.{mul-le-mul_right}
 use Rattle.std.specs.List.{range_with_len}
@@ -36,7 +36,7 @@ use Rattle.array_core.proofs.Rules.{get_map, get_range, zero_more}
 use Rattle.array_core.proofs.Truths.{truth_facts}
 use Rattle.pool_image.specs.Drives.{Found, slices_of}
 use Rattle.pool_image.proofs.Wholes.{value_sized}
-use Rattle.pool_image.specs.Meaning.{array_sectors, is_member, super_at, truth_of}
+use Rattle.pool_image.specs.Meaning.{array_sectors, is_member, super_at}
 use Rattle.pool_check.specs.declared.Checked.{Checked}
 use Rattle.pool_check.specs.Layers.{AreOpened, IsOpened}
 use Rattle.raid_rack.specs.Moves.{IsSeated}
@@ -52,7 +52,7 @@ use Rattle.assembler.proofs.Truthful.{shape_now, shape_said, sound_now, super_go
 -- ---- seats
 
 -- the seat of a position, as it was found
-seat_found : (n : ℕ) (young : Bool) (found : List FoundSuper) (u : Super) (k : ℕ) → k < u.raid_disks
+pub seat_found : (n : ℕ) (young : Bool) (found : List FoundSuper) (u : Super) (k : ℕ) → k < u.raid_disks
     → slice_get (view_found n young found u).seats k ≡ Some (option_map_or seat_by (super_found found (place_by u k)) Missing)
 seat_found n young found u k low =
     get_map (λ s. s.seat) (slots_found found u) k

@@ -3,15 +3,14 @@ use Rattle.std.proofs.Common.{◌≡◌, ◌⊎◌, ℕ, ◌+◌, ◌-◌, ◌<�
 use Rattle.std.specs.Option.{option_and_then, option_map_or}
 use Rattle.std.proofs.lemmas.Bool.{cases_eq}
 use Rattle.std.proofs.lemmas.Option.{none-some}
-use Rattle.rack.specs.Seen.{Seen, Stays}
+use Rattle.rack.specs.Seen.{Seen}
 use Rattle.rack.specs.Sequences.{OnlyReads, WritesOnly}
 use Rattle.rack.proofs.Writing.{only_quiet, only_then, only_weaker}
 use Rattle.slice_rack.specs.Runs.{IsSliced}
-use Rattle.slice_rack.specs.Slices.{Slices, IsOrderly, disk_of, first_of, place_of, seat_of, sectors_of}
+use Rattle.slice_rack.specs.Slices.{Slices, IsOrderly, first_of, place_of, seat_of, sectors_of}
 use Rattle.pool_state.specs.declared.contents.State.{State}
 use Rattle.array_image.specs.Places.{arrays_first, log_sectors, log_slice, member_slice, slice_of, state_sector}
 use Rattle.array_image.specs.Supers.{is_named}
-use Rattle.array_image.specs.States.{is_current}
 use Rattle.array_model.specs.View.{View}
 use Rattle.pool_image.specs.Disks.{Seats}
 use Rattle.pool_scan.specs.declared.Known.{Known}
@@ -21,7 +20,6 @@ use Rattle.pool_check.specs.declared.Extent.{Extent}
 use Rattle.pool_check.specs.Laying.{laid_at}
 use Rattle.pool_rest.specs.Resting.{IsOfDrive}
 use Rattle.raid_rack.proofs.Noted.{current_few}
-use Rattle.pool_state.specs.Valid.{is_valid}
 use Rattle.pool_scan.proofs.Valid.{valid_places}
 use Rattle.assembler.specs.Members.{AreMembers}
 

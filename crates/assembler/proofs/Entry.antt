@@ -1,20 +1,19 @@
 -- A pool that was brought to rest is the one that the disks held before.
-use Rattle.std.proofs.Common.{◌≡◌, ℕ, ◌<◌, Bool, true, false, List, ◌∷◌, [], Option, Some, None, option_map, inl, inr, refl, sym, ap, ap₂, subst, ◌∙◌}
+use Rattle.std.proofs.Common.{◌≡◌, ◌<◌, false, ◌∷◌, [], Option, Some, None, option_map, sym, ap, ap₂, subst, ◌∙◌}
 use Rattle.std.specs.Option.{option_map_or}
 use Rattle.rack.specs.Seen.{Seen, Stays}
 use Rattle.rack.specs.Joins.{rose_before, rose_since}
 use Rattle.slice_rack.specs.SliceRack.{below_of, tables}
 use Rattle.pool_state.specs.declared.contents.State.{State}
 use Rattle.lvm_text.specs.declared.group.Group.{Group}
-use Rattle.pool_image.specs.Disks.{Disks, disks_of, identities_of}
+use Rattle.pool_image.specs.Disks.{Disks, disks_of}
 use Rattle.pool_image.specs.Drives.{Found, found}
-use Rattle.pool_image.specs.Meaning.{Refusal, Volume, arrays_held, has_other_pool, joined_arrays, meaning, refusal_of, refused_by, volume_by, volumes_of}
+use Rattle.pool_image.specs.Meaning.{Refusal, arrays_held, has_other_pool, joined_arrays, meaning, refusal_of, refused_by, volume_by, volumes_of}
 use Rattle.pool_image.specs.Replay.{standing_by}
 use Rattle.pool_image.specs.Volumes.{linear_of}
 use Rattle.pool_image.specs.Alike.{IsSamePool, MeansTheSame}
 use Rattle.pool_image.proofs.Founds.{truths_same}
 use Rattle.pool_image.proofs.SoundSame.{sound_same}
-use Rattle.pool_scan.specs.Choosing.{AreOf}
 use Rattle.pool_scan.specs.Scanning.{AllTold, IsUnfaulted, now_in}
 use Rattle.pool_scan.proofs.Meant.{scan_meant}
 use Rattle.pool_rest.specs.declared.resting.AtRest.{AtRest}

@@ -6,6 +6,8 @@ mod Entry
 mod Finding
 mod Holding
 mod Later
+mod Lies
+mod Live
 mod Marks
 mod Meaning
 mod Refusals

@@ -1,5 +1,5 @@
 -- Which places are marked missing once a rack of arrays is made.
-use Rattle.std.proofs.Common.{◌≡◌, ℕ, ◌<◌, ◌≤◌, ◌&&◌, ◌||◌, Bool, true, false, not, List, slice_get, Some, inl, inr, refl, sym, ap, subst, ◌∙◌, arith}
+use Rattle.std.proofs.Common.{◌≡◌, ℕ, ◌<◌, ◌&&◌, ◌||◌, Bool, true, not, List, slice_get, Some, inl, inr, sym, ap, subst, ◌∙◌, arith}
 use Rattle.std.proofs.lemmas.Bool.{and_from, and_parts, both_ways, cases_Bool}
 use Rattle.rack.specs.Seen.{Seen}
 use Rattle.slice_rack.specs.Slices.{Slices}
@@ -31,14 +31,14 @@ module _ (s : State) (t : Slices) (y : Seen) (checked : Checked) (absent places 
   few_place p current = current_few s p (valid_places s 0 m.valid).1 current
 
   -- the absent places alone went in the arrays
-  went_is : (n p : ℕ) → n < v.state.made → p < 16 → has_gone (v.arrays n) p ≡ names absent p
+  pub went_is : (n p : ℕ) → n < v.state.made → p < 16 → has_gone (v.arrays n) p ≡ names absent p
   went_is n p low few =
       let at = got checked.arrays.items n (let count = m.founded.count in omega (arith, low, made, count)) in
       ap (λ (u : View). has_gone u p) (are n at.0 at.1) ∙ names_joined at.0.went places p few
       ∙ ap (λ (ps : List ℕ). names ps p || names places p) (ap (λ (u : View). u.went) (m.founded.each n at.0 at.1).view)
       ∙ same p
 
-  gone_is : (p : ℕ) → p < 16 → gone_in v p ≡ names absent p
+  pub gone_is : (p : ℕ) → p < 16 → gone_in v p ≡ names absent p
   gone_is p few = elim (cases_Bool (gone_in v p)) [
     | inl is ↦ let at = gone_some v p is in is ∙ sym (sym (went_is at.1.0 p at.1.1 few) ∙ at.1.2)
     | inr none ↦

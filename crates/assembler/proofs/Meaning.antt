@@ -1,5 +1,5 @@
 -- What the check of a pool at rest refuses is what the meaning of its disks refuses.
-use Rattle.std.proofs.Common.{◌≡◌, ◌⊎◌, ℕ, ◌+◌, ◌<◌, ◌≤◌, Bool, true, false, ◌==◌, ◌&&◌, ◌||◌, not, bytes_eq, nat_le, nat_lt, is_none, if◌then◌else◌, find, List, [], ◌∷◌, Option, Some, None, option_map, inl, inr, refl, sym, ap, ap₂, subst, ◌∙◌, eqb-true, lt-ltb, le-ltb, le-leb, ltb-true, arith}
+use Rattle.std.proofs.Common.{◌≡◌, ◌⊎◌, ℕ, ◌+◌, ◌<◌, ◌≤◌, Bool, true, false, ◌==◌, ◌&&◌, ◌||◌, not, bytes_eq, nat_lt, is_none, if◌then◌else◌, find, List, [], ◌∷◌, Option, Some, None, option_map, inl, inr, refl, sym, ap, ap₂, subst, ◌∙◌, eqb-true, lt-ltb, le-ltb, le-leb, ltb-true, arith}
 use Rattle.std.specs.List.{list_all}
 use Rattle.std.specs.Option.{option_map_or, option_or}
 use Rattle.std.proofs.lemmas.Bool.{and_parts, both_ways, cases_Bool, cases_lt}
@@ -14,7 +14,7 @@ use Rattle.array_image.specs.Record.{gate_of, gate_sector, is_bad_gate, is_bad_l
 use Rattle.array_image.specs.States.{current_places, is_current}
 use Rattle.commit_log.specs.View.{LogView, names}
 use Rattle.pool_image.specs.Alike.{drive_gate}
-use Rattle.pool_image.specs.Disks.{id_at, disks_of, identities_of, seat_of as pool_seat}
+use Rattle.pool_image.specs.Disks.{id_at, disks_of, identities_of}
 use Rattle.pool_image.specs.Drives.{Found, end_of, extent_of, found, slices_of}
 use Rattle.pool_image.specs.Meaning as meaning
 use Rattle.pool_image.specs.Meaning.{arrays_of, is_member, has_entry, has_log, has_other_pool, has_slice_of, has_table, is_table, joined_arrays, refusal_of, refused_at, refused_by}
@@ -30,7 +30,6 @@ use Rattle.pool_check.specs.declared.Checked.{Checked}
 use Rattle.pool_check.specs.Checking.{IsChecked}
 use Rattle.pool_check.specs.Drives.{AreCopied, AreDrivesOf, found_with}
 use Rattle.pool_check.specs.Refusing.{is_well, refused_with}
-use Rattle.pool_check.proofs.Meant.{drives_now}
 use Rattle.pool_check.proofs.Wells.{well_passes, well_refuses}
 use Rattle.raid_rack.proofs.Added.{names_current}
 use Rattle.raid_rack.proofs.Noted.{current_few}
@@ -38,7 +37,7 @@ use Rattle.assembler.specs.declared.refusal.Refusal.{Refusal}
 use Rattle.assembler.specs.declared.refusal.Refusal.TheVariants.{NoPool, TwoPools, Absent, Damaged, TooFew, DirtyDegraded, BadVolume, Memory}
 use Rattle.assembler.specs.Holding.{IsFoundOn, drives_of}
 use Rattle.assembler.specs.Refusing.{FailsCheck, meant_by, seats_left}
-use Rattle.assembler.proofs.Finding.{found_copied, found_drives, g, same, seats}
+use Rattle.assembler.proofs.Finding.{found_copied, found_drives, g, same}
 
 find_false : (P : ℕ → Bool) (xs : List ℕ) (p : ℕ) → find P xs ≡ None → names xs p ≡ true → P p ≡ false
 find_false P [] p none named = absurd (both_ways false refl named)

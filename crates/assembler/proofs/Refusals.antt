@@ -1,11 +1,17 @@
 -- Refusals by their causes.
-use Rattle.std.proofs.Common.{◌≡◌, ◌⊎◌, ℕ, ◌<◌, ◌≤◌, ◌&&◌, Bool, true, false, nat_lt, not, if◌then◌else◌, List, Option, Some, None, option_map, inl, inr, refl, sym, ap, subst, ◌∙◌, lt-ltb, le-ltb}
+use Rattle.std.proofs.Common.{◌≡◌, ◌≢◌, ℕ, ◌<◌, ◌≤◌, ◌&&◌, Bool, true, false, not, if◌then◌else◌, List, Option, Some, None, option_map, inl, inr, refl, sym, ap, subst, ◌∙◌, lt-ltb, le-ltb}
 use Rattle.std.specs.Option.{option_or}
 use Rattle.std.proofs.lemmas.Bool.{cases_lt}
 use Rattle.rack.specs.Seen.{Seen}
 use Rattle.pool_state.specs.declared.contents.State.{State}
 use Rattle.commit_log.specs.View.{names}
+use Rattle.pool_image.specs.Disks.{disks_of}
 use Rattle.pool_image.specs.Meaning as meaning
+use Rattle.pool_image.specs.Meaning.{refusal_of}
+use Rattle.pool_scan.specs.Scanning.{now_in}
+use Rattle.pool_rest.specs.Standing.{IsMeant}
+use Rattle.pool_rest.specs.declared.standing.FindFault.{FindFault}
+use Rattle.pool_rest.specs.declared.standing.FindFault.TheVariants as finding
 use Rattle.pool_scan.specs.declared.Known.{Known}
 use Rattle.pool_scan.specs.Choosing.{seat_by}
 use Rattle.pool_check.specs.declared.CheckFault.{CheckFault}
@@ -13,8 +19,9 @@ use Rattle.pool_check.specs.declared.CheckFault.TheVariants.{Absent, Damaged, To
 use Rattle.pool_check.specs.declared.Part.TheVariants.{Log}
 use Rattle.pool_check.specs.Drives.{AreCopied, AreDrivesOf, Drives, Loses, found_with, seats_by}
 use Rattle.pool_check.specs.Refusing.{is_well, refusal_by, refused_with}
+use Rattle.assembler.specs.declared.refusal.Refusal.{Refusal}
 use Rattle.assembler.specs.declared.refusal.Refusal.TheVariants as refusal
-use Rattle.assembler.specs.Refusing.{FailsCheck, by_check, meant_by, seats_left}
+use Rattle.assembler.specs.Refusing.{FailsCheck, by_check, by_finding, meant_by, seats_left}
 
 -- a check's fault says the meaning's refusal
 meant_check : (fault : CheckFault) → Some (refusal_by fault) ≡ meant_by (by_check fault)
@@ -22,6 +29,13 @@ meant_check (Absent count) = refl
 meant_check (Damaged place part) = refl
 meant_check (TooFew array) = refl
 meant_check (DirtyDegraded array) = refl
+
+-- and so does that of a search for the pool
+pub meant_finding : (x : Seen) (fault : FindFault) (why : Refusal) → why ≡ by_finding fault → why ≢ refusal.Memory → IsMeant x fault
+    → refusal_of (disks_of x) (now_in x) ≡ meant_by why
+meant_finding x finding.NoPool why is some meant = meant ∙ sym (ap meant_by is)
+meant_finding x finding.TwoPools why is some meant = meant ∙ sym (ap meant_by is)
+meant_finding x finding.Memory why is some meant = absurd (some is)
 
 -- ---- the check of the drives, of which some places had gone before
 

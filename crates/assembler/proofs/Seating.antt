@@ -1,9 +1,9 @@
 -- The arrays of a pool's drives are a set of arrays over their slices, with the absent places noted.
-use Rattle.std.proofs.Common.{◌≡◌, ◌≢◌, ℕ, zero, suc, [], ◌∷◌, ◌+◌, ◌<◌, ◌≤◌, Bool, true, false, ◌&&◌, ◌||◌, not, nat_lt, is_none, is_some, if◌then◌else◌, List, length, map, slice_get, Option, Some, None, option_map, unwrap_or, refl, sym, ap, ap₂, subst, ◌∙◌, lt-ltb, arith}
+use Rattle.std.proofs.Common.{◌≡◌, ◌≢◌, ℕ, zero, suc, [], ◌∷◌, ◌+◌, ◌<◌, ◌≤◌, Bool, true, false, ◌&&◌, ◌||◌, not, nat_lt, is_none, is_some, if◌then◌else◌, List, length, map, slice_get, Option, Some, None, option_map, unwrap_or, refl, sym, ap, ap₂, subst, ◌∙◌, arith}
 use Rattle.std.specs.Option.{option_and_then, option_map_or}
-use Rattle.std.proofs.lemmas.Bool.{and_parts, both_ways, cases_lt}
+use Rattle.std.proofs.lemmas.Bool.{and_parts, both_ways}
 use Rattle.std.proofs.lemmas.List.{length-map}
-use Rattle.std.proofs.lemmas.Option.{none-some, slice_get_within}
+use Rattle.std.proofs.lemmas.Option.{slice_get_within}
 use Rattle.rack.specs.Seen.{Seen}
 use Rattle.slice_rack.specs.Slices.{Slices, seat_of, sectors_of}
 use Rattle.slice_rack.specs.Sliced.{slices_of}
@@ -23,7 +23,7 @@ use Rattle.pool_check.specs.declared.Extent.{Extent}
 use Rattle.pool_check.specs.declared.Checked.{Checked}
 use Rattle.pool_check.specs.Founded.{IsFounded}
 use Rattle.pool_check.specs.Laying.{laid_at}
-use Rattle.raid_rack.specs.Raid.{Raid, gone_in, is_left}
+use Rattle.raid_rack.specs.Raid.{Raid, gone_in}
 use Rattle.raid_rack.specs.Moves.{IsSeated, IsSet}
 use Rattle.raid_rack.proofs.Founding.{founded_marks, founded_named, founded_place, founded_seated}
 use Rattle.raid_rack.proofs.Noted.{current_few, gone_from}

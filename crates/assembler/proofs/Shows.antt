@@ -109,10 +109,10 @@ module _ (f : Found) (t : Slices) (x : Seen) (checked : Checked) (absent : List 
   seats_same : seat_of t ≡ f.seats
   seats_same = λ i p. sym (pool.seats p) i
 
-  slots : AreSlots x.sectors f.seats checked.arrays.items checked.extents.items
+  pub slots : AreSlots x.sectors f.seats checked.arrays.items checked.extents.items
   slots = subst (λ (g : Seats). AreSlots x.sectors g checked.arrays.items checked.extents.items) seats_same m.slots
 
-  members : HasMembers f.seats checked.arrays.items checked.extents.items t
+  pub members : HasMembers f.seats checked.arrays.items checked.extents.items t
   members = subst (λ (g : Seats). HasMembers g checked.arrays.items checked.extents.items t) seats_same m.members
 
   -- a member's slice reads as the pool's

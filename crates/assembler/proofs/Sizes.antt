@@ -1,9 +1,9 @@
 -- The arrays of a pool have fewer than 2^52 sectors together, since their slices lie one behind the other on a drive.
-use Rattle.std.proofs.Common.{◌≡◌, ℕ, zero, suc, ◌+◌, ◌*◌, ◌-◌, ◌<◌, ◌≤◌, ◌^◌, Bool, true, false, List, [], ◌∷◌, if◌then◌else◌, length, slice_get, Option, Some, None, refl, sym, ap, subst, ◌∙◌, arith}
+use Rattle.std.proofs.Common.{◌≡◌, ℕ, zero, suc, ◌+◌, ◌*◌, ◌-◌, ◌<◌, ◌≤◌, ◌^◌, Bool, true, false, List, [], ◌∷◌, if◌then◌else◌, length, slice_get, Option, Some, refl, sym, ap, subst, arith}
 use Rattle.std.specs.Option.{option_map_or}
 use Rattle.std.proofs.Math.Nat.{mul-le-mul_right}
 use Rattle.md_super.specs.Profile.{is_mirror}
-use Rattle.array_image.specs.Places.{arrays_first, data_sector}
+use Rattle.array_image.specs.Places.{arrays_first}
 use Rattle.array_image.specs.Stripes.{Layout, mirror, parity, capacity, width}
 use Rattle.array_image.specs.Supers.{is_named, is_reshaping}
 use Rattle.array_image.specs.Arrays.{first_layout}

@@ -1,5 +1,5 @@
 -- The slices of a pool at rest, without the places that have lost their disk: what the members' slices are laid on.
-use Rattle.std.proofs.Common.{◌≡◌, ◌≢◌, ◌⊎◌, ℕ, ◌+◌, ◌<◌, ◌≤◌, Bool, true, false, ◌==◌, ◌&&◌, nat_le, nat_lt, is_none, if◌then◌else◌, List, [], filter, Option, Some, None, refl, sym, ap, subst, ◌∙◌, inl, inr, lt-ltb, le-ltb, le-leb, eqb-true, arith}
+use Rattle.std.proofs.Common.{◌≡◌, ◌≢◌, ◌⊎◌, ℕ, ◌+◌, ◌<◌, ◌≤◌, Bool, true, false, ◌==◌, ◌&&◌, nat_le, nat_lt, is_none, if◌then◌else◌, List, filter, Option, Some, None, refl, sym, ap, subst, ◌∙◌, inl, inr, lt-ltb, le-ltb, le-leb, eqb-true, arith}
 use Rattle.std.specs.Option.{option_map_or}
 use Rattle.std.proofs.lemmas.Bool.{cases_lt, ne_eqb}
 use Rattle.std.proofs.lemmas.Map.Views.{any-filter_same}

@@ -1,34 +1,43 @@
 -- The volume that is opened on arrays which hold what a pool's drives mean is the volume of the meaning.
-use Rattle.std.proofs.Common.{◌≡◌, ℕ, ◌+◌, ◌*◌, ◌<◌, ◌≤◌, Bool, true, false, ◌==◌, ◌&&◌, ◌||◌, not, nat_le, nat_lt, bytes_eq, if◌then◌else◌, List, [], map, Option, Some, None, refl, sym, ap, ap₂, inl, inr, subst, ◌∙◌, lt-ltb, ltb-true, arith}
+use Rattle.std.proofs.Common.{◌≡◌, ◌⊎◌, ℕ, ◌+◌, ◌*◌, ◌<◌, ◌≤◌, Bool, true, false, ◌==◌, ◌&&◌, ◌||◌, not, nat_le, nat_lt, bytes_eq, if◌then◌else◌, List, [], map, Option, Some, None, refl, sym, ap, ap₂, inl, inr, subst, ◌∙◌, ltb-true, arith}
 use Rattle.std.specs.Option.{option_map_or}
 use Rattle.std.specs.List.{list_all}
 use Rattle.rack.specs.Values.{MayLeave}
-use Rattle.rack.specs.Seen.{Image, IsLive, Seen}
+use Rattle.rack.specs.Seen.{Image, IsLive, Rose, Seen}
 use Rattle.rack.specs.Sequences.{WritesOnly}
+use Rattle.slice_rack.specs.SliceRack.{below_of, tables}
+use Rattle.slice_rack.specs.Slices.{disk_of}
 use Rattle.lvm_text.specs.declared.group.Pv.{Pv}
 use Rattle.lvm_text.specs.declared.group.Group.{Group}
 use Rattle.lvm_group.specs.Brought.{IsBefore}
-use Rattle.lvm_group.specs.Group.{first_bad, has_own_label, names_array, group_in, has_own_head, is_bad, is_bad_by, is_only_lv, is_own_group, is_pv, is_pv_of, highest, differ, parts_in}
+use Rattle.lvm_group.specs.Group.{first_bad, has_own_label, names_array, group_in, has_own_head, is_bad, is_bad_by, is_only_lv, is_own_group, is_pv, is_pv_of, highest, differ}
 use Rattle.lvm_group.specs.Ids.{array_named, pv_id, text_id}
-use Rattle.lvm_group.specs.Opening.{AreNow, AreServed, IsBadVolume, Opens, within_sectors}
+use Rattle.lvm_group.specs.declared.volume.VolumeFault.{VolumeFault}
+use Rattle.lvm_group.specs.declared.volume.VolumeFault.TheVariants as fault
+use Rattle.lvm_group.specs.Opening.{AreNow, AreServed, IsBadVolume, IsUnopened, Opens, within_sectors}
 use Rattle.lvm_group.specs.Parts.{has_bad_text, part_of}
 use Rattle.lvm_group.specs.Laws.{array_below, sector_below, shows}
 use Rattle.lvm_group.specs.Runs.{IsOrderly, Linear, array_of, data_start, sector_of, sectors_in}
 use Rattle.lvm_group.specs.Shown.{IsInside, contents_of, volume_of}
 use Rattle.pool_image.specs.Drives.{Found}
-use Rattle.pool_image.specs.Meaning.{Volume, array_sectors, arrays_held, joined_arrays, volume_by}
+use Rattle.pool_image.specs.Meaning.{array_sectors, arrays_held, joined_arrays, volume_by}
 use Rattle.pool_image.specs.Volumes.{linear_of}
 use Rattle.pool_image.specs.Volumes as meant
+use Rattle.pool_scan.specs.Scanning.{IsUnfaulted}
 use Rattle.pool_image.proofs.Groups.{AreWholeArrays, bad_alike, find_below, group_alike, map_below}
 use Rattle.pool_image.proofs.Parts.{held_in as shown_in}
 use Rattle.shr_base.specs.declared.Id.{Id}
 use Rattle.raid_rack.specs.declared.arrays.RaidRack.{RaidRack}
 use Rattle.raid_rack.specs.AllRuns.{AreRuns}
 use Rattle.raid_rack.specs.Book.{IsSameBook}
-use Rattle.raid_rack.specs.Raid.{held_in}
-use Rattle.raid_rack.specs.RaidRack.{raid_in, raid_seen, refused_in, slices_seen}
+use Rattle.raid_rack.specs.Raid.{held_in, is_used_up}
+use Rattle.raid_rack.proofs.Live.{runs_live, runs_unused}
+use Rattle.raid_rack.specs.RaidRack.{IsFit, arrays_in, raid_in, raid_seen, refused_in, slices_in, slices_seen}
+use Rattle.assembler.specs.declared.refusal.Refusal.{Refusal}
+use Rattle.assembler.specs.declared.refusal.Refusal.TheVariants.{BadVolume, Memory}
 use Rattle.assembler.specs.Holding.{HoldsArrays}
-use Rattle.assembler.specs.Volume.{AllLive, HoldsVolume, IsVolumeOf, OpensVolume}
+use Rattle.assembler.specs.Refusing.{by_volume}
+use Rattle.assembler.specs.Volume.{AllLive, HasBadVolume, HoldsVolume, IsVolumeOf, OpensVolume}
 
 -- ---- what is said of the joined arrays goes by these alone
 
@@ -184,3 +193,37 @@ module _ {R : Type 0} (seen : R → Seen) (runs : R → R → Type 0) (f : Found
       (subst (λ k. IsBadVolume f.state.pool.0 f.state.extent k p q n) book.joined
       (subst (λ k. IsBadVolume f.state.pool.0 k (raid_in x).state.joined p q n) book.extent
       (subst (λ (k : Id). IsBadVolume k.0 (raid_in x).state.extent (raid_in x).state.joined p q n) book.pool bad)))
+
+-- ---- sectors that are spent
+
+-- where no disk refused a call and numbers aren't used up, no sector is spent
+pub live_later : {R : Type 0} (seen : R → Seen) (runs : R → R → Type 0) (x y : RaidRack R) → AreRuns seen runs x y
+    → IsFit (arrays_in x) (slices_seen seen x) → IsFit (arrays_in y) (slices_seen seen y) → IsUnfaulted (seen (below_of (slices_in x))) (seen (below_of (slices_in y)))
+    → (raid_in x).state.joined ≤ (raid_in x).state.made → is_used_up (raid_in y) ≡ false → (is_used_up (raid_in x) ≡ false → AllLive (raid_in x)) → AllLive (raid_in y)
+live_later seen runs x y kept before after quiet ready unused alive n s joined inside =
+    let joined_is = kept.1.book.same.joined in
+    let low : n < (raid_in x).state.joined = omega (arith, joined, joined_is) in
+    runs_live seen runs x y kept before after
+    (λ place fault. quiet (disk_of (tables (slices_in x)) fault.0)
+    (subst (λ t. Rose ((seen (below_of (slices_in x))).faults (disk_of (tables (slices_in x)) fault.0)) ((seen (below_of (slices_in y))).faults (disk_of t fault.0))) kept.0.tables fault.2))
+    unused n s (omega (arith, low, ready))
+    (alive (runs_unused seen runs x y kept unused) n s low (subst (λ k. s < k) (kept.2.sectors n) inside))
+
+-- ---- why none was opened
+
+-- a bad array is named only where numbers aren't used up
+pub unopened_cause : {R : Type 0} (seen : R → Seen) (x y : RaidRack R) (why : Refusal) (f : VolumeFault) → IsFit (arrays_in y) (slices_seen seen y)
+    → why ≡ (if is_used_up (raid_in y) then Memory else by_volume f)
+    → IsUnopened (raid_in x).state.pool.0 (raid_in x).state.extent (raid_in x).state.joined (raid_seen seen x) (raid_seen seen y) f
+    → (why ≡ Memory) ⊎ ((array : ℕ) × (why ≡ BadVolume array) × HasBadVolume seen x y array)
+unopened_cause seen x y why f fit is unopened = by (is_used_up (raid_in y)) refl
+  where
+    of : is_used_up (raid_in y) ≡ false → (k : VolumeFault) → why ≡ by_volume k
+        → IsUnopened (raid_in x).state.pool.0 (raid_in x).state.extent (raid_in x).state.joined (raid_seen seen x) (raid_seen seen y) k
+        → (why ≡ Memory) ⊎ ((array : ℕ) × (why ≡ BadVolume array) × HasBadVolume seen x y array)
+    of unused fault.Memory said cause = inl said
+    of unused (fault.BadVolume array) said cause = inr (array, said, record { bad = cause; fit = fit; unused = unused })
+
+    by : (b : Bool) → is_used_up (raid_in y) ≡ b → (why ≡ Memory) ⊎ ((array : ℕ) × (why ≡ BadVolume array) × HasBadVolume seen x y array)
+    by true used = inl (is ∙ ap (λ b. if b then Memory else by_volume f) used)
+    by false unused = of unused f (is ∙ ap (λ b. if b then Memory else by_volume f) unused) unopened

@@ -1,6 +1,5 @@
 -- An array that was opened has a member that is whole, on a place with a disk.
-use Rattle.std.proofs.Common.{◌≡◌, ℕ, zero, suc, ◌+◌, ◌<◌, ◌≤◌, Bool, true, false, ◌&&◌, not, nat_lt, if◌then◌else◌, List, [], ◌∷◌, length, map, slice_get, Option, Some, None, Result, Ok, Err, option_map, unwrap_or, is_some, inl, inr, lt-ltb, refl, sym, ap, subst, ◌∙◌, arith}
-use Rattle.std.specs.Prelude.{count_by}
+use Rattle.std.proofs.Common.{◌≡◌, ℕ, suc, ◌+◌, ◌<◌, ◌≤◌, Bool, true, false, ◌&&◌, not, nat_lt, if◌then◌else◌, List, [], ◌∷◌, length, slice_get, Option, Some, None, Ok, Err, option_map, unwrap_or, is_some, inl, inr, lt-ltb, refl, sym, ap, subst, ◌∙◌, arith}
 use Rattle.std.specs.Option.{option_map_or}
 use Rattle.std.specs.List.{range_with_len}
 use Rattle.std.proofs.lemmas.Bool.{both_ways, cases_lt}
@@ -15,7 +14,6 @@ use Rattle.array_image.specs.Supers.{is_named, is_unclean, super_in}
 use Rattle.array_model.specs.declared.Seat.TheVariants.{Missing}
 use Rattle.array_model.specs.View.{View, IsArray, is_whole_seat}
 use Rattle.array_core.specs.declared.slots.Slot.{Slot}
-use Rattle.array_core.specs.declared.ArrayFault.{ArrayFault}
 use Rattle.array_core.specs.declared.ArrayFault.TheVariants.{Foreign, TooFew, DirtyDegraded}
 use Rattle.array_core.specs.declared.Found.{Found as FoundSuper}
 use Rattle.array_core.specs.Opening.{lacking, opened, opened_by, seat_by, share_set, slot_by, slots_found, super_at, truth_of, view_found}
@@ -64,7 +62,7 @@ seat_there : (o : Option ℕ) → is_some o ≡ true → (d : ℕ) × (o ≡ Som
 seat_there None is = absurd (both_ways false refl is)
 seat_there (Some d) is = (d, refl)
 
-few_lacking : (number : ℕ) (young : Bool) (found : List FoundSuper) (t : Super) (v : View) → truth_of found ≡ Some t → opened number young found ≡ Ok v
+pub few_lacking : (number : ℕ) (young : Bool) (found : List FoundSuper) (t : Super) (v : View) → truth_of found ≡ Some t → opened number young found ≡ Ok v
     → lacking (slots_found found t) ≤ 1
 few_lacking number young found t v is made = elim (cases_lt 1 (lacking (slots_found found t))) [
   | inr few ↦ few
@@ -81,9 +79,10 @@ few_lacking number young found t v is made = elim (cases_lt 1 (lacking (slots_fo
         bad true is = absurd (let no : Err TooFew ≡ Ok v = is in cc)
         bad false is = absurd (let no : Err Foreign ≡ Ok v = is in cc)
 
-pub whole_member : (s : State) (seats : Seats) (n : ℕ) (v : View) → IsFounded s seats n v → IsArray v
-    → (place d : ℕ) × (is_named v.truth place ≡ true) × (seats place ≡ Some d)
-whole_member s seats n v f is_array =
+-- the position of a whole member
+pub whole_position : (s : State) (seats : Seats) (n : ℕ) (v : View) (f : IsFounded s seats n v) → IsArray v
+    → (k : ℕ) × (k < f.truth.raid_disks) × (is_whole_seat (option_map_or seat_by (super_at f.found (place_by f.truth k)) Missing) ≡ true)
+whole_position s seats n v f is_array =
     let t = f.truth in
     let truth : v.truth ≡ t = ap (λ (w : View). w.truth) f.view in
     let least : 2 ≤ t.raid_disks = subst (λ (u : Super). 2 ≤ u.raid_disks) truth is_array.least in
@@ -100,8 +99,17 @@ whole_member s seats n v f is_array =
     (get_map (place_by t) (range_with_len 0 t.raid_disks) k ∙ ap (option_map (place_by t)) (get_range 0 t.raid_disks k low)
     ∙ ap (λ (j : ℕ). Some (place_by t j)) (zero_more k)) in
     let slot : one.1 ≡ slot_by p (super_at f.found p) = ap (λ o. unwrap_or o one.1) (sym one.2 ∙ at) in
-    let own = whole_found (super_at f.found p) (sym (ap (λ (x : Slot). is_whole_seat x.seat) slot) ∙ one.3) in
-    let named = position_named t k f.usable low in
+    (k, low, sym (ap (λ (x : Slot). is_whole_seat x.seat) slot) ∙ one.3)
+
+pub whole_member : (s : State) (seats : Seats) (n : ℕ) (v : View) → IsFounded s seats n v → IsArray v
+    → (place d : ℕ) × (is_named v.truth place ≡ true) × (seats place ≡ Some d)
+whole_member s seats n v f is_array =
+    let t = f.truth in
+    let truth : v.truth ≡ t = ap (λ (w : View). w.truth) f.view in
+    let one = whole_position s seats n v f is_array in
+    let p = place_by t one.0 in
+    let own = whole_found (super_at f.found p) one.2 in
+    let named = position_named t one.0 f.usable one.1 in
     let here = current_found (is_current s p) (super_in s f.image n p) own.0 (sym (f.named p named) ∙ own.1) in
     let seat = seat_there (seats p) (sym (f.there p named here.0) ∙ here.1) in
     (p, seat.0, ap (λ (u : Super). is_named u p) truth ∙ named, seat.1)

@@ -8,8 +8,6 @@ use Rattle.pool_image.specs.Disks.{Seats}
 use Rattle.pool_image.specs.Meaning as meaning
 use Rattle.pool_scan.specs.declared.Known.{Known}
 use Rattle.pool_scan.specs.Choosing.{seat_by}
-use Rattle.pool_check.specs.declared.Part.{Part}
-use Rattle.pool_check.specs.declared.Part.TheVariants.{Log}
 use Rattle.pool_check.specs.Drives.{AreCopied, AreDrivesOf, Drives, Loses, found_with}
 use Rattle.pool_check.specs.Refusing.{is_well, part_by, refused_with}
 use Rattle.lvm_group.specs.declared.volume.VolumeFault.{VolumeFault}

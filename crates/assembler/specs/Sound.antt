@@ -1,16 +1,25 @@
 -- Disks from which a pool is opened, and what an opening answers by what they mean.
-use Rattle.std.specs.Prelude.{◌≡◌, ◌⊎◌, ◌∷◌, [], Some}
+use Rattle.std.specs.Prelude.{◌≡◌, ◌&&◌, ◌<◌, ℕ, suc, nat_lt, true, false, ◌∷◌, [], None, Some}
 use Rattle.rack.specs.Seen.{Seen}
+use Rattle.slice_rack.specs.Slices.{Slices, first_of, place_of, seat_of, sectors_of}
+use Rattle.slice_rack.specs.SliceRack.{tables}
+use Rattle.array_image.specs.Places.{log_slice, member_slice}
+use Rattle.lvm_group.specs.Runs.{Linear}
+use Rattle.lvm_group.specs.Shown.{volume_of}
 use Rattle.pool_image.specs.Disks.{disks_of}
-use Rattle.pool_image.specs.Drives.{Found, found}
-use Rattle.pool_image.specs.Meaning.{Volume, meaning, refusal_of}
+use Rattle.pool_image.specs.Drives.{Found, extent_of, found}
+use Rattle.pool_image.specs.Meaning.{Volume, is_member, meaning, refusal_of}
+use Rattle.pool_image.specs.Replay.{Extent}
 use Rattle.pool_scan.specs.Scanning.{now_in}
 use Rattle.pool_rest.specs.SoundLogs.{HasSoundLogs}
+use Rattle.raid_rack.specs.declared.arrays.RaidRack.{RaidRack}
+use Rattle.raid_rack.specs.Book.{IsAfter}
+use Rattle.raid_rack.specs.Raid.{IsTold}
+use Rattle.raid_rack.specs.RaidRack.{raid_in, raid_seen, slices_in, slices_seen}
 use Rattle.assembler.specs.declared.refusal.Refusal.{Refusal}
-use Rattle.assembler.specs.declared.refusal.Refusal.TheVariants.{TwoPools}
 use Rattle.assembler.specs.Holding.{AreSteady, IsSoundPool}
 use Rattle.assembler.specs.Refusing.{meant_by}
-use Rattle.assembler.specs.Volume.{HoldsVolume}
+use Rattle.assembler.specs.Volume.{AllLive, HoldsVolume, IsVolumeOf}
 
 -- Disks that hold a sound pool: they are told, each sector of them has one value, and by these the pool's logs, states and
 -- superblocks agree. A drive may be absent, and parts of it damaged.
@@ -20,14 +29,32 @@ pub record HoldSound (x : Seen) (f : Found) : Type 0 where
   pub sound : IsSoundPool f
   pub logs : HasSoundLogs (disks_of x) (now_in x)
 
--- A rack's one disk is the volume that disks meant.
-pub record IsMeantBy (x y : Seen) : Type 0 where
+-- where a table lays a slice
+abbrev pub extent_in : Slices → ℕ → Extent
+extent_in t k = record { first = first_of t k; sectors = sectors_of t k }
+
+-- Tables of slices are those of a pool's drives: each place has its disk, and on that its log slice and the slices of the arrays that
+-- name the place, where the pool has them. No other slice is there.
+pub record AreSlicesOf (f : Found) (t : Slices) : Type 0 where
+  pub seats : (p : ℕ) → seat_of t p ≡ f.seats p
+  pub logs : (p d : ℕ) → f.seats p ≡ Some d → extent_of f 0 ≡ Some (extent_in t (log_slice p))
+  pub members :
+      (n p d : ℕ) → n < f.state.made → f.seats p ≡ Some d → is_member f n p ≡ true → extent_of f (suc n) ≡ Some (extent_in t (member_slice p n))
+  pub others : (n p : ℕ) → n < 16 → (nat_lt n f.state.made && is_member f n p) ≡ false → sectors_of t (member_slice p n) ≡ 0
+  pub unseated : (k : ℕ) → f.seats (place_of k) ≡ None → sectors_of t k ≡ 0
+
+-- A volume that was opened means what the disks x do: it is the volume of the group of their pool, over the slices of its drives. Marks
+-- alone have come to the pool's state; each array that is ready for the volume is told, and no sector of these is spent.
+pub record IsMeantBy {R : Type 0} (seen : R → Seen) (x : Seen) (f : Found) (rack : RaidRack R) (l : Linear) : Type 0 where
   pub volume : Volume
   pub meant : meaning (disks_of x) (now_in x) ≡ Some (volume ∷ [])
-  pub holds : HoldsVolume y volume
+  pub holds : HoldsVolume (volume_of l (raid_seen seen rack)) volume
+  pub lies : IsVolumeOf f l
+  pub slices : AreSlicesOf f (tables (slices_in rack))
+  pub after : IsAfter f.state (raid_in rack).state
+  pub told : (n : ℕ) → n < f.state.joined → IsTold (raid_in rack) (slices_seen seen rack) n
+  pub live : AllLive (raid_in rack)
 
--- Why disks are refused: their meaning is refused so before the pending record is written, or two pools are there once it is.
-abbrev pub IsMeantRefusal : Seen → Seen → Refusal → Type 0
-IsMeantRefusal x y why =
-    (refusal_of (disks_of x) (now_in x) ≡ meant_by why)
-    ⊎ ((why ≡ TwoPools) × (refusal_of (disks_of y) (now_in y) ≡ meant_by why))
+-- the meaning of these disks is refused so
+abbrev pub IsMeantRefusal : Seen → Refusal → Type 0
+IsMeantRefusal x why = refusal_of (disks_of x) (now_in x) ≡ meant_by why

@@ -1,39 +1,45 @@
 -- The volume that is opened on the arrays of a pool.
-use Rattle.std.specs.Prelude.{◌≡◌, ℕ, ◌<◌, false, List, None, Some}
+use Rattle.std.specs.Prelude.{◌≡◌, ◌⊎◌, ◌&&◌, ℕ, ◌<◌, false, not, List, None, Some}
 use Rattle.rack.specs.Values.{MayLeave}
 use Rattle.rack.specs.Seen.{Seen}
-use Rattle.rack.specs.Sequences.{OnlyReads}
+use Rattle.pool_state.specs.declared.contents.State.{State}
+use Rattle.array_image.specs.States.{is_current}
+use Rattle.commit_log.specs.View.{names}
 use Rattle.lvm_text.specs.declared.group.Group.{Group}
-use Rattle.lvm_group.specs.declared.volume.VolumeFault.{VolumeFault}
 use Rattle.lvm_group.specs.Brought.{BringsUp}
-use Rattle.lvm_group.specs.Opening.{IsUnopened, Opens}
+use Rattle.lvm_group.specs.Opening.{IsBadVolume, Opens}
 use Rattle.lvm_group.specs.Runs.{Linear}
 use Rattle.pool_image.specs.Drives.{Found}
 use Rattle.pool_image.specs.Meaning.{Volume, group_of, joined_arrays}
 use Rattle.pool_image.specs.Volumes.{first_bad, linear_of}
 use Rattle.raid_rack.specs.declared.arrays.RaidRack.{RaidRack}
 use Rattle.array_model.specs.View.{sectors_of}
-use Rattle.raid_rack.specs.Raid.{Raid, live_of}
+use Rattle.raid_rack.specs.Raid.{Raid, is_used_up, live_of}
 use Rattle.raid_rack.specs.AllRuns.{AreRuns}
-use Rattle.raid_rack.specs.RaidRack.{raid_in, raid_seen, slices_in}
+use Rattle.raid_rack.specs.RaidRack.{IsFit, arrays_in, raid_in, raid_seen, slices_in, slices_seen}
 use Rattle.slice_rack.specs.SliceRack.{below_of}
-use Rattle.assembler.specs.Refusing.{by_volume}
 use Rattle.assembler.specs.declared.refusal.Refusal.{Refusal}
+use Rattle.assembler.specs.declared.refusal.Refusal.TheVariants.{BadVolume, Memory}
 
 -- A volume was opened on these arrays, by what was read of them, and their texts were brought up to it.
 pub record OpensVolume {R : Type 0} (seen : R → Seen) (runs : R → R → Type 0) (x y : RaidRack R) (l : Linear) (seqno : ℕ) : Type 0 where
   pub opens : Opens (raid_in x).state.pool.0 (raid_in x).state.extent (raid_in x).state.joined (raid_seen seen x) (raid_seen seen y) l seqno
   pub brings : BringsUp (raid_in x).state.pool.0 (raid_in x).state.joined l seqno opens.runs.group (raid_seen seen x) (raid_seen seen y)
   pub kept : AreRuns seen runs x y
+  pub unused : is_used_up (raid_in y) ≡ false
 
--- None was, by what was read of them: the arrays were `last` then, over the rack that is given back.
+-- An array is bad, by what was read of the arrays, which were y then, and numbers aren't used up.
+pub record HasBadVolume {R : Type 0} (seen : R → Seen) (x y : RaidRack R) (array : ℕ) : Type 0 where
+  pub bad : IsBadVolume (raid_in x).state.pool.0 (raid_in x).state.extent (raid_in x).state.joined (raid_seen seen x) (raid_seen seen y) array
+  pub fit : IsFit (arrays_in y) (slices_seen seen y)
+  pub unused : is_used_up (raid_in y) ≡ false
+
+-- No volume was opened: no memory could be had, or numbers are used up, or an array is bad. The arrays were `last` then, over the rack that is
+-- given back.
 pub record RefusesVolume {R : Type 0} (seen : R → Seen) (runs : R → R → Type 0) (x : RaidRack R) (rack : R) (why : Refusal) : Type 0 where
   pub last : RaidRack R
   pub back : below_of (slices_in last) ≡ rack
-  pub fault : VolumeFault
-  pub is : why ≡ by_volume fault
-  pub cause : IsUnopened (raid_in x).state.pool.0 (raid_in x).state.extent (raid_in x).state.joined (raid_seen seen x) (raid_seen seen last) fault
-  pub only : OnlyReads (raid_seen seen x) (raid_seen seen last)
+  pub cause : (why ≡ Memory) ⊎ ((array : ℕ) × (why ≡ BadVolume array) × HasBadVolume seen x last array)
   pub kept : AreRuns seen runs x last
 
 -- The volume of the meaning: that of the pool's group, which has no bad array.
@@ -51,3 +57,9 @@ pub record HoldsVolume (x : Seen) (v : Volume) : Type 0 where
 -- no sector of the arrays that are ready for the volume is spent
 abbrev pub AllLive : Raid → Type 0
 AllLive v = (n y : ℕ) → n < v.state.joined → y < sectors_of (v.arrays n) → live_of v n y
+
+-- A rack of arrays after an opening in which no disk refused a call: those current places alone are marked missing that were absent, and
+-- no sector is spent unless numbers are used up.
+pub record MarksAbsent (s : State) (absent : List ℕ) (v : Raid) : Type 0 where
+  pub marks : (p : ℕ) → is_current v.state p ≡ (is_current s p && not (names absent p))
+  pub live : is_used_up v ≡ false → AllLive v

@@ -10,8 +10,8 @@
 //! **The contract of [`assemble`]**. Whatever the disks tell the volume is fit, so each of its calls may be made, and where it is refused
 //! before the drives have passed their checks nothing is written but the pending record, on drives of the pool (`WritesDrives` of
 //! pool_rest). Where the disks hold a sound pool (`HoldSound` of specs/Sound.antt) and none refuses a call, the volume is the one that
-//! they mean (`IsMeantBy`), and drives are refused only as their meaning is (`IsMeantRefusal`). In all, only drives are written (`WritesPool`
-//! of specs/Writing.antt).
+//! they mean, over the slices of their pool's drives (`IsMeantBy`), and they are refused only as their meaning is (`IsMeantRefusal`), or for
+//! want of memory. In all, only drives are written (`WritesPool` of specs/Writing.antt).
 //!
 //! Inside the crate the arrays are those of the superblocks that were read, over the slices of the drives (`AreMembers` of
 //! specs/Members.antt), and they hold what the pool's contents give (`HoldsArrays` of specs/Holding.antt).

@@ -1,14 +1,16 @@
 //! From the disks of a rack to a volume.
 
-ghost use Rattle.std.specs.Prelude.{◌≡◌, ◌⊎◌, ◌&&◌, is_some, ◌<◌, ◌≤◌, ◌^◌, ℕ, true, false, IfOk, IfErr};
+ghost use Rattle.std.specs.Prelude.{◌≡◌, ◌≢◌, ◌⊎◌, if◌then◌else◌, ◌&&◌, is_some, ◌<◌, ◌≤◌, ◌^◌, ℕ, true, false, IfOk, IfErr};
 ghost use Rattle.rack.specs.Sequences.{OnlyReads};
 ghost use Rattle.pool_rest.specs.Resting.{WritesDrives};
-ghost use Rattle.assembler.specs.Refusing.{is_early};
+ghost use Rattle.assembler.specs.Refusing.{by_volume, is_early};
+ghost use Rattle.assembler.specs.declared.refusal.Refusal.TheVariants.{Memory};
+ghost use Rattle.raid_rack.specs.Raid.{is_used_up};
 ghost use Rattle.slice_rack.specs.SliceRack.{below_of};
 ghost use Rattle.lvm_group.specs.Shown.{total, volume_of};
 ghost use Rattle.lvm_group.specs.Volume.{below_of as rack_in, linear, seqno_of};
 ghost use Rattle.assembler.specs.Sound.{HoldSound, IsMeantBy, IsMeantRefusal};
-ghost use Rattle.assembler.specs.Volume.{AllLive, OpensVolume, RefusesVolume};
+ghost use Rattle.assembler.specs.Volume.{OpensVolume, RefusesVolume};
 ghost use Rattle.array_image.specs.States.{is_current};
 ghost use Rattle.assembler.specs.Writing.{WritesPool};
 ghost use Rattle.pool_image.specs.Drives.{Found};
@@ -19,11 +21,43 @@ ghost use Rattle.array_model.specs.View.{sectors_of};
 use crate::checks::check;
 use crate::raid::make_rack;
 use crate::refusal::{Refusal, by_finding, by_volume};
-use lvm_group::Volume;
+use lvm_group::{Volume, VolumeFault};
 use pool_rest::bring_to_rest;
 use rack::{Back, Rack};
 use raid_rack::RaidRack;
 use std::alloc::Global;
+
+/// Keeps a volume unless its pool's numbers are used up: then each of its sectors would be refused.
+fn keep_volume<R: Rack>(
+    volume: Volume<RaidRack<R>>,
+) -> Result<Volume<RaidRack<R>>, Back<RaidRack<R>, Refusal>>
+    requires fit { IsFit (arrays_in (rack_in volume)) (slices_seen R.seen (rack_in volume)) }
+    ensures kept { IfOk result (λ v. v ≡ volume) }
+    ensures unused { IfOk result (λ v. is_used_up (raid_in (rack_in volume)) ≡ false) }
+    ensures back { IfErr result (λ back. back.rack ≡ rack_in volume) }
+    ensures refused { IfErr result (λ back. (back.why ≡ Memory) × (is_used_up (raid_in (rack_in volume)) ≡ true)) }
+{
+    if volume.below().is_used_up() {
+        return Err(Back {
+            rack: volume.into_inner(),
+            why: Refusal::Memory,
+        });
+    }
+    Ok(volume)
+}
+
+/// Why no volume was opened on these arrays: a bad one counts only where all their sectors could be read.
+fn unopened<R: Rack>(raid: &RaidRack<R>, fault: VolumeFault) -> Refusal
+    requires fit { IsFit (arrays_in raid.now) (slices_seen R.seen raid.now) }
+    ensures why { result ≡ (if is_used_up (raid_in raid.now) then Memory else by_volume fault) }
+    ensures late { is_early result ≡ false }
+{
+    if raid.is_used_up() {
+        Refusal::Memory
+    } else {
+        by_volume(fault)
+    }
+}
 
 /// Opens the volume on the arrays of a pool. A refusal gives the disks back.
 fn open_volume<R: Rack>(
@@ -44,16 +78,33 @@ fn open_volume<R: Rack>(
     let state = raid.state();
     let (pool, extent, joined) = (state.pool, state.extent, state.joined);
     match Volume::open(alloc, raid, &pool, extent, joined) {
-        Ok(volume) => Ok(volume),
-        Err(back) => Err(Back {
-            rack: back.rack.into_inner().into_inner(),
-            why: by_volume(back.why),
-        }),
+        Ok(volume) => match keep_volume(volume) {
+            Ok(volume) => Ok(volume),
+            Err(back) => Err(give_back(back.rack, back.why)),
+        },
+        Err(back) => {
+            let why = unopened(&back.rack, back.why);
+            Err(give_back(back.rack, why))
+        }
+    }
+}
+
+/// The disks below a rack of arrays.
+fn give_back<R: Rack>(raid: RaidRack<R>, why: Refusal) -> Back<R, Refusal>
+    ensures rack { result.rack ≡ below_of (slices_in raid) }
+    ensures why { result.why ≡ why }
+{
+    Back {
+        rack: raid.into_inner().into_inner(),
+        why,
     }
 }
 
 /// Opens the pool on the disks of a rack, in whatever order they are, and makes its volume; or answers the first refusal that
 /// applies. Disks have fewer than 2^48 sectors. `seconds` since 1970 are the times in superblocks of arrays that are made in this run.
+///
+/// [`Refusal::Memory`] is answered where no memory could be had, and where epochs, events or numbers of commits are used up. The latter never comes on
+/// a pool of which fewer than 2^62 changes were made.
 ///
 /// Of the pool's disks only drives are written: the pending record before the checks, and after these gates that are open, the marks
 /// of an absent drive, superblocks with them, and the volume's texts where an array lacks the newest one.
@@ -72,15 +123,15 @@ pub fn assemble<R: Rack>(
     // In all, only drives are written: sectors of their log slices and of the arrays' part.
     ensures drives { IfOk result (λ volume. WritesPool R.seen R.runs rack (below_of (slices_in (rack_in volume)))) }
     ensures written { IfErr result (λ back. OnlyReads (R.seen rack) (R.seen back.rack) ⊎ (WritesDrives (R.seen rack) (R.seen back.rack) ⊎ WritesPool R.seen R.runs rack back.rack)) }
-    // Where the disks hold a sound pool and none refuses a call, the volume is the one that they mean, as long as no sector of the arrays
-    // is spent, and no refusal of the disks but their meaning's is answered.
+    // Where the disks hold a sound pool and none refuses a call, the volume is the one that they mean, and no sector of the arrays is spent;
+    // and no refusal but the meaning's is answered, want of memory apart.
     ensures meant { IfOk result (λ volume. (f : Found) → HoldSound (R.seen rack) f → IsUnfaulted (R.seen rack) (R.seen (below_of (slices_in (rack_in volume))))
-        → AllLive (raid_in (rack_in volume)) → IsMeantBy (R.seen rack) (volume_of (linear volume) (raid_seen R.seen (rack_in volume)))) }
+        → IsMeantBy R.seen (R.seen rack) f (rack_in volume) (linear volume)) }
     // Then those drives alone are marked missing that the pool had marked, or that have no disk.
     ensures marks { IfOk result (λ volume. (f : Found) → HoldSound (R.seen rack) f → IsUnfaulted (R.seen rack) (R.seen (below_of (slices_in (rack_in volume))))
         → (p : ℕ) → is_current (raid_in (rack_in volume)).state p ≡ (is_current f.state p && is_some (f.seats p))) }
     ensures exact { IfErr result (λ back. (f : Found) → HoldSound (R.seen rack) f → IsUnfaulted (R.seen rack) (R.seen back.rack)
-        → is_early back.why ≡ true → IsMeantRefusal (R.seen rack) (R.seen back.rack) back.why) }
+        → back.why ≢ Memory → IsMeantRefusal (R.seen rack) back.why) }
     ensures returned { IfErr result (λ back. R.runs rack back.rack) }
 {
     let rest = match bring_to_rest(alloc, rack) {

@@ -1,10 +1,10 @@
 //! The rack of a pool's arrays, made of the slices of its drives.
 
-ghost use Rattle.std.specs.Prelude.{◌≡◌, ◌<◌, ◌^◌, ◌&&◌, not, ℕ, [], slice_get, true, Some, None};
+ghost use Rattle.std.specs.Prelude.{◌≡◌, ◌<◌, ◌^◌, ℕ, [], slice_get, true, Some, None};
 ghost use Rattle.slice_rack.specs.SliceRack.{tables, below_of};
 ghost use Rattle.slice_rack.specs.Sliced.{slices_of};
 ghost use Rattle.slice_rack.specs.Slices.{sectors_of as slice_sectors};
-ghost use Rattle.array_image.specs.States.{current_places, is_current};
+ghost use Rattle.array_image.specs.States.{current_places};
 ghost use Rattle.commit_log.specs.View.{names};
 ghost use Rattle.commit_log.specs.Phases.{AreLogs};
 ghost use Rattle.array_model.specs.View.{View, IsArray, sectors_of};
@@ -17,6 +17,7 @@ ghost use Rattle.pool_check.specs.Checking.{IsChecked};
 ghost use Rattle.pool_check.specs.Refusing.{is_well};
 ghost use Rattle.assembler.specs.Holding.{HoldPool, HoldsArrays};
 ghost use Rattle.assembler.specs.Members.{AreMembers};
+ghost use Rattle.assembler.specs.Volume.{MarksAbsent};
 
 use crate::checks::Members;
 use array_core::Array;
@@ -70,9 +71,9 @@ pub(crate) fn make_rack<R: Rack>(members: Members<R>, seconds: u64) -> RaidRack<
     ensures joined { (raid_in result).state.joined ≡ members.state.joined }
     ensures extent { (raid_in result).state.extent ≡ members.state.extent }
     ensures small { total (λ n. sectors_of ((raid_in result).arrays n)) members.state.made < 2 ^ 52 }
-    // Where no disk refuses a call, the absent places are marked missing, and no others.
+    // Where no disk refuses a call, the absent places are marked missing, and no others, and no sector is spent unless numbers are used up.
     ensures marks { IsUnfaulted (R.seen (below_of members.slices)) (R.seen (below_of (slices_in result)))
-        → (p : ℕ) → is_current (raid_in result).state p ≡ (is_current members.state p && not (names members.absent.items p)) }
+        → MarksAbsent members.state members.absent.items (raid_in result) }
     // Where the disks are told and hold a sound pool at rest, in which the check found no fault, the arrays hold what the pool's contents
     // give. Where no place is absent gates are closed first, and then no disk is to refuse a call.
     ensures holds { (f : Found) → HoldPool members.state (tables members.slices) (R.seen (below_of members.slices)) members.log f

@@ -41,7 +41,7 @@ pub enum Refusal {
         /// The array.
         array: u32,
     },
-    /// No memory could be had.
+    /// No memory could be had, or epochs, events or numbers of commits are used up, which end at 2^63.
     Memory,
 }
 

@@ -34,9 +34,13 @@ module _ (f : Found) (sectors : ℕ → ℕ) (arrays : List View) (extents : Lis
     (members : HasMembers f.seats arrays extents t)
     (seats : (p : ℕ) → seat_of t p ≡ f.seats p)
     (sizes : (p d : ℕ) → f.seats p ≡ Some d → f.disks.sectors d ≡ sectors d) where
-  -- the slice of a member that has a disk is laid where the drives have it
-  pub member_placed : (n p d : ℕ) → n < f.state.made → n < 16 → p < 16 → f.seats p ≡ Some d → is_member f n p ≡ true → IsPlaced f t (member_slice p n)
-  member_placed n p d made low_n low_p seat member =
+  -- A member that has a disk has its slice: it is laid where the drives have it, and ends on the disk.
+  record HasSlice (n p d : ℕ) : Type 0 where
+    lies : extent_of f (suc n) ≡ Some (record { first = first_of t (member_slice p n); sectors = sectors_of t (member_slice p n) })
+    room : first_of t (member_slice p n) + sectors_of t (member_slice p n) ≤ f.disks.sectors d
+
+  has_slice : (n p d : ℕ) → n < f.state.made → n < 16 → p < 16 → f.seats p ≡ Some d → is_member f n p ≡ true → HasSlice n p d
+  has_slice n p d made low_n low_p seat member =
       let v = got arrays n (let count = opened.count in omega (arith, made, count)) in
       let e = got extents n (let count = opened.lengths in omega (arith, made, count)) in
       let named = opened_member f n p v.0 (opened.each n v.0 v.1) ∙ member in
@@ -46,16 +50,24 @@ module _ (f : Found) (sectors : ℕ → ℕ) (arrays : List View) (extents : Lis
       let long : sectors_of t (member_slice p n) ≡ e.0.sectors =
       members.sectors n p low_n low_p ∙ ap (λ (o : Option Extent). option_map_or (λ x. x.sectors) o 0) laid in
       let first : first_of t (member_slice p n) ≡ e.0.first = members.firsts n p e.0 low_n low_p laid in
-      let place : place_of (member_slice p n) ≡ p = omega (arith, low_n) in
-      let disk : disk_of t (member_slice p n) ≡ d = ap (λ o. unwrap_or o 0) (ap (seat_of t) place ∙ seats p ∙ seat) in
       let fits = slots.fits n v.0 e.0 p d v.1 e.1 named seat in
       let size = sizes p d seat in
-      let room : first_of t (member_slice p n) + sectors_of t (member_slice p n) ≤ f.disks.sectors (disk_of t (member_slice p n)) =
-      subst (λ m. first_of t (member_slice p n) + sectors_of t (member_slice p n) ≤ f.disks.sectors m) (sym disk) (omega (arith, first, long, fits, size)) in
-      let lies : extent_of f (slice_of (member_slice p n)) ≡ Some (record { first = first_of t (member_slice p n); sectors = sectors_of t (member_slice p n) }) =
-      ap (extent_of f) (slice_of_member p n low_n) ∙ opened.lies n e.0 e.1
-      ∙ ap₂ (λ a b. Some (record { first = a; sectors = b })) (sym first) (sym long) in
-      seated (ap f.seats place ∙ seat ∙ ap Some (sym disk)) lies room
+      record {
+        lies = opened.lies n e.0 e.1 ∙ ap₂ (λ a b. Some (record { first = a; sectors = b })) (sym first) (sym long);
+        room = omega (arith, first, long, fits, size);
+      }
+
+  pub member_lies : (n p d : ℕ) → n < f.state.made → n < 16 → p < 16 → f.seats p ≡ Some d → is_member f n p ≡ true
+      → extent_of f (suc n) ≡ Some (record { first = first_of t (member_slice p n); sectors = sectors_of t (member_slice p n) })
+  member_lies n p d made low_n low_p seat member = (has_slice n p d made low_n low_p seat member).lies
+
+  pub member_placed : (n p d : ℕ) → n < f.state.made → n < 16 → p < 16 → f.seats p ≡ Some d → is_member f n p ≡ true → IsPlaced f t (member_slice p n)
+  member_placed n p d made low_n low_p seat member =
+      let has = has_slice n p d made low_n low_p seat member in
+      let place : place_of (member_slice p n) ≡ p = omega (arith, low_n) in
+      let disk : disk_of t (member_slice p n) ≡ d = ap (λ o. unwrap_or o 0) (ap (seat_of t) place ∙ seats p ∙ seat) in
+      seated (ap f.seats place ∙ seat ∙ ap Some (sym disk)) (ap (extent_of f) (slice_of_member p n low_n) ∙ has.lies)
+      (subst (λ m. first_of t (member_slice p n) + sectors_of t (member_slice p n) ≤ f.disks.sectors m) (sym disk) has.room)
 
   -- so it shows what the drives' slices hold
   pub member_shows : (n p d u : ℕ) → n < f.state.made → n < 16 → p < 16 → f.seats p ≡ Some d → is_member f n p ≡ true

@@ -86,7 +86,7 @@ module _ (f g : Found) (same : IsSamePool f g) where
       of_first None has = refl
       of_first (Some first) has = ap (option_map end_of) (extent_same f g same n first (first_behind f n first has))
 
-  lies_same : (n : ℕ) → extent_of g n ≡ extent_of f n
+  pub lies_same : (n : ℕ) → extent_of g n ≡ extent_of f n
   unfolding extent_of
   lies_same zero = refl
   lies_same (suc n) = ap (option_and_then (extent_from g n)) (first_same n) ∙ of_first (first_of f n) refl
@@ -149,7 +149,7 @@ module _ (f g : Found) (same : IsSamePool f g) where
   held_same : arrays_held g ≡ arrays_held f
   held_same = λ i n x. value_same n x i
 
-  joined_same : joined_arrays g ≡ joined_arrays f
+  pub joined_same : joined_arrays g ≡ joined_arrays f
   joined_same =
       ap (λ s. record { pool = s.pool.0; extent = s.extent; joined = s.joined; sectors = array_sectors g; contents = arrays_held g }) same.state
       ∙ ap₂ (λ (sectors : ℕ → ℕ) (held : Image). record { pool = f.state.pool.0; extent = f.state.extent; joined = f.state.joined; sectors = sectors; contents = held })

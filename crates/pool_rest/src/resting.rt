@@ -474,9 +474,9 @@ pub fn bring_to_rest<R: Rack>(alloc: Global, rack: R) -> Result<AtRest<R>, Back<
     // Where no disk refused a call, the meaning of images has this refusal, or two pools are there only once the record is written.
     ensures exact { IfErr result (λ back. AllTold (R.seen rack) → IsLasting (R.seen rack) → IsUnfaulted (R.seen rack) (R.seen back.rack)
         → IsMeant (R.seen rack) back.why ⊎ ((back.why ≡ FindFault.TwoPools) × IsMeant (R.seen back.rack) back.why)) }
-    // And where the logs were sound too, no pool is refused once anything is written.
+    // And where the logs were sound too, no pool is refused once anything is written, and the meaning of images has the refusal.
     ensures found { IfErr result (λ back. AllTold (R.seen rack) → IsLasting (R.seen rack) → IsUnfaulted (R.seen rack) (R.seen back.rack)
-        → HasSoundLogs (disks_of (R.seen rack)) (now_in (R.seen rack)) → OnlyReads (R.seen rack) (R.seen back.rack)) }
+        → HasSoundLogs (disks_of (R.seen rack)) (now_in (R.seen rack)) → OnlyReads (R.seen rack) (R.seen back.rack) × IsMeant (R.seen rack) back.why) }
     // Want of memory is found before any call to the rack.
     ensures memory { IfErr result (λ back. back.why ≡ FindFault.Memory → back.rack ≡ rack) }
     ensures returned { IfErr result (λ back. R.runs rack back.rack) }

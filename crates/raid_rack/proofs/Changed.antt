@@ -15,7 +15,7 @@ use Rattle.array_model.specs.Members.{slice_on}
 use Rattle.raid_rack.specs.Raid.{Raid, gone_in, is_left, IsWritten, Stood}
 use Rattle.raid_rack.specs.Marking.{Part}
 use Rattle.raid_rack.specs.Moves.{IsAmid, IsSet, IsSeated, IsMarkedWhole, AreMarked, KeepsArrays, LosesOnly, PartOf}
-use Rattle.raid_rack.proofs.Losing.{only_same}
+use Rattle.raid_rack.specs.Losing.{only_same}
 use Rattle.raid_rack.proofs.Over.{IsFurther, not_true}
 use Rattle.raid_rack.proofs.Noted.{with_arrays, live_later, current_few, gone_some, gone_from}
 

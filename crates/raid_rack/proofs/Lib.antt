@@ -23,6 +23,7 @@ pub mod Calls
 pub mod Noted
 pub mod Seated
 pub mod Over
+pub mod Live
 pub mod Moving
 mod Each
 mod Missing

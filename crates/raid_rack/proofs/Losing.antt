@@ -1,44 +1,14 @@
 -- Arrays of which nothing has changed but whom they lost, their events and their marks.
-use Rattle.std.proofs.Common.{◌≡◌, ◌⊎◌, ℕ, Bool, true, false, if◌then◌else◌, List, slice_get, Option, Some, None, option_map, refl, sym, subst, ◌∙◌, inl, inr}
+use Rattle.std.proofs.Common.{◌≡◌, ◌⊎◌, ℕ, Bool, true, false, if◌then◌else◌, List, slice_get, Option, Some, None, option_map, refl, sym, subst, inl, inr}
 use Rattle.rack.specs.Seen.{Seen}
-use Rattle.md_super.specs.declared.superblock.Super.{Super}
 use Rattle.array_model.specs.declared.Seat.{Seat}
 use Rattle.array_model.specs.declared.Seat.TheVariants.{Missing}
 use Rattle.array_model.specs.View.{View, HasGeometry, IsArray, place_at}
 use Rattle.array_model.specs.Members.{Notes}
-use Rattle.array_model.proofs.Views.{same_array, same_geometry}
+use Rattle.array_model.proofs.Views.{same_geometry}
 use Rattle.array_core.specs.Seats.{names, gone, heeded}
 use Rattle.raid_rack.specs.Moves.{LosesOnly}
 use Rattle.raid_rack.proofs.Seated.{gone_lost}
-
-pub only_same : (u w : View) → w ≡ u → LosesOnly u w
-only_same u w same = subst (LosesOnly u) (sym same) (record { same = same_array u; seats = λ k. inl refl })
-
-geometry_then : (t u v : Super) → HasGeometry t u → HasGeometry u v → HasGeometry t v
-geometry_then t u v one two = record {
-  set = two.set ∙ one.set;
-  level = two.level ∙ one.level;
-  size = two.size ∙ one.size;
-  disks = two.disks ∙ one.disks;
-  roles = two.roles ∙ one.roles;
-  features = two.features ∙ one.features;
-  position = two.position ∙ one.position;
-}
-
-pub only_then : (u v w : View) → LosesOnly u v → LosesOnly v w → LosesOnly u w
-only_then u v w one two = record {
-  same = record {
-    number = two.same.number ∙ one.same.number;
-    geometry = geometry_then u.truth v.truth w.truth one.same.geometry two.same.geometry;
-    devices = two.same.devices ∙ one.same.devices;
-    resync = two.same.resync ∙ one.same.resync;
-    young = two.same.young ∙ one.same.young;
-  };
-  seats = λ k. elim (two.seats k) [
-    | inl same ↦ elim (one.seats k) [ inl before ↦ inl (same ∙ before) | inr lost ↦ inr (same ∙ lost) ]
-    | inr lost ↦ inr lost
-  ];
-}
 
 -- a seat after losses
 pub lost_seat : (lost : Bool) (o p : Option Seat) → p ≡ option_map (λ seat. if lost then Missing else seat) o → (p ≡ o) ⊎ (p ≡ Some Missing)

@@ -16,8 +16,8 @@ use Rattle.array_model.specs.ArrayCalls.{Covers}
 use Rattle.raid_rack.specs.Marking.{SaysBetween}
 use Rattle.raid_rack.proofs.Rows.{clear_same, rows_still}
 use Rattle.raid_rack.specs.Rows.{rows_then}
-use Rattle.raid_rack.proofs.Losing.{only_same, only_then}
-use Rattle.raid_rack.specs.Moves.{IsSet, IsAmid, KeepsArrays, KeepsMarked, PartOf, AreCaused, Brings, Moves}
+use Rattle.raid_rack.specs.Losing.{arrays_then, only_same}
+use Rattle.raid_rack.specs.Moves.{IsSet, IsAmid, KeepsMarked, PartOf, AreCaused, Brings, Moves}
 
 -- ---- one array
 
@@ -81,9 +81,6 @@ unwritten_then : (v w : Raid) (a b c : Seen) → IsAfter v.state w.state → Sta
 unwritten_then v w a b c book first second one two d t live gone =
     keeps_then (a.held d t) (b.held d t) (c.held d t) (one d t (live_first second live) gone)
     (two d t (live_second first live) (marked_later v.state w.state (place_of d) book gone))
-
-pub arrays_then : (v w z : Raid) → w.state.made ≡ v.state.made → KeepsArrays v w → KeepsArrays w z → KeepsArrays v z
-arrays_then v w z made one two n low = only_then (v.arrays n) (w.arrays n) (z.arrays n) (one n low) (two n (subst (λ k. n < k) (sym made) low))
 
 pub moves_same : (v : Raid) (x : Seen) → IsSet v x → Moves v v x x
 moves_same v x set =

@@ -29,7 +29,7 @@ use Rattle.raid_rack.specs.Works.{StepsOne, stepped}
 use Rattle.raid_rack.proofs.Calls.{raised_low, unsynced_by}
 use Rattle.raid_rack.proofs.Changed.{caused, left_before}
 use Rattle.raid_rack.proofs.Committed.{next_later}
-use Rattle.raid_rack.proofs.Losing.{only_then}
+use Rattle.raid_rack.specs.Losing.{only_then}
 use Rattle.raid_rack.proofs.Moving.{brings_then, caused_then}
 use Rattle.raid_rack.proofs.Raises.{raised_up}
 use Rattle.raid_rack.proofs.Rows.{left_old}

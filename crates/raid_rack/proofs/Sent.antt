@@ -21,7 +21,8 @@ use Rattle.raid_rack.specs.RaidRack.{IsRunning, raid_by, no_array}
 use Rattle.raid_rack.proofs.Calls.{raised_low, unsynced_by}
 use Rattle.raid_rack.proofs.Changed.{caused, keeps_arrays, left_before}
 use Rattle.raid_rack.proofs.Committed.{next_later}
-use Rattle.raid_rack.proofs.Moving.{arrays_then, brings_then, caused_then}
+use Rattle.raid_rack.specs.Losing.{arrays_then}
+use Rattle.raid_rack.proofs.Moving.{brings_then, caused_then}
 use Rattle.raid_rack.proofs.Steps.{set_own, set_other, length_set}
 use Rattle.raid_rack.proofs.Views.{NotesOne, views_notes}
 use Rattle.raid_rack.proofs.Written.{WriteCall, write_brings}

@@ -16,7 +16,7 @@ use Rattle.array_model.specs.ArrayCalls.{appended_at}
 use Rattle.raid_rack.specs.declared.arrays.Arrays.{Arrays}
 use Rattle.raid_rack.specs.Raid.{Raid, is_over, live_of, spent_of, held_in, StopsInside, raid_of}
 use Rattle.raid_rack.specs.Acts.{RaidActs}
-use Rattle.raid_rack.specs.Moves.{AreCaused, Brings, Mends, Moves, ReadsValue, SyncsOne, WritesOne, noted_at, written_at}
+use Rattle.raid_rack.specs.Moves.{AreCaused, Brings, KeepsArrays, Mends, Moves, ReadsValue, SyncsOne, WritesOne, noted_at, written_at}
 use Rattle.raid_rack.specs.Runs.{RaidRuns}
 use Rattle.raid_rack.specs.RaidRack.{IsFit, IsRunning, KeepsRack, raid_by}
 use Rattle.raid_rack.specs.AllRuns.{Serves}
@@ -231,12 +231,13 @@ runs_moves p a b x y fit after inside moves =
 
 -- a call counts a refusal of its own array alone, and only of a spent sector
 pub served_call : (v w : Raid) (f g : ℕ → ℕ) (disk sector : ℕ) → sector < array_sectors (v.arrays disk)
-    → ((n : ℕ) → array_sectors (w.arrays n) ≡ array_sectors (v.arrays n)) → ((n y : ℕ) → live_of w n y → live_of v n y)
+    → ((n : ℕ) → array_sectors (w.arrays n) ≡ array_sectors (v.arrays n)) → ((n y : ℕ) → live_of w n y → live_of v n y) → KeepsArrays v w
     → ((n : ℕ) → (n ≡ disk → spent_of w disk sector ≡ false) → g n ≡ f n) → Serves v w f g
-served_call v w f g disk sector inside sectors spent uncounted =
+served_call v w f g disk sector inside sectors spent arrays uncounted =
     record {
       sectors = sectors;
       spent = spent;
+      arrays = arrays;
       refused = λ n alive.
           uncounted n (λ same.
           subst (λ k. live_of w k sector) same

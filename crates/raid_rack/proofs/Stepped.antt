@@ -32,7 +32,8 @@ use Rattle.raid_rack.specs.Rows.{KeepsRows, LeavesFrom, LeavesRows, from_lower}
 use Rattle.raid_rack.specs.Works.{stepped}
 use Rattle.raid_rack.proofs.Added.{names_current}
 use Rattle.raid_rack.proofs.Changed.{ViewsOne, called}
-use Rattle.raid_rack.proofs.Losing.{only_notes, only_same}
+use Rattle.raid_rack.specs.Losing.{only_same}
+use Rattle.raid_rack.proofs.Losing.{only_notes}
 use Rattle.raid_rack.proofs.Noted.{gone_from}
 use Rattle.raid_rack.proofs.Parts.{SaysSome, turned_state}
 use Rattle.raid_rack.proofs.Rows.{clear_seats, rows_read, settled_rows}

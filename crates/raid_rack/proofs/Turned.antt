@@ -18,7 +18,7 @@ use Rattle.raid_rack.specs.RaidRack.{raid_by, no_array}
 use Rattle.raid_rack.proofs.Missing.{current_marked, length_marked}
 use Rattle.raid_rack.proofs.Added.{names_current}
 use Rattle.raid_rack.proofs.Ranges.{any_some, any_none}
-use Rattle.raid_rack.proofs.Losing.{only_same}
+use Rattle.raid_rack.specs.Losing.{only_same}
 use Rattle.raid_rack.proofs.Over.{not_true}
 use Rattle.raid_rack.proofs.Noted.{bool_same, current_few, gone_some, gone_from}
 use Rattle.raid_rack.proofs.Committed.{valid_marked, after_marked, seated_marked}

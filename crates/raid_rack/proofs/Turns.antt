@@ -21,7 +21,8 @@ use Rattle.raid_rack.specs.Book.{IsAfter, after_then}
 use Rattle.raid_rack.specs.Marking.{SaysBetween}
 use Rattle.raid_rack.specs.Moves.{AreMarked, IsAmid, PartOf, Moves}
 use Rattle.raid_rack.specs.Settling.{SettlesTo, state_after}
-use Rattle.raid_rack.proofs.Losing.{only_gone, only_then}
+use Rattle.raid_rack.specs.Losing.{only_then}
+use Rattle.raid_rack.proofs.Losing.{only_gone}
 use Rattle.raid_rack.proofs.Over.{over_still, not_true}
 use Rattle.raid_rack.proofs.Moving.{marked_later, says_sooner, says_later}
 use Rattle.raid_rack.proofs.Noted.{gone_some, losing_spent}

@@ -23,7 +23,8 @@ use Rattle.raid_rack.specs.Raid.{Raid, gone_in, IsWritten}
 use Rattle.commit_log.specs.View.{names}
 use Rattle.raid_rack.specs.Moves.{IsSet, IsSeated, AreMarked, LosesOnly}
 use Rattle.raid_rack.proofs.Changed.{LosesOne, ViewsOne, lowered_none, or_left}
-use Rattle.raid_rack.proofs.Losing.{only_notes, only_then}
+use Rattle.raid_rack.specs.Losing.{only_then}
+use Rattle.raid_rack.proofs.Losing.{only_notes}
 use Rattle.raid_rack.proofs.Ranges.{any_some, any_none}
 use Rattle.raid_rack.proofs.Seated.{with_seats, view_with, seated_with, missing_of, place_few}
 use Rattle.raid_rack.proofs.Noted.{with_arrays, gone_from, losing_spent}

@@ -35,9 +35,9 @@ use Rattle.raid_rack.proofs.Added.{names_current}
 use Rattle.raid_rack.proofs.Adding.{copies_apart, copies_from}
 use Rattle.raid_rack.proofs.CloseParts.{close_arrays, close_brings}
 use Rattle.raid_rack.proofs.Closing.{IsClosing, after_closed, closed_raid, closing_cause, closing_left, seated_closed, valid_closed}
-use Rattle.raid_rack.proofs.Losing.{only_same}
+use Rattle.raid_rack.specs.Losing.{arrays_then, only_same}
 use Rattle.raid_rack.proofs.Mended.{each_get, each_sectors, on_named}
-use Rattle.raid_rack.proofs.Moving.{arrays_then, brings_then, caused_then}
+use Rattle.raid_rack.proofs.Moving.{brings_then, caused_then}
 use Rattle.raid_rack.proofs.Noted.{current_few}
 use Rattle.raid_rack.proofs.Elements.{all_among, look_among}
 use Rattle.raid_rack.proofs.Ended.{all_wanting}

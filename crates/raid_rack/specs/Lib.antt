@@ -6,6 +6,7 @@ pub mod Marking
 pub mod Losses
 pub mod Rows
 pub mod Moves
+pub mod Losing
 pub mod Settling
 pub mod Cleaning
 pub mod RaidRack

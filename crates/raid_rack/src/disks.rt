@@ -97,7 +97,7 @@ impl<R: Rack> Rack for RaidRack<R> {
           (R.runs (below_of (slices_in x)) (below_of (slices_in z))) one.0 two.0
           (R.runs_then (below_of (slices_in x)) (below_of (slices_in y)) (below_of (slices_in z)) one.0.below two.0.below),
       raid_runs_then (written_in x) (written_in y) (written_in z) (raid_in x) (raid_in y) (raid_in z) (slices_seen R.seen x) (slices_seen R.seen y) (slices_seen R.seen z) one.1 two.1,
-      serves_then (raid_in x) (raid_in y) (raid_in z) (refused_in x) (refused_in y) (refused_in z) one.2 two.2,
+      serves_then (raid_in x) (raid_in y) (raid_in z) (refused_in x) (refused_in y) (refused_in z) one.1.book.same.made one.2 two.2,
     ) };
 
     ghost runs_lenders = { λ x y runs. R.runs_lenders (below_of (slices_in x)) (below_of (slices_in y)) runs.0.below };

@@ -21,12 +21,13 @@
 //! | `Marking` | a part of a call, seen from one array; superblocks that restate an array under a new state |
 //! | `Rows` | rows that images leave to resync |
 //! | `Moves` | a part of a call that moves no value, for all arrays: what it keeps whatever the rack below tells, what each array that stands gives at each moment and after it; losses that are mended |
+//! | `Losing` | arrays of which nothing has changed but whom they lost, by calls in a row |
 //! | `Settling` | all arrays settled, and the commit that marks losses |
 //! | `Cleaning` | arrays that are ended: settled, with superblocks that leave their rows and no others |
 //! | `RaidRack` | the model of the struct |
 //! | `Runs` | what calls in a row do to the book and to images: marks have their cause, and arrays that aren't written leave their rows |
 //! | `Works` | a step of maintenance of one array, rows that are resynced and rebuilt, the end of a plan, and any of these works |
-//! | `AllRuns` | the same, with what calls keep of the slices below |
+//! | `AllRuns` | the same, with what calls keep of the slices below, and whom alone arrays lose |
 //! | `Laws` | what holds of the rack at any moment |
 //! | `Acts` | what a whole call does |
 //!
@@ -50,6 +51,9 @@
 //! leaves it any more. A row of a member is rebuilt (`RebuildsOne`) where that is answered, and refused only where it can't be. The
 //! end of a plan (`ClosesPlan`) is a commit of the state's copies alone. A work is one of these three (`Does`), where it is due
 //! (`is_due`).
+//!
+//! **What can't be had.** Where no disk refuses a call, calls in a row spend no sector (`live_still` of proofs/Live.antt), unless numbers
+//! are used up ([`RaidRack::is_used_up`]).
 //!
 //! **What never falls.** Epochs, events and log numbers rise by a bounded number in a call (`RaisesBy`), and the slices of a drive
 //! that is marked missing stay as they are (`KeepsMarked`).

@@ -7,9 +7,10 @@ ghost use Rattle.raid_rack.specs.Moves.{IsHeeded};
 ghost use Rattle.raid_rack.specs.Raid as spec;
 ghost use Rattle.raid_rack.specs.RaidRack.{raid_by};
 
-use crate::arrays::Arrays;
+use crate::arrays::{Arrays, RaidRack};
 use crate::marks::current_places;
 use array_core::Array;
+use rack::Rack;
 
 /// Numbers of commits, epochs and events end at 2^63. After this one every sector is refused.
 const LAST_NUMBER: u64 = (1 << 63) - 1024;
@@ -61,5 +62,18 @@ impl Arrays {
         ensures { result ≡ spec.spent_of (raid_by self.now) number sector }
     {
         self.is_ended() || self.all[number as usize].is_spent(sector)
+    }
+}
+
+impl<R: Rack> RaidRack<R> {
+    ghost use Rattle.raid_rack.specs.RaidRack.{IsFit, arrays_in, raid_in, slices_seen};
+
+    /// Whether epochs, events or numbers of commits are used up, so that every sector is refused. A pool of which fewer than 2^62
+    /// changes were made never comes there.
+    pub fn is_used_up(&self) -> bool
+        requires fit { IsFit (arrays_in self.now) (slices_seen R.seen self.now) }
+        ensures { result ≡ spec.is_used_up (raid_in self.now) }
+    {
+        self.arrays.is_used_up()
     }
 }

@@ -1,4 +1,4 @@
-use Rattle.std.proofs.Common.{◌≡◌, ◌≢◌, ◌⊎◌, ◌==◌, ◌&&◌, ◌<◌, ◌+◌, ◌∙◌, ℕ, Bool, true, false, nat_lt, not, if◌then◌else◌, Option, Some, None, refl, sym, ap, ap₂, subst, inl, inr, arith, eq-eqb, lt-ltb, le-ltb}
+use Rattle.std.proofs.Common.{◌≡◌, ◌≢◌, ◌⊎◌, ◌==◌, ◌&&◌, ◌+◌, ◌∙◌, ℕ, Bool, true, false, nat_lt, not, if◌then◌else◌, Option, Some, None, refl, sym, ap, ap₂, subst, inl, inr, arith, eq-eqb, lt-ltb, le-ltb}
 use Rattle.std.specs.Prelude.{is_none}
 use Rattle.std.proofs.lemmas.Bool.{cases_eq, cases_lt, ne_eqb}
 use Rattle.slice_rack.specs.Slices.{place_of, seat_of}

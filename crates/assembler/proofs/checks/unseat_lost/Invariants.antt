@@ -1,4 +1,4 @@
-use Rattle.std.proofs.Common.{◌≡◌, ◌≢◌, ◌<◌, ◌≤◌, ◌&&◌, ℕ, nat_lt, if◌then◌else◌, None}
+use Rattle.std.proofs.Common.{◌≡◌, ◌≢◌, ◌&&◌, ℕ, nat_lt, if◌then◌else◌, None}
 use Rattle.std.specs.Prelude.{is_none}
 use Rattle.slice_rack.specs.Slices.{place_of, seat_of, first_of, sectors_of}
 use Rattle.slice_rack.specs.SliceRack.{tables, below_of}

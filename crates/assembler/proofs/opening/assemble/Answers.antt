@@ -4,26 +4,31 @@ use Rattle.raid_rack.specs.RaidRack.{raid_in, slices_in, slices_seen, written_in
 use Rattle.pool_state.specs.declared.contents.State.{State}
 use Rattle.array_image.specs.States.{is_current}
 use Rattle.commit_log.specs.View.{names}
-use Rattle.std.proofs.Common.{◌≡◌, ◌⊎◌, ◌&&◌, ℕ, Bool, true, false, not, is_none, is_some, Option, Some, None, ap₂, option_map, inl, inr, refl, sym, ap, subst, ◌∙◌}
+use Rattle.std.proofs.Common.{◌≡◌, ◌&&◌, ◌<◌, ◌≤◌, ℕ, arith, Bool, true, false, not, is_none, is_some, Option, Some, None, ap₂, option_map, inl, inr, refl, sym, ap, subst, ◌∙◌}
 use Rattle.std.proofs.lemmas.Bool.{both_ways}
 use Rattle.rack.specs.Seen.{Rose, Seen, Stays}
 use Rattle.rack.specs.Joins.{stays_then}
-use Rattle.rack.specs.Sequences.{OnlyReads, WritesOnly}
+use Rattle.rack.specs.Sequences.{WritesOnly}
 use Rattle.slice_rack.specs.Runs.{IsSliced}
 use Rattle.slice_rack.specs.Slices.{Slices, disk_of, seat_of}
 use Rattle.lvm_group.specs.Volume.{below_of as rack_in, linear, seqno_of}
 use Rattle.pool_image.specs.Meaning.{arrays_held, bad_volume, joined_arrays, volume_by}
 use Rattle.pool_image.specs.Volumes.{linear_of}
 use Rattle.pool_scan.specs.Scanning.{IsUnfaulted}
-use Rattle.pool_rest.specs.Resting.{WritesDrives}
-use Rattle.assembler.specs.declared.refusal.Refusal.TheVariants.{Memory}
-use Rattle.assembler.specs.Refusing.{is_early}
+use Rattle.pool_scan.proofs.Valid.{valid_arrays}
+use Rattle.raid_rack.specs.Book.{IsAfter, after_then}
+use Rattle.assembler.specs.Holding.{IsPoolOn}
+use Rattle.assembler.specs.Members.{AreMembers}
+use Rattle.assembler.specs.Refusing.{is_early, meant_by}
+use Rattle.assembler.specs.Sound.{AreSlicesOf}
+use Rattle.assembler.proofs.Refusals.{meant_finding}
 use Rattle.assembler.proofs.Written.{writes_then_reads}
 use Rattle.assembler.proofs.Drives.{members_drives}
 use Rattle.assembler.proofs.Entry.{meaning_entry, quiet_first, quiet_last, refusal_entry, pool_same, rest_found, rested_so}
 use Rattle.assembler.proofs.Marks.{marks_still}
 use Rattle.assembler.proofs.Meaning.{check_fails, check_passes}
-use Rattle.assembler.proofs.Volumes.{volume_opened}
+use Rattle.assembler.proofs.Volumes.{live_later, volume_opened, volume_refused}
+use Rattle.assembler.proofs.Lies.{slices_lie, slices_same, volume_same}
 use Rattle.assembler.proofs.opening.assemble.Goals as goal
 
 pub returns-in-Ok-open_volume-clause-runs : goal.returns-in-Ok-open_volume-clause-runs
@@ -48,7 +53,7 @@ pub returns-in-Err-open_volume-clause-early : goal.returns-in-Err-open_volume-cl
 returns-in-Err-open_volume-clause-early g c early = absurd (both_ways (is_early c.in-Err-open_volume.back.why) c.in-Err-open_volume.ensures.late early)
 
 pub returns-in-Ok-open_volume-clause-meant : goal.returns-in-Ok-open_volume-clause-meant
-returns-in-Ok-open_volume-clause-meant g c e sound quiet alive =
+returns-in-Ok-open_volume-clause-meant g c e sound quiet =
     let seen = g.R.Rack.seen in
     let a : Seen = seen c.args.rack in
     let rest = c.in-Ok.rest in
@@ -60,30 +65,54 @@ returns-in-Ok-open_volume-clause-meant g c e sound quiet alive =
     let volume = c.in-Ok-open_volume.volume in
     let w : Seen = seen (below_of (slices_in (rack_in volume))) in
     let opens = c.in-Ok-open_volume.ensures.opens in
+    let members = c.in-Ok-check.ensures.members in
     let inside = c.make_rack.ensures.fit.running.set.fit in
     let ax : Stays a x = c.in-Ok.ensures.only.only.stays in
     let xy : Stays x y = c.in-Ok-check.ensures.only.stays in
-    let yz : Stays y z = (c.make_rack.ensures.runs.apart c.in-Ok-check.ensures.members.fit.0 c.in-Ok-check.ensures.members.fit.1).stays in
+    let yz : Stays y z = (c.make_rack.ensures.runs.apart members.fit.0 members.fit.1).stays in
     let to_z : IsUnfaulted a z = quiet_first a z w (opens.kept.0.apart inside.0 inside.1).stays quiet in
     let to_y : IsUnfaulted a y = quiet_first a y z yz to_z in
     let to_x : IsUnfaulted a x = quiet_first a x y xy to_y in
+    let from_y : IsUnfaulted y z = quiet_last a y z (stays_then ax xy) to_z in
+    let ready : (raid_in raid).state.joined ≤ (raid_in raid).state.made =
+    (let least = (valid_arrays m.state 0 members.valid).3 in let joined = c.make_rack.ensures.joined in let made = c.make_rack.ensures.made in omega (arith, least, joined, made)) in
     let rested = rested_so seen a rest e sound ax to_x c.in-Ok.ensures.newest c.in-Ok.ensures.stands c.in-Ok.ensures.settled c.in-Ok.ensures.steady c.in-Ok.ensures.looked c.in-Ok.ensures.single in
     let f = rested.settled.means.now in
+    let same = pool_same seen a rest e sound rested in
     let found = rest_found seen a rest e sound rested in
     let checked = c.in-Ok-check.ensures.holds f found (λ p d named seat. to_x d (c.in-Ok.ensures.gone p d named seat)) (quiet_last a x y ax to_y) in
-    let arrays = c.make_rack.ensures.holds f checked.0 checked.1 (λ none. quiet_last a y z (stays_then ax xy) to_z) in
+    let arrays = c.make_rack.ensures.holds f checked.0 checked.1 (λ none. from_y) in
+    let alive = live_later seen g.R.Rack.runs raid (rack_in volume) opens.kept c.make_rack.ensures.fit c.in-Ok-open_volume.ensures.fit.0
+    (quiet_last a z w (stays_then ax (stays_then xy yz)) quiet) ready opens.unused (c.make_rack.ensures.marks from_y).live in
     let held = volume_opened seen g.R.Rack.runs f (slices_of (tables m.slices) y) raid arrays c.make_rack.ensures.fresh (rack_in volume) (linear volume) (seqno_of volume) opens
     volume.orderly c.in-Ok-open_volume.ensures.fit.1 alive in
     let none = check_passes x rest.scan.disks.items rest.state (tables rest.slices) rest.on.items rest.log rest.pending rest.damaged f found rested.settled.whole m.checked checked.1
     ∙ ap (option_map bad_volume) held.0.sound in
+    let state = checked.0.pool.state in
+    let lie : AreSlicesOf f (tables m.slices) =
+    slices_lie f (tables m.slices) y m.checked m.absent.items m.slices.orderly
+    (subst (λ (s : State). AreMembers s (tables m.slices) y m.checked m.absent.items) (sym state) members) checked.0.steady
+    (subst (λ (s : State). IsPoolOn s (tables m.slices) y f) (sym state) checked.0.pool) checked.1.opened in
     record {
       volume = volume_by (linear_of (joined_arrays f) held.0.group) (arrays_held f);
       meant = meaning_entry seen a rest e sound rested none (linear volume) held.0;
       holds = held.1;
+      lies = volume_same e f same (linear volume) held.0;
+      slices = slices_same e f same (tables (slices_in (rack_in volume)))
+          (subst (AreSlicesOf f) (sym (opens.kept.0.tables ∙ c.make_rack.ensures.runs.tables)) lie);
+      after = after_then e.state (raid_in raid).state (raid_in (rack_in volume)).state
+          (subst (λ (s : State). IsAfter s (raid_in raid).state) same.state arrays.after) opens.kept.1.book;
+      told = λ n low. opens.kept.1.told n (arrays.told n (subst (λ (s : State). n < s.joined) (sym same.state) low));
+      live = alive;
     }
 
+pub returns-in-Err-clause-exact : goal.returns-in-Err-clause-exact
+returns-in-Err-clause-exact g c e sound quiet some =
+    meant_finding (g.R.Rack.seen c.args.rack) c.in-Err.back.why c.by_finding.result c.by_finding.ensures some
+    (c.in-Err.ensures.found sound.steady.told sound.steady.lasts quiet sound.logs).1
+
 pub returns-in-Err-check-clause-exact : goal.returns-in-Err-check-clause-exact
-returns-in-Err-check-clause-exact g c e sound quiet early =
+returns-in-Err-check-clause-exact g c e sound quiet some =
     let seen = g.R.Rack.seen in
     let a : Seen = seen c.args.rack in
     let rest = c.in-Ok.rest in
@@ -97,13 +126,50 @@ returns-in-Err-check-clause-exact g c e sound quiet early =
     let found = rest_found seen a rest e sound rested in
     elim (check_fails x rest.scan.disks.items rest.state (tables rest.slices) rest.on.items rest.log rest.pending rest.damaged f found rested.settled.whole y rest.gone.items back.why
     c.in-Ok.ensures.valid (λ p d named seat. to_x d (c.in-Ok.ensures.gone p d named seat)) (quiet_last a x y ax quiet) c.in-Err-check.ensures.refused) [
-      | inl is ↦ inl (refusal_entry seen a rest e sound rested ∙ is)
-      | inr memory ↦ absurd (both_ways (is_early Memory) refl (sym (ap is_early memory) ∙ early))
+      | inl is ↦ refusal_entry seen a rest e sound rested ∙ is
+      | inr memory ↦ absurd (some memory)
     ]
 
 pub returns-in-Err-open_volume-clause-exact : goal.returns-in-Err-open_volume-clause-exact
-returns-in-Err-open_volume-clause-exact g c e sound quiet early =
-    absurd (both_ways (is_early c.in-Err-open_volume.back.why) c.in-Err-open_volume.ensures.late early)
+returns-in-Err-open_volume-clause-exact g c e sound quiet some =
+    let seen = g.R.Rack.seen in
+    let a : Seen = seen c.args.rack in
+    let rest = c.in-Ok.rest in
+    let x : Seen = seen (below_of rest.slices) in
+    let m = c.in-Ok-check.members in
+    let y : Seen = seen (below_of m.slices) in
+    let raid = c.make_rack.result in
+    let z : Seen = seen (below_of (slices_in raid)) in
+    let refused = c.in-Err-open_volume.ensures.refused in
+    let last = refused.last in
+    let w : Seen = seen (below_of (slices_in last)) in
+    let inside = c.make_rack.ensures.fit.running.set.fit in
+    let members = c.in-Ok-check.ensures.members in
+    let all : IsUnfaulted a w = subst (λ r. IsUnfaulted a (seen r)) (sym refused.back) quiet in
+    let ax : Stays a x = c.in-Ok.ensures.only.only.stays in
+    let xy : Stays x y = c.in-Ok-check.ensures.only.stays in
+    let yz : Stays y z = (c.make_rack.ensures.runs.apart members.fit.0 members.fit.1).stays in
+    let to_z : IsUnfaulted a z = quiet_first a z w (refused.kept.0.apart inside.0 inside.1).stays all in
+    let to_y : IsUnfaulted a y = quiet_first a y z yz to_z in
+    let to_x : IsUnfaulted a x = quiet_first a x y xy to_y in
+    let from_y : IsUnfaulted y z = quiet_last a y z (stays_then ax xy) to_z in
+    let ready : (raid_in raid).state.joined ≤ (raid_in raid).state.made =
+    (let least = (valid_arrays m.state 0 members.valid).3 in let joined = c.make_rack.ensures.joined in let made = c.make_rack.ensures.made in omega (arith, least, joined, made)) in
+    let rested = rested_so seen a rest e sound ax to_x c.in-Ok.ensures.newest c.in-Ok.ensures.stands c.in-Ok.ensures.settled c.in-Ok.ensures.steady c.in-Ok.ensures.looked c.in-Ok.ensures.single in
+    let f = rested.settled.means.now in
+    let found = rest_found seen a rest e sound rested in
+    let checked = c.in-Ok-check.ensures.holds f found (λ p d named seat. to_x d (c.in-Ok.ensures.gone p d named seat)) (quiet_last a x y ax to_y) in
+    let arrays = c.make_rack.ensures.holds f checked.0 checked.1 (λ none. from_y) in
+    elim refused.cause [
+      | inl memory ↦ absurd (some memory)
+      | inr bad ↦
+          let alive = live_later seen g.R.Rack.runs raid last refused.kept c.make_rack.ensures.fit bad.2.fit
+          (quiet_last a z w (stays_then ax (stays_then xy yz)) all) ready bad.2.unused (c.make_rack.ensures.marks from_y).live in
+          let first = volume_refused seen g.R.Rack.runs f (slices_of (tables m.slices) y) raid arrays c.make_rack.ensures.fresh last bad.0 bad.2.bad refused.kept alive in
+          refusal_entry seen a rest e sound rested
+          ∙ check_passes x rest.scan.disks.items rest.state (tables rest.slices) rest.on.items rest.log rest.pending rest.damaged f found rested.settled.whole m.checked checked.1
+          ∙ ap (option_map bad_volume) first ∙ sym (ap meant_by bad.1)
+    ]
 
 pub returns-in-Err-check-clause-written : goal.returns-in-Err-check-clause-written
 returns-in-Err-check-clause-written g c = inr (inl (writes_then_reads _ _ _ c.in-Ok.ensures.only c.in-Err-check.ensures.kept))
@@ -201,7 +267,7 @@ returns-in-Ok-open_volume-clause-marks g c e sound quiet p =
     (λ place fault. from_z (disk_of (tables (slices_in raid)) fault.0)
     (subst (λ t. Rose (z.faults (disk_of (tables (slices_in raid)) fault.0)) (w.faults (disk_of t fault.0))) opens.kept.0.tables fault.2)) p in
     later
-    ∙ c.make_rack.ensures.marks (quiet_last a y z (stays_then ax xy) to_z) p
+    ∙ (c.make_rack.ensures.marks (quiet_last a y z (stays_then ax xy) to_z)).marks p
     ∙ marks_of (is_current m.state p) (is_none (seat_of (tables m.slices) p)) (names m.absent.items p) (members.absent_is p)
     ∙ ap (λ b. is_current m.state p && b) (some_is (seat_of (tables m.slices) p))
     ∙ ap₂ (λ (s : State) (o : Option ℕ). is_current s p && is_some o) (sym checked.0.pool.state) (sym (checked.0.pool.seats p))

@@ -16,7 +16,7 @@ use Rattle.raid_rack.specs.Moves.{Mends}
 use Rattle.raid_rack.proofs.Mended.{each_items}
 use Rattle.assembler.specs.Holding.{HoldsArrays}
 use Rattle.assembler.proofs.Holding.{nobody_went, rack_closed, rack_still}
-use Rattle.assembler.proofs.Marks.{marks_absent}
+use Rattle.assembler.proofs.Live.{opened_live}
 use Rattle.assembler.proofs.Running.{array_now, current_logs, members_later, rack_running, twice}
 use Rattle.assembler.proofs.Sizes.{total_small}
 use Rattle.assembler.proofs.Whole.{whole_member}
@@ -151,7 +151,7 @@ pub returns-clause-fresh : goal.returns-clause-fresh
 returns-clause-fresh g c n = c.mark_gone.ensures.refused n ∙ c.new-raid.ensures.refused n
 
 pub returns-clause-marks : goal.returns-clause-marks
-returns-clause-marks g c quiet p =
+returns-clause-marks g c quiet =
     let m = c.args.members in
     let members = c.requires.members in
     let seen = g.R.Rack.seen in
@@ -164,15 +164,15 @@ returns-clause-marks g c quiet p =
     let first = (each_items m.checked.arrays c.as_mut_slice.result.now c.restart_rebuilds.new.arrays restarted c.as_mut_slice.ensures.value c.restart_rebuilds.ensures).0 in
     let second = (each_items (with_items m.checked.arrays c.restart_rebuilds.new.arrays) c.as_mut_slice-2.result.now c.note_gone.new.arrays (gone places) c.as_mut_slice-2.ensures.value c.note_gone.ensures).0 in
     let items = c.new-raid.result.arrays.all.items in
+    let all : (n : ℕ) → slice_get items n ≡ option_map (λ v. gone places (restarted v)) (slice_get m.checked.arrays.items n) = λ n.
+    ap (λ xs. slice_get xs n) c.new-raid.ensures.arrays ∙ second n
+    ∙ ap (option_map (gone places)) (first n) ∙ twice places (slice_get m.checked.arrays.items n) in
     let are : (n : ℕ) (u : View) → slice_get m.checked.arrays.items n ≡ Some u → (raid_in c.new-raid.result).arrays n ≡ gone places (restarted u) =
-    λ n u is.
-    get_or_from_slice_get items n (gone places (restarted u)) no_array
-    (ap (λ xs. slice_get xs n) c.new-raid.ensures.arrays ∙ second n
-    ∙ ap (option_map (gone places)) (first n) ∙ twice places (slice_get m.checked.arrays.items n) ∙ ap (option_map (λ v. gone places (restarted v))) is) in
+    λ n u is. get_or_from_slice_get items n (gone places (restarted u)) no_array (all n ∙ ap (option_map (λ v. gone places (restarted v))) is) in
+    let rules : (n : ℕ) (v : View) → slice_get m.checked.arrays.items n ≡ Some v → IsArray v =
+    λ n v is. c.rules.ensures n v (ap (λ xs. slice_get xs n) c.as_slice.ensures.value ∙ is) in
     let before : Seen = slices_of (tables closed) (seen (below_of closed)) in
     let after : Seen = slices_seen seen c.mark_gone.new.self in
-    let mends : Mends (raid_in c.new-raid.result) (raid_in c.mark_gone.new.self) before after =
-    subst (λ k. Mends (raid_in c.new-raid.result) (raid_in c.mark_gone.new.self) (slices_of (tables k) (seen (below_of k))) after) c.new-raid.ensures.slices c.mark_gone.ensures.mends in
     let closing = c.close_gates-gone.ensures.runs in
     let early : Stays y (seen (below_of closed)) = (closing.apart members.fit.0 members.fit.1).stays in
     let marking = subst (λ k. SliceRuns seen g.R.Rack.runs k last) c.new-raid.ensures.slices c.mark_gone.ensures.runs in
@@ -191,7 +191,15 @@ returns-clause-marks g c quiet p =
     by_list m.absent.items
     (λ none q. ap (λ ps. names ps q) (nobody none) ∙ sym (ap (λ ps. names ps q) none))
     (λ some q. ap (λ ps. names ps q) (c.close_gates-gone.ensures.same some)) in
-    marks_absent m.state t y m.checked m.absent.items places members (raid_in c.new-raid.result) c.new-raid.ensures.state are same (raid_in c.mark_gone.new.self) before after mends unfaulted p
+    let running : IsRunning (arrays_in c.new-raid.result) (slices_seen seen c.new-raid.result) =
+    subst (λ k. IsRunning (arrays_in c.new-raid.result) (slices_of (tables k) (seen (below_of k)))) (sym c.new-raid.ensures.slices)
+    (subst (λ u. IsRunning (arrays_in c.new-raid.result) (slices_of u (seen (below_of closed)))) (sym closing.tables)
+    (rack_running m.state t (seen (below_of closed)) m.checked m.absent.items (members_later m.state t y (seen (below_of closed)) m.checked m.absent.items early members) rules
+    places c.close_gates-gone.ensures.more (arrays_in c.new-raid.result) c.new-raid.ensures.state all)) in
+    opened_live m.state t y m.checked m.absent.items places members (raid_in c.new-raid.result) c.new-raid.ensures.state are same (raid_in c.mark_gone.new.self)
+    (slices_seen seen c.new-raid.result) after c.mark_gone.ensures.mends
+    rules running.set
+    (subst (λ k. (place : ℕ) → HasFault (slices_of (tables k) (seen (below_of k))) after place → ⊥) (sym c.new-raid.ensures.slices) unfaulted)
   where
     by_list : {P : Type 0} (ps : List ℕ) → (ps ≡ [] → P) → ((ps ≡ [] → ⊥) → P) → P
     by_list [] none some = none refl

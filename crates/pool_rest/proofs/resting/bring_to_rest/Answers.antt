@@ -195,7 +195,7 @@ returns-in-Err-replay_found-clause-refused g c =
     })
 
 pub returns-in-Err-clause-found : goal.returns-in-Err-clause-found
-returns-in-Err-clause-found g c = λ told lasts free sound. c.in-Err.ensures.kept
+returns-in-Err-clause-found g c = λ told lasts free sound. (c.in-Err.ensures.kept, c.in-Err.ensures.exact told free)
 
 pub returns-in-Err-replay_found-clause-exact : goal.returns-in-Err-replay_found-clause-exact
 returns-in-Err-replay_found-clause-exact g c = λ told lasts free.

@@ -7,7 +7,7 @@ use Rattle.array_sync.specs.Rows.{lacks_row}
 use Rattle.array_sync.specs.Steps.{resynced}
 use Rattle.raid_rack.specs.RaidRack.{no_array, raid_by}
 use Rattle.raid_rack.specs.Works.{is_stuck}
-use Rattle.raid_rack.proofs.Losing.{only_then}
+use Rattle.raid_rack.specs.Losing.{only_then}
 use Rattle.raid_rack.proofs.Mended.{on_named}
 use Rattle.raid_rack.proofs.Noted.{current_few}
 use Rattle.raid_rack.proofs.RaisedCalls.{raises_call}
