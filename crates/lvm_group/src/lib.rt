@@ -36,6 +36,7 @@
 #![tactic(auto)]
 
 mod changing;
+mod founding;
 mod growth;
 mod making;
 mod naming;
@@ -50,4 +51,5 @@ mod syncing;
 mod volume;
 mod writing;
 
+pub use founding::NewGroup;
 pub use volume::{Volume, VolumeFault};
