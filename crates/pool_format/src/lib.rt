@@ -26,13 +26,13 @@
 mod arrays;
 mod drives;
 mod formatting;
+mod members;
 mod planning;
 mod slices;
 mod states;
 mod superblocks;
 mod tables;
 mod volume;
-mod zeros;
 
 pub use formatting::{CreateFault, format};
 
