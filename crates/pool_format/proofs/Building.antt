@@ -1,5 +1,5 @@
 -- Each drive of a new pool has its parts.
-use Rattle.std.proofs.Common.{◌≡◌, ℕ, zero, suc, ◌+◌, ◌*◌, ◌<◌, ◌≤◌, ◌^◌, refl, sym, ap, ap₂, subst, ◌∙◌, length, arith}
+use Rattle.std.proofs.Common.{ℕ, ◌+◌, ◌<◌, sym, subst, length, arith}
 use Rattle.rack.specs.Values.{IsSingle}
 use Rattle.rack.specs.Seen.{IsLive, Seen, Stays}
 use Rattle.rack.specs.Joins.{live_second, stays_then}

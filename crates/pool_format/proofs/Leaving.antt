@@ -1,13 +1,12 @@
 -- What calls in a row leave on a drive stands after later ones that write elsewhere.
-use Rattle.std.proofs.Common.{◌≡◌, ◌≢◌, ◌⊎◌, ℕ, ◌+◌, ◌<◌, ◌≤◌, Bool, true, false, List, length, slice_get, unwrap_or, Some, Result, Ok, Err, OnOk, refl, sym, ap, subst, ◌∙◌, inl, inr, arith}
+use Rattle.std.proofs.Common.{◌≡◌, ◌≢◌, ◌⊎◌, ℕ, ◌+◌, ◌<◌, false, List, length, slice_get, unwrap_or, Some, Result, Ok, Err, OnOk, refl, sym, ap, subst, ◌∙◌, inl, inr, arith}
 use Rattle.std.proofs.lemmas.Bool.{both_ways, cases_lt}
 use Rattle.rack.specs.declared.Gone.{Gone}
 use Rattle.rack.specs.Values.{Values, IsSingle, Keeps}
-use Rattle.rack.specs.Seen.{Seen, IsLive, Stays, appended}
+use Rattle.rack.specs.Seen.{Seen, IsLive, Stays}
 use Rattle.rack.specs.Calls.{Syncs, Writes}
 use Rattle.rack.specs.Joins.{live_first, live_second}
 use Rattle.rack.specs.Sequences.{WritesDurably, WritesOnly}
-use Rattle.rack.proofs.Durably.{durable_only}
 use Rattle.rack.proofs.Writing.{appended_here, only_quiet}
 use Rattle.gpt_table.specs.declared.Table.{Table}
 use Rattle.gpt_table.specs.declared.TableCopy.{TableCopy}
@@ -23,7 +22,7 @@ use Rattle.pool_format.specs.declared.planning.NewPool.{NewPool}
 use Rattle.pool_format.specs.Parts.{new_super, new_table, role_of}
 use Rattle.pool_format.specs.Plan.{HasRoom, IsPlan, has}
 use Rattle.pool_format.specs.Data.{IsDataOf, IsMemberData, LeavesData, array_sector}
-use Rattle.pool_format.specs.Drives.{HoldsTable, IsBlockOf, IsCopyOf, IsSuperOf, LeavesClosed, LeavesLaid, LeavesState, LeavesSuper, LeavesTable, first_gate, gate_at}
+use Rattle.pool_format.specs.Drives.{HoldsTable, IsBlockOf, IsCopyOf, IsSuperOf, LeavesClosed, LeavesLaid, LeavesState, LeavesSuper, LeavesTable, gate_at}
 use Rattle.pool_format.specs.Writing.{InClosing, InClosings, InEnds, InStates, IsOfSlice}
 use Rattle.pool_format.proofs.Laying.{log_part, member_part, table_apart}
 

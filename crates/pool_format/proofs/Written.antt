@@ -1,14 +1,14 @@
 -- The data of a member, as it is written.
-use Rattle.std.proofs.Common.{◌≡◌, ◌≢◌, ℕ, ◌+◌, ◌-◌, ◌*◌, ◌/◌, ◌<◌, ◌≤◌, ◌↔◌, ◌^◌, List, [], ◌∷◌, map, Option, Some, None, refl, sym, ap, subst, ◌∙◌, arith, unwrap_or, slice_index}
-use Rattle.std.proofs.Math.Nat.{mul-le-mul_left, mul-le-mul_right}
+use Rattle.std.proofs.Common.{◌≡◌, ℕ, ◌+◌, ◌-◌, ◌*◌, ◌/◌, ◌<◌, ◌≤◌, ◌↔◌, ◌^◌, List, [], ◌∷◌, map, Option, Some, None, refl, sym, ap, subst, arith, unwrap_or, slice_index}
+use Rattle.std.proofs.Math.Nat.{mul-le-mul_left}
 use Rattle.parity.specs.Xor.{xor_all}
 use Rattle.raid_map.specs.LeftSymmetric.{StandsAt, parity_at}
 use Rattle.lvm_group.specs.declared.founding.NewGroup.{NewGroup}
-use Rattle.lvm_group.specs.Founding.{extent_of, numbers_of, pool_of, sectors_of}
+use Rattle.lvm_group.specs.Founding.{extent_of, numbers_of, sectors_of}
 use Rattle.lvm_group.specs.Made.{new_sector}
 use Rattle.pool_format.specs.declared.Birth.{Birth}
 use Rattle.pool_format.specs.declared.planning.NewPool.{NewPool}
-use Rattle.pool_format.specs.Data.{IsMemberData, IsNewGroup, array_sector, extents_of, group_sector, row_sectors, sizes_of}
+use Rattle.pool_format.specs.Data.{IsMemberData, IsNewGroup, array_sector, group_sector, row_sectors, sizes_of}
 use Rattle.pool_format.proofs.Lists.{no_element}
 
 -- what stands in a mirror

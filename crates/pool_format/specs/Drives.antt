@@ -11,7 +11,6 @@ use Rattle.gpt_table.specs.Plans.{IsOfTable}
 use Rattle.gpt_table.specs.declared.TableCopy.{TableCopy}
 use Rattle.md_super.specs.declared.superblock.Super.{Super}
 use Rattle.md_super.specs.Layout.{LeavesZeros, decoded as super_in}
-use Rattle.pool_state.specs.declared.contents.Copied.{Copied}
 use Rattle.pool_state.specs.Sector.{decoded as copy_in}
 use Rattle.array_image.specs.Places.{data_sector, state_sector, super_sector}
 use Rattle.array_image.specs.Record.{gate_sector}

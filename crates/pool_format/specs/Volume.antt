@@ -1,7 +1,5 @@
 -- The volume of a new pool, and why none is made.
-use Rattle.std.specs.Prelude.{◌≡◌, ℕ, ◌*◌, ◌<◌, false, List, length, map, slice_get, Some, get_or}
-use Rattle.pool_state.specs.declared.contents.State.{State}
-use Rattle.array_image.specs.States.{is_current}
+use Rattle.std.specs.Prelude.{◌≡◌, ℕ, ◌*◌, List, length, slice_get, Some, get_or}
 use Rattle.array_model.specs.View.{View, IsArray, sectors_of}
 use Rattle.slice_rack.specs.Slices.{Slices}
 use Rattle.raid_rack.specs.declared.arrays.Arrays.{Arrays}

@@ -40,7 +40,8 @@ fn row_sector(members: u32, sector: u64, column: u64) -> u64
     requires column { column < members - 1 }
     ensures { result ≡ (row_at sector * (members - 1) + column) * 128 + sector % 128 }
 {
-    (sector / CHUNK_SECTORS * u64::from(members - 1) + column) * CHUNK_SECTORS + sector % CHUNK_SECTORS
+    (sector / CHUNK_SECTORS * u64::from(members - 1) + column) * CHUNK_SECTORS
+        + sector % CHUNK_SECTORS
 }
 
 /// The parity of the row of a sector of an array's members' data.

@@ -1,11 +1,6 @@
-use Rattle.std.proofs.Common.{◌≡◌, ◌<◌, ◌≤◌, ◌++◌, List, ℕ, ap, sym, subst, ◌∙◌, length}
-use Rattle.std.specs.Prelude.{Ok, slice_index}
+use Rattle.std.proofs.Common.{◌<◌, ◌≤◌, List, sym, subst, ◌∙◌, length}
 use Rattle.std.specs.List.{AllByRecursion}
-use Rattle.lvm_text.specs.declared.group.Group.{Group}
-use Rattle.lvm_text.specs.Group.{group_of}
-use Rattle.lvm_text.specs.Printed.{printed}
 use Rattle.lvm_group.specs.declared.runs.Run.{Run}
-use Rattle.lvm_group.specs.Own.{own_group}
 use Rattle.lvm_group.proofs.NewVolume.{new_arrays, new_short}
 use Rattle.lvm_group.proofs.making.lay_out.Goals as goal
 

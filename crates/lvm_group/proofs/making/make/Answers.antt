@@ -1,5 +1,5 @@
-use Rattle.std.proofs.Common.{◌≡◌, ◌<◌, ◌≤◌, ◌*◌, ℕ, List, [], Ok, ap, sym, subst, ◌∙◌, length}
-use Rattle.std.specs.Prelude.{OnOk, slice_index}
+use Rattle.std.proofs.Common.{◌≡◌, ◌<◌, ◌≤◌, ◌*◌, ℕ, List, [], Ok, ap, subst, ◌∙◌, length}
+use Rattle.std.specs.Prelude.{OnOk}
 use Rattle.std.specs.List.{range_with_len}
 use Rattle.lvm_text.specs.declared.group.Group.{Group}
 use Rattle.lvm_text.specs.Group.{group_of}

@@ -1,4 +1,4 @@
-use Rattle.std.proofs.Common.{◌≡◌, ℕ, Ok, Err, inl, inr, refl, ◌∙◌, arith}
+use Rattle.std.proofs.Common.{Err, inl, inr, refl, ◌∙◌, arith}
 use Rattle.rack.specs.Joins.{live_first, live_second, stays_then}
 use Rattle.pool_format.specs.Drives.{LeavesClosed}
 use Rattle.pool_format.specs.Writing.{InClosing, InSupers}

@@ -1,4 +1,4 @@
-use Rattle.std.proofs.Common.{Ok, Err, inl, inr, refl, arith}
+use Rattle.std.proofs.Common.{Ok, Err, inr, refl, arith}
 use Rattle.rack.specs.Joins.{stays_then}
 use Rattle.pool_format.specs.Drives.{LeavesLaid}
 use Rattle.pool_format.specs.Parts.{new_table}

@@ -4,7 +4,7 @@ use Rattle.md_super.specs.declared.superblock.Super.{Super}
 use Rattle.pool_format.specs.Drives.{IsBlockOf}
 use Rattle.pool_format.specs.Parts.{new_super, role_of}
 use Rattle.pool_format.proofs.Laying.{lays_write, member_inside}
-use Rattle.pool_format.proofs.Leaving.{no_super, super_written}
+use Rattle.pool_format.proofs.Leaving.{super_written}
 use Rattle.pool_format.specs.Writing.{InSuper}
 use Rattle.pool_format.proofs.drives.write_super.Goals as goal
 

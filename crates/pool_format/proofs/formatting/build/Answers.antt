@@ -1,4 +1,4 @@
-use Rattle.std.proofs.Common.{◌<◌, ℕ, sym, subst}
+use Rattle.std.proofs.Common.{ℕ, sym, subst}
 use Rattle.rack.specs.Values.{IsSingle}
 use Rattle.rack.specs.Seen.{IsLive}
 use Rattle.rack.specs.Sequences.{WritesOnly}

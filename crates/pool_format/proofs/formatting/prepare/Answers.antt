@@ -1,7 +1,7 @@
 use Rattle.std.proofs.Common.{length, inr}
 use Rattle.rack.proofs.Writing.{only_weaker}
 use Rattle.pool_format.specs.Writing.{InStates, IsPart}
-use Rattle.pool_format.proofs.Laying.{lays_after, lays_weaker, part_early, room_then}
+use Rattle.pool_format.proofs.Laying.{lays_after, lays_weaker, part_early}
 use Rattle.pool_format.proofs.Leaving.{laid_later, on_all, states_slices}
 use Rattle.pool_format.proofs.formatting.prepare.Goals as goal
 

@@ -1,4 +1,4 @@
-use Rattle.std.proofs.Common.{◌<◌, length, Ok, Err, inr, arith}
+use Rattle.std.proofs.Common.{◌<◌, length, inr, arith}
 use Rattle.pool_format.specs.Writing.{InEnds, IsPart}
 use Rattle.pool_format.proofs.Building.{drive_new, single_all}
 use Rattle.pool_format.proofs.Laying.{lays_after, lays_weaker, room_then}

@@ -1,4 +1,4 @@
-use Rattle.std.proofs.Common.{◌≡◌, ◌+◌, ◌-◌, ◌*◌, ◌%◌, length, map}
+use Rattle.std.proofs.Common.{◌≡◌, ◌+◌, ◌-◌, ◌*◌, ◌%◌, map}
 use Rattle.std.specs.List.{range_with_len}
 use Rattle.parity.specs.Xor.{xor_all}
 use Rattle.raid_map.specs.LeftSymmetric.{row_at}

@@ -1,4 +1,4 @@
-use Rattle.std.proofs.Common.{◌≡◌, ◌+◌, ◌-◌, ◌<◌, ℕ, List, length, unwrap_or, refl, sym, ap, subst, ◌∙◌, arith}
+use Rattle.std.proofs.Common.{◌≡◌, ◌+◌, ◌-◌, ◌<◌, ℕ, List, length, unwrap_or, sym, ap, subst, ◌∙◌, arith}
 use Rattle.rack.specs.Seen.{IsLive}
 use Rattle.gpt_table.specs.Disk.{now_on}
 use Rattle.pool_format.specs.declared.planning.NewArray.{NewArray}

@@ -3,10 +3,8 @@ use Rattle.std.proofs.lemmas.Bool.{cases_lt}
 use Rattle.rack.proofs.Durably.{durable_only}
 use Rattle.rack.proofs.Writing.{only_none}
 use Rattle.pool_state.specs.declared.contents.State.{State}
-use Rattle.pool_state.specs.Sector.{decoded}
 use Rattle.pool_state.specs.Valid.{is_valid}
 use Rattle.pool_format.specs.Drives.{IsCopyOf, LeavesState}
-use Rattle.pool_format.specs.Parts.{new_state}
 use Rattle.pool_format.specs.Writing.{InStates}
 use Rattle.pool_format.proofs.Laying.{lays_after, lays_durable, lays_end}
 use Rattle.pool_format.proofs.Leaving.{state_later, state_still, state_written}

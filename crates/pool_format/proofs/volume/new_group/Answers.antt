@@ -1,8 +1,8 @@
-use Rattle.std.proofs.Common.{◌≡◌, ◌<◌, ◌^◌, ◌-◌, ◌*◌, ℕ, List, length, slice_index, sym, ap, subst, ◌∙◌, arith}
+use Rattle.std.proofs.Common.{◌<◌, ◌^◌, ◌-◌, ◌*◌, ℕ, List, length, slice_index, sym, ap, subst, ◌∙◌, arith}
 use Rattle.std.proofs.lemmas.List.{length-map}
 use Rattle.lvm_group.specs.Growth.{AreBelow}
 use Rattle.lvm_group.specs.Own.{HoldAll}
-use Rattle.pool_format.specs.Data.{extents_of, sizes_of}
+use Rattle.pool_format.specs.Data.{extents_of}
 use Rattle.pool_format.specs.declared.planning.NewArray.{NewArray}
 use Rattle.pool_format.proofs.Making.{extents_below, extents_hold, sizes_small}
 use Rattle.pool_format.proofs.Units.{extent_bounds}
