@@ -19,10 +19,6 @@ pub record IsOfSlice (plan : NewPool) (d s : ℕ) : Type 0 where
   pub within : at < sectors_planned plan.arrays.items slice
   pub sector : s ≡ first_planned plan.arrays.items slice + at
 
--- a sector of the slices
-abbrev pub InSlices : NewPool → ℕ → ℕ → List ℕ → Type 0
-InSlices plan d s v = IsOfSlice plan d s
-
 -- a sector of the tables or of the slices
 abbrev pub IsPart : NewPool → (ℕ → ℕ) → ℕ → ℕ → List ℕ → Type 0
 IsPart plan sectors d s v = IsOfTable (sectors d) s ⊎ IsOfSlice plan d s
