@@ -12,6 +12,7 @@ pub mod Reading
 pub mod Found
 pub mod Group
 pub mod Made
+pub mod Founding
 pub mod Opening
 pub mod Changing
 pub mod Extending

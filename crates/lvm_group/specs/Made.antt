@@ -1,15 +1,16 @@
 -- What making a volume leaves on its arrays.
-use Rattle.std.specs.Prelude.{◌≡◌, ℕ, ◌<◌, false, nat_eq, List, [], length, Some, None, Err}
+use Rattle.std.specs.Prelude.{◌≡◌, ℕ, ◌+◌, ◌-◌, ◌<◌, ◌==◌, ◌||◌, nat_le, nat_lt, if◌then◌else◌, false, nat_eq, List, [], ◌∷◌, length, replicate, Some, None, Err}
 use Rattle.std.specs.List.{starts_with}
 use Rattle.rack.specs.Values.{MayLeave}
 use Rattle.rack.specs.Seen.{Image, Seen}
 use Rattle.rack.specs.Targets.{Target}
-use Rattle.lvm_label.specs.Label.{label_word}
+use Rattle.lvm_label.specs.Label.{label_bytes, label_word}
+use Rattle.lvm_label.specs.Header.{header_bytes}
 use Rattle.lvm_text.specs.declared.group.Group.{Group}
 use Rattle.lvm_text.specs.Printed.{printed}
 use Rattle.lvm_group.specs.declared.volume.VolumeFault.{VolumeFault}
 use Rattle.lvm_group.specs.declared.volume.VolumeFault.TheVariants as fault
-use Rattle.lvm_group.specs.Writing.{Puts, new_targets}
+use Rattle.lvm_group.specs.Writing.{Puts, new_targets, own_header, own_label, own_location, piece, text_sectors}
 use Rattle.lvm_group.specs.Runs.{Linear}
 use Rattle.lvm_group.specs.Shown.{contents_of}
 use Rattle.lvm_group.specs.Sequences.{AreSingle, AreTold}
@@ -44,6 +45,18 @@ pub record Makes (pool : List ℕ) (extent : ℕ) (numbers : List ℕ) (a b : Se
   pub single : AreSingle a b (length numbers)
   pub means : AreTold a b (length numbers) → AreFree a (length numbers) → (c : Image) → ArePicks b (length numbers) c → Means pool extent a.sectors numbers c
   pub settled : AreTold a b (length numbers) → AreFree a (length numbers) → LeavesVolume pool (length numbers) (new_volume extent numbers) 1 a.sectors b
+
+-- what a sector of an array has of a text that begins behind the header
+abbrev pub text_at : List ℕ → ℕ → List ℕ
+text_at text s = if nat_lt s 9 || nat_le (9 + text_sectors text) s then replicate 512 0 else piece text (s - 9)
+
+-- what a sector of an array of a new volume holds: the label, the header with the text behind it, and else zeros
+abbrev pub new_sector : List ℕ → ℕ → (ℕ → ℕ) → List ℕ → ℕ → ℕ → List ℕ
+new_sector pool extent sectors numbers array s =
+    let text = printed (new_group pool extent sectors numbers) in
+    if s == 1 then label_bytes (own_label pool array (sectors array))
+    else if s == 8 then header_bytes (own_header (own_location 512 text ∷ []))
+    else text_at text s
 
 -- what making a volume writes
 abbrev pub made_targets : List ℕ → ℕ → (ℕ → ℕ) → List ℕ → List Target

@@ -22,7 +22,8 @@
 //! **Making.** [`Volume::create`] writes labels, headers and the group's text on the arrays; each is durable
 //! before a header has the text. Whatever a stop leaves after it means that group and that volume, and no
 //! array is bad (specs/Made.antt). Whether a volume can be extended and the runs that it then has are told by
-//! specs/Growth.antt.
+//! specs/Growth.antt. Where the arrays' members are written without them, a [`NewGroup`] says what each sector of the arrays is
+//! to hold, and [`Volume::over`] is the volume on them.
 //!
 //! **Extending.** [`Volume::extend`] writes a new text behind the last one of each array, and once all is durable
 //! the headers with it: a stop at any moment leaves some of the first writes, or all of them and some of the
@@ -36,6 +37,7 @@
 #![tactic(auto)]
 
 mod changing;
+mod founding;
 mod growth;
 mod making;
 mod naming;
@@ -50,4 +52,5 @@ mod syncing;
 mod volume;
 mod writing;
 
+pub use founding::NewGroup;
 pub use volume::{Volume, VolumeFault};

@@ -1,6 +1,7 @@
 //! Making a volume on arrays.
 
-ghost use Rattle.std.specs.Prelude.{◌≡◌, ◌<◌, ◌≤◌, ◌+◌, ◌^◌, ℕ, IfOk, Ok, OnOk, length, map, vec_capacity};
+ghost use Rattle.std.specs.Prelude.{◌≡◌, ◌<◌, ◌≤◌, ◌+◌, ◌^◌, ℕ, IfOk, Ok, OnOk, length, map, slice_index, vec_capacity};
+ghost use Rattle.lvm_text.specs.Group.{group_of};
 ghost use Rattle.std.specs.List.{range_with_len};
 ghost use Rattle.lvm_text.specs.Printed.{printed};
 ghost use Rattle.lvm_group.specs.Runs.{extents_of};
@@ -89,8 +90,36 @@ pub(crate) fn sizes<R: Rack>(rack: &R, arrays: u32) -> ArrayVec<u64, 16>
     sizes
 }
 
-/// Makes a group on the first arrays, as many as there are numbers of extents, with a volume of these.
+/// Gives a room the runs of a new volume, and the text of its group on arrays of so many sectors.
 #[tactic(auto, using(crate::proofs::NewVolume::new_fits))]
+pub(crate) fn lay_out(pool: &Id, extent: u64, sectors: &[u64], numbers: &[u64], room: &mut Room)
+    requires few { length numbers.now ≤ 16 }
+    requires same { length sectors.now ≡ length numbers.now }
+    requires below { AreBelow numbers.now }
+    requires room_of_runs { 1024 ≤ vec_capacity room.old.runs }
+    requires room_of_text { 262144 ≤ length room.old.text.bytes + room.old.text.spare }
+    ensures runs_are { room.new.runs.items ≡ grown [] numbers.now }
+    ensures runs_room { 1024 ≤ vec_capacity room.new.runs }
+    ensures spare_room { vec_capacity room.old.spare ≤ vec_capacity room.new.spare }
+    ensures text_room { 262144 ≤ length room.new.text.bytes + room.new.text.spare }
+    ensures text { room.new.text.bytes ≡ printed (new_group pool.now.0 extent (slice_index sectors.now) numbers.now) }
+    ensures most { length room.new.text.bytes ≤ 262144 }
+    ensures read_back { group_of room.new.text.bytes ≡ Ok (new_group pool.now.0 extent (slice_index sectors.now) numbers.now) }
+{
+    grow(&[], 0, numbers, &mut room.runs);
+    room.text.clear();
+    print_own(
+        pool,
+        extent,
+        sectors,
+        1,
+        numbers,
+        room.runs.as_slice(),
+        &mut room.text,
+    );
+}
+
+/// Makes a group on the first arrays, as many as there are numbers of extents, with a volume of these.
 pub(crate) fn make<R: Rack>(
     rack: &mut R,
     pool: &Id,
@@ -117,18 +146,8 @@ pub(crate) fn make<R: Rack>(
 {
     encoded_labels_decode();
     encoded_headers_decode();
-    grow(&[], 0, numbers, &mut room.runs);
     let arrays = numbers.len() as u32;
     let sectors = sizes(rack, arrays);
-    room.text.clear();
-    print_own(
-        pool,
-        extent,
-        sectors.as_slice(),
-        1,
-        numbers,
-        room.runs.as_slice(),
-        &mut room.text,
-    );
+    lay_out(pool, extent, sectors.as_slice(), numbers, room);
     put_new(rack, pool, arrays, &[], room.text.as_slice())
 }

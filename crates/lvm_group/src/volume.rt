@@ -8,6 +8,7 @@ ghost use Rattle.lvm_group.specs.Shown.{IsInside, volume_of};
 ghost use Rattle.lvm_group.specs.Laws.{is_sound};
 
 use crate::changing::{bring_up, next_seqno, put_grown};
+use crate::founding::NewGroup;
 use crate::growth::{copy, fits, grow};
 use crate::making::{extents_in, make, take_room, take_room_to_open};
 use crate::opening::find_runs;
@@ -113,10 +114,12 @@ impl<R: Rack> Rack for Volume<R> {
 }
 
 impl<R: Rack> Volume<R> {
-    ghost use Rattle.std.specs.Prelude.{◌<◌, ◌≤◌, ◌^◌, IfErr, IfOk, IsTrue, Ok, OnErr, OnOk, length};
+    ghost use Rattle.std.specs.Prelude.{◌<◌, ◌≤◌, ◌^◌, IfErr, IfOk, IsTrue, Ok, OnErr, OnOk, length, slice_index, ℕ};
     ghost use Rattle.lvm_text.specs.Printed.{printed};
     ghost use Rattle.lvm_group.specs.Changing.{Changes};
     ghost use Rattle.lvm_group.specs.Extending.{KeepsPlaces, extended, next_group, next_seqno};
+    ghost use Rattle.lvm_group.specs.Founding as founding;
+    ghost use Rattle.lvm_group.specs.Founding.{extent_of, numbers_of, sectors_of};
     ghost use Rattle.lvm_group.specs.Growth.{AreBelow, fits};
     ghost use Rattle.lvm_group.specs.Brought.{BringsUp};
     ghost use Rattle.lvm_group.specs.Images.{IsNew, IsOldOrNew};
@@ -189,6 +192,32 @@ impl<R: Rack> Volume<R> {
             spare: room.spare,
             text: room.text,
         })
+    }
+
+    /// The volume of a new group over arrays of its sizes, which are to hold the group's sectors. Nothing is called.
+    pub fn over(rack: R, group: NewGroup) -> Volume<R>
+        requires fit { (R.seen rack).fit }
+        requires small { total (R.seen rack).sectors (R.seen rack).disks < 2 ^ 52 }
+        requires arrays { length (numbers_of group) ≤ (R.seen rack).disks }
+        requires sizes { (array : ℕ) → array < length (numbers_of group) → (R.seen rack).sectors array ≡ slice_index (sectors_of group) array }
+        ensures volume { linear result ≡ new_volume (extent_of group) (numbers_of group) }
+        ensures numbered { (pool_of result ≡ founding.pool_of group) × (seqno_of result ≡ 1) }
+        ensures fit { (volume_of (linear result) (R.seen result.rack)).fit }
+        ensures below { below_of result ≡ rack }
+    {
+        let count = extents_in(group.room.runs.as_slice());
+        let arrays = group.numbers.len() as u32;
+        Volume {
+            rack,
+            pool: group.pool,
+            extent: group.extent,
+            arrays,
+            extents: count,
+            seqno: 1,
+            runs: group.room.runs,
+            spare: group.room.spare,
+            text: group.room.text,
+        }
     }
 
     /// Opens the volume of the group that stands in the first arrays of a rack, so many.

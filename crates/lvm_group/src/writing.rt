@@ -72,7 +72,7 @@ fn filled(bytes: &[u8]) -> [u8; 512]
 
 /// A sector of a text, the last one filled up with zeros.
 #[tactic(auto, unfolding(crate::specs::Writing::piece))]
-fn piece(text: &[u8], k: usize) -> [u8; 512]
+pub(crate) fn piece(text: &[u8], k: usize) -> [u8; 512]
     requires { 512 * k < length text.now }
     ensures { result ≡ piece text.now k }
 {
@@ -136,7 +136,7 @@ fn label_with(pv_id: &[u8; 32], sectors: u64) -> [u8; 512]
 }
 
 /// The sector of an array's label.
-fn label_sector(pool: &Id, array: u32, sectors: u64) -> [u8; 512]
+pub(crate) fn label_sector(pool: &Id, array: u32, sectors: u64) -> [u8; 512]
     requires { sectors < 2 ^ 52 }
     ensures bytes { result ≡ label_bytes (own_label pool.now.0 array sectors) }
     ensures is_label { IsLabel (own_label pool.now.0 array sectors) }
@@ -156,7 +156,7 @@ fn empty_header() -> [u8; 512]
 }
 
 /// The sector of a header with a text that begins at an offset of the area.
-fn text_header(offset: u64, text: &[u8]) -> [u8; 512]
+pub(crate) fn text_header(offset: u64, text: &[u8]) -> [u8; 512]
     requires { 0 < offset }
     ensures bytes { result ≡ header_bytes (own_header (own_location offset text.now ∷ [])) }
     ensures is_location { IsLocation (own_location offset text.now) }

@@ -3,6 +3,8 @@ pub mod Units
 pub mod Layered
 pub mod Planned
 pub mod Laying
+pub mod Leaving
+pub mod Written
 pub mod Entries
 pub mod Slicing
 pub mod Roles

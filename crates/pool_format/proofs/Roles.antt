@@ -49,6 +49,14 @@ positioned (x ∷ xs) place = subst (data_of (x ∷ xs) place) (sym (position_fi
     of false other None rest = ap₂ (λ a b. a || b) other rest
     of false other (Some k) rest = (let low = rest.0 in omega (arith, low), ap (λ b. b || has xs place) other ∙ rest.1)
 
+-- the role of a member is its position
+pub role_low : (xs : List ℕ) (place : ℕ) → has xs place ≡ true → role_of xs place < length xs
+role_low xs place among = of (position (at place) xs) (positioned xs place)
+  where
+    of : (o : Option ℕ) → data_of xs place o → option_map_or (λ k. k) o 0xffff < length xs
+    of None none = absurd (both_ways (has xs place) none among)
+    of (Some k) some = some.0
+
 -- ---- distinct places
 
 abbrev AreDistinct : List ℕ → Type 0

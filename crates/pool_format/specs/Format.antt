@@ -1,8 +1,10 @@
 -- What the making of a pool answers.
 use Rattle.std.specs.Prelude.{◌≡◌, ℕ, Result, MatchResult}
 use Rattle.rack.specs.declared.Back.{Back}
-use Rattle.rack.specs.Seen.{Seen}
+use Rattle.rack.specs.Values.{IsSingle}
+use Rattle.rack.specs.Seen.{Seen, IsLive}
 use Rattle.rack.specs.Sequences.{WritesOnly}
+use Rattle.gpt_table.specs.Disk.{now_on}
 use Rattle.lvm_group.specs.Runs.{Linear}
 use Rattle.lvm_group.specs.Made.{new_volume}
 use Rattle.raid_rack.specs.declared.arrays.Arrays.{Arrays}
@@ -10,8 +12,9 @@ use Rattle.pool_format.specs.declared.Birth.{Birth}
 use Rattle.pool_format.specs.declared.planning.NewPool.{NewPool}
 use Rattle.pool_format.specs.Arrays.{new_views}
 use Rattle.pool_format.specs.Parts.{new_state}
+use Rattle.pool_format.specs.Drives.{IsNewDrive, IsWhole}
 use Rattle.pool_format.specs.Plan.{IsPlanOf, units_on}
-use Rattle.pool_format.specs.Volume.{extents_of}
+use Rattle.pool_format.specs.Data.{extents_of}
 use Rattle.pool_format.specs.Writing.{IsPart}
 
 -- nothing was made, for this reason
@@ -19,7 +22,8 @@ abbrev pub IsRefusedFor : {A R E : Type 0} → E → Result A (Back R E) → Typ
 IsRefusedFor why result = MatchResult result (λ made. ⊥) (λ back. back.why ≡ why)
 
 -- The pool of the plan of a rack's disks: its state, the arrays that its superblocks make, and the volume of all that they offer.
--- Only tables and slices of the plan were written.
+-- Only tables and slices of the plan were written. Each sector has one value, which a stop leaves, and each disk that is told has
+-- the table, the state, the gate, the superblocks and the data of its place.
 pub record IsMade (x y : Seen) (extent : ℕ) (birth : Birth) (a : Arrays) (l : Linear) : Type 0 where
   pub plan : NewPool
   pub planned : IsPlanOf (units_on x extent) extent plan
@@ -27,6 +31,8 @@ pub record IsMade (x y : Seen) (extent : ℕ) (birth : Birth) (a : Arrays) (l : 
   pub arrays : a.all.items ≡ new_views birth 0 plan.arrays.items
   pub volume : l ≡ new_volume extent (extents_of plan)
   pub only : WritesOnly x y (IsPart plan x.sectors)
+  pub single : (d s : ℕ) → IsLive x y d s → IsSingle (y.held d s)
+  pub drives : (d : ℕ) → IsWhole x d → IsNewDrive plan birth d (x.sectors d) (now_on y d)
 
 -- what a refused making left: a part of those writes
 pub record IsGivenBack (x y : Seen) (extent : ℕ) : Type 0 where

@@ -2,6 +2,8 @@ pub mod Plan
 pub mod Parts
 pub mod Arrays
 pub mod Slices
+pub mod Data
+pub mod Drives
 pub mod Writing
 pub mod Volume
 pub mod Format

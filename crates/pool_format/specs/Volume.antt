@@ -1,7 +1,5 @@
 -- The volume of a new pool, and why none is made.
-use Rattle.std.specs.Prelude.{◌≡◌, ℕ, ◌*◌, ◌<◌, false, List, length, map, slice_get, Some, get_or}
-use Rattle.pool_state.specs.declared.contents.State.{State}
-use Rattle.array_image.specs.States.{is_current}
+use Rattle.std.specs.Prelude.{◌≡◌, ℕ, ◌*◌, List, length, slice_get, Some, get_or}
 use Rattle.array_model.specs.View.{View, IsArray, sectors_of}
 use Rattle.slice_rack.specs.Slices.{Slices}
 use Rattle.raid_rack.specs.declared.arrays.Arrays.{Arrays}
@@ -14,10 +12,6 @@ use Rattle.pool_format.specs.Arrays.{new_views}
 use Rattle.pool_format.specs.Parts.{new_state}
 use Rattle.pool_format.specs.Slices.{AreLaid}
 
--- the extents of each array, by number
-abbrev pub extents_of : NewPool → List ℕ
-extents_of plan = map (λ a. a.extents) plan.arrays.items
-
 -- the sectors of an array in a list, by its number
 abbrev pub sectors_in : List View → ℕ → ℕ
 sectors_in arrays n = sectors_of (get_or arrays n no_array)
@@ -28,16 +22,6 @@ pub record IsNewRaid (plan : NewPool) (birth : Birth) (t : Slices) (a : Arrays) 
   pub arrays : a.all.items ≡ new_views birth 0 plan.arrays.items
   pub are : (n : ℕ) (v : View) → slice_get a.all.items n ≡ Some v → IsArray v
   pub laid : AreLaid plan.arrays.items (length plan.units.items) (17 * length plan.units.items) t
-
--- a drive of a state that isn't current
-abbrev pub IsMarked : State → ℕ → Type 0
-IsMarked state place = (place < length state.drives.items) × (is_current state place ≡ false)
-
--- a drive that is marked is the fault
-abbrev pub IsFaultOf : State → CreateFault → Type 0
-IsFaultOf state (Layout why) = ⊥
-IsFaultOf state (Gone disk) = IsMarked state disk
-IsFaultOf state Memory = Unit {0}
 
 -- the plan isn't the fault
 abbrev pub HasLayout : CreateFault → Type 0

@@ -1,17 +1,22 @@
 //! What is written on each drive of a new pool before its volume and after it.
 
-ghost use Rattle.std.specs.Prelude.{◌≡◌, ◌<◌, ℕ, length};
+ghost use Rattle.std.specs.Prelude.{◌≡◌, ◌<◌, ℕ, length, OnOk};
 ghost use Rattle.pool_format.specs.Plan.{HasRoom, IsPlan};
-ghost use Rattle.pool_format.specs.Writing.{Lays};
+ghost use Rattle.pool_format.specs.Data.{IsNewGroup};
+ghost use Rattle.pool_format.specs.Drives as spec;
+ghost use Rattle.pool_format.specs.Drives.{LeavesClosed, LeavesLaid, LeavesSuper};
+ghost use Rattle.pool_format.specs.Writing.{InClosing, InClosings, InLaying, InSuper, InSupers, IsPart, Lays};
 
 use crate::Birth;
+use crate::members::write_members;
 use crate::planning::{NewPool, array_at, has_member};
 use crate::superblocks::new_super;
 use crate::tables::write_table;
-use crate::zeros::clear_members;
+use lvm_group::NewGroup;
 use md_super::encode;
 use rack::{Gone, Rack};
 use shr_base::crc32;
+use shr_base::fields::{put_bytes, put_u32};
 
 /// The sector of the gate, the second one of the log slice.
 const GATE_SECTOR: u64 = 2049;
@@ -19,34 +24,49 @@ const GATE_SECTOR: u64 = 2049;
 /// The sector of a superblock in its slice.
 const SUPER_SECTOR: u64 = 8;
 
-/// Writes the table of a place's drive and zeros over its members' data, durably.
-fn lay_drive<R: Rack>(rack: &mut R, plan: &NewPool, birth: &Birth, place: u32) -> Result<(), Gone>
+/// Writes the table of a place's drive and the data of its members, durably.
+fn lay_drive<R: Rack>(
+    rack: &mut R,
+    plan: &NewPool,
+    birth: &Birth,
+    group: &NewGroup,
+    place: u32,
+) -> Result<(), Gone>
     requires fit { (R.seen rack.old).fit }
     requires plan { IsPlan plan.now }
     requires room { HasRoom plan.now (R.seen rack.old) }
+    requires group { IsNewGroup plan.now birth.now group.now }
     requires place { place < length plan.now.units.items }
-    ensures lays { Lays plan.now (R.seen rack.old) (R.seen rack.new) result }
+    ensures lays { Lays (InLaying plan.now (R.seen rack.old).sectors place) (R.seen rack.old) (R.seen rack.new) result }
+    ensures laid { OnOk result (LeavesLaid plan.now birth.now place (R.seen rack.old) (R.seen rack.new)) }
     ensures runs { R.runs rack.old rack.new }
 {
     if let Err(gone) = write_table(rack, plan, birth, place) {
         return Err(gone);
     }
-    if let Err(gone) = clear_members(rack, plan, place) {
+    if let Err(gone) = write_members(rack, plan, birth, group, place) {
         return Err(gone);
     }
     rack.sync(place)
 }
 
-/// Writes the tables of all drives and zeros over their members' data, durably.
-pub(crate) fn lay_drives<R: Rack>(rack: &mut R, plan: &NewPool, birth: &Birth) -> Result<(), Gone>
+/// Writes the tables of all drives and the data of their members, durably.
+pub(crate) fn lay_drives<R: Rack>(
+    rack: &mut R,
+    plan: &NewPool,
+    birth: &Birth,
+    group: &NewGroup,
+) -> Result<(), Gone>
     requires fit { (R.seen rack.old).fit }
     requires plan { IsPlan plan.now }
     requires room { HasRoom plan.now (R.seen rack.old) }
-    ensures lays { Lays plan.now (R.seen rack.old) (R.seen rack.new) result }
+    requires group { IsNewGroup plan.now birth.now group.now }
+    ensures lays { Lays (IsPart plan.now (R.seen rack.old).sectors) (R.seen rack.old) (R.seen rack.new) result }
+    ensures laid { OnOk result ((d : ℕ) → d < length plan.now.units.items → LeavesLaid plan.now birth.now d (R.seen rack.old) (R.seen rack.new)) }
     ensures runs { R.runs rack.old rack.new }
 {
     for place in 0..plan.units.len() as u32 {
-        if let Err(gone) = lay_drive(rack, plan, birth, place) {
+        if let Err(gone) = lay_drive(rack, plan, birth, group, place) {
             return Err(gone);
         }
     }
@@ -66,7 +86,8 @@ fn write_super<R: Rack>(
     requires room { HasRoom plan.now (R.seen rack.old) }
     requires place { place < length plan.now.units.items }
     requires number { number < length plan.now.arrays.items }
-    ensures lays { Lays plan.now (R.seen rack.old) (R.seen rack.new) result }
+    ensures lays { Lays (InSuper plan.now place number) (R.seen rack.old) (R.seen rack.new) result }
+    ensures stands { OnOk result (LeavesSuper plan.now birth.now place number (R.seen rack.old) (R.seen rack.new)) }
     ensures runs { R.runs rack.old rack.new }
 {
     let array = array_at(plan, number);
@@ -88,7 +109,8 @@ fn write_supers<R: Rack>(
     requires plan { IsPlan plan.now }
     requires room { HasRoom plan.now (R.seen rack.old) }
     requires place { place < length plan.now.units.items }
-    ensures lays { Lays plan.now (R.seen rack.old) (R.seen rack.new) result }
+    ensures lays { Lays (InSupers plan.now place) (R.seen rack.old) (R.seen rack.new) result }
+    ensures stand { OnOk result ((n : ℕ) → LeavesSuper plan.now birth.now place n (R.seen rack.old) (R.seen rack.new)) }
     ensures runs { R.runs rack.old rack.new }
 {
     for number in 0..plan.arrays.len() as u32 {
@@ -100,11 +122,13 @@ fn write_supers<R: Rack>(
 }
 
 /// The gate of a new pool's log: closed, with number 0 (docs/FORMATS.md, 'Commit log').
-fn first_gate() -> [u8; 512] {
+fn first_gate() -> [u8; 512]
+    ensures { result ≡ spec.first_gate }
+{
     let mut gate = [0; 512];
-    gate[..8].copy_from_slice(b"SHRGATE1");
+    put_bytes(&mut gate, 0, b"SHRGATE1");
     let sum = crc32(&gate);
-    gate[8..12].copy_from_slice(&sum.to_le_bytes());
+    put_u32(&mut gate, 8, sum);
     gate
 }
 
@@ -114,7 +138,8 @@ fn close_drive<R: Rack>(rack: &mut R, plan: &NewPool, birth: &Birth, place: u32)
     requires plan { IsPlan plan.now }
     requires room { HasRoom plan.now (R.seen rack.old) }
     requires place { place < length plan.now.units.items }
-    ensures lays { Lays plan.now (R.seen rack.old) (R.seen rack.new) result }
+    ensures lays { Lays (InClosing plan.now place) (R.seen rack.old) (R.seen rack.new) result }
+    ensures closed { OnOk result (LeavesClosed plan.now birth.now place (R.seen rack.old) (R.seen rack.new)) }
     ensures runs { R.runs rack.old rack.new }
 {
     if let Err(gone) = rack.write(place, GATE_SECTOR, &first_gate()) {
@@ -131,7 +156,8 @@ pub(crate) fn close_drives<R: Rack>(rack: &mut R, plan: &NewPool, birth: &Birth)
     requires fit { (R.seen rack.old).fit }
     requires plan { IsPlan plan.now }
     requires room { HasRoom plan.now (R.seen rack.old) }
-    ensures lays { Lays plan.now (R.seen rack.old) (R.seen rack.new) result }
+    ensures lays { Lays (InClosings plan.now) (R.seen rack.old) (R.seen rack.new) result }
+    ensures closed { OnOk result ((d : ℕ) → d < length plan.now.units.items → LeavesClosed plan.now birth.now d (R.seen rack.old) (R.seen rack.new)) }
     ensures runs { R.runs rack.old rack.new }
 {
     for place in 0..plan.units.len() as u32 {

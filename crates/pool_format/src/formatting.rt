@@ -1,13 +1,14 @@
 //! The making of a pool, from its plan to its state.
 
-ghost use Rattle.std.specs.Prelude.{◌≡◌, ◌<◌, ◌≤◌, ◌^◌, ◌↔◌, ◌*◌, ℕ, length, true, IfOk, IfErr, OnOk, slice_get, Some};
-ghost use Rattle.rack.specs.Seen.{Rose};
+ghost use Rattle.std.specs.Prelude.{◌≡◌, ◌<◌, ◌≤◌, ◌^◌, ◌↔◌, ◌*◌, ℕ, length, true, IfOk, IfErr, OnOk};
+ghost use Rattle.rack.specs.Values.{IsSingle};
+ghost use Rattle.rack.specs.Seen.{IsLive, Rose};
+ghost use Rattle.gpt_table.specs.Disk.{now_on};
 ghost use Rattle.rack.specs.Sequences.{WritesOnly};
 ghost use Rattle.pool_state.specs.Valid.{is_extent};
 ghost use Rattle.layer_plan.specs.declared.PlanError.{PlanError};
-ghost use Rattle.slice_rack.specs.SliceRack.{tables, below_of};
-ghost use Rattle.slice_rack.specs.Sliced.{slices_of};
-ghost use Rattle.lvm_group.specs.Made.{new_volume};
+ghost use Rattle.slice_rack.specs.SliceRack.{below_of};
+ghost use Rattle.lvm_group.specs.Made as made;
 ghost use Rattle.lvm_group.specs.Shown.{volume_of};
 ghost use Rattle.lvm_group.specs.Volume.{below_of as rack_in, linear};
 ghost use Rattle.raid_rack.specs.RaidRack.{arrays_in, arrays_of, raid_in, raid_seen, slices_in};
@@ -15,21 +16,19 @@ ghost use Rattle.pool_format.specs.Plan.{HasRoom, IsPlan, IsPlanOf, IsUnplanned,
 ghost use Rattle.pool_format.specs.Format.{IsGivenBack, IsMade, IsRefusedFor};
 ghost use Rattle.pool_format.specs.Arrays.{new_views};
 ghost use Rattle.pool_format.specs.Parts as parts;
-ghost use Rattle.array_model.specs.View.{View, IsArray};
-ghost use Rattle.pool_format.specs.Slices.{AreLaid};
-ghost use Rattle.pool_format.specs.Volume.{HasLayout, IsNewRaid, extents_of};
-ghost use Rattle.pool_format.specs.Writing.{IsPart, Lays};
+ghost use Rattle.pool_format.specs.Volume.{HasLayout};
+ghost use Rattle.pool_format.specs.Data.{IsNewGroup, extents_of};
+ghost use Rattle.pool_format.specs.Drives.{IsNewDrive, IsWhole, LeavesClosed, LeavesLaid, LeavesState};
+ghost use Rattle.pool_format.specs.Writing.{InEnds, IsPart, Lays};
 
 use crate::Birth;
-use crate::arrays::new_arrays;
 use crate::drives::{close_drives, lay_drives};
 use crate::planning::{NewPool, plan};
-use crate::states::{new_state, write_states};
-use crate::volume::make_volume;
-use crate::zeros::clear_states;
+use crate::states::{clear_states, write_states};
+use crate::volume::{new_group, new_volume};
 use commit_log::Log;
 use layer_plan::PlanError;
-use lvm_group::Volume;
+use lvm_group::{NewGroup, Volume};
 use rack::{Back, Gone, NoMemory, Rack};
 use raid_rack::RaidRack;
 use std::alloc::Global;
@@ -48,41 +47,52 @@ pub enum CreateFault {
     Memory,
 }
 
-/// The log that the making needs, and that of the pool.
+/// What a pool needs in memory: its log, and the group of its volume.
 #[derive(Drop)]
-struct Logs {
-    making: Log,
-    pool: Log,
+struct Memory {
+    log: Log,
+    group: NewGroup,
 }
 
-/// Makes both logs.
-fn make_logs(alloc: Global) -> Result<Logs, NoMemory> {
-    Ok(Logs {
-        making: Log::make(alloc)?,
-        pool: Log::make(alloc)?,
-    })
+/// Takes it.
+fn take_memory(alloc: Global, plan: &NewPool, birth: &Birth) -> Result<Memory, NoMemory>
+    requires { IsPlan plan.now }
+    ensures { IfOk result (λ memory. IsNewGroup plan.now birth.now memory.group) }
+{
+    let log = Log::make(alloc)?;
+    let group = new_group(alloc, plan, birth)?;
+    Ok(Memory { log, group })
 }
 
-/// Writes all that lies below the volume: no disk shows a pool, and each has its table and zeros in its members' data, durably.
-fn prepare<R: Rack>(rack: &mut R, plan: &NewPool, birth: &Birth) -> Result<(), Gone>
+/// Writes all that lies below the superblocks: no disk shows a pool, and each has its table and its members' data, durably.
+fn prepare<R: Rack>(
+    rack: &mut R,
+    plan: &NewPool,
+    birth: &Birth,
+    group: &NewGroup,
+) -> Result<(), Gone>
     requires fit { (R.seen rack.old).fit }
     requires plan { IsPlan plan.now }
     requires room { HasRoom plan.now (R.seen rack.old) }
-    ensures lays { Lays plan.now (R.seen rack.old) (R.seen rack.new) result }
+    requires group { IsNewGroup plan.now birth.now group.now }
+    ensures lays { Lays (IsPart plan.now (R.seen rack.old).sectors) (R.seen rack.old) (R.seen rack.new) result }
+    ensures laid { OnOk result ((d : ℕ) → d < length plan.now.units.items → LeavesLaid plan.now birth.now d (R.seen rack.old) (R.seen rack.new)) }
     ensures runs { R.runs rack.old rack.new }
 {
     match clear_states(rack, plan) {
-        Ok(()) => lay_drives(rack, plan, birth),
+        Ok(()) => lay_drives(rack, plan, birth, group),
         Err(gone) => Err(gone),
     }
 }
 
-/// Writes the superblocks, and the state last.
+/// Writes the gates and the superblocks, and the state last.
 fn conclude<R: Rack>(rack: &mut R, plan: &NewPool, birth: &Birth) -> Result<(), Gone>
     requires fit { (R.seen rack.old).fit }
     requires plan { IsPlan plan.now }
     requires room { HasRoom plan.now (R.seen rack.old) }
-    ensures lays { Lays plan.now (R.seen rack.old) (R.seen rack.new) result }
+    ensures lays { Lays (InEnds plan.now) (R.seen rack.old) (R.seen rack.new) result }
+    ensures closed { OnOk result ((d : ℕ) → d < length plan.now.units.items → LeavesClosed plan.now birth.now d (R.seen rack.old) (R.seen rack.new)) }
+    ensures states { OnOk result ((d : ℕ) → d < length plan.now.units.items → LeavesState plan.now birth.now d (R.seen rack.old) (R.seen rack.new)) }
     ensures runs { R.runs rack.old rack.new }
 {
     match close_drives(rack, plan, birth) {
@@ -91,50 +101,48 @@ fn conclude<R: Rack>(rack: &mut R, plan: &NewPool, birth: &Birth) -> Result<(), 
     }
 }
 
-/// Writes the superblocks and the state, and takes the arrays that they say in place of those that the volume was made on.
-fn settle<R: Rack>(
-    volume: &mut Volume<RaidRack<R>>,
+/// Writes a pool, durably.
+fn write_pool<R: Rack>(
+    rack: &mut R,
     plan: &NewPool,
     birth: &Birth,
-    log: Log,
+    group: &NewGroup,
 ) -> Result<(), Gone>
-    requires fit { (R.seen (below_of (slices_in (rack_in volume.old)))).fit }
+    requires fit { (R.seen rack.old).fit }
+    requires lasting { (R.seen rack.old).lasting }
     requires plan { IsPlan plan.now }
-    requires room { HasRoom plan.now (R.seen (below_of (slices_in (rack_in volume.old)))) }
-    ensures lays { Lays plan.now (R.seen (below_of (slices_in (rack_in volume.old)))) (R.seen (below_of (slices_in (rack_in volume.new)))) result }
-    ensures volume { linear volume.new ≡ linear volume.old }
-    ensures tables { tables (slices_in (rack_in volume.new)) ≡ tables (slices_in (rack_in volume.old)) }
-    ensures state { OnOk result ((raid_in (rack_in volume.new)).state ≡ parts.new_state plan.now birth.now) }
-    ensures arrays { OnOk result (arrays_of (rack_in volume.new) ≡ new_views birth.now 0 plan.now.arrays.items) }
-    ensures are { OnOk result ((n : ℕ) (v : View) → slice_get (arrays_of (rack_in volume.new)) n ≡ Some v → IsArray v) }
-    ensures runs { R.runs (below_of (slices_in (rack_in volume.old))) (below_of (slices_in (rack_in volume.new))) }
+    requires room { HasRoom plan.now (R.seen rack.old) }
+    requires group { IsNewGroup plan.now birth.now group.now }
+    ensures lays { Lays (IsPart plan.now (R.seen rack.old).sectors) (R.seen rack.old) (R.seen rack.new) result }
+    ensures single { OnOk result ((d s : ℕ) → IsLive (R.seen rack.old) (R.seen rack.new) d s → IsSingle ((R.seen rack.new).held d s)) }
+    ensures drives { OnOk result ((d : ℕ) → IsWhole (R.seen rack.old) d → IsNewDrive plan.now birth.now d ((R.seen rack.old).sectors d) (now_on (R.seen rack.new) d)) }
+    ensures runs { R.runs rack.old rack.new }
 {
-    if let Err(gone) = conclude(volume.inner().slices().inner(), plan, birth) {
-        return Err(gone);
+    match prepare(rack, plan, birth, group) {
+        Ok(()) => conclude(rack, plan, birth),
+        Err(gone) => Err(gone),
     }
-    let state = new_state(plan, birth);
-    let arrays = new_arrays(plan, birth);
-    volume.inner().renew(state, arrays, log);
-    Ok(())
 }
 
 /// Writes a pool of this plan, and gives its volume.
 fn build<R: Rack>(
-    alloc: Global,
     rack: R,
     plan: &NewPool,
     birth: &Birth,
-    logs: Logs,
+    memory: Memory,
 ) -> Result<Volume<RaidRack<R>>, Back<R, CreateFault>>
     requires fit { (R.seen rack).fit }
     requires lasting { (R.seen rack).lasting }
     requires plan { IsPlan plan.now }
     requires room { HasRoom plan.now (R.seen rack) }
+    requires group { IsNewGroup plan.now birth.now memory.group }
     ensures fit { IfOk result (λ volume. (volume_of (linear volume) (raid_seen R.seen (rack_in volume))).fit) }
     ensures state { IfOk result (λ volume. (raid_in (rack_in volume)).state ≡ parts.new_state plan.now birth.now) }
     ensures arrays { IfOk result (λ volume. arrays_of (rack_in volume) ≡ new_views birth.now 0 plan.now.arrays.items) }
-    ensures volume { IfOk result (λ volume. linear volume ≡ new_volume plan.now.extent (extents_of plan.now)) }
+    ensures volume { IfOk result (λ volume. linear volume ≡ made.new_volume plan.now.extent (extents_of plan.now)) }
     ensures only { IfOk result (λ volume. WritesOnly (R.seen rack) (R.seen (below_of (slices_in (rack_in volume)))) (IsPart plan.now (R.seen rack).sectors)) }
+    ensures single { IfOk result (λ volume. (d s : ℕ) → IsLive (R.seen rack) (R.seen (below_of (slices_in (rack_in volume)))) d s → IsSingle ((R.seen (below_of (slices_in (rack_in volume)))).held d s)) }
+    ensures drives { IfOk result (λ volume. (d : ℕ) → IsWhole (R.seen rack) d → IsNewDrive plan.now birth.now d ((R.seen rack).sectors d) (now_on (R.seen (below_of (slices_in (rack_in volume)))) d)) }
     ensures some { IfErr result (λ back. WritesOnly (R.seen rack) (R.seen back.rack) (IsPart plan.now (R.seen rack).sectors)) }
     ensures gone { IfErr result (λ back. (disk : ℕ) → back.why ≡ CreateFault.Gone disk → (disk < (R.seen rack).disks) × Rose ((R.seen rack).faults disk) ((R.seen back.rack).faults disk)) }
     ensures planned { IfErr result (λ back. HasLayout back.why) }
@@ -142,20 +150,10 @@ fn build<R: Rack>(
     ensures returned { IfErr result (λ back. R.runs rack back.rack) }
 {
     let mut rack = rack;
-    if let Err(gone) = prepare(&mut rack, plan, birth) {
-        return Err(Back {
-            rack,
-            why: CreateFault::Gone { disk: gone.disk },
-        });
-    }
-    let mut volume = match make_volume(alloc, rack, plan, birth, logs.making) {
-        Ok(volume) => volume,
-        Err(back) => return Err(back),
-    };
-    match settle(&mut volume, plan, birth, logs.pool) {
-        Ok(()) => Ok(volume),
+    match write_pool(&mut rack, plan, birth, &memory.group) {
+        Ok(()) => Ok(new_volume(rack, plan, birth, memory.group, memory.log)),
         Err(gone) => Err(Back {
-            rack: volume.into_inner().into_inner().into_inner(),
+            rack,
             why: CreateFault::Gone { disk: gone.disk },
         }),
     }
@@ -195,8 +193,8 @@ pub fn format<R: Rack>(
             });
         }
     };
-    match make_logs(alloc) {
-        Ok(logs) => build(alloc, rack, &plan, birth, logs),
+    match take_memory(alloc, &plan, birth) {
+        Ok(memory) => build(rack, &plan, birth, memory),
         Err(_) => Err(Back {
             rack,
             why: CreateFault::Memory,

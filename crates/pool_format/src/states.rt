@@ -1,10 +1,11 @@
 //! The state of a new pool, on each of its drives.
 
-ghost use Rattle.std.specs.Prelude.{◌≡◌, ◌<◌, ◌≤◌, true, length, ℕ};
+ghost use Rattle.std.specs.Prelude.{◌≡◌, ◌<◌, ◌≤◌, true, length, ℕ, OnOk};
 ghost use Rattle.array_image.specs.Places.{drive_id, state_sector};
 ghost use Rattle.pool_format.specs.Plan.{HasRoom, IsPlan};
 ghost use Rattle.pool_format.specs.Parts as spec;
-ghost use Rattle.pool_format.specs.Writing.{Lays};
+ghost use Rattle.pool_format.specs.Drives.{LeavesState};
+ghost use Rattle.pool_format.specs.Writing.{InStates, Lays};
 
 use crate::Birth;
 use crate::planning::NewPool;
@@ -15,6 +16,9 @@ use shr_base::{Id, child_id};
 
 /// The sector of the state: the first one of the log slice.
 pub(crate) const STATE_SECTOR: u64 = 2048;
+
+/// A sector of zeros.
+const ZEROS: [u8; 512] = [0; 512];
 
 /// The id of the drive of a place.
 pub(crate) fn new_drive_id(birth: &Birth, place: u32) -> Id
@@ -55,12 +59,29 @@ pub(crate) fn new_state(plan: &NewPool, birth: &Birth) -> State
     }
 }
 
+/// Writes zeros over the state's sector of each drive, durably: no disk shows a pool from then on.
+pub(crate) fn clear_states<R: Rack>(rack: &mut R, plan: &NewPool) -> Result<(), Gone>
+    requires fit { (R.seen rack.old).fit }
+    requires plan { IsPlan plan.now }
+    requires room { HasRoom plan.now (R.seen rack.old) }
+    ensures lays { Lays (InStates plan.now) (R.seen rack.old) (R.seen rack.new) result }
+    ensures runs { R.runs rack.old rack.new }
+{
+    for place in 0..plan.units.len() as u32 {
+        if let Err(gone) = write_durably(rack, place, STATE_SECTOR, &ZEROS) {
+            return Err(gone);
+        }
+    }
+    Ok(())
+}
+
 /// Writes each drive's copy of the state, durably.
 pub(crate) fn write_states<R: Rack>(rack: &mut R, plan: &NewPool, birth: &Birth) -> Result<(), Gone>
     requires fit { (R.seen rack.old).fit }
     requires plan { IsPlan plan.now }
     requires room { HasRoom plan.now (R.seen rack.old) }
-    ensures lays { Lays plan.now (R.seen rack.old) (R.seen rack.new) result }
+    ensures lays { Lays (InStates plan.now) (R.seen rack.old) (R.seen rack.new) result }
+    ensures states { OnOk result ((d : ℕ) → d < length plan.now.units.items → LeavesState plan.now birth.now d (R.seen rack.old) (R.seen rack.new)) }
     ensures runs { R.runs rack.old rack.new }
 {
     let state = new_state(plan, birth);

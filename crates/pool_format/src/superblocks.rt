@@ -49,7 +49,7 @@ fn position_of(members: &[u32], place: u32) -> Option<usize>
 }
 
 /// The role of a place: its position among the members.
-fn role_of(members: &[u32], place: u32) -> u16
+pub(crate) fn role_of(members: &[u32], place: u32) -> u16
     requires { length members.now < 17 }
     ensures { result ≡ spec.role_of members.now place }
 {

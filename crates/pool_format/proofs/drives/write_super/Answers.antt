@@ -1,8 +1,11 @@
-use Rattle.std.proofs.Common.{◌+◌, length, sym, ap, ◌∙◌, arith}
+use Rattle.std.proofs.Common.{◌≡◌, ◌+◌, length, Ok, refl, sym, ap, ◌∙◌, arith}
 use Rattle.std.proofs.lemmas.List.FromFn.{length-map-range_with_len}
 use Rattle.md_super.specs.declared.superblock.Super.{Super}
-use Rattle.pool_format.specs.Parts.{role_of}
-use Rattle.pool_format.proofs.Laying.{lays_write, member_inside, member_part}
+use Rattle.pool_format.specs.Drives.{IsBlockOf}
+use Rattle.pool_format.specs.Parts.{new_super, role_of}
+use Rattle.pool_format.proofs.Laying.{lays_write, member_inside}
+use Rattle.pool_format.proofs.Leaving.{super_written}
+use Rattle.pool_format.specs.Writing.{InSuper}
 use Rattle.pool_format.proofs.drives.write_super.Goals as goal
 
 pub encode-block-requires : goal.encode-block-requires
@@ -32,5 +35,18 @@ returns-clause-lays g c =
     let a = c.array_at-array.result.now in
     let among = sym c.has_member.ensures ∙ c.if-not-has_member.false in
     let in_it = member_inside c.args.plan.now (g.R.Rack.seen c.args.rack.now) c.requires.plan c.requires.room c.args.number c.args.place a c.array_at-array.ensures among in
-    lays_write c.args.plan.now (g.R.Rack.seen c.args.rack.now) (g.R.Rack.seen c.write.new.self) c.args.place (a.first + 8) c.encode-block.result c.write.result in_it.disk
-    (member_part c.args.plan.now c.requires.plan c.args.number c.args.place 8 a c.array_at-array.ensures among (omega arith)) c.write.ensures.writes
+    lays_write (InSuper c.args.plan.now c.args.place c.args.number) (g.R.Rack.seen c.args.rack.now) (g.R.Rack.seen c.write.new.self) c.args.place (a.first + 8) c.encode-block.result c.write.result in_it.disk
+    (refl, record { array = a; at = c.array_at-array.ensures; among = among; sector_is = refl }) c.write.ensures.writes
+
+pub returns-clause-stands : goal.returns-clause-stands
+returns-clause-stands g c =
+    let a = c.array_at-array.result.now in
+    let s = new_super c.args.birth.now a c.args.number c.args.place in
+    let long : length c.encode-block.result ≡ 512 = search in
+    let block : IsBlockOf s c.encode-block.result = record {
+      sized = long;
+      says = c.encode-block.ensures.read_back ∙ ap Ok c.new_super.ensures;
+      elsewhere = c.encode-block.ensures.elsewhere;
+    } in
+    super_written c.args.plan.now c.args.birth.now c.args.place c.args.number a (g.R.Rack.seen c.args.rack.now) (g.R.Rack.seen c.write.new.self) c.encode-block.result c.write.result
+    c.array_at-array.ensures block c.write.ensures.writes

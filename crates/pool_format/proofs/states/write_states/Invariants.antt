@@ -1,9 +1,13 @@
-use Rattle.pool_format.proofs.Laying.{Laid}
+use Rattle.std.proofs.Common.{ℕ, ◌<◌}
+use Rattle.rack.specs.Sequences.{WritesOnly}
+use Rattle.pool_format.specs.Drives.{LeavesState}
+use Rattle.pool_format.specs.Writing.{InStates}
 use Rattle.pool_format.proofs.states.write_states.Given as goal
 
--- parts alone were written so far
+-- states alone were written so far, those of the drives up to here
 abbrev pub invariant-loop-place : goal.invariant-loop-place
 invariant-loop-place g l = record {
-  laid : Laid l.plan (g.R.Rack.seen l.initial.rack) (g.R.Rack.seen l.rack);
+  laid : WritesOnly (g.R.Rack.seen l.initial.rack) (g.R.Rack.seen l.rack) (InStates l.plan);
+  states : (d : ℕ) → d < l.place → LeavesState l.plan l.birth d (g.R.Rack.seen l.initial.rack) (g.R.Rack.seen l.rack);
   runs : g.R.Rack.runs l.initial.rack l.rack;
 }

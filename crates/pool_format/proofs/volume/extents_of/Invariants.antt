@@ -1,5 +1,5 @@
 use Rattle.std.proofs.Common.{◌≡◌, ◌++◌, drop, length, map}
-use Rattle.pool_format.specs.Volume.{extents_of}
+use Rattle.pool_format.specs.Data.{extents_of}
 use Rattle.pool_format.proofs.volume.extents_of.Given as goal
 
 -- those up to here
