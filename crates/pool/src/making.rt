@@ -11,7 +11,6 @@ ghost use Rattle.pool_scan.specs.Scanning.{IsUnfaulted};
 ghost use Rattle.pool_rest.specs.Resting.{WritesDrives};
 ghost use Rattle.assembler.specs.Refusing.{is_early};
 ghost use Rattle.assembler.specs.Sound.{HoldSound, IsMeantBy, IsMeantRefusal};
-ghost use Rattle.assembler.specs.Volume.{AllLive};
 ghost use Rattle.assembler.specs.Writing.{WritesPool};
 ghost use Rattle.raid_rack.specs.RaidRack.{arrays_in};
 ghost use Rattle.pool_format.specs.Plan.{IsUnplanned, units_on};
@@ -38,11 +37,11 @@ impl<R: Bay> Pool<R> {
         ensures drives { IfOk result (λ pool. WritesPool R.seen R.runs bay (bay_in pool)) }
         ensures written { IfErr result (λ back. OnlyReads (R.seen bay) (R.seen back.rack) ⊎ (WritesDrives (R.seen bay) (R.seen back.rack) ⊎ WritesPool R.seen R.runs bay back.rack)) }
         ensures meant { IfOk result (λ pool. (f : Found) → HoldSound (R.seen bay) f → IsUnfaulted (R.seen bay) (R.seen (bay_in pool))
-            → AllLive (book (view R.seen pool)) → IsMeantBy (R.seen bay) (volume (view R.seen pool))) }
+            → IsMeantBy R.seen (R.seen bay) f (arrays_of pool) (view R.seen pool).linear) }
         ensures marks { IfOk result (λ pool. (f : Found) → HoldSound (R.seen bay) f → IsUnfaulted (R.seen bay) (R.seen (bay_in pool))
             → (p : ℕ) → is_current (book (view R.seen pool)).state p ≡ (is_current f.state p && is_some (f.seats p))) }
         ensures exact { IfErr result (λ back. (f : Found) → HoldSound (R.seen bay) f → IsUnfaulted (R.seen bay) (R.seen back.rack)
-            → is_early back.why ≡ true → IsMeantRefusal (R.seen bay) (R.seen back.rack) back.why) }
+            → back.why ≢ Refusal.Memory → IsMeantRefusal (R.seen bay) back.why) }
         ensures returned { IfErr result (λ back. R.runs bay back.rack) }
     {
         match assemble(alloc, bay, seconds) {

@@ -1,28 +1,29 @@
 -- A pool holds a reference to its bay: what is done through it is done to the bay.
-use Rattle.std.proofs.Common.{◌≡◌, ◌⊎◌, ◌↔◌, ℕ, ◌<◌, List, [], ◌∷◌, Option, Some, None, refl, sym, subst, ◌∙◌, ap, inl, inr}
+use Rattle.std.proofs.Common.{◌≡◌, ◌⊎◌, ◌↔◌, ◌&&◌, is_some, ℕ, ◌<◌, List, [], ◌∷◌, Option, Some, None, refl, sym, subst, ◌∙◌, ap, inl, inr}
 use Rattle.rack.specs.Seen.{Seen, Rose}
 use Rattle.rack.specs.Values.{Values, MayLeave, Keeps, only}
 use Rattle.rack.specs.Sequences.{OnlyReads}
 use Rattle.flat_array.specs.Array.{FlatArray, fresh}
+use Rattle.array_image.specs.States.{is_current}
+use Rattle.lvm_group.specs.Runs.{Linear}
 use Rattle.layer_plan.specs.declared.PlanError.{PlanError}
 use Rattle.pool_image.specs.Drives.{Found}
 use Rattle.pool_image.specs.Meaning.{Volume}
 use Rattle.pool_scan.specs.Scanning.{IsUnfaulted}
 use Rattle.pool_rest.specs.Resting.{WritesDrives}
-use Rattle.raid_rack.specs.Raid.{IsTold}
 use Rattle.assembler.specs.Sound.{HoldSound, IsMeantBy}
-use Rattle.assembler.specs.Volume.{AllLive}
 use Rattle.assembler.specs.Writing.{WritesPool}
 use Rattle.pool_format.specs.declared.formatting.CreateFault.{CreateFault}
 use Rattle.pool_format.specs.declared.formatting.CreateFault.TheVariants.{Layout, Gone, Memory}
 use Rattle.pool_format.specs.Format.{IsGivenBack}
 use Rattle.pool_format.specs.Plan.{IsUnplanned, units_on}
 use Rattle.pool_format.specs.Volume.{HasLayout}
-use Rattle.pool.specs.View.{View, book, slices_shown, volume}
+use Rattle.pool.specs.declared.Pool.{Pool}
+use Rattle.pool.specs.View.{arrays_of, book, view, volume}
 use Rattle.pool.specs.Volume.{Holds}
 use Rattle.shr_tool.specs.Made.{HasFaultCause}
-use Rattle.shr_tool.specs.Opened.{IsMeant}
-use Rattle.shr_tool.specs.Timeline.{moment_of}
+use Rattle.shr_tool.specs.Opened.{IsMeant, IsOpenedAs}
+use Rattle.shr_tool.specs.Timeline.{ground_of, moment_of}
 
 -- a bay that is reached through references is written as they are
 pub pool_through :
@@ -61,21 +62,33 @@ first_of other (Some (v ∷ more)) = v
 
 -- the volume that is opened holds the array that the disks meant
 pub held_by_meant :
-    (x : Seen) (v : View) (a : FlatArray)
-    → ((f : Found) → HoldSound x f → IsUnfaulted x v.bay → AllLive (book v) → IsMeantBy x (volume v))
-    → ((f : Found) → HoldSound x f → IsUnfaulted x v.bay → (n : ℕ) → n < v.linear.arrays → IsTold (book v) (slices_shown v) n)
-    → IsMeant x v.bay (moment_of v) a
-    → Holds v a
+    {R : Type 0} (shown : R → Seen) (x : Seen) (pool : Pool R) (a : FlatArray)
+    → ((f : Found) → HoldSound x f → IsUnfaulted x (view shown pool).bay → IsMeantBy shown x f (arrays_of pool) (view shown pool).linear)
+    → IsMeant x (view shown pool).bay a
+    → Holds (view shown pool) a
 unfolding first_of
-held_by_meant x v a opens told meant =
-    let by = opens meant.pool meant.sound meant.unfaulted meant.live in
+held_by_meant shown x pool a opens meant =
+    let v = view shown pool in
+    let by = opens meant.pool meant.sound meant.unfaulted in
     let same : by.volume ≡ meant.volume = ap (first_of meant.volume) (sym by.meant ∙ meant.meant) in
+    let joined : v.linear.arrays ≡ meant.pool.state.joined = ap (λ (l : Linear). l.arrays) by.lies.linear in
     subst (λ b. Holds v b) (ap (λ (w : Volume). fresh w.sectors w.contents) same ∙ sym meant.array)
     (record {
-      told = told meant.pool meant.sound meant.unfaulted;
+      told = λ n low. by.told n (subst (λ k. n < k) joined low);
       size = sym by.holds.sectors;
       values = λ s inside alive. keeps_only (by.volume.contents s) ((volume v).held 0 s) (λ u leaves. by.holds.contents s u inside alive leaves);
     })
+
+-- and it is opened as they had it
+pub opened_as :
+    {R : Type 0} (shown : R → Seen) (x : Seen) (pool : Pool R)
+    → ((f : Found) → HoldSound x f → IsUnfaulted x (view shown pool).bay → IsMeantBy shown x f (arrays_of pool) (view shown pool).linear)
+    → ((f : Found) → HoldSound x f → IsUnfaulted x (view shown pool).bay → (p : ℕ) → is_current (book (view shown pool)).state p ≡ (is_current f.state p && is_some (f.seats p)))
+    → (f : Found) → HoldSound x f → IsUnfaulted x (view shown pool).bay
+    → IsOpenedAs f (view shown pool).bay (ground_of (view shown pool)) (moment_of (view shown pool))
+opened_as shown x pool opens marks f sound unfaulted =
+    let by = opens f sound unfaulted in
+    record { lies = by.lies; slices = by.slices; after = by.after; told = by.told; live = by.live; marks = marks f sound unfaulted }
 
 -- stops stay told in an opening
 pub traced_through : {R : Type 0} (shown : R → Seen) (runs : R → R → Type 0) (r s : R) → WritesPool shown runs r s → (shown r).traced → (shown s).traced

@@ -1,19 +1,23 @@
 -- How the opening of a pool on attached disks, and the script on it, came out.
-use Rattle.std.specs.Prelude.{◌≡◌, ◌⊎◌, ◌&&◌, ℕ, ◌≤◌, true, is_some, List, [], ◌∷◌, Some}
+use Rattle.std.specs.Prelude.{◌≡◌, ◌≢◌, ◌⊎◌, ◌&&◌, ◌<◌, ℕ, true, is_some, List, [], ◌∷◌, Some}
 use Rattle.rack.specs.Seen.{Seen}
 use Rattle.rack.specs.Sequences.{OnlyReads, WritesOnly}
 use Rattle.flat_array.specs.Array.{FlatArray, fresh}
 use Rattle.array_image.specs.States.{is_current}
 use Rattle.slice_rack.specs.Runs.{IsSliced}
+use Rattle.slice_rack.specs.Sliced.{slices_of}
+use Rattle.raid_rack.specs.Book.{IsAfter}
+use Rattle.raid_rack.specs.Raid.{IsTold}
 use Rattle.pool_image.specs.Disks.{disks_of}
 use Rattle.pool_image.specs.Drives.{Found}
 use Rattle.pool_image.specs.Meaning.{Volume, meaning}
 use Rattle.pool_scan.specs.Scanning.{IsUnfaulted, now_in}
 use Rattle.pool_rest.specs.Resting.{WritesDrives}
 use Rattle.assembler.specs.declared.refusal.Refusal.{Refusal}
+use Rattle.assembler.specs.declared.refusal.Refusal.TheVariants.{Memory}
 use Rattle.assembler.specs.Refusing.{is_early}
-use Rattle.assembler.specs.Sound.{HoldSound, IsMeantRefusal}
-use Rattle.assembler.specs.Volume.{AllLive}
+use Rattle.assembler.specs.Sound.{AreSlicesOf, HoldSound, IsMeantRefusal}
+use Rattle.assembler.specs.Volume.{AllLive, IsVolumeOf}
 use Rattle.assembler.specs.Writing.{WritesPool}
 use Rattle.shr_script.specs.Reply.{refused_line}
 use Rattle.shr_tool.specs.declared.status.Status.{Status}
@@ -30,15 +34,25 @@ pub record NotOpened {R : Type 0} (seen : R → Seen) (runs : R → R → Type 0
   pub kept : runs bay after
   pub early : is_early why ≡ true → OnlyReads (seen bay) (seen after) ⊎ WritesDrives (seen bay) (seen after)
   pub written : OnlyReads (seen bay) (seen after) ⊎ (WritesDrives (seen bay) (seen after) ⊎ WritesPool seen runs bay after)
-  pub exact : (f : Found) → HoldSound (seen bay) f → IsUnfaulted (seen bay) (seen after) → is_early why ≡ true → IsMeantRefusal (seen bay) (seen after) why
+  pub exact : (f : Found) → HoldSound (seen bay) f → IsUnfaulted (seen bay) (seen after) → why ≢ Memory → IsMeantRefusal (seen bay) why
+
+-- A pool was opened as its disks had it: its volume is that of the group of what they held, over the slices of its drives; marks alone
+-- have come to its state. Each of the volume's arrays is told, and no sector of these is spent. `y` is what the disks show then.
+pub record IsOpenedAs (f : Found) (y : Seen) (g : Ground) (from : Moment) : Type 0 where
+  pub lies : IsVolumeOf f g.linear
+  pub slices : AreSlicesOf f g.slices
+  pub after : IsAfter f.state from.book.state
+  pub told : (n : ℕ) → n < f.state.joined → IsTold from.book (slices_of g.slices y) n
+  pub live : AllLive from.book
+  -- just those drives are marked missing that were, or that have no disk
+  pub marks : (p : ℕ) → is_current from.book.state p ≡ (is_current f.state p && is_some (f.seats p))
 
 -- The array that disks meant when a pool was opened on them: they held a sound pool, and none refused a call. `opened` is what they
 -- show after the opening.
-pub record IsMeant (x opened : Seen) (from : Moment) (a : FlatArray) : Type 0 where
+pub record IsMeant (x opened : Seen) (a : FlatArray) : Type 0 where
   pub pool : Found
   pub sound : HoldSound x pool
   pub unfaulted : IsUnfaulted x opened
-  pub live : AllLive from.book
   pub volume : Volume
   pub meant : meaning (disks_of x) (now_in x) ≡ Some (volume ∷ [])
   pub array : a ≡ fresh volume.sectors volume.contents
@@ -53,16 +67,14 @@ pub record OpenedOn {R : Type 0} (seen : R → Seen) (runs : R → R → Type 0)
   pub from : Moment
   pub clock : from.clock ≡ (seen opened).clock
   pub faults : (d : ℕ) → from.faults d ≡ (seen opened).faults d
-  -- just those drives are marked missing that were, or that have no disk
-  pub marks :
-      (f : Found) → HoldSound (seen bay) f → IsUnfaulted (seen bay) (seen opened)
-      → (p : ℕ) → is_current from.book.state p ≡ (is_current f.state p && is_some (f.seats p))
+  -- it is opened as disks have it that held a sound pool and refused no call
+  pub meant : (f : Found) → HoldSound (seen bay) f → IsUnfaulted (seen bay) (seen opened) → IsOpenedAs f (seen opened) ground from
   -- from then on, sectors of slices alone
   pub apart : WritesOnly (seen opened) (seen after) (IsSliced ground.slices)
   -- the script, from the volume that the disks meant
   pub outcome :
       (a : FlatArray)
-      → Outcome status (IsMeant (seen bay) (seen opened) from a) (seen bay).traced (seen after) ground from a text rest out out'
+      → Outcome status (IsMeant (seen bay) (seen opened) a) (seen bay).traced (seen after) ground from a text rest out out'
 
 -- how it came out
 abbrev pub OpenOutcome : {R : Type 0} → (R → Seen) → (R → R → Type 0) → R → R → List ℕ → List ℕ → List ℕ → List ℕ → Status → Type 0

@@ -2,7 +2,9 @@
 use Rattle.std.proofs.Common.{◌≡◌, ◌∙◌, ap, sym, subst, inl, inr}
 use Rattle.pool.specs.View.{arrays_of, bay_in, view}
 use Rattle.raid_rack.specs.RaidRack.{arrays_in}
-use Rattle.shr_tool.specs.Made.{MadeOn, NotMade}
+use Rattle.shr_tool.specs.declared.status.Status.TheVariants.{Done}
+use Rattle.shr_tool.specs.Made.{MadeOn, NotMade, created_line}
+use Rattle.shr_tool.specs.Saying.{Says}
 use Rattle.shr_tool.specs.Timeline.{ground_of}
 use Rattle.shr_tool.proofs.Through.{fault_through}
 use Rattle.shr_tool.proofs.making.create_attached.Goals as goal
@@ -31,7 +33,9 @@ returns-in-Ok-clause-outcome g c =
       ground = ground_of (view _ pool);
       is_made = makes.made;
       apart = ends.ended.passes.apart;
-      says = c.say_created.ensures.says sink;
+      says =
+          subst (λ n. Says Done (created_line n) (taken c.args.out.now) (taken c.say_created.new.out) c.say_created.result)
+          c.size-sectors.ensures.size (c.say_created.ensures.says sink);
     }))
 
 pub returns-in-Err-clause-outcome : goal.returns-in-Err-clause-outcome

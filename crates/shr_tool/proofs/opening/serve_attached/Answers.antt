@@ -4,7 +4,7 @@ use Rattle.rack.specs.Sequences.{WritesOnly}
 use Rattle.pool.specs.View.{bay_in, view}
 use Rattle.shr_tool.specs.Opened.{NotOpened, OpenedOn}
 use Rattle.shr_tool.specs.Timeline.{ground_of, moment_of}
-use Rattle.shr_tool.proofs.Through.{pool_through, written_through, held_by_meant, traced_through}
+use Rattle.shr_tool.proofs.Through.{pool_through, written_through, held_by_meant, opened_as, traced_through}
 use Rattle.shr_tool.proofs.Told.{outcome_for}
 use Rattle.shr_tool.proofs.opening.serve_attached.Goals as goal
 
@@ -15,9 +15,9 @@ returns-in-Ok-clause-outcome g c =
     let left = g.I.Source.left in
     let taken = g.O.Sink.taken in
     let pool = c.in-Ok.pool in
-    let last = c.serve_pool.new.pool in
+    let last = c.serve_pool-status.new.pool in
     let opens = c.in-Ok.ensures in
-    let serves = c.serve_pool.ensures in
+    let serves = c.serve_pool-status.ensures in
     let inner = c.into_inner-bay.ensures in
     let back : c.bay-1.given.0 ≡ (bay_in last).now =
     c.bay-1.given.1 (sym (ap (λ b. b.ghost_name) inner ∙ serves.runs.0 ∙ opens.runs.0)) ∙ ap (λ b. b.now) inner in
@@ -25,7 +25,7 @@ returns-in-Ok-clause-outcome g c =
     λ source sink.
     inr
     (subst
-    (λ b. OpenedOn seen runs c.args.bay.now b (left c.args.input.now) (left c.serve_pool.new.input) (taken c.args.out.now) (taken c.serve_pool.new.out) c.serve_pool.result)
+    (λ b. OpenedOn seen runs c.args.bay.now b (left c.args.input.now) (left c.serve_pool-status.new.input) (taken c.args.out.now) (taken c.serve_pool-status.new.out) c.serve_pool-status.result)
     (sym back)
     (record {
       opened = (bay_in pool).now;
@@ -35,11 +35,11 @@ returns-in-Ok-clause-outcome g c =
       from = moment_of (view _ pool);
       clock = refl;
       faults = λ d. refl;
-      marks = opens.marks;
+      meant = opened_as _ _ pool opens.meant opens.marks;
       apart = serves.passes.apart;
       outcome = λ a.
-          outcome_for c.serve_pool.result _ _ _ _ _ _ _ a _ _ _ _
-          (λ meant. held_by_meant _ (view _ pool) a opens.meant opens.told meant)
+          outcome_for c.serve_pool-status.result _ _ _ _ _ _ _ a _ _ _ _
+          (λ meant. held_by_meant _ _ pool a opens.meant meant)
           (λ traced. traced_through _ _ _ _ opens.drives traced)
           (serves.outcome source sink a);
     }))
