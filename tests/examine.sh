@@ -1,5 +1,5 @@
 #!/usr/bin/env bash
-# `examine` of the built program: an image that sgdisk has partitioned, a folder, and a long text.
+# `examine` of the built program: the drives of a pool, an image that sgdisk has partitioned, a folder.
 . "$(dirname "$(readlink -f "${BASH_SOURCE[0]}")")/lib/program.sh"
 
 : >script
@@ -13,6 +13,31 @@ truncate -s 1000 part
 check 'an image with part of a sector' 6 'refused attach 0\n' examine part
 check 'no name' 2 'refused words\n' examine
 check 'two names' 2 'refused words\n' examine empty empty
+
+# Drives of three sizes: RAID-5 over all, whose members have no label, and a mirror over the last two, whose members have one.
+truncate -s $((512 * 79104)) first
+truncate -s $((512 * 80384)) second
+truncate -s $((512 * 81664)) third
+check 'a pool is made' 0 'created 3840\n' create 128 first second third
+sha256sum first second third >sums
+log="table primary\n${nothing}slice 1 2048 8192\n$nothing"
+raid='slice 2 10240 5376\nmd level 5 members 3 chunk 128 size 3328 events 1 resync 18446744073709551615 role'
+check 'a member of RAID-5' 0 "image 79104\n$log$raid 0 features 0\n" examine first
+for role in 0 1; do
+  image=second
+  [ $role -eq 0 ] || image=third
+  "$tool" examine $image <script >says
+  expect "a member of a mirror: $image" grep -qx \
+    "md level 1 members 2 chunk 0 size 3328 events 1 resync 18446744073709551615 role $role features 0" says
+  expect 'and of RAID-5' grep -qx "md level 5 members 3 .* role $((role + 1)) features 0" says
+  expect 'its text is there' sh -c "grep -Eqx 'text [0-9]+' says && grep -qx 'vg1000 {' says && grep -qx 'pv1 {' says"
+  expect 'and its group' grep -qx 'group vg1000 seqno 1 extent 128 pvs 2 lvs 1' says
+done
+expect 'nothing was written to the pool' sha256sum --check --status sums
+truncate -s $((512 * 79104)) first second
+check 'a mirror is made' 0 'created 1280\n' create 128 first second
+"$tool" examine second <script >says
+expect 'its group' grep -qx 'group vg1000 seqno 1 extent 128 pvs 1 lvs 1' says
 
 if have sgdisk gdisk; then
   truncate -s $((512 * 98304)) image

@@ -34,7 +34,12 @@ expect 'they print what the page says' diff wanted printed
 
 # Each refusal that the page on the program has is explained.
 for word in $(grep -oE '`refused [a-z-]+' "$top/docs/PROGRAM.md" | cut -d' ' -f2 | sort -u); do
-  expect "refused $word is explained" grep -q "^\.It Li refused $word" "$page"
+  expect "refused $word is explained" grep -Eq "^\.It Li refused $word( |$)" "$page"
+done
+
+# So is each status.
+for status in $(grep -oE '^\| [0-9] \|' "$top/docs/PROGRAM.md" | cut -d' ' -f2); do
+  expect "status $status is explained" grep -qx "\.It $status" "$page"
 done
 
 close

@@ -42,8 +42,12 @@ serve 'the last sector and the one past it' 0 'read 127\nread 128\nwrite 128 61\
   'data -\nrefused range\nrefused range\nrefused range\n'
 serve 'wrong lines' 0 'read\nread 0 \nread  0\nread -1\nread x\nread 18446744073709551616\nREAD 0\nquit now\nflush 1\nnone\n read 0\nwrite 0\nwrite 0 6\nwrite 0 6g\n' \
   "$(times 14 x | sed 's/x/refused syntax\\n/g')"
-serve 'lines that are not built yet' 0 'step 1\nadd x\nreplace 0 x\nlose 0\nstatus\n' \
-  "$(times 5 x | sed 's/x/refused unbuilt\\n/g')"
+serve 'lines that are not built yet' 0 'step 1\nadd x\nreplace 0 x\nstatus\n' \
+  "$(times 4 x | sed 's/x/refused unbuilt\\n/g')"
+serve 'drives that are lost' 0 'write 3 61\nlose 2\nlose 18446744073709551615\nlose 1\nlose 1\nlose 0\nread 3\nwrite 3 62\nread 3\n' \
+  'ok\nrefused no-such-drive\nrefused no-such-drive\nok\nrefused no-such-drive\nrefused last-drive\ndata 61\nok\ndata 62\n'
+serve 'wrong lines of lost drives' 0 'lose\nlose \nlose x\nlose 0 0\nlose 18446744073709551616\n' \
+  "$(times 5 x | sed 's/x/refused syntax\\n/g')"
 serve 'sectors that are filled' 0 'fill 3 2 62\nread 4\nread 5\nfill 127 2 00\n' \
   "ok\ndata $(times 512 x | sed 's/x/62/g')\ndata -\nrefused range\n"
 serve 'a whole sector' 0 "write 5 $(times 1024 f)\nread 5\n" "ok\ndata $(times 1024 f)\n"
@@ -87,15 +91,15 @@ check 'one path twice' 6 'refused twice\n' serve first first
 printf 'read 0\n' >script
 check 'the other order' 0 'data -\n' serve second first
 : >script
-check 'a drive that is not named' 6 'refused absent 1\n' serve second
 truncate -s 4096 third
 check 'a file that is none of the pool' 0 '' serve first third second
-check 'files without a pool' 6 'refused no-pool\n' serve third
 cp first old_first
 cp second old_second
+check 'one drive in two copies' 0 '' serve first old_first second
+check 'a drive that is not named' 0 '' serve old_second
+check 'files without a pool' 6 'refused no-pool\n' serve third
 images
 check 'drives of two pools' 6 'refused two-pools\n' serve first old_second
-check 'the same drive in two copies, of which the first counts' 6 'refused absent 1\n' serve old_first
 dd if=/dev/zero of=first bs=512 seek=10248 count=1 conv=notrunc status=none
 check 'a drive without its superblock' 6 'refused damaged 0 superblock\n' serve first second
 dd if=/dev/zero of=second bs=512 seek=2048 count=1 conv=notrunc status=none
@@ -105,7 +109,19 @@ dd if=/dev/zero of=first bs=512 seek=1 count=1 conv=notrunc status=none
 # Making a pool.
 check 'a pool of one drive' 6 'refused too-few\n' create 128 first
 check 'a drive without room' 6 'refused no-room 1\n' create 128 first third
+check 'a third drive without room' 6 'refused no-room 2\n' create 128 first second third
 check 'an extent that is too large for the drives' 6 'refused no-room 0\n' create 256 first second
+mkdir many
+for drive in {10..26}; do truncate -s 39911424 many/$drive; done
+check 'a pool of seventeen drives' 6 'refused too-many\n' create 128 many/*
+rm many/26
+check 'a pool of sixteen drives' 0 'created 1920\n' create 128 many/*
+printf 'write 1919 61\nlose 14\nread 1919\n' >script
+check 'sixteen drives' 0 'ok\nok\ndata 61\n' serve many/*
+rm many/2?
+printf 'read 1919\nsize\n' >script
+check 'ten of them' 6 'refused absent 5\n' serve many/*
+: >script
 check 'a pool is made over an old one' 0 'created 128\n' create 128 second first
 
 check 'no words' 2 'refused words\n'
@@ -117,7 +133,6 @@ check 'an empty name' 2 'refused words\n' serve '' second
 check 'create of nothing' 2 'refused words\n' create
 check 'create of no names' 2 'refused words\n' create 128
 check 'create with an extent of 64 sectors' 2 'refused words\n' create 64 first second
-check 'create of three names' 6 'refused unbuilt\n' create 128 first second third
 for form in import export status 'trial 7'; do
   check "a form that is not built: $form" 6 'refused unbuilt\n' $form first second
 done

@@ -23,7 +23,7 @@ use Rattle.pool.specs.View.{arrays_of, book, view, volume}
 use Rattle.pool.specs.Volume.{Holds}
 use Rattle.shr_tool.specs.Made.{HasFaultCause}
 use Rattle.shr_tool.specs.Opened.{IsMeant, IsOpenedAs}
-use Rattle.shr_tool.specs.Timeline.{ground_of, moment_of}
+use Rattle.shr_tool.specs.Timeline.{Ground, Moment, ground_of, moment_of}
 
 -- a bay that is reached through references is written as they are
 pub pool_through :
@@ -62,12 +62,12 @@ first_of other (Some (v ∷ more)) = v
 
 -- the volume that is opened holds the array that the disks meant
 pub held_by_meant :
-    {R : Type 0} (shown : R → Seen) (x : Seen) (pool : Pool R) (a : FlatArray)
+    {R : Type 0} (pool : Pool R) (shown : R → Seen) (x : Seen) (a : FlatArray)
     → ((f : Found) → HoldSound x f → IsUnfaulted x (view shown pool).bay → IsMeantBy shown x f (arrays_of pool) (view shown pool).linear)
     → IsMeant x (view shown pool).bay a
     → Holds (view shown pool) a
 unfolding first_of
-held_by_meant shown x pool a opens meant =
+held_by_meant pool shown x a opens meant =
     let v = view shown pool in
     let by = opens meant.pool meant.sound meant.unfaulted in
     let same : by.volume ≡ meant.volume = ap (first_of meant.volume) (sym by.meant ∙ meant.meant) in
@@ -81,18 +81,26 @@ held_by_meant shown x pool a opens meant =
 
 -- and it is opened as they had it
 pub opened_as :
-    {R : Type 0} (shown : R → Seen) (x : Seen) (pool : Pool R)
+    {R : Type 0} (pool : Pool R) (shown : R → Seen) (x : Seen)
     → ((f : Found) → HoldSound x f → IsUnfaulted x (view shown pool).bay → IsMeantBy shown x f (arrays_of pool) (view shown pool).linear)
     → ((f : Found) → HoldSound x f → IsUnfaulted x (view shown pool).bay → (p : ℕ) → is_current (book (view shown pool)).state p ≡ (is_current f.state p && is_some (f.seats p)))
     → (f : Found) → HoldSound x f → IsUnfaulted x (view shown pool).bay
     → IsOpenedAs f (view shown pool).bay (ground_of (view shown pool)) (moment_of (view shown pool))
-opened_as shown x pool opens marks f sound unfaulted =
+opened_as pool shown x opens marks f sound unfaulted =
     let by = opens f sound unfaulted in
     record { lies = by.lies; slices = by.slices; after = by.after; told = by.told; live = by.live; marks = marks f sound unfaulted }
 
 -- stops stay told in an opening
 pub traced_through : {R : Type 0} (shown : R → Seen) (runs : R → R → Type 0) (r s : R) → WritesPool shown runs r s → (shown r).traced → (shown s).traced
 traced_through shown runs r s writes traced = writes.late.stays.traced (writes.early.only.stays.traced traced)
+
+-- where the volume of a pool lies, on a bay that is reached through a reference
+abbrev pub ground_in : {R B : Type 0} → (B → Seen) → Pool R → (R → B) → Ground
+ground_in shown pool to = ground_of (view (λ r. shown (to r)) pool)
+
+-- and the moment when it stands so
+abbrev pub moment_in : {R B : Type 0} → (B → Seen) → Pool R → (R → B) → Moment
+moment_in shown pool to = moment_of (view (λ r. shown (to r)) pool)
 
 -- why no pool was made on a bay that is reached through a reference
 pub fault_through :

@@ -85,8 +85,8 @@ fn each_line_has_its_reply(rt: HostRuntime) -> Result<(), Fail> {
         ("step", unbuilt),
         ("add A\nreplace ", "refused unbuilt\nrefused unbuilt\n"),
         (
-            "lose 0\nstatus\nstatuses",
-            "refused unbuilt\nrefused unbuilt\nrefused syntax\n",
+            "lose 9\nlose\nlose 1 1\nstatus\nstatuses",
+            "refused no-such-drive\nrefused syntax\nrefused syntax\nrefused unbuilt\nrefused syntax\n",
         ),
         ("\0\nread 0\0", "refused syntax\nrefused syntax\n"),
     ];

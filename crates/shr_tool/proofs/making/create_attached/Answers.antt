@@ -1,12 +1,11 @@
 -- The pool holds the bay's reference, and gives the bay back as it left it.
 use Rattle.std.proofs.Common.{◌≡◌, ◌∙◌, ap, sym, subst, inl, inr}
-use Rattle.pool.specs.View.{arrays_of, bay_in, view}
+use Rattle.pool.specs.View.{arrays_of, bay_in}
 use Rattle.raid_rack.specs.RaidRack.{arrays_in}
 use Rattle.shr_tool.specs.declared.status.Status.TheVariants.{Done}
 use Rattle.shr_tool.specs.Made.{MadeOn, NotMade, created_line}
 use Rattle.shr_tool.specs.Saying.{Says}
-use Rattle.shr_tool.specs.Timeline.{ground_of}
-use Rattle.shr_tool.proofs.Through.{fault_through}
+use Rattle.shr_tool.proofs.Through.{fault_through, ground_in}
 use Rattle.shr_tool.proofs.making.create_attached.Goals as goal
 
 pub returns-in-Ok-clause-outcome : goal.returns-in-Ok-clause-outcome
@@ -30,7 +29,7 @@ returns-in-Ok-clause-outcome g c =
       made = (bay_in pool).now;
       kept = (makes.runs.1, ends.runs.1);
       arrays = arrays_in (arrays_of pool);
-      ground = ground_of (view _ pool);
+      ground = ground_in seen pool (λ r. r.now);
       is_made = makes.made;
       apart = ends.ended.passes.apart;
       says =

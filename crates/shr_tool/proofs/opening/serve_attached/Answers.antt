@@ -1,10 +1,8 @@
 -- The pool holds the bay's reference, and gives the bay back as it left it.
 use Rattle.std.proofs.Common.{◌≡◌, ◌∙◌, ap, sym, subst, refl, inl, inr}
-use Rattle.rack.specs.Sequences.{WritesOnly}
-use Rattle.pool.specs.View.{bay_in, view}
+use Rattle.pool.specs.View.{bay_in}
 use Rattle.shr_tool.specs.Opened.{NotOpened, OpenedOn}
-use Rattle.shr_tool.specs.Timeline.{ground_of, moment_of}
-use Rattle.shr_tool.proofs.Through.{pool_through, written_through, held_by_meant, opened_as, traced_through}
+use Rattle.shr_tool.proofs.Through.{pool_through, written_through, ground_in, held_by_meant, moment_in, opened_as, traced_through}
 use Rattle.shr_tool.proofs.Told.{outcome_for}
 use Rattle.shr_tool.proofs.opening.serve_attached.Goals as goal
 
@@ -21,7 +19,6 @@ returns-in-Ok-clause-outcome g c =
     let inner = c.into_inner-bay.ensures in
     let back : c.bay-1.given.0 ≡ (bay_in last).now =
     c.bay-1.given.1 (sym (ap (λ b. b.ghost_name) inner ∙ serves.runs.0 ∙ opens.runs.0)) ∙ ap (λ b. b.now) inner in
-    let so = λ r s (ran : _). ran.1 in
     λ source sink.
     inr
     (subst
@@ -30,16 +27,16 @@ returns-in-Ok-clause-outcome g c =
     (record {
       opened = (bay_in pool).now;
       kept = (opens.runs.1, serves.runs.1);
-      drives = pool_through seen _ runs (λ r. r.now) so _ (bay_in pool) opens.drives;
-      ground = ground_of (view _ pool);
-      from = moment_of (view _ pool);
+      drives = pool_through seen _ runs (λ r. r.now) (λ r s ran. ran.1) _ (bay_in pool) opens.drives;
+      ground = ground_in seen pool (λ r. r.now);
+      from = moment_in seen pool (λ r. r.now);
       clock = refl;
       faults = λ d. refl;
-      meant = opened_as _ _ pool opens.meant opens.marks;
+      meant = opened_as pool (λ r. seen r.now) _ opens.meant opens.marks;
       apart = serves.passes.apart;
       outcome = λ a.
           outcome_for c.serve_pool-status.result _ _ _ _ _ _ _ a _ _ _ _
-          (λ meant. held_by_meant _ _ pool a opens.meant meant)
+          (λ meant. held_by_meant pool (λ r. seen r.now) _ a opens.meant meant)
           (λ traced. traced_through _ _ _ _ opens.drives traced)
           (serves.outcome source sink a);
     }))
