@@ -70,7 +70,7 @@ module _ (plan : NewPool) (birth : Birth) (is : IsPlan plan) where
   drives_many : length s.drives.items ≡ n_drives
   drives_many = length-map-range_with_len (λ place. new_drive birth place (slice_index plan.units.items place)) 0 n_drives
 
-  drive_at : (p : ℕ) → p < n_drives → slice_get s.drives.items p ≡ Some (new_drive birth p (slice_index plan.units.items p))
+  pub drive_at : (p : ℕ) → p < n_drives → slice_get s.drives.items p ≡ Some (new_drive birth p (slice_index plan.units.items p))
   drive_at p low =
       let f : ℕ → Drive = λ place. new_drive birth place (slice_index plan.units.items place) in
       get_map f (range_with_len 0 n_drives) p ∙ ap (option_map f) (get_range 0 n_drives p low) ∙ ap (λ (j : ℕ). Some (f j)) (zero_more p)

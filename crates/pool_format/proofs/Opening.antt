@@ -40,7 +40,7 @@ leads_is measure (Some x) (Some y) t is = of (nat_lt (measure x) (measure y)) is
     of false is = inl is
 
 -- it is one of them
-foremost_is : {X : Type 0} (measure : X → ℕ) (g : ℕ → Option X) (a n : ℕ) (t : X) → foremost measure (map g (range_with_len a n)) ≡ Some t
+pub foremost_is : {X : Type 0} (measure : X → ℕ) (g : ℕ → Option X) (a n : ℕ) (t : X) → foremost measure (map g (range_with_len a n)) ≡ Some t
     → (j : ℕ) × (a ≤ j) × (j < a + n) × (g j ≡ Some t)
 unfolding foremost
 foremost_is measure g a zero t is = absurd (no_element is)
@@ -63,7 +63,7 @@ leads_some {X} measure (Some x) (Some y) some = of (nat_lt (measure x) (measure 
     of false = (x, refl)
 
 -- where there is one
-foremost_there : {X : Type 0} (measure : X → ℕ) (g : ℕ → Option X) (a n k : ℕ) (x : X) → a ≤ k → k < a + n → g k ≡ Some x
+pub foremost_there : {X : Type 0} (measure : X → ℕ) (g : ℕ → Option X) (a n k : ℕ) (x : X) → a ≤ k → k < a + n → g k ≡ Some x
     → (t : X) × (foremost measure (map g (range_with_len a n)) ≡ Some t)
 foremost_there measure g a zero k x least low is = absurd (omega (arith, least, low))
 foremost_there {X} measure g a (suc n) k x least low is = elim (cases_lt a k) [

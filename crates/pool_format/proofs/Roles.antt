@@ -57,6 +57,14 @@ role_low xs place among = of (position (at place) xs) (positioned xs place)
     of None none = absurd (both_ways (has xs place) none among)
     of (Some k) some = some.0
 
+-- that of any other place is the spare's
+pub role_spare : (xs : List ℕ) (place : ℕ) → has xs place ≡ false → role_of xs place ≡ 0xffff
+role_spare xs place apart = of (position (at place) xs) (positioned xs place)
+  where
+    of : (o : Option ℕ) → data_of xs place o → option_map_or (λ k. k) o 0xffff ≡ 0xffff
+    of None none = refl
+    of (Some k) some = absurd (both_ways (has xs place) apart some.1)
+
 -- ---- distinct places
 
 abbrev AreDistinct : List ℕ → Type 0

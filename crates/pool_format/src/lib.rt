@@ -36,6 +36,7 @@ mod tables;
 mod volume;
 
 pub use formatting::{CreateFault, format};
+pub use planning::{NewArray, NewPool};
 
 /// When a pool is made, and its id.
 #[derive(Clone, Copy, Debug, PartialEq, Eq)]

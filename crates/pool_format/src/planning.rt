@@ -22,7 +22,7 @@ const SLICE_SECTORS: u64 = 4096;
 
 /// An array of a new pool: a layer, and where it lies on its drives.
 #[derive(Debug, Default, Drop)]
-pub(crate) struct NewArray {
+pub struct NewArray {
     /// The places of its members, ascending.
     pub members: Places,
     /// The first sector of its members' slices.
@@ -35,7 +35,7 @@ pub(crate) struct NewArray {
 
 /// A pool to be made.
 #[derive(Debug, Drop)]
-pub(crate) struct NewPool {
+pub struct NewPool {
     /// The sectors of an extent.
     pub extent: u32,
     /// The units of the drives, by place.

@@ -1,0 +1,5 @@
+pub mod Identities
+pub mod Founds
+pub mod Truths
+pub mod Rows
+pub mod Sound
