@@ -208,9 +208,9 @@ module _ (plan : NewPool) (birth : Birth) (disks : Disks) (c : Image) (is : IsNe
 
   pub first_at : (n : ℕ) (a : NewArray) → slice_get plan.arrays.items n ≡ Some a → first_of f n ≡ Some a.first
   unfolding first_of
-  first_at zero a at = ap Some (sym (first_array arrays_first plan.extent is.planned.layers a (subst (λ xs. slice_get xs 0 ≡ Some a) is.planned.arrays_are at)))
+  first_at zero a at = ap Some (sym (first_array arrays_first is.extent is.planned.layers a (subst (λ xs. slice_get xs 0 ≡ Some a) is.planned.arrays_are at)))
   first_at (suc n) b at =
-      let before = next_array arrays_first plan.extent is.planned.layers n b (subst (λ xs. slice_get xs (suc n) ≡ Some b) is.planned.arrays_are at) in
+      let before = next_array arrays_first is.extent is.planned.layers n b (subst (λ xs. slice_get xs (suc n) ≡ Some b) is.planned.arrays_are at) in
       let at_a : slice_get plan.arrays.items n ≡ Some before.0 = subst (λ xs. slice_get xs n ≡ Some before.0) (sym is.planned.arrays_are) before.1 in
       let truth = truth_here n before.0 at_a in
       let size = truth_size n before.0 at_a in

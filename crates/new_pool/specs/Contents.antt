@@ -14,7 +14,9 @@ use Rattle.pool_format.specs.Plan.{IsPlan, IsPlanOf, has}
 -- Contents of the disks of a new pool: each disk is the drive of its number.
 pub record IsNewPool (plan : NewPool) (birth : Birth) (disks : Disks) (c : Image) : Type 0 where
   pub is_plan : IsPlan plan
-  pub planned : IsPlanOf plan.units.items plan.extent plan
+  pub units : List ℕ
+  pub extent : ℕ
+  pub planned : IsPlanOf units extent plan
   pub count : disks.count ≡ length plan.units.items
   pub logs : (d : ℕ) → d < disks.count → arrays_first + 33 ≤ disks.sectors d
   pub members :

@@ -4,3 +4,4 @@ mod Serving
 mod Reached
 mod Losing
 mod Cleaning
+mod NewPools

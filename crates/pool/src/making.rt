@@ -14,8 +14,9 @@ ghost use Rattle.assembler.specs.Sound.{HoldSound, IsMeantBy, IsMeantRefusal};
 ghost use Rattle.assembler.specs.Writing.{WritesPool};
 ghost use Rattle.raid_rack.specs.RaidRack.{arrays_in};
 ghost use Rattle.pool_format.specs.Plan.{IsUnplanned, units_on};
-ghost use Rattle.pool_format.specs.Format.{IsGivenBack, IsMade, IsRefusedFor};
+ghost use Rattle.pool_format.specs.Format.{IsGivenBack, IsRefusedFor};
 ghost use Rattle.pool_format.specs.Volume.{HasLayout};
+ghost use Rattle.pool.specs.Made.{IsSoundlyMade};
 ghost use Rattle.pool.specs.View.{arrays_of, bay_in, book, view, volume};
 
 use crate::{Birth, CreateFault, Pool, Refusal};
@@ -63,7 +64,7 @@ impl<R: Bay> Pool<R> {
         ensures unchanged { IfErr result (λ back. (fault : PlanError) → back.why ≡ CreateFault.Layout fault → back.rack ≡ bay) }
         ensures gone { IfErr result (λ back. (disk : ℕ) → back.why ≡ CreateFault.Gone disk → (disk < (R.seen bay).disks) × Rose ((R.seen bay).faults disk) ((R.seen back.rack).faults disk)) }
         ensures fit { IfOk result (λ pool. (volume (view R.seen pool)).fit) }
-        ensures made { IfOk result (λ pool. IsMade (R.seen bay) (R.seen (bay_in pool)) extent birth.now (arrays_in (arrays_of pool)) (view R.seen pool).linear) }
+        ensures made { IfOk result (λ pool. IsSoundlyMade (R.seen bay) (R.seen (bay_in pool)) extent birth.now (arrays_in (arrays_of pool)) (view R.seen pool).linear) }
         ensures some { IfErr result (λ back. HasLayout back.why → IsGivenBack (R.seen bay) (R.seen back.rack) extent) }
         ensures runs { IfOk result (λ pool. R.runs bay (bay_in pool)) }
         ensures returned { IfErr result (λ back. R.runs bay back.rack) }

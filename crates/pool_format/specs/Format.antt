@@ -13,7 +13,7 @@ use Rattle.pool_format.specs.declared.planning.NewPool.{NewPool}
 use Rattle.pool_format.specs.Arrays.{new_views}
 use Rattle.pool_format.specs.Parts.{new_state}
 use Rattle.pool_format.specs.Drives.{IsNewDrive, IsWhole}
-use Rattle.pool_format.specs.Plan.{IsPlanOf, units_on}
+use Rattle.pool_format.specs.Plan.{HasRoom, IsPlan, IsPlanOf, units_on}
 use Rattle.pool_format.specs.Data.{extents_of}
 use Rattle.pool_format.specs.Writing.{IsPart}
 
@@ -27,6 +27,8 @@ IsRefusedFor why result = MatchResult result (λ made. ⊥) (λ back. back.why �
 pub record IsMade (x y : Seen) (extent : ℕ) (birth : Birth) (a : Arrays) (l : Linear) : Type 0 where
   pub plan : NewPool
   pub planned : IsPlanOf (units_on x extent) extent plan
+  pub well_planned : IsPlan plan
+  pub room : HasRoom plan x
   pub state : a.state ≡ new_state plan birth
   pub arrays : a.all.items ≡ new_views birth 0 plan.arrays.items
   pub volume : l ≡ new_volume extent (extents_of plan)
