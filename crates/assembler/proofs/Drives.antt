@@ -18,10 +18,10 @@ use Rattle.pool_scan.specs.Choosing.{seat_by}
 use Rattle.pool_check.specs.declared.Checked.{Checked}
 use Rattle.pool_check.specs.declared.Extent.{Extent}
 use Rattle.pool_check.specs.Laying.{laid_at}
-use Rattle.pool_rest.specs.Resting.{IsOfDrive}
 use Rattle.raid_rack.proofs.Noted.{current_few}
 use Rattle.pool_scan.proofs.Valid.{valid_places}
 use Rattle.assembler.specs.Members.{AreMembers}
+use Rattle.assembler.specs.Writing.{IsDriveOrTable, IsSlicedOrTable}
 
 -- where a member's slice is laid
 record IsLaidMember (seats : Seats) (arrays : List View) (extents : List Extent) (n p : ℕ) (e : Extent) : Type 0 where
@@ -44,8 +44,7 @@ laid_member seats arrays extents n p e is = of (slice_get arrays n) refl is
     of None at is = absurd (none-some e is)
     of (Some v) at is = of_name v at (is_named v.truth p) (is_some (seats p)) refl is
 
-module _ (s : State) (t : Slices) (y : Seen) (checked : Checked) (absent : List ℕ) (known : List Known) (orderly : IsOrderly t)
-    (m : AreMembers s t y checked absent) (seats : (p d : ℕ) → seat_of t p ≡ Some d → seat_by s known p ≡ Some d) where
+module _ (s : State) (t : Slices) (y : Seen) (checked : Checked) (absent : List ℕ) (orderly : IsOrderly t) (m : AreMembers s t y checked absent) where
   -- a sector of a slice, on the disk of the slice's place
   module _ (k u d : ℕ) (inside : u < sectors_of t k) (seat : seat_of t (place_of k) ≡ Some d) where
     abbrev p : ℕ
@@ -81,48 +80,58 @@ module _ (s : State) (t : Slices) (y : Seen) (checked : Checked) (absent : List 
             let least = m.slots.ordered.least n e at.extent in
             (omega (arith, first, least), inr (omega (arith, first, size, inside, fits)))
 
-  pub sliced_drive : (d u : ℕ) (v : List ℕ) → IsSliced t d u v → IsOfDrive y known s d u v
-  sliced_drive d u v is = by (seat_of t (place_of is.slice)) refl
+  -- a sector of a slice is one of the log slices or the arrays' part of a place's disk
+  pub sliced_at : (d u : ℕ) (v : List ℕ) → IsSliced t d u v
+      → (p : ℕ) × (seat_of t p ≡ Some d) × (state_sector ≤ u) × ((u < arrays_first) ⊎ (u + 33 < y.sectors d))
+  sliced_at d u v is = by (seat_of t (place_of is.slice)) refl
     where
-      by : (o : Option ℕ) → seat_of t (place_of is.slice) ≡ o → IsOfDrive y known s d u v
+      by : (o : Option ℕ) → seat_of t (place_of is.slice) ≡ o → (p : ℕ) × (seat_of t p ≡ Some d) × (state_sector ≤ u) × ((u < arrays_first) ⊎ (u + 33 < y.sectors d))
       by None seat = let none = orderly.seated is.slice seat in let within = is.within in absurd (omega (arith, none, within))
       by (Some e) seat =
           let disk : d ≡ e = is.disk_is ∙ ap (λ (o : Option ℕ). unwrap_or o 0) seat in
           let here : seat_of t (place_of is.slice) ≡ Some d = seat ∙ ap Some (sym disk) in
           let at = spot is.slice is.at d is.within here in
-          let sector = is.sector_is in
-          record {
-            place = place_of is.slice;
-            seat = seats (place_of is.slice) d here;
-            behind = (let behind = at.0 in omega (arith, behind, sector));
-            before = elim at.1 [
+          let sector = is.sector_is in (
+            place_of is.slice,
+            here,
+            (let behind = at.0 in omega (arith, behind, sector)),
+            elim at.1 [
               | inl early ↦ inl (omega (arith, early, sector))
               | inr late ↦ inr (omega (arith, late, sector))
-            ];
-          }
+            ],
+          )
 
-  -- so only drives are written after reads, where only slices are
-  pub writes_drives : (x z : Seen) → OnlyReads x y → WritesOnly y z (IsSliced t) → WritesOnly x z (IsOfDrive x known s)
-  writes_drives x z reads writes =
-      only_then (IsOfDrive x known s) (only_quiet (IsOfDrive x known s) reads.stays reads.keeps)
-      (only_weaker (IsSliced t) (IsOfDrive x known s) (λ d u v is. earlier d u v (sliced_drive d u v is)) writes)
-    where
-      earlier : (d u : ℕ) (v : List ℕ) → IsOfDrive y known s d u v → IsOfDrive x known s d u v
-      earlier d u v is = record {
+-- so only drives are written after reads, where only slices and tables are
+module _ (s : State) (t : Slices) (x y z : Seen) (checked : Checked) (absent : List ℕ) (known : List Known) (orderly : IsOrderly t)
+    (m : AreMembers s t y checked absent) (seats : (p d : ℕ) → seat_of t p ≡ Some d → seat_by s known p ≡ Some d)
+    (reads : OnlyReads x y) (writes : WritesOnly y z (IsSlicedOrTable y t)) where
+  earlier : (d u : ℕ) (v : List ℕ) → IsSlicedOrTable y t d u v → IsDriveOrTable x known s d u v
+  earlier d u v (inl is) =
+      let at = sliced_at s t y checked absent orderly m d u v is in
+      inl (record {
+        place = at.0;
+        seat = seats at.0 d at.1;
+        behind = at.2;
+        before = subst (λ n. (u < arrays_first) ⊎ (u + 33 < n)) (reads.stays.sectors d) at.3;
+      })
+  earlier d u v (inr is) =
+      inr (record {
         place = is.place;
-        seat = is.seat;
-        behind = is.behind;
-        before = elim is.before [
-          | inl early ↦ inl early
-          | inr late ↦ inr (subst (λ n. u + 33 < n) (reads.stays.sectors d) late)
-        ];
-      }
+        below = is.below;
+        seat = seats is.place d is.seat;
+        at_end = subst (λ n. (u < 34) ⊎ (n ≤ u + 33)) (reads.stays.sectors d) is.at_end;
+      })
+
+  pub writes_drives : WritesOnly x z (IsDriveOrTable x known s)
+  writes_drives =
+      only_then (IsDriveOrTable x known s) (only_quiet (IsDriveOrTable x known s) reads.stays reads.keeps)
+      (only_weaker (IsSlicedOrTable y t) (IsDriveOrTable x known s) earlier writes)
 
 -- in an opening: the drives' check, then the rack of arrays, then the volume
 pub members_drives : (s : State) (t : Slices) (y : Seen) (checked : Checked) (absent : List ℕ) (known : List Known) (r : State) → IsOrderly t → AreMembers s t y checked absent
     → s ≡ r → ((p d : ℕ) → seat_of t p ≡ Some d → seat_by r known p ≡ Some d)
-    → (x z w : Seen) → OnlyReads x y → WritesOnly y z (IsSliced t) → WritesOnly z w (IsSliced t) → WritesOnly x w (IsOfDrive x known r)
+    → (x z w : Seen) → OnlyReads x y → WritesOnly y z (IsSlicedOrTable y t) → WritesOnly z w (IsSliced t) → WritesOnly x w (IsDriveOrTable x known r)
 members_drives s t y checked absent known r orderly m same seats x z w reads one two =
-    subst (λ k. WritesOnly x w (IsOfDrive x known k)) same
-    (writes_drives s t y checked absent known orderly m (λ p d seat. subst (λ k. seat_by k known p ≡ Some d) (sym same) (seats p d seat))
-    x w reads (only_then (IsSliced t) one two))
+    subst (λ k. WritesOnly x w (IsDriveOrTable x known k)) same
+    (writes_drives s t x y w checked absent known orderly m (λ p d seat. subst (λ k. seat_by k known p ≡ Some d) (sym same) (seats p d seat))
+    reads (only_then (IsSlicedOrTable y t) one (only_weaker (IsSliced t) (IsSlicedOrTable y t) (λ d u v is. inl is) two)))

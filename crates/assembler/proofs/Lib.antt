@@ -6,10 +6,13 @@ mod Entry
 mod Finding
 mod Holding
 mod Later
+mod LeftOut
 mod Lies
 mod Live
+mod Making
 mod Marks
 mod Meaning
+mod Mended
 mod Refusals
 mod Rest
 mod Roles

@@ -1,5 +1,5 @@
 -- The arrays of a pool's drives run as a rack over their slices.
-use Rattle.std.proofs.Common.{◌≡◌, ℕ, suc, ◌<◌, true, false, not, is_some, List, [], ◌∷◌, length, slice_get, Option, Some, None, option_map, refl, sym, ap, subst, ◌∙◌, ◌==◌, eq-eqb}
+use Rattle.std.proofs.Common.{◌≡◌, ℕ, suc, ◌+◌, ◌<◌, true, false, not, is_some, List, [], ◌∷◌, length, slice_get, Option, Some, None, option_map, refl, sym, ap, subst, ◌∙◌, ◌==◌, eq-eqb}
 use Rattle.std.specs.List.{slice_index}
 use Rattle.std.proofs.lemmas.Bool.{both_ways}
 use Rattle.std.proofs.lemmas.List.Folds.{list_any_at}
@@ -9,6 +9,7 @@ use Rattle.slice_rack.specs.Slices.{Slices, seat_of, sectors_of}
 use Rattle.slice_rack.specs.Sliced.{slices_of}
 use Rattle.slice_rack.specs.Runs.{inside_still}
 use Rattle.pool_state.specs.declared.contents.State.{State}
+use Rattle.array_image.specs.Places.{arrays_first}
 use Rattle.array_image.specs.States.{current_places, is_current}
 use Rattle.commit_log.specs.Phases.{AreLogs}
 use Rattle.commit_log.specs.View.{names}
@@ -30,6 +31,8 @@ members_later s t x y checked absent stays m = record {
   lasting = stays.lasting m.lasting;
   current = m.current;
   absent_is = m.absent_is;
+  listed = m.listed;
+  room = λ p d seat. subst (λ n. arrays_first + 32 < n) (sym (stays.sectors d)) (m.room p d seat);
   logs = m.logs;
   firsts = m.firsts;
   founded = m.founded;

@@ -204,6 +204,8 @@ module _ (x : Seen) (known : List Known) (s : State) (t : Slices) (on : List ℕ
         lasting = stays.lasting lasting;
         current = λ p d seat. current_left p d (sym (kept.seats p) ∙ seat);
         absent_is = λ p. absent_named p ∙ ap (λ o. is_none o && is_current s p) (sym (seat_at p));
+        listed = absent_is ∙ ap (λ (f : Seats). filter (λ p. is_none (f p)) (current_places s)) seats_same;
+        room = λ p d seat. subst (λ n. arrays_first + 32 < n) (sym (stays.sectors d)) (room p d (sym (seat_at p) ∙ seat));
         logs = λ p d seat.
             let here = sym (kept.seats p) ∙ seat in
             let wide = room p d (sym (seat_at p) ∙ seat) in

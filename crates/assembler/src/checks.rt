@@ -37,6 +37,8 @@ pub(crate) struct Members<R> {
     pub(crate) state: State,
     pub(crate) checked: Checked,
     pub(crate) log: Log,
+    /// The disk of each place.
+    pub(crate) seats: Seats,
     /// The current places that have no disk, or whose disk went.
     pub(crate) absent: Places,
 }
@@ -63,7 +65,7 @@ fn push_unless(places: &mut Places, place: u32, left_out: bool)
 }
 
 /// The current places without a disk.
-fn absent_of(state: &State, seats: &Seats) -> Places
+pub(crate) fn absent_of(state: &State, seats: &Seats) -> Places
     ensures { result.items ≡ filter (λ p. is_none (seats_by seats.now p)) (current_places state.now) }
 {
     let current = current_places(state);
@@ -112,6 +114,7 @@ pub(crate) fn check<R: Rack>(rest: AtRest<R>) -> Result<Members<R>, Back<R, Refu
     requires laid { IsLaid (R.seen (below_of rest.slices)) rest.scan.disks.items rest.state (tables rest.slices) rest.on.items }
     ensures only { IfOk result (λ m. OnlyReads (R.seen (below_of rest.slices)) (R.seen (below_of m.slices))) }
     ensures members { IfOk result (λ m. AreMembers m.state (tables m.slices) (R.seen (below_of m.slices)) m.checked m.absent.items) }
+    ensures taken { IfOk result (λ m. (p : ℕ) → seats_by m.seats p ≡ seat_of (tables m.slices) p) }
     // Where the disks are told at rest, and none has refused a call, they hold their pool, and the arrays are its own.
     ensures holds { IfOk result (λ m. (f : Found)
         → IsFoundOn (R.seen (below_of rest.slices)) rest.scan.disks.items rest.state (tables rest.slices) rest.on.items rest.log rest.pending rest.damaged f
@@ -161,6 +164,7 @@ pub(crate) fn check<R: Rack>(rest: AtRest<R>) -> Result<Members<R>, Back<R, Refu
         state: rest.state,
         checked,
         log: rest.log,
+        seats,
         absent,
     })
 }

@@ -13,6 +13,7 @@ ghost use Rattle.assembler.specs.Sound.{HoldSound, IsMeantBy, IsMeantRefusal};
 ghost use Rattle.assembler.specs.Volume.{OpensVolume, RefusesVolume};
 ghost use Rattle.array_image.specs.States.{is_current};
 ghost use Rattle.assembler.specs.Writing.{WritesPool};
+ghost use Rattle.pool_check.specs.Settling.{IsSettled};
 ghost use Rattle.pool_image.specs.Drives.{Found};
 ghost use Rattle.pool_scan.specs.Scanning.{IsUnfaulted};
 ghost use Rattle.raid_rack.specs.RaidRack.{IsFit, arrays_in, raid_in, raid_seen, slices_in, slices_seen};
@@ -106,8 +107,9 @@ fn give_back<R: Rack>(raid: RaidRack<R>, why: Refusal) -> Back<R, Refusal>
 /// [`Refusal::Memory`] is answered where no memory could be had, and where epochs, events or numbers of commits are used up. The latter never comes on
 /// a pool of which fewer than 2^62 changes were made.
 ///
-/// Of the pool's disks only drives are written: the pending record before the checks, and after these gates that are open, the marks
-/// of an absent drive, superblocks with them, and the volume's texts where an array lacks the newest one.
+/// Of the pool's disks only drives are written: the pending record before the checks, and after these gates that are open, copies of
+/// partition tables that differ from their disk's table, the marks of an absent drive, superblocks with them, and the volume's texts where
+/// an array lacks the newest one.
 pub fn assemble<R: Rack>(
     alloc: Global,
     rack: R,
@@ -120,7 +122,7 @@ pub fn assemble<R: Rack>(
     ensures runs { IfOk result (λ volume. R.runs rack (below_of (slices_in (rack_in volume)))) }
     // Until the drives have passed their checks nothing is written but the pending record, on drives of the pool.
     ensures early { IfErr result (λ back. is_early back.why ≡ true → OnlyReads (R.seen rack) (R.seen back.rack) ⊎ WritesDrives (R.seen rack) (R.seen back.rack)) }
-    // In all, only drives are written: sectors of their log slices and of the arrays' part.
+    // In all, only drives are written: sectors of their log slices, of the arrays' part, and of their partition tables.
     ensures drives { IfOk result (λ volume. WritesPool R.seen R.runs rack (below_of (slices_in (rack_in volume)))) }
     ensures written { IfErr result (λ back. OnlyReads (R.seen rack) (R.seen back.rack) ⊎ (WritesDrives (R.seen rack) (R.seen back.rack) ⊎ WritesPool R.seen R.runs rack back.rack)) }
     // Where the disks hold a sound pool and none refuses a call, the volume is the one that they mean, and no sector of the arrays is spent;
@@ -130,6 +132,9 @@ pub fn assemble<R: Rack>(
     // Then those drives alone are marked missing that the pool had marked, or that have no disk.
     ensures marks { IfOk result (λ volume. (f : Found) → HoldSound (R.seen rack) f → IsUnfaulted (R.seen rack) (R.seen (below_of (slices_in (rack_in volume))))
         → (p : ℕ) → is_current (raid_in (rack_in volume)).state p ≡ (is_current f.state p && is_some (f.seats p))) }
+    // And both copies of the partition table of each drive are then the table that its disk had, durably.
+    ensures mended { IfOk result (λ volume. (f : Found) → HoldSound (R.seen rack) f → IsUnfaulted (R.seen rack) (R.seen (below_of (slices_in (rack_in volume))))
+        → (p d : ℕ) → f.seats p ≡ Some d → IsSettled (R.seen rack) (R.seen (below_of (slices_in (rack_in volume)))) d) }
     ensures exact { IfErr result (λ back. (f : Found) → HoldSound (R.seen rack) f → IsUnfaulted (R.seen rack) (R.seen back.rack)
         → back.why ≢ Memory → IsMeantRefusal (R.seen rack) back.why) }
     ensures returned { IfErr result (λ back. R.runs rack back.rack) }

@@ -3,7 +3,7 @@
 ghost use Rattle.std.specs.Prelude.{◌≡◌, ◌<◌, ◌^◌, ℕ, [], slice_get, true, Some, None};
 ghost use Rattle.slice_rack.specs.SliceRack.{tables, below_of};
 ghost use Rattle.slice_rack.specs.Sliced.{slices_of};
-ghost use Rattle.slice_rack.specs.Slices.{sectors_of as slice_sectors};
+ghost use Rattle.slice_rack.specs.Slices.{seat_of, sectors_of as slice_sectors};
 ghost use Rattle.array_image.specs.States.{current_places};
 ghost use Rattle.commit_log.specs.View.{names};
 ghost use Rattle.commit_log.specs.Phases.{AreLogs};
@@ -14,12 +14,17 @@ ghost use Rattle.commit_log.specs.Opening.{ReplayCall};
 ghost use Rattle.pool_image.specs.Drives.{Found};
 ghost use Rattle.pool_scan.specs.Scanning.{IsUnfaulted};
 ghost use Rattle.pool_check.specs.Checking.{IsChecked};
+ghost use Rattle.pool_check.specs.Drives.{seats_by};
+ghost use Rattle.pool_check.specs.Settling.{IsSettled};
 ghost use Rattle.pool_check.specs.Refusing.{is_well};
 ghost use Rattle.assembler.specs.Holding.{HoldPool, HoldsArrays};
 ghost use Rattle.assembler.specs.Members.{AreMembers};
 ghost use Rattle.assembler.specs.Volume.{MarksAbsent};
+ghost use Rattle.assembler.specs.Writing.{IsSlicedOrTable};
+ghost use Rattle.rack.specs.Sequences.{WritesOnly};
 
 use crate::checks::Members;
+use crate::mending::mend_tables;
 use array_core::Array;
 use commit_log::Log;
 use pool_state::State;
@@ -60,12 +65,18 @@ fn close_gates<R: Rack>(
     log.replay(slices, &current_places(state))
 }
 
-/// The rack of a pool's arrays. Places that are absent are marked missing, and so are those whose drive goes meanwhile: their marks
-/// are durable when this returns, where a drive is left to write them on.
+/// The rack of a pool's arrays. Gates are closed first, then the copies of partition tables are made to agree. Places that are absent are
+/// marked missing, and so are those whose drive goes meanwhile: their marks are durable when this returns, where a drive is left to write
+/// them on.
 pub(crate) fn make_rack<R: Rack>(members: Members<R>, seconds: u64) -> RaidRack<R>
+    requires seats { (p : ℕ) → seats_by members.seats p ≡ seat_of (tables members.slices) p }
     requires members { AreMembers members.state (tables members.slices) (R.seen (below_of members.slices)) members.checked members.absent.items }
     ensures fit { IsFit (arrays_in result) (slices_seen R.seen result) }
-    ensures runs { SliceRuns R.seen R.runs members.slices (slices_in result) }
+    ensures tables { tables (slices_in result) ≡ tables members.slices }
+    ensures runs { R.runs (below_of members.slices) (below_of (slices_in result)) }
+    // Only slices and partition tables are written.
+    ensures only { WritesOnly (R.seen (below_of members.slices)) (R.seen (below_of (slices_in result)))
+        (IsSlicedOrTable (R.seen (below_of members.slices)) (tables members.slices)) }
     ensures fresh { (n : ℕ) → refused_in result n ≡ 0 }
     ensures made { (raid_in result).state.made ≡ members.state.made }
     ensures joined { (raid_in result).state.joined ≡ members.state.joined }
@@ -74,11 +85,14 @@ pub(crate) fn make_rack<R: Rack>(members: Members<R>, seconds: u64) -> RaidRack<
     // Where no disk refuses a call, the absent places are marked missing, and no others, and no sector is spent unless numbers are used up.
     ensures marks { IsUnfaulted (R.seen (below_of members.slices)) (R.seen (below_of (slices_in result)))
         → MarksAbsent members.state members.absent.items (raid_in result) }
-    // Where the disks are told and hold a sound pool at rest, in which the check found no fault, the arrays hold what the pool's contents
-    // give. Where no place is absent gates are closed first, and then no disk is to refuse a call.
+    // Then both copies of each drive's table agree, durably.
+    ensures mended { IsUnfaulted (R.seen (below_of members.slices)) (R.seen (below_of (slices_in result)))
+        → (p d : ℕ) → seat_of (tables members.slices) p ≡ Some d → IsSettled (R.seen (below_of members.slices)) (R.seen (below_of (slices_in result))) d }
+    // And where the disks are told and hold a sound pool at rest, in which the check found no fault, the arrays hold what the pool's
+    // contents give.
     ensures holds { (f : Found) → HoldPool members.state (tables members.slices) (R.seen (below_of members.slices)) members.log f
         → IsChecked (is_well None) f members.checked
-        → (members.absent.items ≡ [] → IsUnfaulted (R.seen (below_of members.slices)) (R.seen (below_of (slices_in result))))
+        → IsUnfaulted (R.seen (below_of members.slices)) (R.seen (below_of (slices_in result)))
         → HoldsArrays f (raid_in result) (slices_of (tables members.slices) (R.seen (below_of members.slices))) (slices_seen R.seen result) }
 {
     let Members {
@@ -86,13 +100,15 @@ pub(crate) fn make_rack<R: Rack>(members: Members<R>, seconds: u64) -> RaidRack<
         state,
         checked,
         log,
+        seats,
         absent,
     } = members;
     let (mut slices, mut log, mut arrays) = (slices, log, checked.arrays);
     rules(arrays.as_slice());
     restart_rebuilds(arrays.as_mut_slice());
     let gone = close_gates(&mut slices, &mut log, &state, absent);
-    note_gone(arrays.as_mut_slice(), &gone);
+    let left_out = mend_tables(&mut slices, &state, seats, &gone);
+    note_gone(arrays.as_mut_slice(), &left_out);
     let mut raid = RaidRack::new(slices, state, arrays, log, seconds);
     raid.mark_gone();
     raid

@@ -72,7 +72,7 @@ live_of a b d n s live (inl is) = live Primary s is
 live_of a b d n s live (inr is) = live Backup s is
 
 -- they stand at the start of the disk, or at its end
-table_end : (sectors s : ℕ) → IsOfCopies sectors s → (s < 34) ⊎ (sectors ≤ s + 33)
+pub table_end : (sectors s : ℕ) → IsOfCopies sectors s → (s < 34) ⊎ (sectors ≤ s + 33)
 table_end sectors s (inl (inl same)) = let one : s ≡ 1 = same in inl (omega (arith, one))
 table_end sectors s (inl (inr entries)) = let most : s < 34 = entries.1 in inl most
 table_end sectors s (inr (inl same)) = let last : s ≡ sectors - 1 = same in inr (omega (arith, last))
@@ -135,14 +135,14 @@ module _ {a b c : Seen} (stays : Stays a b) (e : ℕ) (after : Stays b c) where
       (changes.stops traced))
 
   -- what calls before didn't touch is as it was
-  module _ (untouched : (s : ℕ) → IsLive a b e s → Keeps (a.held e s) (b.held e s)) where
+  module _ (untouched : (s : ℕ) → IsOfCopies n s → IsLive a b e s → Keeps (a.held e s) (b.held e s)) where
     single_still : BothLive a c e n → AreSingle a e n → AreSingle b e n
     single_still live single copy s is v left =
-        let keeps = untouched s (live_before live copy s is) in single copy s is v (keeps.within v left) ∙ sym keeps.current
+        let keeps = untouched s (of_one copy n s is) (live_before live copy s is) in single copy s is v (keeps.within v left) ∙ sym keeps.current
 
     table_still : BothLive a c e n → the_table n (now_on b e) ≡ the_table n (now_on a e)
     table_still live =
-        tables_agree n (now_on b e) (now_on a e) (λ s is. (untouched s (live_of a b e n s (live_before live) is)).current)
+        tables_agree n (now_on b e) (now_on a e) (λ s is. (untouched s is (live_of a b e n s (live_before live) is)).current)
 
     live_then : BothLive a c e n → BothLive b c e n
     live_then live copy s is = live_after live s (of_one copy n s is)
@@ -165,7 +165,7 @@ module _ {a b c : Seen} (stays : Stays a b) (e : ℕ) (after : Stays b c) where
     says_still : BothLive a c e n → (contents : Contents) → BothSay b e n contents → BothSay a e n contents
     says_still live contents says = (says.0, sym (table_still live) ∙ says.1, says.2)
 
-    settled_since : b.sectors e ≡ n → IsSettled b c e → IsSettled a c e
+    pub settled_since : b.sectors e ≡ n → IsSettled b c e → IsSettled a c e
     settled_since same settled = record {
       now = λ had live. says_still live (now_on c e) (moved.0 (λ none. had (sym (table_still live) ∙ none)) (live_then live));
       durable = λ had live single contents left.
@@ -188,11 +188,11 @@ module _ {a b c : Seen} (stays : Stays a b) (e : ℕ) (after : Stays b c) where
 
         before : BothLive a c e n → (copy : TableCopy) (contents : Contents) → IsKeptOrWritten b e n copy contents → IsKeptOrWritten a e n copy contents
         before live copy contents (inl picks) =
-            inl (λ s is. (untouched s (live_before live copy s is)).within (contents s) (picks s is))
+            inl (λ s is. (untouched s (of_one copy n s is) (live_before live copy s is)).within (contents s) (picks s is))
         before live copy contents (inr made) = inr made
 
   -- a table that is settled stays so
-  settled_by : ((s : ℕ) → IsOfCopies n s → IsLive b c e s → Keeps (b.held e s) (c.held e s)) → IsSettled a b e → IsSettled a c e
+  pub settled_by : ((s : ℕ) → IsOfCopies n s → IsLive b c e s → Keeps (b.held e s) (c.held e s)) → IsSettled a b e → IsSettled a c e
   settled_by kept old = record {
     now = λ had live.
         let says = old.now had (live_before live) in (
@@ -381,8 +381,8 @@ module _ (a b c : Seen) (first before after : Seats) (place : ℕ) (low : place 
     changes : Changes b c d (IsOfCopies (b.sectors d)) P
     changes = settles.changes d seat
 
-    untouched : (s : ℕ) → IsLive a b d s → Keeps (a.held d s) (b.held d s)
-    untouched s live =
+    untouched : (s : ℕ) → IsOfCopies (a.sectors d) s → IsLive a b d s → Keeps (a.held d s) (b.held d s)
+    untouched s is live =
         old.only.others d s live
         (λ v may.
         let below = may.below in

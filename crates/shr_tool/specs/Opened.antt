@@ -8,6 +8,7 @@ use Rattle.slice_rack.specs.Runs.{IsSliced}
 use Rattle.slice_rack.specs.Sliced.{slices_of}
 use Rattle.raid_rack.specs.Book.{IsAfter}
 use Rattle.raid_rack.specs.Raid.{IsTold}
+use Rattle.pool_check.specs.Settling.{IsSettled}
 use Rattle.pool_image.specs.Disks.{disks_of}
 use Rattle.pool_image.specs.Drives.{Found}
 use Rattle.pool_image.specs.Meaning.{Volume, meaning}
@@ -61,7 +62,7 @@ pub record IsMeant (x opened : Seen) (a : FlatArray) : Type 0 where
 pub record OpenedOn {R : Type 0} (seen : R → Seen) (runs : R → R → Type 0) (bay after : R) (text rest out out' : List ℕ) (status : Status) : Type 0 where
   pub opened : R
   pub kept : runs bay opened × runs opened after
-  -- in the opening drives alone are written: in their log slices, and in the arrays' part
+  -- in the opening drives alone are written: in their log slices, in the arrays' part, and in their partition tables
   pub drives : WritesPool seen runs bay opened
   pub ground : Ground
   pub from : Moment
@@ -69,6 +70,9 @@ pub record OpenedOn {R : Type 0} (seen : R → Seen) (runs : R → R → Type 0)
   pub faults : (d : ℕ) → from.faults d ≡ (seen opened).faults d
   -- it is opened as disks have it that held a sound pool and refused no call
   pub meant : (f : Found) → HoldSound (seen bay) f → IsUnfaulted (seen bay) (seen opened) → IsOpenedAs f (seen opened) ground from
+  -- then both copies of each drive's partition table are the table that its disk had, durably
+  pub tables :
+      (f : Found) → HoldSound (seen bay) f → IsUnfaulted (seen bay) (seen opened) → (p d : ℕ) → f.seats p ≡ Some d → IsSettled (seen bay) (seen opened) d
   -- from then on, sectors of slices alone
   pub apart : WritesOnly (seen opened) (seen after) (IsSliced ground.slices)
   -- the script, from the volume that the disks meant

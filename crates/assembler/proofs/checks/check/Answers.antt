@@ -89,6 +89,19 @@ returns-clause-members g c =
     (subst (λ r. (p d : ℕ) → seats_by c.check_drives.new.seats p ≡ Some d → arrays_first + 32 < (g.R.Rack.seen r).sectors d) c.inner.ensures.value c.in-Ok.ensures.room)
     c.absent_of-absent.ensures)
 
+pub returns-clause-taken : goal.returns-clause-taken
+returns-clause-taken g c p =
+    let rest = c.args.rest in
+    let x : Seen = g.R.Rack.seen (below_of rest.slices) in
+    let known = rest.scan.disks.items in
+    let t : Slices = tables rest.slices in
+    let now = c.unseat_lost.ensures in
+    let were = taken x known rest.state t rest.on.items c.requires.laid c.requires.fit rest.gone.items c.seats_of-seats.result c.seats_of-seats.ensures.beyond c.seats_of-seats.ensures.each in
+    let loses = subst (λ r. Loses (g.R.Rack.seen r) (g.R.Rack.seen c.check_drives.new.rack) (seats_by c.seats_of-seats.result) (seats_by c.check_drives.new.seats)) c.inner.ensures.value c.check_drives.ensures.seats in
+    sym (c.lay_members.ensures.kept.seats p
+    ∙ seats_are x known rest.state t rest.on.items c.requires.laid c.requires.fit (g.R.Rack.seen c.check_drives.new.rack) c.seats_of-seats.result c.check_drives.new.seats were loses
+    (tables c.unseat_lost.new.slices) c.unseat_lost.new.slices.orderly now.seats now.firsts now.sectors p)
+
 pub returns-in-Err-clause-refused : goal.returns-in-Err-clause-refused
 returns-in-Err-clause-refused g c =
     let rest = c.args.rest in

@@ -27,6 +27,7 @@ use Rattle.assembler.proofs.Drives.{members_drives}
 use Rattle.assembler.proofs.Entry.{meaning_entry, quiet_first, quiet_last, refusal_entry, pool_same, rest_found, rested_so}
 use Rattle.assembler.proofs.Marks.{marks_still}
 use Rattle.assembler.proofs.Meaning.{check_fails, check_passes}
+use Rattle.assembler.proofs.Mended.{opening_settled}
 use Rattle.assembler.proofs.Volumes.{live_later, volume_opened, volume_refused}
 use Rattle.assembler.proofs.Lies.{slices_lie, slices_same, volume_same}
 use Rattle.assembler.proofs.opening.assemble.Goals as goal
@@ -35,13 +36,13 @@ pub returns-in-Ok-open_volume-clause-runs : goal.returns-in-Ok-open_volume-claus
 returns-in-Ok-open_volume-clause-runs g c =
     g.met.R.Rack.runs_then _ _ _ c.in-Ok.ensures.runs
     (g.met.R.Rack.runs_then _ _ _ c.in-Ok-check.ensures.runs
-    (g.met.R.Rack.runs_then _ _ _ c.make_rack.ensures.runs.below c.in-Ok-open_volume.ensures.opens.kept.0.below))
+    (g.met.R.Rack.runs_then _ _ _ c.make_rack.ensures.runs c.in-Ok-open_volume.ensures.opens.kept.0.below))
 
 pub returns-in-Err-open_volume-clause-returned : goal.returns-in-Err-open_volume-clause-returned
 returns-in-Err-open_volume-clause-returned g c =
     g.met.R.Rack.runs_then _ _ _ c.in-Ok.ensures.runs
     (g.met.R.Rack.runs_then _ _ _ c.in-Ok-check.ensures.runs
-    (g.met.R.Rack.runs_then _ _ _ c.make_rack.ensures.runs.below c.in-Err-open_volume.ensures.returned))
+    (g.met.R.Rack.runs_then _ _ _ c.make_rack.ensures.runs c.in-Err-open_volume.ensures.returned))
 
 pub returns-in-Err-check-clause-returned : goal.returns-in-Err-check-clause-returned
 returns-in-Err-check-clause-returned g c = g.met.R.Rack.runs_then _ _ _ c.in-Ok.ensures.runs c.in-Err-check.ensures.returned
@@ -69,7 +70,7 @@ returns-in-Ok-open_volume-clause-meant g c e sound quiet =
     let inside = c.make_rack.ensures.fit.running.set.fit in
     let ax : Stays a x = c.in-Ok.ensures.only.only.stays in
     let xy : Stays x y = c.in-Ok-check.ensures.only.stays in
-    let yz : Stays y z = (c.make_rack.ensures.runs.apart members.fit.0 members.fit.1).stays in
+    let yz : Stays y z = c.make_rack.ensures.only.stays in
     let to_z : IsUnfaulted a z = quiet_first a z w (opens.kept.0.apart inside.0 inside.1).stays quiet in
     let to_y : IsUnfaulted a y = quiet_first a y z yz to_z in
     let to_x : IsUnfaulted a x = quiet_first a x y xy to_y in
@@ -81,7 +82,7 @@ returns-in-Ok-open_volume-clause-meant g c e sound quiet =
     let same = pool_same seen a rest e sound rested in
     let found = rest_found seen a rest e sound rested in
     let checked = c.in-Ok-check.ensures.holds f found (λ p d named seat. to_x d (c.in-Ok.ensures.gone p d named seat)) (quiet_last a x y ax to_y) in
-    let arrays = c.make_rack.ensures.holds f checked.0 checked.1 (λ none. from_y) in
+    let arrays = c.make_rack.ensures.holds f checked.0 checked.1 from_y in
     let alive = live_later seen g.R.Rack.runs raid (rack_in volume) opens.kept c.make_rack.ensures.fit c.in-Ok-open_volume.ensures.fit.0
     (quiet_last a z w (stays_then ax (stays_then xy yz)) quiet) ready opens.unused (c.make_rack.ensures.marks from_y).live in
     let held = volume_opened seen g.R.Rack.runs f (slices_of (tables m.slices) y) raid arrays c.make_rack.ensures.fresh (rack_in volume) (linear volume) (seqno_of volume) opens
@@ -99,7 +100,7 @@ returns-in-Ok-open_volume-clause-meant g c e sound quiet =
       holds = held.1;
       lies = volume_same e f same (linear volume) held.0;
       slices = slices_same e f same (tables (slices_in (rack_in volume)))
-          (subst (AreSlicesOf f) (sym (opens.kept.0.tables ∙ c.make_rack.ensures.runs.tables)) lie);
+          (subst (AreSlicesOf f) (sym (opens.kept.0.tables ∙ c.make_rack.ensures.tables)) lie);
       after = after_then e.state (raid_in raid).state (raid_in (rack_in volume)).state
           (subst (λ (s : State). IsAfter s (raid_in raid).state) same.state arrays.after) opens.kept.1.book;
       told = λ n low. opens.kept.1.told n (arrays.told n (subst (λ (s : State). n < s.joined) (sym same.state) low));
@@ -148,7 +149,7 @@ returns-in-Err-open_volume-clause-exact g c e sound quiet some =
     let all : IsUnfaulted a w = subst (λ r. IsUnfaulted a (seen r)) (sym refused.back) quiet in
     let ax : Stays a x = c.in-Ok.ensures.only.only.stays in
     let xy : Stays x y = c.in-Ok-check.ensures.only.stays in
-    let yz : Stays y z = (c.make_rack.ensures.runs.apart members.fit.0 members.fit.1).stays in
+    let yz : Stays y z = c.make_rack.ensures.only.stays in
     let to_z : IsUnfaulted a z = quiet_first a z w (refused.kept.0.apart inside.0 inside.1).stays all in
     let to_y : IsUnfaulted a y = quiet_first a y z yz to_z in
     let to_x : IsUnfaulted a x = quiet_first a x y xy to_y in
@@ -159,7 +160,7 @@ returns-in-Err-open_volume-clause-exact g c e sound quiet some =
     let f = rested.settled.means.now in
     let found = rest_found seen a rest e sound rested in
     let checked = c.in-Ok-check.ensures.holds f found (λ p d named seat. to_x d (c.in-Ok.ensures.gone p d named seat)) (quiet_last a x y ax to_y) in
-    let arrays = c.make_rack.ensures.holds f checked.0 checked.1 (λ none. from_y) in
+    let arrays = c.make_rack.ensures.holds f checked.0 checked.1 from_y in
     elim refused.cause [
       | inl memory ↦ absurd (some memory)
       | inr bad ↦
@@ -186,13 +187,12 @@ returns-in-Ok-open_volume-clause-drives g c =
     let t : Slices = tables m.slices in
     let z : Seen = seen (below_of (slices_in raid)) in
     let w : Seen = seen (below_of (slices_in (rack_in volume))) in
-    let first = c.make_rack.ensures.runs in
-    let second : WritesOnly z w (IsSliced t) = subst (λ (u : Slices). WritesOnly z w (IsSliced u)) first.tables (opens.kept.0.apart inside.0 inside.1) in
+    let second : WritesOnly z w (IsSliced t) = subst (λ (u : Slices). WritesOnly z w (IsSliced u)) c.make_rack.ensures.tables (opens.kept.0.apart inside.0 inside.1) in
     record {
       mid = below_of rest.slices;
       kept = (
         c.in-Ok.ensures.runs,
-        g.met.R.Rack.runs_then _ _ _ c.in-Ok-check.ensures.runs (g.met.R.Rack.runs_then _ _ _ first.below opens.kept.0.below),
+        g.met.R.Rack.runs_then _ _ _ c.in-Ok-check.ensures.runs (g.met.R.Rack.runs_then _ _ _ c.make_rack.ensures.runs opens.kept.0.below),
       );
       early = c.in-Ok.ensures.only;
       known = rest.scan.disks.items;
@@ -201,7 +201,7 @@ returns-in-Ok-open_volume-clause-drives g c =
       one = c.in-Ok.ensures.one;
       late = members_drives m.state t (seen (below_of m.slices)) m.checked m.absent.items rest.scan.disks.items rest.state m.slices.orderly c.in-Ok-check.ensures.members
           c.in-Ok-check.ensures.state c.in-Ok-check.ensures.seats (seen (below_of rest.slices)) z w c.in-Ok-check.ensures.only
-          (first.apart c.in-Ok-check.ensures.members.fit.0 c.in-Ok-check.ensures.members.fit.1) second;
+          c.make_rack.ensures.only second;
     }
 
 pub returns-in-Err-open_volume-clause-written : goal.returns-in-Err-open_volume-clause-written
@@ -216,15 +216,14 @@ returns-in-Err-open_volume-clause-written g c =
     let t : Slices = tables m.slices in
     let z : Seen = seen (below_of (slices_in raid)) in
     let w : Seen = seen back in
-    let first = c.make_rack.ensures.runs in
     let second : WritesOnly z w (IsSliced t) =
     subst (λ r. WritesOnly z (seen r) (IsSliced t)) refused.back
-    (subst (λ (u : Slices). WritesOnly z (seen (below_of (slices_in refused.last))) (IsSliced u)) first.tables (refused.kept.0.apart inside.0 inside.1)) in
+    (subst (λ (u : Slices). WritesOnly z (seen (below_of (slices_in refused.last))) (IsSliced u)) c.make_rack.ensures.tables (refused.kept.0.apart inside.0 inside.1)) in
     inr (inr (record {
       mid = below_of rest.slices;
       kept = (
         c.in-Ok.ensures.runs,
-        g.met.R.Rack.runs_then _ _ _ c.in-Ok-check.ensures.runs (g.met.R.Rack.runs_then _ _ _ first.below c.in-Err-open_volume.ensures.returned),
+        g.met.R.Rack.runs_then _ _ _ c.in-Ok-check.ensures.runs (g.met.R.Rack.runs_then _ _ _ c.make_rack.ensures.runs c.in-Err-open_volume.ensures.returned),
       );
       early = c.in-Ok.ensures.only;
       known = rest.scan.disks.items;
@@ -233,7 +232,7 @@ returns-in-Err-open_volume-clause-written g c =
       one = c.in-Ok.ensures.one;
       late = members_drives m.state t (seen (below_of m.slices)) m.checked m.absent.items rest.scan.disks.items rest.state m.slices.orderly c.in-Ok-check.ensures.members
           c.in-Ok-check.ensures.state c.in-Ok-check.ensures.seats (seen (below_of rest.slices)) z w c.in-Ok-check.ensures.only
-          (first.apart c.in-Ok-check.ensures.members.fit.0 c.in-Ok-check.ensures.members.fit.1) second;
+          c.make_rack.ensures.only second;
     }))
 
 pub returns-in-Ok-open_volume-clause-marks : goal.returns-in-Ok-open_volume-clause-marks
@@ -253,7 +252,7 @@ returns-in-Ok-open_volume-clause-marks g c e sound quiet p =
     let members = c.in-Ok-check.ensures.members in
     let ax : Stays a x = c.in-Ok.ensures.only.only.stays in
     let xy : Stays x y = c.in-Ok-check.ensures.only.stays in
-    let yz : Stays y z = (c.make_rack.ensures.runs.apart members.fit.0 members.fit.1).stays in
+    let yz : Stays y z = c.make_rack.ensures.only.stays in
     let to_z : IsUnfaulted a z = quiet_first a z w (opens.kept.0.apart inside.0 inside.1).stays quiet in
     let to_y : IsUnfaulted a y = quiet_first a y z yz to_z in
     let to_x : IsUnfaulted a x = quiet_first a x y xy to_y in
@@ -284,3 +283,32 @@ returns-in-Ok-open_volume-clause-marks g c e sound quiet p =
         of true = refl
         of false = refl
     marks_of false none absent is = refl
+
+pub returns-in-Ok-open_volume-clause-mended : goal.returns-in-Ok-open_volume-clause-mended
+returns-in-Ok-open_volume-clause-mended g c e sound quiet p d seat =
+    let seen = g.R.Rack.seen in
+    let a : Seen = seen c.args.rack in
+    let rest = c.in-Ok.rest in
+    let x : Seen = seen (below_of rest.slices) in
+    let m = c.in-Ok-check.members in
+    let y : Seen = seen (below_of m.slices) in
+    let raid = c.make_rack.result in
+    let z : Seen = seen (below_of (slices_in raid)) in
+    let volume = c.in-Ok-open_volume.volume in
+    let w : Seen = seen (below_of (slices_in (rack_in volume))) in
+    let opens = c.in-Ok-open_volume.ensures.opens in
+    let inside = c.make_rack.ensures.fit.running.set.fit in
+    let t : Slices = tables m.slices in
+    let texts : WritesOnly z w (IsSliced t) = subst (λ (u : Slices). WritesOnly z w (IsSliced u)) c.make_rack.ensures.tables (opens.kept.0.apart inside.0 inside.1) in
+    let ax : Stays a x = c.in-Ok.ensures.only.only.stays in
+    let xy : Stays x y = c.in-Ok-check.ensures.only.stays in
+    let yz : Stays y z = c.make_rack.ensures.only.stays in
+    let to_z : IsUnfaulted a z = quiet_first a z w texts.stays quiet in
+    let to_y : IsUnfaulted a y = quiet_first a y z yz to_z in
+    let to_x : IsUnfaulted a x = quiet_first a x y xy to_y in
+    let rested = rested_so seen a rest e sound ax to_x c.in-Ok.ensures.newest c.in-Ok.ensures.stands c.in-Ok.ensures.settled c.in-Ok.ensures.steady c.in-Ok.ensures.looked c.in-Ok.ensures.single in
+    let found = rest_found seen a rest e sound rested in
+    let checked = c.in-Ok-check.ensures.holds rested.settled.means.now found (λ q d named seat. to_x d (c.in-Ok.ensures.gone q d named seat)) (quiet_last a x y ax to_y) in
+    let here : seat_of t p ≡ Some d = sym (checked.0.pool.seats p) ∙ (pool_same seen a rest e sound rested).seats p ∙ seat in
+    opening_settled m.state c.in-Ok.ensures.only.state t a x y z w m.checked m.absent.items c.in-Ok.ensures.only.known m.slices.orderly c.in-Ok-check.ensures.members
+    c.in-Ok.ensures.only.only c.in-Ok-check.ensures.only yz texts p d here (c.make_rack.ensures.mended (quiet_last a y z (stays_then ax xy) to_z) p d here)

@@ -33,6 +33,7 @@ returns-in-Ok-clause-outcome g c =
       clock = refl;
       faults = λ d. refl;
       meant = opened_as pool (λ r. seen r.now) _ opens.meant opens.marks;
+      tables = opens.mended;
       apart = serves.passes.apart;
       outcome = λ a.
           outcome_for c.serve_pool-status.result _ _ _ _ _ _ _ a _ _ _ _

@@ -1,0 +1,216 @@
+-- The copies of partition tables are made to agree: the slices of the drives stay as they are, and tables that agree do so after writes to slices.
+use Rattle.std.proofs.Common.{◌≡◌, ◌⊎◌, ℕ, ◌+◌, ◌<◌, ◌≤◌, ◌==◌, true, false, ◌&&◌, is_none, List, filter, Option, Some, None, inl, inr, refl, sym, ap, subst, ◌∙◌, eqb-true, arith}
+use Rattle.std.proofs.lemmas.Bool.{and_from, and_parts, both_ways}
+use Rattle.std.proofs.lemmas.Map.Views.{any-filter_same}
+use Rattle.rack.specs.Values.{Keeps, MayLeave}
+use Rattle.rack.specs.Seen.{IsLive, Seen, Stays}
+use Rattle.rack.specs.Joins.{stays_then}
+use Rattle.rack.specs.Sequences.{OnlyReads, WritesOnly}
+use Rattle.rack.proofs.Writing.{only_then, only_weaker}
+use Rattle.slice_rack.specs.Laws.{live_below, shows_inside}
+use Rattle.slice_rack.specs.Runs.{IsSliced, Runs, inside_still}
+use Rattle.slice_rack.specs.Sliced.{IsInside, slices_of}
+use Rattle.slice_rack.specs.Slices.{Slices, IsOrderly, disk_of, first_of, seat_of, sectors_of}
+use Rattle.slice_rack.proofs.Below.{stays_sliced}
+use Rattle.gpt_table.specs.Changes.{IsOfCopies}
+use Rattle.pool_state.specs.declared.contents.State.{State}
+use Rattle.array_image.specs.Places.{arrays_first, state_sector}
+use Rattle.array_image.specs.States.{current_places, is_current}
+use Rattle.commit_log.specs.View.{names}
+use Rattle.array_model.proofs.Keeping.{keeping_calls}
+use Rattle.array_model.proofs.Views.{notes_none}
+use Rattle.pool_image.specs.Disks.{Seats}
+use Rattle.pool_scan.specs.Scanning.{IsUnfaulted}
+use Rattle.pool_scan.specs.declared.Known.{Known}
+use Rattle.pool_scan.proofs.Valid.{valid_places}
+use Rattle.pool_rest.specs.Resting.{IsOfDrive}
+use Rattle.pool_check.specs.declared.Checked.{Checked}
+use Rattle.pool_check.specs.Settling.{IsSettled, IsTableSector}
+use Rattle.pool_check.proofs.Settled.{settled_by, settled_since, table_end}
+use Rattle.raid_rack.specs.Raid.{Raid}
+use Rattle.raid_rack.specs.Moves.{IsSet, Mends, Moves}
+use Rattle.raid_rack.proofs.Added.{names_current}
+use Rattle.raid_rack.proofs.Calls.{moves_read, reads_notes}
+use Rattle.raid_rack.proofs.Moving.{moves_then}
+use Rattle.raid_rack.proofs.Noted.{current_few}
+use Rattle.assembler.specs.Members.{AreMembers}
+use Rattle.assembler.specs.Mending.{MendsTables}
+use Rattle.assembler.specs.Writing.{IsSlicedOrTable}
+use Rattle.assembler.proofs.Drives.{sliced_at}
+use Rattle.assembler.proofs.Running.{members_later}
+
+-- ---- reads before losses are mended
+
+reads_move : (v : Raid) (a b : Seen) → IsSet v a → 0 < v.state.made → OnlyReads a b → Moves v v a b
+reads_move v a b set some reads =
+    moves_read v v.arrays 0 a b set
+    (reads_notes v v.arrays 0 a b set some reads (λ n other. refl)
+    (notes_none (v.arrays 0) a b)
+    (λ s durable vals spent covers. keeping_calls a b set.lasting reads.stays reads.keeps s durable (v.arrays 0) vals spent))
+
+pub reads_mend : (v w : Raid) (a b c : Seen) → IsSet v a → 0 < v.state.made → OnlyReads a b → Mends v w b c → Mends v w a c
+reads_mend v w a b c set some reads mends = record {
+  moves = moves_then v v w a b c (reads_move v a b set some reads) mends.moves;
+  heeded = mends.heeded;
+  marked = mends.marked;
+}
+
+-- ---- sectors of tables
+
+-- a sector of a drive's slices is none of its table
+outside : (n u : ℕ) → arrays_first + 32 < n → state_sector ≤ u → (u < arrays_first) ⊎ (u + 33 < n) → (u < 34) ⊎ (n ≤ u + 33) → ⊥
+outside n u room behind before (inl low) = omega (arith, behind, low)
+outside n u room behind (inl early) (inr high) = omega (arith, room, early, high)
+outside n u room behind (inr late) (inr high) = omega (arith, late, high)
+
+-- writes to drives keep tables
+pub drive_keeps : (a b : Seen) (known : List Known) (s : State) (d : ℕ) → WritesOnly a b (IsOfDrive a known s) → arrays_first + 32 < a.sectors d
+    → (u : ℕ) → IsOfCopies (a.sectors d) u → IsLive a b d u → Keeps (a.held d u) (b.held d u)
+drive_keeps a b known s d only room u of live = only.others d u live (λ v is. outside (a.sectors d) u room is.behind is.before (table_end (a.sectors d) u of))
+
+module _ (s : State) (t : Slices) (a : Seen) (checked : Checked) (absent : List ℕ) (orderly : IsOrderly t) (m : AreMembers s t a checked absent) where
+  slices_apart : (d u : ℕ) (v w : List ℕ) → IsSliced t d u v → IsTableSector a (seat_of t) 16 d u w → ⊥
+  slices_apart d u v w is table =
+      let at = sliced_at s t a checked absent orderly m d u v is in
+      outside (a.sectors d) u (m.room table.place d table.seat) at.2 at.3 table.at_end
+
+  -- so do writes to slices
+  pub slices_keep : (b : Seen) (p d n : ℕ) → WritesOnly a b (IsSliced t) → p < 16 → seat_of t p ≡ Some d → a.sectors d ≡ n
+      → (u : ℕ) → IsOfCopies n u → IsLive a b d u → Keeps (a.held d u) (b.held d u)
+  slices_keep b p d n only few seat same u of live =
+      only.others d u live (λ v is. slices_apart d u v v is (record {
+        place = p;
+        below = few;
+        seat = seat;
+        at_end = subst (λ k. (u < 34) ⊎ (k ≤ u + 33)) (sym same) (table_end n u of);
+      }))
+
+  -- and writes to tables keep slices
+  pub tables_read : (b : Seen) → WritesOnly a b (IsTableSector a (seat_of t) 16) → OnlyReads (slices_of t a) (slices_of t b)
+  tables_read b only = record {
+    stays = stays_sliced m.fit.1 only.stays;
+    keeps = record {
+      held = λ k u live. only.others (disk_of t k) (first_of t k + u) (live_below orderly inside live) (λ v is. never k u v live.sector is);
+      stops = λ traced. let leaves = only.stops traced in record {
+        later = leaves.later;
+        kept = λ n c until left. (left.0, leaves.kept n left.0 until left.1, left.2);
+        past = λ n c until left. (left.0, leaves.past n left.0 until left.1, left.2);
+        new = λ n c after until left k u live.
+            subst (MayLeave (a.held (disk_of t k) (first_of t k + u))) (sym (shows_inside t left.0 c k u left.2 live.sector))
+            (elim (leaves.new n left.0 after until left.1 (disk_of t k) (first_of t k + u) (live_below orderly inside live)) [
+              | inl old ↦ old
+              | inr is ↦ absurd (never k u (left.0 (disk_of t k) (first_of t k + u)) live.sector is)
+            ]);
+      };
+    };
+  }
+    where
+      inside : IsInside t b
+      inside = inside_still only.stays m.fit.1
+
+      never : (k u : ℕ) (v : List ℕ) → u < sectors_of t k → IsTableSector a (seat_of t) 16 (disk_of t k) (first_of t k + u) v → ⊥
+      never k u v within is =
+          slices_apart (disk_of t k) (first_of t k + u) v v (record { slice = k; at = u; within = within; disk_is = refl; sector_is = refl }) is
+
+  -- ---- places that are left
+
+  module _ (x y : Seen) (gone now : List ℕ) (mends : MendsTables x y s (seat_of t) gone now) where
+    named : (p : ℕ) → names now p ≡ (is_none (mends.left p) && is_current s p)
+    named p =
+        ap (λ ps. names ps p) mends.listed
+        ∙ any-filter_same (λ q. q == p) (λ q. is_none (mends.left q)) (is_none (mends.left p)) (λ q same. ap (λ r. is_none (mends.left r)) (eqb-true q p same)) (current_places s)
+        ∙ ap (λ b. is_none (mends.left p) && b) (names_current s p)
+
+    seat_none : (p : ℕ) → names absent p ≡ true → (is_none (seat_of t p) ≡ true) × (is_current s p ≡ true)
+    seat_none p is = and_parts (is_none (seat_of t p)) (is_current s p) (sym (m.absent_is p) ∙ is)
+
+    -- whoever was absent is so still
+    pub absent_still : (p : ℕ) → names absent p ≡ true → names now p ≡ true
+    absent_still p is =
+        named p ∙ and_from (is_none (mends.left p)) (is_current s p)
+        (elim (mends.loses p) [ inl same ↦ ap is_none same ∙ (seat_none p is).0 | inr lost ↦ ap is_none lost.0 ])
+        (seat_none p is).1
+
+    -- where no disk refused a call nobody else is
+    module _ (quiet : IsUnfaulted x y) (gone_is : (p : ℕ) → names gone p ≡ true → names absent p ≡ true) where
+      pub left_same : (p : ℕ) → mends.left p ≡ seat_of t p
+      left_same p = elim (mends.loses p) [
+        | inl same ↦ same
+        | inr lost ↦ elim lost.1 [
+          | inl is ↦ lost.0 ∙ sym (none_is (seat_of t p) (seat_none p (gone_is p is)).0)
+          | inr goes ↦ absurd (quiet goes.0 goes.2)
+        ]
+      ]
+        where
+          none_is : (o : Option ℕ) → is_none o ≡ true → o ≡ None
+          none_is None is = refl
+          none_is (Some d) is = absurd (both_ways false refl is)
+
+      pub absent_same : now ≡ absent
+      absent_same = mends.listed ∙ ap (λ (f : Seats). filter (λ p. is_none (f p)) (current_places s)) (λ i p. left_same p i) ∙ sym m.listed
+
+-- ---- in the making of a rack of arrays: gates are closed, tables are made to agree, and then losses are marked
+
+-- the slices lie as before, and gates and tables were written
+pub record IsMended (s : State) (t : Slices) (a b c : Seen) (gone now : List ℕ) : Type 0 where
+  pub closing : WritesOnly a b (IsSliced t)
+  pub mends : MendsTables b c s (seat_of t) gone now
+
+pub mended_so : (s : State) (t u : Slices) (a b c : Seen) (gone now : List ℕ) (own : Type 0) → (slices_of t a).fit → Runs t u a b own
+    → MendsTables b c s (seat_of u) gone now → IsMended s t a b c gone now
+mended_so s t u a b c gone now own fit runs mends =
+    record { closing = runs.apart fit.0 fit.1; mends = subst (λ k. MendsTables b c s (seat_of k) gone now) runs.tables mends }
+
+module _ (s : State) (t : Slices) (a b c : Seen) (gone now : List ℕ) (checked : Checked) (absent : List ℕ) (orderly : IsOrderly t)
+    (m : AreMembers s t a checked absent) (is : IsMended s t a b c gone now) where
+  pub mended_stays : Stays a c
+  mended_stays = stays_then is.closing.stays is.mends.only.stays
+
+  pub closed_members : AreMembers s t b checked absent
+  closed_members = members_later s t a b checked absent is.closing.stays m
+
+  pub mended_members : AreMembers s t c checked absent
+  mended_members = members_later s t a c checked absent mended_stays m
+
+  pub mended_reads : OnlyReads (slices_of t b) (slices_of t c)
+  mended_reads = tables_read s t b checked absent orderly closed_members c is.mends.only
+
+  -- losses are marked
+  pub marking_so : (w k : Slices) (e : Seen) (own : Type 0) → w ≡ t → Runs w k c e own → WritesOnly c e (IsSliced t)
+  marking_so w k e own same runs =
+      subst (λ u. WritesOnly c e (IsSliced u)) same (runs.apart mended_members.fit.0 (subst (λ u. IsInside u c) (sym same) mended_members.fit.1))
+
+  module _ (e : Seen) (marking : WritesOnly c e (IsSliced t)) where
+    pub rack_writes : WritesOnly a e (IsSlicedOrTable a t)
+    rack_writes =
+        only_then (IsSlicedOrTable a t) (only_weaker (IsSliced t) (IsSlicedOrTable a t) (λ d u v at. inl at) is.closing)
+        (only_then (IsSlicedOrTable a t)
+        (only_weaker (IsTableSector b (seat_of t) 16) (IsSlicedOrTable a t) (λ d u v at. inr (record {
+          place = at.place;
+          below = at.below;
+          seat = at.seat;
+          at_end = subst (λ n. (u < 34) ⊎ (n ≤ u + 33)) (is.closing.stays.sectors d) at.at_end;
+        })) is.mends.only)
+        (only_weaker (IsSliced t) (IsSlicedOrTable a t) (λ d u v at. inl at) marking))
+
+    pub rack_settled : (p d : ℕ) → p < 16 → seat_of t p ≡ Some d → is.mends.left p ≡ Some d → IsSettled a e d
+    rack_settled p d few seat left =
+        settled_by mended_stays d marking.stays (slices_keep s t c checked absent orderly mended_members e p d (a.sectors d) marking few seat (mended_stays.sectors d))
+        (settled_since is.closing.stays d is.mends.only.stays (slices_keep s t a checked absent orderly m b p d (a.sectors d) is.closing few seat refl)
+        (is.closing.stays.sectors d) (is.mends.settled p d few left))
+
+-- ---- in an opening: the pending record, the drives' check, the rack of arrays, the volume
+
+pub opening_settled : (s r : State) (t : Slices) (a x y z w : Seen) (checked : Checked) (absent : List ℕ) (known : List Known) → IsOrderly t → AreMembers s t y checked absent
+    → WritesOnly a x (IsOfDrive a known r) → OnlyReads x y → Stays y z → WritesOnly z w (IsSliced t)
+    → (p d : ℕ) → seat_of t p ≡ Some d → IsSettled y z d → IsSettled a w d
+opening_settled s r t a x y z w checked absent known orderly m early reads stays texts p d seat settled =
+    let ax = early.stays in
+    let xz = stays_then reads.stays stays in
+    let az = stays_then ax xz in
+    let few = current_few s p (valid_places s 0 m.valid).1 (m.current p d seat) in
+    let room = subst (λ n. arrays_first + 32 < n) (reads.stays.sectors d ∙ ax.sectors d) (m.room p d seat) in
+    settled_by az d texts.stays
+    (slices_keep s t z checked absent orderly (members_later s t y z checked absent stays m) w p d (a.sectors d) texts few seat (az.sectors d))
+    (settled_since ax d xz (drive_keeps a x known r d early room) (ax.sectors d)
+    (settled_since reads.stays d stays (λ u of live. reads.keeps.held d u live) (reads.stays.sectors d) settled))

@@ -1,0 +1,64 @@
+//! The copies of the partition tables of a pool's drives, made to agree.
+
+ghost use Rattle.std.specs.Prelude.{◌≡◌, ◌<◌, ◌≤◌, ◌==◌, ◌&&◌, ℕ, if◌then◌else◌, None};
+ghost use Rattle.slice_rack.specs.Slices.{seat_of};
+ghost use Rattle.slice_rack.specs.SliceRack.{tables, below_of};
+ghost use Rattle.slice_rack.specs.Sliced.{slices_of};
+ghost use Rattle.commit_log.specs.View.{names};
+ghost use Rattle.pool_check.specs.Drives.{seats_by};
+ghost use Rattle.assembler.specs.Mending.{MendsTables};
+
+use crate::checks::absent_of;
+use pool_check::{Seats, settle_tables};
+use pool_state::State;
+use rack::{Places, Rack};
+use slice_rack::SliceRack;
+
+/// Whether a place is one of a list.
+fn is_listed(places: &Places, place: u32) -> bool
+    ensures { result ≡ names places.now.items place }
+{
+    places.as_slice().iter().any(|listed| *listed == place)
+}
+
+/// Takes the disk of a place away where it is left out.
+fn leave_out_if(seats: &mut Seats, place: u32, left_out: bool)
+    requires { place < 16 }
+    ensures { (p : ℕ) → seats_by seats.new p ≡ (if (p == place) && left_out then None else seats_by seats.old p) }
+{
+    if left_out {
+        seats[place as usize] = None;
+    }
+}
+
+/// Takes the disks of the places away that have gone.
+fn leave_out(seats: &mut Seats, gone: &Places)
+    ensures each { (p : ℕ) → p < 16 → seats_by seats.new p ≡ (if names gone.now.items p then None else seats_by seats.old p) }
+    ensures beyond { (p : ℕ) → 16 ≤ p → seats_by seats.new p ≡ seats_by seats.old p }
+{
+    for place in 0..16 {
+        leave_out_if(seats, place, is_listed(gone, place));
+    }
+}
+
+/// Makes both copies of the partition table of each drive agree, but of those that have gone. Answers the current places that have no
+/// disk, have gone, or whose disk went meanwhile.
+///
+/// At each moment each disk has the table that it had.
+pub(crate) fn mend_tables<R: Rack>(
+    slices: &mut SliceRack<R>,
+    state: &State,
+    seats: Seats,
+    gone: &Places,
+) -> Places
+    requires fit { (slices_of (tables slices.old) (R.seen (below_of slices.old))).fit }
+    requires seats { (p : ℕ) → seats_by seats p ≡ seat_of (tables slices.old) p }
+    ensures tables { tables slices.new ≡ tables slices.old }
+    ensures mends { MendsTables (R.seen (below_of slices.old)) (R.seen (below_of slices.new)) state.now (seat_of (tables slices.old)) gone.now.items result.items }
+    ensures runs { R.runs (below_of slices.old) (below_of slices.new) }
+{
+    let mut seats = seats;
+    leave_out(&mut seats, gone);
+    settle_tables(slices.inner(), &mut seats);
+    absent_of(state, &seats)
+}
