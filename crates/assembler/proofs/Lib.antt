@@ -6,10 +6,12 @@ mod Entry
 mod Finding
 mod Holding
 mod Later
+mod Leaving
 mod Lies
 mod Live
 mod Marks
 mod Meaning
+mod Moments
 mod Refusals
 mod Rest
 mod Roles

@@ -1,5 +1,6 @@
 pub mod Holding
 pub mod Members
+pub mod Moments
 pub mod Refusing
 pub mod Sound
 pub mod Volume

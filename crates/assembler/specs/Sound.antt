@@ -1,8 +1,9 @@
 -- Disks from which a pool is opened, and what an opening answers by what they mean.
 use Rattle.std.specs.Prelude.{◌≡◌, ◌&&◌, ◌<◌, ℕ, suc, nat_lt, true, false, ◌∷◌, [], None, Some}
 use Rattle.rack.specs.Seen.{Seen}
+use Rattle.rack.specs.Moments.{Leaves}
 use Rattle.slice_rack.specs.Slices.{Slices, first_of, place_of, seat_of, sectors_of}
-use Rattle.slice_rack.specs.SliceRack.{tables}
+use Rattle.slice_rack.specs.SliceRack.{below_of, tables}
 use Rattle.array_image.specs.Places.{log_slice, member_slice}
 use Rattle.lvm_group.specs.Runs.{Linear}
 use Rattle.lvm_group.specs.Shown.{volume_of}
@@ -11,6 +12,7 @@ use Rattle.pool_image.specs.Drives.{Found, extent_of, found}
 use Rattle.pool_image.specs.Meaning.{Volume, is_member, meaning, refusal_of}
 use Rattle.pool_image.specs.Replay.{Extent}
 use Rattle.pool_scan.specs.Scanning.{now_in}
+use Rattle.pool_rest.specs.Resting.{IsIdle}
 use Rattle.pool_rest.specs.SoundLogs.{HasSoundLogs}
 use Rattle.raid_rack.specs.declared.arrays.RaidRack.{RaidRack}
 use Rattle.raid_rack.specs.Book.{IsAfter}
@@ -19,6 +21,7 @@ use Rattle.raid_rack.specs.RaidRack.{raid_in, raid_seen, slices_in, slices_seen}
 use Rattle.assembler.specs.declared.refusal.Refusal.{Refusal}
 use Rattle.assembler.specs.Holding.{AreSteady, IsSoundPool}
 use Rattle.assembler.specs.Refusing.{meant_by}
+use Rattle.assembler.specs.Moments.{HoldsAt}
 use Rattle.assembler.specs.Volume.{AllLive, HoldsVolume, IsVolumeOf}
 
 -- Disks that hold a sound pool: they are told, each sector of them has one value, and by these the pool's logs, states and
@@ -54,6 +57,8 @@ pub record IsMeantBy {R : Type 0} (seen : R → Seen) (x : Seen) (f : Found) (ra
   pub after : IsAfter f.state (raid_in rack).state
   pub told : (n : ℕ) → n < f.state.joined → IsTold (raid_in rack) (slices_seen seen rack) n
   pub live : AllLive (raid_in rack)
+  -- what a stop leaves inside the opening holds that volume, where the disks had no record pending
+  pub moments : IsIdle x → x.traced → Leaves x (seen (below_of (slices_in rack))) (HoldsAt (tables (slices_in rack)) l volume)
 
 -- the meaning of these disks is refused so
 abbrev pub IsMeantRefusal : Seen → Refusal → Type 0
