@@ -17,6 +17,8 @@ mod Payloads
 mod Refusals
 mod Quiet
 mod Joined
+mod Keeping
 mod Laid
 mod Stood
 pub mod Meant
+mod Moments

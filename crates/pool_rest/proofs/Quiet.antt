@@ -7,6 +7,7 @@ use Rattle.std.proofs.lemmas.Option.{none-some, cond_some}
 use Rattle.rack.specs.Seen.{Image, Seen, Stays}
 use Rattle.rack.specs.Joins.{stays_then}
 use Rattle.rack.specs.Sequences.{OnlyReads}
+use Rattle.rack.specs.Targets.{look}
 use Rattle.rack.specs.Targets.{Target}
 use Rattle.shr_base.specs.Blocks.{number_at, bytes_at, put_at}
 use Rattle.shr_base.specs.Crc.{crc32_of}
@@ -16,7 +17,7 @@ use Rattle.array_image.specs.Foremost.{foremost}
 use Rattle.array_image.specs.Places.{log_slice, arrays_first}
 use Rattle.array_image.specs.Record.{Gate, GateAt, gate_of, half_of, log_bytes, target_at, is_target, are_apart, record_of, pending_at, pending, damaged_log}
 use Rattle.array_image.specs.States.{is_current, current_places}
-use Rattle.pool_image.specs.Disks.{Disks, disks_of, identities_of, newest, seat_of}
+use Rattle.pool_image.specs.Disks.{Disks, Identity, disks_of, identities_of, newest, seat_of}
 use Rattle.pool_image.specs.Replay.{Standing, standing, standing_by, written}
 use Rattle.pool_image.specs.Alike.{drive_gate, IsSameButGates, MeansTheSame}
 use Rattle.pool_image.specs.Meaning.{has_other_pool}
@@ -39,9 +40,9 @@ use Rattle.pool_rest.specs.Standing.{IsLasting, StandsAs, IsCause, since}
 use Rattle.pool_rest.specs.Resting.{AreShut, Rests, StandsNow, seated_state}
 use Rattle.pool_rest.specs.SoundLogs.{IsSoundLog, HasSoundLogs, IsSettled}
 use Rattle.pool_rest.proofs.Agreeing.{disks_same, told_later, reads_agree, logs_agree}
-use Rattle.pool_rest.proofs.BroughtCopies.{other_still}
+use Rattle.pool_rest.proofs.BroughtCopies.{other_still, tables}
 use Rattle.pool_rest.proofs.Meant.{few_newest}
-use Rattle.pool_rest.proofs.Settled.{newest_now, none_now, whole_now}
+use Rattle.pool_rest.proofs.Settled.{newest_now, none_now, seats_same, whole_now}
 
 some_standing : (x y : Standing) → Some x ≡ Some y → x ≡ y
 some_standing x y same = (cc)
@@ -178,6 +179,26 @@ module _ (a x b : Seen) (known : List Known) (st : State) (m : LogView) (is_pend
 
   newest_after : newest disks (identities_of disks e) ≡ Some brought
   newest_after = newest_now disks c e st brought newest_before log few_before late newest_late source.0 source.1
+
+  -- each place has its disk still, and each disk its table
+  pub seats_now : (p : ℕ) → seat_of brought disks (identities_of disks e) p ≡ seat_of brought disks (identities_of disks c) p
+  seats_now = seats_same disks c e st brought newest_before log few_before late newest_late source.0 source.1
+
+  pub tables_now : (d : ℕ) → d < disks.count → (identities_of disks e d).table ≡ (identities_of disks c d).table
+  tables_now d there =
+      ap (λ (i : Identity). i.table) (same_contents.identities d there)
+      ∙ tables disks c brought before.targets (pending_sound (current_places st) before.logs).valid (pending_sound (current_places st) before.logs).apart log.copies d
+
+  -- without a copy of a state the state stands, and no log was damaged
+  pub state_still : ((p : ℕ) → look before.targets (log_slice p) 0 ≡ None) → brought ≡ st
+  state_still none =
+      elim log.next [
+        | inl same ↦ same
+        | inr later ↦ (let copy = later.copy source.0 source.1 in absurd (none-some copy.0 (sym (none source.0.place) ∙ copy.1)))
+      ]
+
+  pub whole_before : damaged ≡ None
+  whole_before = stands.damaged_is lasts ∙ log.whole
 
   -- whatever refuses a pool after the replay isn't there
   pub no_cause : (why : FindFault) → has_other_pool (disks_of a) (standing_by (disks_of a) (now_in a) st) ≡ false → IsUnfaulted a b → why ≢ Memory
