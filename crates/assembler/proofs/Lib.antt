@@ -20,6 +20,7 @@ mod Seating
 mod Shows
 mod Sizes
 mod Still
+mod Tables
 mod Truthful
 mod Unseated
 mod Volumes

@@ -151,6 +151,12 @@ module _ (f : Found) (t : Slices) (x : Seen) (checked : Checked) (absent : List 
         ∙ value_same shape r e n y same
         ∙ read_value y
 
+    -- contents that have the state's sectors as they read have the pool's state
+    pub read_state : (l : LogView) → IsIdle f.state t x l → (c : Image) → ((j k : ℕ) → c j k ≡ e j k) → state_in c ≡ Some f.state
+    read_state l log c same =
+        let place = seated in
+        state_same c e (λ p. same (log_slice p) 0) ∙ (opened_now f t x checked absent orderly m steady pool found sound l log place.0 place.1 place.2).rest.state
+
     -- and nothing is pending there
     pub read_replays : (l : LogView) → IsIdle f.state t x l → (c : Image) → ((j k : ℕ) → c j k ≡ e j k) → IsAlike (replayed (sectors_of t) c) e
     read_replays l log c same j k part =

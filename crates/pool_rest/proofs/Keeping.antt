@@ -142,7 +142,7 @@ module _ (a x : Seen) (reads : OnlyReads a x) (told : AllTold a) (lasts : IsLast
 
 -- ---- slices inside the disks lay there before
 
-inside_before : (t : Slices) (a b : Seen) → Stays a b → IsInside t b → IsInside t a
+pub inside_before : (t : Slices) (a b : Seen) → Stays a b → IsInside t b → IsInside t a
 inside_before t a b stays inside = record {
   small = λ disk below. subst (λ n. n < 2 ^ 48) (stays.sectors disk) (inside.small disk (subst (λ n. disk < n) (sym stays.disks) below));
   seats = λ place disk seat. subst (λ n. disk < n) stays.disks (inside.seats place disk seat);

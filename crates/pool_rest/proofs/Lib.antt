@@ -17,7 +17,7 @@ mod Payloads
 mod Refusals
 mod Quiet
 mod Joined
-mod Keeping
+pub mod Keeping
 mod Laid
 mod Stood
 pub mod Meant
