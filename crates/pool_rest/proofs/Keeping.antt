@@ -15,6 +15,7 @@ use Rattle.slice_rack.specs.Laws.{disk_below, sector_below}
 use Rattle.slice_rack.specs.Runs.{inside_still}
 use Rattle.pool_state.specs.declared.contents.State.{State}
 use Rattle.array_image.specs.Arrays.{replayed}
+use Rattle.array_image.specs.Left.{reading}
 use Rattle.array_image.specs.Places.{log_slice, place_of, slice_of}
 use Rattle.array_image.specs.States.{state_in}
 use Rattle.pool_image.specs.Disks.{Disks, disks_of, identities_of}
@@ -29,15 +30,15 @@ use Rattle.pool_scan.specs.Scanning.{AllTold, IsScan, IsUnfaulted, now_in}
 use Rattle.pool_scan.proofs.Meant.{scan_meant}
 use Rattle.pool_scan.proofs.Seated.{seat_by_is}
 use Rattle.pool_rest.specs.Members.{Lies}
-use Rattle.pool_rest.specs.Moments.{AreOfDrives, BringsNoState, GivesNow, KeepsReplayed}
+use Rattle.pool_rest.specs.Moments.{AreOfDrives, BringsNoState, GivesNow, IsFewer, KeepsPlaces, KeepsReplayed}
 use Rattle.pool_rest.specs.Resting.{AreSingle, Rests, seated_state}
 use Rattle.pool_rest.specs.SoundLogs.{HasSoundLogs}
 use Rattle.pool_rest.specs.Standing.{FindsAll, HasLooked, IsLaid, IsLasting, IsNewest, StandsAs, since}
 use Rattle.pool_rest.proofs.Again.{laid_later}
 use Rattle.pool_rest.proofs.Agreeing.{disks_same, lasting_later, reads_agree, told_later}
 use Rattle.pool_rest.proofs.Moments.{sliced_inside, sliced_outside}
-use Rattle.pool_rest.proofs.Quiet.{seats_now, state_still, tables_now, whole_before}
-use Rattle.pool_rest.proofs.Stood.{found_still}
+use Rattle.pool_rest.proofs.Quiet.{brings_fewer, seats_now, state_still, tables_now, whole_before}
+use Rattle.pool_rest.proofs.Stood.{found_still, same_reading}
 
 -- slices show the same of contents that agree in their sectors
 same_shown : (t : Slices) (c e : Image) → ((k j : ℕ) → j < sectors_of t k → c (disk_of t k) (first_of t k + j) ≡ e (disk_of t k) (first_of t k + j)) → sliced t c ≡ sliced t e
@@ -179,6 +180,25 @@ again_keeps seen r0 r1 rd rb back known st z m seated stays reads keeps told las
     (moved told lasts (λ d rose. free d (rose_early a y b d reads.stays rose)) single t u on is_pending orderly inside laid finds none of
     (ap state_in (sym (shown_later y b reads told_y lasts_y u of.orderly within)) ∙ is))
 
+-- the same of a replay that brings a state
+abbrev pub KeepsFewer : Seen → Seen → List Known → State → State → LogView → Type 0
+KeepsFewer x y known st z m =
+    AllTold x → IsLasting x → IsUnfaulted x y → AreSingle x → (t u : Slices) (on : List ℕ) (is_pending : Bool) → IsLaid x known st t on → FindsAll x t on m is_pending None
+    → IsFewer known st z m on (reading (slices_of t x)) → AreOfDrives x (seat_by z known) u → state_in (sliced u (now_in x)) ≡ Some st → KeepsReplayed x y u
+
+pub again_fewer : {R : Type 0} (seen : R → Seen) (r0 r1 rd rb : R) → r1 ≡ r0 → (known : List Known) (st z : State) (m : LogView) → z ≡ seated_state m.pending st
+    → Stays (seen r1) (seen rd) → OnlyReads (seen rd) (seen rb) → KeepsFewer (seen r1) (seen rd) known st z m
+    → KeepsFewer (seen r0) (seen rb) known st (seated_state m.pending st) m
+again_fewer seen r0 r1 rd rb back known st z m seated stays reads keeps told lasts free single t u on is_pending laid finds brings of is =
+    let a = seen r0 in
+    let y = seen rd in
+    let b = seen rb in
+    let early : Stays a y = subst (λ r. Stays (seen r) y) back stays in
+    let moved : KeepsFewer a y known st (seated_state m.pending st) m =
+    subst (λ r. KeepsFewer (seen r) y known st (seated_state m.pending st) m) back (subst (λ k. KeepsFewer (seen r1) y known st k m) seated keeps) in
+    keeps_until y b reads (told_later a y early told) (lasting_later a y early lasts) a u early of.orderly (inside_still reads.stays (inside_still early of.inside))
+    (moved told lasts (λ d rose. free d (rose_early a y b d reads.stays rose)) single t u on is_pending laid finds brings of is)
+
 -- what a replay that was found keeps, by the slices on which its record was found
 abbrev pub Replaying : Seen → Seen → List Known → State → LogView → Type 0
 Replaying x b known st m =
@@ -192,29 +212,25 @@ module _ (a x b : Seen) (known : List Known) (st : State) (m : LogView) (is_pend
     (stands : StandsAs a st t m is_pending damaged)
     (rests : Rests a b (standing_by (disks_of a) (now_in a) st))
     (sound : HasSoundLogs (disks_of a) (now_in a))
-    (none : BringsNoState a) (single : AreSingle a)
+    (single : AreSingle a)
     (s : State) (again : List Known) (now : AreOf (disks_of b) (identities_of (disks_of b) (now_in b)) again)
     (same : s ≡ seated_state (standing_by (disks_of a) (now_in a) st).targets st) where
-  no_copy : (p : ℕ) → look m.pending (log_slice p) 0 ≡ None
-  no_copy p = ap (λ xs. look xs (log_slice p) 0) (stands.targets lasts) ∙ none (standing_by (disks_of a) (now_in a) st) stands.stands p
-
-  still : seated_state (standing_by (disks_of a) (now_in a) st).targets st ≡ st
-  still = state_still a x b known st m is_pending damaged t reads stays scan some told lasts free stands rests sound (none (standing_by (disks_of a) (now_in a) st) stands.stands)
-
   all : Stays a b
   all = stays_then reads.stays stays
 
   are : AreOf (disks_of a) (identities_of (disks_of a) (now_in a)) known
   are = scan_meant a x known scan told free
 
-  seats : (p : ℕ) → seat_by s again p ≡ seat_by st known p
+  abbrev brought : State
+  brought = seated_state (standing_by (disks_of a) (now_in a) st).targets st
+
+  seats : (p : ℕ) → seat_by s again p ≡ seat_by brought known p
   seats p =
       seat_by_is (disks_of b) (identities_of (disks_of b) (now_in b)) again now s p
       ∙ ap (λ (dk : Disks). disks.seat_of s dk (identities_of dk (now_in b)) p) (disks_same a b all)
       ∙ ap (λ (z : State). disks.seat_of z (disks_of a) (identities_of (disks_of a) (now_in b)) p) same
       ∙ seats_now a x b known st m is_pending damaged t reads stays scan some told lasts free stands rests sound p
-      ∙ ap (λ (z : State). disks.seat_of z (disks_of a) (identities_of (disks_of a) (now_in a)) p) still
-      ∙ sym (seat_by_is (disks_of a) (identities_of (disks_of a) (now_in a)) known are st p)
+      ∙ sym (seat_by_is (disks_of a) (identities_of (disks_of a) (now_in a)) known are brought p)
 
   -- tables are as they were when the replay began
   tables : (d : ℕ) → d < a.disks → the_table (b.sectors d) (now_in b d) ≡ the_table (x.sectors d) (now_in x d)
@@ -224,7 +240,7 @@ module _ (a x b : Seen) (known : List Known) (st : State) (m : LogView) (is_pend
       ∙ sym (table_same (a.sectors d) (now_in x d) (now_in a d) (λ j below of. reads_agree a x reads told lasts d j there below))
       ∙ ap (λ n. the_table n (now_in x d)) (sym (reads.stays.sectors d))
 
-  drives_before : (u : Slices) → AreOfDrives b (seat_by s again) u → AreOfDrives x (seat_by st known) u
+  drives_before : (u : Slices) → AreOfDrives b (seat_by s again) u → AreOfDrives x (seat_by brought known) u
   drives_before u of = record {
     orderly = of.orderly;
     inside = inside_before u x b stays of.inside;
@@ -236,13 +252,42 @@ module _ (a x b : Seen) (known : List Known) (st : State) (m : LogView) (is_pend
         (subst (λ n. Lies u k (extent_by n (the_table (b.sectors d) (now_in b d)) (slice_of k))) (stays.sectors d) (of.lies k d few seat which));
   }
 
-  pub rest_keeps : (on gone : List ℕ) → IsOrderly t → (slices_of t x).fit → IsLaid a known st t on → HasLooked a x t on gone m is_pending damaged
-      → Replaying x b known st m → (u : Slices) → AreOfDrives b (seat_by s again) u → state_in (sliced u (now_in b)) ≡ Some s → KeepsReplayed a b u
-  rest_keeps on gone orderly fit laid looked replaying u of is =
-      keeps_since a x reads told lasts b u single
-      (replaying t u on is_pending orderly fit.1 (laid_later a x known st t on reads.stays laid)
-      (subst (λ o. FindsAll x t on m is_pending o) (whole_before a x b known st m is_pending damaged t reads stays scan some told lasts free stands rests sound)
-      (found_still a x t on gone m is_pending damaged orderly fit reads looked told lasts free))
-      no_copy (ap (λ xs. seated_state xs st) (stands.targets lasts) ∙ still)
-      (drives_before u of)
-      (is ∙ ap Some (same ∙ still)))
+  module _ (on gone : List ℕ) (orderly : IsOrderly t) (fit : (slices_of t x).fit) (laid : IsLaid a known st t on) (looked : HasLooked a x t on gone m is_pending damaged) where
+    laid_now : IsLaid x known st t on
+    laid_now = laid_later a x known st t on reads.stays laid
+
+    finds_now : FindsAll x t on m is_pending None
+    finds_now =
+        subst (λ o. FindsAll x t on m is_pending o) (whole_before a x b known st m is_pending damaged t reads stays scan some told lasts free stands rests sound)
+        (found_still a x t on gone m is_pending damaged orderly fit reads looked told lasts free)
+
+    pub rest_keeps : BringsNoState a → Replaying x b known st m → (u : Slices) → AreOfDrives b (seat_by s again) u → state_in (sliced u (now_in b)) ≡ Some s → KeepsReplayed a b u
+    rest_keeps none replaying u of is =
+        let before = standing_by (disks_of a) (now_in a) st in
+        let targets = stands.targets lasts in
+        let still : brought ≡ st =
+        state_still a x b known st m is_pending damaged t reads stays scan some told lasts free stands rests sound (none before stands.stands) in
+        keeps_since a x reads told lasts b u single
+        (replaying t u on is_pending orderly fit.1 laid_now finds_now
+        (λ p. ap (λ xs. look xs (log_slice p) 0) targets ∙ none before stands.stands p)
+        (ap (λ xs. seated_state xs st) targets ∙ still)
+        (subst (λ (z : State). AreOfDrives x (seat_by z known) u) still (drives_before u of))
+        (is ∙ ap Some (same ∙ still)))
+
+    pub rest_fewer : KeepsPlaces a
+        → ((t u : Slices) (on : List ℕ) (is_pending : Bool) → IsLaid x known st t on → FindsAll x t on m is_pending None
+        → IsFewer known st (seated_state m.pending st) m on (reading (slices_of t x)) → AreOfDrives x (seat_by (seated_state m.pending st) known) u
+        → state_in (sliced u (now_in x)) ≡ Some st → KeepsReplayed x b u)
+        → (u : Slices) → AreOfDrives b (seat_by s again) u → state_in (sliced u (now_in a)) ≡ Some st → KeepsReplayed a b u
+    rest_fewer keeps replaying u of is =
+        let before = standing_by (disks_of a) (now_in a) st in
+        let here : brought ≡ seated_state m.pending st = ap (λ xs. seated_state xs st) (sym (stands.targets lasts)) in
+        let drives = drives_before u of in
+        keeps_since a x reads told lasts b u single
+        (replaying t u on is_pending laid_now finds_now
+        (subst (λ (z : State). IsFewer known st z m on (reading (slices_of t x))) here
+        (brings_fewer a x b known st m is_pending damaged t reads stays scan some told lasts free stands rests sound on laid_now
+        (λ k j few. ap (λ (c : Image). c k j) (same_reading t a x orderly fit.1 told lasts reads) ∙ stands.logs k j few)
+        (keeps before stands.stands)))
+        (subst (λ (z : State). AreOfDrives x (seat_by z known) u) here drives)
+        (ap state_in (shown_later a x reads told lasts u drives.orderly drives.inside) ∙ is))

@@ -1,3 +1,4 @@
+mod Fewer
 mod Foremost
 mod GonePlaces
 mod Fronts

@@ -1,7 +1,8 @@
 -- The replayed contents of the drives stay at each moment of a replay that brings no state.
-use Rattle.std.proofs.Common.{◌≡◌, ◌⊎◌, ℕ, ◌+◌, ◌<◌, ◌≤◌, Bool, true, false, nat_lt, if◌then◌else◌, List, [], Option, Some, None, unwrap_or, inl, inr, refl, sym, ap, subst, ◌∙◌, lt-ltb, le-ltb, arith}
+use Rattle.std.proofs.Common.{◌≡◌, ◌⊎◌, ℕ, ◌+◌, ◌<◌, ◌≤◌, ◌==◌, ◌&&◌, Bool, true, false, nat_le, nat_lt, ltb-true, if◌then◌else◌, List, [], Option, Some, None, unwrap_or, inl, inr, refl, sym, ap, subst, ◌∙◌, lt-ltb, le-ltb, arith}
 use Rattle.std.specs.Option.{option_map_or}
-use Rattle.std.proofs.lemmas.Bool.{cases_lt}
+use Rattle.std.specs.List.{range_with_len}
+use Rattle.std.proofs.lemmas.Bool.{and_from, and_parts, cases_Bool, cases_lt}
 use Rattle.std.proofs.lemmas.Option.{none-some}
 use Rattle.rack.specs.Values.{MayLeave}
 use Rattle.rack.specs.Seen.{Image, Seen, IsLive, IsPick}
@@ -15,27 +16,32 @@ use Rattle.gpt_table.specs.Changes.{the_table}
 use Rattle.pool_state.specs.declared.contents.State.{State}
 use Rattle.array_image.specs.Arrays.{replayed}
 use Rattle.array_image.specs.Left.{reading}
-use Rattle.array_image.specs.Places.{log_slice, place_of, slice_of}
-use Rattle.array_image.specs.Record.{gate_sector, pending}
-use Rattle.array_image.specs.States.{current_places, state_in}
+use Rattle.array_image.specs.Places.{arrays_first, log_sectors, log_slice, place_of, slice_of}
+use Rattle.array_image.specs.Record.{GateAt, gate_of, gate_sector, pending, pending_at}
+use Rattle.array_image.specs.States.{current_places, is_current, state_in}
 use Rattle.array_image.proofs.Frames.{state_same}
 use Rattle.array_image.proofs.Replays.{SameLogs, replayed_same}
 use Rattle.pool_image.specs.Replay.{Extent, extent_by}
-use Rattle.commit_log.specs.View.{LogView}
+use Rattle.commit_log.specs.View.{LogView, is_left, left_of, names}
 use Rattle.commit_log.specs.AtRest.{Opened}
 use Rattle.commit_log.specs.Commits.{Stands}
 use Rattle.commit_log.specs.Opening.{CanReplay, Replays, StandsAmid}
 use Rattle.commit_log.specs.Standing.{IsLogPart, StatesStand}
-use Rattle.commit_log.proofs.Amid.{replayed_as}
-use Rattle.commit_log.proofs.Replayable.{opened_can_replay}
+use Rattle.commit_log.proofs.Amid.{no_gate_in_nothing, replayed_as}
+use Rattle.commit_log.proofs.Fewer.{names_filter}
+use Rattle.commit_log.proofs.Replayable.{opened_can_replay, pending_named}
+use Rattle.commit_log.proofs.Story.{logs_named}
 use Rattle.pool_scan.specs.declared.Known.{Known}
 use Rattle.pool_scan.specs.Choosing.{seat_by}
+use Rattle.pool_scan.proofs.Seated.{seat_by_stands}
 use Rattle.pool_scan.specs.Scanning.{AllTold, IsUnfaulted, now_in}
 use Rattle.pool_rest.specs.Members.{Lies}
-use Rattle.pool_rest.specs.Moments.{AreOfDrives, GivesNow, KeepsReplayed}
+use Rattle.pool_rest.specs.Moments.{AreOfDrives, GivesNow, IsFewer, KeepsReplayed}
 use Rattle.pool_rest.specs.Resting.{AreSingle}
 use Rattle.pool_rest.specs.Standing.{FindsAll, IsLaid, IsLasting}
-use Rattle.pool_rest.proofs.OnDrives.{OnDrives, log_first, past_none, slice_lies}
+use Rattle.pool_rest.proofs.DriveReplays.{closing_logs}
+use Rattle.pool_rest.proofs.Fewer.{finds_fewer}
+use Rattle.pool_rest.proofs.OnDrives.{OnDrives, log_first, past_none, slice_lies, sliced_place}
 
 -- ---- contents of slices
 
@@ -398,3 +404,147 @@ module _ {x w y : Seen} {known : List Known} {s : State} {t v : Slices} {on unre
     pub found_keeps : state_in (sliced u (now_in y)) ≡ Some s → KeepsReplayed x y u
     found_keeps state =
         replay_keeps (can_now (opened_can_replay s s l on0 (slices_of t0 x) (opened (state_same (reading (slices_of t0 x)) (sliced u (now_in y)) state_kept ∙ state))))
+
+  -- ---- a record that brings a state whose places all were current before
+
+  module _ (s0 : State) (t0 : Slices) (on0 : List ℕ) (is_pending : Bool) (laid : IsLaid x known s0 t0 on0) (finds : FindsAll x t0 on0 l is_pending None)
+      (brings : IsFewer known s0 s l on0 (reading (slices_of t0 x))) (state : state_in (sliced u (now_in x)) ≡ Some s0) where
+    -- a place that is replayed has its disk, and is current
+    seat_is : (p : ℕ) → 0 < sectors_of v (log_slice p) → (p < 16) × (is_current s p ≡ true)
+    seat_is p some =
+        let place : place_of (log_slice p) ≡ p = omega arith in
+        let at = sliced_place parts (log_slice p) some in
+        let seat : seat_by s known p ≡ Some (disk_of v (log_slice p)) = ap (seat_by s known) (sym place) ∙ at.1 in
+        let few = at.0 in
+        (omega (arith, few, place), (seat_by_stands s known p (disk_of v (log_slice p)) seat).2)
+
+    there : (p : ℕ) → names on p ≡ true → 0 < sectors_of v (log_slice p)
+    there p named =
+        let test = and_parts (nat_lt p 16) (nat_lt 0 (sectors_of t (log_slice p))) (sym (parts.laid.places p) ∙ named) in
+        subst (λ n. 0 < n) (sym (parts.cut.sectors (log_slice p) (omega arith))) (ltb-true 0 (sectors_of t (log_slice p)) test.1)
+
+    named_there : (p : ℕ) → 0 < sectors_of v (log_slice p) → names on p ≡ true
+    named_there p some =
+        parts.laid.places p
+        ∙ and_from (nat_lt p 16) (nat_lt 0 (sectors_of t (log_slice p))) (lt-ltb p 16 (seat_is p some).0)
+        (lt-ltb 0 (sectors_of t (log_slice p)) (subst (λ n. 0 < n) (parts.cut.sectors (log_slice p) (omega arith)) some))
+
+    -- it had that disk before
+    same_seat : (p : ℕ) → is_current s p ≡ true → seat_by s known p ≡ seat_by s0 known p
+    same_seat p current = brings.seats p (brings.current p current) current
+
+    same_size : (p : ℕ) → p < 16 → is_current s p ≡ true → sectors_of v (log_slice p) ≡ sectors_of t0 (log_slice p)
+    same_size p few current =
+        let place : place_of (log_slice p) ≡ p = omega arith in
+        let low : place_of (log_slice p) < 16 = omega (arith, few, place) in
+        parts.cut.sectors (log_slice p) (omega arith) ∙ parts.laid.sectors (log_slice p) low
+        ∙ ap (λ o. if slice_of (log_slice p) == 0 then option_map_or (λ d. if nat_le arrays_first (x.sectors d) then log_sectors else 0) o 0 else 0)
+        (ap (seat_by s known) place ∙ same_seat p current ∙ ap (seat_by s0 known) (sym place))
+        ∙ sym (laid.sectors (log_slice p) (omega (arith, few)))
+
+    kept_log : (p : ℕ) → names on p ≡ true → SameAt t0 v (log_slice p)
+    kept_log p named =
+        let is = seat_is p (there p named) in
+        let few = is.0 in
+        let size = same_size p few is.1 in
+        let place : place_of (log_slice p) ≡ p = omega arith in
+        let low : place_of (log_slice p) < 16 = omega (arith, few, place) in
+        record {
+          sectors = size;
+          first = λ more. log_first parts (log_slice p) (omega arith) (omega (arith, more, size)) ∙ sym (laid.firsts (log_slice p) more);
+          disk = λ more.
+              ap (λ (o : Option ℕ). unwrap_or o 0)
+              (parts.cut.seats (place_of (log_slice p)) ∙ parts.laid.seats (place_of (log_slice p)) low
+              ∙ (ap (seat_by s known) place ∙ same_seat p is.1 ∙ ap (seat_by s0 known) (sym place)) ∙ sym (laid.seats (place_of (log_slice p)) low));
+        }
+
+    fewer : (p : ℕ) → names on p ≡ true → names on0 p ≡ true
+    fewer p named =
+        let some = there p named in
+        let size = (kept_log p named).sectors in
+        laid.places p
+        ∙ and_from (is_current s0 p) (nat_lt 0 (sectors_of t0 (log_slice p))) (brings.current p (seat_is p some).1)
+        (lt-ltb 0 (sectors_of t0 (log_slice p)) (omega (arith, some, size)))
+
+    few_named : (p : ℕ) → names on0 p ≡ true → p < 16
+    few_named p named = (logs_named (sectors_of t0) on0 p laid.whole named).0
+
+    -- the slices read as before
+    read_x : (k j : ℕ) → reading (slices_of v w) k j ≡ sliced v (now_in x) k j
+    read_x k j = elim (cases_lt j (sectors_of v k)) [
+      | inr past ↦ sliced_outside v (now_in w) k j past ∙ sym (sliced_outside v (now_in x) k j past)
+      | inl low ↦
+          sliced_inside v (now_in w) k j low
+          ∙ now_w (disk_of v k) (first_of v k + j) (disk_below v w k j parts.orderly parts.inside low) (sector_below v w k j parts.inside low)
+          ∙ sym (sliced_inside v (now_in x) k j low)
+    ]
+
+    agree : (p j : ℕ) → names on p ≡ true → 0 < j → j < log_sectors → reading (slices_of v w) (log_slice p) j ≡ reading (slices_of t0 x) (log_slice p) j
+    agree p j named some below = read_x (log_slice p) j ∙ sym (same_sliced t0 v (now_in x) (log_slice p) j (kept_log p named))
+
+    -- the place that the record is read from is replayed too
+    at_kept : names on brings.at.place ≡ true
+    at_kept =
+        let p = brings.at.place in
+        let at = pending_named (left_of on0 []) (reading (slices_of t0 x)) brings.at brings.source in
+        let named : names on0 p ≡ true = left_named (names on0 p) (names_filter (is_left on0 []) (range_with_len 0 16) p at.0).0 in
+        let log = logs_named (sectors_of t0) on0 p laid.whole named in
+        let size = same_size p log.0 brings.left in
+        let full = log.1 in
+        named_there p (omega (arith, size, full))
+      where
+        left_named : (b : Bool) → (b && true) ≡ true → b ≡ true
+        left_named true is = refl
+        left_named false is = is
+
+    places_now : (p : ℕ) → names on p ≡ (is_current s0 p && nat_lt 0 (sectors_of v (log_slice p)))
+    places_now p = elim (cases_lt 0 (sectors_of v (log_slice p))) [
+      | inl some ↦
+          named_there p some
+          ∙ sym (and_from (is_current s0 p) (nat_lt 0 (sectors_of v (log_slice p))) (brings.current p (seat_is p some).1) (lt-ltb 0 (sectors_of v (log_slice p)) some))
+      | inr none ↦ elim (cases_Bool (names on p)) [
+        | inl named ↦ absurd (let some = there p named in omega (arith, some, none))
+        | inr other ↦ other ∙ sym (ap (λ b. is_current s0 p && b) (le-ltb 0 (sectors_of v (log_slice p)) none) ∙ no_other (is_current s0 p))
+      ]
+    ]
+      where
+        no_other : (b : Bool) → (b && false) ≡ false
+        no_other true = refl
+        no_other false = refl
+
+    gate_there : (g : GateAt) → pending_at (current_places s0) (reading (slices_of v w)) ≡ Some g → is_current s g.place ≡ true
+    gate_there g is = elim (cases_lt 0 (sectors_of v (log_slice g.place))) [
+      | inl some ↦ (seat_is g.place some).1
+      | inr none ↦
+          absurd (none-some g.gate
+          (sym (ap gate_of (sliced_outside v (now_in w) (log_slice g.place) gate_sector (omega (arith, none))) ∙ no_gate_in_nothing)
+          ∙ (pending_named (current_places s0) (reading (slices_of v w)) g is).1))
+    ]
+
+    opened_fewer : Opened s0 s l on (slices_of v w)
+    opened_fewer = record {
+      rest = record {
+        lasting = parts.reads.stays.lasting lasts.lasting;
+        live = λ k j few low. live_w k j low;
+        single = λ p j few low b may.
+            let disk = disk_below v w (log_slice p) j parts.orderly parts.inside low in
+            let sector = sector_below v w (log_slice p) j parts.inside low in
+            one_value (disk_of v (log_slice p)) (first_of v (log_slice p) + j) b disk sector may ∙ sym (now_w (disk_of v (log_slice p)) (first_of v (log_slice p) + j) disk sector);
+        state =
+            state_same (reading (slices_of v w)) (sliced u (now_in x)) (λ p. read_x (log_slice p) 0 ∙ sym (same_logs (now_in x) p 0)) ∙ state;
+        places = places_now;
+        slices = closing_logs x w known s t v on unread on parts.laid parts.cut (λ p named. named);
+      };
+      is_pending = is_pending;
+      finds = finds_fewer l on0 on (reading (slices_of t0 x)) (reading (slices_of v w)) is_pending brings.at few_named fewer agree brings.source at_kept finds;
+      brings = record {
+        copies = λ p b is. (p, brings.copies p b is);
+        either = elim brings.next [
+          | inl same ↦ inl same
+          | inr later ↦ inr (record { later = later; current = brings.current; source = gate_there })
+        ];
+      };
+    }
+
+    pub fewer_keeps : KeepsReplayed x y u
+    fewer_keeps = replay_keeps (opened_can_replay s0 s l on (slices_of v w) opened_fewer)

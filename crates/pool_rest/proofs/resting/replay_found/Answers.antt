@@ -22,7 +22,7 @@ use Rattle.array_image.specs.Places.{log_slice}
 use Rattle.array_image.specs.States.{state_in}
 use Rattle.pool_rest.specs.Moments.{AreOfDrives, KeepsReplayed}
 use Rattle.pool_rest.specs.Resting.{AreSingle}
-use Rattle.pool_rest.proofs.Keeping.{again_keeps}
+use Rattle.pool_rest.proofs.Keeping.{KeepsFewer, again_fewer, again_keeps}
 use Rattle.pool_rest.proofs.resting.replay_found.Goals as goal
 
 pub returns-in-Err-clause-back : goal.returns-in-Err-clause-back
@@ -172,3 +172,13 @@ returns-clause-keeps g c =
     (sym c.as_it_stands-rest.ensures.slices)
     (again_keeps seen (below_of found.slices) c.into_inner.result c.replay_on-done.result.rack again c.into_inner.ensures found.scan.disks.items found.state c.seated_by-seated.result found.log
     c.seated_by-seated.ensures c.replay_on-done.ensures.only.stays c.in-Ok.ensures.only c.replay_on-done.ensures.keeps)
+
+pub returns-clause-fewer : goal.returns-clause-fewer
+returns-clause-fewer g c =
+    let seen = g.R.Rack.seen in
+    let found = c.args.found in
+    let again = below_of c.in-Ok.again.slices in
+    subst (λ k. KeepsFewer (seen (below_of found.slices)) (seen (below_of k)) found.scan.disks.items found.state (seated_state found.log.pending found.state) found.log)
+    (sym c.as_it_stands-rest.ensures.slices)
+    (again_fewer seen (below_of found.slices) c.into_inner.result c.replay_on-done.result.rack again c.into_inner.ensures found.scan.disks.items found.state c.seated_by-seated.result found.log
+    c.seated_by-seated.ensures c.replay_on-done.ensures.only.stays c.in-Ok.ensures.only c.replay_on-done.ensures.fewer)
