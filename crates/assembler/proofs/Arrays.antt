@@ -78,7 +78,7 @@ seat_same size false (Some u) none rows = by (is_rebuilding u) refl
         (and_from (u.recovery_offset % 128 == 0) (nat_lt u.recovery_offset size) (eq-eqb (u.recovery_offset % 128) 0 at.0) (lt-ltb u.recovery_offset size at.1))
 
 -- a member of a shape is that of a position
-among_made : (g : ℕ → Member) (a n : ℕ) (m : Member) → Among m (map g (range_with_len a n)) → (k : ℕ) × (a ≤ k) × (k < a + n) × (m ≡ g k)
+pub among_made : (g : ℕ → Member) (a n : ℕ) (m : Member) → Among m (map g (range_with_len a n)) → (k : ℕ) × (a ≤ k) × (k < a + n) × (m ≡ g k)
 among_made g a zero m among = absurd among
 among_made g a (suc n) m (inl here) = (a, omega arith, omega arith, here)
 among_made g a (suc n) m (inr later) = let rest = among_made g (a + 1) n m later in (rest.0, (let from = rest.1 in omega (arith, from)), (let low = rest.2 in omega (arith, low)), rest.3)

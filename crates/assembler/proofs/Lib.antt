@@ -7,12 +7,14 @@ mod Finding
 mod Holding
 mod Later
 mod LeftOut
+mod Leaving
 mod Lies
 mod Live
 mod Making
 mod Marks
 mod Meaning
 mod Mended
+mod Moments
 mod Refusals
 mod Rest
 mod Roles
@@ -21,6 +23,7 @@ mod Seating
 mod Shows
 mod Sizes
 mod Still
+mod Tables
 mod Truthful
 mod Unseated
 mod Volumes

@@ -77,10 +77,10 @@ module _ (f : Found) (t : Slices) (x : Seen) (checked : Checked) (absent : List 
 -- ---- by the contents of the same pool
 
 module _ (f g : Found) (same : IsSamePool f g) where
-  member_same : (n p : ℕ) → is_member g n p ≡ is_member f n p
+  pub member_same : (n p : ℕ) → is_member g n p ≡ is_member f n p
   member_same n p = ap (λ (o : Option Super). option_map_or (λ t. is_named t p) o false) (truths_same f g same n)
 
-  made_same : g.state.made ≡ f.state.made
+  pub made_same : g.state.made ≡ f.state.made
   made_same = ap (λ (s : State). s.made) same.state
 
   pub slices_same : (t : Slices) → AreSlicesOf g t → AreSlicesOf f t

@@ -1,16 +1,19 @@
 -- Disks from which a pool is opened, and what an opening answers by what they mean.
-use Rattle.std.specs.Prelude.{◌≡◌, ◌&&◌, ◌<◌, ℕ, suc, nat_lt, true, false, ◌∷◌, [], None, Some}
+use Rattle.std.specs.Prelude.{◌≡◌, ◌⊎◌, ◌&&◌, ◌<◌, ℕ, suc, nat_lt, true, false, ◌∷◌, [], None, Some}
 use Rattle.rack.specs.Seen.{Seen}
+use Rattle.rack.specs.Moments.{Leaves}
 use Rattle.slice_rack.specs.Slices.{Slices, first_of, place_of, seat_of, sectors_of}
-use Rattle.slice_rack.specs.SliceRack.{tables}
+use Rattle.slice_rack.specs.SliceRack.{below_of, tables}
 use Rattle.array_image.specs.Places.{log_slice, member_slice}
 use Rattle.lvm_group.specs.Runs.{Linear}
 use Rattle.lvm_group.specs.Shown.{volume_of}
 use Rattle.pool_image.specs.Disks.{disks_of}
 use Rattle.pool_image.specs.Drives.{Found, extent_of, found}
 use Rattle.pool_image.specs.Meaning.{Volume, is_member, meaning, refusal_of}
-use Rattle.pool_image.specs.Replay.{Extent}
+use Rattle.pool_image.specs.Replay.{Extent, extent_by}
 use Rattle.pool_scan.specs.Scanning.{now_in}
+use Rattle.pool_rest.specs.Moments.{BringsNoState}
+use Rattle.pool_rest.specs.Resting.{IsIdle}
 use Rattle.pool_rest.specs.SoundLogs.{HasSoundLogs}
 use Rattle.raid_rack.specs.declared.arrays.RaidRack.{RaidRack}
 use Rattle.raid_rack.specs.Book.{IsAfter}
@@ -19,6 +22,7 @@ use Rattle.raid_rack.specs.RaidRack.{raid_in, raid_seen, slices_in, slices_seen}
 use Rattle.assembler.specs.declared.refusal.Refusal.{Refusal}
 use Rattle.assembler.specs.Holding.{AreSteady, IsSoundPool}
 use Rattle.assembler.specs.Refusing.{meant_by}
+use Rattle.assembler.specs.Moments.{HoldsAt}
 use Rattle.assembler.specs.Volume.{AllLive, HoldsVolume, IsVolumeOf}
 
 -- Disks that hold a sound pool: they are told, each sector of them has one value, and by these the pool's logs, states and
@@ -43,6 +47,16 @@ pub record AreSlicesOf (f : Found) (t : Slices) : Type 0 where
   pub others : (n p : ℕ) → n < 16 → (nat_lt n f.state.made && is_member f n p) ≡ false → sectors_of t (member_slice p n) ≡ 0
   pub unseated : (k : ℕ) → f.seats (place_of k) ≡ None → sectors_of t k ≡ 0
 
+-- a replay finds the slices of the members where the pool has them: no lower slice of a drive's table shares a sector with them
+abbrev pub HaveSlices : Found → Type 0
+HaveSlices f =
+    (n p d : ℕ) → n < f.state.made → f.seats p ≡ Some d → is_member f n p ≡ true
+    → extent_by (f.disks.sectors d) (f.identities d).table (suc n) ≡ extent_of f (suc n)
+
+-- Nothing is pending on the disks of a pool, or a record that writes no state's sector, and its targets land where the pool's slices are.
+abbrev pub MayStop : Seen → Found → Type 0
+MayStop x f = IsIdle x ⊎ (BringsNoState x × HaveSlices f)
+
 -- A volume that was opened means what the disks x do: it is the volume of the group of their pool, over the slices of its drives. Marks
 -- alone have come to the pool's state; each array that is ready for the volume is told, and no sector of these is spent.
 pub record IsMeantBy {R : Type 0} (seen : R → Seen) (x : Seen) (f : Found) (rack : RaidRack R) (l : Linear) : Type 0 where
@@ -54,6 +68,8 @@ pub record IsMeantBy {R : Type 0} (seen : R → Seen) (x : Seen) (f : Found) (ra
   pub after : IsAfter f.state (raid_in rack).state
   pub told : (n : ℕ) → n < f.state.joined → IsTold (raid_in rack) (slices_seen seen rack) n
   pub live : AllLive (raid_in rack)
+  -- what a stop leaves inside the opening holds that volume, where it may come amid the replay of the record that was pending
+  pub moments : MayStop x f → x.traced → Leaves x (seen (below_of (slices_in rack))) (HoldsAt (tables (slices_in rack)) l volume)
 
 -- the meaning of these disks is refused so
 abbrev pub IsMeantRefusal : Seen → Refusal → Type 0

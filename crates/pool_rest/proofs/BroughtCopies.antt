@@ -110,7 +110,7 @@ module _ (disks : Disks) (c : Image) (z : State) (xs : List Target) (valid : lis
       ap (λ b. if b then unwrap_or (look targets d t) (c d t) else c d t) (lt-ltb t (disks.sectors d) there) ∙ ap (λ (o : Option (List ℕ)). unwrap_or o (c d t)) is
 
   -- tables stay
-  tables : (d : ℕ) → (late d).table ≡ (early d).table
+  pub tables : (d : ℕ) → (late d).table ≡ (early d).table
   tables d = table_same (disks.sectors d) (replayed_on disks z xs c d) (c d) (λ t below of. of_look t below of (look targets d t) refl)
     where
       no_copy : (n t : ℕ) → IsOfCopies n t → (t ≡ state_sector) × (arrays_first ≤ n) ⊎ ((arrays_first ≤ t) × (t + 33 < n)) → ⊥

@@ -1,3 +1,4 @@
+mod Fewer
 mod Foremost
 mod GonePlaces
 mod Fronts
@@ -17,6 +18,8 @@ mod Payloads
 mod Refusals
 mod Quiet
 mod Joined
+pub mod Keeping
 mod Laid
 mod Stood
 pub mod Meant
+mod Moments

@@ -140,7 +140,7 @@ no_lost {x} {w} {y} {u = u} {lost = lost} parts free p =
     ]
 
 -- a slice of a seated place
-slice_lies : {x w y : Seen} {known : List Known} {s : State} {t u : Slices} {on unread closing lost : List ℕ} {l : LogView}
+pub slice_lies : {x w y : Seen} {known : List Known} {s : State} {t u : Slices} {on unread closing lost : List ℕ} {l : LogView}
     → OnDrives x w y known s t u on unread closing lost l → IsUnfaulted x y → (k d : ℕ) → k < 272 → seat_of u (place_of k) ≡ Some d → x.told d
     → Lies u k (extent_by (x.sectors d) (the_table (x.sectors d) (now_on x d)) (slice_of k))
 unfolding extent_by

@@ -7,24 +7,28 @@ use Rattle.std.proofs.lemmas.Option.{none-some, cond_some}
 use Rattle.rack.specs.Seen.{Image, Seen, Stays}
 use Rattle.rack.specs.Joins.{stays_then}
 use Rattle.rack.specs.Sequences.{OnlyReads}
-use Rattle.rack.specs.Targets.{Target}
+use Rattle.rack.specs.Targets.{Target, look}
 use Rattle.shr_base.specs.Blocks.{number_at, bytes_at, put_at}
 use Rattle.shr_base.specs.Crc.{crc32_of}
 use Rattle.pool_state.specs.declared.contents.State.{State}
 use Rattle.slice_rack.specs.Slices.{Slices}
+use Rattle.slice_rack.specs.Sliced.{slices_of}
+use Rattle.array_image.specs.Left.{reading}
 use Rattle.array_image.specs.Foremost.{foremost}
 use Rattle.array_image.specs.Places.{log_slice, arrays_first}
 use Rattle.array_image.specs.Record.{Gate, GateAt, gate_of, half_of, log_bytes, target_at, is_target, are_apart, record_of, pending_at, pending, damaged_log}
 use Rattle.array_image.specs.States.{is_current, current_places}
-use Rattle.pool_image.specs.Disks.{Disks, disks_of, identities_of, newest, seat_of}
+use Rattle.pool_image.specs.Disks.{Disks, Identity, disks_of, identities_of, newest, seat_of}
 use Rattle.pool_image.specs.Replay.{Standing, standing, standing_by, written}
 use Rattle.pool_image.specs.Alike.{drive_gate, IsSameButGates, MeansTheSame}
 use Rattle.pool_image.specs.Meaning.{has_other_pool}
 use Rattle.pool_image.proofs.Identities.{newest_same, other_same, same_but_gates, seat_same}
 use Rattle.pool_image.proofs.Rested.{stood_by}
-use Rattle.commit_log.specs.View.{LogView}
+use Rattle.commit_log.specs.View.{LogView, names}
 use Rattle.commit_log.proofs.Counting.{is_listed}
 use Rattle.commit_log.proofs.Deciding.{nothing_pending, record_pending}
+use Rattle.commit_log.proofs.Fewer.{current_of_all, names_filter}
+use Rattle.commit_log.proofs.Replayable.{pending_named}
 use Rattle.commit_log.proofs.Replaying.{pending_sound}
 use Rattle.commit_log.proofs.Undamaged.{whole_gates, whole_record}
 use Rattle.pool_scan.specs.declared.Known.{Known}
@@ -35,13 +39,15 @@ use Rattle.pool_scan.proofs.Seated.{seat_by_is}
 use Rattle.shr_base.specs.declared.Id.{Id}
 use Rattle.pool_rest.specs.declared.standing.FindFault.{FindFault}
 use Rattle.pool_rest.specs.declared.standing.FindFault.TheVariants.{NoPool, TwoPools, Memory}
-use Rattle.pool_rest.specs.Standing.{IsLasting, StandsAs, IsCause, since}
+use Rattle.pool_rest.specs.Moments.{IsFewer}
+use Rattle.pool_rest.specs.Standing.{IsLaid, IsLasting, StandsAs, IsCause, since}
 use Rattle.pool_rest.specs.Resting.{AreShut, Rests, StandsNow, seated_state}
 use Rattle.pool_rest.specs.SoundLogs.{IsSoundLog, HasSoundLogs, IsSettled}
 use Rattle.pool_rest.proofs.Agreeing.{disks_same, told_later, reads_agree, logs_agree}
-use Rattle.pool_rest.proofs.BroughtCopies.{other_still}
+use Rattle.pool_rest.proofs.BroughtCopies.{other_still, tables}
+use Rattle.pool_rest.proofs.Fewer.{pending_asked}
 use Rattle.pool_rest.proofs.Meant.{few_newest}
-use Rattle.pool_rest.proofs.Settled.{newest_now, none_now, whole_now}
+use Rattle.pool_rest.proofs.Settled.{newest_now, none_now, seats_same, whole_now}
 
 some_standing : (x y : Standing) → Some x ≡ Some y → x ≡ y
 some_standing x y same = (cc)
@@ -178,6 +184,45 @@ module _ (a x b : Seen) (known : List Known) (st : State) (m : LogView) (is_pend
 
   newest_after : newest disks (identities_of disks e) ≡ Some brought
   newest_after = newest_now disks c e st brought newest_before log few_before late newest_late source.0 source.1
+
+  -- each place has its disk still, and each disk its table
+  pub seats_now : (p : ℕ) → seat_of brought disks (identities_of disks e) p ≡ seat_of brought disks (identities_of disks c) p
+  seats_now = seats_same disks c e st brought newest_before log few_before late newest_late source.0 source.1
+
+  pub tables_now : (d : ℕ) → d < disks.count → (identities_of disks e d).table ≡ (identities_of disks c d).table
+  tables_now d there =
+      ap (λ (i : Identity). i.table) (same_contents.identities d there)
+      ∙ tables disks c brought before.targets (pending_sound (current_places st) before.logs).valid (pending_sound (current_places st) before.logs).apart log.copies d
+
+  -- without a copy of a state the state stands, and no log was damaged
+  pub state_still : ((p : ℕ) → look before.targets (log_slice p) 0 ≡ None) → brought ≡ st
+  state_still none =
+      elim log.next [
+        | inl same ↦ same
+        | inr later ↦ (let copy = later.copy source.0 source.1 in absurd (none-some copy.0 (sym (none source.0.place) ∙ copy.1)))
+      ]
+
+  -- where all places that are current by it were so before, the log finds it on fewer places
+  pub brings_fewer : (on : List ℕ) → IsLaid x known st t on → ((k u : ℕ) → k < 272 → reading (slices_of t x) k u ≡ before.logs k u)
+      → ((p : ℕ) → is_current brought p ≡ true → is_current st p ≡ true) → IsFewer known st brought m on (reading (slices_of t x))
+  brings_fewer on laid logs current = record {
+    current = current;
+    seats = λ p was is. seat_by_is disks (identities_of disks c) known are brought p ∙ log.seats p was is ∙ sym (seat_by_is disks (identities_of disks c) known are st p);
+    copies = λ p u is. log.copies p u (sym (ap (λ xs. look xs (log_slice p) 0) targets) ∙ is);
+    next = elim log.next [ inl same ↦ inl same | inr later ↦ inr later.later ];
+    at = source.0;
+    source = pending_asked x known st t on few_before laid before.logs logs ∙ source.1;
+    left = elim log.next [
+      | inl same ↦
+          subst (λ (z : State). is_current z source.0.place ≡ true) (sym same)
+          (names_filter (is_current st) (range_with_len 0 16) source.0.place
+          (sym (ap (λ ps. names ps source.0.place) (current_of_all st few_before)) ∙ (pending_named (current_places st) before.logs source.0 source.1).0)).0
+      | inr later ↦ later.source source.0 source.1
+    ];
+  }
+
+  pub whole_before : damaged ≡ None
+  whole_before = stands.damaged_is lasts ∙ log.whole
 
   -- whatever refuses a pool after the replay isn't there
   pub no_cause : (why : FindFault) → has_other_pool (disks_of a) (standing_by (disks_of a) (now_in a) st) ≡ false → IsUnfaulted a b → why ≢ Memory

@@ -20,7 +20,7 @@ use Rattle.pool_rest.specs.Standing.{IsLasting, HasLooked, FindsAll}
 use Rattle.pool_rest.proofs.Meant.{gone_none}
 
 -- slices read alike before reads and after them
-same_reading : (t : Slices) (a x : Seen) → IsOrderly t → IsInside t x → AllTold a → IsLasting a → OnlyReads a x → reading (slices_of t x) ≡ reading (slices_of t a)
+pub same_reading : (t : Slices) (a x : Seen) → IsOrderly t → IsInside t x → AllTold a → IsLasting a → OnlyReads a x → reading (slices_of t x) ≡ reading (slices_of t a)
 same_reading t a x orderly inside told lasts reads = λ i d s. same d s i
   where
     held : (d s : ℕ) → s < sectors_of t d → (x.held (disk_of t d) (first_of t d + s)).current ≡ (a.held (disk_of t d) (first_of t d + s)).current

@@ -1,14 +1,17 @@
 //! A pool at rest: its pending record is replayed.
 
-ghost use Rattle.std.specs.Prelude.{◌≡◌, ◌≢◌, ◌<◌, ◌⊎◌, ◌^◌, ◌==◌, ◌&&◌, ◌||◌, not, ℕ, List, true, false, length, [], Some, None, unwrap_or, IfOk, IfErr};
+ghost use Rattle.std.specs.Prelude.{◌≡◌, ◌≢◌, ◌<◌, ◌⊎◌, ◌^◌, ◌==◌, ◌&&◌, ◌||◌, not, ℕ, Bool, List, true, false, length, [], Some, None, unwrap_or, IfOk, IfErr};
 ghost use Rattle.std.specs.List.{list_all};
 ghost use Rattle.rack.specs.Values.{Keeps};
 ghost use Rattle.rack.specs.Seen.{IsLive, Rose};
 ghost use Rattle.rack.specs.Sequences.{OnlyReads, WritesOnly};
-ghost use Rattle.slice_rack.specs.Slices.{seat_of as has_seat};
+ghost use Rattle.slice_rack.specs.Slices.{IsOrderly, Slices, seat_of as has_seat};
 ghost use Rattle.slice_rack.specs.SliceRack.{tables, below_of};
-ghost use Rattle.slice_rack.specs.Sliced.{slices_of};
-ghost use Rattle.array_image.specs.Places.{arrays_first};
+ghost use Rattle.slice_rack.specs.Sliced.{IsInside, sliced, slices_of};
+ghost use Rattle.rack.specs.Targets.{look};
+ghost use Rattle.array_image.specs.Places.{arrays_first, log_slice};
+ghost use Rattle.array_image.specs.Left.{reading};
+ghost use Rattle.array_image.specs.States.{state_in};
 ghost use Rattle.array_image.specs.Record.{is_target};
 ghost use Rattle.pool_image.specs.Disks.{disks_of, identities_of};
 ghost use Rattle.commit_log.specs.View.{names, settled};
@@ -17,8 +20,9 @@ ghost use Rattle.pool_scan.specs.Choosing.{AreOf, seat_by};
 ghost use Rattle.pool_rest.specs.Standing.{IsLasting, IsLaid, IsNewest, IsOnePool, FindsAll, IsCause, IsMeant, since};
 ghost use Rattle.pool_state.specs.Valid.{is_valid};
 ghost use Rattle.pool_image.specs.Alike.{drive_gate, MeansTheSame};
-ghost use Rattle.pool_image.specs.Replay.{brought_state, standing_by};
+ghost use Rattle.pool_image.specs.Replay.{Standing as Stood, brought_state, standing, standing_by};
 ghost use Rattle.pool_image.specs.Meaning.{has_other_pool};
+ghost use Rattle.pool_rest.specs.Moments.{AreOfDrives, BringsNoState, IsFewer, KeepsPlaces, KeepsReplayed};
 ghost use Rattle.pool_rest.specs.SoundLogs.{HasSoundLogs, IsSettled};
 ghost use Rattle.pool_rest.specs.Resting.{IsOfDrive, IsReplayed, AreShut, HaveCause, IsFlagged, HasDisk, HasRefused, StandsNow, RestsSo, AreSingle, AreSectors, AreSteady, IsIdle, WritesDrives, IsRefused, seated_state};
 
@@ -275,6 +279,19 @@ pub(crate) fn replay_on<R: Rack>(
     // Where no disk refused a call, gates of places that have the same disk by both states are closed.
     ensures shut { whole ≡ true → AllTold (R.seen rack) → IsLasting (R.seen rack) → IsUnfaulted (R.seen rack) (R.seen result.rack)
         → log.pending ≢ [] → AreShut (R.seen rack) (R.seen result.rack) scan.now.disks.items before.now state.now log.number }
+    // Where the record, as it was found on log slices of the same drives, brings no state, what each stop leaves is once replayed the same.
+    ensures keeps { AllTold (R.seen rack) → IsLasting (R.seen rack) → IsUnfaulted (R.seen rack) (R.seen result.rack) → AreSingle (R.seen rack)
+        → (t u : Slices) (on : List ℕ) (is_pending : Bool) → IsOrderly t → IsInside t (R.seen rack)
+        → IsLaid (R.seen rack) scan.now.disks.items state.now t on → FindsAll (R.seen rack) t on log is_pending None
+        → ((p : ℕ) → look log.pending (log_slice p) 0 ≡ None)
+        → AreOfDrives (R.seen rack) (seat_by state.now scan.now.disks.items) u → state_in (sliced u (now_in (R.seen result.rack))) ≡ Some state.now
+        → KeepsReplayed (R.seen rack) (R.seen result.rack) u }
+    // And so it is where it brings a state whose current places all were current before.
+    ensures fewer { AllTold (R.seen rack) → IsLasting (R.seen rack) → IsUnfaulted (R.seen rack) (R.seen result.rack) → AreSingle (R.seen rack)
+        → (t u : Slices) (on : List ℕ) (is_pending : Bool) → IsLaid (R.seen rack) scan.now.disks.items before.now t on → FindsAll (R.seen rack) t on log is_pending None
+        → IsFewer scan.now.disks.items before.now state.now log on (reading (slices_of t (R.seen rack)))
+        → AreOfDrives (R.seen rack) (seat_by state.now scan.now.disks.items) u → state_in (sliced u (now_in (R.seen rack))) ≡ Some before.now
+        → KeepsReplayed (R.seen rack) (R.seen result.rack) u }
     ensures lost { HaveCause (R.seen rack) (R.seen result.rack) scan.now.disks.items state.now result.lost.items }
     ensures log { result.log ≡ settled log }
     ensures runs { R.runs rack result.rack }
@@ -379,6 +396,24 @@ fn replay_found<R: Rack>(found: Standing<R>, room: Scan) -> Result<AtRest<R>, Ba
     ensures newest { IfOk result (λ r. AllTold (R.seen (below_of found.slices)) → IsLasting (R.seen (below_of found.slices))
         → IsNewest (since (R.seen (below_of found.slices)) (R.seen (below_of r.slices))) (R.seen (below_of r.slices)) r.scan.disks.items r.state) }
     ensures one { IfOk result (λ r. IsOnePool r.scan.disks.items r.state) }
+    // Where the record, as it was found on log slices, brings no state, what each stop leaves is once replayed the same.
+    ensures keeps { IfOk result (λ r. AllTold (R.seen (below_of found.slices)) → IsLasting (R.seen (below_of found.slices))
+        → IsUnfaulted (R.seen (below_of found.slices)) (R.seen (below_of r.slices)) → AreSingle (R.seen (below_of found.slices))
+        → (t u : Slices) (on : List ℕ) (is_pending : Bool) → IsOrderly t → IsInside t (R.seen (below_of found.slices))
+        → IsLaid (R.seen (below_of found.slices)) found.scan.disks.items found.state t on → FindsAll (R.seen (below_of found.slices)) t on found.log is_pending None
+        → ((p : ℕ) → look found.log.pending (log_slice p) 0 ≡ None) → seated_state found.log.pending found.state ≡ found.state
+        → AreOfDrives (R.seen (below_of found.slices)) (seat_by found.state found.scan.disks.items) u
+        → state_in (sliced u (now_in (R.seen (below_of r.slices)))) ≡ Some found.state
+        → KeepsReplayed (R.seen (below_of found.slices)) (R.seen (below_of r.slices)) u) }
+    // And so it is where it brings a state whose current places all were current before.
+    ensures fewer { IfOk result (λ r. AllTold (R.seen (below_of found.slices)) → IsLasting (R.seen (below_of found.slices))
+        → IsUnfaulted (R.seen (below_of found.slices)) (R.seen (below_of r.slices)) → AreSingle (R.seen (below_of found.slices))
+        → (t u : Slices) (on : List ℕ) (is_pending : Bool) → IsLaid (R.seen (below_of found.slices)) found.scan.disks.items found.state t on
+        → FindsAll (R.seen (below_of found.slices)) t on found.log is_pending None
+        → IsFewer found.scan.disks.items found.state (seated_state found.log.pending found.state) found.log on (reading (slices_of t (R.seen (below_of found.slices))))
+        → AreOfDrives (R.seen (below_of found.slices)) (seat_by (seated_state found.log.pending found.state) found.scan.disks.items) u
+        → state_in (sliced u (now_in (R.seen (below_of found.slices)))) ≡ Some found.state
+        → KeepsReplayed (R.seen (below_of found.slices)) (R.seen (below_of r.slices)) u) }
     // A place counts as gone by its disk's faults, or by those that were known.
     ensures gone { IfOk result (λ r. (p d : ℕ) → names r.gone.items p ≡ true → seat_by r.state r.scan.disks.items p ≡ Some d
         → Rose ((R.seen (below_of found.slices)).faults d) ((R.seen (below_of r.slices)).faults d)
@@ -463,6 +498,17 @@ pub fn bring_to_rest<R: Rack>(alloc: Global, rack: R) -> Result<AtRest<R>, Back<
     // Where the logs were sound, nothing is pending any more and no log is damaged: it means what it meant.
     ensures settled { IfOk result (λ r. AllTold (R.seen rack) → IsLasting (R.seen rack) → IsUnfaulted (R.seen rack) (R.seen (below_of r.slices))
         → HasSoundLogs (disks_of (R.seen rack)) (now_in (R.seen rack)) → IsSettled (R.seen rack) (R.seen (below_of r.slices)) r.state r.pending r.damaged) }
+    // And where the record brings no state, what each stop leaves gives by the drives' slices what the disks do in the end, once replayed.
+    ensures keeps { IfOk result (λ r. AllTold (R.seen rack) → IsLasting (R.seen rack) → IsUnfaulted (R.seen rack) (R.seen (below_of r.slices))
+        → HasSoundLogs (disks_of (R.seen rack)) (now_in (R.seen rack)) → BringsNoState (R.seen rack) → AreSingle (R.seen rack)
+        → (u : Slices) → AreOfDrives (R.seen (below_of r.slices)) (seat_by r.state r.scan.disks.items) u
+        → state_in (sliced u (now_in (R.seen (below_of r.slices)))) ≡ Some r.state → KeepsReplayed (R.seen rack) (R.seen (below_of r.slices)) u) }
+    // And so it is where it brings a state whose current places all were current before, and their drives have the state that stood.
+    ensures fewer { IfOk result (λ r. AllTold (R.seen rack) → IsLasting (R.seen rack) → IsUnfaulted (R.seen rack) (R.seen (below_of r.slices))
+        → HasSoundLogs (disks_of (R.seen rack)) (now_in (R.seen rack)) → KeepsPlaces (R.seen rack) → AreSingle (R.seen rack)
+        → (u : Slices) → AreOfDrives (R.seen (below_of r.slices)) (seat_by r.state r.scan.disks.items) u
+        → ((before : Stood) → standing (disks_of (R.seen rack)) (now_in (R.seen rack)) ≡ Some before → state_in (sliced u (now_in (R.seen rack))) ≡ Some before.state)
+        → KeepsReplayed (R.seen rack) (R.seen (below_of r.slices)) u) }
     // A place counts as gone only where its disk refused a call.
     ensures gone { IfOk result (λ r. (p d : ℕ) → names r.gone.items p ≡ true → seat_by r.state r.scan.disks.items p ≡ Some d
         → Rose ((R.seen rack).faults d) ((R.seen (below_of r.slices)).faults d)) }

@@ -2,6 +2,8 @@
 use Rattle.std.proofs.Common.{◌≡◌, ◌⊎◌, ◌↔◌, ◌&&◌, is_some, ℕ, ◌<◌, List, [], ◌∷◌, Option, Some, None, refl, sym, subst, ◌∙◌, ap, inl, inr}
 use Rattle.rack.specs.Seen.{Seen, Rose}
 use Rattle.rack.specs.Values.{Values, MayLeave, Keeps, only}
+use Rattle.rack.specs.Joins.{leaves_weaker}
+use Rattle.rack.specs.Moments.{Leaves}
 use Rattle.rack.specs.Sequences.{OnlyReads}
 use Rattle.flat_array.specs.Array.{FlatArray, fresh}
 use Rattle.array_image.specs.States.{is_current}
@@ -11,7 +13,8 @@ use Rattle.pool_image.specs.Drives.{Found}
 use Rattle.pool_image.specs.Meaning.{Volume}
 use Rattle.pool_scan.specs.Scanning.{IsUnfaulted}
 use Rattle.pool_rest.specs.Resting.{WritesDrives}
-use Rattle.assembler.specs.Sound.{HoldSound, IsMeantBy}
+use Rattle.assembler.specs.Moments.{HoldsAt}
+use Rattle.assembler.specs.Sound.{HoldSound, IsMeantBy, MayStop}
 use Rattle.assembler.specs.Writing.{WritesPool}
 use Rattle.pool_format.specs.declared.formatting.CreateFault.{CreateFault}
 use Rattle.pool_format.specs.declared.formatting.CreateFault.TheVariants.{Layout, Gone, Memory}
@@ -23,7 +26,7 @@ use Rattle.pool.specs.View.{arrays_of, book, view, volume}
 use Rattle.pool.specs.Volume.{Holds}
 use Rattle.shr_tool.specs.Made.{HasFaultCause}
 use Rattle.shr_tool.specs.Opened.{IsMeant, IsOpenedAs}
-use Rattle.shr_tool.specs.Timeline.{Ground, Moment, ground_of, moment_of}
+use Rattle.shr_tool.specs.Timeline.{Ground, MeansAt, Moment, ground_of, moment_of}
 
 -- a bay that is reached through references is written as they are
 pub pool_through :
@@ -78,6 +81,22 @@ held_by_meant pool shown x a opens meant =
       size = sym by.holds.sectors;
       values = λ s inside alive. keeps_only (by.volume.contents s) ((volume v).held 0 s) (λ u leaves. by.holds.contents s u inside alive leaves);
     })
+
+-- and so does what a stop inside the opening leaves
+pub stops_mean :
+    {R : Type 0} (pool : Pool R) (shown : R → Seen) (x : Seen) (a : FlatArray)
+    → ((f : Found) → HoldSound x f → IsUnfaulted x (view shown pool).bay → IsMeantBy shown x f (arrays_of pool) (view shown pool).linear)
+    → (meant : IsMeant x (view shown pool).bay a) → MayStop x meant.pool → x.traced
+    → Leaves x (view shown pool).bay (MeansAt (ground_of (view shown pool)) (moment_of (view shown pool)) a)
+unfolding first_of
+stops_mean pool shown x a opens meant calm traced =
+    let v = view shown pool in
+    let by = opens meant.pool meant.sound meant.unfaulted in
+    let same : by.volume ≡ meant.volume = ap (first_of meant.volume) (sym by.meant ∙ meant.meant) in
+    subst (λ b. Leaves x v.bay (MeansAt (ground_of v) (moment_of v) b)) (ap (λ (w : Volume). fresh w.sectors w.contents) same ∙ sym meant.array)
+    (leaves_weaker (HoldsAt v.slices v.linear by.volume) (MeansAt (ground_of v) (moment_of v) (fresh by.volume.sectors by.volume.contents))
+    (λ i holds s low alive. inl (holds s low))
+    (by.moments calm traced))
 
 -- and it is opened as they had it
 pub opened_as :

@@ -1,6 +1,7 @@
 -- How the opening of a pool on attached disks, and the script on it, came out.
 use Rattle.std.specs.Prelude.{◌≡◌, ◌≢◌, ◌⊎◌, ◌&&◌, ◌<◌, ℕ, true, is_some, List, [], ◌∷◌, Some}
 use Rattle.rack.specs.Seen.{Seen}
+use Rattle.rack.specs.Moments.{Leaves}
 use Rattle.rack.specs.Sequences.{OnlyReads, WritesOnly}
 use Rattle.flat_array.specs.Array.{FlatArray, fresh}
 use Rattle.array_image.specs.States.{is_current}
@@ -17,7 +18,7 @@ use Rattle.pool_rest.specs.Resting.{WritesDrives}
 use Rattle.assembler.specs.declared.refusal.Refusal.{Refusal}
 use Rattle.assembler.specs.declared.refusal.Refusal.TheVariants.{Memory}
 use Rattle.assembler.specs.Refusing.{is_early}
-use Rattle.assembler.specs.Sound.{AreSlicesOf, HoldSound, IsMeantRefusal}
+use Rattle.assembler.specs.Sound.{AreSlicesOf, HoldSound, IsMeantRefusal, MayStop}
 use Rattle.assembler.specs.Volume.{AllLive, IsVolumeOf}
 use Rattle.assembler.specs.Writing.{WritesPool}
 use Rattle.shr_script.specs.Reply.{refused_line}
@@ -25,7 +26,7 @@ use Rattle.shr_tool.specs.declared.status.Status.{Status}
 use Rattle.shr_tool.specs.Outcome.{Outcome}
 use Rattle.shr_tool.specs.Refusing.{refusal_words, refusal_status}
 use Rattle.shr_tool.specs.Saying.{Says}
-use Rattle.shr_tool.specs.Timeline.{Ground, Moment}
+use Rattle.shr_tool.specs.Timeline.{Ground, MeansAt, Moment}
 
 -- The pool of attached disks can't be opened. Until its drives have passed their checks nothing is written but the pending record, on
 -- drives of the pool; disks that hold a sound pool, and refuse no call, are refused as they mean.
@@ -73,6 +74,10 @@ pub record OpenedOn {R : Type 0} (seen : R → Seen) (runs : R → R → Type 0)
   -- then both copies of each drive's partition table are the table that its disk had, durably
   pub tables :
       (f : Found) → HoldSound (seen bay) f → IsUnfaulted (seen bay) (seen opened) → (p d : ℕ) → f.seats p ≡ Some d → IsSettled (seen bay) (seen opened) d
+  -- what a stop inside the opening leaves means the array that the disks meant
+  pub moments :
+      (a : FlatArray) → (meant : IsMeant (seen bay) (seen opened) a) → MayStop (seen bay) meant.pool → (seen bay).traced
+      → Leaves (seen bay) (seen opened) (MeansAt ground from a)
   -- from then on, sectors of slices alone
   pub apart : WritesOnly (seen opened) (seen after) (IsSliced ground.slices)
   -- the script, from the volume that the disks meant

@@ -1,23 +1,29 @@
 use Rattle.slice_rack.specs.SliceRack.{below_of, tables}
-use Rattle.slice_rack.specs.Sliced.{slices_of}
+use Rattle.slice_rack.specs.Sliced.{sliced, slices_of}
 use Rattle.raid_rack.specs.RaidRack.{raid_in, slices_in, slices_seen, written_in}
 use Rattle.pool_state.specs.declared.contents.State.{State}
-use Rattle.array_image.specs.States.{is_current}
+use Rattle.array_image.specs.Left.{reading}
+use Rattle.array_image.specs.States.{is_current, state_in}
 use Rattle.commit_log.specs.View.{names}
 use Rattle.std.proofs.Common.{◌≡◌, ◌&&◌, ◌<◌, ◌≤◌, ℕ, arith, Bool, true, false, not, is_none, is_some, Option, Some, None, ap₂, option_map, inl, inr, refl, sym, ap, subst, ◌∙◌}
 use Rattle.std.proofs.lemmas.Bool.{both_ways}
-use Rattle.rack.specs.Seen.{Rose, Seen, Stays}
-use Rattle.rack.specs.Joins.{stays_then}
+use Rattle.rack.specs.Seen.{Image, IsPick, Rose, Seen, Stays}
+use Rattle.rack.specs.Moments.{Leaves}
+use Rattle.rack.specs.Joins.{leaves_then, leaves_weaker, stays_then}
+use Rattle.rack.proofs.Reading.{only_reads_join}
 use Rattle.rack.specs.Sequences.{WritesOnly}
 use Rattle.slice_rack.specs.Runs.{IsSliced}
 use Rattle.slice_rack.specs.Slices.{Slices, disk_of, seat_of}
 use Rattle.lvm_group.specs.Volume.{below_of as rack_in, linear, seqno_of}
-use Rattle.pool_image.specs.Meaning.{arrays_held, bad_volume, joined_arrays, volume_by}
+use Rattle.pool_image.specs.Meaning.{Volume, arrays_held, bad_volume, joined_arrays, volume_by}
 use Rattle.pool_image.specs.Volumes.{linear_of}
-use Rattle.pool_scan.specs.Scanning.{IsUnfaulted}
+use Rattle.pool_scan.specs.Scanning.{IsUnfaulted, now_in}
+use Rattle.pool_rest.specs.Moments.{GivesNow}
+use Rattle.pool_rest.proofs.Keeping.{inside_before}
 use Rattle.pool_scan.proofs.Valid.{valid_arrays}
 use Rattle.raid_rack.specs.Book.{IsAfter, after_then}
-use Rattle.assembler.specs.Holding.{IsPoolOn}
+use Rattle.raid_rack.proofs.Live.{runs_unused}
+use Rattle.assembler.specs.Holding.{IsIdle, IsPoolOn}
 use Rattle.assembler.specs.Members.{AreMembers}
 use Rattle.assembler.specs.Refusing.{is_early, meant_by}
 use Rattle.assembler.specs.Sound.{AreSlicesOf}
@@ -25,9 +31,13 @@ use Rattle.assembler.proofs.Refusals.{meant_finding}
 use Rattle.assembler.proofs.Written.{writes_then_reads}
 use Rattle.assembler.proofs.Drives.{members_drives}
 use Rattle.assembler.proofs.Entry.{meaning_entry, quiet_first, quiet_last, refusal_entry, pool_same, rest_found, rested_so}
+use Rattle.assembler.proofs.Leaving.{IsAsRead, opening_leaves}
 use Rattle.assembler.proofs.Marks.{marks_still}
 use Rattle.assembler.proofs.Meaning.{check_fails, check_passes}
 use Rattle.assembler.proofs.Mended.{opening_settled}
+use Rattle.assembler.proofs.Moments.{read_replays, read_state, reads_leave}
+use Rattle.assembler.proofs.Shows.{none_past}
+use Rattle.assembler.proofs.Tables.{have_same, of_drives}
 use Rattle.assembler.proofs.Volumes.{live_later, volume_opened, volume_refused}
 use Rattle.assembler.proofs.Lies.{slices_lie, slices_same, volume_same}
 use Rattle.assembler.proofs.opening.assemble.Goals as goal
@@ -94,8 +104,14 @@ returns-in-Ok-open_volume-clause-meant g c e sound quiet =
     slices_lie f (tables m.slices) y m.checked m.absent.items m.slices.orderly
     (subst (λ (s : State). AreMembers s (tables m.slices) y m.checked m.absent.items) (sym state) members) checked.0.steady
     (subst (λ (s : State). IsPoolOn s (tables m.slices) y f) (sym state) checked.0.pool) checked.1.opened in
+    let t : Slices = tables m.slices in
+    let meant : Volume = volume_by (linear_of (joined_arrays f) held.0.group) (arrays_held f) in
+    let now : AreMembers f.state t y m.checked m.absent.items = subst (λ (s : State). AreMembers s t y m.checked m.absent.items) (sym state) members in
+    let on : IsPoolOn f.state t y f = subst (λ (s : State). IsPoolOn s t y f) (sym state) checked.0.pool in
+    let rests : IsIdle f.state t y m.log = subst (λ (s : State). IsIdle s t y m.log) (sym state) checked.0.log in
+    let some : 0 < f.state.joined = (valid_arrays f.state 0 now.valid).2 in
     record {
-      volume = volume_by (linear_of (joined_arrays f) held.0.group) (arrays_held f);
+      volume = meant;
       meant = meaning_entry seen a rest e sound rested none (linear volume) held.0;
       holds = held.1;
       lies = volume_same e f same (linear volume) held.0;
@@ -105,6 +121,35 @@ returns-in-Ok-open_volume-clause-meant g c e sound quiet =
           (subst (λ (s : State). IsAfter s (raid_in raid).state) same.state arrays.after) opens.kept.1.book;
       told = λ n low. opens.kept.1.told n (arrays.told n (subst (λ (s : State). n < s.joined) (sym same.state) low));
       live = alive;
+      moments = λ calm traced.
+          let only = c.in-Ok-check.ensures.only in
+          let IsRead : Image → Type 0 = IsAsRead f t y m.checked m.absent.items m.slices.orderly now checked.0.steady on checked.1 checked.0.sound m.log rests in
+          let read : (i : Image) → ((j k : ℕ) → sliced t i j k ≡ reading (slices_of t y) j k) → IsRead i =
+          λ i same. read_replays f t y m.checked m.absent.items m.slices.orderly now checked.0.steady on checked.1 checked.0.sound 0 some m.log rests (sliced t i) same in
+          let early : Leaves a y IsRead =
+          elim calm [
+            | inl none ↦
+                let reads = only_reads_join (c.in-Ok.ensures.idle sound.steady.told sound.steady.lasts to_x none) only in
+                leaves_weaker (IsPick a y a.held) IsRead (λ i pick. read i (reads_leave t a y m.slices.orderly members.fit.1 reads sound.steady i pick)) (reads.keeps.stops traced)
+            | inr pending ↦
+                let still = reads_leave t x y m.slices.orderly members.fit.1 only found.steady (now_in x) (λ d s live. inl refl) in
+                let of = of_drives x rest.scan.disks.items rest.state (tables rest.slices) rest.on.items rest.log rest.pending rest.damaged f found
+                t y m.checked m.absent.items m.slices.orderly now lie (inside_before t x y xy members.fit.1)
+                (none_past f t y m.checked m.absent.items m.slices.orderly now checked.0.steady on checked.1.opened) (have_same e f same pending.1) in
+                let stands : state_in (sliced t (now_in x)) ≡ Some rest.state =
+                read_state f t y m.checked m.absent.items m.slices.orderly now checked.0.steady on checked.1 checked.0.sound 0 some m.log rests (sliced t (now_in x)) still
+                ∙ ap Some (state ∙ c.in-Ok-check.ensures.state) in
+                let keeps = c.in-Ok.ensures.keeps sound.steady.told sound.steady.lasts to_x sound.logs pending.0 sound.steady.single t of stands in
+                leaves_then IsRead
+                (leaves_weaker (GivesNow t x) IsRead (λ i gives j k part. gives j k part ∙ read (now_in x) still j k part) (keeps.during traced))
+                (leaves_weaker (IsPick x y x.held) IsRead (λ i pick. read i (reads_leave t x y m.slices.orderly members.fit.1 only found.steady i pick)) (only.keeps.stops (ax.traced traced)))
+          ] in
+          let later = xy.traced (ax.traced traced) in
+          opening_leaves f t y m.checked m.absent.items m.slices.orderly now checked.0.steady on checked.1 checked.0.sound m.log rests
+          seen g.R.Rack.runs a raid (rack_in volume) (linear volume) (seqno_of volume) held.0 (IsSliced t) (IsSliced (tables (slices_in raid)))
+          early arrays ((c.make_rack.ensures.marks from_y).live (runs_unused seen g.R.Rack.runs raid (rack_in volume) opens.kept opens.unused)) alive
+          c.make_rack.ensures.runs.tables (c.make_rack.ensures.runs.apart members.fit.0 members.fit.1) later
+          opens volume.orderly c.in-Ok-open_volume.ensures.fit.1 (opens.kept.0.apart inside.0 inside.1) (yz.traced later);
     }
 
 pub returns-in-Err-clause-exact : goal.returns-in-Err-clause-exact

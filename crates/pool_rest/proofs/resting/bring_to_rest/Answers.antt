@@ -19,6 +19,8 @@ use Rattle.pool_rest.proofs.GonePlaces.{stands_rose}
 use Rattle.pool_scan.specs.Choosing.{seat_by}
 use Rattle.pool_rest.proofs.Quiet.{none_flagged, no_cause, settled_after, settled_idle}
 use Rattle.pool_rest.proofs.Joined.{no_elements, writes_idle, writes_since, free_before, free_after, since_rests, since_so, since_stands, since_means, not_idle, idle_so, idle_stands, idle_same}
+use Rattle.pool_scan.proofs.Meant.{scan_meant}
+use Rattle.pool_rest.proofs.Keeping.{keeps_read, rest_fewer, rest_keeps, single_later}
 use Rattle.pool_rest.proofs.resting.bring_to_rest.Goals as goal
 
 pub returns-then-pending_count-eq0-clause-only : goal.returns-then-pending_count-eq0-clause-only
@@ -316,3 +318,73 @@ returns-in-Ok-replay_found-clause-gone g c = λ p d named seat.
           (stands_rose (g.R.Rack.seen c.args.rack) (g.R.Rack.seen (below_of found.slices)) found.scan.disks.items found.state (tables found.slices) found.on.items found.looked.gone.items found.log found.looked.pending found.looked.damaged
           stand.newest.scan stand.laid stand.looked d known)
     ]
+
+pub returns-in-Ok-replay_found-clause-keeps : goal.returns-in-Ok-replay_found-clause-keeps
+returns-in-Ok-replay_found-clause-keeps g c = λ told lasts free sound brings single u of is.
+    let seen = g.R.Rack.seen in
+    let a = seen c.args.rack in
+    let rest = c.in-Ok-replay_found.rest in
+    let found = c.in-Ok-stand.found in
+    let x = seen (below_of found.slices) in
+    let b = seen (below_of rest.slices) in
+    let only = c.in-Ok-stand.ensures.only in
+    let stays = c.in-Ok-replay_found.ensures.only.stays in
+    let early = free_before a x b found.scan.disks.items found.state (tables found.slices) found.log found.looked.pending found.looked.damaged
+    only stays c.in-Ok-stand.ensures.newest.scan c.in-Ok-stand.ensures.meant free in
+    let later = free_after a x b found.scan.disks.items found.state (tables found.slices) found.log found.looked.pending found.looked.damaged
+    only stays c.in-Ok-stand.ensures.newest.scan c.in-Ok-stand.ensures.meant free in
+    let stands = c.in-Ok-stand.ensures.meant told early in
+    let settled = returns-in-Ok-replay_found-clause-settled g c told lasts free sound in
+    let newest = returns-in-Ok-replay_found-clause-newest g c told lasts in
+    rest_keeps a x b found.scan.disks.items found.state found.log found.looked.pending found.looked.damaged (tables found.slices)
+    only stays c.in-Ok-stand.ensures.newest.scan (λ none. c.if-pending_count-eq0.false (c.pending_count.ensures ∙ ap length none)) told lasts early stands
+    (since_rests a x b found.scan.disks.items found.state (tables found.slices) found.log found.looked.pending found.looked.damaged
+    only stays c.in-Ok-stand.ensures.newest.scan c.in-Ok-stand.ensures.meant c.in-Ok-replay_found.ensures.replayed told lasts free)
+    sound single rest.state rest.scan.disks.items
+    (scan_meant (since a b) b rest.scan.disks.items newest.scan (told_later a b (stays_then only.stays stays) told) free)
+    (settled.state _ stands.stands)
+    found.on.items found.looked.gone.items found.slices.orderly c.in-Ok-stand.ensures.fit c.in-Ok-stand.ensures.laid c.in-Ok-stand.ensures.looked brings
+    (c.in-Ok-replay_found.ensures.keeps (told_later a x only.stays told) (lasting_later a x only.stays lasts) later (single_later a x only told lasts single))
+    u of is
+
+pub returns-in-Ok-replay_found-clause-fewer : goal.returns-in-Ok-replay_found-clause-fewer
+returns-in-Ok-replay_found-clause-fewer g c = λ told lasts free sound brings single u of is.
+    let seen = g.R.Rack.seen in
+    let a = seen c.args.rack in
+    let rest = c.in-Ok-replay_found.rest in
+    let found = c.in-Ok-stand.found in
+    let x = seen (below_of found.slices) in
+    let b = seen (below_of rest.slices) in
+    let only = c.in-Ok-stand.ensures.only in
+    let stays = c.in-Ok-replay_found.ensures.only.stays in
+    let early = free_before a x b found.scan.disks.items found.state (tables found.slices) found.log found.looked.pending found.looked.damaged
+    only stays c.in-Ok-stand.ensures.newest.scan c.in-Ok-stand.ensures.meant free in
+    let later = free_after a x b found.scan.disks.items found.state (tables found.slices) found.log found.looked.pending found.looked.damaged
+    only stays c.in-Ok-stand.ensures.newest.scan c.in-Ok-stand.ensures.meant free in
+    let stands = c.in-Ok-stand.ensures.meant told early in
+    let settled = returns-in-Ok-replay_found-clause-settled g c told lasts free sound in
+    let newest = returns-in-Ok-replay_found-clause-newest g c told lasts in
+    rest_fewer a x b found.scan.disks.items found.state found.log found.looked.pending found.looked.damaged (tables found.slices)
+    only stays c.in-Ok-stand.ensures.newest.scan (λ none. c.if-pending_count-eq0.false (c.pending_count.ensures ∙ ap length none)) told lasts early stands
+    (since_rests a x b found.scan.disks.items found.state (tables found.slices) found.log found.looked.pending found.looked.damaged
+    only stays c.in-Ok-stand.ensures.newest.scan c.in-Ok-stand.ensures.meant c.in-Ok-replay_found.ensures.replayed told lasts free)
+    sound single rest.state rest.scan.disks.items
+    (scan_meant (since a b) b rest.scan.disks.items newest.scan (told_later a b (stays_then only.stays stays) told) free)
+    (settled.state _ stands.stands)
+    found.on.items found.looked.gone.items found.slices.orderly c.in-Ok-stand.ensures.fit c.in-Ok-stand.ensures.laid c.in-Ok-stand.ensures.looked brings
+    (c.in-Ok-replay_found.ensures.fewer (told_later a x only.stays told) (lasting_later a x only.stays lasts) later (single_later a x only told lasts single))
+    u of (is _ stands.stands)
+
+pub returns-then-pending_count-eq0-clause-keeps : goal.returns-then-pending_count-eq0-clause-keeps
+returns-then-pending_count-eq0-clause-keeps g c = λ told lasts free sound brings single u of is.
+    let seen = g.R.Rack.seen in
+    let same = c.as_it_stands.ensures.slices in
+    keeps_read (seen c.args.rack) (seen (below_of c.as_it_stands.result.slices))
+    (subst (λ k. OnlyReads (seen c.args.rack) (seen (below_of k))) (sym same) c.in-Ok-stand.ensures.only) told lasts u single of.orderly of.inside
+
+pub returns-then-pending_count-eq0-clause-fewer : goal.returns-then-pending_count-eq0-clause-fewer
+returns-then-pending_count-eq0-clause-fewer g c = λ told lasts free sound brings single u of is.
+    let seen = g.R.Rack.seen in
+    let same = c.as_it_stands.ensures.slices in
+    keeps_read (seen c.args.rack) (seen (below_of c.as_it_stands.result.slices))
+    (subst (λ k. OnlyReads (seen c.args.rack) (seen (below_of k))) (sym same) c.in-Ok-stand.ensures.only) told lasts u single of.orderly of.inside

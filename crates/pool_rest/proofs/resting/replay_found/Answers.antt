@@ -14,6 +14,15 @@ use Rattle.pool_rest.proofs.Agreeing.{told_later, lasting_later}
 use Rattle.pool_rest.proofs.Again.{replay_only, again_only, again_replayed, again_stands, again_finds, again_shut, laid_later, newest_since, cause_since}
 use Rattle.pool_rest.proofs.GonePlaces.{stands_rose, again_rose}
 use Rattle.pool_rest.proofs.Listed.{or_true}
+use Rattle.std.proofs.Common.{ℕ, Bool, List, None}
+use Rattle.rack.specs.Targets.{look}
+use Rattle.slice_rack.specs.Slices.{IsOrderly, Slices}
+use Rattle.slice_rack.specs.Sliced.{IsInside, sliced}
+use Rattle.array_image.specs.Places.{log_slice}
+use Rattle.array_image.specs.States.{state_in}
+use Rattle.pool_rest.specs.Moments.{AreOfDrives, KeepsReplayed}
+use Rattle.pool_rest.specs.Resting.{AreSingle}
+use Rattle.pool_rest.proofs.Keeping.{KeepsFewer, again_fewer, again_keeps}
 use Rattle.pool_rest.proofs.resting.replay_found.Goals as goal
 
 pub returns-in-Err-clause-back : goal.returns-in-Err-clause-back
@@ -149,3 +158,27 @@ returns-clause-gone g c = λ p d named seat.
           (elim (rest.gone p d late seat_now) [ inl looked ↦ inr (p, looked, seat_now) | inr flagged ↦ inl flagged ]))
       | inr early ↦ inr (c.refused_of-early.ensures p d early seat_now)
     ]))
+
+pub returns-clause-keeps : goal.returns-clause-keeps
+returns-clause-keeps g c =
+    let seen = g.R.Rack.seen in
+    let found = c.args.found in
+    let again = below_of c.in-Ok.again.slices in
+    subst (λ k. AllTold (seen (below_of found.slices)) → IsLasting (seen (below_of found.slices)) → IsUnfaulted (seen (below_of found.slices)) (seen (below_of k)) → AreSingle (seen (below_of found.slices))
+    → (t u : Slices) (on : List ℕ) (is_pending : Bool) → IsOrderly t → IsInside t (seen (below_of found.slices)) → IsLaid (seen (below_of found.slices)) found.scan.disks.items found.state t on
+    → FindsAll (seen (below_of found.slices)) t on found.log is_pending None → ((p : ℕ) → look found.log.pending (log_slice p) 0 ≡ None) → seated_state found.log.pending found.state ≡ found.state
+    → AreOfDrives (seen (below_of found.slices)) (seat_by found.state found.scan.disks.items) u → state_in (sliced u (now_in (seen (below_of k)))) ≡ Some found.state
+    → KeepsReplayed (seen (below_of found.slices)) (seen (below_of k)) u)
+    (sym c.as_it_stands-rest.ensures.slices)
+    (again_keeps seen (below_of found.slices) c.into_inner.result c.replay_on-done.result.rack again c.into_inner.ensures found.scan.disks.items found.state c.seated_by-seated.result found.log
+    c.seated_by-seated.ensures c.replay_on-done.ensures.only.stays c.in-Ok.ensures.only c.replay_on-done.ensures.keeps)
+
+pub returns-clause-fewer : goal.returns-clause-fewer
+returns-clause-fewer g c =
+    let seen = g.R.Rack.seen in
+    let found = c.args.found in
+    let again = below_of c.in-Ok.again.slices in
+    subst (λ k. KeepsFewer (seen (below_of found.slices)) (seen (below_of k)) found.scan.disks.items found.state (seated_state found.log.pending found.state) found.log)
+    (sym c.as_it_stands-rest.ensures.slices)
+    (again_fewer seen (below_of found.slices) c.into_inner.result c.replay_on-done.result.rack again c.into_inner.ensures found.scan.disks.items found.state c.seated_by-seated.result found.log
+    c.seated_by-seated.ensures c.replay_on-done.ensures.only.stays c.in-Ok.ensures.only c.replay_on-done.ensures.fewer)

@@ -2,7 +2,7 @@
 use Rattle.std.proofs.Common.{◌≡◌, ◌∙◌, ap, sym, subst, refl, inl, inr}
 use Rattle.pool.specs.View.{bay_in}
 use Rattle.shr_tool.specs.Opened.{NotOpened, OpenedOn}
-use Rattle.shr_tool.proofs.Through.{pool_through, written_through, ground_in, held_by_meant, moment_in, opened_as, traced_through}
+use Rattle.shr_tool.proofs.Through.{pool_through, written_through, ground_in, held_by_meant, moment_in, opened_as, stops_mean, traced_through}
 use Rattle.shr_tool.proofs.Told.{outcome_for}
 use Rattle.shr_tool.proofs.opening.serve_attached.Goals as goal
 
@@ -34,6 +34,7 @@ returns-in-Ok-clause-outcome g c =
       faults = λ d. refl;
       meant = opened_as pool (λ r. seen r.now) _ opens.meant opens.marks;
       tables = opens.mended;
+      moments = λ a meant calm traced. stops_mean pool (λ r. seen r.now) _ a opens.meant meant calm traced;
       apart = serves.passes.apart;
       outcome = λ a.
           outcome_for c.serve_pool-status.result _ _ _ _ _ _ _ a _ _ _ _

@@ -1,0 +1,13 @@
+-- What contents of the disks give of the volume that lies on them.
+use Rattle.std.specs.Prelude.{◌≡◌, ℕ, ◌<◌, List}
+use Rattle.rack.specs.Seen.{Image}
+use Rattle.slice_rack.specs.Slices.{Slices, sectors_of}
+use Rattle.slice_rack.specs.Sliced.{sliced}
+use Rattle.array_image.specs.Arrays.{arrays_in, replayed}
+use Rattle.lvm_group.specs.Runs.{Linear}
+use Rattle.lvm_group.specs.Shown.{contents_of}
+use Rattle.pool_image.specs.Meaning.{Volume}
+
+-- contents give a volume by these slices and runs: each of its sectors, once the pending record is replayed
+abbrev pub HoldsAt : Slices → Linear → Volume → Image → Type 0
+HoldsAt t l v disks = (s : ℕ) → s < v.sectors → contents_of l (arrays_in (replayed (sectors_of t) (sliced t disks))) 0 s ≡ v.contents s

@@ -1,0 +1,293 @@
+-- Replayed contents stay over the reads round a replay too, and over all of bringing a pool to rest.
+use Rattle.std.proofs.Common.{◌≡◌, ◌≢◌, ◌⊎◌, ℕ, ◌+◌, ◌<◌, ◌≤◌, ◌^◌, Bool, List, [], Option, Some, None, inl, inr, refl, sym, ap, subst, ◌∙◌, arith}
+use Rattle.std.proofs.lemmas.Bool.{cases_lt}
+use Rattle.rack.specs.Values.{MayLeave}
+use Rattle.rack.specs.Seen.{Image, Seen, IsLive, IsPick, Stays}
+use Rattle.rack.specs.Moments.{Leaves}
+use Rattle.rack.specs.Joins.{leaves_then, leaves_weaker, rose_early, stays_then}
+use Rattle.rack.specs.Sequences.{OnlyReads}
+use Rattle.rack.specs.Targets.{look}
+use Rattle.gpt_table.specs.declared.Table.{Table}
+use Rattle.gpt_table.specs.Changes.{the_table}
+use Rattle.slice_rack.specs.Slices.{Slices, IsOrderly, disk_of, first_of, seat_of, sectors_of}
+use Rattle.slice_rack.specs.Sliced.{IsInside, sliced, slices_of}
+use Rattle.slice_rack.specs.Laws.{disk_below, sector_below}
+use Rattle.slice_rack.specs.Runs.{inside_still}
+use Rattle.pool_state.specs.declared.contents.State.{State}
+use Rattle.array_image.specs.Arrays.{replayed}
+use Rattle.array_image.specs.Left.{reading}
+use Rattle.array_image.specs.Places.{log_slice, place_of, slice_of}
+use Rattle.array_image.specs.States.{state_in}
+use Rattle.pool_image.specs.Disks.{Disks, disks_of, identities_of}
+use Rattle.pool_image.specs.Disks as disks
+use Rattle.pool_image.specs.Replay.{extent_by, standing_by}
+use Rattle.pool_image.proofs.Identities.{table_same}
+use Rattle.commit_log.specs.Standing.{IsAlike}
+use Rattle.commit_log.specs.View.{LogView}
+use Rattle.pool_scan.specs.declared.Known.{Known}
+use Rattle.pool_scan.specs.Choosing.{AreOf, seat_by}
+use Rattle.pool_scan.specs.Scanning.{AllTold, IsScan, IsUnfaulted, now_in}
+use Rattle.pool_scan.proofs.Meant.{scan_meant}
+use Rattle.pool_scan.proofs.Seated.{seat_by_is}
+use Rattle.pool_rest.specs.Members.{Lies}
+use Rattle.pool_rest.specs.Moments.{AreOfDrives, BringsNoState, GivesNow, IsFewer, KeepsPlaces, KeepsReplayed}
+use Rattle.pool_rest.specs.Resting.{AreSingle, Rests, seated_state}
+use Rattle.pool_rest.specs.SoundLogs.{HasSoundLogs}
+use Rattle.pool_rest.specs.Standing.{FindsAll, HasLooked, IsLaid, IsLasting, IsNewest, StandsAs, since}
+use Rattle.pool_rest.proofs.Again.{laid_later}
+use Rattle.pool_rest.proofs.Agreeing.{disks_same, lasting_later, reads_agree, told_later}
+use Rattle.pool_rest.proofs.Moments.{sliced_inside, sliced_outside}
+use Rattle.pool_rest.proofs.Quiet.{brings_fewer, seats_now, state_still, tables_now, whole_before}
+use Rattle.pool_rest.proofs.Stood.{found_still, same_reading}
+
+-- slices show the same of contents that agree in their sectors
+same_shown : (t : Slices) (c e : Image) → ((k j : ℕ) → j < sectors_of t k → c (disk_of t k) (first_of t k + j) ≡ e (disk_of t k) (first_of t k + j)) → sliced t c ≡ sliced t e
+same_shown t c e same = λ i k j. at k j i
+  where
+    at : (k j : ℕ) → sliced t c k j ≡ sliced t e k j
+    at k j = elim (cases_lt j (sectors_of t k)) [
+      | inl low ↦ sliced_inside t c k j low ∙ same k j low ∙ sym (sliced_inside t e k j low)
+      | inr past ↦ sliced_outside t c k j past ∙ sym (sliced_outside t e k j past)
+    ]
+
+-- ---- reads
+
+module _ (a x : Seen) (reads : OnlyReads a x) (told : AllTold a) (lasts : IsLasting a) where
+  live_read : (d j : ℕ) → d < x.disks → j < x.sectors d → IsLive a x d j
+  live_read d j disk sector = record {
+    disk = disk;
+    sector = sector;
+    is_told = told d (subst (λ n. d < n) reads.stays.disks disk);
+    unspent = reads.stays.lasts lasts.lasting d j (lasts.unspent d j);
+  }
+
+  live_then : (d j : ℕ) → d < x.disks → j < x.sectors d → IsLive x x d j
+  live_then d j disk sector = record {
+    disk = disk;
+    sector = sector;
+    is_told = reads.stays.told d (told d (subst (λ n. d < n) reads.stays.disks disk));
+    unspent = reads.stays.lasts lasts.lasting d j (lasts.unspent d j);
+  }
+
+  live_first : (d j : ℕ) → d < x.disks → j < x.sectors d → IsLive a a d j
+  live_first d j disk sector = record {
+    disk = subst (λ n. d < n) reads.stays.disks disk;
+    sector = subst (λ n. j < n) (reads.stays.sectors d) sector;
+    is_told = told d (subst (λ n. d < n) reads.stays.disks disk);
+    unspent = lasts.unspent d j;
+  }
+
+  pub single_later : AreSingle a → AreSingle x
+  single_later single d j disk sector b may =
+      let kept = reads.keeps.held d j (live_read d j disk sector) in
+      single d j (subst (λ n. d < n) reads.stays.disks disk) (subst (λ n. j < n) (reads.stays.sectors d) sector) b (kept.within b may) ∙ sym kept.current
+
+  -- what the slices read as is the same
+  shown_later : (t : Slices) → IsOrderly t → IsInside t x → sliced t (now_in x) ≡ sliced t (now_in a)
+  shown_later t orderly inside =
+      same_shown t (now_in x) (now_in a)
+      (λ k j low. (reads.keeps.held (disk_of t k) (first_of t k + j) (live_read (disk_of t k) (first_of t k + j) (disk_below t x k j orderly inside low) (sector_below t x k j inside low))).current)
+
+  -- reads before
+  pub keeps_since : (b : Seen) (t : Slices) → AreSingle a → KeepsReplayed x b t → KeepsReplayed a b t
+  keeps_since b t single keeps =
+      let picked : (i : Image) → ((d j : ℕ) → d < x.disks → j < x.sectors d → MayLeave (a.held d j) (i d j)) → IsPick x x x.held i = λ i may d j live.
+      inl (single d j (subst (λ n. d < n) reads.stays.disks live.disk) (subst (λ n. j < n) (reads.stays.sectors d) live.sector) (i d j) (may d j live.disk live.sector)
+      ∙ sym (reads.keeps.held d j (live_read d j live.disk live.sector)).current) in
+      record {
+        first = λ i pick. keeps.first i (picked i (λ d j disk sector. pick d j (live_first d j disk sector)));
+        during = λ traced.
+            leaves_then (GivesNow t b)
+            (leaves_weaker (IsPick a x a.held) (GivesNow t b) (λ i pick. keeps.first i (picked i (λ d j disk sector. pick d j (live_read d j disk sector)))) (reads.keeps.stops traced))
+            (keeps.during (reads.stays.traced traced));
+        last = keeps.last;
+      }
+
+  -- reads after
+  pub keeps_until : (w : Seen) (t : Slices) → Stays w a → IsOrderly t → IsInside t x → KeepsReplayed w a t → KeepsReplayed w x t
+  keeps_until w t stays orderly inside keeps =
+      let later : (i : Image) → GivesNow t a i → GivesNow t x i = λ i gives.
+      subst (λ (c : Image). IsAlike (replayed (sectors_of t) (sliced t i)) (replayed (sectors_of t) c)) (sym (shown_later t orderly inside)) gives in
+      let older : (i : Image) → ((d j : ℕ) → d < x.disks → j < x.sectors d → MayLeave (a.held d j) (i d j)) → IsPick a a a.held i = λ i may d j live.
+      may d j (subst (λ n. d < n) (sym reads.stays.disks) live.disk) (subst (λ n. j < n) (sym (reads.stays.sectors d)) live.sector) in
+      record {
+        first = λ i pick. later i (keeps.first i pick);
+        during = λ traced.
+            leaves_then (GivesNow t x)
+            (leaves_weaker (GivesNow t a) (GivesNow t x) later (keeps.during traced))
+            (leaves_weaker (IsPick a x a.held) (GivesNow t x) (λ i pick. later i (keeps.last i (older i (λ d j disk sector. pick d j (live_read d j disk sector)))))
+            (reads.keeps.stops (stays.traced traced)));
+        last = λ i pick.
+            later i (keeps.last i (older i (λ d j disk sector.
+            (reads.keeps.held d j (live_read d j disk sector)).within (i d j) (pick d j (live_then d j disk sector)))));
+      }
+
+  -- reads alone
+  pub keeps_read : (t : Slices) → AreSingle a → IsOrderly t → IsInside t x → KeepsReplayed a x t
+  keeps_read t single orderly inside =
+      let now : (i : Image) → ((d j : ℕ) → d < x.disks → j < x.sectors d → MayLeave (a.held d j) (i d j)) → GivesNow t x i = λ i may.
+      subst (λ (c : Image). IsAlike (replayed (sectors_of t) c) (replayed (sectors_of t) (sliced t (now_in x))))
+      (sym (same_shown t i (now_in x) (λ k j low.
+      let d = disk_of t k in
+      let s = first_of t k + j in
+      let disk = disk_below t x k j orderly inside low in
+      let sector = sector_below t x k j inside low in
+      single d s (subst (λ n. d < n) reads.stays.disks disk) (subst (λ n. s < n) (reads.stays.sectors d) sector) (i d s) (may d s disk sector)
+      ∙ sym (reads.keeps.held d s (live_read d s disk sector)).current)))
+      (λ d j part. refl) in
+      record {
+        first = λ i pick. now i (λ d j disk sector. pick d j (live_first d j disk sector));
+        during = λ traced. leaves_weaker (IsPick a x a.held) (GivesNow t x) (λ i pick. now i (λ d j disk sector. pick d j (live_read d j disk sector))) (reads.keeps.stops traced);
+        last = λ i pick. now i (λ d j disk sector. (reads.keeps.held d j (live_read d j disk sector)).within (i d j) (pick d j (live_then d j disk sector)));
+      }
+
+-- ---- slices inside the disks lay there before
+
+pub inside_before : (t : Slices) (a b : Seen) → Stays a b → IsInside t b → IsInside t a
+inside_before t a b stays inside = record {
+  small = λ disk below. subst (λ n. n < 2 ^ 48) (stays.sectors disk) (inside.small disk (subst (λ n. disk < n) (sym stays.disks) below));
+  seats = λ place disk seat. subst (λ n. disk < n) stays.disks (inside.seats place disk seat);
+  slices = λ d some. subst (λ n. first_of t d + sectors_of t d ≤ n) (stays.sectors (disk_of t d)) (inside.slices d some);
+}
+
+-- ---- a replay, with the reads round it
+
+-- what a replay keeps, by slices on which its record was found
+abbrev pub KeepsOn : Seen → Seen → List Known → State → LogView → Type 0
+KeepsOn x y known z m =
+    AllTold x → IsLasting x → IsUnfaulted x y → AreSingle x → (t u : Slices) (on : List ℕ) (is_pending : Bool) → IsOrderly t → IsInside t x → IsLaid x known z t on
+    → FindsAll x t on m is_pending None → ((p : ℕ) → look m.pending (log_slice p) 0 ≡ None) → AreOfDrives x (seat_by z known) u
+    → state_in (sliced u (now_in y)) ≡ Some z → KeepsReplayed x y u
+
+-- the disks were looked at once more
+pub again_keeps : {R : Type 0} (seen : R → Seen) (r0 r1 rd rb : R) → r1 ≡ r0 → (known : List Known) (st z : State) (m : LogView) → z ≡ seated_state m.pending st
+    → Stays (seen r1) (seen rd) → OnlyReads (seen rd) (seen rb) → KeepsOn (seen r1) (seen rd) known z m
+    → AllTold (seen r0) → IsLasting (seen r0) → IsUnfaulted (seen r0) (seen rb) → AreSingle (seen r0)
+    → (t u : Slices) (on : List ℕ) (is_pending : Bool) → IsOrderly t → IsInside t (seen r0) → IsLaid (seen r0) known st t on → FindsAll (seen r0) t on m is_pending None
+    → ((p : ℕ) → look m.pending (log_slice p) 0 ≡ None) → seated_state m.pending st ≡ st → AreOfDrives (seen r0) (seat_by st known) u
+    → state_in (sliced u (now_in (seen rb))) ≡ Some st → KeepsReplayed (seen r0) (seen rb) u
+again_keeps seen r0 r1 rd rb back known st z m seated stays reads keeps told lasts free single t u on is_pending orderly inside laid finds none same of is =
+    let a = seen r0 in
+    let y = seen rd in
+    let b = seen rb in
+    let early : Stays a y = subst (λ r. Stays (seen r) y) back stays in
+    let moved : KeepsOn a y known st m =
+    subst (λ r. KeepsOn (seen r) y known st m) back (subst (λ k. KeepsOn (seen r1) y known k m) (seated ∙ same) keeps) in
+    let told_y = told_later a y early told in
+    let lasts_y = lasting_later a y early lasts in
+    let within : IsInside u b = inside_still reads.stays (inside_still early of.inside) in
+    keeps_until y b reads told_y lasts_y a u early of.orderly within
+    (moved told lasts (λ d rose. free d (rose_early a y b d reads.stays rose)) single t u on is_pending orderly inside laid finds none of
+    (ap state_in (sym (shown_later y b reads told_y lasts_y u of.orderly within)) ∙ is))
+
+-- the same of a replay that brings a state
+abbrev pub KeepsFewer : Seen → Seen → List Known → State → State → LogView → Type 0
+KeepsFewer x y known st z m =
+    AllTold x → IsLasting x → IsUnfaulted x y → AreSingle x → (t u : Slices) (on : List ℕ) (is_pending : Bool) → IsLaid x known st t on → FindsAll x t on m is_pending None
+    → IsFewer known st z m on (reading (slices_of t x)) → AreOfDrives x (seat_by z known) u → state_in (sliced u (now_in x)) ≡ Some st → KeepsReplayed x y u
+
+pub again_fewer : {R : Type 0} (seen : R → Seen) (r0 r1 rd rb : R) → r1 ≡ r0 → (known : List Known) (st z : State) (m : LogView) → z ≡ seated_state m.pending st
+    → Stays (seen r1) (seen rd) → OnlyReads (seen rd) (seen rb) → KeepsFewer (seen r1) (seen rd) known st z m
+    → KeepsFewer (seen r0) (seen rb) known st (seated_state m.pending st) m
+again_fewer seen r0 r1 rd rb back known st z m seated stays reads keeps told lasts free single t u on is_pending laid finds brings of is =
+    let a = seen r0 in
+    let y = seen rd in
+    let b = seen rb in
+    let early : Stays a y = subst (λ r. Stays (seen r) y) back stays in
+    let moved : KeepsFewer a y known st (seated_state m.pending st) m =
+    subst (λ r. KeepsFewer (seen r) y known st (seated_state m.pending st) m) back (subst (λ k. KeepsFewer (seen r1) y known st k m) seated keeps) in
+    keeps_until y b reads (told_later a y early told) (lasting_later a y early lasts) a u early of.orderly (inside_still reads.stays (inside_still early of.inside))
+    (moved told lasts (λ d rose. free d (rose_early a y b d reads.stays rose)) single t u on is_pending laid finds brings of is)
+
+-- what a replay that was found keeps, by the slices on which its record was found
+abbrev pub Replaying : Seen → Seen → List Known → State → LogView → Type 0
+Replaying x b known st m =
+    (t u : Slices) (on : List ℕ) (is_pending : Bool) → IsOrderly t → IsInside t x → IsLaid x known st t on → FindsAll x t on m is_pending None
+    → ((p : ℕ) → look m.pending (log_slice p) 0 ≡ None) → seated_state m.pending st ≡ st → AreOfDrives x (seat_by st known) u
+    → state_in (sliced u (now_in b)) ≡ Some st → KeepsReplayed x b u
+
+module _ (a x b : Seen) (known : List Known) (st : State) (m : LogView) (is_pending : Bool) (damaged : Option ℕ) (t : Slices)
+    (reads : OnlyReads a x) (stays : Stays x b) (scan : IsScan a x known) (some : m.pending ≢ [])
+    (told : AllTold a) (lasts : IsLasting a) (free : IsUnfaulted a x)
+    (stands : StandsAs a st t m is_pending damaged)
+    (rests : Rests a b (standing_by (disks_of a) (now_in a) st))
+    (sound : HasSoundLogs (disks_of a) (now_in a))
+    (single : AreSingle a)
+    (s : State) (again : List Known) (now : AreOf (disks_of b) (identities_of (disks_of b) (now_in b)) again)
+    (same : s ≡ seated_state (standing_by (disks_of a) (now_in a) st).targets st) where
+  all : Stays a b
+  all = stays_then reads.stays stays
+
+  are : AreOf (disks_of a) (identities_of (disks_of a) (now_in a)) known
+  are = scan_meant a x known scan told free
+
+  abbrev brought : State
+  brought = seated_state (standing_by (disks_of a) (now_in a) st).targets st
+
+  seats : (p : ℕ) → seat_by s again p ≡ seat_by brought known p
+  seats p =
+      seat_by_is (disks_of b) (identities_of (disks_of b) (now_in b)) again now s p
+      ∙ ap (λ (dk : Disks). disks.seat_of s dk (identities_of dk (now_in b)) p) (disks_same a b all)
+      ∙ ap (λ (z : State). disks.seat_of z (disks_of a) (identities_of (disks_of a) (now_in b)) p) same
+      ∙ seats_now a x b known st m is_pending damaged t reads stays scan some told lasts free stands rests sound p
+      ∙ sym (seat_by_is (disks_of a) (identities_of (disks_of a) (now_in a)) known are brought p)
+
+  -- tables are as they were when the replay began
+  tables : (d : ℕ) → d < a.disks → the_table (b.sectors d) (now_in b d) ≡ the_table (x.sectors d) (now_in x d)
+  tables d there =
+      ap (λ n. the_table n (now_in b d)) (all.sectors d)
+      ∙ tables_now a x b known st m is_pending damaged t reads stays scan some told lasts free stands rests sound d there
+      ∙ sym (table_same (a.sectors d) (now_in x d) (now_in a d) (λ j below of. reads_agree a x reads told lasts d j there below))
+      ∙ ap (λ n. the_table n (now_in x d)) (sym (reads.stays.sectors d))
+
+  drives_before : (u : Slices) → AreOfDrives b (seat_by s again) u → AreOfDrives x (seat_by brought known) u
+  drives_before u of = record {
+    orderly = of.orderly;
+    inside = inside_before u x b stays of.inside;
+    seated = λ p few. of.seated p few ∙ seats p;
+    beyond = of.beyond;
+    lies = λ k d few seat which.
+        let there : d < a.disks = subst (λ n. d < n) all.disks (of.inside.seats (place_of k) d seat) in
+        subst (λ (o : Option Table). Lies u k (extent_by (x.sectors d) o (slice_of k))) (tables d there)
+        (subst (λ n. Lies u k (extent_by n (the_table (b.sectors d) (now_in b d)) (slice_of k))) (stays.sectors d) (of.lies k d few seat which));
+  }
+
+  module _ (on gone : List ℕ) (orderly : IsOrderly t) (fit : (slices_of t x).fit) (laid : IsLaid a known st t on) (looked : HasLooked a x t on gone m is_pending damaged) where
+    laid_now : IsLaid x known st t on
+    laid_now = laid_later a x known st t on reads.stays laid
+
+    finds_now : FindsAll x t on m is_pending None
+    finds_now =
+        subst (λ o. FindsAll x t on m is_pending o) (whole_before a x b known st m is_pending damaged t reads stays scan some told lasts free stands rests sound)
+        (found_still a x t on gone m is_pending damaged orderly fit reads looked told lasts free)
+
+    pub rest_keeps : BringsNoState a → Replaying x b known st m → (u : Slices) → AreOfDrives b (seat_by s again) u → state_in (sliced u (now_in b)) ≡ Some s → KeepsReplayed a b u
+    rest_keeps none replaying u of is =
+        let before = standing_by (disks_of a) (now_in a) st in
+        let targets = stands.targets lasts in
+        let still : brought ≡ st =
+        state_still a x b known st m is_pending damaged t reads stays scan some told lasts free stands rests sound (none before stands.stands) in
+        keeps_since a x reads told lasts b u single
+        (replaying t u on is_pending orderly fit.1 laid_now finds_now
+        (λ p. ap (λ xs. look xs (log_slice p) 0) targets ∙ none before stands.stands p)
+        (ap (λ xs. seated_state xs st) targets ∙ still)
+        (subst (λ (z : State). AreOfDrives x (seat_by z known) u) still (drives_before u of))
+        (is ∙ ap Some (same ∙ still)))
+
+    pub rest_fewer : KeepsPlaces a
+        → ((t u : Slices) (on : List ℕ) (is_pending : Bool) → IsLaid x known st t on → FindsAll x t on m is_pending None
+        → IsFewer known st (seated_state m.pending st) m on (reading (slices_of t x)) → AreOfDrives x (seat_by (seated_state m.pending st) known) u
+        → state_in (sliced u (now_in x)) ≡ Some st → KeepsReplayed x b u)
+        → (u : Slices) → AreOfDrives b (seat_by s again) u → state_in (sliced u (now_in a)) ≡ Some st → KeepsReplayed a b u
+    rest_fewer keeps replaying u of is =
+        let before = standing_by (disks_of a) (now_in a) st in
+        let here : brought ≡ seated_state m.pending st = ap (λ xs. seated_state xs st) (sym (stands.targets lasts)) in
+        let drives = drives_before u of in
+        keeps_since a x reads told lasts b u single
+        (replaying t u on is_pending laid_now finds_now
+        (subst (λ (z : State). IsFewer known st z m on (reading (slices_of t x))) here
+        (brings_fewer a x b known st m is_pending damaged t reads stays scan some told lasts free stands rests sound on laid_now
+        (λ k j few. ap (λ (c : Image). c k j) (same_reading t a x orderly fit.1 told lasts reads) ∙ stands.logs k j few)
+        (keeps before stands.stands)))
+        (subst (λ (z : State). AreOfDrives x (seat_by z known) u) here drives)
+        (ap state_in (shown_later a x reads told lasts u drives.orderly drives.inside) ∙ is))

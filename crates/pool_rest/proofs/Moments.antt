@@ -1,0 +1,550 @@
+-- The replayed contents of the drives stay at each moment of a replay that brings no state.
+use Rattle.std.proofs.Common.{◌≡◌, ◌⊎◌, ℕ, ◌+◌, ◌<◌, ◌≤◌, ◌==◌, ◌&&◌, Bool, true, false, nat_le, nat_lt, ltb-true, if◌then◌else◌, List, [], Option, Some, None, unwrap_or, inl, inr, refl, sym, ap, subst, ◌∙◌, lt-ltb, le-ltb, arith}
+use Rattle.std.specs.Option.{option_map_or}
+use Rattle.std.specs.List.{range_with_len}
+use Rattle.std.proofs.lemmas.Bool.{and_from, and_parts, cases_Bool, cases_lt}
+use Rattle.std.proofs.lemmas.Option.{none-some}
+use Rattle.rack.specs.Values.{MayLeave}
+use Rattle.rack.specs.Seen.{Image, Seen, IsLive, IsPick}
+use Rattle.rack.specs.Moments.{Leaves}
+use Rattle.rack.specs.Joins.{leaves_then, leaves_weaker}
+use Rattle.rack.specs.Targets.{look, put}
+use Rattle.slice_rack.specs.Slices.{Slices, IsOrderly, disk_of, first_of, seat_of, sectors_of}
+use Rattle.slice_rack.specs.Sliced.{IsInside, sliced, slices_of}
+use Rattle.slice_rack.specs.Laws.{disk_below, sector_below}
+use Rattle.gpt_table.specs.Changes.{the_table}
+use Rattle.pool_state.specs.declared.contents.State.{State}
+use Rattle.array_image.specs.Arrays.{replayed}
+use Rattle.array_image.specs.Left.{reading}
+use Rattle.array_image.specs.Places.{arrays_first, log_sectors, log_slice, place_of, slice_of}
+use Rattle.array_image.specs.Record.{GateAt, gate_of, gate_sector, pending, pending_at}
+use Rattle.array_image.specs.States.{current_places, is_current, state_in}
+use Rattle.array_image.proofs.Frames.{state_same}
+use Rattle.array_image.proofs.Replays.{SameLogs, replayed_same}
+use Rattle.pool_image.specs.Replay.{Extent, extent_by}
+use Rattle.commit_log.specs.View.{LogView, is_left, left_of, names}
+use Rattle.commit_log.specs.AtRest.{Opened}
+use Rattle.commit_log.specs.Commits.{Stands}
+use Rattle.commit_log.specs.Opening.{CanReplay, Replays, StandsAmid}
+use Rattle.commit_log.specs.Standing.{IsLogPart, StatesStand}
+use Rattle.commit_log.proofs.Amid.{no_gate_in_nothing, replayed_as}
+use Rattle.commit_log.proofs.Fewer.{names_filter}
+use Rattle.commit_log.proofs.Replayable.{opened_can_replay, pending_named}
+use Rattle.commit_log.proofs.Story.{logs_named}
+use Rattle.pool_scan.specs.declared.Known.{Known}
+use Rattle.pool_scan.specs.Choosing.{seat_by}
+use Rattle.pool_scan.proofs.Seated.{seat_by_stands}
+use Rattle.pool_scan.specs.Scanning.{AllTold, IsUnfaulted, now_in}
+use Rattle.pool_rest.specs.Members.{Lies}
+use Rattle.pool_rest.specs.Moments.{AreOfDrives, GivesNow, IsFewer, KeepsReplayed}
+use Rattle.pool_rest.specs.Resting.{AreSingle}
+use Rattle.pool_rest.specs.Standing.{FindsAll, IsLaid, IsLasting}
+use Rattle.pool_rest.proofs.DriveReplays.{closing_logs}
+use Rattle.pool_rest.proofs.Fewer.{finds_fewer}
+use Rattle.pool_rest.proofs.OnDrives.{OnDrives, log_first, past_none, slice_lies, sliced_place}
+
+-- ---- contents of slices
+
+pub sliced_outside : (t : Slices) (i : Image) (k j : ℕ) → sectors_of t k ≤ j → sliced t i k j ≡ []
+sliced_outside t i k j past = ap (λ (b : Bool). if b then i (disk_of t k) (first_of t k + j) else []) (le-ltb j (sectors_of t k) past)
+
+pub sliced_inside : (t : Slices) (i : Image) (k j : ℕ) → j < sectors_of t k → sliced t i k j ≡ i (disk_of t k) (first_of t k + j)
+sliced_inside t i k j low = ap (λ (b : Bool). if b then i (disk_of t k) (first_of t k + j) else []) (lt-ltb j (sectors_of t k) low)
+
+replayed_outside : (sectors : ℕ → ℕ) (c : Image) (k j : ℕ) → sectors k ≤ j → replayed sectors c k j ≡ c k j
+unfolding replayed
+replayed_outside sectors c k j past =
+    ap (λ (b : Bool). if b then unwrap_or (look (pending (option_map_or current_places (state_in c) []) c) k j) (c k j) else c k j) (le-ltb j (sectors k) past)
+
+replayed_sized : (f g : ℕ → ℕ) (c : Image) (k j : ℕ) → f k ≡ g k → replayed f c k j ≡ replayed g c k j
+unfolding replayed
+replayed_sized f g c k j same =
+    ap (λ (n : ℕ). if nat_lt j n then unwrap_or (look (pending (option_map_or current_places (state_in c) []) c) k j) (c k j) else c k j) same
+
+-- a slice that two tables have at the same sectors
+record SameAt (t u : Slices) (k : ℕ) : Type 0 where
+  sectors : sectors_of u k ≡ sectors_of t k
+  first : 0 < sectors_of t k → first_of u k ≡ first_of t k
+  disk : 0 < sectors_of t k → disk_of u k ≡ disk_of t k
+
+same_sliced : (t u : Slices) (i : Image) (k j : ℕ) → SameAt t u k → sliced t i k j ≡ sliced u i k j
+same_sliced t u i k j same = elim (cases_lt j (sectors_of t k)) [
+  | inr past ↦ sliced_outside t i k j past ∙ sym (sliced_outside u i k j (let size = same.sectors in omega (arith, past, size)))
+  | inl low ↦
+      sliced_inside t i k j low
+      ∙ ap (λ d. i d (first_of t k + j)) (sym (same.disk (omega (arith, low))))
+      ∙ ap (λ n. i (disk_of u k) (n + j)) (sym (same.first (omega (arith, low))))
+      ∙ sym (sliced_inside u i k j (let size = same.sectors in omega (arith, low, size)))
+]
+
+same_lies : (t u : Slices) (k : ℕ) (e : Option Extent) → Lies t k e → Lies u k e → disk_of u k ≡ disk_of t k → SameAt t u k
+same_lies t u k e one two disk = record {
+  sectors = two.sectors ∙ sym one.sectors;
+  first = λ some. two.first (let first = one.sectors in let second = two.sectors in omega (arith, some, first, second)) ∙ sym (one.first some);
+  disk = λ some. disk;
+}
+
+-- ---- one replay
+
+module _ {x w y : Seen} {known : List Known} {s : State} {t v : Slices} {on unread closing lost : List ℕ} {l : LogView}
+    (parts : OnDrives x w y known s t v on unread closing lost l) (free : IsUnfaulted x y) (told : AllTold x) (lasts : IsLasting x) (single : AreSingle x)
+    (u : Slices) (of : AreOfDrives x (seat_by s known) u) where
+  -- ---- the slices of the replay are those of the drives
+
+  seats : (p : ℕ) → p < 16 → seat_of v p ≡ seat_of u p
+  seats p few = parts.cut.seats p ∙ parts.laid.seats p few ∙ sym (of.seated p few)
+
+  same_at : (k : ℕ) → k < 272 → (slice_of k ≡ 0) ⊎ (0 < sectors_of u k) → SameAt u v k
+  same_at k few some = by (seat_of u (place_of k)) refl
+    where
+      seat : seat_of v (place_of k) ≡ seat_of u (place_of k)
+      seat = seats (place_of k) (omega (arith, few))
+
+      disk : disk_of v k ≡ disk_of u k
+      disk = ap (λ (o : Option ℕ). unwrap_or o 0) seat
+
+      by : (o : Option ℕ) → seat_of u (place_of k) ≡ o → SameAt u v k
+      by None none =
+          let here = of.orderly.seated k none in
+          let there = parts.orderly.seated k (seat ∙ none) in
+          record { sectors = there ∙ sym here; first = λ more. absurd (omega (arith, more, here)); disk = λ more. disk }
+      by (Some d) is =
+          same_lies u v k (extent_by (x.sectors d) (the_table (x.sectors d) (now_in x d)) (slice_of k))
+          (of.lies k d few is some)
+          (slice_lies parts free k d few (seat ∙ is) (told d (of.inside.seats (place_of k) d is))) disk
+
+  logs_same : (p : ℕ) → SameAt u v (log_slice p)
+  logs_same p = elim (cases_lt p 16) [
+    | inl few ↦ same_at (log_slice p) (omega (arith, few)) (inl (omega arith))
+    | inr past ↦
+        let here = of.beyond (log_slice p) (omega (arith, past)) in
+        let there = past_none parts (log_slice p) (omega (arith, past)) in
+        record { sectors = there ∙ sym here; first = λ more. absurd (omega (arith, more, here)); disk = λ more. absurd (omega (arith, more, here)) }
+  ]
+
+  same_logs : (i : Image) → SameLogs (sliced u i) (sliced v i)
+  same_logs i p j = same_sliced u v i (log_slice p) j (logs_same p)
+
+  few_of : (k j : ℕ) → j < sectors_of u k → k < 272
+  few_of k j low = elim (cases_lt k 272) [ inl few ↦ few | inr past ↦ (let none = of.beyond k past in absurd (omega (arith, low, none))) ]
+
+  -- replayed, they give the same
+  move : (i : Image) (k j : ℕ) → j < sectors_of u k → replayed (sectors_of u) (sliced u i) k j ≡ replayed (sectors_of v) (sliced v i) k j
+  move i k j low =
+      let same = same_at k (few_of k j low) (inr (omega (arith, low))) in
+      replayed_sized (sectors_of u) (sectors_of v) (sliced u i) k j (sym same.sectors)
+      ∙ replayed_same (sectors_of v) (sliced u i) (sliced v i) k j (same_logs i) (same_sliced u v i k j same)
+
+  -- ---- what the drives hold when the replay begins
+
+  told_w : AllTold w
+  told_w d there = parts.reads.stays.told d (told d (subst (λ n. d < n) parts.reads.stays.disks there))
+
+  unspent_w : (d j : ℕ) → w.spent d j ≡ false
+  unspent_w d j = parts.reads.stays.lasts lasts.lasting d j (lasts.unspent d j)
+
+  live_w : (k j : ℕ) → j < sectors_of v k → IsLive (slices_of v w) (slices_of v w) k j
+  live_w k j low = record {
+    disk = elim (cases_lt k 272) [ inl few ↦ few | inr past ↦ (let none = past_none parts k past in absurd (omega (arith, low, none))) ];
+    sector = low;
+    is_told = told_w (disk_of v k) (disk_below v w k j parts.orderly parts.inside low);
+    unspent = unspent_w (disk_of v k) (first_of v k + j);
+  }
+
+  live_x : (d j : ℕ) → d < w.disks → j < w.sectors d → IsLive x w d j
+  live_x d j disk sector = record {
+    disk = disk;
+    sector = sector;
+    is_told = told d (subst (λ n. d < n) parts.reads.stays.disks disk);
+    unspent = unspent_w d j;
+  }
+
+  -- each sector has one value, which no read has changed
+  one_value : (d j : ℕ) (b : List ℕ) → d < w.disks → j < w.sectors d → MayLeave (w.held d j) b → b ≡ (x.held d j).current
+  one_value d j b disk sector may =
+      single d j (subst (λ n. d < n) parts.reads.stays.disks disk) (subst (λ n. j < n) (parts.reads.stays.sectors d) sector) b
+      ((parts.reads.keeps.held d j (live_x d j disk sector)).within b may)
+
+  now_w : (d j : ℕ) → d < w.disks → j < w.sectors d → (w.held d j).current ≡ (x.held d j).current
+  now_w d j disk sector = (parts.reads.keeps.held d j (live_x d j disk sector)).current
+
+  -- the contents that are replayed
+  abbrev held : Image
+  held = sliced v (now_in x)
+
+  stands_held : (c : Image) → Stands (slices_of v w) c → (k j : ℕ) → j < sectors_of v k → c k j ≡ held k j
+  stands_held c stands k j low =
+      one_value (disk_of v k) (first_of v k + j) (c k j) (disk_below v w k j parts.orderly parts.inside low) (sector_below v w k j parts.inside low)
+      (stands.picks k j (live_w k j low))
+      ∙ sym (sliced_inside v (now_in x) k j low)
+
+  amid : (c : Image) → Stands (slices_of v w) c → StandsAmid l.pending (slices_of v w) c
+  amid c stands = record {
+    states = record { picks = λ p live. inl (stands.picks (log_slice p) 0 live); inside = λ p none. stands.inside p 0 (omega (arith, none)) };
+    parts = λ p j some live. stands.picks (log_slice p) j live;
+    inside = stands.inside;
+  }
+
+  -- images that a stop leaves before anything is written
+  early : (i : Image) → ((d j : ℕ) → d < w.disks → j < w.sectors d → i d j ≡ (x.held d j).current) → Stands (slices_of v w) (sliced v i)
+  early i same = record {
+    picks = λ k j live.
+        let disk = disk_below v w k j parts.orderly parts.inside live.sector in
+        let sector = sector_below v w k j parts.inside live.sector in
+        inl (sliced_inside v i k j live.sector ∙ same (disk_of v k) (first_of v k + j) disk sector ∙ sym (now_w (disk_of v k) (first_of v k + j) disk sector));
+    inside = λ p j past. sliced_outside v i (log_slice p) j past;
+  }
+
+  module _ (can : CanReplay l (slices_of v w)) where
+    -- what replaying gives
+    abbrev given : Image
+    given = put (sectors_of v) l.pending held
+
+    before_gives : (c : Image) → Stands (slices_of v w) c → (k j : ℕ) → j < sectors_of v k → replayed (sectors_of v) c k j ≡ given k j
+    before_gives c stands k j low =
+        replayed_as (slices_of v w) c l.pending k j (can.same c (amid c stands))
+        ∙ ap (λ b. if nat_lt j (sectors_of v k) then unwrap_or (look l.pending k j) b else b) (stands_held c stands k j low)
+
+    amid_gives : (c : Image) → Replays (slices_of v w) c → (k j : ℕ) → (IsLogPart k j → ⊥) → j < sectors_of v k → replayed (sectors_of v) c k j ≡ given k j
+    amid_gives c replays k j part low = replays.same k j part ∙ before_gives replays.before replays.stands k j low
+
+    -- what a stop leaves after it
+    after_stands : (i : Image) → ((k j : ℕ) → j < sectors_of v k → MayLeave (y.held (disk_of v k) (first_of v k + j)) (i (disk_of v k) (first_of v k + j)))
+        → Stands (slices_of v y) (sliced v i)
+    after_stands i may = record {
+      picks = λ k j live. subst (MayLeave (y.held (disk_of v k) (first_of v k + j))) (sym (sliced_inside v i k j live.sector)) (may k j live.sector);
+      inside = λ p j past. sliced_outside v i (log_slice p) j past;
+    }
+
+    now_gives : (k j : ℕ) → (IsLogPart k j → ⊥) → j < sectors_of v k → replayed (sectors_of v) (sliced v (now_in y)) k j ≡ given k j
+    now_gives = amid_gives (sliced v (now_in y)) (parts.call.after can (sliced v (now_in y)) (after_stands (now_in y) (λ k j low. inl refl)))
+
+    gives : (i : Image) → ((k j : ℕ) → (IsLogPart k j → ⊥) → j < sectors_of v k → replayed (sectors_of v) (sliced v i) k j ≡ given k j) → GivesNow u y i
+    gives i is k j part = elim (cases_lt j (sectors_of u k)) [
+      | inr past ↦
+          replayed_outside (sectors_of u) (sliced u i) k j past ∙ sliced_outside u i k j past
+          ∙ sym (replayed_outside (sectors_of u) (sliced u (now_in y)) k j past ∙ sliced_outside u (now_in y) k j past)
+      | inl low ↦
+          let size = (same_at k (few_of k j low) (inr (omega (arith, low)))).sectors in
+          let there : j < sectors_of v k = omega (arith, low, size) in
+          move i k j low ∙ is k j part there ∙ sym (now_gives k j part there) ∙ sym (move (now_in y) k j low)
+    ]
+
+    early_gives : (i : Image) → ((d j : ℕ) → d < w.disks → j < w.sectors d → i d j ≡ (x.held d j).current) → GivesNow u y i
+    early_gives i same = gives i (λ k j part low. before_gives (sliced v i) (early i same) k j low)
+
+    picked : (i : Image) → ((d j : ℕ) → d < w.disks → j < w.sectors d → MayLeave (x.held d j) (i d j)) → GivesNow u y i
+    picked i may =
+        early_gives i (λ d j disk sector.
+        single d j (subst (λ n. d < n) parts.reads.stays.disks disk) (subst (λ n. j < n) (parts.reads.stays.sectors d) sector) (i d j) (may d j disk sector))
+
+    during : x.traced → Leaves x y (GivesNow u y)
+    during traced =
+        let stops = parts.apart.stops (parts.reads.stays.traced traced) in
+        leaves_then (GivesNow u y)
+        (leaves_weaker (IsPick x w x.held) (GivesNow u y) (λ i pick. picked i (λ d j disk sector. pick d j (live_x d j disk sector))) (parts.reads.keeps.stops traced))
+        (record {
+          later = stops.later;
+          kept = stops.kept;
+          past = stops.past;
+          new = λ k i since until stop.
+              gives i (amid_gives (sliced v i)
+              ((parts.call.stops (parts.reads.stays.traced traced) can).new k (sliced v i) since until (i, stop, λ d j. refl) (λ p j past. sliced_outside v i (log_slice p) j past)));
+        })
+
+    pub replay_keeps : KeepsReplayed x y u
+    replay_keeps = record {
+      first = λ i pick.
+          picked i (λ d j disk sector.
+          pick d j (record {
+            disk = subst (λ n. d < n) parts.reads.stays.disks disk;
+            sector = subst (λ n. j < n) (parts.reads.stays.sectors d) sector;
+            is_told = told d (subst (λ n. d < n) parts.reads.stays.disks disk);
+            unspent = lasts.unspent d j;
+          }));
+      during = during;
+      last = λ i pick.
+          gives i (amid_gives (sliced v i) (parts.call.after can (sliced v i)
+          (after_stands i (λ k j low.
+          let disk = disk_below v w k j parts.orderly parts.inside low in
+          let sector = sector_below v w k j parts.inside low in
+          let stays = parts.apart.stays in
+          pick (disk_of v k) (first_of v k + j) (record {
+            disk = subst (λ n. disk_of v k < n) (sym stays.disks) disk;
+            sector = subst (λ n. first_of v k + j < n) (sym (stays.sectors (disk_of v k))) sector;
+            is_told = stays.told (disk_of v k) (told_w (disk_of v k) disk);
+            unspent = stays.lasts (parts.reads.stays.lasting lasts.lasting) (disk_of v k) (first_of v k + j) (unspent_w (disk_of v k) (first_of v k + j));
+          })))));
+    }
+
+  -- ---- what the log found is what is replayed
+
+  module _ (t0 : Slices) (on0 : List ℕ) (is_pending : Bool) (orderly0 : IsOrderly t0) (inside0 : IsInside t0 x) (laid : IsLaid x known s t0 on0)
+      (finds : FindsAll x t0 on0 l is_pending None) (none : (p : ℕ) → look l.pending (log_slice p) 0 ≡ None) where
+    -- the log slices that were looked at are those that are replayed
+    logs_at : (p : ℕ) → SameAt t0 v (log_slice p)
+    logs_at p = elim (cases_lt p 16) [
+      | inr past ↦
+          let here = laid.none (log_slice p) (omega (arith, past)) in
+          let there = past_none parts (log_slice p) (omega (arith, past)) in
+          record { sectors = there ∙ sym here; first = λ more. absurd (omega (arith, more, here)); disk = λ more. absurd (omega (arith, more, here)) }
+      | inl few ↦
+          let place : place_of (log_slice p) ≡ p = omega arith in
+          let slice : slice_of (log_slice p) ≡ 0 = omega arith in
+          let low : place_of (log_slice p) < 16 = omega (arith, few, place) in
+          let size = parts.cut.sectors (log_slice p) slice ∙ parts.laid.sectors (log_slice p) low ∙ sym (laid.sectors (log_slice p) (omega (arith, few))) in
+          record {
+            sectors = size;
+            first = λ more.
+                log_first parts (log_slice p) slice (omega (arith, more, size)) ∙ sym (laid.firsts (log_slice p) more);
+            disk = λ more.
+                ap (λ (o : Option ℕ). unwrap_or o 0)
+                (parts.cut.seats (place_of (log_slice p)) ∙ parts.laid.seats (place_of (log_slice p)) low ∙ sym (laid.seats (place_of (log_slice p)) low));
+          }
+    ]
+
+    live_0 : (k j : ℕ) → k < 272 → j < sectors_of t0 k → IsLive (slices_of t0 x) (slices_of t0 x) k j
+    live_0 k j few low = record {
+      disk = few;
+      sector = low;
+      is_told = told (disk_of t0 k) (disk_below t0 x k j orderly0 inside0 low);
+      unspent = lasts.unspent (disk_of t0 k) (first_of t0 k + j);
+    }
+
+    opened : state_in (reading (slices_of t0 x)) ≡ Some s → Opened s s l on0 (slices_of t0 x)
+    opened state = record {
+      rest = record {
+        lasting = lasts.lasting;
+        live = λ k j few low. live_0 k j few low;
+        single = λ p j few low. single (disk_of t0 (log_slice p)) (first_of t0 (log_slice p) + j) (disk_below t0 x (log_slice p) j orderly0 inside0 low) (sector_below t0 x (log_slice p) j inside0 low);
+        state = state;
+        places = laid.places;
+        slices = laid.whole;
+      };
+      is_pending = is_pending;
+      finds = finds;
+      brings = record { copies = λ p b is. absurd (none-some b (sym (none p) ∙ is)); either = inl refl };
+    }
+
+    -- where the calls before have only read, the same can be replayed
+    module _ (can : CanReplay l (slices_of t0 x)) where
+      size_back : (p j : ℕ) → j < sectors_of v (log_slice p) → j < sectors_of t0 (log_slice p)
+      size_back p j low = let size = (logs_at p).sectors in omega (arith, low, size)
+
+      old : (p j : ℕ) (b : List ℕ) → j < sectors_of v (log_slice p) → MayLeave ((slices_of v w).held (log_slice p) j) b → MayLeave ((slices_of t0 x).held (log_slice p) j) b
+      old p j b low may =
+          let same = logs_at p in
+          let some : 0 < sectors_of t0 (log_slice p) = (let back = size_back p j low in omega (arith, back)) in
+          let disk = disk_below v w (log_slice p) j parts.orderly parts.inside low in
+          let sector = sector_below v w (log_slice p) j parts.inside low in
+          subst (λ n. MayLeave (x.held (disk_of t0 (log_slice p)) (n + j)) b) (same.first some)
+          (subst (λ d. MayLeave (x.held d (first_of v (log_slice p) + j)) b) (same.disk some)
+          ((parts.reads.keeps.held (disk_of v (log_slice p)) (first_of v (log_slice p) + j) (live_x (disk_of v (log_slice p)) (first_of v (log_slice p) + j) disk sector)).within b may))
+
+      states : (c : Image) → StatesStand l.pending (slices_of v w) c → StatesStand l.pending (slices_of t0 x) c
+      states c stand = record {
+        picks = λ p live.
+            let size = (logs_at p).sectors in
+            let low : 0 < sectors_of v (log_slice p) = (let some = live.sector in omega (arith, some, size)) in
+            elim (stand.picks p (live_w (log_slice p) 0 low)) [
+              | inl here ↦ inl (old p 0 (c (log_slice p) 0) low here)
+              | inr new ↦ inr new
+            ];
+        inside = λ p nothing. stand.inside p ((logs_at p).sectors ∙ nothing);
+      }
+
+      before : (c : Image) → StandsAmid l.pending (slices_of v w) c → StandsAmid l.pending (slices_of t0 x) c
+      before c is = record {
+        states = states c is.states;
+        parts = λ p j some live.
+            let size = (logs_at p).sectors in
+            let low : j < sectors_of v (log_slice p) = (let inside = live.sector in omega (arith, inside, size)) in
+            old p j (c (log_slice p) j) low (is.parts p j some (live_w (log_slice p) j low));
+        inside = λ p j past. is.inside p j (let size = (logs_at p).sectors in omega (arith, past, size));
+      }
+
+      can_now : CanReplay l (slices_of v w)
+      can_now = record {
+        lasting = parts.reads.stays.lasting lasts.lasting;
+        logs = λ p j few low. live_w (log_slice p) j low;
+        targets = λ k j b is low. live_w k j low;
+        numbers = λ c stand p decides low b may. can.numbers c (states c stand) p decides (size_back p gate_sector low) b (old p gate_sector b low may);
+        same = λ c is. can.same c (before c is);
+        whole = λ c is. can.whole c (before c is);
+        number = λ c is. can.number c (before c is);
+      }
+
+    -- the state's sectors are as they were
+    state_kept : (p : ℕ) → reading (slices_of t0 x) (log_slice p) 0 ≡ sliced u (now_in y) (log_slice p) 0
+    state_kept p = elim (cases_lt 0 (sectors_of v (log_slice p))) [
+      | inr nothing ↦
+          sliced_outside t0 (now_in x) (log_slice p) 0 (let size = (logs_at p).sectors in omega (arith, nothing, size))
+          ∙ sym (sliced_outside u (now_in y) (log_slice p) 0 (let size = (logs_same p).sectors in omega (arith, nothing, size)))
+      | inl some ↦
+          let live = live_w (log_slice p) 0 some in
+          let stays = parts.call.stays in
+          let kept =
+          parts.call.apart (log_slice p) 0
+          (record {
+            disk = live.disk;
+            sector = live.sector;
+            is_told = live.is_told;
+            unspent = stays.lasts (parts.reads.stays.lasting lasts.lasting) (log_slice p) 0 live.unspent;
+          })
+          (λ shutting. let gate = shutting.gate in omega (arith, gate))
+          (none p) in
+          same_sliced t0 v (now_in x) (log_slice p) 0 (logs_at p)
+          ∙ sliced_inside v (now_in x) (log_slice p) 0 some
+          ∙ sym (now_w (disk_of v (log_slice p)) (first_of v (log_slice p) + 0) (disk_below v w (log_slice p) 0 parts.orderly parts.inside some) (sector_below v w (log_slice p) 0 parts.inside some))
+          ∙ sym kept.current
+          ∙ sym (sliced_inside v (now_in y) (log_slice p) 0 some)
+          ∙ sym (same_sliced u v (now_in y) (log_slice p) 0 (logs_same p))
+    ]
+
+    pub found_keeps : state_in (sliced u (now_in y)) ≡ Some s → KeepsReplayed x y u
+    found_keeps state =
+        replay_keeps (can_now (opened_can_replay s s l on0 (slices_of t0 x) (opened (state_same (reading (slices_of t0 x)) (sliced u (now_in y)) state_kept ∙ state))))
+
+  -- ---- a record that brings a state whose places all were current before
+
+  module _ (s0 : State) (t0 : Slices) (on0 : List ℕ) (is_pending : Bool) (laid : IsLaid x known s0 t0 on0) (finds : FindsAll x t0 on0 l is_pending None)
+      (brings : IsFewer known s0 s l on0 (reading (slices_of t0 x))) (state : state_in (sliced u (now_in x)) ≡ Some s0) where
+    -- a place that is replayed has its disk, and is current
+    seat_is : (p : ℕ) → 0 < sectors_of v (log_slice p) → (p < 16) × (is_current s p ≡ true)
+    seat_is p some =
+        let place : place_of (log_slice p) ≡ p = omega arith in
+        let at = sliced_place parts (log_slice p) some in
+        let seat : seat_by s known p ≡ Some (disk_of v (log_slice p)) = ap (seat_by s known) (sym place) ∙ at.1 in
+        let few = at.0 in
+        (omega (arith, few, place), (seat_by_stands s known p (disk_of v (log_slice p)) seat).2)
+
+    there : (p : ℕ) → names on p ≡ true → 0 < sectors_of v (log_slice p)
+    there p named =
+        let test = and_parts (nat_lt p 16) (nat_lt 0 (sectors_of t (log_slice p))) (sym (parts.laid.places p) ∙ named) in
+        subst (λ n. 0 < n) (sym (parts.cut.sectors (log_slice p) (omega arith))) (ltb-true 0 (sectors_of t (log_slice p)) test.1)
+
+    named_there : (p : ℕ) → 0 < sectors_of v (log_slice p) → names on p ≡ true
+    named_there p some =
+        parts.laid.places p
+        ∙ and_from (nat_lt p 16) (nat_lt 0 (sectors_of t (log_slice p))) (lt-ltb p 16 (seat_is p some).0)
+        (lt-ltb 0 (sectors_of t (log_slice p)) (subst (λ n. 0 < n) (parts.cut.sectors (log_slice p) (omega arith)) some))
+
+    -- it had that disk before
+    same_seat : (p : ℕ) → is_current s p ≡ true → seat_by s known p ≡ seat_by s0 known p
+    same_seat p current = brings.seats p (brings.current p current) current
+
+    same_size : (p : ℕ) → p < 16 → is_current s p ≡ true → sectors_of v (log_slice p) ≡ sectors_of t0 (log_slice p)
+    same_size p few current =
+        let place : place_of (log_slice p) ≡ p = omega arith in
+        let low : place_of (log_slice p) < 16 = omega (arith, few, place) in
+        parts.cut.sectors (log_slice p) (omega arith) ∙ parts.laid.sectors (log_slice p) low
+        ∙ ap (λ o. if slice_of (log_slice p) == 0 then option_map_or (λ d. if nat_le arrays_first (x.sectors d) then log_sectors else 0) o 0 else 0)
+        (ap (seat_by s known) place ∙ same_seat p current ∙ ap (seat_by s0 known) (sym place))
+        ∙ sym (laid.sectors (log_slice p) (omega (arith, few)))
+
+    kept_log : (p : ℕ) → names on p ≡ true → SameAt t0 v (log_slice p)
+    kept_log p named =
+        let is = seat_is p (there p named) in
+        let few = is.0 in
+        let size = same_size p few is.1 in
+        let place : place_of (log_slice p) ≡ p = omega arith in
+        let low : place_of (log_slice p) < 16 = omega (arith, few, place) in
+        record {
+          sectors = size;
+          first = λ more. log_first parts (log_slice p) (omega arith) (omega (arith, more, size)) ∙ sym (laid.firsts (log_slice p) more);
+          disk = λ more.
+              ap (λ (o : Option ℕ). unwrap_or o 0)
+              (parts.cut.seats (place_of (log_slice p)) ∙ parts.laid.seats (place_of (log_slice p)) low
+              ∙ (ap (seat_by s known) place ∙ same_seat p is.1 ∙ ap (seat_by s0 known) (sym place)) ∙ sym (laid.seats (place_of (log_slice p)) low));
+        }
+
+    fewer : (p : ℕ) → names on p ≡ true → names on0 p ≡ true
+    fewer p named =
+        let some = there p named in
+        let size = (kept_log p named).sectors in
+        laid.places p
+        ∙ and_from (is_current s0 p) (nat_lt 0 (sectors_of t0 (log_slice p))) (brings.current p (seat_is p some).1)
+        (lt-ltb 0 (sectors_of t0 (log_slice p)) (omega (arith, some, size)))
+
+    few_named : (p : ℕ) → names on0 p ≡ true → p < 16
+    few_named p named = (logs_named (sectors_of t0) on0 p laid.whole named).0
+
+    -- the slices read as before
+    read_x : (k j : ℕ) → reading (slices_of v w) k j ≡ sliced v (now_in x) k j
+    read_x k j = elim (cases_lt j (sectors_of v k)) [
+      | inr past ↦ sliced_outside v (now_in w) k j past ∙ sym (sliced_outside v (now_in x) k j past)
+      | inl low ↦
+          sliced_inside v (now_in w) k j low
+          ∙ now_w (disk_of v k) (first_of v k + j) (disk_below v w k j parts.orderly parts.inside low) (sector_below v w k j parts.inside low)
+          ∙ sym (sliced_inside v (now_in x) k j low)
+    ]
+
+    agree : (p j : ℕ) → names on p ≡ true → 0 < j → j < log_sectors → reading (slices_of v w) (log_slice p) j ≡ reading (slices_of t0 x) (log_slice p) j
+    agree p j named some below = read_x (log_slice p) j ∙ sym (same_sliced t0 v (now_in x) (log_slice p) j (kept_log p named))
+
+    -- the place that the record is read from is replayed too
+    at_kept : names on brings.at.place ≡ true
+    at_kept =
+        let p = brings.at.place in
+        let at = pending_named (left_of on0 []) (reading (slices_of t0 x)) brings.at brings.source in
+        let named : names on0 p ≡ true = left_named (names on0 p) (names_filter (is_left on0 []) (range_with_len 0 16) p at.0).0 in
+        let log = logs_named (sectors_of t0) on0 p laid.whole named in
+        let size = same_size p log.0 brings.left in
+        let full = log.1 in
+        named_there p (omega (arith, size, full))
+      where
+        left_named : (b : Bool) → (b && true) ≡ true → b ≡ true
+        left_named true is = refl
+        left_named false is = is
+
+    places_now : (p : ℕ) → names on p ≡ (is_current s0 p && nat_lt 0 (sectors_of v (log_slice p)))
+    places_now p = elim (cases_lt 0 (sectors_of v (log_slice p))) [
+      | inl some ↦
+          named_there p some
+          ∙ sym (and_from (is_current s0 p) (nat_lt 0 (sectors_of v (log_slice p))) (brings.current p (seat_is p some).1) (lt-ltb 0 (sectors_of v (log_slice p)) some))
+      | inr none ↦ elim (cases_Bool (names on p)) [
+        | inl named ↦ absurd (let some = there p named in omega (arith, some, none))
+        | inr other ↦ other ∙ sym (ap (λ b. is_current s0 p && b) (le-ltb 0 (sectors_of v (log_slice p)) none) ∙ no_other (is_current s0 p))
+      ]
+    ]
+      where
+        no_other : (b : Bool) → (b && false) ≡ false
+        no_other true = refl
+        no_other false = refl
+
+    gate_there : (g : GateAt) → pending_at (current_places s0) (reading (slices_of v w)) ≡ Some g → is_current s g.place ≡ true
+    gate_there g is = elim (cases_lt 0 (sectors_of v (log_slice g.place))) [
+      | inl some ↦ (seat_is g.place some).1
+      | inr none ↦
+          absurd (none-some g.gate
+          (sym (ap gate_of (sliced_outside v (now_in w) (log_slice g.place) gate_sector (omega (arith, none))) ∙ no_gate_in_nothing)
+          ∙ (pending_named (current_places s0) (reading (slices_of v w)) g is).1))
+    ]
+
+    opened_fewer : Opened s0 s l on (slices_of v w)
+    opened_fewer = record {
+      rest = record {
+        lasting = parts.reads.stays.lasting lasts.lasting;
+        live = λ k j few low. live_w k j low;
+        single = λ p j few low b may.
+            let disk = disk_below v w (log_slice p) j parts.orderly parts.inside low in
+            let sector = sector_below v w (log_slice p) j parts.inside low in
+            one_value (disk_of v (log_slice p)) (first_of v (log_slice p) + j) b disk sector may ∙ sym (now_w (disk_of v (log_slice p)) (first_of v (log_slice p) + j) disk sector);
+        state =
+            state_same (reading (slices_of v w)) (sliced u (now_in x)) (λ p. read_x (log_slice p) 0 ∙ sym (same_logs (now_in x) p 0)) ∙ state;
+        places = places_now;
+        slices = closing_logs x w known s t v on unread on parts.laid parts.cut (λ p named. named);
+      };
+      is_pending = is_pending;
+      finds = finds_fewer l on0 on (reading (slices_of t0 x)) (reading (slices_of v w)) is_pending brings.at few_named fewer agree brings.source at_kept finds;
+      brings = record {
+        copies = λ p b is. (p, brings.copies p b is);
+        either = elim brings.next [
+          | inl same ↦ inl same
+          | inr later ↦ inr (record { later = later; current = brings.current; source = gate_there })
+        ];
+      };
+    }
+
+    pub fewer_keeps : KeepsReplayed x y u
+    fewer_keeps = replay_keeps (opened_can_replay s0 s l on (slices_of v w) opened_fewer)

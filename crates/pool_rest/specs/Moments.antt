@@ -1,0 +1,64 @@
+-- What a stop inside a replay leaves, by slices of the drives.
+use Rattle.std.specs.Prelude.{◌≡◌, ◌⊎◌, ℕ, ◌<◌, ◌≤◌, true, List, [], Option, Some, None, Ok}
+use Rattle.rack.specs.Seen.{Image, Seen, IsPick}
+use Rattle.rack.specs.Moments.{Leaves}
+use Rattle.rack.specs.Targets.{look}
+use Rattle.gpt_table.specs.Changes.{the_table}
+use Rattle.slice_rack.specs.Slices.{IsOrderly, Slices, seat_of, sectors_of}
+use Rattle.slice_rack.specs.Sliced.{IsInside, sliced}
+use Rattle.pool_state.specs.declared.contents.State.{State}
+use Rattle.pool_state.specs.Sector.{decoded}
+use Rattle.array_image.specs.Arrays.{replayed}
+use Rattle.array_image.specs.Record.{GateAt, pending_at}
+use Rattle.array_image.specs.States.{is_current}
+use Rattle.array_image.specs.Places.{log_slice, place_of, slice_of}
+use Rattle.pool_image.specs.Disks.{disks_of}
+use Rattle.pool_image.specs.Replay.{Standing, extent_by, standing}
+use Rattle.commit_log.specs.Standing.{IsAlike}
+use Rattle.commit_log.specs.View.{LogView, left_of}
+use Rattle.pool_scan.specs.declared.Known.{Known}
+use Rattle.pool_scan.specs.Choosing.{seat_by}
+use Rattle.pool_scan.specs.Scanning.{now_in}
+use Rattle.pool_rest.specs.Members.{Lies}
+use Rattle.pool_rest.specs.Resting.{seated_state}
+
+-- no target of the pending record is a state's sector
+abbrev pub BringsNoState : Seen → Type 0
+BringsNoState x = (before : Standing) → standing (disks_of x) (now_in x) ≡ Some before → (p : ℕ) → look before.targets (log_slice p) 0 ≡ None
+
+-- no place is current by the state that the pending record brings that wasn't before
+abbrev pub KeepsPlaces : Seen → Type 0
+KeepsPlaces x =
+    (before : Standing) → standing (disks_of x) (now_in x) ≡ Some before → (p : ℕ) → is_current (seated_state before.targets before.state) p ≡ true
+    → is_current before.state p ≡ true
+
+-- The record that a log found on these places brings the state s where s0 stands, or none. Its copies are of s, whose current places all
+-- were current before and keep their disks, that which the record is read from too.
+pub record IsFewer (known : List Known) (s0 s : State) (l : LogView) (on : List ℕ) (c : Image) : Type 0 where
+  pub current : (p : ℕ) → is_current s p ≡ true → is_current s0 p ≡ true
+  pub seats : (p : ℕ) → is_current s0 p ≡ true → is_current s p ≡ true → seat_by s known p ≡ seat_by s0 known p
+  pub copies : (p : ℕ) (u : List ℕ) → look l.pending (log_slice p) 0 ≡ Some u → decoded u ≡ Ok (record { state = s; own = p })
+  pub next : (s ≡ s0) ⊎ (s0.epoch < s.epoch)
+  pub at : GateAt
+  pub source : pending_at (left_of on []) c ≡ Some at
+  pub left : is_current s at.place ≡ true
+
+-- Slices of the drives that are seated so, each where the drive's table has it: all log slices that there are, and any of members.
+pub record AreOfDrives (x : Seen) (seats : ℕ → Option ℕ) (t : Slices) : Type 0 where
+  pub orderly : IsOrderly t
+  pub inside : IsInside t x
+  pub seated : (p : ℕ) → p < 16 → seat_of t p ≡ seats p
+  pub beyond : (k : ℕ) → 272 ≤ k → sectors_of t k ≡ 0
+  pub lies :
+      (k d : ℕ) → k < 272 → seat_of t (place_of k) ≡ Some d → (slice_of k ≡ 0) ⊎ (0 < sectors_of t k)
+      → Lies t k (extent_by (x.sectors d) (the_table (x.sectors d) (now_in x d)) (slice_of k))
+
+-- contents, once the pending record is replayed, give by slices what the disks do now, but for gates and halves of logs
+abbrev pub GivesNow : Slices → Seen → Image → Type 0
+GivesNow t y i = IsAlike (replayed (sectors_of t) (sliced t i)) (replayed (sectors_of t) (sliced t (now_in y)))
+
+-- Calls in which the replayed contents stay: what a stop leaves before them, at each moment and after them gives what the disks do then.
+pub record KeepsReplayed (x y : Seen) (t : Slices) : Type 0 where
+  pub first : (i : Image) → IsPick x x x.held i → GivesNow t y i
+  pub during : x.traced → Leaves x y (GivesNow t y)
+  pub last : (i : Image) → IsPick y y y.held i → GivesNow t y i
