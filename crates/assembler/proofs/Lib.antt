@@ -1,5 +1,6 @@
 mod Amid
 mod Arrays
+mod Before
 mod Copied
 mod Drives
 mod Entry

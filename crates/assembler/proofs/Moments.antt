@@ -88,7 +88,7 @@ module _ (f : Found) (t : Slices) (x : Seen) (checked : Checked) (absent : List 
     own = sound.own n tr made of.truth_is
 
     -- a place that has a disk
-    seated : (p d : ℕ) × (seat_of t p ≡ Some d)
+    pub seated : (p d : ℕ) × (seat_of t p ≡ Some d)
     seated =
         let leads = truth_leads f.state (slices_of f) n tr of.truth_is in
         let here = current_is f.state (slices_of f) n leads.at tr leads.here in

@@ -33,16 +33,16 @@ use Rattle.assembler.proofs.Shows.{few_place, live, now, reads_outside, slice_se
 some_same : {X : Type 0} (a b : X) → Some a ≡ Some b → a ≡ b
 some_same a b same = cc
 
-nothing_decodes : (copy : Copied) → decoded [] ≡ Ok copy → ⊥
+pub nothing_decodes : (copy : Copied) → decoded [] ≡ Ok copy → ⊥
 unfolding number_at bytes_at
 nothing_decodes copy is = none-some copy (ap result_ok is)
 
-ok_of : {X Y : Type 0} (r : Result X Y) (y : X) → result_ok r ≡ Some y → r ≡ Ok y
+pub ok_of : {X Y : Type 0} (r : Result X Y) (y : X) → result_ok r ≡ Some y → r ≡ Ok y
 ok_of (Ok z) y is = cc
 ok_of (Err why) y is = absurd (none-some y is)
 
 -- contents whose copies are all of one state have this state
-state_of_all : (c : Image) (s : State) (one : ℕ) (first : Copied) → one < 16 → copy_in c one ≡ Some first
+pub state_of_all : (c : Image) (s : State) (one : ℕ) (first : Copied) → one < 16 → copy_in c one ≡ Some first
     → ((p : ℕ) (copy : Copied) → p < 16 → copy_in c p ≡ Some copy → copy.state ≡ s) → state_in c ≡ Some s
 unfolding state_in
 state_of_all c s one first few is each = by (foremost epoch_of (map (copy_in c) (range_with_len 0 16))) refl

@@ -12,7 +12,7 @@ use Rattle.pool_image.specs.Drives.{Found, extent_of, found}
 use Rattle.pool_image.specs.Meaning.{Volume, is_member, meaning, refusal_of}
 use Rattle.pool_image.specs.Replay.{Extent, extent_by}
 use Rattle.pool_scan.specs.Scanning.{now_in}
-use Rattle.pool_rest.specs.Moments.{BringsNoState}
+use Rattle.pool_rest.specs.Moments.{BringsNoState, KeepsPlaces}
 use Rattle.pool_rest.specs.Resting.{IsIdle}
 use Rattle.pool_rest.specs.SoundLogs.{HasSoundLogs}
 use Rattle.raid_rack.specs.declared.arrays.RaidRack.{RaidRack}
@@ -53,9 +53,15 @@ HaveSlices f =
     (n p d : ℕ) → n < f.state.made → f.seats p ≡ Some d → is_member f n p ≡ true
     → extent_by (f.disks.sectors d) (f.identities d).table (suc n) ≡ extent_of f (suc n)
 
--- Nothing is pending on the disks of a pool, or a record that writes no state's sector, and its targets land where the pool's slices are.
+-- the drives of a pool have copies of the state that stood before its record was replayed
+abbrev pub HaveStood : Found → Type 0
+HaveStood f =
+    (p d : ℕ) → f.seats p ≡ Some d → (own : ℕ) × ((f.before.identities d).copied ≡ Some (record { state = f.before.state; own = own }))
+
+-- Nothing is pending on the disks of a pool, or a record whose targets land where the pool's slices are. It writes no state's sector, or
+-- else brings a state by which no place is current that wasn't, and the pool's drives have the one that stands.
 abbrev pub MayStop : Seen → Found → Type 0
-MayStop x f = IsIdle x ⊎ (BringsNoState x × HaveSlices f)
+MayStop x f = IsIdle x ⊎ ((BringsNoState x ⊎ (KeepsPlaces x × HaveStood f)) × HaveSlices f)
 
 -- A volume that was opened means what the disks x do: it is the volume of the group of their pool, over the slices of its drives. Marks
 -- alone have come to the pool's state; each array that is ready for the volume is told, and no sector of these is spent.

@@ -1,5 +1,5 @@
 -- What a log finds on fewer places, among which is that from which its record is read.
-use Rattle.std.proofs.Common.{◌≡◌, ◌⊎◌, ℕ, ◌+◌, ◌<◌, ◌≤◌, ◌==◌, ◌&&◌, ◌||◌, not, Bool, true, false, nat_lt, if◌then◌else◌, length, List, [], map, filter, is_some, is_none, Option, Some, None, option_map, inl, inr, refl, sym, ap, subst, ◌∙◌, eq-eqb, lt-ltb, le-ltb, arith}
+use Rattle.std.proofs.Common.{◌≡◌, ℕ, ◌+◌, ◌<◌, ◌≤◌, ◌==◌, ◌&&◌, ◌||◌, not, Bool, true, false, nat_lt, if◌then◌else◌, length, List, [], filter, is_some, is_none, Option, Some, None, option_map, inl, inr, refl, sym, ap, subst, ◌∙◌, eq-eqb, lt-ltb, le-ltb, arith}
 use Rattle.std.specs.List.{range_with_len}
 use Rattle.std.proofs.lemmas.Bool.{both_ways, cases_lt}
 use Rattle.rack.specs.Seen.{Image, Seen}
@@ -8,7 +8,7 @@ use Rattle.slice_rack.specs.Sliced.{slices_of}
 use Rattle.pool_state.specs.declared.contents.State.{State}
 use Rattle.rack.specs.Targets.{Target}
 use Rattle.array_image.specs.Places.{log_sectors, log_slice}
-use Rattle.array_image.specs.Record.{Gate, GateAt, damaged_log, gate_in, gate_of, gate_sector, half_of, is_bad_gate, is_open_if_of, is_there, pending, pending_at, record_in}
+use Rattle.array_image.specs.Record.{Gate, GateAt, damaged_log, gate_in, gate_of, gate_sector, half_of, is_bad_gate, is_open_if_of, is_there, pending_at, record_in}
 use Rattle.array_image.specs.States.{current_places, is_current}
 use Rattle.array_image.specs.Left.{reading}
 use Rattle.pool_scan.specs.declared.Known.{Known}

@@ -1,15 +1,14 @@
 -- Replayed contents stay over the reads round a replay too, and over all of bringing a pool to rest.
-use Rattle.std.proofs.Common.{◌≡◌, ◌≢◌, ◌⊎◌, ℕ, ◌+◌, ◌<◌, ◌≤◌, ◌^◌, Bool, List, [], Option, Some, None, inl, inr, refl, sym, ap, subst, ◌∙◌, arith}
+use Rattle.std.proofs.Common.{◌≡◌, ◌≢◌, ℕ, ◌+◌, ◌<◌, ◌≤◌, ◌^◌, Bool, List, [], Option, Some, None, inl, inr, refl, sym, ap, subst, ◌∙◌}
 use Rattle.std.proofs.lemmas.Bool.{cases_lt}
 use Rattle.rack.specs.Values.{MayLeave}
 use Rattle.rack.specs.Seen.{Image, Seen, IsLive, IsPick, Stays}
-use Rattle.rack.specs.Moments.{Leaves}
 use Rattle.rack.specs.Joins.{leaves_then, leaves_weaker, rose_early, stays_then}
 use Rattle.rack.specs.Sequences.{OnlyReads}
 use Rattle.rack.specs.Targets.{look}
 use Rattle.gpt_table.specs.declared.Table.{Table}
 use Rattle.gpt_table.specs.Changes.{the_table}
-use Rattle.slice_rack.specs.Slices.{Slices, IsOrderly, disk_of, first_of, seat_of, sectors_of}
+use Rattle.slice_rack.specs.Slices.{Slices, IsOrderly, disk_of, first_of, sectors_of}
 use Rattle.slice_rack.specs.Sliced.{IsInside, sliced, slices_of}
 use Rattle.slice_rack.specs.Laws.{disk_below, sector_below}
 use Rattle.slice_rack.specs.Runs.{inside_still}
@@ -33,10 +32,10 @@ use Rattle.pool_rest.specs.Members.{Lies}
 use Rattle.pool_rest.specs.Moments.{AreOfDrives, BringsNoState, GivesNow, IsFewer, KeepsPlaces, KeepsReplayed}
 use Rattle.pool_rest.specs.Resting.{AreSingle, Rests, seated_state}
 use Rattle.pool_rest.specs.SoundLogs.{HasSoundLogs}
-use Rattle.pool_rest.specs.Standing.{FindsAll, HasLooked, IsLaid, IsLasting, IsNewest, StandsAs, since}
+use Rattle.pool_rest.specs.Standing.{FindsAll, HasLooked, IsLaid, IsLasting, StandsAs}
 use Rattle.pool_rest.proofs.Again.{laid_later}
 use Rattle.pool_rest.proofs.Agreeing.{disks_same, lasting_later, reads_agree, told_later}
-use Rattle.pool_rest.proofs.Moments.{sliced_inside, sliced_outside}
+use Rattle.pool_rest.proofs.Sliced.{sliced_inside, sliced_outside}
 use Rattle.pool_rest.proofs.Quiet.{brings_fewer, seats_now, state_still, tables_now, whole_before}
 use Rattle.pool_rest.proofs.Stood.{found_still, same_reading}
 

@@ -14,6 +14,7 @@ mod Agreeing
 mod Again
 mod SameMeaning
 mod Settled
+mod Sliced
 mod Payloads
 mod Refusals
 mod Quiet

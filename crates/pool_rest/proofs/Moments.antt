@@ -1,5 +1,5 @@
 -- The replayed contents of the drives stay at each moment of a replay that brings no state.
-use Rattle.std.proofs.Common.{◌≡◌, ◌⊎◌, ℕ, ◌+◌, ◌<◌, ◌≤◌, ◌==◌, ◌&&◌, Bool, true, false, nat_le, nat_lt, ltb-true, if◌then◌else◌, List, [], Option, Some, None, unwrap_or, inl, inr, refl, sym, ap, subst, ◌∙◌, lt-ltb, le-ltb, arith}
+use Rattle.std.proofs.Common.{◌≡◌, ◌⊎◌, ℕ, ◌+◌, ◌<◌, ◌==◌, ◌&&◌, Bool, true, false, nat_le, nat_lt, ltb-true, if◌then◌else◌, List, [], Option, Some, None, unwrap_or, inl, inr, refl, sym, ap, subst, ◌∙◌, lt-ltb, le-ltb, arith}
 use Rattle.std.specs.Option.{option_map_or}
 use Rattle.std.specs.List.{range_with_len}
 use Rattle.std.proofs.lemmas.Bool.{and_from, and_parts, cases_Bool, cases_lt}
@@ -17,11 +17,11 @@ use Rattle.pool_state.specs.declared.contents.State.{State}
 use Rattle.array_image.specs.Arrays.{replayed}
 use Rattle.array_image.specs.Left.{reading}
 use Rattle.array_image.specs.Places.{arrays_first, log_sectors, log_slice, place_of, slice_of}
-use Rattle.array_image.specs.Record.{GateAt, gate_of, gate_sector, pending, pending_at}
+use Rattle.array_image.specs.Record.{GateAt, gate_of, gate_sector, pending_at}
 use Rattle.array_image.specs.States.{current_places, is_current, state_in}
 use Rattle.array_image.proofs.Frames.{state_same}
 use Rattle.array_image.proofs.Replays.{SameLogs, replayed_same}
-use Rattle.pool_image.specs.Replay.{Extent, extent_by}
+use Rattle.pool_image.specs.Replay.{extent_by}
 use Rattle.commit_log.specs.View.{LogView, is_left, left_of, names}
 use Rattle.commit_log.specs.AtRest.{Opened}
 use Rattle.commit_log.specs.Commits.{Stands}
@@ -35,54 +35,13 @@ use Rattle.pool_scan.specs.declared.Known.{Known}
 use Rattle.pool_scan.specs.Choosing.{seat_by}
 use Rattle.pool_scan.proofs.Seated.{seat_by_stands}
 use Rattle.pool_scan.specs.Scanning.{AllTold, IsUnfaulted, now_in}
-use Rattle.pool_rest.specs.Members.{Lies}
 use Rattle.pool_rest.specs.Moments.{AreOfDrives, GivesNow, IsFewer, KeepsReplayed}
 use Rattle.pool_rest.specs.Resting.{AreSingle}
 use Rattle.pool_rest.specs.Standing.{FindsAll, IsLaid, IsLasting}
 use Rattle.pool_rest.proofs.DriveReplays.{closing_logs}
 use Rattle.pool_rest.proofs.Fewer.{finds_fewer}
+use Rattle.pool_rest.proofs.Sliced.{SameAt, replayed_outside, replayed_sized, same_lies, same_sliced, sliced_inside, sliced_outside, stands_amid}
 use Rattle.pool_rest.proofs.OnDrives.{OnDrives, log_first, past_none, slice_lies, sliced_place}
-
--- ---- contents of slices
-
-pub sliced_outside : (t : Slices) (i : Image) (k j : ℕ) → sectors_of t k ≤ j → sliced t i k j ≡ []
-sliced_outside t i k j past = ap (λ (b : Bool). if b then i (disk_of t k) (first_of t k + j) else []) (le-ltb j (sectors_of t k) past)
-
-pub sliced_inside : (t : Slices) (i : Image) (k j : ℕ) → j < sectors_of t k → sliced t i k j ≡ i (disk_of t k) (first_of t k + j)
-sliced_inside t i k j low = ap (λ (b : Bool). if b then i (disk_of t k) (first_of t k + j) else []) (lt-ltb j (sectors_of t k) low)
-
-replayed_outside : (sectors : ℕ → ℕ) (c : Image) (k j : ℕ) → sectors k ≤ j → replayed sectors c k j ≡ c k j
-unfolding replayed
-replayed_outside sectors c k j past =
-    ap (λ (b : Bool). if b then unwrap_or (look (pending (option_map_or current_places (state_in c) []) c) k j) (c k j) else c k j) (le-ltb j (sectors k) past)
-
-replayed_sized : (f g : ℕ → ℕ) (c : Image) (k j : ℕ) → f k ≡ g k → replayed f c k j ≡ replayed g c k j
-unfolding replayed
-replayed_sized f g c k j same =
-    ap (λ (n : ℕ). if nat_lt j n then unwrap_or (look (pending (option_map_or current_places (state_in c) []) c) k j) (c k j) else c k j) same
-
--- a slice that two tables have at the same sectors
-record SameAt (t u : Slices) (k : ℕ) : Type 0 where
-  sectors : sectors_of u k ≡ sectors_of t k
-  first : 0 < sectors_of t k → first_of u k ≡ first_of t k
-  disk : 0 < sectors_of t k → disk_of u k ≡ disk_of t k
-
-same_sliced : (t u : Slices) (i : Image) (k j : ℕ) → SameAt t u k → sliced t i k j ≡ sliced u i k j
-same_sliced t u i k j same = elim (cases_lt j (sectors_of t k)) [
-  | inr past ↦ sliced_outside t i k j past ∙ sym (sliced_outside u i k j (let size = same.sectors in omega (arith, past, size)))
-  | inl low ↦
-      sliced_inside t i k j low
-      ∙ ap (λ d. i d (first_of t k + j)) (sym (same.disk (omega (arith, low))))
-      ∙ ap (λ n. i (disk_of u k) (n + j)) (sym (same.first (omega (arith, low))))
-      ∙ sym (sliced_inside u i k j (let size = same.sectors in omega (arith, low, size)))
-]
-
-same_lies : (t u : Slices) (k : ℕ) (e : Option Extent) → Lies t k e → Lies u k e → disk_of u k ≡ disk_of t k → SameAt t u k
-same_lies t u k e one two disk = record {
-  sectors = two.sectors ∙ sym one.sectors;
-  first = λ some. two.first (let first = one.sectors in let second = two.sectors in omega (arith, some, first, second)) ∙ sym (one.first some);
-  disk = λ some. disk;
-}
 
 -- ---- one replay
 
@@ -178,13 +137,6 @@ module _ {x w y : Seen} {known : List Known} {s : State} {t v : Slices} {on unre
       (stands.picks k j (live_w k j low))
       ∙ sym (sliced_inside v (now_in x) k j low)
 
-  amid : (c : Image) → Stands (slices_of v w) c → StandsAmid l.pending (slices_of v w) c
-  amid c stands = record {
-    states = record { picks = λ p live. inl (stands.picks (log_slice p) 0 live); inside = λ p none. stands.inside p 0 (omega (arith, none)) };
-    parts = λ p j some live. stands.picks (log_slice p) j live;
-    inside = stands.inside;
-  }
-
   -- images that a stop leaves before anything is written
   early : (i : Image) → ((d j : ℕ) → d < w.disks → j < w.sectors d → i d j ≡ (x.held d j).current) → Stands (slices_of v w) (sliced v i)
   early i same = record {
@@ -202,7 +154,7 @@ module _ {x w y : Seen} {known : List Known} {s : State} {t v : Slices} {on unre
 
     before_gives : (c : Image) → Stands (slices_of v w) c → (k j : ℕ) → j < sectors_of v k → replayed (sectors_of v) c k j ≡ given k j
     before_gives c stands k j low =
-        replayed_as (slices_of v w) c l.pending k j (can.same c (amid c stands))
+        replayed_as (slices_of v w) c l.pending k j (can.same c (stands_amid l.pending (slices_of v w) c stands))
         ∙ ap (λ b. if nat_lt j (sectors_of v k) then unwrap_or (look l.pending k j) b else b) (stands_held c stands k j low)
 
     amid_gives : (c : Image) → Replays (slices_of v w) c → (k j : ℕ) → (IsLogPart k j → ⊥) → j < sectors_of v k → replayed (sectors_of v) c k j ≡ given k j
@@ -487,15 +439,11 @@ module _ {x w y : Seen} {known : List Known} {s : State} {t v : Slices} {on unre
     at_kept =
         let p = brings.at.place in
         let at = pending_named (left_of on0 []) (reading (slices_of t0 x)) brings.at brings.source in
-        let named : names on0 p ≡ true = left_named (names on0 p) (names_filter (is_left on0 []) (range_with_len 0 16) p at.0).0 in
+        let named : names on0 p ≡ true = (and_parts (names on0 p) true (names_filter (is_left on0 []) (range_with_len 0 16) p at.0).0).0 in
         let log = logs_named (sectors_of t0) on0 p laid.whole named in
         let size = same_size p log.0 brings.left in
         let full = log.1 in
         named_there p (omega (arith, size, full))
-      where
-        left_named : (b : Bool) → (b && true) ≡ true → b ≡ true
-        left_named true is = refl
-        left_named false is = is
 
     places_now : (p : ℕ) → names on p ≡ (is_current s0 p && nat_lt 0 (sectors_of v (log_slice p)))
     places_now p = elim (cases_lt 0 (sectors_of v (log_slice p))) [

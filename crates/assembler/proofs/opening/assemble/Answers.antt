@@ -18,7 +18,7 @@ use Rattle.lvm_group.specs.Volume.{below_of as rack_in, linear, seqno_of}
 use Rattle.pool_image.specs.Meaning.{Volume, arrays_held, bad_volume, joined_arrays, volume_by}
 use Rattle.pool_image.specs.Volumes.{linear_of}
 use Rattle.pool_scan.specs.Scanning.{IsUnfaulted, now_in}
-use Rattle.pool_rest.specs.Moments.{GivesNow}
+use Rattle.pool_rest.specs.Moments.{GivesNow, KeepsReplayed}
 use Rattle.pool_rest.proofs.Keeping.{inside_before}
 use Rattle.pool_scan.proofs.Valid.{valid_arrays}
 use Rattle.raid_rack.specs.Book.{IsAfter, after_then}
@@ -34,9 +34,10 @@ use Rattle.assembler.proofs.Entry.{meaning_entry, quiet_first, quiet_last, refus
 use Rattle.assembler.proofs.Leaving.{IsAsRead, opening_leaves}
 use Rattle.assembler.proofs.Marks.{marks_still}
 use Rattle.assembler.proofs.Meaning.{check_fails, check_passes}
+use Rattle.assembler.proofs.Before.{stood_state}
 use Rattle.assembler.proofs.Mended.{opening_settled}
-use Rattle.assembler.proofs.Moments.{read_replays, read_state, reads_leave}
-use Rattle.assembler.proofs.Shows.{none_past}
+use Rattle.assembler.proofs.Moments.{read_replays, read_state, reads_leave, seated}
+use Rattle.assembler.proofs.Shows.{few_place, none_past}
 use Rattle.assembler.proofs.Tables.{have_same, of_drives}
 use Rattle.assembler.proofs.Volumes.{live_later, volume_opened, volume_refused}
 use Rattle.assembler.proofs.Lies.{slices_lie, slices_same, volume_same}
@@ -139,16 +140,26 @@ returns-in-Ok-open_volume-clause-meant g c e sound quiet =
                 let stands : state_in (sliced t (now_in x)) ≡ Some rest.state =
                 read_state f t y m.checked m.absent.items m.slices.orderly now checked.0.steady on checked.1 checked.0.sound 0 some m.log rests (sliced t (now_in x)) still
                 ∙ ap Some (state ∙ c.in-Ok-check.ensures.state) in
-                let keeps = c.in-Ok.ensures.keeps sound.steady.told sound.steady.lasts to_x sound.logs pending.0 sound.steady.single t of stands in
+                let keeps : KeepsReplayed a x t =
+                elim pending.0 [
+                  | inl none ↦ c.in-Ok.ensures.keeps sound.steady.told sound.steady.lasts to_x sound.logs none sound.steady.single t of stands
+                  | inr fewer ↦
+                      let one = seated f t y m.checked m.absent.items m.slices.orderly now checked.0.steady on checked.1 checked.0.sound 0 some in
+                      let low = few_place f t y m.checked m.absent.items m.slices.orderly now checked.0.steady on checked.1.opened one.0 (now.current one.0 one.1 one.2) in
+                      c.in-Ok.ensures.fewer sound.steady.told sound.steady.lasts to_x sound.logs fewer.0 sound.steady.single t of
+                      (λ before is.
+                      stood_state a e sound.found_is fewer.1 t m.slices.orderly (inside_before t a y (stays_then ax xy) members.fit.1) (λ p. lie.seats p ∙ same.seats p)
+                      now.logs now.firsts before is one.0 one.1 low one.2)
+                ] in
                 leaves_then IsRead
                 (leaves_weaker (GivesNow t x) IsRead (λ i gives j k part. gives j k part ∙ read (now_in x) still j k part) (keeps.during traced))
                 (leaves_weaker (IsPick x y x.held) IsRead (λ i pick. read i (reads_leave t x y m.slices.orderly members.fit.1 only found.steady i pick)) (only.keeps.stops (ax.traced traced)))
           ] in
           let later = xy.traced (ax.traced traced) in
           opening_leaves f t y m.checked m.absent.items m.slices.orderly now checked.0.steady on checked.1 checked.0.sound m.log rests
-          seen g.R.Rack.runs a raid (rack_in volume) (linear volume) (seqno_of volume) held.0 (IsSliced t) (IsSliced (tables (slices_in raid)))
+          seen g.R.Rack.runs a raid (rack_in volume) (linear volume) (seqno_of volume) held.0 _ (IsSliced (tables (slices_in raid)))
           early arrays ((c.make_rack.ensures.marks from_y).live (runs_unused seen g.R.Rack.runs raid (rack_in volume) opens.kept opens.unused)) alive
-          c.make_rack.ensures.runs.tables (c.make_rack.ensures.runs.apart members.fit.0 members.fit.1) later
+          c.make_rack.ensures.tables c.make_rack.ensures.only later
           opens volume.orderly c.in-Ok-open_volume.ensures.fit.1 (opens.kept.0.apart inside.0 inside.1) (yz.traced later);
     }
 
