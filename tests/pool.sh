@@ -100,6 +100,36 @@ for gone in first second third; do
   serve "$gone is missing from then on" 0 "read 0\nlose $place\n" 'data 72\nrefused no-such-drive\n' first second third
 done
 
+# Bytes that are imported and exported, also without one drive.
+make 'imported' 20480 88064 88064 98304
+{ head -c 3000000 /dev/urandom; printf x; } >bytes
+{ cat bytes; head -c $((512 * 20480 - 3000001)) /dev/zero; } >volume
+serve 'a volume that was written' 0 'fill 5859 1 5a\nfill 20479 1 5a\n' 'ok\nok\n' first second third
+cp bytes script
+check 'an import' 0 'imported 3000001\n' import third first second
+serve 'the rest of its last sector is zeros' 0 "read 5859\nwrite 20479 00\n" \
+  "data $(tail -c +$((512 * 5859 + 1)) bytes | od -An -v -tx1 | tr -d ' \n')\nok\n" first second third
+cp first second third kept
+for gone in first second third; do
+  cp kept/* .
+  rm $gone
+  left=(first second third)
+  for place in 0 1 2; do
+    [ "${left[place]}" != $gone ] || { unset "left[place]"; break; }
+  done
+  "$tool" export "${left[@]}" </dev/null >exported
+  expect "exported without $gone" cmp volume exported
+done
+head -c $((512 * 20480)) /dev/urandom >volume
+cp volume script
+check 'an import as long as the volume' 0 "imported $((512 * 20480))\n" import "${left[@]}"
+echo >>script
+check 'a longer one' 6 'refused long\n' import "${left[@]}"
+"$tool" export "${left[@]}" </dev/null >exported
+expect 'has written all that fits' cmp volume exported
+truncate -s 0 script
+check 'an import of nothing' 0 'imported 0\n' import "${left[@]}"
+
 # Drives that are lost while they are served.
 make 'lost drives' "${three[@]}"
 serve 'a drive is lost' 0 "$writes${reads}lose 3\nlose 1\nlose 1\n$reads" \

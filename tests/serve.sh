@@ -133,7 +133,7 @@ check 'an empty name' 2 'refused words\n' serve '' second
 check 'create of nothing' 2 'refused words\n' create
 check 'create of no names' 2 'refused words\n' create 128
 check 'create with an extent of 64 sectors' 2 'refused words\n' create 64 first second
-for form in import export status 'trial 7'; do
+for form in status 'trial 7'; do
   check "a form that is not built: $form" 6 'refused unbuilt\n' $form first second
 done
 check 'import of nothing' 2 'refused words\n' import

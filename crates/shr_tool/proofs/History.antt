@@ -151,7 +151,7 @@ ran_before x y z events a ran passes =
     (ran.timeline a)
 
 -- nothing is done yet
-ran_none : (x : View) → (volume x).fit → Ran x x []
+pub ran_none : (x : View) → (volume x).fit → Ran x x []
 ran_none x fit = record { passes = passes_same x fit; holds = λ a holds. holds; timeline = λ a. refl }
 
 -- one event more

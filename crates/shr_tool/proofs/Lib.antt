@@ -1,14 +1,17 @@
 mod Attached
 mod Examined
+mod Exported
 mod Filled
 mod Finishing
 mod FormLemmas
 mod History
+mod Imported
 mod Joined
 mod LayoutLemmas
 mod Limits
 mod Meanings
 mod Performing
+mod Pieces
 mod Putting
 mod Stopping
 mod Through

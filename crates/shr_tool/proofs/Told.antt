@@ -1,11 +1,16 @@
--- How a script came out, where the array is told for another reason.
+-- How a task came out, where the array is told for another reason.
 use Rattle.std.proofs.Common.{◌≡◌, ℕ, List, [], ◌∷◌}
 use Rattle.rack.specs.Seen.{Image, Seen}
 use Rattle.flat_array.specs.Array.{FlatArray}
+use Rattle.shr_tool.specs.declared.opening.Task.{Task}
+use Rattle.shr_tool.specs.declared.opening.Task.TheVariants.{Serve, Import, Export}
 use Rattle.shr_tool.specs.declared.status.Status.{Status}
 use Rattle.shr_tool.specs.declared.status.Status.TheVariants.{Done, Words, Limit, Source, Sink, Refused, Memory, Spent}
 use Rattle.shr_tool.specs.Events.{Event, becomes}
+use Rattle.shr_tool.specs.Exporting.{ExportOutcome}
+use Rattle.shr_tool.specs.Importing.{ImportOutcome}
 use Rattle.shr_tool.specs.Outcome.{EndsAt, Lasts, Outcome}
+use Rattle.shr_tool.specs.Tasks.{TaskOutcome}
 use Rattle.shr_tool.specs.Timeline.{Ground, Moment, Happens, Timeline}
 
 happens_for :
@@ -55,7 +60,7 @@ lasts_for T U S R y g from a events told traced lasts = record {
 }
 
 -- the same run, told where the array is told
-pub outcome_for :
+outcome_for :
     (status : Status) (T U S R : Type 0) (y : Seen) (g : Ground) (from : Moment) (a : FlatArray) (text rest out out' : List ℕ)
     → (U → T) → (R → S) → Outcome status T S y g from a text rest out out' → Outcome status U R y g from a text rest out out'
 outcome_for Done T U S R y g from a text rest out out' told traced o = record {
@@ -98,3 +103,49 @@ outcome_for Spent T U S R y g from a text rest out out' told traced o = record {
   put = λ is. o.put (told is);
   lasts = lasts_for T U S R y g from a o.events told traced o.lasts;
 }
+
+export_for :
+    (status : Status) (T U S R : Type 0) (y : Seen) (g : Ground) (from : Moment) (a : FlatArray) (out out' : List ℕ)
+    → (U → T) → (R → S) → ExportOutcome status T S y g from a out out' → ExportOutcome status U R y g from a out out'
+export_for Done T U S R y g from a out out' told traced o =
+    record { put = λ is. o.put (told is); lasts = lasts_for T U S R y g from a _ told traced o.lasts }
+export_for Words T U S R y g from a out out' told traced o = absurd o
+export_for Limit T U S R y g from a out out' told traced o = absurd o
+export_for Source T U S R y g from a out out' told traced o = absurd o
+export_for Sink T U S R y g from a out out' told traced o = record {
+  sector = o.sector;
+  inside = o.inside;
+  put = λ is. o.put (told is);
+  lasts = lasts_for T U S R y g from a _ told traced o.lasts;
+}
+export_for Refused T U S R y g from a out out' told traced o = absurd o
+export_for Memory T U S R y g from a out out' told traced o = absurd o
+export_for Spent T U S R y g from a out out' told traced o = record {
+  sector = o.sector;
+  inside = o.inside;
+  put = λ is. o.put (told is);
+  lasts = lasts_for T U S R y g from a _ told traced o.lasts;
+}
+
+import_for :
+    (status : Status) (T U S R : Type 0) (y : Seen) (g : Ground) (from : Moment) (a : FlatArray) (text rest out out' : List ℕ)
+    → (U → T) → (R → S) → ImportOutcome status T S y g from a text rest out out' → ImportOutcome status U R y g from a text rest out out'
+import_for status T U S R y g from a text rest out out' told traced o = record {
+  result = o.result;
+  events = o.events;
+  writes = o.writes;
+  most = o.most;
+  lasts = lasts_for T U S R y g from a o.events told traced o.lasts;
+  says = o.says;
+}
+
+-- the same task, told where the array is told
+pub task_for :
+    (task : Task) (status : Status) (T U S R : Type 0) (y : Seen) (g : Ground) (from : Moment) (a : FlatArray) (text rest out out' : List ℕ)
+    → (U → T) → (R → S) → TaskOutcome task status T S y g from a text rest out out' → TaskOutcome task status U R y g from a text rest out out'
+task_for Serve status T U S R y g from a text rest out out' told traced o =
+    outcome_for status T U S R y g from a text rest out out' told traced o
+task_for Import status T U S R y g from a text rest out out' told traced o =
+    import_for status T U S R y g from a text rest out out' told traced o
+task_for Export status T U S R y g from a text rest out out' told traced o =
+    export_for status T U S R y g from a out out' told traced o

@@ -8,8 +8,8 @@ abbrev pub is_built : Form → Bool
 is_built (Layout request) = true
 is_built (Create extent) = true
 is_built Serve = true
-is_built Import = false
-is_built Export = false
+is_built Import = true
+is_built Export = true
 is_built Status = false
 is_built Examine = true
 is_built (Trial seed) = false
@@ -20,8 +20,20 @@ uses_disks None = false
 uses_disks (Some (Layout request)) = false
 uses_disks (Some (Create extent)) = true
 uses_disks (Some Serve) = true
-uses_disks (Some Import) = false
-uses_disks (Some Export) = false
+uses_disks (Some Import) = true
+uses_disks (Some Export) = true
 uses_disks (Some Status) = false
 uses_disks (Some Examine) = true
 uses_disks (Some (Trial seed)) = false
+
+-- the words that read the input
+abbrev pub reads_input : Option Form → Bool
+reads_input None = false
+reads_input (Some (Layout request)) = false
+reads_input (Some (Create extent)) = false
+reads_input (Some Serve) = true
+reads_input (Some Import) = true
+reads_input (Some Export) = false
+reads_input (Some Status) = false
+reads_input (Some Examine) = false
+reads_input (Some (Trial seed)) = false

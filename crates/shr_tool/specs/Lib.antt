@@ -7,6 +7,9 @@ pub mod Forms
 pub mod StatusCode
 pub mod Saying
 pub mod Outcome
+pub mod Importing
+pub mod Exporting
+pub mod Tasks
 pub mod Entry
 pub mod Attaching
 pub mod Refusing

@@ -9,8 +9,9 @@ use Rattle.shr_script.specs.Reply.{as_line, refused_line}
 use Rattle.pool_format.specs.declared.Birth.{Birth}
 use Rattle.pool_format.specs.declared.formatting.CreateFault.{CreateFault}
 use Rattle.pool_format.specs.declared.formatting.CreateFault.TheVariants.{Layout, Gone, Memory}
-use Rattle.pool_format.specs.Format.{IsGivenBack, IsMade}
+use Rattle.pool_format.specs.Format.{IsGivenBack}
 use Rattle.pool_format.specs.Plan.{IsUnplanned, units_on}
+use Rattle.pool.specs.Made.{IsSoundlyMade}
 use Rattle.shr_tool.specs.declared.status.Status.{Status}
 use Rattle.shr_tool.specs.declared.status.Status.TheVariants.{Done}
 use Rattle.shr_tool.specs.Refusing.{fault_words, fault_status}
@@ -42,7 +43,7 @@ pub record MadeOn {R : Type 0} (seen : R → Seen) (runs : R → R → Type 0) (
   pub kept : runs bay made × runs made after
   pub arrays : Arrays
   pub ground : Ground
-  pub is_made : IsMade (seen bay) (seen made) extent birth arrays ground.linear
+  pub is_made : IsSoundlyMade (seen bay) (seen made) extent birth arrays ground.linear
   pub apart : WritesOnly (seen made) (seen after) (IsSliced ground.slices)
   pub says : Says Done (created_line (sectors_in ground.linear)) out out' status
 

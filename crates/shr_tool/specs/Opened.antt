@@ -1,4 +1,4 @@
--- How the opening of a pool on attached disks, and the script on it, came out.
+-- How the opening of a pool on attached disks, and the task on it, came out.
 use Rattle.std.specs.Prelude.{◌≡◌, ◌≢◌, ◌⊎◌, ◌&&◌, ◌<◌, ℕ, true, is_some, List, [], ◌∷◌, Some}
 use Rattle.rack.specs.Seen.{Seen}
 use Rattle.rack.specs.Moments.{Leaves}
@@ -22,10 +22,11 @@ use Rattle.assembler.specs.Sound.{AreSlicesOf, HoldSound, IsMeantRefusal, MaySto
 use Rattle.assembler.specs.Volume.{AllLive, IsVolumeOf}
 use Rattle.assembler.specs.Writing.{WritesPool}
 use Rattle.shr_script.specs.Reply.{refused_line}
+use Rattle.shr_tool.specs.declared.opening.Task.{Task}
 use Rattle.shr_tool.specs.declared.status.Status.{Status}
-use Rattle.shr_tool.specs.Outcome.{Outcome}
 use Rattle.shr_tool.specs.Refusing.{refusal_words, refusal_status}
 use Rattle.shr_tool.specs.Saying.{Says}
+use Rattle.shr_tool.specs.Tasks.{TaskOutcome}
 use Rattle.shr_tool.specs.Timeline.{Ground, MeansAt, Moment}
 
 -- The pool of attached disks can't be opened. Until its drives have passed their checks nothing is written but the pending record, on
@@ -59,8 +60,8 @@ pub record IsMeant (x opened : Seen) (a : FlatArray) : Type 0 where
   pub meant : meaning (disks_of x) (now_in x) ≡ Some (volume ∷ [])
   pub array : a ≡ fresh volume.sectors volume.contents
 
--- The pool of attached disks was opened, and the script answered on it and ended. `opened` is the bay after the opening.
-pub record OpenedOn {R : Type 0} (seen : R → Seen) (runs : R → R → Type 0) (bay after : R) (text rest out out' : List ℕ) (status : Status) : Type 0 where
+-- The pool of attached disks was opened, the task done on it, and the pool ended. `opened` is the bay after the opening.
+pub record OpenedOn {R : Type 0} (seen : R → Seen) (runs : R → R → Type 0) (bay after : R) (task : Task) (text rest out out' : List ℕ) (status : Status) : Type 0 where
   pub opened : R
   pub kept : runs bay opened × runs opened after
   -- in the opening drives alone are written: in their log slices, in the arrays' part, and in their partition tables
@@ -80,12 +81,12 @@ pub record OpenedOn {R : Type 0} (seen : R → Seen) (runs : R → R → Type 0)
       → Leaves (seen bay) (seen opened) (MeansAt ground from a)
   -- from then on, sectors of slices alone
   pub apart : WritesOnly (seen opened) (seen after) (IsSliced ground.slices)
-  -- the script, from the volume that the disks meant
+  -- the task, from the volume that the disks meant
   pub outcome :
       (a : FlatArray)
-      → Outcome status (IsMeant (seen bay) (seen opened) a) (seen bay).traced (seen after) ground from a text rest out out'
+      → TaskOutcome task status (IsMeant (seen bay) (seen opened) a) (seen bay).traced (seen after) ground from a text rest out out'
 
 -- how it came out
-abbrev pub OpenOutcome : {R : Type 0} → (R → Seen) → (R → R → Type 0) → R → R → List ℕ → List ℕ → List ℕ → List ℕ → Status → Type 0
-OpenOutcome seen runs bay after text rest out out' status =
-    NotOpened seen runs bay after out out' status ⊎ OpenedOn seen runs bay after text rest out out' status
+abbrev pub OpenOutcome : {R : Type 0} → (R → Seen) → (R → R → Type 0) → R → R → Task → List ℕ → List ℕ → List ℕ → List ℕ → Status → Type 0
+OpenOutcome seen runs bay after task text rest out out' status =
+    NotOpened seen runs bay after out out' status ⊎ OpenedOn seen runs bay after task text rest out out' status

@@ -1,4 +1,4 @@
--- How `serve` and `create` come out, over the bay at entry.
+-- How a task on a pool and `create` come out, over the bay at entry.
 use Rattle.std.specs.Prelude.{◌≡◌, ℕ, List, ◌++◌, codes, decimal, take}
 use Rattle.rack.specs.declared.AttachFault.{AttachFault}
 use Rattle.rack.specs.declared.AttachFault.TheVariants.{Failed, Twice, Memory as NoRoom}
@@ -6,6 +6,7 @@ use Rattle.rack.specs.Seen.{Seen}
 use Rattle.rack.specs.Shelf.{Shelf}
 use Rattle.shr_script.specs.Reply.{refused_line}
 use Rattle.pool_format.specs.declared.Birth.{Birth}
+use Rattle.shr_tool.specs.declared.opening.Task.{Task}
 use Rattle.shr_tool.specs.declared.status.Status.{Status}
 use Rattle.shr_tool.specs.declared.status.Status.TheVariants.{Refused, Memory}
 use Rattle.shr_tool.specs.Attaching.{AreAttached, IsUnattached}
@@ -36,15 +37,15 @@ pub record OnDisks {B : Type 0} (seen : B → Seen) (shelf : B → Shelf) (bay :
   pub are : AreAttached (seen bay) (seen attached) (shelf bay) (shelf attached) names
   pub outcome : P attached
 
--- how `serve` came out
-pub data ServeOutcome {B : Type 0} (seen : B → Seen) (shelf : B → Shelf) (runs : B → B → Type 0) (bay after : B) (names : List (List ℕ)) (text rest out out' : List ℕ) (status : Status)
+-- how `serve`, `import` or `export` came out
+pub data PoolOutcome {B : Type 0} (seen : B → Seen) (shelf : B → Shelf) (runs : B → B → Type 0) (bay after : B) (task : Task) (names : List (List ℕ)) (text rest out out' : List ℕ) (status : Status)
     : Type 0 where
-  name_refused : NameRefused (seen bay) (seen after) (shelf bay) (shelf after) names out out' status → ServeOutcome seen shelf runs bay after names text rest out out' status
+  name_refused : NameRefused (seen bay) (seen after) (shelf bay) (shelf after) names out out' status → PoolOutcome seen shelf runs bay after task names text rest out out' status
   -- to read the words, before anything was called
-  no_memory : after ≡ bay → Says Memory (refused_line (codes "memory")) out out' status → ServeOutcome seen shelf runs bay after names text rest out out' status
+  no_memory : after ≡ bay → Says Memory (refused_line (codes "memory")) out out' status → PoolOutcome seen shelf runs bay after task names text rest out out' status
   on_disks :
-      OnDisks seen shelf bay names (λ attached. OpenOutcome seen runs attached after text rest out out' status)
-      → ServeOutcome seen shelf runs bay after names text rest out out' status
+      OnDisks seen shelf bay names (λ attached. OpenOutcome seen runs attached after task text rest out out' status)
+      → PoolOutcome seen shelf runs bay after task names text rest out out' status
 
 -- how `create` came out
 pub data CreateOutcome {B : Type 0} (seen : B → Seen) (shelf : B → Shelf) (runs : B → B → Type 0) (bay after : B) (names : List (List ℕ)) (extent : ℕ) (birth : Birth) (out out' : List ℕ) (status : Status)

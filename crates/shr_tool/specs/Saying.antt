@@ -22,4 +22,4 @@ IsSaid Source = ⊥
 IsSaid Sink = ⊥
 IsSaid Refused = Unit {0}
 IsSaid Memory = Unit {0}
-IsSaid Spent = ⊥
+IsSaid Spent = Unit {0}

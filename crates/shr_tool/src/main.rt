@@ -6,6 +6,8 @@
 
 mod attaching;
 mod examining;
+mod exporting;
+mod importing;
 mod layout;
 mod making;
 mod opening;

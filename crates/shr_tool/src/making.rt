@@ -3,19 +3,16 @@
 ghost use Rattle.std.specs.Prelude.{◌≡◌, ◌≢◌, ◌≤◌, map, string_bytes, true};
 ghost use Rattle.pool_state.specs.Valid.{is_extent};
 ghost use Rattle.shr_tool.specs.Outcome.{HasStatusCause};
-ghost use Rattle.shr_tool.specs.Made.{MakeOutcome, created_line};
+ghost use Rattle.shr_tool.specs.Made.{MakeOutcome};
 ghost use Rattle.shr_tool.specs.Run.{CreateOutcome};
-ghost use Rattle.shr_tool.specs.Saying.{Says};
 
 use crate::attaching::{attach_all, refuse_name};
 use crate::refusals::refuse_create;
-use crate::saying::say;
+use crate::saying::say_number;
 use crate::status::Status;
 use io_ends::Sink;
-use itoa::Buffer;
 use pool::{Birth, Pool};
 use rack::{Bay, Rack};
-use shr_script::{ReplyText, add};
 use std::alloc::Global;
 
 /// Attaches the disks, and makes their pool.
@@ -60,31 +57,8 @@ fn create_attached<B: Bay, O: Sink>(
             let sectors = pool.size();
             pool.end();
             let _bay = pool.into_inner();
-            say_created(out, sectors)
+            say_number(out, b"created ", sectors)
         }
         Err(back) => refuse_create(out, back.why),
     }
-}
-
-// Puts `created N`.
-fn say_created<O: Sink>(out: &mut O, sectors: u64) -> Status
-    ensures sink { O.faults out.old ≤ O.faults out.new }
-    ensures cause { HasStatusCause result 0 0 (O.faults out.old) (O.faults out.new) }
-    ensures other { result ≢ Status.Limit }
-    ensures says { O.told out.old → Says Status.Done (created_line sectors) (O.taken out.old) (O.taken out.new) result }
-{
-    let mut text = ReplyText::new();
-    created_text(&mut text, sectors);
-    say(out, &text, Status::Done)
-}
-
-// `created N`
-fn created_text(text: &mut ReplyText, sectors: u64)
-    ensures { text.new.items ≡ created_line sectors }
-{
-    let mut digits = Buffer::new();
-    text.clear();
-    add(text, b"created ");
-    add(text, digits.format(sectors).as_bytes());
-    add(text, b"\n");
 }

@@ -1,12 +1,20 @@
-//! `serve NAME..`: opens the pool of the named disks and answers the script on it.
+//! `serve NAME..`, `import NAME..` and `export NAME..`: opens the pool of the named disks and does the task on it.
 
-ghost use Rattle.std.specs.Prelude.{◌≡◌, ◌≤◌, ◌^◌, map, string_bytes};
+ghost use Rattle.std.specs.Prelude.{◌≡◌, ◌≢◌, ◌≤◌, ◌^◌, map, string_bytes};
+ghost use Rattle.flat_array.specs.Array.{FlatArray};
+ghost use Rattle.pool.specs.Calls.{Passes};
+ghost use Rattle.pool.specs.View.{bay_in, view, volume};
+ghost use Rattle.pool.specs.Volume.{Holds};
 ghost use Rattle.shr_tool.specs.Limits.{KeepsLimit};
 ghost use Rattle.shr_tool.specs.Outcome.{HasStatusCause};
 ghost use Rattle.shr_tool.specs.Opened.{OpenOutcome};
-ghost use Rattle.shr_tool.specs.Run.{ServeOutcome};
+ghost use Rattle.shr_tool.specs.Run.{PoolOutcome};
+ghost use Rattle.shr_tool.specs.Tasks.{NeedsInput, TaskOutcome};
+ghost use Rattle.shr_tool.specs.Timeline.{ground_of, moment_of};
 
 use crate::attaching::{attach_all, refuse_name};
+use crate::exporting::export_pool;
+use crate::importing::import_pool;
 use crate::refusals::refuse_open;
 use crate::serve::serve_pool;
 use crate::status::Status;
@@ -15,12 +23,24 @@ use pool::Pool;
 use rack::{Bay, Rack};
 use std::alloc::Global;
 
-/// Attaches the disks, opens their pool, and answers the script on the input.
-pub fn serve<B: Bay, I: Source, O: Sink>(
+/// What is done on a pool once it is opened.
+#[derive(Clone, Copy, Debug, PartialEq, Eq)]
+pub enum Task {
+    /// The script on the input is answered.
+    Serve,
+    /// The input's bytes are written to the volume.
+    Import,
+    /// The volume's bytes are put.
+    Export,
+}
+
+/// Attaches the disks, opens their pool, does the task on it, and ends the pool.
+pub fn open_for<B: Bay, I: Source, O: Sink>(
     alloc: Global,
     bay: &mut B,
     names: &[String],
     seconds: u64,
+    task: Task,
     input: &mut I,
     out: &mut O,
 ) -> Status
@@ -28,37 +48,72 @@ pub fn serve<B: Bay, I: Source, O: Sink>(
     ensures source { I.faults input.old ≤ I.faults input.new }
     ensures sink { O.faults out.old ≤ O.faults out.new }
     ensures cause { HasStatusCause result (I.faults input.old) (I.faults input.new) (O.faults out.old) (O.faults out.new) }
-    ensures limit { I.told input.old → KeepsLimit (result ≡ Status.Limit) (2 ^ 32) (I.left input.old) (I.left input.new) }
-    ensures outcome { I.told input.old → O.told out.old → ServeOutcome B.seen B.shelf B.runs bay.old bay.new (map string_bytes names.now)
+    ensures limit { task ≡ Task.Serve → I.told input.old → KeepsLimit (result ≡ Status.Limit) (2 ^ 32) (I.left input.old) (I.left input.new) }
+    ensures other { task ≢ Task.Serve → result ≢ Status.Limit }
+    ensures unread { task ≡ Task.Export → input.new ≡ input.old }
+    ensures outcome { NeedsInput task (I.told input.old) → O.told out.old
+        → PoolOutcome B.seen B.shelf B.runs bay.old bay.new task (map string_bytes names.now)
         (I.left input.old) (I.left input.new) (O.taken out.old) (O.taken out.new) result }
 {
     match attach_all(bay, names) {
-        Ok(()) => serve_attached(alloc, bay, seconds, input, out),
+        Ok(()) => open_attached(alloc, bay, seconds, task, input, out),
         Err(at) => refuse_name(out, at),
     }
 }
 
-// Opens the pool of the attached disks, and answers the script on the input.
-fn serve_attached<B: Bay, I: Source, O: Sink>(
+// Opens the pool of the attached disks, and does the task on it.
+fn open_attached<B: Bay, I: Source, O: Sink>(
     alloc: Global,
     bay: &mut B,
     seconds: u64,
+    task: Task,
     input: &mut I,
     out: &mut O,
 ) -> Status
     ensures source { I.faults input.old ≤ I.faults input.new }
     ensures sink { O.faults out.old ≤ O.faults out.new }
     ensures cause { HasStatusCause result (I.faults input.old) (I.faults input.new) (O.faults out.old) (O.faults out.new) }
-    ensures limit { I.told input.old → KeepsLimit (result ≡ Status.Limit) (2 ^ 32) (I.left input.old) (I.left input.new) }
-    ensures outcome { I.told input.old → O.told out.old → OpenOutcome B.seen B.runs bay.old bay.new
+    ensures limit { task ≡ Task.Serve → I.told input.old → KeepsLimit (result ≡ Status.Limit) (2 ^ 32) (I.left input.old) (I.left input.new) }
+    ensures other { task ≢ Task.Serve → result ≢ Status.Limit }
+    ensures unread { task ≡ Task.Export → input.new ≡ input.old }
+    ensures outcome { NeedsInput task (I.told input.old) → O.told out.old
+        → OpenOutcome B.seen B.runs bay.old bay.new task
         (I.left input.old) (I.left input.new) (O.taken out.old) (O.taken out.new) result }
 {
     match Pool::open(alloc, bay, seconds) {
         Ok(mut pool) => {
-            let status = serve_pool(&mut pool, input, out);
+            let status = do_on(&mut pool, task, input, out);
             let _bay = pool.into_inner();
             status
         }
         Err(back) => refuse_open(out, back.why),
+    }
+}
+
+// Does the task on a pool, and ends it.
+fn do_on<R: Bay, I: Source, O: Sink>(
+    pool: &mut Pool<R>,
+    task: Task,
+    input: &mut I,
+    out: &mut O,
+) -> Status
+    requires { (volume (view R.seen pool.old)).fit }
+    ensures passes { Passes (view R.seen pool.old) (view R.seen pool.new) }
+    ensures runs { R.runs (bay_in pool.old) (bay_in pool.new) }
+    ensures source { I.faults input.old ≤ I.faults input.new }
+    ensures sink { O.faults out.old ≤ O.faults out.new }
+    ensures cause { HasStatusCause result (I.faults input.old) (I.faults input.new) (O.faults out.old) (O.faults out.new) }
+    ensures limit { task ≡ Task.Serve → I.told input.old → KeepsLimit (result ≡ Status.Limit) (2 ^ 32) (I.left input.old) (I.left input.new) }
+    ensures other { task ≢ Task.Serve → result ≢ Status.Limit }
+    ensures unread { task ≡ Task.Export → input.new ≡ input.old }
+    ensures outcome { NeedsInput task (I.told input.old) → O.told out.old → (a : FlatArray)
+        → TaskOutcome task result (Holds (view R.seen pool.old) a) (R.seen (bay_in pool.old)).traced (R.seen (bay_in pool.new))
+        (ground_of (view R.seen pool.old)) (moment_of (view R.seen pool.old)) a
+        (I.left input.old) (I.left input.new) (O.taken out.old) (O.taken out.new) }
+{
+    match task {
+        Task::Serve => serve_pool(pool, input, out),
+        Task::Import => import_pool(pool, input, out),
+        Task::Export => export_pool(pool, out),
     }
 }

@@ -3,21 +3,21 @@
 ghost use Rattle.std.specs.Prelude.{◌≡◌, ◌≢◌, ◌⊎◌, ◌<◌, ◌≤◌, ◌^◌, ℕ, List, true, false, length, drop, map, codes, string_bytes, Some, None};
 ghost use Rattle.rack.specs.Seen.{Rose};
 ghost use Rattle.shr_tool.specs.declared.status.Status.TheVariants.{Words, Refused, Memory};
-ghost use Rattle.shr_words.specs.declared.forms.Form.TheVariants.{Layout, Create, Serve, Examine};
+ghost use Rattle.shr_words.specs.declared.forms.Form.TheVariants.{Layout, Create, Serve, Import, Export, Examine};
 ghost use Rattle.shr_words.specs.LayoutWords.{units_asked};
 ghost use Rattle.shr_words.specs.Forms.{form_of as form_in};
 ghost use Rattle.shr_tool.specs.LayoutText.{Prints};
-ghost use Rattle.shr_tool.specs.Forms.{is_built, uses_disks};
+ghost use Rattle.shr_tool.specs.Forms.{is_built, reads_input, uses_disks};
 ghost use Rattle.shr_script.specs.Reply.{refused_line};
 ghost use Rattle.shr_tool.specs.Limits.{KeepsLimit};
-ghost use Rattle.shr_tool.specs.Run.{ServeOutcome, CreateOutcome};
+ghost use Rattle.shr_tool.specs.Run.{PoolOutcome, CreateOutcome};
 ghost use Rattle.shr_tool.specs.Saying.{Ended, Says};
 ghost use Rattle.shr_tool.specs.Examining.{ExamineOutcome};
 
 use crate::examining::examine_image;
 use crate::layout::print_layout;
 use crate::making::create;
-use crate::opening::serve;
+use crate::opening::{Task, open_for};
 use crate::saying::{refuse, refuse_words};
 use crate::status::Status;
 use io_ends::{Sink, Source};
@@ -40,7 +40,13 @@ pub fn run<B: Bay, I: Source, O: Sink>(
 
     // The form of the words decides what is done. Want of memory to parse them is said, and nothing else is done.
     ensures serve { form_in (map string_bytes words.now) ≡ Some Serve → I.told input.old → O.told out.old
-        → Ended result (ServeOutcome B.seen B.shelf B.runs bay.old bay.new (map string_bytes (drop 1 words.now)) (I.left input.old) (I.left input.new) (O.taken out.old) (O.taken out.new)) }
+        → Ended result (PoolOutcome B.seen B.shelf B.runs bay.old bay.new Task.Serve (map string_bytes (drop 1 words.now)) (I.left input.old) (I.left input.new) (O.taken out.old) (O.taken out.new)) }
+
+    ensures import { form_in (map string_bytes words.now) ≡ Some Import → I.told input.old → O.told out.old
+        → Ended result (PoolOutcome B.seen B.shelf B.runs bay.old bay.new Task.Import (map string_bytes (drop 1 words.now)) (I.left input.old) (I.left input.new) (O.taken out.old) (O.taken out.new)) }
+
+    ensures export { form_in (map string_bytes words.now) ≡ Some Export → O.told out.old
+        → Ended result (PoolOutcome B.seen B.shelf B.runs bay.old bay.new Task.Export (map string_bytes (drop 1 words.now)) (I.left input.old) (I.left input.new) (O.taken out.old) (O.taken out.new)) }
 
     ensures create { (extent : ℕ) → form_in (map string_bytes words.now) ≡ Some (Create extent) → O.told out.old
         → Ended result (CreateOutcome B.seen B.shelf B.runs bay.old bay.new (map string_bytes (drop 2 words.now)) extent birth.now (O.taken out.old) (O.taken out.new)) }
@@ -63,12 +69,13 @@ pub fn run<B: Bay, I: Source, O: Sink>(
     // The program says that the words are wrong exactly where they are, unless there is no memory to parse them or no output.
     ensures words { result ≡ 2 → form_in (map string_bytes words.now) ≡ None }
 
-    // Only `serve`, `create` and `examine` touch the bay, and only `serve` the input.
+    // `layout` and what is refused don't touch the bay, and only `serve` and `import` touch the input.
     ensures untouched { uses_disks (form_in (map string_bytes words.now)) ≡ false → bay.new ≡ bay.old }
-    ensures unread { form_in (map string_bytes words.now) ≢ Some Serve → input.new ≡ input.old }
+    ensures unread { reads_input (form_in (map string_bytes words.now)) ≡ false → input.new ≡ input.old }
 
     // The limit of a script is answered exactly where more bytes were taken and no `quit` line ends before it.
-    ensures limit { I.told input.old → KeepsLimit (result ≡ 3) (2 ^ 32) (I.left input.old) (I.left input.new) }
+    ensures script { result ≡ 3 → form_in (map string_bytes words.now) ≡ Some Serve }
+    ensures limit { form_in (map string_bytes words.now) ≡ Some Serve → I.told input.old → KeepsLimit (result ≡ 3) (2 ^ 32) (I.left input.old) (I.left input.new) }
 
     // A fault of an end is answered only where its count rose.
     ensures source { result ≡ 4 → Rose (I.faults input.old) (I.faults input.new) }
@@ -81,12 +88,20 @@ pub fn run<B: Bay, I: Source, O: Sink>(
     };
     match form {
         Form::Layout { request } => print_layout(&request, out).code(),
-        Form::Serve => serve(alloc, bay, behind(words, 1), birth.seconds, input, out).code(),
+        Form::Serve => {
+            open_for(alloc, bay, behind(words, 1), birth.seconds, Task::Serve, input, out).code()
+        }
+        Form::Import => {
+            open_for(alloc, bay, behind(words, 1), birth.seconds, Task::Import, input, out).code()
+        }
+        Form::Export => {
+            open_for(alloc, bay, behind(words, 1), birth.seconds, Task::Export, input, out).code()
+        }
         Form::Examine => examine_image(alloc, bay, behind(words, 1), out).code(),
         Form::Create { extent } => {
             create(alloc, bay, behind(words, 2), extent, birth, out).code()
         }
-        Form::Import | Form::Export | Form::Status | Form::Trial { .. } => {
+        Form::Status | Form::Trial { .. } => {
             refuse(out, b"unbuilt", Status::Refused).code()
         }
     }

@@ -9,6 +9,7 @@ mod order;
 mod pools;
 mod scripts;
 mod stops;
+mod transfers;
 
 ghost use Rattle.std.specs.Prelude.{◌≡◌};
 
@@ -73,7 +74,7 @@ fn run_over<B: Bay, I: Source>(
     for word in words {
         texts.push(String::from_str(alloc, word)?)?;
     }
-    let mut out = MemSink::new(alloc, 1 << 20, sink_fails_at)?;
+    let mut out = MemSink::new(alloc, 1 << 21, sink_fails_at)?;
     let status = run(alloc, &texts, bay, &mut input, &mut out, &BIRTH);
     let put = out.bytes().to_vec(alloc)?;
     Ok(Ran { status, put })

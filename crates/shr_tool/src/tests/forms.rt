@@ -74,20 +74,16 @@ fn words_that_are_no_form_are_refused(rt: HostRuntime) -> Result<(), Fail> {
 
 #[test]
 fn forms_that_are_not_built_are_refused(rt: HostRuntime) -> Result<(), Fail> {
-    let rows: [&[&str]; 4] = [
-        &["import", "M"],
-        &["export", "M"],
-        &["status", "M"],
-        &["trial", "7", "M"],
-    ];
+    let rows: [&[&str]; 2] = [&["status", "M"], &["trial", "7", "M"]];
     check(&rt, rt.alloc(), &rows, "refused unbuilt\n", 6)
 }
 
 #[test]
 fn disks_that_are_no_pool_are_refused(rt: HostRuntime) -> Result<(), Fail> {
     let alloc = rt.alloc();
-    let first: [&[&str]; 3] = [
+    let first: [&[&str]; 4] = [
         &["serve", "X", "M"],
+        &["import", "X", "M"],
         &["serve", "X", "X"],
         &["create", "128", "X", "M"],
     ];
@@ -96,8 +92,10 @@ fn disks_that_are_no_pool_are_refused(rt: HostRuntime) -> Result<(), Fail> {
     check(&rt, alloc, &second, "refused attach 1\n", 6)?;
     let twice: [&[&str]; 2] = [&["serve", "M", "N", "M"], &["create", "128", "M", "M"]];
     check(&rt, alloc, &twice, "refused twice\n", 6)?;
-    let none: [&[&str]; 3] = [
+    let none: [&[&str]; 5] = [
         &["serve", "M"],
+        &["import", "M"],
+        &["export", "M", "N"],
         &["serve", "M", "N"],
         &["serve", "N", "M", "L"],
     ];

@@ -23,7 +23,7 @@ returns-in-Ok-clause-outcome g c =
     λ sink.
     inr
     (subst
-    (λ b. MadeOn seen runs c.args.bay.now b c.args.extent c.args.birth.now (taken c.args.out.now) (taken c.say_created.new.out) c.say_created.result)
+    (λ b. MadeOn seen runs c.args.bay.now b c.args.extent c.args.birth.now (taken c.args.out.now) (taken c.say_number.new.out) c.say_number.result)
     (sym back)
     (record {
       made = (bay_in pool).now;
@@ -33,8 +33,8 @@ returns-in-Ok-clause-outcome g c =
       is_made = makes.made;
       apart = ends.ended.passes.apart;
       says =
-          subst (λ n. Says Done (created_line n) (taken c.args.out.now) (taken c.say_created.new.out) c.say_created.result)
-          c.size-sectors.ensures.size (c.say_created.ensures.says sink);
+          subst (λ n. Says Done (created_line n) (taken c.args.out.now) (taken c.say_number.new.out) c.say_number.result)
+          c.size-sectors.ensures.size (c.say_number.ensures.says sink);
     }))
 
 pub returns-in-Err-clause-outcome : goal.returns-in-Err-clause-outcome

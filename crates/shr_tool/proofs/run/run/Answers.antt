@@ -1,12 +1,18 @@
 -- What was read of the words is what the clauses say of them.
 use Rattle.std.proofs.Common.{◌∙◌, Some, refl, inl, sym, ap, subst, map, drop, string_bytes}
-use Rattle.shr_tool.specs.Run.{ServeOutcome, CreateOutcome}
+use Rattle.shr_tool.specs.Run.{PoolOutcome, CreateOutcome}
 use Rattle.shr_tool.specs.Examining.{ExamineOutcome}
 use Rattle.shr_tool.proofs.FormLemmas.{create_same}
 use Rattle.shr_tool.proofs.run.run.Goals as goal
 
 pub returns-in-Err-Memory-clause-serve : goal.returns-in-Err-Memory-clause-serve
-returns-in-Err-Memory-clause-serve g c = λ form input out. (c.refuse.result, c.code-in-Err-Memory.ensures, ServeOutcome.no_memory refl (c.refuse.ensures.says out))
+returns-in-Err-Memory-clause-serve g c = λ form input out. (c.refuse.result, c.code-in-Err-Memory.ensures, PoolOutcome.no_memory refl (c.refuse.ensures.says out))
+
+pub returns-in-Err-Memory-clause-import : goal.returns-in-Err-Memory-clause-import
+returns-in-Err-Memory-clause-import g c = λ form input out. (c.refuse.result, c.code-in-Err-Memory.ensures, PoolOutcome.no_memory refl (c.refuse.ensures.says out))
+
+pub returns-in-Err-Memory-clause-export : goal.returns-in-Err-Memory-clause-export
+returns-in-Err-Memory-clause-export g c = λ form out. (c.refuse.result, c.code-in-Err-Memory.ensures, PoolOutcome.no_memory refl (c.refuse.ensures.says out))
 
 pub returns-in-Err-Memory-clause-create : goal.returns-in-Err-Memory-clause-create
 returns-in-Err-Memory-clause-create g c = λ extent form out. (c.refuse.result, c.code-in-Err-Memory.ensures, CreateOutcome.no_memory refl (c.refuse.ensures.says out))
@@ -34,5 +40,5 @@ returns-in-Create-clause-create g c =
           (c.create.ensures.outcome out)),
     )
 
-pub returns-in-Import-clause-unbuilt : goal.returns-in-Import-clause-unbuilt
-returns-in-Import-clause-unbuilt g c = λ form is unbuilt out. (c.refuse-in-Import.result, c.code-in-Import.ensures, inl (c.refuse-in-Import.ensures.says out))
+pub returns-in-Status-clause-unbuilt : goal.returns-in-Status-clause-unbuilt
+returns-in-Status-clause-unbuilt g c = λ form is unbuilt out. (c.refuse-in-Status.result, c.code-in-Status.ensures, inl (c.refuse-in-Status.ensures.says out))

@@ -3,8 +3,8 @@ use Rattle.std.proofs.Common.{◌≡◌, ◌∙◌, ap, sym, subst, refl, inl, i
 use Rattle.pool.specs.View.{bay_in}
 use Rattle.shr_tool.specs.Opened.{NotOpened, OpenedOn}
 use Rattle.shr_tool.proofs.Through.{pool_through, written_through, ground_in, held_by_meant, moment_in, opened_as, stops_mean, traced_through}
-use Rattle.shr_tool.proofs.Told.{outcome_for}
-use Rattle.shr_tool.proofs.opening.serve_attached.Goals as goal
+use Rattle.shr_tool.proofs.Told.{task_for}
+use Rattle.shr_tool.proofs.opening.open_attached.Goals as goal
 
 pub returns-in-Ok-clause-outcome : goal.returns-in-Ok-clause-outcome
 returns-in-Ok-clause-outcome g c =
@@ -13,20 +13,20 @@ returns-in-Ok-clause-outcome g c =
     let left = g.I.Source.left in
     let taken = g.O.Sink.taken in
     let pool = c.in-Ok.pool in
-    let last = c.serve_pool-status.new.pool in
+    let last = c.do_on-status.new.pool in
     let opens = c.in-Ok.ensures in
-    let serves = c.serve_pool-status.ensures in
+    let does = c.do_on-status.ensures in
     let inner = c.into_inner-bay.ensures in
     let back : c.bay-1.given.0 ≡ (bay_in last).now =
-    c.bay-1.given.1 (sym (ap (λ b. b.ghost_name) inner ∙ serves.runs.0 ∙ opens.runs.0)) ∙ ap (λ b. b.now) inner in
+    c.bay-1.given.1 (sym (ap (λ b. b.ghost_name) inner ∙ does.runs.0 ∙ opens.runs.0)) ∙ ap (λ b. b.now) inner in
     λ source sink.
     inr
     (subst
-    (λ b. OpenedOn seen runs c.args.bay.now b (left c.args.input.now) (left c.serve_pool-status.new.input) (taken c.args.out.now) (taken c.serve_pool-status.new.out) c.serve_pool-status.result)
+    (λ b. OpenedOn seen runs c.args.bay.now b c.args.task (left c.args.input.now) (left c.do_on-status.new.input) (taken c.args.out.now) (taken c.do_on-status.new.out) c.do_on-status.result)
     (sym back)
     (record {
       opened = (bay_in pool).now;
-      kept = (opens.runs.1, serves.runs.1);
+      kept = (opens.runs.1, does.runs.1);
       drives = pool_through seen _ runs (λ r. r.now) (λ r s ran. ran.1) _ (bay_in pool) opens.drives;
       ground = ground_in seen pool (λ r. r.now);
       from = moment_in seen pool (λ r. r.now);
@@ -35,12 +35,12 @@ returns-in-Ok-clause-outcome g c =
       meant = opened_as pool (λ r. seen r.now) _ opens.meant opens.marks;
       tables = opens.mended;
       moments = λ a meant calm traced. stops_mean pool (λ r. seen r.now) _ a opens.meant meant calm traced;
-      apart = serves.passes.apart;
+      apart = does.passes.apart;
       outcome = λ a.
-          outcome_for c.serve_pool-status.result _ _ _ _ _ _ _ a _ _ _ _
+          task_for c.args.task c.do_on-status.result _ _ _ _ _ _ _ a _ _ _ _
           (λ meant. held_by_meant pool (λ r. seen r.now) _ a opens.meant meant)
           (λ traced. traced_through _ _ _ _ opens.drives traced)
-          (serves.outcome source sink a);
+          (does.outcome source sink a);
     }))
 
 pub returns-in-Err-clause-outcome : goal.returns-in-Err-clause-outcome

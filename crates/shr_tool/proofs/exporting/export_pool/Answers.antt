@@ -1,0 +1,18 @@
+-- What was put, once the pool was ended.
+use Rattle.pool.specs.View.{view}
+use Rattle.shr_tool.proofs.Exported.{export_outcome}
+use Rattle.shr_tool.proofs.Meanings.{passes_then}
+use Rattle.shr_tool.proofs.exporting.export_pool.Goals as goal
+
+pub returns-clause-passes : goal.returns-clause-passes
+returns-clause-passes g c = passes_then _ _ _ c.put_sectors-put.ensures.passes c.end.ensures.ended.passes
+
+pub returns-clause-runs : goal.returns-clause-runs
+returns-clause-runs g c = g.met.R.Rack.runs_then _ _ _ c.put_sectors-put.ensures.runs c.end.ensures.runs
+
+pub returns-clause-outcome : goal.returns-clause-outcome
+returns-clause-outcome g c =
+    λ sink a.
+    export_outcome c.put_sectors-put.result c.status_of.result _ _ (view g.R.Rack.seen c.end.new.self) a _ _ c.status_of.ensures
+    (c.put_sectors-put.ensures.puts sink)
+    c.end.ensures.ended

@@ -1,0 +1,19 @@
+-- What was written, once the pool was ended.
+use Rattle.pool.specs.View.{view}
+use Rattle.shr_tool.proofs.Imported.{import_outcome}
+use Rattle.shr_tool.proofs.Meanings.{passes_then}
+use Rattle.shr_tool.proofs.importing.import_pool.Goals as goal
+
+pub returns-clause-passes : goal.returns-clause-passes
+returns-clause-passes g c = passes_then _ _ _ c.write_pieces-written.ensures.passes c.end.ensures.ended.passes
+
+pub returns-clause-runs : goal.returns-clause-runs
+returns-clause-runs g c = g.met.R.Rack.runs_then _ _ _ c.write_pieces-written.ensures.runs c.end.ensures.runs
+
+pub returns-clause-outcome : goal.returns-clause-outcome
+returns-clause-outcome g c =
+    λ source sink a.
+    import_outcome _ _ (view g.R.Rack.seen c.end.new.self) a _ _ _ _ c.write_pieces-written.result c.say_written.result
+    (c.write_pieces-written.ensures.imports source)
+    c.end.ensures.ended
+    (c.say_written.ensures.says sink)
