@@ -4,3 +4,8 @@ mod Serving
 mod Reached
 mod Losing
 mod Cleaning
+mod Working
+mod Rooms
+mod Books
+mod Quiet
+mod Counting

@@ -1,5 +1,5 @@
 -- What each call of a pool does.
-use Rattle.std.specs.Prelude.{◌≡◌, ◌⊎◌, ◌↔◌, ℕ, ◌<◌, ◌≤◌, true, false, List, Some, Result, Err, OnOk, OnErr}
+use Rattle.std.specs.Prelude.{◌≡◌, ◌⊎◌, ◌↔◌, ℕ, ◌<◌, ◌≤◌, true, false, List, Some, Result, Err, IfOk, OnOk, OnErr}
 use Rattle.rack.specs.Seen.{Image, Rose, Stays}
 use Rattle.rack.specs.Sequences.{WritesOnly}
 use Rattle.flat_array.specs.Array.{FlatArray, written, flushed}
@@ -19,6 +19,8 @@ use Rattle.pool.specs.declared.calls.LoseFault.TheVariants.{LastDrive, NoSuchDri
 use Rattle.pool.specs.declared.calls.SectorFault.{SectorFault}
 use Rattle.pool.specs.declared.calls.SectorFault.TheVariants.{Range, Spent}
 use Rattle.pool.specs.View.{View, book, slices_shown, volume}
+use Rattle.raid_rack.specs.declared.works.Stuck.{Stuck}
+use Rattle.pool.specs.Works.{left_of}
 use Rattle.pool.specs.Volume.{Does, Holds, is_spent, size_of, unchanged}
 
 -- What each call keeps: the volume stays where it is, marks and nothing else come to the book, and of the bay's disks only sectors
@@ -93,3 +95,10 @@ pub record Ends (x y : View) : Type 0 where
   pub marks : Marks x y
   pub does : Does x y unchanged flushed
   pub rows : LeavesItsRows x y
+
+-- Works of maintenance are done. No value moves, and what is answered is left.
+pub record Steps (x y : View) (count : ℕ) (result : Result ℕ Stuck) : Type 0 where
+  pub passes : Passes x y
+  pub marks : Marks x y
+  pub does : Does x y unchanged unchanged
+  pub left : IfOk result (λ left. left ≡ left_of y)

@@ -1,3 +1,4 @@
 pub mod View
 pub mod Volume
+pub mod Works
 pub mod Calls

@@ -15,6 +15,8 @@
 
 mod calls;
 mod making;
+mod standing;
+mod works;
 
 pub use assembler::{Part, Refusal};
 pub use calls::{LoseFault, SectorFault};
@@ -22,6 +24,7 @@ use lvm_group::Volume;
 pub use pool_format::{Birth, CreateFault};
 use rack::Rack;
 use raid_rack::RaidRack;
+pub use raid_rack::Stuck;
 
 /// An opened pool.
 #[derive(Drop)]
