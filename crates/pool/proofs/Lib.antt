@@ -9,3 +9,5 @@ mod Rooms
 mod Books
 mod Quiet
 mod Counting
+mod Counted
+mod Stepping

@@ -1,23 +1,25 @@
 -- The works of maintenance that a pool has left, by its arrays and its volume.
-use Rattle.std.specs.Prelude.{◌≡◌, ℕ, ◌+◌, ◌-◌, ◌/◌, Bool, false, nat_lt, if◌then◌else◌, List, [], find, length, map, min, slice_get, Option}
+use Rattle.std.specs.Prelude.{◌≡◌, ℕ, ◌+◌, ◌-◌, ◌/◌, ◌⊎◌, ◌||◌, not, ◌<◌, Bool, true, false, nat_lt, if◌then◌else◌, List, [], find, length, map, min, slice_get, Option, Some}
 use Rattle.std.specs.List.{range_with_len}
 use Rattle.std.specs.Option.{option_map_or}
 use Rattle.array_image.specs.SoundArray.{first_unsynced}
 use Rattle.array_image.specs.Supers.{is_reshaping, named_places, new_row}
 use Rattle.array_model.specs.View.{View as ArrayView, rows_of}
 use Rattle.array_core.specs.Seats.{seat_of}
+use Rattle.array_sync.specs.Rows.{others_give}
 use Rattle.array_sync.specs.Steps.{reach_on}
 use Rattle.pool_state.specs.declared.contents.Work.{Work}
+use Rattle.pool_state.specs.declared.contents.Work.TheVariants.{Resync, Rebuild, TakeOver, Begin, Reshape, Finish, Make, Zero, Ready, Extend, Close}
 use Rattle.growth_plan.specs.declared.ArrayNow.{ArrayNow}
 use Rattle.growth_plan.specs.declared.Progress.{Progress}
 use Rattle.growth_plan.specs.Works.{works_left}
 use Rattle.lvm_group.specs.Runs.{Linear, extents_of}
 use Rattle.lvm_group.specs.Volume.{linear as linear_of}
 use Rattle.rack.specs.Seen.{Seen}
-use Rattle.raid_rack.specs.Raid.{Raid}
+use Rattle.raid_rack.specs.Raid.{Raid, is_over}
 use Rattle.raid_rack.specs.RaidRack.{KeepsRack, SliceRuns, raid_in, raid_seen, slices_in, slices_seen, written_in}
 use Rattle.raid_rack.specs.Runs.{RaidRuns}
-use Rattle.raid_rack.specs.Works.{is_rebuilding_seat}
+use Rattle.raid_rack.specs.Works.{array_of, is_due, is_rebuilding_seat, is_stuck}
 use Rattle.pool.specs.declared.Pool.{Pool}
 use Rattle.pool.specs.View.{View, arrays_of, book}
 
@@ -76,8 +78,39 @@ works_by l v = if nat_lt 0 (length v.state.drives.items) then works_left v.state
 abbrev pub works_of : View → List Work
 works_of x = works_by x.linear (book x)
 
+-- how many they are
+abbrev pub left_by : Linear → Raid → ℕ
+left_by l v = length (works_by l v)
+
 abbrev pub left_of : View → ℕ
-left_of x = length (works_of x)
+left_of x = left_by x.linear (book x)
+
+-- Of the arrays only rows to resync may be left: none is young, and no member is being rebuilt.
+pub record HasRowsAlone (v : Raid) : Type 0 where
+  pub grown : (n : ℕ) → n < v.state.made → (v.arrays n).young ≡ false
+  pub whole : (n p : ℕ) → n < v.state.made → is_rebuilding_on (v.arrays n) p ≡ false
+
+-- ---- works that can't be done
+
+-- a row of a work can't be had by a book: that of a resync, or what the others give of a member that is rebuilt
+abbrev pub LacksRow : Raid → Work → Type 0
+LacksRow v (Resync n) = (row : ℕ) × (row < rows_of (v.arrays n)) × (is_stuck v n row ≡ true)
+LacksRow v (Rebuild n place) = (row : ℕ) × (row < rows_of (v.arrays n)) × ((is_over v n || not (others_give (v.arrays n) place row)) ≡ true)
+LacksRow v (TakeOver n) = ⊥
+LacksRow v (Begin n place) = ⊥
+LacksRow v (Reshape n) = ⊥
+LacksRow v (Finish n) = ⊥
+LacksRow v (Make n height) = ⊥
+LacksRow v (Zero n) = ⊥
+LacksRow v (Ready n) = ⊥
+LacksRow v Extend = ⊥
+LacksRow v Close = ⊥
+
+-- An array can't do a work of its own: it is the next one and isn't due, or a row of it can't be had.
+pub record IsStuck (l : Linear) (v : Raid) (array : ℕ) : Type 0 where
+  pub work : Work
+  pub named : array ≡ array_of work
+  pub why : ((is_due v work ≡ false) × (slice_get (works_by l v) 0 ≡ Some work)) ⊎ LacksRow v work
 
 -- ---- works that are done
 

@@ -1,10 +1,10 @@
 //! The works of maintenance of an opened pool.
 
-ghost use Rattle.std.specs.Prelude.{◌≡◌, ◌<◌, nat_lt, length, slice_get};
+ghost use Rattle.std.specs.Prelude.{◌≡◌, ◌<◌, nat_lt, length, slice_get, IfErr, OnOk};
 ghost use Rattle.growth_plan.specs.Book.{IsBook};
 ghost use Rattle.pool.specs.View.{bay_in, book, view, volume};
-ghost use Rattle.pool.specs.Works.{IsWorked, left_of, progress_by, works_of};
-ghost use Rattle.pool.specs.Calls.{Steps};
+ghost use Rattle.pool.specs.Works.{IsStuck, IsWorked, left_of, progress_by, works_of};
+ghost use Rattle.pool.specs.Calls.{IsOneFewer, Steps};
 
 use crate::Pool;
 use crate::standing::array_now;
@@ -71,6 +71,8 @@ impl<R: Bay> Pool<R> {
     fn advance(&mut self) -> Result<(), Stuck>
         requires { (volume (view R.seen self.old)).fit }
         ensures worked { IsWorked R.seen R.runs self.old self.new }
+        ensures counted { OnOk result (IsOneFewer (view R.seen self.old) (view R.seen self.new)) }
+        ensures stuck { IfErr result (λ e. IsStuck (view R.seen self.new).linear (book (view R.seen self.new)) e.array) }
     {
         match self.next_work() {
             Some(work) => self.volume.inner().work(&work),
