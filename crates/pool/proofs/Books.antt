@@ -1,14 +1,13 @@
 -- How the arrays of a pool stand is a book of growth.
 use Rattle.std.specs.List.{list_all, range_with_len}
 use Rattle.std.specs.Option.{option_map_or}
-use Rattle.std.proofs.Common.{◌≡◌, ℕ, zero, suc, ◌+◌, ◌-◌, ◌/◌, ◌<◌, ◌≤◌, ◌^◌, ◌&&◌, ◌==◌, nat_lt, nat_le, Bool, true, false, if◌then◌else◌, List, [], ◌∷◌, count_by, length, map, All, Option, Some, None, refl, sym, ap, subst, ◌∙◌, inl, inr, leb-true, arith}
+use Rattle.std.proofs.Common.{◌≡◌, ℕ, zero, suc, ◌+◌, ◌-◌, ◌/◌, ◌<◌, ◌≤◌, ◌^◌, ◌&&◌, ◌==◌, nat_lt, nat_le, Bool, true, false, if◌then◌else◌, count_by, length, All, Option, Some, None, leb-true, arith}
 use Rattle.std.proofs.Math.Nat.{div-le_self}
-use Rattle.std.proofs.lemmas.Bool.{and_parts, eqb-true, cond_both}
+use Rattle.std.proofs.lemmas.Bool.{and_parts, eqb-true}
 use Rattle.std.proofs.lemmas.List.Elements.{All-cons, All-map, All-nil}
 use Rattle.std.proofs.lemmas.List.FromFn.{length-map-range_with_len}
 use Rattle.rack.specs.Seen.{Seen}
 use Rattle.md_super.specs.Profile.{is_mirror}
-use Rattle.md_super.specs.declared.superblock.Super.{Super}
 use Rattle.array_image.specs.Supers.{has_role, is_reshaping, named_places, new_row}
 use Rattle.array_image.specs.SoundArray.{first_unsynced}
 use Rattle.array_model.specs.View.{View, IsArray, rows_of}
@@ -20,7 +19,7 @@ use Rattle.growth_plan.specs.Book.{IsBook, IsSmall}
 use Rattle.lvm_group.specs.Runs.{Linear, extents_of}
 use Rattle.raid_rack.specs.Moves.{IsSeated, IsSet}
 use Rattle.raid_rack.specs.Raid.{Raid}
-use Rattle.pool.specs.Works.{array_now, progress_by, rebuilding_in, rows_to_rebuild, rows_to_reshape, rows_to_zero}
+use Rattle.pool.specs.Works.{array_now, progress_by, rebuilding_in, rows_to_rebuild}
 
 -- each number of a range
 all_range : (P : ℕ → Type 0) (a n : ℕ) → ((k : ℕ) → a ≤ k → k < a + n → P k) → All P (range_with_len a n)

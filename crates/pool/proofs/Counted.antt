@@ -1,13 +1,11 @@
 -- What is left after a work that is done where no drive is lost.
-use Rattle.std.specs.List.{list_any, range_with_len}
-use Rattle.std.specs.Option.{option_map_or}
-use Rattle.std.proofs.Common.{◌≡◌, ◌⊎◌, ℕ, zero, suc, ◌+◌, ◌-◌, ◌<◌, ◌≤◌, ◌^◌, ◌==◌, ◌&&◌, nat_lt, Bool, true, false, if◌then◌else◌, List, [], ◌∷◌, drop, length, map, slice_get, Option, Some, IfSome, refl, sym, ap, ap₂, subst, ◌∙◌, inl, inr, arith, eq-eqb, ne_eqb, lt-ltb, eqb-true, ltb-true}
+use Rattle.std.specs.List.{range_with_len}
+use Rattle.std.proofs.Common.{◌≡◌, ℕ, ◌+◌, ◌-◌, ◌<◌, ◌^◌, ◌==◌, ◌&&◌, nat_lt, Bool, true, false, if◌then◌else◌, List, [], ◌∷◌, drop, length, map, slice_get, Option, Some, IfSome, refl, sym, ap, subst, ◌∙◌, arith, eq-eqb, ne_eqb, lt-ltb, eqb-true, ltb-true}
 use Rattle.std.proofs.lemmas.Bool.{both_ways, and_parts}
 use Rattle.std.proofs.lemmas.List.{length-map}
 use Rattle.arrayvec.specs.ArrayVec.{ArrayVec}
 use Rattle.shr_base.specs.declared.Id.{Id}
 use Rattle.rack.specs.Seen.{Seen}
-use Rattle.pool_state.specs.declared.contents.Drive.{Drive}
 use Rattle.pool_state.specs.declared.contents.Plan.{Plan}
 use Rattle.pool_state.specs.declared.contents.Plan.TheVariants.{Nothing}
 use Rattle.pool_state.specs.declared.contents.State.{State}
@@ -16,11 +14,9 @@ use Rattle.pool_state.specs.declared.contents.Work.TheVariants.{Resync, Rebuild,
 use Rattle.array_image.specs.States.{is_current}
 use Rattle.array_model.specs.declared.Seat.{Seat}
 use Rattle.array_model.specs.View.{View}
-use Rattle.array_core.specs.Seats.{seat_of}
 use Rattle.array_sync.specs.Steps.{resynced}
 use Rattle.growth_plan.specs.declared.ArrayNow.{ArrayNow}
 use Rattle.growth_plan.specs.declared.Progress.{Progress}
-use Rattle.growth_plan.specs.Book.{IsBook}
 use Rattle.growth_plan.specs.Doing.{HasOneLayer, after, change, is_of_layer}
 use Rattle.growth_plan.specs.Works.{works_left}
 use Rattle.growth_plan.proofs.Done.{first_done}
@@ -45,7 +41,15 @@ one_less (x ∷ works) work here = grind arith
 -- whether a member is being rebuilt, by what that goes by
 rebuilding_by : ArrayVec ℕ → ℕ → List Seat → List Id → ℕ → Bool
 rebuilding_by roles disks seats devices place = is_rebuilding_on (record {
-  number = 0; truth = record no_super { roles = roles; raid_disks = disks }; seats = seats; devices = devices; went = []; resync = 0; young = false; marked = false }) place
+  number = 0;
+  truth = record no_super { roles = roles; raid_disks = disks };
+  seats = seats;
+  devices = devices;
+  went = [];
+  resync = 0;
+  young = false;
+  marked = false;
+}) place
 
 rebuilding_as : (v : View) (place : ℕ) → is_rebuilding_on v place ≡ rebuilding_by v.truth.roles v.truth.raid_disks v.seats v.devices place
 unfolding rebuilding_by
@@ -130,8 +134,8 @@ rest_left l v w a work set some small same first other is =
     ∙ ap (λ b. if b then works_left w.state (progress_by l w) else []) listed in
     let head : slice_get (works_left v.state p) 0 ≡ Some work = ap (λ (ws : List Work). slice_get ws 0) (sym own) ∙ first in
     let done = subst (λ (o : Option Work). IfSome o (λ work. (is_of_layer work ≡ true → HasOneLayer v.state p.arrays.items)
-        → works_left (after work v.state p).state (after work v.state p).progress ≡ drop 1 (works_left v.state p)))
-        head (first_done v.state p (is_book l v a set some small)) in
+    → works_left (after work v.state p).state (after work v.state p).progress ≡ drop 1 (works_left v.state p)))
+    head (first_done v.state p (is_book l v a set some small)) in
     ap (λ (ws : List Work). length ws + 1) (new ∙ is ∙ done (λ of. absurd (both_ways (is_of_layer work) other of)))
     ∙ one_less (works_left v.state p) work head ∙ ap length (sym own)
 
@@ -155,9 +159,9 @@ resync_counted l v w a b m set heeded some small alone first marks does =
     let to : ArrayNow → ArrayNow = λ x. record x { resync = x.resync - 1 } in
     let now = now_at l v w a b set steps.brings.set heeded steps.heeded same marks alone next only roles disks seats devices young in
     let changed = one_changed f (λ n. array_now w.state.extent (w.arrays n)) to m v.state.made
-        (λ n low is. now n low ∙ ap (array_now v.state.extent) (at n) ∙ ap (λ t. array_now v.state.extent (if t then (resynced (v.arrays n)) else v.arrays n)) (eq-eqb n m is)
-        ∙ now_resynced v.state.extent (v.arrays n) (alone.grown n low))
-        (λ n low other. now n low ∙ ap (array_now v.state.extent) (at n) ∙ ap (λ t. array_now v.state.extent (if t then (resynced (v.arrays n)) else v.arrays n)) (ne_eqb n m other)) in
+    (λ n low is. now n low ∙ ap (array_now v.state.extent) (at n) ∙ ap (λ t. array_now v.state.extent (if t then (resynced (v.arrays n)) else v.arrays n)) (eq-eqb n m is)
+    ∙ now_resynced v.state.extent (v.arrays n) (alone.grown n low))
+    (λ n low other. now n low ∙ ap (array_now v.state.extent) (at n) ∙ ap (λ t. array_now v.state.extent (if t then (resynced (v.arrays n)) else v.arrays n)) (ne_eqb n m other)) in
     record {
       less = rest_left l v w a (Resync m) set some small same first refl
           (left_as l v w a b set steps.brings.set heeded steps.heeded same marks alone next only roles disks seats devices young
@@ -168,11 +172,14 @@ resync_counted l v w a b m set heeded some small alone first marks does =
     at_eq : (v : Raid) (m n : ℕ) (t : Bool) → (n == m) ≡ t → (if t && true then (resynced (v.arrays m)) else v.arrays n) ≡ (if t then (resynced (v.arrays n)) else v.arrays n)
     at_eq v m n true is = ap (λ k. resynced (v.arrays k)) (sym (eqb-true n m is))
     at_eq v m n false is = refl
+
     at_row : (v : Raid) (m n : ℕ) → stepped v m (resynced (v.arrays m)) true n ≡ (if n == m then (resynced (v.arrays n)) else v.arrays n)
     at_row v m n = at_eq v m n (n == m) refl
+
     kept_if : {X : Type 0} (f : View → X) → ((u : View) → f (resynced u) ≡ f u) → (u : View) (t : Bool) → f (if t then (resynced u) else u) ≡ f u
     kept_if f same u true = same u
     kept_if f same u false = refl
+
     kept_at : {X : Type 0} (v : Raid) (m : ℕ) (f : View → X) → ((u : View) → f (resynced u) ≡ f u) → (n : ℕ) → f (stepped v m (resynced (v.arrays m)) true n) ≡ f (v.arrays n)
     kept_at v m f same n = ap f (at_row v m n) ∙ kept_if f same (v.arrays n) (n == m)
 

@@ -1,10 +1,9 @@
 -- A work that is done where no drive is lost: its array has one row less to do, and no other has changed.
 use Rattle.std.specs.List.{enumerate_from, range_with_len}
-use Rattle.std.proofs.Common.{◌≡◌, ℕ, ℤ, zero, suc, ◌+◌, ◌-◌, ◌/◌, ◌<◌, ◌≤◌, ◌==◌, Bool, true, false, if◌then◌else◌, List, [], ◌∷◌, map, refl, sym, ap, ap₂, ◌∙◌, inl, inr, arith, eq-eqb}
+use Rattle.std.proofs.Common.{◌≡◌, ℕ, ℤ, zero, suc, ◌+◌, ◌-◌, ◌<◌, ◌≤◌, ◌==◌, false, if◌then◌else◌, List, [], ◌∷◌, map, refl, sym, ap, ap₂, ◌∙◌, inl, inr, arith, eq-eqb}
 use Rattle.std.proofs.lemmas.Bool.{both_ways, eqb-true, cases_Bool}
 use Rattle.arrayvec.specs.ArrayVec.{ArrayVec}
 use Rattle.shr_base.specs.declared.Id.{Id}
-use Rattle.md_super.specs.declared.superblock.Super.{Super}
 use Rattle.array_model.specs.declared.Seat.{Seat}
 use Rattle.array_model.specs.View.{View, rows_of}
 use Rattle.array_sync.specs.Steps.{resynced}

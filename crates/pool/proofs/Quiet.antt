@@ -1,6 +1,6 @@
 -- Arrays and a state that nobody was lost of.
 use Rattle.std.specs.List.{list_any}
-use Rattle.std.proofs.Common.{◌≡◌, ◌⊎◌, ℕ, ℤ, zero, suc, ◌+◌, ◌-◌, ◌<◌, ◌≤◌, ◌==◌, ◌&&◌, not, Bool, true, false, if◌then◌else◌, List, [], ◌∷◌, length, map, slice_get, Option, Some, None, option_map, unwrap_or, refl, sym, ap, ap₂, subst, ◌∙◌, inl, inr, arith}
+use Rattle.std.proofs.Common.{◌≡◌, ℕ, suc, ◌<◌, ◌==◌, ◌&&◌, not, Bool, true, false, List, [], ◌∷◌, map, slice_get, Option, Some, None, option_map, unwrap_or, refl, sym, ap, ap₂, ◌∙◌, inl, inr, arith}
 use Rattle.std.specs.Option.{option_map_or}
 use Rattle.std.proofs.lemmas.Bool.{both_ways}
 use Rattle.std.proofs.lemmas.Option.{slice_get_within}
@@ -8,15 +8,14 @@ use Rattle.arrayvec.specs.ArrayVec.{ArrayVec}
 use Rattle.shr_base.specs.declared.Id.{Id}
 use Rattle.rack.specs.Seen.{Seen}
 use Rattle.pool_state.specs.declared.contents.Drive.{Drive}
-use Rattle.pool_state.specs.declared.contents.Plan.{Plan}
 use Rattle.pool_state.specs.declared.contents.State.{State}
 use Rattle.array_image.specs.States.{is_current}
 use Rattle.array_model.specs.declared.Seat.{Seat}
 use Rattle.array_model.specs.declared.Seat.TheVariants.{Whole, Missing, Rebuilding}
 use Rattle.array_image.specs.Arrays.{place_with}
-use Rattle.array_model.specs.View.{View, has_gone, is_missing_seat, place_at}
+use Rattle.array_model.specs.View.{View, is_missing_seat, place_at}
 use Rattle.raid_rack.specs.Book.{IsSameBook, drive_of}
-use Rattle.raid_rack.specs.Moves.{IsHeeded, IsSeated, LosesOnly}
+use Rattle.raid_rack.specs.Moves.{IsSeated, LosesOnly}
 
 -- ---- seats
 
@@ -104,8 +103,16 @@ state_same p q same marks =
     let joined = same.joined in
     let serial = same.serial in
     alike (λ (pool : Id) (extent : ℕ) (ds : List Drive) (made joined serial : ℕ). record {
-      pool = pool; epoch = p.epoch; extent = extent; drives = record { items = ds }; plan = q.plan; made = made; joined = joined; serial = serial })
-      pool extent drives made joined serial
+      pool = pool;
+      epoch = p.epoch;
+      extent = extent;
+      drives = record { items = ds };
+      plan = q.plan;
+      made = made;
+      joined = joined;
+      serial = serial;
+    })
+    pool extent drives made joined serial
   where
     alike : (f : Id → ℕ → List Drive → ℕ → ℕ → ℕ → State) {i j : Id} {a b : ℕ} {ds es : List Drive} {c d e g h k : ℕ}
         → i ≡ j → a ≡ b → ds ≡ es → c ≡ d → e ≡ g → h ≡ k → f i a ds c e h ≡ f j b es d g k

@@ -1,9 +1,9 @@
 -- What a work says of what is left, and works in a row.
 use Rattle.std.specs.Prelude.{IfErr, OnOk, Result, is_ok}
-use Rattle.std.proofs.Common.{◌≡◌, ◌⊎◌, ℕ, zero, suc, ◌+◌, ◌-◌, ◌*◌, ◌/◌, ◌%◌, ◌<◌, ◌≤◌, nat_lt, Bool, true, false, if◌then◌else◌, not, List, [], ◌∷◌, length, slice_get, ◌==◌, ◌&&◌, Option, Some, None, Ok, Err, refl, sym, ap, subst, ◌∙◌, inl, inr, arith, ltb-true}
+use Rattle.std.proofs.Common.{◌≡◌, ℕ, ◌+◌, ◌/◌, ◌<◌, nat_lt, Bool, true, false, if◌then◌else◌, not, List, [], ◌∷◌, length, slice_get, ◌==◌, ◌&&◌, Some, None, Ok, Err, refl, sym, ap, subst, ◌∙◌, inl, inr, arith, ltb-true}
 use Rattle.std.proofs.lemmas.Bool.{and_parts, both_ways, cases_Bool}
 use Rattle.rack.specs.Joins.{rose_before, rose_since}
-use Rattle.rack.specs.Seen.{Rose, Seen}
+use Rattle.rack.specs.Seen.{Seen}
 use Rattle.array_image.specs.States.{is_current}
 use Rattle.array_model.specs.View.{View as ArrayView, rows_of}
 use Rattle.std.specs.Option.{option_map_or}
@@ -134,9 +134,9 @@ module _ {R : Type 0} (seen : R → Seen) (runs : R → R → Type 0) (laws : La
       elim (cases_Bool (is_due (book x) work)) [
         | inl due ↦
             let one = work_counted (linear p.volume) (book x) (book y) (slices_seen seen (arrays_of p)) (slices_seen seen new) work fit.0.running.set
-                fit.0.heeded (some_drive (linear p.volume) (book x) work first)
-                (small_extents (linear p.volume) (raid_seen seen (arrays_of p)) p.volume.orderly fit.1) alone first
-                (quiet_marks x y call.passes call.marks quiet) due (says.does due) in
+            fit.0.heeded (some_drive (linear p.volume) (book x) work first)
+            (small_extents (linear p.volume) (raid_seen seen (arrays_of p)) p.volume.orderly fit.1) alone first
+            (quiet_marks x y call.passes call.marks quiet) due (says.does due) in
             (one.alone, λ some. one.less)
         | inr idle ↦ absurd (both_ways true (says.idle idle).0 refl)
       ]

@@ -1,11 +1,10 @@
 -- Works of maintenance in a row, and what they are to the volume.
-use Rattle.std.specs.Prelude.{Result}
 use Rattle.std.proofs.Common.{◌≡◌, refl, sym, subst, ◌∙◌}
 use Rattle.rack.specs.Seen.{IsPick, Seen, Stays}
 use Rattle.rack.specs.Calls.{KeepsAll}
 use Rattle.rack.specs.Joins.{keeps_all_then, stays_same, stays_then, keeps_same, leaves_same}
 use Rattle.slice_rack.specs.Runs.{runs_join, runs_none}
-use Rattle.slice_rack.specs.SliceRack.{below_of, tables}
+use Rattle.slice_rack.specs.SliceRack.{tables}
 use Rattle.lvm_group.proofs.Below.{keeps_volume, stays_volume}
 use Rattle.lvm_group.specs.Runs.{Linear}
 use Rattle.lvm_group.specs.Shown.{volume_of}

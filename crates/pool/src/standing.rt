@@ -84,7 +84,9 @@ fn rows_to_rebuild(array: &Array, place: Option<u32>) -> u64
     ensures { result ≡ option_map_or (spec.rows_to_rebuild array.now) place 0 }
 {
     match place {
-        Some(place) => array.rows().saturating_sub(reach(array, place) / ROW_SECTORS),
+        Some(place) => array
+            .rows()
+            .saturating_sub(reach(array, place) / ROW_SECTORS),
         None => 0,
     }
 }

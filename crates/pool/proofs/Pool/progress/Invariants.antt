@@ -1,6 +1,5 @@
 use Rattle.std.proofs.Common.{◌≡◌, map}
 use Rattle.std.specs.List.{range_with_len}
-use Rattle.growth_plan.specs.declared.ArrayNow.{ArrayNow}
 use Rattle.pool.specs.View.{book, view}
 use Rattle.pool.specs.Works.{array_now}
 use Rattle.pool.proofs.Pool.progress.Given as goal

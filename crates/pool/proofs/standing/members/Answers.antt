@@ -1,4 +1,4 @@
-use Rattle.std.proofs.Common.{◌≡◌, ◌+◌, ◌<◌, ◌≤◌, cond, List, ℕ, [], ◌∷◌, ◌++◌, filter, length, append-nil, true, sym, ap, ◌∙◌, arith, lit<}
+use Rattle.std.proofs.Common.{◌<◌, cond, List, ℕ, [], ◌∷◌, ◌++◌, filter, length, append-nil, sym, ap, ◌∙◌, arith, lit<}
 use Rattle.std.specs.List.{range_with_len}
 use Rattle.array_image.specs.Supers.{is_named}
 use Rattle.arrayvec.specs.ArrayVec.{ArrayVec}
