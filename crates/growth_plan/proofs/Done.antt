@@ -1,18 +1,18 @@
 -- The first work that is left, done: the rest of the list is left.
-use Rattle.std.proofs.Common.{◌≡◌, List, [], ◌∷◌, ◌++◌, drop, slice_get, Option, Some, None, IfSome, inl, inr, true, false, nat_lt, refl, sym, ap, ◌∙◌, ⊎_elim}
+use Rattle.std.proofs.Common.{◌≡◌, ℕ, Bool, List, [], ◌∷◌, ◌++◌, replicate, if◌then◌else◌, drop, slice_get, Option, Some, None, IfSome, inl, inr, true, false, nat_lt, refl, sym, ap, ◌∙◌, ⊎_elim}
 use Rattle.std.specs.List.{flat_map}
 use Rattle.std.specs.Option.{option_map_or}
 use Rattle.std.proofs.lemmas.Bool.{cases_Bool, cond-false}
 use Rattle.layer_plan.specs.declared.Layer.{Layer}
 use Rattle.pool_state.specs.declared.contents.State.{State}
 use Rattle.pool_state.specs.declared.contents.Work.{Work}
-use Rattle.pool_state.specs.declared.contents.Work.TheVariants.{Make}
+use Rattle.pool_state.specs.declared.contents.Work.TheVariants.{Make, Zero, Ready}
 use Rattle.growth_plan.specs.declared.Progress.{Progress}
 use Rattle.growth_plan.specs.Book.{IsBook, standing}
 use Rattle.growth_plan.specs.Target.{new_layer}
 use Rattle.growth_plan.specs.Works.{resyncs, rebuilds, growths, rows_of, zeros, makes, extends, closes, works_left}
-use Rattle.growth_plan.specs.Doing.{HasOneLayer}
-use Rattle.growth_plan.proofs.Heads.{in_order-same, first_part}
+use Rattle.growth_plan.specs.Doing.{HasOneLayer, is_of_layer}
+use Rattle.growth_plan.proofs.Heads.{in_order-same, first_copy, first_part}
 use Rattle.growth_plan.proofs.RowsDone.{left_after, resync_done, rebuild_done}
 use Rattle.growth_plan.proofs.GrowthDone.{growth_done}
 use Rattle.growth_plan.proofs.ZerosDone.{zero_at, after_makes, young_done}
@@ -37,6 +37,30 @@ makes_done s p w more book one e =
     (option_map_or (λ l. Make s.made l.height ∷ zeros s.made (rows_of s l.height)) (new_layer s p.arrays.items) []) ready) ∙ e))
     (cases_Bool (nat_lt s.joined s.made))
 
+-- the first of the works on a new layer is one of them
+zeros_first : (number rows : ℕ) (w : Work) (more : List Work) → zeros number rows ≡ w ∷ more → is_of_layer w ≡ true
+zeros_first number rows w more e =
+    elim (first_part w more (replicate rows (Zero number)) (Ready number ∷ []) e) [
+      | inr here ↦ ap is_of_layer (first_copy rows (Zero number) w here.more here.here).0
+      | inl none ↦ let last : w ≡ Ready number = cc none.1 in ap is_of_layer last
+    ]
+
+new_first : (s : State) (layer : Option Layer) (w : Work) (more : List Work) →
+    option_map_or (λ l. Make s.made l.height ∷ zeros s.made (rows_of s l.height)) layer [] ≡ w ∷ more → is_of_layer w ≡ true
+new_first s None w more e = cc
+new_first s (Some layer) w more e = let first : w ≡ Make s.made layer.height = cc e in ap is_of_layer first
+
+makes_first : (s : State) (p : Progress) (w : Work) (more : List Work) → makes s p.arrays.items ≡ w ∷ more → is_of_layer w ≡ true
+makes_first s p w more = first_when (nat_lt s.joined s.made)
+  where
+    first_when :
+        (young : Bool)
+        → (if young then zeros s.joined (zero_at p.arrays.items s.joined)
+        else option_map_or (λ l. Make s.made l.height ∷ zeros s.made (rows_of s l.height)) (new_layer s p.arrays.items) []) ≡ w ∷ more
+        → is_of_layer w ≡ true
+    first_when true e = zeros_first s.joined (zero_at p.arrays.items s.joined) w more e
+    first_when false e = new_first s (new_layer s p.arrays.items) w more e
+
 -- the end, where all else is done
 end_done : (s : State) (p : Progress) (w : Work) (rest : List Work) → flat_map resyncs (standing p.arrays.items) ≡ [] →
     flat_map (rebuilds s) (standing p.arrays.items) ≡ [] → flat_map (growths s) (standing p.arrays.items) ≡ [] → makes s p.arrays.items ≡ [] →
@@ -52,7 +76,7 @@ end_done s p w rest hr hb hg hm e =
     ]
 
 -- and from a new layer on
-later_done : (s : State) (p : Progress) (w : Work) (rest : List Work) → IsBook s p → HasOneLayer s p.arrays.items →
+later_done : (s : State) (p : Progress) (w : Work) (rest : List Work) → IsBook s p → (is_of_layer w ≡ true → HasOneLayer s p.arrays.items) →
     flat_map resyncs (standing p.arrays.items) ≡ [] → flat_map (rebuilds s) (standing p.arrays.items) ≡ [] →
     flat_map (growths s) (standing p.arrays.items) ++ (makes s p.arrays.items ++ (extends s p ++ closes s)) ≡ w ∷ rest → left_after w s p ≡ rest
 later_done s p w rest book one hr hb e =
@@ -65,14 +89,14 @@ later_done s p w rest book one hr hb e =
       | inl none ↦
           elim (first_part w rest m (extends s p ++ closes s) none.1) [
             | inr here ↦
-                makes_done s p w here.more book one here.here
+                makes_done s p w here.more book (one (makes_first s p w here.more here.here)) here.here
                 ∙ in_order-same [] [] [] here.more (extends s p) (closes s) _ _ g here.more (extends s p) (closes s) hr hb none.0 refl refl refl
                 ∙ sym here.behind
             | inl made ↦ end_done s p w rest hr hb none.0 made.0 made.1
           ]
     ]
 
-pub work_done : (s : State) (p : Progress) (w : Work) (rest : List Work) → IsBook s p → HasOneLayer s p.arrays.items →
+pub work_done : (s : State) (p : Progress) (w : Work) (rest : List Work) → IsBook s p → (is_of_layer w ≡ true → HasOneLayer s p.arrays.items) →
     works_left s p ≡ w ∷ rest → left_after w s p ≡ rest
 work_done s p w rest book one e =
     let r = flat_map resyncs (standing p.arrays.items) in
@@ -92,10 +116,10 @@ work_done s p w rest book one e =
 
 -- where there is a first work
 first_of : (s : State) (p : Progress) (works : List Work) → IsBook s p → works_left s p ≡ works →
-    IfSome (slice_get works 0) (λ work. HasOneLayer s p.arrays.items → left_after work s p ≡ drop 1 works)
+    IfSome (slice_get works 0) (λ work. (is_of_layer work ≡ true → HasOneLayer s p.arrays.items) → left_after work s p ≡ drop 1 works)
 first_of s p [] book e = tt
 first_of s p (w ∷ rest) book e = λ one. work_done s p w rest book one e
 
 pub first_done : (s : State) (p : Progress) → IsBook s p →
-    IfSome (slice_get (works_left s p) 0) (λ work. HasOneLayer s p.arrays.items → left_after work s p ≡ drop 1 (works_left s p))
+    IfSome (slice_get (works_left s p) 0) (λ work. (is_of_layer work ≡ true → HasOneLayer s p.arrays.items) → left_after work s p ≡ drop 1 (works_left s p))
 first_done s p book = first_of s p (works_left s p) book refl

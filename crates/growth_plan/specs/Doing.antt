@@ -1,5 +1,5 @@
 -- A book after a work. The epoch of the state, which each change of it raises, has no part in the works and stays here.
-use Rattle.std.specs.Prelude.{◌≡◌, ℕ, pos, ◌+◌, ◌-◌, true, false, ◌==◌, if◌then◌else◌, List, [], ◌∷◌, ◌++◌, length, map, sum, None}
+use Rattle.std.specs.Prelude.{◌≡◌, ℕ, pos, ◌+◌, ◌-◌, Bool, true, false, ◌==◌, if◌then◌else◌, List, [], ◌∷◌, ◌++◌, length, map, sum, None}
 use Rattle.std.specs.List.{enumerate_from}
 use Rattle.std.specs.Option.{option_map_or}
 use Rattle.pool_state.specs.declared.contents.Plan.TheVariants.{Nothing}
@@ -70,3 +70,17 @@ top_at_end s arrays = height_of arrays + option_map_or (λ layer. layer.height) 
 -- a change gives one new layer at most: the drives have room for none above it
 pub record HasOneLayer (s : State) (arrays : List ArrayNow) : Type 0 where
   pub no_other : layer_above (units_of s) (top_at_end s arrays) ≡ None
+
+-- a work on a new layer
+abbrev pub is_of_layer : Work → Bool
+is_of_layer (Resync n) = false
+is_of_layer (Rebuild n place) = false
+is_of_layer (TakeOver n) = false
+is_of_layer (Begin n place) = false
+is_of_layer (Reshape n) = false
+is_of_layer (Finish n) = false
+is_of_layer (Make n height) = true
+is_of_layer (Zero n) = true
+is_of_layer (Ready n) = true
+is_of_layer Extend = false
+is_of_layer Close = false

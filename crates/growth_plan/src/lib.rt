@@ -11,7 +11,7 @@
 //! memory, and each answers for every book, also for one whose parts disagree.
 #![tactic(auto)]
 
-ghost use Rattle.std.specs.Prelude.{◌≡◌, ℕ, ◌+◌, ◌-◌, ◌*◌, ◌^◌, ◌<◌, ◌≤◌, length, drop, slice_get, slice_index, sum, IfSome};
+ghost use Rattle.std.specs.Prelude.{◌≡◌, ℕ, ◌+◌, ◌-◌, ◌*◌, ◌^◌, ◌<◌, ◌≤◌, true, length, drop, slice_get, slice_index, sum, IfSome};
 ghost use Rattle.growth_plan.specs.declared.ArrayNow.{ArrayNow};
 ghost use Rattle.std.specs.Result.{result_err};
 ghost use Rattle.layer_plan.specs.Slicing.{IsBest};
@@ -19,7 +19,7 @@ ghost use Rattle.growth_plan.specs.Book.{IsBook, units_of};
 ghost use Rattle.growth_plan.specs.Sound.{IsSoundBook};
 ghost use Rattle.growth_plan.specs.Target.{targets};
 ghost use Rattle.growth_plan.specs.Works.{works_left};
-ghost use Rattle.growth_plan.specs.Doing.{after, HasOneLayer};
+ghost use Rattle.growth_plan.specs.Doing.{after, HasOneLayer, is_of_layer};
 ghost use Rattle.growth_plan.specs.Admission.{add_refusals, replace_refusals, first_refusal};
 
 mod admission;
@@ -138,8 +138,8 @@ pub fn admit_replace(
 pub fn next_work(state: &State, progress: &Progress) -> Option<Work>
     requires { IsBook state.now progress.now }
     ensures first { result ≡ slice_get (works_left state.now progress.now) 0 }
-    // The book after it has the rest of the works left.
-    ensures done { IfSome result (λ work. HasOneLayer state.now progress.now.arrays.items →
+    // The book after it has the rest of the works left. After a new layer there is none above it.
+    ensures done { IfSome result (λ work. (is_of_layer work ≡ true → HasOneLayer state.now progress.now.arrays.items) →
         works_left (after work state.now progress.now).state (after work state.now progress.now).progress ≡ drop 1 (works_left state.now progress.now)) }
     ensures one_layer { IsSoundBook state.now progress.now → HasOneLayer state.now progress.now.arrays.items }
 {

@@ -5,3 +5,10 @@ mod Reached
 mod Losing
 mod Cleaning
 mod NewPools
+mod Working
+mod Rooms
+mod Books
+mod Quiet
+mod Counting
+mod Counted
+mod Stepping

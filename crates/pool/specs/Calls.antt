@@ -1,5 +1,5 @@
 -- What each call of a pool does.
-use Rattle.std.specs.Prelude.{◌≡◌, ◌⊎◌, ◌↔◌, ℕ, ◌<◌, ◌≤◌, true, false, List, Some, Result, Err, OnOk, OnErr}
+use Rattle.std.specs.Prelude.{◌≡◌, ◌⊎◌, ◌↔◌, ℕ, ◌<◌, ◌≤◌, ◌+◌, min, true, false, List, Some, Result, Err, IfErr, IfOk, OnOk, OnErr}
 use Rattle.rack.specs.Seen.{Image, Rose, Stays}
 use Rattle.rack.specs.Sequences.{WritesOnly}
 use Rattle.flat_array.specs.Array.{FlatArray, written, flushed}
@@ -19,6 +19,8 @@ use Rattle.pool.specs.declared.calls.LoseFault.TheVariants.{LastDrive, NoSuchDri
 use Rattle.pool.specs.declared.calls.SectorFault.{SectorFault}
 use Rattle.pool.specs.declared.calls.SectorFault.TheVariants.{Range, Spent}
 use Rattle.pool.specs.View.{View, book, slices_shown, volume}
+use Rattle.raid_rack.specs.declared.works.Stuck.{Stuck}
+use Rattle.pool.specs.Works.{HasRowsAlone, IsStuck, left_of}
 use Rattle.pool.specs.Volume.{Does, Holds, is_spent, size_of, unchanged}
 
 -- What each call keeps: the volume stays where it is, marks and nothing else come to the book, and of the bay's disks only sectors
@@ -93,3 +95,23 @@ pub record Ends (x y : View) : Type 0 where
   pub marks : Marks x y
   pub does : Does x y unchanged flushed
   pub rows : LeavesItsRows x y
+
+-- no disk of the bay has a new fault
+abbrev pub IsQuiet : View → View → Type 0
+IsQuiet x y = (d : ℕ) → Rose (x.bay.faults d) (y.bay.faults d) → ⊥
+
+-- a work is done, or none was left
+abbrev pub IsOneFewer : View → View → Type 0
+IsOneFewer x y =
+    IsQuiet x y → HasRowsAlone (book x) → HasRowsAlone (book y) × (0 < left_of x → left_of y + 1 ≡ left_of x)
+
+-- Works of maintenance are done. No value moves, and what is answered is left. Where no disk's faults rose and only rows to resync were
+-- left of the arrays, as many fewer are left as were asked for, or none. Else an array can't do a work.
+pub record Steps (x y : View) (count : ℕ) (result : Result ℕ Stuck) : Type 0 where
+  pub passes : Passes x y
+  pub marks : Marks x y
+  pub does : Does x y unchanged unchanged
+  pub left : IfOk result (λ left. left ≡ left_of y)
+  pub progress :
+      OnOk result (IsQuiet x y → HasRowsAlone (book x) → HasRowsAlone (book y) × (left_of y + min count (left_of x) ≡ left_of x))
+  pub stuck : IfErr result (λ e. IsStuck y.linear (book y) e.array)

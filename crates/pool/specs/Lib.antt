@@ -1,4 +1,5 @@
 pub mod View
 pub mod Volume
+pub mod Works
 pub mod Calls
 pub mod Made

@@ -9,12 +9,14 @@
 //!
 //! **The contract for the layer above**: each call does to the volume what it does to a flat array of sectors, at each moment that a
 //! stop may meet, in all sectors that aren't spent when the call returns (`Does` of specs/Volume.antt); it is refused exactly by its
-//! cause (specs/Calls.antt); drives are marked lost only where their faults rose, or the caller lost them (`Marks`); and of the bay's
-//! disks only sectors of slices are written (`Passes`).
+//! cause (specs/Calls.antt); each step of maintenance takes one work off those that are left (specs/Works.antt); drives are marked lost
+//! only where their faults rose, or the caller lost them (`Marks`); and of the bay's disks only sectors of slices are written (`Passes`).
 #![tactic(auto)]
 
 mod calls;
 mod making;
+mod standing;
+mod works;
 
 pub use assembler::{Part, Refusal};
 pub use calls::{LoseFault, SectorFault};
@@ -22,6 +24,7 @@ use lvm_group::Volume;
 pub use pool_format::{Birth, CreateFault};
 use rack::Rack;
 use raid_rack::RaidRack;
+pub use raid_rack::Stuck;
 
 /// An opened pool.
 #[derive(Drop)]

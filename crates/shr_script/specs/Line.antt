@@ -6,7 +6,7 @@ use Rattle.std.specs.Str.{bytes_eq}
 use Rattle.std.specs.Str.Parse.{digits_value}
 use Rattle.hex.specs.Hex.{decode_of}
 use Rattle.shr_script.specs.declared.Command.{Command}
-use Rattle.shr_script.specs.declared.Command.TheVariants.{Read, Write, Fill, Flush, Size, Lose, Quit, Unbuilt}
+use Rattle.shr_script.specs.declared.Command.TheVariants.{Read, Write, Fill, Flush, Size, Lose, Step, Quit, Unbuilt}
 use Rattle.shr_script.specs.declared.LineFault.{LineFault}
 use Rattle.shr_script.specs.declared.LineFault.TheVariants.{Syntax}
 
@@ -97,6 +97,11 @@ abbrev pub lose_of : Option ℕ → Line
 lose_of (Some place) = Ok (Lose place)
 lose_of None = wrong
 
+-- `step N`
+abbrev pub step_of : Option ℕ → Line
+step_of (Some count) = Ok (Step count)
+step_of None = wrong
+
 -- a word that stands alone
 abbrev pub alone : Command → List (List ℕ) → Line
 alone command [] = Ok command
@@ -105,8 +110,7 @@ alone command (more ∷ words) = wrong
 -- the first words of lines that aren't built yet
 abbrev pub is_unbuilt : List ℕ → Bool
 is_unbuilt word =
-    bytes_eq word (codes "step")
-    || bytes_eq word (codes "add")
+    bytes_eq word (codes "add")
     || bytes_eq word (codes "replace")
     || bytes_eq word (codes "status")
 
@@ -125,6 +129,8 @@ built_of first words =
     then alone Size words
     else if bytes_eq first (codes "lose")
     then lose_of (only_number words)
+    else if bytes_eq first (codes "step")
+    then step_of (only_number words)
     else if bytes_eq first (codes "quit")
     then alone Quit words
     else wrong

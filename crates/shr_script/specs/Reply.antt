@@ -1,5 +1,5 @@
 -- The texts of replies: one line each.
-use Rattle.std.specs.Prelude.{ℕ, ◌==◌, if◌then◌else◌, List, [], ◌∷◌, ◌++◌, codes}
+use Rattle.std.specs.Prelude.{ℕ, ◌==◌, if◌then◌else◌, List, [], ◌∷◌, ◌++◌, codes, decimal}
 use Rattle.hex.specs.Hex.{encode_lower}
 
 -- bytes without the zeros at their end
@@ -23,6 +23,10 @@ as_line text = text ++ 10 ∷ []
 -- `data H`
 abbrev pub data_line : List ℕ → List ℕ
 data_line bytes = codes "data " ++ digits_or_dash (without_zeros bytes) ++ 10 ∷ []
+
+-- `left L`
+abbrev pub left_line : ℕ → List ℕ
+left_line works = as_line (codes "left " ++ decimal works)
 
 -- `refused WHY`
 abbrev pub refused_line : List ℕ → List ℕ

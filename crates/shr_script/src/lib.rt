@@ -18,8 +18,8 @@ mod reply;
 pub use line::{next_line, number_of, without_return};
 pub use reader::{Ended, LineReader, SCRIPT_LIMIT};
 pub use reply::{
-    REPLY_ROOM, ReplyText, add, data_reply, line_reply, refused_number_reply, refused_reply,
-    size_reply,
+    REPLY_ROOM, ReplyText, add, data_reply, left_reply, line_reply, refused_number_reply,
+    refused_reply, size_reply,
 };
 
 /// A line of a script, as a command.
@@ -55,6 +55,11 @@ pub enum Command {
     Lose {
         /// The number of the place.
         place: u64,
+    },
+    /// `step N`: does so many works of maintenance, or as many as are left.
+    Step {
+        /// How many works.
+        count: u64,
     },
     /// `quit`: ends the script, with no reply.
     Quit,

@@ -8,7 +8,7 @@ ghost use Rattle.std.specs.Str.Parse.{digits_value};
 ghost use Rattle.hex.specs.Hex.{decode_of};
 ghost use Rattle.std.specs.Option.{option_copied};
 ghost use Rattle.std.specs.Result.{result_transpose};
-ghost use Rattle.shr_script.specs.Line.{is_space, is_unbuilt as is_unbuilt_word, built_of, only_number as number_alone, read_of, lose_of, write_words, fill_words, fill_of, alone as stands_alone, words_line, line_of, number_of as number_in, sector_of as sector_in, byte_of as byte_in};
+ghost use Rattle.shr_script.specs.Line.{is_space, is_unbuilt as is_unbuilt_word, built_of, only_number as number_alone, read_of, lose_of, step_of, write_words, fill_words, fill_of, alone as stands_alone, words_line, line_of, number_of as number_in, sector_of as sector_in, byte_of as byte_in};
 ghost use Rattle.shr_script.specs.Script.{without_return as line_without_return};
 ghost use Rattle.shr_script.specs.Words.{words_after};
 
@@ -76,8 +76,7 @@ fn first_space(bytes: &[u8]) -> Option<usize>
 fn is_unbuilt(word: &[u8]) -> bool
     ensures { result ≡ is_unbuilt_word word.now }
 {
-    word == b"step".as_slice()
-        || word == b"add".as_slice()
+    word == b"add".as_slice()
         || word == b"replace".as_slice()
         || word == b"status".as_slice()
 }
@@ -98,6 +97,8 @@ fn built_command(first: &[u8], rest: Option<&[u8]>) -> Result<Command, LineFault
         alone(Command::Size, rest)
     } else if first == b"lose".as_slice() {
         lose_command(only_number(rest))
+    } else if first == b"step".as_slice() {
+        step_command(only_number(rest))
     } else if first == b"quit".as_slice() {
         alone(Command::Quit, rest)
     } else {
@@ -145,6 +146,16 @@ fn lose_command(place: Option<u64>) -> Result<Command, LineFault>
 {
     match place {
         Some(place) => Ok(Command::Lose { place }),
+        None => Err(LineFault::Syntax),
+    }
+}
+
+// `step N`
+fn step_command(count: Option<u64>) -> Result<Command, LineFault>
+    ensures { result ≡ step_of count }
+{
+    match count {
+        Some(count) => Ok(Command::Step { count }),
         None => Err(LineFault::Syntax),
     }
 }

@@ -3,7 +3,7 @@
 ghost use Rattle.std.specs.Prelude.{◌≡◌, ◌+◌, ◌*◌, ◌≤◌, ◌<◌, ◌++◌, [], ◌∷◌, length, take, codes, decimal};
 ghost use Rattle.arrayvec.specs.ArrayVec.{array_vec_len};
 ghost use Rattle.hex.specs.Hex.{encode_lower};
-ghost use Rattle.shr_script.specs.Reply.{without_zeros, digits_or_dash, data_line, refused_line, as_line};
+ghost use Rattle.shr_script.specs.Reply.{without_zeros, digits_or_dash, data_line, refused_line, as_line, left_line};
 
 use arrayvec::ArrayVec;
 use itoa::Buffer;
@@ -68,6 +68,17 @@ pub fn size_reply(text: &mut ReplyText, sectors: u64)
     text.clear();
     add(text, b"size ");
     add(text, digits.format(sectors).as_bytes());
+    add(text, b"\n");
+}
+
+/// `left L`
+pub fn left_reply(text: &mut ReplyText, works: u64)
+    ensures { text.new.items ≡ left_line works }
+{
+    let mut digits = Buffer::new();
+    text.clear();
+    add(text, b"left ");
+    add(text, digits.format(works).as_bytes());
     add(text, b"\n");
 }
 

@@ -1,0 +1,35 @@
+use Rattle.std.proofs.Common.{◌≡◌, Some, slice_get, sym, subst}
+use Rattle.raid_rack.specs.RaidRack.{IsFit, arrays_in, slices_seen}
+use Rattle.pool.specs.View.{arrays_of, view}
+use Rattle.pool.specs.Works.{works_of}
+use Rattle.pool.proofs.Stepping.{SaysOf, is_stuck_at, none_left, one_fewer}
+use Rattle.pool.proofs.Working.{worked_by, worked_none}
+use Rattle.pool.proofs.Pool.advance.Goals as goal
+
+pub work-requires : goal.work-requires
+work-requires g c = record { fit = subst (λ r. IsFit (arrays_in r) (slices_seen g.R.Rack.seen r)) (sym c.inner.ensures.value) c.requires.0 }
+
+pub returns-in-Some : goal.returns-in-Some
+returns-in-Some g c =
+    let seen = g.R.Rack.seen in
+    let p = c.args.self.now in
+    let new = c.work.new.self in
+    let own = c.work.ensures in
+    let worked = worked_by seen g.R.Rack.runs p _ new c.inner.ensures.value own.keeps own.runs own.book in
+    let first : slice_get (works_of (view seen p)) 0 ≡ Some c.in-Some.work = sym c.in-Some.ensures.first in
+    let says : SaysOf seen c.in-Some.work c.work.result (arrays_of p) new =
+    subst (λ old. SaysOf seen c.in-Some.work c.work.result old new) c.inner.ensures.value (record { idle = own.idle; does = own.does; named = own.named }) in
+    record {
+      worked = worked;
+      counted = one_fewer seen g.R.Rack.runs g.met.R.Rack.sound p new c.in-Some.work c.requires first c.work.result worked says;
+      stuck = is_stuck_at seen g.R.Rack.runs g.met.R.Rack.sound p new c.in-Some.work c.requires first c.work.result says;
+    }
+
+pub returns-in-None : goal.returns-in-None
+returns-in-None g c =
+    let p = c.args.self.now in
+    record {
+      worked = worked_none g.R.Rack.seen g.R.Rack.runs g.met.R.Rack.runs_same p c.requires;
+      counted = λ quiet alone. (alone, λ some. absurd (none_left (works_of (view g.R.Rack.seen p)) (sym c.in-None.ensures.first) some));
+      stuck = tt;
+    }

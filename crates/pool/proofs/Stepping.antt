@@ -1,0 +1,181 @@
+-- What a work says of what is left, and works in a row.
+use Rattle.std.specs.Prelude.{IfErr, OnOk, Result, is_ok}
+use Rattle.std.proofs.Common.{◌≡◌, ℕ, ◌+◌, ◌/◌, ◌<◌, nat_lt, Bool, true, false, if◌then◌else◌, not, List, [], ◌∷◌, length, slice_get, ◌==◌, ◌&&◌, Some, None, Ok, Err, refl, sym, ap, subst, ◌∙◌, inl, inr, arith, ltb-true}
+use Rattle.std.proofs.lemmas.Bool.{and_parts, both_ways, cases_Bool}
+use Rattle.rack.specs.Joins.{rose_before, rose_since}
+use Rattle.rack.specs.Seen.{Seen}
+use Rattle.array_image.specs.States.{is_current}
+use Rattle.array_model.specs.View.{View as ArrayView, rows_of}
+use Rattle.std.specs.Option.{option_map_or}
+use Rattle.array_core.specs.Seats.{seat_of}
+use Rattle.array_sync.specs.Steps.{rebuilt, resynced}
+use Rattle.growth_plan.specs.Works.{works_left}
+use Rattle.lvm_group.proofs.Extended.{small_extents}
+use Rattle.lvm_group.specs.Runs.{Linear}
+use Rattle.lvm_group.specs.Volume.{linear}
+use Rattle.pool_state.specs.declared.contents.Work.{Work}
+use Rattle.pool_state.specs.declared.contents.Work.TheVariants.{Resync, Rebuild, TakeOver, Begin, Reshape, Finish, Make, Zero, Ready, Extend, Close}
+use Rattle.raid_rack.specs.Moves.{IsSet, LosesOnly}
+use Rattle.raid_rack.proofs.Rebuilt.{row_left}
+use Rattle.raid_rack.specs.Raid.{Raid}
+use Rattle.raid_rack.specs.RaidRack.{raid_in, raid_seen, slices_seen}
+use Rattle.raid_rack.specs.Works.{Does, array_of, is_due, is_rebuilding_seat, is_stuck, is_whole_row, next_row, stepped}
+use Rattle.raid_rack.specs.declared.arrays.RaidRack.{RaidRack}
+use Rattle.raid_rack.specs.declared.works.Stuck.{Stuck}
+use Rattle.pool.specs.declared.Pool.{Pool}
+use Rattle.pool.specs.View.{View, arrays_of, book, view, volume}
+use Rattle.pool.specs.Works.{HasRowsAlone, IsStuck, IsWorked, LacksRow, left_of, progress_by, works_by, works_of}
+use Rattle.pool.specs.Calls.{IsOneFewer, IsQuiet, Marks, Passes}
+use Rattle.pool.proofs.Counted.{work_counted}
+use Rattle.pool.proofs.Reached.{with_arrays}
+use Rattle.pool.proofs.Serving.{Laws}
+use Rattle.pool.proofs.Working.{worked_call}
+
+-- ---- where no disk's faults rose
+
+-- no drive comes to be marked
+quiet_marks : (x y : View) → Passes x y → Marks x y → IsQuiet x y → (p : ℕ) → is_current (book y).state p ≡ is_current (book x).state p
+quiet_marks x y passes marks quiet p =
+    elim (cases_Bool (is_current (book x).state p)) [
+      | inl was ↦
+          elim (cases_Bool (is_current (book y).state p)) [
+            | inl is ↦ is ∙ sym was
+            | inr gone ↦ elim (marks p was gone) [ inl rose ↦ absurd (quiet _ rose) | inr none ↦ absurd none ]
+          ]
+      | inr not_was ↦
+          elim (cases_Bool (is_current (book y).state p)) [
+            | inl is ↦ absurd (both_ways (is_current (book x).state p) not_was (passes.marks.current p is))
+            | inr not_is ↦ not_is ∙ sym not_was
+          ]
+    ]
+
+-- ---- a work
+
+-- no first work, no work
+pub none_left : (works : List Work) → slice_get works 0 ≡ None → 0 < length works → ⊥
+none_left [] none some = omega (arith, some)
+none_left (work ∷ works) none some = cc none
+
+-- only a list of drives that has one has works
+some_drive : (l : Linear) (v : Raid) (work : Work) → slice_get (works_by l v) 0 ≡ Some work → 0 < length v.state.drives.items
+some_drive l v work first =
+    elim (cases_Bool (nat_lt 0 (length v.state.drives.items))) [
+      | inl some ↦ ltb-true 0 (length v.state.drives.items) some
+      | inr none ↦
+          let empty : works_by l v ≡ [] = ap (λ b. if b then works_left v.state (progress_by l v) else []) none in
+          let no : None ≡ Some work = sym (ap (λ (ws : List Work). slice_get ws 0) empty) ∙ first in
+          absurd (cc no)
+    ]
+
+-- a step changes no size
+size_if : (next u : ArrayView) (t : Bool) → next.truth.size ≡ u.truth.size → (if t then next else u).truth.size ≡ u.truth.size
+size_if next u true same = same
+size_if next u false same = refl
+
+rows_still : (v : Raid) (m : ℕ) (next w : ArrayView) (d : Bool) → next.truth.size ≡ (v.arrays m).truth.size → LosesOnly (stepped v m next d m) w → rows_of w ≡ rows_of (v.arrays m)
+rows_still v m next w d same only = ap (λ n. n / 128) (only.same.geometry.size ∙ size_if next (v.arrays m) ((m == m) && d) same)
+
+-- a row that was refused can't be had
+lacks_row : (v w : Raid) (a b : Seen) (work : Work) → IsSet v a → is_due v work ≡ true → Does work v w a b false → LacksRow w work
+lacks_row v w a b (Resync m) set due does =
+    let u = v.arrays m in
+    let parts = and_parts (nat_lt m v.state.made) (nat_lt u.resync (rows_of u)) due in
+    let only = does.steps.arrays m (ltb-true m v.state.made parts.0) in (
+      u.resync,
+      subst (λ n. u.resync < n) (sym (rows_still v m (resynced u) (w.arrays m) does.steps.is_done refl only)) (ltb-true u.resync (rows_of u) parts.1),
+      not_false (is_stuck w m u.resync) does.answer,
+    )
+  where
+    not_false : (t : Bool) → false ≡ not t → t ≡ true
+    not_false true is = refl
+    not_false false is = is
+lacks_row v w a b (Rebuild m place) set due does =
+    let u = v.arrays m in
+    let rebuilds = option_map_or is_rebuilding_seat (seat_of u place) false in
+    let parts = and_parts (nat_lt m v.state.made) (rebuilds && is_whole_row u.truth.resync_offset) due in
+    let low = ltb-true m v.state.made parts.0 in
+    let seated = set.arrays m low in
+    let left = row_left v.state m u a place seated (and_parts rebuilds (is_whole_row u.truth.resync_offset) parts.1).0 in
+    let below = left.left in
+    let whole = left.whole in
+    let size = seated.is_array.whole_rows in
+    let inside : next_row u place < rows_of u = omega (arith, below, whole, size) in (
+      next_row u place,
+      subst (λ n. next_row u place < n) (sym (rows_still v m (rebuilt u place) (w.arrays m) does.steps.is_done refl (does.steps.arrays m low))) inside,
+      does.refused refl,
+    )
+lacks_row v w a b (TakeOver m) set due does = absurd does
+lacks_row v w a b (Begin m place) set due does = absurd does
+lacks_row v w a b (Reshape m) set due does = absurd does
+lacks_row v w a b (Finish m) set due does = absurd does
+lacks_row v w a b (Make m height) set due does = absurd does
+lacks_row v w a b (Zero m) set due does = absurd does
+lacks_row v w a b (Ready m) set due does = absurd does
+lacks_row v w a b Extend set due does = absurd does
+lacks_row v w a b Close set due does = absurd (both_ways true (sym does.0) refl)
+
+-- what the arrays say of it
+pub record SaysOf {R : Type 0} (seen : R → Seen) (work : Work) (r : Result (Unit {0}) Stuck) (old new : RaidRack R) : Type 0 where
+  pub idle : is_due (raid_in old) work ≡ false → (is_ok r ≡ false) × (new ≡ old)
+  pub does : is_due (raid_in old) work ≡ true → Does work (raid_in old) (raid_in new) (slices_seen seen old) (slices_seen seen new) (is_ok r)
+  pub named : IfErr r (λ e. e.array ≡ array_of work)
+
+module _ {R : Type 0} (seen : R → Seen) (runs : R → R → Type 0) (laws : Laws seen) (p : Pool R) (new : RaidRack R) (work : Work)
+    (fit : (volume (view seen p)).fit) (first : slice_get (works_of (view seen p)) 0 ≡ Some work) where
+  -- it is one less
+  pub one_fewer : (r : Result (Unit {0}) Stuck) → IsWorked seen runs p (with_arrays p new) → SaysOf seen work r (arrays_of p) new
+      → OnOk r (IsOneFewer (view seen p) (view seen (with_arrays p new)))
+  one_fewer (Err e) worked says = tt
+  one_fewer (Ok u) worked says =
+      λ quiet alone.
+      let x = view seen p in
+      let y = view seen (with_arrays p new) in
+      let call = worked_call seen runs laws p (with_arrays p new) fit worked in
+      elim (cases_Bool (is_due (book x) work)) [
+        | inl due ↦
+            let one = work_counted (linear p.volume) (book x) (book y) (slices_seen seen (arrays_of p)) (slices_seen seen new) work fit.0.running.set
+            fit.0.heeded (some_drive (linear p.volume) (book x) work first)
+            (small_extents (linear p.volume) (raid_seen seen (arrays_of p)) p.volume.orderly fit.1) alone first
+            (quiet_marks x y call.passes call.marks quiet) due (says.does due) in
+            (one.alone, λ some. one.less)
+        | inr idle ↦ absurd (both_ways true (says.idle idle).0 refl)
+      ]
+
+  -- or the array can't do it
+  pub is_stuck_at : (r : Result (Unit {0}) Stuck) → SaysOf seen work r (arrays_of p) new → IfErr r (λ e. IsStuck (linear p.volume) (raid_in new) e.array)
+  is_stuck_at (Ok u) says = tt
+  is_stuck_at (Err e) says =
+      let v = raid_in (arrays_of p) in
+      elim (cases_Bool (is_due v work)) [
+        | inl due ↦ record {
+          work = work;
+          named = says.named;
+          why = inr (lacks_row v (raid_in new) (slices_seen seen (arrays_of p)) (slices_seen seen new) work fit.0.running.set due (says.does due));
+        }
+        | inr idle ↦ record {
+          work = work;
+          named = says.named;
+          why =
+              inl
+              (subst (λ (k : RaidRack R). (is_due (raid_in k) work ≡ false) × (slice_get (works_by (linear p.volume) (raid_in k)) 0 ≡ Some work))
+              (sym (says.idle idle).1) (idle, first));
+        }
+      ]
+
+-- ---- works in a row
+
+-- so many fewer are left, where no disk's faults rose
+abbrev pub IsFewerBy : View → View → ℕ → Type 0
+IsFewerBy x y n = IsQuiet x y → HasRowsAlone (book x) → HasRowsAlone (book y) × (left_of y + n ≡ left_of x)
+
+pub fewer_none : (x : View) → IsFewerBy x x 0
+fewer_none x = λ quiet alone. (alone, omega arith)
+
+pub fewer_then : (x y z : View) (n : ℕ) → Passes x y → Passes y z → n < left_of x → IsFewerBy x y n → IsOneFewer y z → IsFewerBy x z (n + 1)
+fewer_then x y z n one two low before more =
+    λ quiet alone.
+    let early = before (λ d rose. quiet d (rose_before (two.apart.stays.faults d) rose)) alone in
+    let late = more (λ d rose. quiet d (rose_since (one.apart.stays.faults d) rose)) early.0 in
+    let most = early.1 in
+    let last = late.1 (omega (arith, low, most)) in
+    (late.0, omega (arith, last, most))

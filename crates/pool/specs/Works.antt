@@ -1,0 +1,124 @@
+-- The works of maintenance that a pool has left, by its arrays and its volume.
+use Rattle.std.specs.Prelude.{◌≡◌, ℕ, ◌-◌, ◌/◌, ◌⊎◌, ◌||◌, not, ◌<◌, Bool, true, false, nat_lt, if◌then◌else◌, List, [], find, length, map, slice_get, Option, Some}
+use Rattle.std.specs.List.{range_with_len}
+use Rattle.std.specs.Option.{option_map_or}
+use Rattle.array_image.specs.SoundArray.{first_unsynced}
+use Rattle.array_image.specs.Supers.{is_reshaping, named_places, new_row}
+use Rattle.array_model.specs.View.{View as ArrayView, rows_of}
+use Rattle.array_core.specs.Seats.{seat_of}
+use Rattle.array_sync.specs.Rows.{others_give}
+use Rattle.array_sync.specs.Steps.{reach_on}
+use Rattle.pool_state.specs.declared.contents.Work.{Work}
+use Rattle.pool_state.specs.declared.contents.Work.TheVariants.{Resync, Rebuild, TakeOver, Begin, Reshape, Finish, Make, Zero, Ready, Extend, Close}
+use Rattle.growth_plan.specs.declared.ArrayNow.{ArrayNow}
+use Rattle.growth_plan.specs.declared.Progress.{Progress}
+use Rattle.growth_plan.specs.Works.{works_left}
+use Rattle.lvm_group.specs.Runs.{Linear, extents_of}
+use Rattle.lvm_group.specs.Volume.{linear as linear_of}
+use Rattle.rack.specs.Seen.{Seen}
+use Rattle.raid_rack.specs.Raid.{Raid, is_over}
+use Rattle.raid_rack.specs.RaidRack.{KeepsRack, SliceRuns, raid_in, raid_seen, slices_in, slices_seen, written_in}
+use Rattle.raid_rack.specs.Runs.{RaidRuns}
+use Rattle.raid_rack.specs.Works.{array_of, is_due, is_rebuilding_seat, is_stuck}
+use Rattle.pool.specs.declared.Pool.{Pool}
+use Rattle.pool.specs.View.{View, arrays_of, book}
+
+-- ---- how an array stands
+
+-- whether the member of a place is being rebuilt
+abbrev pub is_rebuilding_on : ArrayView → ℕ → Bool
+is_rebuilding_on v place = option_map_or is_rebuilding_seat (seat_of v place) false
+
+-- the place of the member that is being rebuilt
+abbrev pub rebuilding_in : ArrayView → Option ℕ
+rebuilding_in v = find (is_rebuilding_on v) (named_places v.truth)
+
+-- the rows that a place's member still has to rebuild
+abbrev pub rows_to_rebuild : ArrayView → ℕ → ℕ
+rows_to_rebuild v place = rows_of v - reach_on v place / 128
+
+-- the rows that a reshape has still to move
+abbrev pub rows_to_reshape : ArrayView → ℕ
+rows_to_reshape v = if is_reshaping v.truth then rows_of v - v.truth.reshape_position / new_row v.truth else 0
+
+-- the rows of a young array that are left to zero
+abbrev pub rows_to_zero : ArrayView → ℕ
+rows_to_zero v = if v.young then rows_of v - first_unsynced v.truth else 0
+
+-- An array, by extents of so many sectors. In a young one no row is left to resync.
+abbrev pub array_now : ℕ → ArrayView → ArrayNow
+array_now extent v = record {
+  level = v.truth.level;
+  members = record { items = named_places v.truth };
+  height = (v.truth.size - 2048) / extent;
+  rows = rows_of v;
+  resync = rows_of v - v.resync;
+  rebuild = option_map_or (rows_to_rebuild v) (rebuilding_in v) 0;
+  rebuilding = option_map_or (λ place. place) (rebuilding_in v) 0;
+  reshaping = is_reshaping v.truth;
+  reshape = rows_to_reshape v;
+  zero = rows_to_zero v;
+}
+
+-- ---- what is left of a pool's works
+
+-- the arrays of a book, by number
+abbrev pub arrays_now : Raid → List ArrayNow
+arrays_now v = map (λ n. array_now v.state.extent (v.arrays n)) (range_with_len 0 v.state.made)
+
+-- how far the arrays and the volume are
+abbrev pub progress_by : Linear → Raid → Progress
+progress_by l v = record { arrays = record { items = arrays_now v }; extents = extents_of l.runs }
+
+-- The works that a book has left, in their order. A pool has drives: a list without any, which no state has that was read, has no works.
+abbrev pub works_by : Linear → Raid → List Work
+works_by l v = if nat_lt 0 (length v.state.drives.items) then works_left v.state (progress_by l v) else []
+
+-- those of a pool
+abbrev pub works_of : View → List Work
+works_of x = works_by x.linear (book x)
+
+-- how many they are
+abbrev pub left_by : Linear → Raid → ℕ
+left_by l v = length (works_by l v)
+
+abbrev pub left_of : View → ℕ
+left_of x = left_by x.linear (book x)
+
+-- Of the arrays only rows to resync may be left: none is young, and no member is being rebuilt.
+pub record HasRowsAlone (v : Raid) : Type 0 where
+  pub grown : (n : ℕ) → n < v.state.made → (v.arrays n).young ≡ false
+  pub whole : (n p : ℕ) → n < v.state.made → is_rebuilding_on (v.arrays n) p ≡ false
+
+-- ---- works that can't be done
+
+-- a row of a work can't be had by a book: that of a resync, or what the others give of a member that is rebuilt
+abbrev pub LacksRow : Raid → Work → Type 0
+LacksRow v (Resync n) = (row : ℕ) × (row < rows_of (v.arrays n)) × (is_stuck v n row ≡ true)
+LacksRow v (Rebuild n place) = (row : ℕ) × (row < rows_of (v.arrays n)) × ((is_over v n || not (others_give (v.arrays n) place row)) ≡ true)
+LacksRow v (TakeOver n) = ⊥
+LacksRow v (Begin n place) = ⊥
+LacksRow v (Reshape n) = ⊥
+LacksRow v (Finish n) = ⊥
+LacksRow v (Make n height) = ⊥
+LacksRow v (Zero n) = ⊥
+LacksRow v (Ready n) = ⊥
+LacksRow v Extend = ⊥
+LacksRow v Close = ⊥
+
+-- An array can't do a work of its own: it is the next one and isn't due, or a row of it can't be had.
+pub record IsStuck (l : Linear) (v : Raid) (array : ℕ) : Type 0 where
+  pub work : Work
+  pub named : array ≡ array_of work
+  pub why : ((is_due v work ≡ false) × (slice_get (works_by l v) 0 ≡ Some work)) ⊎ LacksRow v work
+
+-- ---- works that are done
+
+-- Works in a row: the volume lies where it lay, its arrays keep their values, and they run on the slices below.
+pub record IsWorked {R : Type 0} (seen : R → Seen) (runs : R → R → Type 0) (p q : Pool R) : Type 0 where
+  pub linear : linear_of q.volume ≡ linear_of p.volume
+  pub keeps : KeepsRack (raid_seen seen (arrays_of p)) (raid_seen seen (arrays_of q))
+  pub ran : SliceRuns seen runs (slices_in (arrays_of p)) (slices_in (arrays_of q))
+  pub book :
+      RaidRuns (written_in (arrays_of p)) (written_in (arrays_of q)) (raid_in (arrays_of p)) (raid_in (arrays_of q))
+      (slices_seen seen (arrays_of p)) (slices_seen seen (arrays_of q))
