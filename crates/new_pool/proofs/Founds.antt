@@ -1,7 +1,7 @@
 -- The pool that the disks of a new one show: nothing is pending in it.
-use Rattle.std.proofs.Common.{◌≡◌, ℕ, ◌+◌, ◌<◌, ◌≤◌, ◌==◌, ◌&&◌, ◌||◌, not, nat_le, nat_lt, Bool, true, false, is_none, List, [], ◌∷◌, find, map, length, if◌then◌else◌, Option, Some, None, option_map, unwrap_or, Ok, refl, sym, ap, subst, ◌∙◌, inl, inr, le-leb, arith}
+use Rattle.std.proofs.Common.{◌≡◌, ℕ, ◌+◌, ◌<◌, ◌==◌, ◌&&◌, ◌||◌, nat_lt, Bool, true, false, is_none, List, [], ◌∷◌, find, map, if◌then◌else◌, Option, Some, None, option_map, unwrap_or, refl, sym, ap, subst, ◌∙◌, inl, inr, le-leb, arith}
 use Rattle.std.specs.Option.{option_and_then, option_map_or}
-use Rattle.std.specs.List.{list_all, list_any, range_with_len}
+use Rattle.std.specs.List.{list_all}
 use Rattle.std.proofs.lemmas.Bool.{both_ways, cases_Bool, cases_lt}
 use Rattle.std.proofs.lemmas.Option.{none-some}
 use Rattle.rack.specs.Seen.{Image}
@@ -11,17 +11,17 @@ use Rattle.shr_base.specs.Crc.{times_x, times_x_to}
 use Rattle.pool_state.specs.declared.contents.State.{State}
 use Rattle.array_image.specs.Foremost.{foremost}
 use Rattle.array_image.specs.Places.{arrays_first, log_sectors, log_slice, place_of, state_sector}
-use Rattle.array_image.specs.Record.{Gate, GateAt, damaged_log, gate_in, gate_of, gate_sector, is_bad_gate, is_bad_log, is_open_if_of, is_there, pending, pending_at, record_in}
+use Rattle.array_image.specs.Record.{Gate, GateAt, damaged_log, gate_in, gate_of, gate_sector, is_bad_log, is_open_if_of, is_there, pending_at, record_in}
 use Rattle.array_image.specs.States.{current_places, is_current}
 use Rattle.commit_log.specs.View.{names}
 use Rattle.commit_log.proofs.Amid.{place_of_log, slice_of_log}
 use Rattle.commit_log.proofs.Deciding.{all_at, gate_at, gate_at_is, names_first, names_later, none_of_top, nothing_pending, top}
 use Rattle.raid_rack.proofs.Added.{names_current}
-use Rattle.pool_image.specs.Disks.{Disks, Identities, identities_of, newest, seat_of}
+use Rattle.pool_image.specs.Disks.{Disks, Identities, identities_of, seat_of}
 use Rattle.pool_image.specs.Replay.{Extent, Standing, brought_state, log_extent, logs_of, standing, standing_by, written}
 use Rattle.pool_image.specs.Drives.{Found, found, found_by}
 use Rattle.pool_image.proofs.Rested.{written_none}
-use Rattle.pool_rest.specs.SoundLogs.{HasSoundLogs, IsSoundLog}
+use Rattle.pool_rest.specs.SoundLogs.{HasSoundLogs}
 use Rattle.pool_format.proofs.Founded.{drive_current}
 use Rattle.pool_format.specs.declared.Birth.{Birth}
 use Rattle.pool_format.specs.declared.planning.NewPool.{NewPool}

@@ -1,12 +1,11 @@
 -- What the disks of a new pool say of it, and which place each one has.
-use Rattle.std.proofs.Common.{◌≡◌, ◌⊎◌, ℕ, zero, suc, ◌+◌, ◌-◌, ◌<◌, ◌≤◌, ◌==◌, ◌&&◌, not, nat_lt, bytes_eq, Bool, true, false, List, [], ◌∷◌, map, position, length, slice_get, slice_index, if◌then◌else◌, Option, Some, None, option_map, refl, sym, ap, subst, ◌∙◌, inl, inr, lt-ltb, le-ltb, eq-eqb, eqb-true, arith}
+use Rattle.std.proofs.Common.{◌≡◌, ◌⊎◌, ℕ, zero, suc, ◌+◌, ◌-◌, ◌<◌, ◌≤◌, ◌==◌, not, nat_lt, bytes_eq, Bool, true, false, List, ◌∷◌, map, position, length, slice_index, if◌then◌else◌, Option, Some, None, option_map, refl, sym, ap, subst, ◌∙◌, inl, inr, lt-ltb, le-ltb, eq-eqb, eqb-true, arith}
 use Rattle.std.specs.Option.{option_map_or, option_and_then}
 use Rattle.std.specs.Result.{result_ok}
 use Rattle.std.specs.List.{range_with_len, position_or_len}
-use Rattle.std.proofs.lemmas.Bool.{both_ways, cases_Bool, cases_lt}
+use Rattle.std.proofs.lemmas.Bool.{cases_Bool, cases_lt}
 use Rattle.std.proofs.lemmas.Slice.Eq.{bytes_eq-Decides}
 use Rattle.rack.specs.Seen.{Image}
-use Rattle.pool_state.specs.declared.contents.Copied.{Copied}
 use Rattle.pool_state.specs.declared.contents.Drive.{Drive}
 use Rattle.pool_state.specs.declared.contents.State.{State}
 use Rattle.pool_state.specs.Sector.{decoded}
@@ -16,7 +15,7 @@ use Rattle.array_image.specs.States.{epoch_of, is_current}
 use Rattle.pool_image.specs.Disks.{Candidate, Disks, Identities, candidate, id_by, identities_of, newest, seat_of, stands_for}
 use Rattle.pool_format.specs.declared.Birth.{Birth}
 use Rattle.pool_format.specs.declared.planning.NewPool.{NewPool}
-use Rattle.pool_format.specs.Parts.{new_drive, new_drives, new_state}
+use Rattle.pool_format.specs.Parts.{new_drive, new_state}
 use Rattle.array_core.proofs.Opened.{current_below}
 use Rattle.pool_format.proofs.Founded.{drive_at, drive_current, state_drives}
 use Rattle.pool_format.proofs.Lists.{no_element}

@@ -1,18 +1,14 @@
 -- The rows of a new pool's arrays agree.
-use Rattle.std.proofs.Common.{◌≡◌, ◌⊎◌, ℕ, pos, zero, suc, ◌+◌, ◌-◌, ◌*◌, ◌/◌, ◌%◌, ◌<◌, ◌≤◌, ◌==◌, nat_lt, Bool, true, false, List, [], ◌∷◌, ◌++◌, get_or, map, length, slice_get, slice_index, take, if◌then◌else◌, Option, Some, None, option_map, unwrap_or, refl, sym, ap, subst, ◌∙◌, inl, inr, lt-ltb, eqb-true, arith}
-use Rattle.std.specs.Option.{option_map_or}
-use Rattle.std.specs.Ordering.{int_eq}
+use Rattle.std.proofs.Common.{◌≡◌, ℕ, zero, suc, ◌+◌, ◌-◌, ◌*◌, ◌/◌, ◌%◌, ◌<◌, ◌≤◌, List, [], ◌∷◌, ◌++◌, map, length, take, Some, refl, sym, ap, subst, ◌∙◌, arith}
 use Rattle.std.specs.List.{range_with_len}
-use Rattle.std.proofs.lemmas.Bool.{both_ways, cases_Bool, cases_eq}
 use Rattle.std.proofs.Math.Nat.{add-mod_left, mod-eq_of_lt}
 use Rattle.std.proofs.lemmas.Nat.{mod_below}
 use Rattle.parity.specs.Xor.{HasLength, xor, xor_all, zeros}
 use Rattle.parity.proofs.Laws.{parity_restores}
 use Rattle.raid_map.specs.LeftSymmetric.{StandsAt, column_of, member_of, parity_at, parity_of, sector_of}
 use Rattle.raid_map.proofs.Rows.{column_of-sector_from, offset-sector_from, row_of-sector_from, sector_from}
-use Rattle.rack.specs.Seen.{Image, read_in}
-use Rattle.array_image.specs.Places.{data_sector, member_slice}
-use Rattle.array_image.specs.Stripes.{AgreeIn, AreAll, first_there, there}
+use Rattle.rack.specs.Seen.{Image}
+use Rattle.array_image.specs.Stripes.{AreAll, first_there, there}
 use Rattle.array_image.specs.Arrays.{Member, column}
 use Rattle.pool_format.specs.Data.{row_sectors}
 

@@ -1,5 +1,5 @@
 -- The states, the superblocks and the rows of a new pool agree.
-use Rattle.std.proofs.Common.{◌≡◌, ◌⊎◌, ℕ, pos, zero, suc, ◌+◌, ◌-◌, ◌*◌, ◌%◌, ◌<◌, ◌≤◌, ◌^◌, ◌==◌, ◌&&◌, ◌||◌, nat_lt, Bool, true, false, is_none, List, [], ◌∷◌, get_or, map, length, slice_get, take, if◌then◌else◌, Option, Some, None, option_map, unwrap_or, refl, sym, ap, subst, ◌∙◌, inl, inr, lt-ltb, eq-eqb, eqb-true, arith}
+use Rattle.std.proofs.Common.{◌≡◌, ℕ, pos, zero, suc, ◌+◌, ◌*◌, ◌%◌, ◌<◌, ◌≤◌, ◌==◌, ◌&&◌, ◌||◌, nat_lt, Bool, true, false, List, get_or, map, length, slice_get, take, if◌then◌else◌, Option, Some, None, option_map, unwrap_or, refl, sym, ap, subst, ◌∙◌, inl, inr, lt-ltb, eq-eqb, eqb-true, arith}
 use Rattle.std.specs.Option.{option_map_or}
 use Rattle.std.specs.Ordering.{int_eq}
 use Rattle.std.specs.List.{list_all, range_with_len}
@@ -10,16 +10,15 @@ use Rattle.std.proofs.lemmas.Option.{none-some, slice_get-get_or}
 use Rattle.parity.specs.Xor.{xor_all, zeros}
 use Rattle.rack.specs.Seen.{Image}
 use Rattle.md_super.specs.declared.superblock.Super.{Super}
-use Rattle.md_super.specs.Profile.{is_mirror}
 use Rattle.pool_state.specs.declared.contents.Copied.{Copied}
 use Rattle.pool_state.specs.declared.contents.State.{State}
 use Rattle.array_image.specs.Places.{data_sector, member_slice, super_sector}
 use Rattle.array_image.specs.States.{is_current}
 use Rattle.array_image.specs.Stripes.{AgreeIn, AreAll, Layout, first_there, mirror, parity, sector_in, there, width}
 use Rattle.array_image.specs.Supers.{has_roles, is_named, is_rebuilding, named_places, new_row, super_in, truth_in}
-use Rattle.array_image.specs.Arrays.{Member, Shape, column, final_layout, layout_at, member_in, place_with, shape_by, shape_in, stripe_in}
+use Rattle.array_image.specs.Arrays.{Shape, column, layout_at, member_in, place_with, shape_by, shape_in, stripe_in}
 use Rattle.array_image.specs.Even.{AreEven}
-use Rattle.array_image.specs.SoundArray.{IsSoundArray, IsWrittenSuper, are_written_roles, array_fields, first_unsynced}
+use Rattle.array_image.specs.SoundArray.{IsSoundArray, IsWrittenSuper, array_fields, first_unsynced}
 use Rattle.array_image.proofs.Frames.{super_of_sector}
 use Rattle.array_core.proofs.Rules.{get_map, get_range, placed, zero_more}
 use Rattle.pool_image.specs.Disks.{Disks, identities_of}
@@ -28,14 +27,13 @@ use Rattle.pool_image.specs.Meaning.{truth_of}
 use Rattle.pool_image.specs.Sound.{IsSoundState}
 use Rattle.pool_image.proofs.Identities.{seat_inside}
 use Rattle.pool_image.proofs.Truths.{slice_of_member, slice_sector}
-use Rattle.raid_map.specs.LeftSymmetric.{StandsAt, parity_at}
 use Rattle.pool_format.specs.declared.Birth.{Birth}
 use Rattle.pool_format.specs.declared.planning.NewArray.{NewArray}
 use Rattle.pool_format.specs.declared.planning.NewPool.{NewPool}
-use Rattle.pool_format.specs.Data.{IsMemberData, array_sector, row_sectors}
+use Rattle.pool_format.specs.Data.{IsMemberData, array_sector}
 use Rattle.pool_format.specs.Parts.{new_roles, new_state, new_super, role_of}
 use Rattle.pool_format.specs.Plan.{has}
-use Rattle.pool_format.proofs.Founded.{drive_current, state_drives}
+use Rattle.pool_format.proofs.Founded.{drive_current}
 use Rattle.pool_format.proofs.Opening.{members_few, position_member}
 use Rattle.pool_format.proofs.Extents.{extent_chunks}
 use Rattle.pool_format.proofs.Units.{extent_bounds}
@@ -263,13 +261,15 @@ module _ (plan : NewPool) (birth : Birth) (disks : Disks) (c : Image) (is : IsNe
   new_array =
       let truth = truth_here plan birth disks c is n a at in
       let new : IsNewTruth plan birth disks c is n a at truth.0 = truth.2 in
-      let here : truth_in s slices n ≡ Some (block new.place) = truth_at plan birth disks c is n a at ∙ ap Some new.is_new in
-      (block new.place, record {
-        truth_is = here;
-        sound = agreeing new.place new.among here;
-        own = named_own new.place new.among;
-        is_new = record { place = new.place; among = new.among; is_new = refl };
-      })
+      let here : truth_in s slices n ≡ Some (block new.place) = truth_at plan birth disks c is n a at ∙ ap Some new.is_new in (
+        block new.place,
+        record {
+          truth_is = here;
+          sound = agreeing new.place new.among here;
+          own = named_own new.place new.among;
+          is_new = record { place = new.place; among = new.among; is_new = refl };
+        },
+      )
 
 -- ---- the pool
 

@@ -1,15 +1,14 @@
 -- The superblocks of a new pool's arrays, and where their slices lie.
-use Rattle.std.proofs.Common.{◌≡◌, ◌≢◌, ◌⊎◌, ℕ, zero, suc, ◌+◌, ◌*◌, ◌<◌, ◌≤◌, ◌^◌, ◌==◌, ◌&&◌, nat_lt, bytes_eq, is_ok, Bool, true, false, List, [], ◌∷◌, ◌++◌, map, length, replicate, slice_get, if◌then◌else◌, Option, Some, None, option_map, refl, sym, ap, subst, ◌∙◌, inl, inr, lt-ltb, eq-eqb, arith}
+use Rattle.std.proofs.Common.{◌≡◌, ◌≢◌, ℕ, zero, suc, ◌+◌, ◌*◌, ◌<◌, ◌^◌, ◌==◌, ◌&&◌, nat_lt, bytes_eq, is_ok, Bool, true, false, List, [], ◌∷◌, map, length, slice_get, if◌then◌else◌, Option, Some, None, option_map, refl, sym, ap, subst, ◌∙◌, inl, inr, lt-ltb, eq-eqb, arith}
 use Rattle.std.specs.Option.{option_and_then, option_map_or}
 use Rattle.std.specs.Result.{result_ok}
-use Rattle.std.proofs.lemmas.Bool.{and_from, both_ways, cases_Bool, cases_lt}
+use Rattle.std.proofs.lemmas.Bool.{and_from, both_ways, cases_lt}
 use Rattle.std.proofs.lemmas.Option.{none-some, slice_get_within}
 use Rattle.std.proofs.lemmas.Slice.Eq.{bytes_eq-Decides}
 use Rattle.rack.specs.Seen.{Image}
 use Rattle.shr_base.specs.Blocks.{bytes_at, number_at}
 use Rattle.layer_plan.specs.declared.Layer.{Layer}
 use Rattle.md_super.specs.declared.superblock.Super.{Super}
-use Rattle.md_super.specs.Layout.{decoded}
 use Rattle.md_super.specs.Profile.{profiled}
 use Rattle.pool_state.specs.declared.contents.State.{State}
 use Rattle.array_image.specs.Foremost.{ahead, foremost}
@@ -17,8 +16,7 @@ use Rattle.array_image.specs.Places.{arrays_first, array_id, data_sector, member
 use Rattle.array_image.specs.States.{current_places, is_current}
 use Rattle.array_image.specs.Supers.{has_roles, has_whole_row, is_super_of, only_if, super_in, super_of, truth_in}
 use Rattle.array_model.proofs.Renewed.{InList, current_of, in_current, leads}
-use Rattle.pool_image.specs.Disks.{Disks, identities_of, seat_of}
-use Rattle.pool_image.specs.Replay.{Extent}
+use Rattle.pool_image.specs.Disks.{Disks}
 use Rattle.pool_image.specs.Drives.{Found, drive_sector, end_of, extent_from, extent_of, first_of, slices_from, slices_of, truth_from}
 use Rattle.pool_image.proofs.Truths.{extent_found, slice_of_member, slice_sector, truth_found}
 use Rattle.pool_format.specs.declared.Birth.{Birth}
