@@ -3,3 +3,4 @@ pub mod Founds
 pub mod Truths
 pub mod Rows
 pub mod Sound
+pub mod Values

@@ -146,7 +146,7 @@ module _ (plan : NewPool) (birth : Birth) (disks : Disks) (c : Image) (is : IsNe
     abbrev place : ℕ → ℕ
     place j = unwrap_or (place_with u.roles.items j) 16
 
-    among_at : (j : ℕ) → j < k → has a.members.items (place j) ≡ true
+    pub among_at : (j : ℕ) → j < k → has a.members.items (place j) ≡ true
     among_at j low =
         let one = array_is plan birth disks c is n a at in
         let chunks = extent_chunks plan.extent is.is_plan.extent in
@@ -168,10 +168,10 @@ module _ (plan : NewPool) (birth : Birth) (disks : Disks) (c : Image) (is : IsNe
         ∙ ap (λ (o : Option ℕ). unwrap_or o 0) same ∙ role
 
     -- what stands at a sector of the members' data
-    abbrev value : ℕ → ℕ → List ℕ
+    abbrev pub value : ℕ → ℕ → List ℕ
     value sector j = slices (member_slice (place j) n) (data_sector + sector)
 
-    column_at : (sector j : ℕ) → sector < a.size → j < k → column slices n sector (member_in s slices n u j) ≡ Some (value sector j)
+    pub column_at : (sector j : ℕ) → sector < a.size → j < k → column slices n sector (member_in s slices n u j) ≡ Some (value sector j)
     column_at sector j inside low =
         let among = among_at j low in
         let drive = member_low plan birth disks c is n a at (place j) among in
@@ -180,7 +180,7 @@ module _ (plan : NewPool) (birth : Birth) (disks : Disks) (c : Image) (is : IsNe
         ∙ ap (λ o. if nat_lt sector (option_map_or (λ (own : Super). if is_rebuilding own then own.recovery_offset else a.size) o 0) then Some (value sector j) else None) (super_at (place j) among)
         ∙ ap (λ b. if b then Some (value sector j) else None) (lt-ltb sector a.size inside)
 
-    data_at : (sector j : ℕ) → sector < a.size → j < k → IsMemberData k array j sector (value sector j)
+    pub data_at : (sector j : ℕ) → sector < a.size → j < k → IsMemberData k array j sector (value sector j)
     data_at sector j inside low =
         let among = among_at j low in
         let drive = member_low plan birth disks c is n a at (place j) among in
@@ -197,7 +197,7 @@ module _ (plan : NewPool) (birth : Birth) (disks : Disks) (c : Image) (is : IsNe
         ap (λ (v : List ℕ). length v) (slice_at plan birth disks c is n a at (place j) (data_sector + sector) among (omega (arith, inside)))
         ∙ is.sized (place j) (a.first + (data_sector + sector)) drive (omega (arith, room, inside))
 
-    abbrev layout_by : Bool → Layout
+    abbrev pub layout_by : Bool → Layout
     layout_by two = if int_eq (pos (if two then 1 else 5)) (pos 1) then mirror k else parity k
 
     agrees_by : (sector : ℕ) → sector < a.size → (two : Bool) → (k == 2) ≡ two
@@ -212,7 +212,7 @@ module _ (plan : NewPool) (birth : Birth) (disks : Disks) (c : Image) (is : IsNe
         subst (λ vs. xor_all 512 vs ≡ zeros 512) (sym (columns slices n sector (member_in s slices n u) (value sector) 0 k (λ j from low. column_at sector j inside (omega (arith, low)))))
         (parity_agrees k array sector (value sector) wide (λ j low. value_sized sector j inside low) (λ j x low stands. (data_at sector j inside low).own wide x stands) (λ j low parity. (data_at sector j inside low).parity wide parity))
 
-    same_layout : (x : ℕ) → layout_at (shape_by s slices n u) x ≡ layout_by (k == 2)
+    pub same_layout : (x : ℕ) → layout_at (shape_by s slices n u) x ≡ layout_by (k == 2)
     unfolding shape_by
     same_layout x = of (nat_lt x 0) (layout_by (k == 2))
       where
