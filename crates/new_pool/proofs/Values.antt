@@ -1,21 +1,18 @@
 -- What the arrays of a new pool hold.
-use Rattle.std.proofs.Common.{◌≡◌, ◌⊎◌, ℕ, pos, zero, suc, ◌+◌, ◌-◌, ◌*◌, ◌/◌, ◌%◌, ◌<◌, ◌≤◌, ◌==◌, ◌&&◌, not, nat_lt, Bool, true, false, List, [], ◌∷◌, map, length, slice_get, take, count_by, if◌then◌else◌, Option, Some, None, option_map, unwrap_or, refl, sym, ap, subst, ◌∙◌, inl, inr, lt-ltb, eq-eqb, eqb-true, arith}
+use Rattle.std.proofs.Common.{◌≡◌, ℕ, zero, suc, ◌+◌, ◌-◌, ◌*◌, ◌<◌, ◌≤◌, ◌==◌, ◌&&◌, not, Bool, true, false, List, [], ◌∷◌, map, length, slice_get, take, count_by, if◌then◌else◌, Option, Some, option_map, unwrap_or, refl, sym, ap, subst, ◌∙◌, inl, inr, eq-eqb, eqb-true, arith}
 use Rattle.std.specs.Option.{option_map_or}
-use Rattle.std.specs.Ordering.{int_eq}
 use Rattle.std.specs.List.{range_with_len}
 use Rattle.std.proofs.Math.Nat.{mul_assoc, mul_comm}
-use Rattle.std.proofs.lemmas.Bool.{both_ways, cases_Bool, cases_lt}
+use Rattle.std.proofs.lemmas.Bool.{both_ways, cases_lt}
 use Rattle.std.proofs.lemmas.List.Sums.{sum_by-cons}
 use Rattle.parity.specs.Xor.{xor_all}
 use Rattle.rack.specs.Seen.{Image}
 use Rattle.md_super.specs.declared.superblock.Super.{Super}
-use Rattle.array_image.specs.Places.{data_sector, member_slice}
 use Rattle.pool_state.specs.declared.contents.State.{State}
-use Rattle.array_image.specs.States.{is_current}
-use Rattle.array_image.specs.Stripes.{Layout, Stripe, at_position, capacity, first_there, given, mirror, parity, position_in, sector_in, there, width, without}
+use Rattle.array_image.specs.Stripes.{Layout, at_position, capacity, first_there, given, position_in, sector_in, there, without}
 use Rattle.array_image.specs.Supers.{is_rebuilding, super_in, truth_in}
-use Rattle.array_image.specs.Arrays.{Member, Shape, array_in, column, layout_at, member_in, place_with, sectors_by, shape_by, shape_in, stripe_in, value_by}
-use Rattle.raid_map.specs.LeftSymmetric.{IsMemberCount, StandsAt, member_of, row_at, row_of, sector_of}
+use Rattle.array_image.specs.Arrays.{Member, Shape, column, member_in, place_with, sectors_by, shape_by, shape_in, stripe_in, value_by}
+use Rattle.raid_map.specs.LeftSymmetric.{IsMemberCount, member_of, row_of, sector_of}
 use Rattle.raid_map.proofs.Rows.{row_members_differ, rows_are_apart}
 use Rattle.pool_image.specs.Disks.{Disks}
 use Rattle.pool_image.specs.Drives.{Found, slices_of}

@@ -11,13 +11,12 @@ use Rattle.pool_rest.specs.Resting.{AreSectors}
 use Rattle.pool_format.specs.declared.Birth.{Birth}
 use Rattle.pool_format.specs.Drives.{IsNewDrive}
 use Rattle.pool_format.specs.Format.{IsMade}
-use Rattle.pool_format.specs.Parts.{new_state}
 use Rattle.assembler.specs.Holding.{AreSteady}
-use Rattle.assembler.specs.Sound.{HoldSound}
 use Rattle.new_pool.specs.Contents.{IsNewPool}
 use Rattle.new_pool.proofs.Founds.{found_is, shown, sound_logs}
 use Rattle.new_pool.proofs.Sound.{own_truth, sound_state}
-use Rattle.pool.specs.Made.{HaveNoOthers, HaveOwnIds, IsSoundlyMade}
+use Rattle.new_pool.proofs.Values.{sectors_now, value_now}
+use Rattle.pool.specs.Made.{HaveNoOthers, HaveOwnIds, IsPoolOf, IsSoundlyMade}
 
 module _ (x y : Seen) (extent : ℕ) (birth : Birth) (a : Arrays) (l : Linear) (made : IsMade x y extent birth a l) where
   abbrev stays : Stays x y
@@ -60,10 +59,9 @@ module _ (x y : Seen) (extent : ℕ) (birth : Birth) (a : Arrays) (l : Linear) (
       others = others;
     }
 
-    holds : (f : Found) × HoldSound y f × (f.state ≡ new_state made.plan birth)
-    holds = (
-      shown made.plan birth (disks_of y) (now_in y) is_new,
-      record {
+    holds : (f : Found) × IsPoolOf made.plan birth y f
+    holds = (shown made.plan birth (disks_of y) (now_in y) is_new, record {
+      holds = record {
         steady = whole;
         found_is = found_is made.plan birth (disks_of y) (now_in y) is_new;
         sound = record {
@@ -71,9 +69,11 @@ module _ (x y : Seen) (extent : ℕ) (birth : Birth) (a : Arrays) (l : Linear) (
           own = own_truth made.plan birth (disks_of y) (now_in y) is_new;
         };
         logs = sound_logs made.plan birth (disks_of y) (now_in y) is_new;
-      },
-      refl,
-    )
+      };
+      state = refl;
+      sectors = λ n e at. sectors_now made.plan birth (disks_of y) (now_in y) is_new n e at;
+      values = λ n t e at inside. value_now made.plan birth (disks_of y) (now_in y) is_new n e at t inside;
+    })
 
   pub soundly : IsSoundlyMade x y extent birth a l
   soundly = record { made = made; sound = holds }

@@ -1,5 +1,5 @@
 -- What the making of a pool leaves on a bay's disks.
-use Rattle.std.specs.Prelude.{◌≡◌, ◌≢◌, ℕ, ◌+◌, ◌<◌, false, slice_get, Some}
+use Rattle.std.specs.Prelude.{◌≡◌, ◌≢◌, ℕ, ◌+◌, ◌-◌, ◌*◌, ◌<◌, false, length, slice_get, Some}
 use Rattle.rack.specs.Seen.{Seen}
 use Rattle.md_super.specs.declared.superblock.Super.{Super}
 use Rattle.array_image.specs.Places.{array_id, drive_id, super_sector}
@@ -7,11 +7,13 @@ use Rattle.array_image.specs.Supers.{super_of}
 use Rattle.lvm_group.specs.Runs.{Linear}
 use Rattle.raid_rack.specs.declared.arrays.Arrays.{Arrays}
 use Rattle.pool_image.specs.Drives.{Found}
+use Rattle.pool_image.specs.Meaning.{array_sectors, arrays_held}
 use Rattle.pool_scan.specs.Scanning.{now_in}
 use Rattle.pool_rest.specs.Resting.{AreSectors}
 use Rattle.pool_format.specs.declared.Birth.{Birth}
 use Rattle.pool_format.specs.declared.planning.NewArray.{NewArray}
 use Rattle.pool_format.specs.declared.planning.NewPool.{NewPool}
+use Rattle.pool_format.specs.Data.{array_sector}
 use Rattle.pool_format.specs.Format.{IsMade}
 use Rattle.pool_format.specs.Parts.{new_state}
 use Rattle.pool_format.specs.Plan.{has}
@@ -29,10 +31,19 @@ HaveNoOthers plan birth y =
     (n d : ℕ) (a : NewArray) (t : Super) → slice_get plan.arrays.items n ≡ Some a → has a.members.items d ≡ false → d < y.disks
     → super_of (now_in y d (a.first + super_sector)) ≡ Some t → t.set_id.0 ≢ array_id birth.pool n
 
--- A pool was made on disks, and where these are told and have whole sectors they hold a sound pool then, of the state that was planned:
--- one that an opening finds.
+-- The pool of disks on which one was made: it is sound, has the state that was planned, and its arrays hold what the plan says, the
+-- sectors of the volume's group and else zeros.
+pub record IsPoolOf (plan : NewPool) (birth : Birth) (y : Seen) (f : Found) : Type 0 where
+  pub holds : HoldSound y f
+  pub state : f.state ≡ new_state plan birth
+  pub sectors : (n : ℕ) (a : NewArray) → slice_get plan.arrays.items n ≡ Some a → array_sectors f n ≡ (length a.members.items - 1) * a.size
+  pub values :
+      (n x : ℕ) (a : NewArray) → slice_get plan.arrays.items n ≡ Some a → x < (length a.members.items - 1) * a.size
+      → arrays_held f n x ≡ array_sector plan birth n x
+
+-- A pool was made on disks, and where these are told and have whole sectors they hold it then: an opening finds it.
 pub record IsSoundlyMade (x y : Seen) (extent : ℕ) (birth : Birth) (a : Arrays) (l : Linear) : Type 0 where
   pub made : IsMade x y extent birth a l
   pub sound :
       AreSteady x → AreSectors y → HaveOwnIds birth x.disks → HaveNoOthers made.plan birth y
-      → (f : Found) × HoldSound y f × (f.state ≡ new_state made.plan birth)
+      → (f : Found) × IsPoolOf made.plan birth y f
