@@ -9,6 +9,7 @@ mod order;
 mod pools;
 mod scripts;
 mod stops;
+mod works;
 
 ghost use Rattle.std.specs.Prelude.{◌≡◌};
 
