@@ -9,8 +9,8 @@ use Rattle.std.proofs.Math.Nat.{le-min, min-eq_left}
 use Rattle.rack.specs.Moments.{IsSound}
 use Rattle.rack.specs.Joins.{leaves_weaker}
 use Rattle.shr_script.specs.Line.{Line}
-use Rattle.shr_script.specs.declared.Command.TheVariants.{Read, Write, Fill, Flush, Lose}
-use Rattle.shr_script.specs.Reply.{data_line, as_line, refused_line}
+use Rattle.shr_script.specs.declared.Command.TheVariants.{Read, Write, Fill, Flush, Lose, Step}
+use Rattle.shr_script.specs.Reply.{data_line, as_line, left_line, refused_line}
 use Rattle.flat_array.specs.Array.{FlatArray, filled, flushed, written}
 use Rattle.flat_array.specs.Reply.{reply, after, spent_line, uniform_sector}
 use Rattle.array_image.specs.States.{is_current}
@@ -21,10 +21,12 @@ use Rattle.pool.specs.declared.calls.SectorFault.{SectorFault}
 use Rattle.pool.specs.declared.calls.SectorFault.TheVariants.{Range, Spent}
 use Rattle.pool.specs.View.{View, book, spent_by, volume}
 use Rattle.pool.specs.Volume.{Does, Holds, Means, is_spent, size_of, unchanged}
-use Rattle.pool.specs.Calls.{Flushes, LosesDrive, Marks, Passes, ReadsSector, WritesSector}
+use Rattle.pool.specs.Calls.{Flushes, LosesDrive, Marks, Passes, ReadsSector, Steps, WritesSector}
+use Rattle.pool.specs.Works.{IsStuck, left_by, left_of}
+use Rattle.raid_rack.specs.declared.works.Stuck.{Stuck}
 use Rattle.shr_tool.specs.declared.perform.SpentAt.{SpentAt}
-use Rattle.shr_tool.specs.Events.{Event, Touches, TouchesLast, becomes, text_of}
-use Rattle.shr_tool.specs.Events.Event.{answered, spent, lost, last}
+use Rattle.shr_tool.specs.Events.{Event, Touches, TouchesLast, becomes, stuck_line, text_of}
+use Rattle.shr_tool.specs.Events.Event.{answered, spent, lost, last, stepped, stuck}
 use Rattle.shr_tool.specs.Timeline.{HasCause, MarksFor, Performs, ground_of, moment_of}
 use Rattle.shr_tool.specs.Filling.{Fills, FillsSome}
 use Rattle.shr_tool.proofs.Meanings.{does_none, marks_same, passes_same}
@@ -80,9 +82,10 @@ touches_none :
     → ((s : ℕ) → Touches (size_of x) line s → ⊥)
     → ((s : ℕ) → TouchesLast (size_of x) line s → ⊥)
     → ((place : ℕ) → line ≡ Ok (Lose place) → ⊥)
+    → ((count : ℕ) → line ≡ Ok (Step count) → ⊥)
     → Cause x y (answered line)
-touches_none x y line none never other =
-    (λ s touches. absurd (none s touches), λ s touches. absurd (never s touches), λ place is. absurd (other place is))
+touches_none x y line none never other apart =
+    (λ s touches. absurd (none s touches), λ s touches. absurd (never s touches), λ place is. absurd (other place is), apart)
 
 -- a line that touches one sector, which isn't spent when it returns
 touches_one :
@@ -92,11 +95,13 @@ touches_one :
     → ((s : ℕ) → Touches (size_of x) line s → s ≡ sector)
     → ((s : ℕ) → TouchesLast (size_of x) line s → s ≡ sector)
     → ((place : ℕ) → line ≡ Ok (Lose place) → ⊥)
+    → ((count : ℕ) → line ≡ Ok (Step count) → ⊥)
     → Cause x y (answered line)
-touches_one x y line sector passes alive one same other = (
+touches_one x y line sector passes alive one same other apart = (
   λ s touches. subst (λ t. is_spent x t ≡ false) (sym (one s touches)) (passes.stays.spent 0 sector alive),
   λ s touches. subst (λ t. spent_by x.linear (book y) t ≡ false) (sym (same s touches)) (spent_at x y sector false passes alive),
   λ place is. absurd (other place is),
+  apart,
 )
 
 -- a line that calls nothing
@@ -107,11 +112,12 @@ pub still_done :
     → ((s : ℕ) → Touches (size_of x) line s → ⊥)
     → ((s : ℕ) → TouchesLast (size_of x) line s → ⊥)
     → ((place : ℕ) → line ≡ Ok (Lose place) → ⊥)
+    → ((count : ℕ) → line ≡ Ok (Step count) → ⊥)
     → ((a : FlatArray) → Holds x a → a ≡ after a line)
     → ((a : FlatArray) → Holds x a → text ≡ reply a line)
     → Performs x x (answered line) text
-still_done x line text fit sound none never other same is =
-    performs_by x x (answered line) text unchanged unchanged (passes_same x fit) (touches_none x x line none never other)
+still_done x line text fit sound none never other apart same is =
+    performs_by x x (answered line) text unchanged unchanged (passes_same x fit) (touches_none x x line none never other apart)
     (marks_for x x (answered line) (passes_same x fit) (marks_same x (λ place. ⊥)))
     is same (λ a holds. inl refl) (does_none x (passes_same x fit) sound)
 
@@ -148,7 +154,7 @@ read_done x y sector into text r is_ok is reads_r =
     let reads : ReadsSector x y sector into {X = Unit {0}} (Ok tt) = subst (λ q. ReadsSector x y sector into q) is_ok reads_r in
     let served = reads.fault.served in
     performs_by x y (answered (Ok (Read sector))) text unchanged unchanged reads.passes
-    (touches_one x y (Ok (Read sector)) sector reads.passes served.1 (λ s touches. touches.0) (λ s touches. touches.0) (λ place loses. cc))
+    (touches_one x y (Ok (Read sector)) sector reads.passes served.1 (λ s touches. touches.0) (λ s touches. touches.0) (λ place loses. cc) (λ count steps. cc))
     (marks_for x y _ reads.passes reads.marks)
     (λ a holds. rw (inside_array x a sector holds served.0) (is ∙ ap data_line (reads.value a holds)))
     (λ a holds. refl)
@@ -165,7 +171,7 @@ read_outside x y sector into text r refused is reads =
     let past = reads.fault.range.0 refused in
     performs_by x y (answered (Ok (Read sector))) text unchanged unchanged reads.passes
     (touches_none x y (Ok (Read sector)) (λ s touches. let inside = touches.1 in omega arith)
-    (λ s touches. let inside = touches.1 in omega arith) (λ place loses. cc))
+    (λ s touches. let inside = touches.1 in omega arith) (λ place loses. cc) (λ count steps. cc))
     (marks_for x y _ reads.passes reads.marks)
     (λ a holds. rw (outside_array x a sector holds past) is)
     (λ a holds. refl)
@@ -205,7 +211,7 @@ write_done x y sector v text r is_ok is writes_r =
     let same : (a : FlatArray) → Holds x a → written a sector v ≡ after a (Ok (Write sector v)) =
     λ a holds. rw (inside_array x a sector holds served.0) refl in
     performs_by x y (answered (Ok (Write sector v))) text (λ a. written a sector v) (λ a. written a sector v) writes.passes
-    (touches_one x y (Ok (Write sector v)) sector writes.passes served.1 (λ s touches. touches.0) (λ s touches. touches.0) (λ place loses. cc))
+    (touches_one x y (Ok (Write sector v)) sector writes.passes served.1 (λ s touches. touches.0) (λ s touches. touches.0) (λ place loses. cc) (λ count steps. cc))
     (marks_for x y _ writes.passes writes.marks)
     (λ a holds. rw (inside_array x a sector holds served.0) is)
     same
@@ -223,7 +229,7 @@ write_outside x y sector v text r refused is writes_r =
     let past = writes.fault.range.0 refl in
     performs_by x y (answered (Ok (Write sector v))) text unchanged unchanged writes.passes
     (touches_none x y (Ok (Write sector v)) (λ s touches. let inside = touches.1 in omega arith)
-    (λ s touches. let inside = touches.1 in omega arith) (λ place loses. cc))
+    (λ s touches. let inside = touches.1 in omega arith) (λ place loses. cc) (λ count steps. cc))
     (marks_for x y _ writes.passes writes.marks)
     (λ a holds. rw (outside_array x a sector holds past) is)
     (λ a holds. rw (outside_array x a sector holds past) refl)
@@ -274,6 +280,7 @@ fill_done x y sector count byte text r inside is_ok is fills_r =
       λ s touches. fills.done.0.unspent s touches.0 touches.1,
       λ s touches. spent_at x y s false fills.passes (fills.done.1 s touches.0 touches.1),
       λ place loses. absurd (let other : ⊥ = cc in other),
+      λ n steps. let other : ⊥ = cc in other,
     )
     (marks_for x y _ fills.passes fills.marks)
     (λ a holds. rw (all_inside x a (sector + count) holds inside) is)
@@ -321,7 +328,7 @@ fill_outside x sector count byte text fit sound past is =
     still_done x (Ok (Fill sector count byte)) text fit sound
     (λ s touches. let inside = touches.2 in omega arith)
     (λ s touches. let inside = touches.2 in omega arith)
-    (λ place loses. cc)
+    (λ place loses. cc) (λ count steps. cc)
     (λ a holds. rw (test a holds) refl)
     (λ a holds. rw (test a holds) is)
 
@@ -331,7 +338,7 @@ pub flush_done :
     (x y : View) (text : List ℕ) → text ≡ as_line (codes "ok") → Flushes x y → Performs x y (answered (Ok Flush)) text
 flush_done x y text is flushes =
     performs_by x y (answered (Ok Flush)) text unchanged flushed flushes.passes
-    (touches_none x y (Ok Flush) (λ s touches. touches) (λ s touches. touches) (λ place loses. cc))
+    (touches_none x y (Ok Flush) (λ s touches. touches) (λ s touches. touches) (λ place loses. cc) (λ count steps. cc))
     (marks_for x y _ flushes.passes flushes.marks)
     (λ a holds. is)
     (λ a holds. refl)
@@ -434,6 +441,7 @@ lose_missing x y at place text r fit cut refused same is loses =
       λ p line.
           let this : place ≡ p = cc in
           subst (λ q. is_current (book x).state q ≡ false) this (sym (current_cut x at place fit cut) ∙ missing),
+      λ count steps. cc,
     )
     (still_marks x y _ loses.passes same)
     (λ a holds. is)
@@ -462,3 +470,42 @@ lose_last x y at place text r fit cut refused same is loses =
     (λ a holds. refl)
     (λ a holds. inl refl)
     loses.does
+
+-- ---- works of maintenance
+
+pub step_done :
+    (x y : View) (count left : ℕ) (text : List ℕ) (r : Result ℕ Stuck)
+    → r ≡ Ok left
+    → text ≡ left_line left
+    → Steps x y count r
+    → Performs x y (stepped count left) text
+step_done x y count left text r is_ok is steps_r =
+    let steps : Steps x y count (Ok left) = subst (λ q. Steps x y count q) is_ok steps_r in
+    performs_by x y (stepped count left) text unchanged unchanged steps.passes
+    (record {
+      left_is = subst (λ l. left ≡ left_by l (book y)) steps.passes.linear steps.left;
+      progress = λ quiet alone.
+          let fewer = steps.progress quiet alone in
+          (fewer.0, ap (λ n. n + min count (left_of x)) steps.left ∙ fewer.1);
+    })
+    (marks_for x y _ steps.passes steps.marks)
+    (λ a holds. is)
+    (λ a holds. refl)
+    (λ a holds. inl refl)
+    steps.does
+
+pub step_stuck :
+    (x y : View) (count : ℕ) (at : Stuck) (text : List ℕ) (r : Result ℕ Stuck)
+    → r ≡ Err at
+    → text ≡ stuck_line at.array
+    → Steps x y count r
+    → Performs x y (stuck count at.array) text
+step_stuck x y count at text r refused is steps_r =
+    let steps : Steps x y count (Err at) = subst (λ q. Steps x y count q) refused steps_r in
+    performs_by x y (stuck count at.array) text unchanged unchanged steps.passes
+    (subst (λ l. IsStuck l (book y) at.array) steps.passes.linear steps.stuck)
+    (marks_for x y _ steps.passes steps.marks)
+    (λ a holds. is)
+    (λ a holds. refl)
+    (λ a holds. inl refl)
+    steps.does

@@ -1,8 +1,8 @@
 -- What a line of a script does on a pool: as a flat array of sectors has it, or what lost drives make of it.
-use Rattle.std.specs.Prelude.{◌≡◌, ℕ, ◌+◌, ◌<◌, ◌≤◌, ◌||◌, Bool, true, false, List, [], ◌∷◌, ◌++◌, codes, Ok, Err}
-use Rattle.shr_script.specs.declared.Command.TheVariants.{Read, Write, Fill, Flush, Size, Lose, Quit, Unbuilt}
+use Rattle.std.specs.Prelude.{◌≡◌, ℕ, ◌+◌, ◌<◌, ◌≤◌, ◌||◌, Bool, true, false, List, [], ◌∷◌, ◌++◌, codes, decimal, Ok, Err}
+use Rattle.shr_script.specs.declared.Command.TheVariants.{Read, Write, Fill, Flush, Size, Lose, Step, Quit, Unbuilt}
 use Rattle.shr_script.specs.Line.{Line}
-use Rattle.shr_script.specs.Reply.{as_line, refused_line}
+use Rattle.shr_script.specs.Reply.{as_line, left_line, refused_line}
 use Rattle.flat_array.specs.Array.{FlatArray}
 use Rattle.flat_array.specs.Reply.{after, after_spent, reply, spent_line}
 
@@ -15,6 +15,10 @@ pub data Event : Type 0 where
   lost : ℕ → Event
   -- it wasn't, being the last one
   last : ℕ → Event
+  -- so many works of maintenance were asked for, and after them so many are left
+  stepped : ℕ → ℕ → Event
+  -- they ended at one that this array can't do
+  stuck : ℕ → ℕ → Event
 
 -- the line
 abbrev pub line_of : Event → Line
@@ -22,6 +26,12 @@ line_of (answered line) = line
 line_of (spent line sector) = line
 line_of (lost place) = Ok (Lose place)
 line_of (last place) = Ok (Lose place)
+line_of (stepped count left) = Ok (Step count)
+line_of (stuck count array) = Ok (Step count)
+
+-- the reply where an array can't do a work
+abbrev pub stuck_line : ℕ → List ℕ
+stuck_line array = refused_line (codes "stuck " ++ decimal array)
 
 -- its reply
 abbrev pub text_of : FlatArray → Event → List ℕ
@@ -29,6 +39,8 @@ text_of a (answered line) = reply a line
 text_of a (spent line sector) = spent_line sector
 text_of a (lost place) = as_line (codes "ok")
 text_of a (last place) = refused_line (codes "last-drive")
+text_of a (stepped count left) = left_line left
+text_of a (stuck count array) = stuck_line array
 
 -- the array after it
 abbrev pub becomes : FlatArray → Event → FlatArray
@@ -36,6 +48,8 @@ becomes a (answered line) = after a line
 becomes a (spent line sector) = after_spent a line sector
 becomes a (lost place) = a
 becomes a (last place) = a
+becomes a (stepped count left) = a
+becomes a (stuck count array) = a
 
 -- the replies to events in a row, and the array after them
 abbrev pub texts : FlatArray → List Event → List ℕ
@@ -51,12 +65,14 @@ abbrev pub lines_of : List Event → List Line
 lines_of [] = []
 lines_of (event ∷ events) = line_of event ∷ lines_of events
 
--- whether a sector was refused
+-- whether a sector was refused, or a work of maintenance
 abbrev pub is_spent : Event → Bool
 is_spent (answered line) = false
 is_spent (spent line sector) = true
 is_spent (lost place) = false
 is_spent (last place) = false
+is_spent (stepped count left) = false
+is_spent (stuck count array) = true
 
 abbrev pub any_spent : List Event → Bool
 any_spent [] = false
@@ -70,6 +86,7 @@ Touches size (Ok (Fill sector count byte)) s = (sector ≤ s) × (s < sector + c
 Touches size (Ok Flush) s = ⊥
 Touches size (Ok Size) s = ⊥
 Touches size (Ok (Lose place)) s = ⊥
+Touches size (Ok (Step count)) s = ⊥
 Touches size (Ok Quit) s = ⊥
 Touches size (Ok Unbuilt) s = ⊥
 Touches size (Err fault) s = ⊥
@@ -82,6 +99,7 @@ TouchesLast size (Ok (Fill sector count byte)) s = (s + 1 ≡ sector + count) ×
 TouchesLast size (Ok Flush) s = ⊥
 TouchesLast size (Ok Size) s = ⊥
 TouchesLast size (Ok (Lose place)) s = ⊥
+TouchesLast size (Ok (Step count)) s = ⊥
 TouchesLast size (Ok Quit) s = ⊥
 TouchesLast size (Ok Unbuilt) s = ⊥
 TouchesLast size (Err fault) s = ⊥

@@ -1,8 +1,8 @@
 -- A run as a list of events at moments that never fall.
-use Rattle.std.specs.Prelude.{◌≡◌, ◌⊎◌, ℕ, ◌<◌, ◌≤◌, true, false, List, [], ◌∷◌, Ok}
+use Rattle.std.specs.Prelude.{◌≡◌, ◌⊎◌, ℕ, ◌+◌, ◌<◌, ◌≤◌, min, true, false, List, [], ◌∷◌, Ok}
 use Rattle.rack.specs.Seen.{Image, Rose}
 use Rattle.rack.specs.Moments.{Leaves}
-use Rattle.shr_script.specs.declared.Command.TheVariants.{Lose}
+use Rattle.shr_script.specs.declared.Command.TheVariants.{Lose, Step}
 use Rattle.flat_array.specs.Array.{FlatArray}
 use Rattle.array_image.specs.Places.{log_slice}
 use Rattle.array_image.specs.States.{is_current}
@@ -13,9 +13,10 @@ use Rattle.raid_rack.specs.Losses.{has_other}
 use Rattle.raid_rack.specs.Raid.{Raid}
 use Rattle.pool.specs.Calls.{Passes}
 use Rattle.pool.specs.View.{View, book, contents_in, spent_by}
+use Rattle.pool.specs.Works.{HasRowsAlone, IsStuck, left_by}
 use Rattle.pool.specs.Volume.{Holds, Means, PicksLive}
 use Rattle.shr_tool.specs.Events.{Event, Touches, TouchesLast, becomes, text_of}
-use Rattle.shr_tool.specs.Events.Event.{answered, spent, lost, last}
+use Rattle.shr_tool.specs.Events.Event.{answered, spent, lost, last, stepped, stuck}
 
 -- What is known between two events: the clock, the disks' counts of faults, and the pool's state and arrays.
 pub record Moment : Type 0 where
@@ -38,19 +39,30 @@ ground_of x = record { slices = x.slices; linear = x.linear }
 abbrev pub MeansAt : Ground → Moment → FlatArray → Image → Type 0
 MeansAt g q a disks = PicksLive (spent_by g.linear q.book) a (contents_in g.slices g.linear disks)
 
+-- Steps of maintenance: so many works are left by the book at their end. Where no disk's faults rose, and only rows to resync were left of
+-- the arrays, these are as many fewer as were asked for, or none.
+pub record HasSteps (g : Ground) (p q : Moment) (count left : ℕ) : Type 0 where
+  pub left_is : left ≡ left_by g.linear q.book
+  pub progress :
+      ((d : ℕ) → Rose (p.faults d) (q.faults d) → ⊥) → HasRowsAlone p.book
+      → HasRowsAlone q.book × (left + min count (left_by g.linear p.book) ≡ left_by g.linear p.book)
+
 -- Why an event was answered so: the sector that it refuses is spent at its end, and those that it served weren't before, nor is the last
--- one at its end; a drive that is lost was current, and another one is left.
+-- one at its end; a drive that is lost was current, and another one is left; works of maintenance were done, or an array can't do one.
 abbrev pub HasCause : Ground → Moment → Moment → Event → Type 0
 HasCause g p q (answered line) =
     ((s : ℕ) → Touches (sectors_in g.linear) line s → spent_by g.linear p.book s ≡ false)
     × ((s : ℕ) → TouchesLast (sectors_in g.linear) line s → spent_by g.linear q.book s ≡ false)
     × ((place : ℕ) → line ≡ Ok (Lose place) → is_current p.book.state place ≡ false)
+    × ((count : ℕ) → line ≡ Ok (Step count) → ⊥)
 HasCause g p q (spent line sector) =
     Touches (sectors_in g.linear) line sector
     × (spent_by g.linear q.book sector ≡ true)
     × ((s : ℕ) → Touches (sectors_in g.linear) line s → s < sector → spent_by g.linear p.book s ≡ false)
 HasCause g p q (lost place) = (is_current p.book.state place ≡ true) × (is_current q.book.state place ≡ false)
 HasCause g p q (last place) = (is_current p.book.state place ≡ true) × (has_other p.book.state place ≡ false)
+HasCause g p q (stepped count left) = HasSteps g p q count left
+HasCause g p q (stuck count array) = IsStuck g.linear q.book array
 
 -- Marks alone come to the pool's state, each of a drive whose disk's faults rose or that the script lost.
 pub record MarksFor (g : Ground) (p q : Moment) (event : Event) : Type 0 where

@@ -1,18 +1,19 @@
 //! A line of a script, answered on a pool.
 
 ghost use Rattle.std.specs.Prelude.{◌≡◌, ◌+◌, ◌≤◌, ◌<◌, replicate, Ok, OnOk, IfErr, Result};
-ghost use Rattle.shr_script.specs.declared.Command.TheVariants.{Read, Write, Fill, Flush, Lose};
+ghost use Rattle.shr_script.specs.declared.Command.TheVariants.{Read, Write, Fill, Flush, Lose, Step};
 ghost use Rattle.flat_array.specs.Reply.{fault_word, spent_line};
 ghost use Rattle.pool.specs.View.{bay_in, view, volume};
 ghost use Rattle.pool.specs.Volume.{size_of};
+ghost use Rattle.shr_tool.specs.Events.{stuck_line};
 ghost use Rattle.shr_tool.specs.Serving.{Answers};
 ghost use Rattle.shr_tool.specs.Filling.{Fills};
 
 use pool::{LoseFault, Pool, SectorFault};
 use rack::{Bay, Rack};
 use shr_script::{
-    Command, LineFault, ReplyText, data_reply, line_reply, refused_number_reply, refused_reply,
-    size_reply,
+    Command, LineFault, ReplyText, data_reply, left_reply, line_reply, refused_number_reply,
+    refused_reply, size_reply,
 };
 
 /// How a line was answered.
@@ -20,7 +21,7 @@ use shr_script::{
 pub enum Answer {
     /// By its reply, or a refusal that isn't the one below.
     Given,
-    /// A sector was refused, since too many of its copies are lost.
+    /// A sector was refused, since too many of its copies are lost, or a work of maintenance.
     Spent,
 }
 
@@ -73,6 +74,7 @@ fn perform<R: Bay>(pool: &mut Pool<R>, command: &Command, text: &mut ReplyText) 
             count,
             byte,
         } => return perform_fill(pool, *sector, *count, *byte, text),
+        Command::Step { count } => return perform_step(pool, *count, text),
         Command::Lose { place } => perform_lose(pool, *place, text),
         Command::Flush => perform_flush(pool, text),
         Command::Size => size_reply(text, pool.size()),
@@ -195,5 +197,29 @@ fn perform_lose<R: Bay>(pool: &mut Pool<R>, place: u64, text: &mut ReplyText)
         Ok(()) => line_reply(text, b"ok"),
         Err(LoseFault::NoSuchDrive) => refused_reply(text, b"no-such-drive"),
         Err(LoseFault::LastDrive) => refused_reply(text, b"last-drive"),
+    }
+}
+
+// `refused stuck A`
+fn stuck_reply(text: &mut ReplyText, array: u32) -> Answer
+    ensures text { text.new.items ≡ stuck_line array }
+    ensures answer { result ≡ Answer.Spent }
+{
+    refused_number_reply(text, b"stuck", u64::from(array));
+    Answer::Spent
+}
+
+// `step N`
+fn perform_step<R: Bay>(pool: &mut Pool<R>, count: u64, text: &mut ReplyText) -> Answer
+    requires { (volume (view R.seen pool.old)).fit }
+    ensures answers { Answers (view R.seen pool.old) (view R.seen pool.new) (Ok (Step count)) result text.new.items }
+    ensures runs { R.runs (bay_in pool.old) (bay_in pool.new) }
+{
+    match pool.step(count) {
+        Ok(left) => {
+            left_reply(text, left);
+            Answer::Given
+        }
+        Err(stuck) => stuck_reply(text, stuck.array),
     }
 }

@@ -10,6 +10,7 @@ mod pools;
 mod scripts;
 mod stops;
 mod transfers;
+mod works;
 
 ghost use Rattle.std.specs.Prelude.{◌≡◌};
 

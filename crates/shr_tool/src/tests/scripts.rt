@@ -82,7 +82,8 @@ fn each_line_has_its_reply(rt: HostRuntime) -> Result<(), Fail> {
         ),
         ("fill", syntax),
         ("fill 0 128 00\nfill 1 128 00", "ok\nrefused range\n"),
-        ("step", unbuilt),
+        ("step", syntax),
+        ("step 1\nstep 0 0", "left 0\nrefused syntax\n"),
         ("add A\nreplace ", "refused unbuilt\nrefused unbuilt\n"),
         (
             "lose 9\nlose\nlose 1 1\nstatus\nstatuses",

@@ -17,7 +17,7 @@ returns-in-Size-clause-answers g c =
       answer_is = refl;
       performs =
           still_done _ (Ok Size) _ c.requires (sound_in g.R.Rack.seen g.met.R.Rack.sound c.args.pool.now c.requires)
-          (λ s touches. touches) (λ s touches. touches) (λ place loses. cc) (λ a holds. refl)
+          (λ s touches. touches) (λ s touches. touches) (λ place loses. cc) (λ count steps. cc) (λ a holds. refl)
           (λ a holds. c.size_reply.ensures ∙ ap (λ n. as_line (codes "size " ++ decimal n)) (c.size.ensures.size ∙ sym holds.size));
     })
 
@@ -30,7 +30,7 @@ returns-in-Quit-clause-answers g c =
       answer_is = refl;
       performs =
           still_done _ (Ok Quit) _ c.requires (sound_in g.R.Rack.seen g.met.R.Rack.sound c.args.pool.now c.requires)
-          (λ s touches. touches) (λ s touches. touches) (λ place loses. cc) (λ a holds. refl)
+          (λ s touches. touches) (λ s touches. touches) (λ place loses. cc) (λ count steps. cc) (λ a holds. refl)
           (λ a holds. search rules);
     })
 
@@ -43,6 +43,6 @@ returns-in-Unbuilt-clause-answers g c =
       answer_is = refl;
       performs =
           still_done _ (Ok Unbuilt) _ c.requires (sound_in g.R.Rack.seen g.met.R.Rack.sound c.args.pool.now c.requires)
-          (λ s touches. touches) (λ s touches. touches) (λ place loses. cc) (λ a holds. refl)
+          (λ s touches. touches) (λ s touches. touches) (λ place loses. cc) (λ count steps. cc) (λ a holds. refl)
           (λ a holds. c.refused_reply.ensures);
     })
