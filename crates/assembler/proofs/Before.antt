@@ -1,5 +1,5 @@
 -- Drives that all have the state that stood when an opening began: their slices said it then.
-use Rattle.std.proofs.Common.{◌≡◌, ℕ, ◌+◌, ◌<◌, ◌≤◌, Bool, true, if◌then◌else◌, [], Option, Some, None, option_map, refl, sym, ap, subst, ◌∙◌, lt-ltb, le-ltb, arith}
+use Rattle.std.proofs.Common.{◌≡◌, ℕ, ◌+◌, ◌<◌, ◌≤◌, Bool, if◌then◌else◌, [], Option, Some, None, option_map, refl, sym, ap, subst, ◌∙◌, lt-ltb, le-ltb, arith}
 use Rattle.std.specs.Prelude.{unwrap_or}
 use Rattle.std.specs.Option.{option_and_then}
 use Rattle.std.specs.Result.{result_ok}
@@ -15,7 +15,7 @@ use Rattle.array_image.specs.Places.{log_sectors, log_slice, place_of, state_sec
 use Rattle.array_image.specs.States.{copy_in, state_in}
 use Rattle.pool_image.specs.Disks.{Disks, Identities, disks_of, identities_of, newest, seat_of as pool_seat}
 use Rattle.pool_image.specs.Drives.{Found, found, found_by}
-use Rattle.pool_image.specs.Replay.{Standing, standing, standing_by, written}
+use Rattle.pool_image.specs.Replay.{Standing, standing, written}
 use Rattle.pool_image.proofs.Rested.{stood_by}
 use Rattle.pool_scan.specs.Scanning.{now_in}
 use Rattle.assembler.specs.Sound.{HaveStood}

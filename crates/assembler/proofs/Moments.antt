@@ -1,9 +1,8 @@
 -- What contents of a pool's drives give of its arrays and its volume, at each moment of an opening.
 use Rattle.std.proofs.Common.{◌≡◌, ℕ, ◌+◌, ◌<◌, Bool, true, false, nat_lt, if◌then◌else◌, List, [], slice_get, Option, Some, None, option_map, inl, inr, refl, sym, ap, subst, ◌∙◌, ◌||◌, ltb-true, le-ltb, arith}
 use Rattle.std.specs.Option.{option_map_or}
-use Rattle.std.proofs.lemmas.Bool.{both_ways, cases_Bool}
+use Rattle.std.proofs.lemmas.Bool.{both_ways}
 use Rattle.std.proofs.lemmas.Option.{none-some}
-use Rattle.rack.specs.Values.{MayLeave}
 use Rattle.rack.specs.Seen.{Image, Seen, IsLive, IsPick}
 use Rattle.rack.specs.Moments.{Leaves}
 use Rattle.rack.specs.Sequences.{OnlyReads, WritesOnly}
@@ -22,10 +21,10 @@ use Rattle.array_image.specs.Held.{Among}
 use Rattle.array_image.specs.Left.{reading}
 use Rattle.array_image.proofs.Frames.{Agree, shape_same, state_same, value_by_data, value_same}
 use Rattle.commit_log.specs.View.{LogView}
-use Rattle.commit_log.specs.Standing.{IsAlike, IsLogPart, LogsStand}
+use Rattle.commit_log.specs.Standing.{IsAlike, LogsStand}
 use Rattle.lvm_group.specs.Brought.{IsBefore}
 use Rattle.lvm_group.specs.Laws.{array_below, sector_below as array_sector_below, shows}
-use Rattle.lvm_group.specs.Runs.{IsOrderly as AreOrderly, Linear, array_of, data_start, sector_of, sectors_in}
+use Rattle.lvm_group.specs.Runs.{IsOrderly as AreOrderly, Linear, array_of, sector_of, sectors_in}
 use Rattle.lvm_group.specs.Shown.{IsInside, contents_of}
 use Rattle.array_model.specs.View.{View, sectors_of as sectors_in_array}
 use Rattle.array_model.proofs.Keeping.{reading_live}

@@ -1,5 +1,5 @@
 -- The slices of a pool whose drives passed their check are those that the drives' tables have for a replay.
-use Rattle.std.proofs.Common.{◌≡◌, ◌⊎◌, ℕ, suc, ◌+◌, ◌-◌, ◌<◌, ◌≤◌, ◌&&◌, Bool, true, false, nat_le, nat_lt, if◌then◌else◌, List, Option, Some, None, inl, inr, refl, sym, ap, ap₂, subst, ◌∙◌, le-leb, ltb-true, arith}
+use Rattle.std.proofs.Common.{◌≡◌, ℕ, suc, ◌+◌, ◌-◌, ◌<◌, ◌≤◌, ◌&&◌, Bool, nat_lt, if◌then◌else◌, List, Option, Some, None, inl, inr, refl, sym, ap, ap₂, subst, ◌∙◌, le-leb, ltb-true, arith}
 use Rattle.std.specs.Prelude.{unwrap_or}
 use Rattle.std.proofs.lemmas.Bool.{and_parts, cases_Bool, cases_eq}
 use Rattle.rack.specs.Seen.{Seen}
@@ -11,7 +11,7 @@ use Rattle.array_image.specs.Places.{arrays_first, log_sectors, log_slice, membe
 use Rattle.commit_log.specs.View.{LogView}
 use Rattle.pool_image.specs.Alike.{IsSamePool}
 use Rattle.pool_image.specs.Disks.{Disks, Identity, disks_of, identities_of}
-use Rattle.pool_image.specs.Drives.{Found, extent_of}
+use Rattle.pool_image.specs.Drives.{Found}
 use Rattle.pool_image.specs.Meaning.{is_member}
 use Rattle.pool_image.specs.Replay.{Extent, extent_by}
 use Rattle.pool_image.proofs.Founds.{lies_same}
@@ -25,7 +25,7 @@ use Rattle.pool_rest.specs.Moments.{AreOfDrives}
 use Rattle.assembler.specs.Holding.{IsFoundOn}
 use Rattle.assembler.specs.Members.{AreMembers}
 use Rattle.assembler.specs.Sound.{AreSlicesOf, HaveSlices, extent_in}
-use Rattle.assembler.proofs.Finding.{g, same}
+use Rattle.assembler.proofs.Finding.{same}
 use Rattle.assembler.proofs.Lies.{made_same, member_same}
 
 -- a pool's tables have the slices by other contents of the same pool

@@ -1,5 +1,5 @@
 -- What contents of the disks give of the volume that lies on them.
-use Rattle.std.specs.Prelude.{◌≡◌, ℕ, ◌<◌, List}
+use Rattle.std.specs.Prelude.{◌≡◌, ℕ, ◌<◌}
 use Rattle.rack.specs.Seen.{Image}
 use Rattle.slice_rack.specs.Slices.{Slices, sectors_of}
 use Rattle.slice_rack.specs.Sliced.{sliced}

@@ -1,24 +1,16 @@
 -- What a log finds on fewer places, among which is that from which its record is read.
-use Rattle.std.proofs.Common.{◌≡◌, ℕ, ◌+◌, ◌<◌, ◌≤◌, ◌==◌, ◌&&◌, ◌||◌, not, Bool, true, false, nat_lt, if◌then◌else◌, length, List, [], filter, is_some, is_none, Option, Some, None, option_map, inl, inr, refl, sym, ap, subst, ◌∙◌, eq-eqb, lt-ltb, le-ltb, arith}
+use Rattle.std.proofs.Common.{◌≡◌, ℕ, ◌+◌, ◌<◌, ◌==◌, ◌&&◌, ◌||◌, not, Bool, true, false, List, [], filter, is_some, is_none, Option, Some, None, option_map, inl, inr, refl, sym, ap, subst, ◌∙◌, eq-eqb, arith}
 use Rattle.std.specs.List.{range_with_len}
-use Rattle.std.proofs.lemmas.Bool.{both_ways, cases_lt}
-use Rattle.rack.specs.Seen.{Image, Seen}
-use Rattle.slice_rack.specs.Slices.{Slices, sectors_of}
-use Rattle.slice_rack.specs.Sliced.{slices_of}
-use Rattle.pool_state.specs.declared.contents.State.{State}
+use Rattle.std.proofs.lemmas.Bool.{both_ways}
+use Rattle.rack.specs.Seen.{Image}
 use Rattle.rack.specs.Targets.{Target}
 use Rattle.array_image.specs.Places.{log_sectors, log_slice}
 use Rattle.array_image.specs.Record.{Gate, GateAt, damaged_log, gate_in, gate_of, gate_sector, half_of, is_bad_gate, is_open_if_of, is_there, pending_at, record_in}
-use Rattle.array_image.specs.States.{current_places, is_current}
-use Rattle.array_image.specs.Left.{reading}
-use Rattle.pool_scan.specs.declared.Known.{Known}
-use Rattle.pool_rest.specs.Standing.{IsLaid}
 use Rattle.commit_log.specs.Opening.{Finds}
 use Rattle.commit_log.specs.View.{LogView, is_left, left_of, names}
-use Rattle.commit_log.proofs.Amid.{half_least, half_most, no_gate_in_nothing}
+use Rattle.commit_log.proofs.Amid.{half_least, half_most}
 use Rattle.commit_log.proofs.Deciding.{all_at, gate_at, record_pending}
-use Rattle.commit_log.proofs.Counting.{is_listed}
-use Rattle.commit_log.proofs.Fewer.{current_of_all, filter_both, filter_names, names_filter, pending_at_left, pending_kept, pending_most}
+use Rattle.commit_log.proofs.Fewer.{filter_both, filter_names, names_filter, pending_kept, pending_most}
 use Rattle.commit_log.proofs.Halves.{record_same}
 use Rattle.commit_log.proofs.Naming.{names_range}
 use Rattle.commit_log.proofs.Replayable.{pending_named}
@@ -129,40 +121,3 @@ module _ (l : LogView) (on0 on : List ℕ) (c0 c : Image) (is_pending : Bool) (a
           of_test a.gate.number a.gate.is_open
           (sym (ap (λ (o : Option Gate). is_open_if_of a.gate.number (option_map (λ g. record { place = a.place; gate = g }) o)) at.1)
           ∙ all_at (is_open_if_of a.gate.number) (gate_at c) places a.place (open_all c places a at_now) at.0)
-
--- ---- the places that were asked are the current ones
-
-module _ (a : Seen) (known : List Known) (s : State) (t : Slices) (on : List ℕ) (few : length s.drives.items ≤ 16) (laid : IsLaid a known s t on) where
-  abbrev read : Image
-  read = reading (slices_of t a)
-
-  abbrev has_log : ℕ → Bool
-  has_log p = nat_lt 0 (sectors_of t (log_slice p))
-
-  both_true : (b : Bool) → (b && true) ≡ b
-  both_true true = refl
-  both_true false = refl
-
-  asked : left_of on [] ≡ filter has_log (filter (is_current s) (range_with_len 0 16))
-  asked = sym (filter_both has_log (is_current s) (is_left on []) (range_with_len 0 16) (λ p. both_true (names on p) ∙ laid.places p))
-
-  no_gate : (p : ℕ) → has_log p ≡ false → gate_in read p ≡ None
-  no_gate p out = elim (cases_lt 0 (sectors_of t (log_slice p))) [
-    | inl some ↦ absurd (both_ways (has_log p) out (lt-ltb 0 (sectors_of t (log_slice p)) some))
-    | inr none ↦
-        ap gate_of (ap (λ (b : Bool). if b then ((slices_of t a).held (log_slice p) gate_sector).current else []) (le-ltb gate_sector (sectors_of t (log_slice p)) (omega (arith, none))))
-        ∙ no_gate_in_nothing
-  ]
-
-  small : (p : ℕ) → names (current_places s) p ≡ true → p < 16
-  small p named =
-      let current = (names_filter (is_current s) (range_with_len 0 16) p (sym (ap (λ ps. names ps p) (current_of_all s few)) ∙ named)).0 in
-      let listed = is_listed s p current in
-      omega (arith, listed, few)
-
-  -- a record is pending by the places that were looked at as it is by all current ones
-  pub pending_asked : (e : Image) → ((k u : ℕ) → k < 272 → read k u ≡ e k u) → pending_at (left_of on []) read ≡ pending_at (current_places s) e
-  pending_asked e same =
-      ap (λ ps. pending_at ps read) asked ∙ pending_at_left has_log read (filter (is_current s) (range_with_len 0 16)) no_gate
-      ∙ ap (λ ps. pending_at ps read) (sym (current_of_all s few))
-      ∙ pending_at_by read e (current_places s) (λ p named. same (log_slice p) gate_sector (let low = small p named in omega (arith, low)))

@@ -78,6 +78,48 @@ few_newest a s is = of_front (foremost epoch_of (map (λ d. (identities_of (disk
         subst (λ (u : State). length u.drives.items ≤ 16) (some_state copy.state s same)
         (of_disk at.0 copy (nat_lt state_sector (a.sectors at.0)) at.2)
 
+-- ---- the places that were asked are the current ones
+
+module _ (a : Seen) (known : List Known) (s : State) (t : Slices) (on : List ℕ) (few : length s.drives.items ≤ 16) (laid : IsLaid a known s t on) where
+  abbrev read : Image
+  read = reading (slices_of t a)
+
+  abbrev has_log : ℕ → Bool
+  has_log p = nat_lt 0 (sectors_of t (log_slice p))
+
+  both_true : (b : Bool) → (b && true) ≡ b
+  both_true true = refl
+  both_true false = refl
+
+  asked : left_of on [] ≡ filter has_log (filter (is_current s) (range_with_len 0 16))
+  asked = sym (filter_both has_log (is_current s) (is_left on []) (range_with_len 0 16) (λ p. both_true (names on p) ∙ laid.places p))
+
+  nothing : (p : ℕ) → has_log p ≡ false → read (log_slice p) gate_sector ≡ []
+  nothing p out = elim (cases_lt 0 (sectors_of t (log_slice p))) [
+    | inl some ↦ absurd (both_ways (has_log p) out (lt-ltb 0 (sectors_of t (log_slice p)) some))
+    | inr none ↦
+        ap (λ (b : Bool). if b then ((slices_of t a).held (log_slice p) gate_sector).current else []) (le-ltb gate_sector (sectors_of t (log_slice p)) (omega (arith, none)))
+  ]
+
+  no_gate : (p : ℕ) → has_log p ≡ false → gate_in read p ≡ None
+  no_gate p out = ap gate_of (nothing p out) ∙ no_gate_in_nothing
+
+  not_bad : (p : ℕ) → has_log p ≡ false → is_bad_gate read p ≡ false
+  not_bad p out = ap (λ (block : List ℕ). is_there block && is_none (gate_of block)) (nothing p out)
+
+  small : (p : ℕ) → names (current_places s) p ≡ true → p < 16
+  small p named =
+      let current = (names_filter (is_current s) (range_with_len 0 16) p (sym (ap (λ ps. names ps p) (current_of_all s few)) ∙ named)).0 in
+      let listed = is_listed s p current in
+      omega (arith, listed, few)
+
+  -- a record is pending by the places that were looked at as it is by all current ones
+  pub pending_asked : (e : Image) → ((k u : ℕ) → k < 272 → read k u ≡ e k u) → pending_at (left_of on []) read ≡ pending_at (current_places s) e
+  pending_asked e same =
+      ap (λ ps. pending_at ps read) asked ∙ pending_at_left has_log read (filter (is_current s) (range_with_len 0 16)) no_gate
+      ∙ ap (λ ps. pending_at ps read) (sym (current_of_all s few))
+      ∙ pending_at_by read e (current_places s) (λ p named. same (log_slice p) gate_sector (let low = small p named in omega (arith, low)))
+
 clean_meant : (a b : Seen) (known : List Known) (s : State) (t : Slices) (on : List ℕ) (m : LogView) (is_pending : Bool) (damaged : Option ℕ)
     → IsNewest a b known s → IsLaid a known s t on → HasLooked a b t on [] m is_pending damaged → AllTold a → IsUnfaulted a b → StandsAs a s t m is_pending damaged
 clean_meant a b known s t on m is_pending damaged is_new laid looked told free = record {
@@ -99,76 +141,37 @@ clean_meant a b known s t on m is_pending damaged is_new laid looked told free =
     few : length s.drives.items ≤ 16
     few = few_newest a s (sym (newest_meant a b known is_new.scan told free) ∙ is_new.newest told)
 
-    nothing : (p : ℕ) → nat_lt 0 (sectors_of t (log_slice p)) ≡ false → reading (slices_of t a) (log_slice p) gate_sector ≡ []
-    nothing p out =
-        ap (λ b. if b then (((slices_of t a).held (log_slice p) gate_sector).current) else [])
-        (le-ltb gate_sector (sectors_of t (log_slice p))
-        (elim (cases_lt 0 (sectors_of t (log_slice p))) [
-          | inl some ↦ absurd (both_ways (nat_lt 0 (sectors_of t (log_slice p))) out (lt-ltb 0 (sectors_of t (log_slice p)) some))
-          | inr none ↦ omega (arith, none)
-        ]))
-
-    small : length s.drives.items ≤ 16 → (p : ℕ) → names (current_places s) p ≡ true → p < 16
-    small few p named =
-        let current = (names_filter (is_current s) (range_with_len 0 16) p (sym (ap (λ ps. names ps p) (current_of_all s few)) ∙ named)).0 in
-        let listed = is_listed s p current in
-        omega (arith, listed, few)
-
     same_pending : length s.drives.items ≤ 16
         → pending (left_of on []) (reading (slices_of t a)) ≡ (standing_by (disks_of a) (now_in a) s).targets
     same_pending few =
         let now : Image = reading (slices_of t a) in
         let logs : Image = (standing_by (disks_of a) (now_in a) s).logs in
-        let has : ℕ → Bool = λ p. nat_lt 0 (sectors_of t (log_slice p)) in
-        ap (λ ps. pending ps now) (sym (filter_both has (is_current s) (is_left on []) (range_with_len 0 16) (λ p. and_true (names on p) ∙ laid.places p)))
-        ∙ pending_left has now (filter (is_current s) (range_with_len 0 16))
-        (λ p out. ap gate_of (nothing p out) ∙ no_gate_in_nothing)
-        (λ p out. ap (λ (block : List ℕ). is_there block && is_none (gate_of block)) (nothing p out))
+        ap (λ ps. pending ps now) (asked a known s t on few laid)
+        ∙ pending_left (has_log a known s t on few laid) now (filter (is_current s) (range_with_len 0 16)) (no_gate a known s t on few laid) (not_bad a known s t on few laid)
         ∙ ap (λ ps. pending ps now) (sym (current_of_all s few))
         ∙ pending_by now logs (current_places s)
-        (λ p named. same_logs (log_slice p) gate_sector (let low = small few p named in omega (arith, low)))
+        (λ p named. same_logs (log_slice p) gate_sector (let low = small a known s t on few laid p named in omega (arith, low)))
         (λ g is.
-        let low = small few g.place (pending_named (current_places s) logs g is).0 in
+        let low = small a known s t on few laid g.place (pending_named (current_places s) logs g is).0 in
         ap (record_of g.gate.number) (λ i u. same_logs (log_slice g.place) u (omega (arith, low)) i))
-      where
-        and_true : (b : Bool) → (b && true) ≡ b
-        and_true true = refl
-        and_true false = refl
-
-    -- the places that were asked are the current ones, but for those that have nothing
-    asked : left_of on [] ≡ filter (λ p. nat_lt 0 (sectors_of t (log_slice p))) (filter (is_current s) (range_with_len 0 16))
-    asked = sym (filter_both (λ p. nat_lt 0 (sectors_of t (log_slice p))) (is_current s) (is_left on []) (range_with_len 0 16) (λ p. both_true (names on p) ∙ laid.places p))
-      where
-        both_true : (b : Bool) → (b && true) ≡ b
-        both_true true = refl
-        both_true false = refl
-
-    no_gate : (p : ℕ) → nat_lt 0 (sectors_of t (log_slice p)) ≡ false → gate_in (reading (slices_of t a)) p ≡ None
-    no_gate p out = ap gate_of (nothing p out) ∙ no_gate_in_nothing
-
-    not_bad : (p : ℕ) → nat_lt 0 (sectors_of t (log_slice p)) ≡ false → is_bad_gate (reading (slices_of t a)) p ≡ false
-    not_bad p out = ap (λ (block : List ℕ). is_there block && is_none (gate_of block)) (nothing p out)
 
     gates_same : length s.drives.items ≤ 16 → (p : ℕ) → names (current_places s) p ≡ true → (reading (slices_of t a)) (log_slice p) gate_sector ≡ ((standing_by (disks_of a) (now_in a) s).logs) (log_slice p) gate_sector
-    gates_same few p named = same_logs (log_slice p) gate_sector (let low = small few p named in omega (arith, low))
+    gates_same few p named = same_logs (log_slice p) gate_sector (let low = small a known s t on few laid p named in omega (arith, low))
 
     records_same : length s.drives.items ≤ 16 → (g : GateAt) → pending_at (current_places s) ((standing_by (disks_of a) (now_in a) s).logs) ≡ Some g
         → record_in (reading (slices_of t a)) g.place g.gate.number ≡ record_in ((standing_by (disks_of a) (now_in a) s).logs) g.place g.gate.number
     records_same few g is =
-        let low = small few g.place (pending_named (current_places s) ((standing_by (disks_of a) (now_in a) s).logs) g is).0 in
+        let low = small a known s t on few laid g.place (pending_named (current_places s) ((standing_by (disks_of a) (now_in a) s).logs) g is).0 in
         ap (record_of g.gate.number) (λ i u. same_logs (log_slice g.place) u (omega (arith, low)) i)
 
     same_pending_at : length s.drives.items ≤ 16 → pending_at (left_of on []) (reading (slices_of t a)) ≡ pending_at (current_places s) ((standing_by (disks_of a) (now_in a) s).logs)
-    same_pending_at few =
-        ap (λ ps. pending_at ps (reading (slices_of t a))) asked ∙ pending_at_left (λ p. nat_lt 0 (sectors_of t (log_slice p))) (reading (slices_of t a)) (filter (is_current s) (range_with_len 0 16)) no_gate
-        ∙ ap (λ ps. pending_at ps (reading (slices_of t a))) (sym (current_of_all s few))
-        ∙ pending_at_by (reading (slices_of t a)) ((standing_by (disks_of a) (now_in a) s).logs) (current_places s) (gates_same few)
+    same_pending_at few = pending_asked a known s t on few laid ((standing_by (disks_of a) (now_in a) s).logs) same_logs
 
     same_damaged : length s.drives.items ≤ 16
         → damaged_log (left_of on []) (reading (slices_of t a)) ≡ damaged_log (current_places s) ((standing_by (disks_of a) (now_in a) s).logs)
     same_damaged few =
-        ap (λ ps. damaged_log ps (reading (slices_of t a))) asked
-        ∙ damaged_left (λ p. nat_lt 0 (sectors_of t (log_slice p))) (reading (slices_of t a)) (filter (is_current s) (range_with_len 0 16)) no_gate not_bad
+        ap (λ ps. damaged_log ps (reading (slices_of t a))) (asked a known s t on few laid)
+        ∙ damaged_left (λ p. nat_lt 0 (sectors_of t (log_slice p))) (reading (slices_of t a)) (filter (is_current s) (range_with_len 0 16)) (no_gate a known s t on few laid) (not_bad a known s t on few laid)
         ∙ ap (λ ps. damaged_log ps (reading (slices_of t a))) (sym (current_of_all s few))
         ∙ damaged_by (reading (slices_of t a)) ((standing_by (disks_of a) (now_in a) s).logs) (current_places s) (gates_same few) (records_same few)
 

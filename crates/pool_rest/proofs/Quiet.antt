@@ -45,8 +45,7 @@ use Rattle.pool_rest.specs.Resting.{AreShut, Rests, StandsNow, seated_state}
 use Rattle.pool_rest.specs.SoundLogs.{IsSoundLog, HasSoundLogs, IsSettled}
 use Rattle.pool_rest.proofs.Agreeing.{disks_same, told_later, reads_agree, logs_agree}
 use Rattle.pool_rest.proofs.BroughtCopies.{other_still, tables}
-use Rattle.pool_rest.proofs.Fewer.{pending_asked}
-use Rattle.pool_rest.proofs.Meant.{few_newest}
+use Rattle.pool_rest.proofs.Meant.{few_newest, pending_asked}
 use Rattle.pool_rest.proofs.Settled.{newest_now, none_now, seats_same, whole_now}
 
 some_standing : (x y : Standing) → Some x ≡ Some y → x ≡ y
