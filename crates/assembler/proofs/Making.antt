@@ -13,13 +13,13 @@ use Rattle.commit_log.specs.View.{LogView, names}
 use Rattle.pool_scan.specs.Scanning.{IsUnfaulted}
 use Rattle.pool_scan.proofs.Valid.{valid_places}
 use Rattle.pool_check.specs.declared.Checked.{Checked}
-use Rattle.pool_check.specs.Settling.{IsSettled}
+use Rattle.pool_check.specs.Settling.{IsSettled, KeepsTable}
 use Rattle.raid_rack.proofs.Noted.{current_few}
 use Rattle.assembler.specs.Members.{AreMembers}
 use Rattle.assembler.specs.Mending.{MendsTables}
 use Rattle.assembler.proofs.Entry.{quiet_first, quiet_last}
 use Rattle.assembler.proofs.Holding.{nobody_went}
-use Rattle.assembler.proofs.Mended.{IsMended, absent_same, left_same, marking_so, mended_so, rack_settled}
+use Rattle.assembler.proofs.Mended.{IsMended, absent_same, left_same, marking_so, mended_so, rack_keeps, rack_settled}
 
 pub by_list : {P : Type 0} (ps : List ℕ) → (ps ≡ [] → P) → ((ps ≡ [] → ⊥) → P) → P
 by_list [] none some = none refl
@@ -52,6 +52,11 @@ module _ (s : State) (t u w k : Slices) (y b d z : Seen) (went places : List ℕ
 
   pub marked : WritesOnly d z (IsSliced t)
   marked = marking_so s t y b d went places checked absent orderly m mended w k z two (tables ∙ closing.tables) marking
+
+  -- each drive has its table at every moment
+  pub keeps : (p disk : ℕ) → seat_of t p ≡ Some disk → KeepsTable y z disk
+  keeps p disk seat =
+      rack_keeps s t y b d went places checked absent orderly m mended z marked p disk (current_few s p (valid_places s 0 m.valid).1 (m.current p disk seat)) seat
 
   module _ (quiet : IsUnfaulted y z) where
     pub parts : IsQuiet y b d z

@@ -6,7 +6,7 @@ use Rattle.rack.specs.Values.{Keeps, MayLeave}
 use Rattle.rack.specs.Seen.{IsLive, Seen, Stays}
 use Rattle.rack.specs.Joins.{stays_then}
 use Rattle.rack.specs.Sequences.{OnlyReads, WritesOnly}
-use Rattle.rack.proofs.Writing.{only_then, only_weaker}
+use Rattle.rack.proofs.Writing.{only_quiet, only_then, only_weaker}
 use Rattle.slice_rack.specs.Laws.{live_below, shows_inside}
 use Rattle.slice_rack.specs.Runs.{IsSliced, Runs, inside_still}
 use Rattle.slice_rack.specs.Sliced.{IsInside, slices_of}
@@ -25,8 +25,8 @@ use Rattle.pool_scan.specs.declared.Known.{Known}
 use Rattle.pool_scan.proofs.Valid.{valid_places}
 use Rattle.pool_rest.specs.Resting.{IsOfDrive}
 use Rattle.pool_check.specs.declared.Checked.{Checked}
-use Rattle.pool_check.specs.Settling.{IsSettled, IsTableSector}
-use Rattle.pool_check.proofs.Settled.{settled_by, settled_since, table_end}
+use Rattle.pool_check.specs.Settling.{IsSettled, IsTableSector, KeepsTable}
+use Rattle.pool_check.proofs.Settled.{keeps_after, keeps_before, settled_by, settled_since, table_end}
 use Rattle.raid_rack.specs.Raid.{Raid}
 use Rattle.raid_rack.specs.Moves.{IsSet, Mends, Moves}
 use Rattle.raid_rack.proofs.Added.{names_current}
@@ -63,10 +63,10 @@ outside n u room behind before (inl low) = omega (arith, behind, low)
 outside n u room behind (inl early) (inr high) = omega (arith, room, early, high)
 outside n u room behind (inr late) (inr high) = omega (arith, late, high)
 
--- writes to drives keep tables
-pub drive_keeps : (a b : Seen) (known : List Known) (s : State) (d : ℕ) → WritesOnly a b (IsOfDrive a known s) → arrays_first + 32 < a.sectors d
-    → (u : ℕ) → IsOfCopies (a.sectors d) u → IsLive a b d u → Keeps (a.held d u) (b.held d u)
-drive_keeps a b known s d only room u of live = only.others d u live (λ v is. outside (a.sectors d) u room is.behind is.before (table_end (a.sectors d) u of))
+-- nor is another one that a replay writes
+drive_never : (a : Seen) (known : List Known) (s : State) (d : ℕ) → arrays_first + 32 < a.sectors d → (u : ℕ) (v : List ℕ) → IsOfCopies (a.sectors d) u
+    → IsOfDrive a known s d u v → ⊥
+drive_never a known s d room u v of is = outside (a.sectors d) u room is.behind is.before (table_end (a.sectors d) u of)
 
 module _ (s : State) (t : Slices) (a : Seen) (checked : Checked) (absent : List ℕ) (orderly : IsOrderly t) (m : AreMembers s t a checked absent) where
   slices_apart : (d u : ℕ) (v w : List ℕ) → IsSliced t d u v → IsTableSector a (seat_of t) 16 d u w → ⊥
@@ -74,16 +74,19 @@ module _ (s : State) (t : Slices) (a : Seen) (checked : Checked) (absent : List 
       let at = sliced_at s t a checked absent orderly m d u v is in
       outside (a.sectors d) u (m.room table.place d table.seat) at.2 at.3 table.at_end
 
-  -- so do writes to slices
-  pub slices_keep : (b : Seen) (p d n : ℕ) → WritesOnly a b (IsSliced t) → p < 16 → seat_of t p ≡ Some d → a.sectors d ≡ n
-      → (u : ℕ) → IsOfCopies n u → IsLive a b d u → Keeps (a.held d u) (b.held d u)
-  slices_keep b p d n only few seat same u of live =
-      only.others d u live (λ v is. slices_apart d u v v is (record {
+  pub slices_never : (p d n : ℕ) → p < 16 → seat_of t p ≡ Some d → a.sectors d ≡ n → (u : ℕ) (v : List ℕ) → IsOfCopies n u → IsSliced t d u v → ⊥
+  slices_never p d n few seat same u v of is =
+      slices_apart d u v v is (record {
         place = p;
         below = few;
         seat = seat;
         at_end = subst (λ k. (u < 34) ⊎ (k ≤ u + 33)) (sym same) (table_end n u of);
-      }))
+      })
+
+  -- writes to slices keep tables
+  slices_keep : (b : Seen) (p d n : ℕ) → WritesOnly a b (IsSliced t) → p < 16 → seat_of t p ≡ Some d → a.sectors d ≡ n
+      → (u : ℕ) → IsOfCopies n u → IsLive a b d u → Keeps (a.held d u) (b.held d u)
+  slices_keep b p d n only few seat same u of live = only.others d u live (λ v. slices_never p d n few seat same u v of)
 
   -- and writes to tables keep slices
   pub tables_read : (b : Seen) → WritesOnly a b (IsTableSector a (seat_of t) 16) → OnlyReads (slices_of t a) (slices_of t b)
@@ -199,18 +202,39 @@ module _ (s : State) (t : Slices) (a b c : Seen) (gone now : List ℕ) (checked 
         (settled_since is.closing.stays d is.mends.only.stays (slices_keep s t a checked absent orderly m b p d (a.sectors d) is.closing few seat refl)
         (is.closing.stays.sectors d) (is.mends.settled p d few left))
 
+    pub rack_keeps : (p d : ℕ) → p < 16 → seat_of t p ≡ Some d → KeepsTable a e d
+    rack_keeps p d few seat =
+        keeps_after a c e (IsSliced t) d mended_stays marking (slices_never s t c checked absent orderly mended_members p d (a.sectors d) few seat (mended_stays.sectors d))
+        (keeps_before a b c (IsSliced t) d is.closing is.mends.only.stays (slices_never s t a checked absent orderly m p d (a.sectors d) few seat refl) (is.mends.tables d))
+
 -- ---- in an opening: the pending record, the drives' check, the rack of arrays, the volume
 
-pub opening_settled : (s r : State) (t : Slices) (a x y z w : Seen) (checked : Checked) (absent : List ℕ) (known : List Known) → IsOrderly t → AreMembers s t y checked absent
-    → WritesOnly a x (IsOfDrive a known r) → OnlyReads x y → Stays y z → WritesOnly z w (IsSliced t)
-    → (p d : ℕ) → seat_of t p ≡ Some d → IsSettled y z d → IsSettled a w d
-opening_settled s r t a x y z w checked absent known orderly m early reads stays texts p d seat settled =
-    let ax = early.stays in
-    let xz = stays_then reads.stays stays in
-    let az = stays_then ax xz in
-    let few = current_few s p (valid_places s 0 m.valid).1 (m.current p d seat) in
-    let room = subst (λ n. arrays_first + 32 < n) (reads.stays.sectors d ∙ ax.sectors d) (m.room p d seat) in
-    settled_by az d texts.stays
-    (slices_keep s t z checked absent orderly (members_later s t y z checked absent stays m) w p d (a.sectors d) texts few seat (az.sectors d))
-    (settled_since ax d xz (drive_keeps a x known r d early room) (ax.sectors d)
-    (settled_since reads.stays d stays (λ u of live. reads.keeps.held d u live) (reads.stays.sectors d) settled))
+module _ (s r : State) (t : Slices) (a x y z w : Seen) (checked : Checked) (absent : List ℕ) (known : List Known) (orderly : IsOrderly t) (m : AreMembers s t y checked absent)
+    (early : WritesOnly a x (IsOfDrive a known r)) (reads : OnlyReads x y) (stays : Stays y z) (texts : WritesOnly z w (IsSliced t))
+    (p d : ℕ) (seat : seat_of t p ≡ Some d) where
+  xz : Stays x z
+  xz = stays_then reads.stays stays
+
+  az : Stays a z
+  az = stays_then early.stays xz
+
+  few : p < 16
+  few = current_few s p (valid_places s 0 m.valid).1 (m.current p d seat)
+
+  late_never : (u : ℕ) (v : List ℕ) → IsOfCopies (a.sectors d) u → IsSliced t d u v → ⊥
+  late_never = slices_never s t z checked absent orderly (members_later s t y z checked absent stays m) p d (a.sectors d) few seat (az.sectors d)
+
+  early_never : (u : ℕ) (v : List ℕ) → IsOfCopies (a.sectors d) u → IsOfDrive a known r d u v → ⊥
+  early_never = drive_never a known r d (subst (λ n. arrays_first + 32 < n) (reads.stays.sectors d ∙ early.stays.sectors d) (m.room p d seat))
+
+  pub opening_settled : IsSettled y z d → IsSettled a w d
+  opening_settled settled =
+      settled_by az d texts.stays (λ u of live. texts.others d u live (λ v. late_never u v of))
+      (settled_since early.stays d xz (λ u of live. early.others d u live (λ v. early_never u v of)) (early.stays.sectors d)
+      (settled_since reads.stays d stays (λ u of live. reads.keeps.held d u live) (reads.stays.sectors d) settled))
+
+  pub opening_keeps : KeepsTable y z d → KeepsTable a w d
+  opening_keeps kept =
+      keeps_after a z w (IsSliced t) d az texts late_never
+      (keeps_before a x z (IsOfDrive a known r) d early xz early_never
+      (keeps_before x y z (λ e u v. ⊥) d (only_quiet (λ e u v. ⊥) reads.stays reads.keeps) stays (λ u v of is. is) kept))

@@ -6,14 +6,15 @@ ghost use Rattle.pool_rest.specs.Resting.{WritesDrives};
 ghost use Rattle.assembler.specs.Refusing.{by_volume, is_early};
 ghost use Rattle.assembler.specs.declared.refusal.Refusal.TheVariants.{Memory};
 ghost use Rattle.raid_rack.specs.Raid.{is_used_up};
-ghost use Rattle.slice_rack.specs.SliceRack.{below_of};
+ghost use Rattle.slice_rack.specs.SliceRack.{below_of, tables};
+ghost use Rattle.slice_rack.specs.Slices.{seat_of};
 ghost use Rattle.lvm_group.specs.Shown.{total, volume_of};
 ghost use Rattle.lvm_group.specs.Volume.{below_of as rack_in, linear, seqno_of};
 ghost use Rattle.assembler.specs.Sound.{HoldSound, IsMeantBy, IsMeantRefusal};
 ghost use Rattle.assembler.specs.Volume.{OpensVolume, RefusesVolume};
 ghost use Rattle.array_image.specs.States.{is_current};
 ghost use Rattle.assembler.specs.Writing.{WritesPool};
-ghost use Rattle.pool_check.specs.Settling.{IsSettled};
+ghost use Rattle.pool_check.specs.Settling.{IsSettled, KeepsTable};
 ghost use Rattle.pool_image.specs.Drives.{Found};
 ghost use Rattle.pool_scan.specs.Scanning.{IsUnfaulted};
 ghost use Rattle.raid_rack.specs.RaidRack.{IsFit, arrays_in, raid_in, raid_seen, slices_in, slices_seen};
@@ -132,7 +133,10 @@ pub fn assemble<R: Rack>(
     // Then those drives alone are marked missing that the pool had marked, or that have no disk.
     ensures marks { IfOk result (λ volume. (f : Found) → HoldSound (R.seen rack) f → IsUnfaulted (R.seen rack) (R.seen (below_of (slices_in (rack_in volume))))
         → (p : ℕ) → is_current (raid_in (rack_in volume)).state p ≡ (is_current f.state p && is_some (f.seats p))) }
-    // And both copies of the partition table of each drive are then the table that its disk had, durably.
+    // Whatever goes, each drive that the volume lies on has its partition table at every moment; where no disk refuses a call both copies are that
+    // table in the end, durably.
+    ensures keeps { IfOk result (λ volume. (p d : ℕ) → seat_of (tables (slices_in (rack_in volume))) p ≡ Some d
+        → KeepsTable (R.seen rack) (R.seen (below_of (slices_in (rack_in volume)))) d) }
     ensures mended { IfOk result (λ volume. (f : Found) → HoldSound (R.seen rack) f → IsUnfaulted (R.seen rack) (R.seen (below_of (slices_in (rack_in volume))))
         → (p d : ℕ) → f.seats p ≡ Some d → IsSettled (R.seen rack) (R.seen (below_of (slices_in (rack_in volume)))) d) }
     ensures exact { IfErr result (λ back. (f : Found) → HoldSound (R.seen rack) f → IsUnfaulted (R.seen rack) (R.seen back.rack)

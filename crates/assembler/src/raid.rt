@@ -15,7 +15,7 @@ ghost use Rattle.pool_image.specs.Drives.{Found};
 ghost use Rattle.pool_scan.specs.Scanning.{IsUnfaulted};
 ghost use Rattle.pool_check.specs.Checking.{IsChecked};
 ghost use Rattle.pool_check.specs.Drives.{seats_by};
-ghost use Rattle.pool_check.specs.Settling.{IsSettled};
+ghost use Rattle.pool_check.specs.Settling.{IsSettled, KeepsTable};
 ghost use Rattle.pool_check.specs.Refusing.{is_well};
 ghost use Rattle.assembler.specs.Holding.{HoldPool, HoldsArrays};
 ghost use Rattle.assembler.specs.Members.{AreMembers};
@@ -85,7 +85,8 @@ pub(crate) fn make_rack<R: Rack>(members: Members<R>, seconds: u64) -> RaidRack<
     // Where no disk refuses a call, the absent places are marked missing, and no others, and no sector is spent unless numbers are used up.
     ensures marks { IsUnfaulted (R.seen (below_of members.slices)) (R.seen (below_of (slices_in result)))
         → MarksAbsent members.state members.absent.items (raid_in result) }
-    // Then both copies of each drive's table agree, durably.
+    // Whatever goes, each drive has its table at every moment. Where no disk refuses a call both copies of it agree in the end, durably.
+    ensures keeps { (p d : ℕ) → seat_of (tables members.slices) p ≡ Some d → KeepsTable (R.seen (below_of members.slices)) (R.seen (below_of (slices_in result))) d }
     ensures mended { IsUnfaulted (R.seen (below_of members.slices)) (R.seen (below_of (slices_in result)))
         → (p d : ℕ) → seat_of (tables members.slices) p ≡ Some d → IsSettled (R.seen (below_of members.slices)) (R.seen (below_of (slices_in result))) d }
     // And where the disks are told and hold a sound pool at rest, in which the check found no fault, the arrays hold what the pool's

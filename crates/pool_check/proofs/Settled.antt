@@ -87,15 +87,15 @@ tables_agree n x y same =
     (table_at_agrees Primary n x y (λ s is. same s (inl is)))
     (table_at_agrees Backup n x y (λ s is. same s (inr is)))
 
+single_in : (a : Seen) (d n : ℕ) → AreSingle a d n → (s : ℕ) → IsOfCopies n s → IsSingle (a.held d s)
+single_in a d n single s (inl is) = single Primary s is
+single_in a d n single s (inr is) = single Backup s is
+
 keeps_start : (a : Seen) (d : ℕ) → KeepsTable a a d
 keeps_start a d = record {
   stops = λ traced live single. leaves_same a (λ c. the_table (a.sectors d) (c d) ≡ the_table (a.sectors d) (now_on a d));
-  held = λ live single contents left. tables_agree (a.sectors d) contents (now_on a d) (λ s is. single_at single s is (contents s) (left s is));
+  held = λ live single contents left. tables_agree (a.sectors d) contents (now_on a d) (λ s is. single_in a d (a.sectors d) single s is (contents s) (left s is));
 }
-  where
-    single_at : AreSingle a d (a.sectors d) → (s : ℕ) → IsOfCopies (a.sectors d) s → IsSingle (a.held d s)
-    single_at single s (inl is) = single Primary s is
-    single_at single s (inr is) = single Backup s is
 
 module _ {a b c : Seen} (stays : Stays a b) (e : ℕ) (after : Stays b c) where
   abbrev n : ℕ
@@ -191,6 +191,26 @@ module _ {a b c : Seen} (stays : Stays a b) (e : ℕ) (after : Stays b c) where
             inl (λ s is. (untouched s (of_one copy n s is) (live_before live copy s is)).within (contents s) (picks s is))
         before live copy contents (inr made) = inr made
 
+    -- and so is the table at each moment, where later calls keep it
+    keeps_since : b.sectors e ≡ n → (a.traced → BothLive a c e n → Leaves a b (λ i. IsLeftOn a e n (i e))) → KeepsTable b c e → KeepsTable a c e
+    keeps_since same moments old = record {
+      stops = λ traced live single.
+          let Q : Image → Type 0 = λ i. the_table n (i e) ≡ the_table n (now_on a e) in
+          leaves_then Q
+          (leaves_weaker (λ i. IsLeftOn a e n (i e)) Q (λ i left. tables_agree n (i e) (now_on a e) (λ s is. single_in a e n single s is (i e s) (left s is))) (moments traced live))
+          (leaves_weaker (λ i. the_table n (i e) ≡ the_table n (now_on b e)) Q (λ i kept. kept ∙ table_still live)
+          (by.0 (stays.traced traced) (live_then live) (single_still live single)));
+      held = λ live single contents left. by.1 (live_then live) (single_still live single) contents left ∙ table_still live;
+    }
+      where
+        -- by the sectors that the disk has
+        by : (b.traced → BothLive b c e n → AreSingle b e n → Leaves b c (λ i. the_table n (i e) ≡ the_table n (now_on b e)))
+            × (BothLive b c e n → AreSingle b e n → (contents : Contents) → IsLeftOn c e n contents → the_table n contents ≡ the_table n (now_on b e))
+        by = (
+          subst (λ m. b.traced → BothLive b c e m → AreSingle b e m → Leaves b c (λ i. the_table m (i e) ≡ the_table m (now_on b e))) same old.stops,
+          subst (λ m. BothLive b c e m → AreSingle b e m → (contents : Contents) → IsLeftOn c e m contents → the_table m contents ≡ the_table m (now_on b e)) same old.held,
+        )
+
   -- a table that is settled stays so
   pub settled_by : ((s : ℕ) → IsOfCopies n s → IsLive b c e s → Keeps (b.held e s) (c.held e s)) → IsSettled a b e → IsSettled a c e
   settled_by kept old = record {
@@ -209,6 +229,30 @@ module _ {a b c : Seen} (stays : Stays a b) (e : ℕ) (after : Stays b c) where
         old.written had (live_before live) copy contents
         (λ s is. let of = of_one copy n s is in (kept s of (live_after live s of)).within (contents s) (picks s is));
   }
+
+-- ---- calls that write no table
+
+module _ {a b : Seen} (may : ℕ → ℕ → List ℕ → Type 0) (e n : ℕ) (only : WritesOnly a b may) (never : (s : ℕ) (v : List ℕ) → IsOfCopies n s → may e s v → ⊥) where
+  kept_tables : (s : ℕ) → IsOfCopies n s → IsLive a b e s → Keeps (a.held e s) (b.held e s)
+  kept_tables s is live = only.others e s live (λ v. never s v is)
+
+  left_tables : a.traced → BothLive a b e n → Leaves a b (λ i. IsLeftOn a e n (i e))
+  left_tables traced live =
+      leaves_weaker (IsMix a b may) (λ i. IsLeftOn a e n (i e))
+      (λ i mix s is. elim (mix e s (live_of a b e n s live is)) [ inl old ↦ old | inr new ↦ absurd (never s (i e s) is new) ]) (only.stops traced)
+
+-- before others that keep a disk's table they keep it too, and so they do after them
+pub keeps_before : (a b c : Seen) (may : ℕ → ℕ → List ℕ → Type 0) (e : ℕ) → WritesOnly a b may → Stays b c
+    → ((s : ℕ) (v : List ℕ) → IsOfCopies (a.sectors e) s → may e s v → ⊥) → KeepsTable b c e → KeepsTable a c e
+keeps_before a b c may e only after never old =
+    keeps_since only.stays e after (kept_tables may e (a.sectors e) only never) (only.stays.sectors e)
+    (λ traced live. left_tables may e (a.sectors e) only never traced (live_before only.stays e after live)) old
+
+pub keeps_after : (a b c : Seen) (may : ℕ → ℕ → List ℕ → Type 0) (e : ℕ) → Stays a b → WritesOnly b c may
+    → ((s : ℕ) (v : List ℕ) → IsOfCopies (a.sectors e) s → may e s v → ⊥) → KeepsTable a b e → KeepsTable a c e
+keeps_after a b c may e stays only never old =
+    keeps_by stays e only.stays (kept_tables may e (a.sectors e) only never)
+    (λ traced live. left_tables may e (a.sectors e) only never traced (λ copy s is. live_second stays (live copy s is))) old
 
 -- ---- what is written
 

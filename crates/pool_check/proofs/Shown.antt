@@ -5,7 +5,7 @@ use Rattle.std.specs.Option.{option_and_then, option_map_or}
 use Rattle.slice_rack.specs.Slices.{Slices, disk_of, first_of, sectors_of, seat_of}
 use Rattle.slice_rack.specs.Sliced.{sliced}
 use Rattle.md_super.specs.declared.superblock.Super.{Super}
-use Rattle.array_image.specs.Places.{member_slice, place_of, slice_of}
+use Rattle.array_image.specs.Places.{member_slice, place_of}
 use Rattle.array_image.specs.Supers.{is_named}
 use Rattle.array_model.specs.View.{View}
 use Rattle.pool_image.specs.Drives.{Found, extent_of, slices_of}

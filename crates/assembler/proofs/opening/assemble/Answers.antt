@@ -35,7 +35,7 @@ use Rattle.assembler.proofs.Leaving.{IsAsRead, opening_leaves}
 use Rattle.assembler.proofs.Marks.{marks_still}
 use Rattle.assembler.proofs.Meaning.{check_fails, check_passes}
 use Rattle.assembler.proofs.Before.{stood_state}
-use Rattle.assembler.proofs.Mended.{opening_settled}
+use Rattle.assembler.proofs.Mended.{opening_keeps, opening_settled}
 use Rattle.assembler.proofs.Moments.{read_replays, read_state, reads_leave, seated}
 use Rattle.assembler.proofs.Shows.{few_place, none_past}
 use Rattle.assembler.proofs.Tables.{have_same, of_drives}
@@ -368,3 +368,18 @@ returns-in-Ok-open_volume-clause-mended g c e sound quiet p d seat =
     let here : seat_of t p ≡ Some d = sym (checked.0.pool.seats p) ∙ (pool_same seen a rest e sound rested).seats p ∙ seat in
     opening_settled m.state c.in-Ok.ensures.only.state t a x y z w m.checked m.absent.items c.in-Ok.ensures.only.known m.slices.orderly c.in-Ok-check.ensures.members
     c.in-Ok.ensures.only.only c.in-Ok-check.ensures.only yz texts p d here (c.make_rack.ensures.mended (quiet_last a y z (stays_then ax xy) to_z) p d here)
+
+pub returns-in-Ok-open_volume-clause-keeps : goal.returns-in-Ok-open_volume-clause-keeps
+returns-in-Ok-open_volume-clause-keeps g c p d seat =
+    let seen = g.R.Rack.seen in
+    let m = c.in-Ok-check.members in
+    let t : Slices = tables m.slices in
+    let volume = c.in-Ok-open_volume.volume in
+    let z : Seen = seen (below_of (slices_in c.make_rack.result)) in
+    let w : Seen = seen (below_of (slices_in (rack_in volume))) in
+    let kept = c.in-Ok-open_volume.ensures.opens.kept.0 in
+    let inside = c.make_rack.ensures.fit.running.set.fit in
+    let here : seat_of t p ≡ Some d = ap (λ u. seat_of u p) (sym (kept.tables ∙ c.make_rack.ensures.tables)) ∙ seat in
+    opening_keeps m.state c.in-Ok.ensures.only.state t (seen c.args.rack) (seen (below_of c.in-Ok.rest.slices)) (seen (below_of m.slices)) z w m.checked m.absent.items
+    c.in-Ok.ensures.only.known m.slices.orderly c.in-Ok-check.ensures.members c.in-Ok.ensures.only.only c.in-Ok-check.ensures.only c.make_rack.ensures.only.stays
+    (subst (λ (u : Slices). WritesOnly z w (IsSliced u)) c.make_rack.ensures.tables (kept.apart inside.0 inside.1)) p d here (c.make_rack.ensures.keeps p d here)

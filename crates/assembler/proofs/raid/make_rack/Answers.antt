@@ -16,7 +16,7 @@ use Rattle.raid_rack.specs.Moves.{Mends}
 use Rattle.raid_rack.proofs.Mended.{each_items}
 use Rattle.assembler.proofs.Holding.{rack_closed, rack_still}
 use Rattle.assembler.proofs.Live.{opened_live}
-use Rattle.assembler.proofs.Making.{by_list, mended as making_mended, parts as making_parts, replayed, same as making_same, settled}
+use Rattle.assembler.proofs.Making.{by_list, keeps, mended as making_mended, parts as making_parts, replayed, same as making_same, settled}
 use Rattle.assembler.proofs.Mended.{absent_still, closed_members, marking_so, mended_members, mended_reads, mended_so, rack_writes, reads_mend}
 use Rattle.assembler.proofs.Running.{array_now, current_logs, rack_running, twice}
 use Rattle.assembler.proofs.Sizes.{total_small}
@@ -166,6 +166,27 @@ returns-clause-mended g c quiet p disk seat =
     settled m.state t (tables closed) (tables mended) (tables last) y b d z went places m.checked m.absent.items m.slices.orderly members m.log
     (runs (below_of m.slices) (below_of closed)) (runs (below_of mended) (below_of last)) c.close_gates-gone.ensures.runs c.close_gates-gone.ensures.closes
     c.close_gates-gone.ensures.same c.mend_tables-left_out.ensures.mends c.mend_tables-left_out.ensures.tables marking quiet p disk seat
+
+pub returns-clause-keeps : goal.returns-clause-keeps
+returns-clause-keeps g c p disk seat =
+    let m = c.args.members in
+    let seen = g.R.Rack.seen in
+    let runs = g.R.Rack.runs in
+    let t : Slices = tables m.slices in
+    let y : Seen = seen (below_of m.slices) in
+    let closed = c.close_gates-gone.new.slices in
+    let mended = c.mend_tables-left_out.new.slices in
+    let last = slices_in c.mark_gone.new.self in
+    let b : Seen = seen (below_of closed) in
+    let d : Seen = seen (below_of mended) in
+    let z : Seen = seen (below_of last) in
+    let went = c.close_gates-gone.result.items in
+    let places = c.mend_tables-left_out.result.items in
+    let members = c.requires.members in
+    let marking = subst (λ k. SliceRuns seen runs k last) c.new-raid.ensures.slices c.mark_gone.ensures.runs in
+    keeps m.state t (tables closed) (tables mended) (tables last) y b d z went places m.checked m.absent.items m.slices.orderly members m.log
+    (runs (below_of m.slices) (below_of closed)) (runs (below_of mended) (below_of last)) c.close_gates-gone.ensures.runs c.close_gates-gone.ensures.closes
+    c.close_gates-gone.ensures.same c.mend_tables-left_out.ensures.mends c.mend_tables-left_out.ensures.tables marking p disk seat
 
 pub returns-clause-holds : goal.returns-clause-holds
 returns-clause-holds g c f holds found quiet =
