@@ -69,10 +69,7 @@ fn say_written<O: Sink>(written: Result<u64, ImportFault>, out: &mut O) -> Statu
 }
 
 // Writes each piece of the input to its sector, and answers the number of the input's bytes.
-fn write_pieces<R: Bay, I: Source>(
-    pool: &mut Pool<R>,
-    input: &mut I,
-) -> Result<u64, ImportFault>
+fn write_pieces<R: Bay, I: Source>(pool: &mut Pool<R>, input: &mut I) -> Result<u64, ImportFault>
     requires { (volume (view R.seen pool.old)).fit }
     ensures passes { Passes (view R.seen pool.old) (view R.seen pool.new) }
     ensures ended { (volume (view R.seen pool.new)).fit }

@@ -86,24 +86,18 @@ pub fn run<B: Bay, I: Source, O: Sink>(
         Err(WordsFault::Wrong) => return refuse_words(out).code(),
         Err(WordsFault::Memory) => return refuse(out, b"memory", Status::Memory).code(),
     };
+    let names = behind(words, 1);
+    let seconds = birth.seconds;
     match form {
         Form::Layout { request } => print_layout(&request, out).code(),
-        Form::Serve => {
-            open_for(alloc, bay, behind(words, 1), birth.seconds, Task::Serve, input, out).code()
-        }
-        Form::Import => {
-            open_for(alloc, bay, behind(words, 1), birth.seconds, Task::Import, input, out).code()
-        }
-        Form::Export => {
-            open_for(alloc, bay, behind(words, 1), birth.seconds, Task::Export, input, out).code()
-        }
-        Form::Examine => examine_image(alloc, bay, behind(words, 1), out).code(),
+        Form::Serve => open_for(alloc, bay, names, seconds, Task::Serve, input, out).code(),
+        Form::Import => open_for(alloc, bay, names, seconds, Task::Import, input, out).code(),
+        Form::Export => open_for(alloc, bay, names, seconds, Task::Export, input, out).code(),
+        Form::Examine => examine_image(alloc, bay, names, out).code(),
         Form::Create { extent } => {
             create(alloc, bay, behind(words, 2), extent, birth, out).code()
         }
-        Form::Status | Form::Trial { .. } => {
-            refuse(out, b"unbuilt", Status::Refused).code()
-        }
+        Form::Status | Form::Trial { .. } => refuse(out, b"unbuilt", Status::Refused).code(),
     }
 }
 

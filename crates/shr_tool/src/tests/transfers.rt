@@ -50,7 +50,14 @@ fn check(
 fn a_few_bytes_are_filled_up_with_zeros(rt: HostRuntime) -> Result<(), Fail> {
     let replies = "data 68656c6c6f\n";
     let wanted = ("imported 5\n", 0);
-    check(&rt, rt.alloc(), (b"hello", None), wanted, b"read 0\n", replies)
+    check(
+        &rt,
+        rt.alloc(),
+        (b"hello", None),
+        wanted,
+        b"read 0\n",
+        replies,
+    )
 }
 
 #[test]
@@ -60,7 +67,14 @@ fn an_input_that_is_too_long_fills_the_volume(rt: HostRuntime) -> Result<(), Fai
     let wanted = ("refused long\n", 6);
     let script = b"read 0\nread 1\nread 2559\n";
     let replies = "data -\ndata -\ndata -\n";
-    check(&rt, alloc, (bytes.as_slice(), None), wanted, script, replies)
+    check(
+        &rt,
+        alloc,
+        (bytes.as_slice(), None),
+        wanted,
+        script,
+        replies,
+    )
 }
 
 #[test]
@@ -73,7 +87,14 @@ fn a_source_that_fails_leaves_the_pieces_before(rt: HostRuntime) -> Result<(), F
     }
     let replies = format!(in alloc; "data -\ndata -\ndata {five}\n")?;
     let script = b"read 0\nread 1\nread 2\n";
-    check(&rt, alloc, (bytes.as_slice(), Some(2)), ("", 4), script, replies.as_str())
+    check(
+        &rt,
+        alloc,
+        (bytes.as_slice(), Some(2)),
+        ("", 4),
+        script,
+        replies.as_str(),
+    )
 }
 
 #[test]

@@ -28,7 +28,7 @@ returns-in-Create-clause-create g c =
     let runs = g.B.Rack.runs in
     let taken = g.O.Sink.taken in
     let same = create_same c.in-Create.extent extent (sym (c.in-Ok.ensures.form ∙ ap Some c.in-Create.is) ∙ form) in
-    let names = ap (map string_bytes) c.behind-in-Create.ensures in (
+    let names = ap (map string_bytes) c.behind.ensures in (
       c.create.result,
       c.code-in-Create.ensures,
       subst
