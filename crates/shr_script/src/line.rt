@@ -76,9 +76,7 @@ fn first_space(bytes: &[u8]) -> Option<usize>
 fn is_unbuilt(word: &[u8]) -> bool
     ensures { result ≡ is_unbuilt_word word.now }
 {
-    word == b"add".as_slice()
-        || word == b"replace".as_slice()
-        || word == b"status".as_slice()
+    word == b"add".as_slice() || word == b"replace".as_slice() || word == b"status".as_slice()
 }
 
 // The command of a line that isn't too long, by its first word.
