@@ -9,7 +9,6 @@ mod order;
 mod pools;
 mod scripts;
 mod stops;
-mod works;
 
 ghost use Rattle.std.specs.Prelude.{◌≡◌};
 
