@@ -60,20 +60,23 @@ module _ (x y : Seen) (extent : ℕ) (birth : Birth) (a : Arrays) (l : Linear) (
     }
 
     holds : (f : Found) × IsPoolOf made.plan birth y f
-    holds = (shown made.plan birth (disks_of y) (now_in y) is_new, record {
-      holds = record {
-        steady = whole;
-        found_is = found_is made.plan birth (disks_of y) (now_in y) is_new;
-        sound = record {
-          rules = sound_state made.plan birth (disks_of y) (now_in y) is_new;
-          own = own_truth made.plan birth (disks_of y) (now_in y) is_new;
+    holds = (
+      shown made.plan birth (disks_of y) (now_in y) is_new,
+      record {
+        holds = record {
+          steady = whole;
+          found_is = found_is made.plan birth (disks_of y) (now_in y) is_new;
+          sound = record {
+            rules = sound_state made.plan birth (disks_of y) (now_in y) is_new;
+            own = own_truth made.plan birth (disks_of y) (now_in y) is_new;
+          };
+          logs = sound_logs made.plan birth (disks_of y) (now_in y) is_new;
         };
-        logs = sound_logs made.plan birth (disks_of y) (now_in y) is_new;
-      };
-      state = refl;
-      sectors = λ n e at. sectors_now made.plan birth (disks_of y) (now_in y) is_new n e at;
-      values = λ n t e at inside. value_now made.plan birth (disks_of y) (now_in y) is_new n e at t inside;
-    })
+        state = refl;
+        sectors = λ n e at. sectors_now made.plan birth (disks_of y) (now_in y) is_new n e at;
+        values = λ n t e at inside. value_now made.plan birth (disks_of y) (now_in y) is_new n e at t inside;
+      },
+    )
 
   pub soundly : IsSoundlyMade x y extent birth a l
   soundly = record { made = made; sound = holds }
