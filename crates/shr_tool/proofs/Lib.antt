@@ -13,6 +13,7 @@ mod Meanings
 mod Performing
 mod Pieces
 mod Putting
+mod Stepped
 mod Stopping
 mod Through
 mod Told

@@ -10,7 +10,7 @@ use Rattle.rack.specs.Moments.{IsSound}
 use Rattle.rack.specs.Joins.{leaves_weaker}
 use Rattle.shr_script.specs.Line.{Line}
 use Rattle.shr_script.specs.declared.Command.TheVariants.{Read, Write, Fill, Flush, Lose, Step}
-use Rattle.shr_script.specs.Reply.{data_line, as_line, left_line, refused_line}
+use Rattle.shr_script.specs.Reply.{data_line, as_line, refused_line}
 use Rattle.flat_array.specs.Array.{FlatArray, filled, flushed, written}
 use Rattle.flat_array.specs.Reply.{reply, after, spent_line, uniform_sector}
 use Rattle.array_image.specs.States.{is_current}
@@ -21,12 +21,10 @@ use Rattle.pool.specs.declared.calls.SectorFault.{SectorFault}
 use Rattle.pool.specs.declared.calls.SectorFault.TheVariants.{Range, Spent}
 use Rattle.pool.specs.View.{View, book, spent_by, volume}
 use Rattle.pool.specs.Volume.{Does, Holds, Means, is_spent, size_of, unchanged}
-use Rattle.pool.specs.Calls.{Flushes, LosesDrive, Marks, Passes, ReadsSector, Steps, WritesSector}
-use Rattle.pool.specs.Works.{IsStuck, left_by, left_of}
-use Rattle.raid_rack.specs.declared.works.Stuck.{Stuck}
+use Rattle.pool.specs.Calls.{Flushes, LosesDrive, Marks, Passes, ReadsSector, WritesSector}
 use Rattle.shr_tool.specs.declared.perform.SpentAt.{SpentAt}
-use Rattle.shr_tool.specs.Events.{Event, Touches, TouchesLast, becomes, stuck_line, text_of}
-use Rattle.shr_tool.specs.Events.Event.{answered, spent, lost, last, stepped, stuck}
+use Rattle.shr_tool.specs.Events.{Event, Touches, TouchesLast, becomes, text_of}
+use Rattle.shr_tool.specs.Events.Event.{answered, spent, lost, last}
 use Rattle.shr_tool.specs.Timeline.{HasCause, MarksFor, Performs, ground_of, moment_of}
 use Rattle.shr_tool.specs.Filling.{Fills, FillsSome}
 use Rattle.shr_tool.proofs.Meanings.{does_none, marks_same, passes_same}
@@ -34,18 +32,18 @@ use Rattle.shr_tool.proofs.Meanings.{does_none, marks_same, passes_same}
 -- ---- any line
 
 -- why an event was answered so on a pool
-abbrev Cause : View → View → Event → Type 0
+abbrev pub Cause : View → View → Event → Type 0
 Cause x y event = HasCause (ground_of x) (moment_of x) (moment_of y) event
 
 -- the marks of a call that loses no drive itself
-marks_for : (x y : View) (event : Event) → Passes x y → Marks x y → MarksFor (ground_of x) (moment_of x) (moment_of y) event
+pub marks_for : (x y : View) (event : Event) → Passes x y → Marks x y → MarksFor (ground_of x) (moment_of x) (moment_of y) event
 marks_for x y event passes marks = record {
   after = passes.marks;
   cause = λ place was now. elim (marks place was now) [ inl rose ↦ inl rose | inr none ↦ absurd none ];
 }
 
 -- A call answers a line by what it does: stops inside it leave the array before the line or after it.
-performs_by :
+pub performs_by :
     (x y : View) (event : Event) (text : List ℕ) (during now : FlatArray → FlatArray)
     → Passes x y
     → Cause x y event
@@ -470,42 +468,3 @@ lose_last x y at place text r fit cut refused same is loses =
     (λ a holds. refl)
     (λ a holds. inl refl)
     loses.does
-
--- ---- works of maintenance
-
-pub step_done :
-    (x y : View) (count left : ℕ) (text : List ℕ) (r : Result ℕ Stuck)
-    → r ≡ Ok left
-    → text ≡ left_line left
-    → Steps x y count r
-    → Performs x y (stepped count left) text
-step_done x y count left text r is_ok is steps_r =
-    let steps : Steps x y count (Ok left) = subst (λ q. Steps x y count q) is_ok steps_r in
-    performs_by x y (stepped count left) text unchanged unchanged steps.passes
-    (record {
-      left_is = subst (λ l. left ≡ left_by l (book y)) steps.passes.linear steps.left;
-      progress = λ quiet alone.
-          let fewer = steps.progress quiet alone in
-          (fewer.0, ap (λ n. n + min count (left_of x)) steps.left ∙ fewer.1);
-    })
-    (marks_for x y _ steps.passes steps.marks)
-    (λ a holds. is)
-    (λ a holds. refl)
-    (λ a holds. inl refl)
-    steps.does
-
-pub step_stuck :
-    (x y : View) (count : ℕ) (at : Stuck) (text : List ℕ) (r : Result ℕ Stuck)
-    → r ≡ Err at
-    → text ≡ stuck_line at.array
-    → Steps x y count r
-    → Performs x y (stuck count at.array) text
-step_stuck x y count at text r refused is steps_r =
-    let steps : Steps x y count (Err at) = subst (λ q. Steps x y count q) refused steps_r in
-    performs_by x y (stuck count at.array) text unchanged unchanged steps.passes
-    (subst (λ l. IsStuck l (book y) at.array) steps.passes.linear steps.stuck)
-    (marks_for x y _ steps.passes steps.marks)
-    (λ a holds. is)
-    (λ a holds. refl)
-    (λ a holds. inl refl)
-    steps.does

@@ -2,7 +2,7 @@
 use Rattle.std.proofs.Common.{refl, sym, ap}
 use Rattle.shr_tool.specs.Events.Event.{stepped, stuck}
 use Rattle.shr_tool.specs.Serving.{refuses}
-use Rattle.shr_tool.proofs.Performing.{step_done, step_stuck}
+use Rattle.shr_tool.proofs.Stepped.{step_done, step_stuck}
 use Rattle.shr_tool.proofs.perform.perform_step.Goals as goal
 
 pub returns-in-Ok-clause-answers : goal.returns-in-Ok-clause-answers

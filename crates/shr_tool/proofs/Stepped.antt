@@ -1,0 +1,50 @@
+-- Works of maintenance answer a line as its event has it.
+use Rattle.std.proofs.Common.{◌≡◌, ℕ, ◌+◌, List, Result, Ok, Err, refl, ◌∙◌, ap, subst, inl}
+use Rattle.std.specs.Prelude.{min}
+use Rattle.shr_script.specs.Reply.{left_line}
+use Rattle.pool.specs.View.{View, book}
+use Rattle.pool.specs.Volume.{unchanged}
+use Rattle.pool.specs.Calls.{Steps}
+use Rattle.pool.specs.Works.{IsStuck, left_by, left_of}
+use Rattle.raid_rack.specs.declared.works.Stuck.{Stuck}
+use Rattle.shr_tool.specs.Events.{stuck_line}
+use Rattle.shr_tool.specs.Events.Event.{stepped, stuck}
+use Rattle.shr_tool.specs.Timeline.{Performs}
+use Rattle.shr_tool.proofs.Performing.{marks_for, performs_by}
+
+pub step_done :
+    (x y : View) (count left : ℕ) (text : List ℕ) (r : Result ℕ Stuck)
+    → r ≡ Ok left
+    → text ≡ left_line left
+    → Steps x y count r
+    → Performs x y (stepped count left) text
+step_done x y count left text r is_ok is steps_r =
+    let steps : Steps x y count (Ok left) = subst (λ q. Steps x y count q) is_ok steps_r in
+    performs_by x y (stepped count left) text unchanged unchanged steps.passes
+    (record {
+      left_is = subst (λ l. left ≡ left_by l (book y)) steps.passes.linear steps.left;
+      progress = λ quiet alone.
+          let fewer = steps.progress quiet alone in
+          (fewer.0, ap (λ n. n + min count (left_of x)) steps.left ∙ fewer.1);
+    })
+    (marks_for x y _ steps.passes steps.marks)
+    (λ a holds. is)
+    (λ a holds. refl)
+    (λ a holds. inl refl)
+    steps.does
+
+pub step_stuck :
+    (x y : View) (count : ℕ) (at : Stuck) (text : List ℕ) (r : Result ℕ Stuck)
+    → r ≡ Err at
+    → text ≡ stuck_line at.array
+    → Steps x y count r
+    → Performs x y (stuck count at.array) text
+step_stuck x y count at text r refused is steps_r =
+    let steps : Steps x y count (Err at) = subst (λ q. Steps x y count q) refused steps_r in
+    performs_by x y (stuck count at.array) text unchanged unchanged steps.passes
+    (subst (λ l. IsStuck l (book y) at.array) steps.passes.linear steps.stuck)
+    (marks_for x y _ steps.passes steps.marks)
+    (λ a holds. is)
+    (λ a holds. refl)
+    (λ a holds. inl refl)
+    steps.does
