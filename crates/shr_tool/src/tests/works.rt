@@ -8,24 +8,35 @@ use std::alloc::Global;
 use std::process::Abort;
 use std::test::Fail;
 
-// The pool of three drives after the last stop that leaves rows to resync, in a run that has answered `write 0 61`.
+// Whether what a stop at a moment leaves on two drives is refused, since rows were left to resync.
+fn leaves_rows(
+    rt: &impl Abort,
+    alloc: Global,
+    bay: &MemBay,
+    moment: u64,
+    names: &[&str],
+) -> Result<bool, Fail> {
+    assert!(rt; moment <= bay.calls());
+    let mut image = bay.image_at(alloc, moment, Pick::Newest)?;
+    let ran = serve_on(rt, alloc, &mut image, names, b"")?;
+    Ok(ran.put.as_slice() == b"refused dirty-degraded 0\n".as_slice())
+}
+
+// The pool of three drives after the last stop at which no superblock says that its rows agree, in a run that has answered
+// `write 0 61`. The end of the run writes them, the first drive's first.
 fn stopped_after_write(rt: &impl Abort, alloc: Global) -> Result<MemBay, Fail> {
     let mut bay = made_of_three(rt, alloc)?;
     let ran = serve_on(rt, alloc, &mut bay, &["A", "B", "C"], b"write 0 61\n")?;
     assert_eq!(rt; ran.status, 0);
-    let last = bay.calls();
-    let mut found = None;
-    for back in 0..last {
-        let moment = last.wrapping_sub(back);
-        assert!(rt; moment <= bay.calls());
-        let mut image = bay.image_at(alloc, moment, Pick::Newest)?;
-        let ran = serve_on(rt, alloc, &mut image, &["B", "C"], b"")?;
-        if ran.put.as_slice() == b"refused dirty-degraded 0\n".as_slice() {
-            found = Some(moment);
+    let mut moment = bay.calls();
+    for _ in 0..200 {
+        if leaves_rows(rt, alloc, &bay, moment, &["A", "B"])?
+            && leaves_rows(rt, alloc, &bay, moment, &["B", "C"])?
+        {
             break;
         }
+        moment = moment.saturating_sub(1);
     }
-    let moment = found.ok_or("a stop that leaves rows to resync")?;
     assert!(rt; moment <= bay.calls());
     Ok(bay.image_at(alloc, moment, Pick::Newest)?)
 }
