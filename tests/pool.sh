@@ -166,8 +166,14 @@ cp whole first
 flip second 2048
 serve 'a copy of the state' 6 'size\n' 'refused damaged 1 state\n' first second
 make 'a primary table' "${two[@]}"
+cp second whole
 flip second 1
 serve 'its backup is read' 0 'size\n' 'size 1280\n' first second
+expect 'and it is mended' cmp whole second
+flip second $((79104 - 33))
+serve 'a backup' 0 'size\n' 'size 1280\n' first second
+expect 'is mended too' cmp whole second
+flip second 1
 flip second $((79104 - 33))
 serve 'both tables' 6 'size\n' 'refused damaged 1 table\n' first second
 make 'a drive cut short' "${two[@]}"

@@ -42,8 +42,10 @@ serve 'the last sector and the one past it' 0 'read 127\nread 128\nwrite 128 61\
   'data -\nrefused range\nrefused range\nrefused range\n'
 serve 'wrong lines' 0 'read\nread 0 \nread  0\nread -1\nread x\nread 18446744073709551616\nREAD 0\nquit now\nflush 1\nnone\n read 0\nwrite 0\nwrite 0 6\nwrite 0 6g\n' \
   "$(times 14 x | sed 's/x/refused syntax\\n/g')"
-serve 'lines that are not built yet' 0 'step 1\nadd x\nreplace 0 x\nstatus\n' \
-  "$(times 4 x | sed 's/x/refused unbuilt\\n/g')"
+serve 'lines that are not built yet' 0 'add x\nreplace 0 x\nstatus\n' \
+  "$(times 3 x | sed 's/x/refused unbuilt\\n/g')"
+serve 'works of maintenance where none is left' 0 'step 0\nstep 1\nstep\nstep x\nstep 1 1\n' \
+  "left 0\nleft 0\n$(times 3 x | sed 's/x/refused syntax\\n/g')"
 serve 'drives that are lost' 0 'write 3 61\nlose 2\nlose 18446744073709551615\nlose 1\nlose 1\nlose 0\nread 3\nwrite 3 62\nread 3\n' \
   'ok\nrefused no-such-drive\nrefused no-such-drive\nok\nrefused no-such-drive\nrefused last-drive\ndata 61\nok\ndata 62\n'
 serve 'wrong lines of lost drives' 0 'lose\nlose \nlose x\nlose 0 0\nlose 18446744073709551616\n' \
@@ -55,7 +57,7 @@ serve 'a sector and a byte' 0 "write 5 $(times 1026 f)\nread 5\n" 'refused synta
 serve 'a line of 1100 bytes, which is only a wrong one' 0 "$(times 1100 x)\nread 0\n" 'refused syntax\ndata -\n'
 serve 'a line of 1101 bytes' 0 "$(times 1101 x)\nread 0\n" 'refused syntax\ndata -\n'
 serve 'a number is at most twenty digits' 0 "read $(times 20 0)\nread $(times 21 0)\n" 'data -\nrefused syntax\n'
-serve 'a line of 1101 bytes whose word is not built' 0 "step $(times 1096 x)\n" 'refused unbuilt\n'
+serve 'a line of 1101 bytes whose word is not built' 0 "add $(times 1097 x)\n" 'refused unbuilt\n'
 serve 'a line far longer than a piece is read to its end' 0 "read $(times 20000 1)\nread 0\n" 'refused syntax\ndata -\n'
 
 # A line of 1025 bytes that lies over the end of the first piece of 4096 bytes, behind empty lines.
