@@ -33,6 +33,17 @@ serve() {
   check "$name" "$status" "$replies" serve "$@"
 }
 
+# leave_out NAME: the kept images are put back, but for this one; `left` are those that remain, `place` is where it stood.
+leave_out() {
+  cp kept/* .
+  rm "$1"
+  left=(first second third)
+  for place in "${!left[@]}"; do
+    [ "${left[place]}" != "$1" ] || break
+  done
+  unset "left[place]"
+}
+
 # kill_run LINES SCRIPT NAME..: kills a run over named images once it has answered so many lines, before its script ends.
 kill_run() {
   local lines=$1 script=$2
@@ -87,12 +98,7 @@ expect 'nothing was written' sha256sum --check --status sums
 mkdir kept
 cp first second third kept
 for gone in first second third; do
-  cp kept/* .
-  rm $gone
-  left=(first second third)
-  for place in 0 1 2; do
-    [ "${left[place]}" != $gone ] || { unset "left[place]"; break; }
-  done
+  leave_out $gone
   serve "without $gone" 0 "size\n$reads" "size 3840\n$values" "${left[@]}"
   serve "without $gone, written" 0 'fill 0 128 71\nwrite 0 72\nwrite 3839 73\n' 'ok\nok\nok\n' "${left[@]}"
   serve "without $gone, read again" 0 'read 0\nread 128\nread 3838\nread 3839\n' 'data 72\ndata 62\ndata -\ndata 73\n' "${left[@]}"
@@ -111,12 +117,7 @@ serve 'the rest of its last sector is zeros' 0 "read 5859\nwrite 20479 00\n" \
   "data $(tail -c +$((512 * 5859 + 1)) bytes | od -An -v -tx1 | tr -d ' \n')\nok\n" first second third
 cp first second third kept
 for gone in first second third; do
-  cp kept/* .
-  rm $gone
-  left=(first second third)
-  for place in 0 1 2; do
-    [ "${left[place]}" != $gone ] || { unset "left[place]"; break; }
-  done
+  leave_out $gone
   "$tool" export "${left[@]}" </dev/null >exported
   expect "exported without $gone" cmp volume exported
 done
