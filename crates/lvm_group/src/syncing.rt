@@ -1,6 +1,7 @@
 //! Making all arrays of a volume durable.
 
 ghost use Rattle.std.specs.Prelude.{◌≤◌};
+ghost use Rattle.rack.specs.Several.{Several};
 ghost use Rattle.lvm_group.specs.Sequences.{SyncsAll};
 
 use rack::{Gone, Rack};
@@ -11,6 +12,7 @@ pub(crate) fn sync_first<R: Rack>(rack: &mut R, count: u32) -> Result<(), Gone>
     requires disks { count ≤ (R.seen rack.old).disks }
     ensures syncs { SyncsAll (R.seen rack.old) (R.seen rack.new) count result }
     ensures runs { R.runs rack.old rack.new }
+    ensures several { Several R.once count rack.old rack.new }
 {
     for disk in 0..count {
         if let Err(gone) = rack.sync(disk) {

@@ -64,12 +64,17 @@ pub struct Volume<R> {
 }
 
 impl<R: Rack> Rack for Volume<R> {
+    ghost use Rattle.std.specs.Prelude.{◌+◌};
+    ghost use Rattle.rack.specs.Several.{Several};
     ghost use Rattle.lvm_group.specs.Volume.{linear};
     ghost use Rattle.lvm_group.specs.Framed.{Frames, frames_same, frames_then};
 
     ghost seen = { λ volume. volume_of (linear volume) (R.seen volume.rack) };
 
     ghost runs = { λ old new. R.runs old.rack new.rack × Frames R.seen old new };
+
+    // A read or a write is one call below, and a sync at most one for each array.
+    ghost once = { λ old new. Several R.once (1 + (linear old).arrays) old.rack new.rack };
 
     ghost lenders = { λ volume. R.lenders volume.rack };
 

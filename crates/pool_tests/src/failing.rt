@@ -87,6 +87,8 @@ impl Rack for Failing {
 
     ghost runs = { λ old new. Unit {0} };
 
+    ghost once = { λ old new. Unit {0} };
+
     ghost lenders = { λ r. [] };
 
     fn disks(&self) -> u32 {

@@ -7,3 +7,4 @@ pub mod Joins
 pub mod Lenders
 pub mod Targets
 pub mod Sequences
+pub mod Several

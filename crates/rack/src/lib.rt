@@ -12,12 +12,13 @@
 //! **The contract.** `read` gives the current value, `write` appends one, `sync` keeps the last one
 //! alone, and a refusal comes only where that disk's faults rose. Each call has one clause, a
 //! relation between what the rack shows before and after it (specs/Calls.antt). What a layer below
-//! promises beyond that reaches the layers above through the relation `runs`.
+//! promises beyond that reaches the layers above through the relations `runs`, of calls in a row, and
+//! `once`, of a single one.
 //!
 //! **Calls in a row** are one: reads alone, writes of a list of targets on disks of which some go, syncs
 //! of many disks, a write made durable (specs/Sequences.antt). The lemmas that join them are promises
 //! of this crate: specs/Joins.antt for two calls, proofs/Reading.antt, Phases.antt and Durably.antt for
-//! any number.
+//! any number; proofs/Calling.antt counts them (specs/Several.antt).
 #![tactic(auto)]
 
 mod durable;
@@ -83,6 +84,10 @@ pub trait Rack: Drop {
     /// says here what images of its drives say of its books. A rack over another one passes it on.
     ghost runs: { Self → Self → Type 0 };
 
+    /// What a single call does to them. A run says nothing of how many calls it has: a rack of arrays bounds here by how much the
+    /// numbers of its books rise.
+    ghost once: { Self → Self → Type 0 };
+
     /// The references through which the rack is reached: a caller that lent it gets it back.
     ghost lenders: { Self → List ℕ };
 
@@ -104,7 +109,8 @@ pub trait Rack: Drop {
         requires disk { disk < (seen self.old).disks }
         requires sector { sector < (seen self.old).sectors disk }
         ensures reads { Reads (seen self.old) (seen self.new) disk sector into.new result }
-        ensures runs { runs self.old self.new };
+        ensures runs { runs self.old self.new }
+        ensures once { once self.old self.new };
 
     /// Appends a value to those of a sector. It is durable once the disk has been synced.
     fn write(&mut self, disk: u32, sector: u64, from: &[u8; 512]) -> Result<(), Gone>
@@ -112,14 +118,16 @@ pub trait Rack: Drop {
         requires disk { disk < (seen self.old).disks }
         requires sector { sector < (seen self.old).sectors disk }
         ensures writes { Writes (seen self.old) (seen self.new) disk sector from.now result }
-        ensures runs { runs self.old self.new };
+        ensures runs { runs self.old self.new }
+        ensures once { once self.old self.new };
 
     /// Makes the current values of a disk durable.
     fn sync(&mut self, disk: u32) -> Result<(), Gone>
         requires fit { (seen self.old).fit }
         requires disk { disk < (seen self.old).disks }
         ensures syncs { Syncs (seen self.old) (seen self.new) disk result }
-        ensures runs { runs self.old self.new };
+        ensures runs { runs self.old self.new }
+        ensures once { once self.old self.new };
 
     /// At any moment a stop leaves held values, and may leave the contents as they read.
     ghost sound: { (x : Self) → (seen x).fit → (seen x).traced → IsSound (seen x) };

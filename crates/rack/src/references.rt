@@ -11,6 +11,8 @@ impl<R: Rack> Rack for &mut R {
 
     ghost runs = { λ r s. (s.ghost_name ≡ r.ghost_name) × R.runs r.now s.now };
 
+    ghost once = { λ r s. R.once r.now s.now };
+
     ghost lenders = { λ r. r.ghost_name ∷ R.lenders r.now };
 
     fn disks(&self) -> u32 {

@@ -114,6 +114,8 @@ where
 
     ghost runs = { λ old new. KeepsShelf (files_shelf old.disks.items old.faults) (files_shelf new.disks.items new.faults) };
 
+    ghost once = { λ old new. Unit {0} };
+
     ghost lenders = { λ b. [] };
 
     fn disks(&self) -> u32 {

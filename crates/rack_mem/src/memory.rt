@@ -265,6 +265,8 @@ impl Rack for MemBay {
 
     ghost runs = { λ old new. KeepsShelf (shelf_of (memory old)) (shelf_of (memory new)) };
 
+    ghost once = { λ old new. Unit {0} };
+
     ghost lenders = { λ bay. [] };
 
     fn disks(&self) -> u32 {

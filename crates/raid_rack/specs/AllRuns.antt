@@ -4,7 +4,7 @@ use Rattle.rack.specs.Seen.{Seen}
 use Rattle.array_model.specs.View.{sectors_of}
 use Rattle.raid_rack.specs.declared.arrays.RaidRack.{RaidRack}
 use Rattle.raid_rack.specs.Raid.{Raid, live_of}
-use Rattle.raid_rack.specs.Moves.{KeepsArrays}
+use Rattle.raid_rack.specs.Moves.{KeepsArrays, RaisesBy}
 use Rattle.raid_rack.specs.Losing.{arrays_same, arrays_then}
 use Rattle.raid_rack.specs.RaidRack.{SliceRuns, raid_in, refused_in, slices_in, slices_seen, written_in}
 use Rattle.raid_rack.specs.Runs.{RaidRuns}
@@ -31,6 +31,12 @@ serves_then v w z f g h made one two = record {
       two.refused n alive
       ∙ one.refused n (λ y inside. two.spent n y (alive y (subst (λ k. y < k) (sym (two.sectors n)) inside)));
 }
+
+-- A single call: its numbers rise by a bounded number, nothing of an array changes but whom it lost, and a plan stays.
+pub record IsOneCall (v w : Raid) : Type 0 where
+  pub raises : RaisesBy 18 v w
+  pub arrays : KeepsArrays v w
+  pub plan : w.state.plan ≡ v.state.plan
 
 -- what calls on the slices below keep, what is done to the book and to images, and what is refused
 abbrev pub AreRuns : {R : Type 0} → (R → Seen) → (R → R → Type 0) → RaidRack R → RaidRack R → Type 0

@@ -3,8 +3,7 @@
 ghost use Rattle.std.specs.Prelude.{◌≡◌, ℕ, ◌<◌, ◌≤◌, true, false, OnOk, IfErr};
 ghost use Rattle.rack.specs.Seen.{Rose};
 ghost use Rattle.rack.specs.Calls.{Reads, Syncs, Writes};
-ghost use Rattle.raid_rack.specs.Moves.{KeepsArrays, RaisesBy};
-ghost use Rattle.raid_rack.specs.AllRuns.{AreRuns, serves_same, serves_then};
+ghost use Rattle.raid_rack.specs.AllRuns.{AreRuns, IsOneCall, serves_same, serves_then};
 ghost use Rattle.slice_rack.specs.SliceRack.{below_of, tables};
 ghost use Rattle.slice_rack.specs.Laws.{is_sound};
 ghost use Rattle.slice_rack.specs.Runs.{runs_join, runs_none};
@@ -23,6 +22,8 @@ impl<R: Rack> Rack for RaidRack<R> {
 
     ghost runs = { λ old new. AreRuns R.seen R.runs old new };
 
+    ghost once = { λ old new. IsOneCall (raid_in old) (raid_in new) };
+
     ghost lenders = { λ rack. R.lenders (below_of (slices_in rack)) };
 
     fn disks(&self) -> u32 {
@@ -39,9 +40,7 @@ impl<R: Rack> Rack for RaidRack<R> {
         requires sector { sector < (raid_seen R.seen self.old).sectors disk }
         ensures reads { Reads (raid_seen R.seen self.old) (raid_seen R.seen self.new) disk sector into.new result }
         ensures runs { AreRuns R.seen R.runs self.old self.new }
-        ensures raises { RaisesBy 17 (raid_in self.old) (raid_in self.new) }
-        ensures arrays { KeepsArrays (raid_in self.old) (raid_in self.new) }
-        ensures plan { (raid_in self.new).state.plan ≡ (raid_in self.old).state.plan }
+        ensures once { IsOneCall (raid_in self.old) (raid_in self.new) }
         ensures written { (n : ℕ) → written_in self.new n ≡ written_in self.old n }
     {
         self.arrays.read_array(&mut self.slices, disk, sector, into);
@@ -54,9 +53,7 @@ impl<R: Rack> Rack for RaidRack<R> {
         requires sector { sector < (raid_seen R.seen self.old).sectors disk }
         ensures writes { Writes (raid_seen R.seen self.old) (raid_seen R.seen self.new) disk sector from.now result }
         ensures runs { AreRuns R.seen R.runs self.old self.new }
-        ensures raises { RaisesBy 18 (raid_in self.old) (raid_in self.new) }
-        ensures arrays { KeepsArrays (raid_in self.old) (raid_in self.new) }
-        ensures plan { (raid_in self.new).state.plan ≡ (raid_in self.old).state.plan }
+        ensures once { IsOneCall (raid_in self.old) (raid_in self.new) }
         ensures written { (n : ℕ) → (n ≡ disk → ⊥) → written_in self.new n ≡ written_in self.old n }
     {
         note_written(&mut self.written, disk);
@@ -70,9 +67,7 @@ impl<R: Rack> Rack for RaidRack<R> {
         requires disk { disk < (raid_seen R.seen self.old).disks }
         ensures syncs { Syncs (raid_seen R.seen self.old) (raid_seen R.seen self.new) disk result }
         ensures runs { AreRuns R.seen R.runs self.old self.new }
-        ensures raises { RaisesBy 17 (raid_in self.old) (raid_in self.new) }
-        ensures arrays { KeepsArrays (raid_in self.old) (raid_in self.new) }
-        ensures plan { (raid_in self.new).state.plan ≡ (raid_in self.old).state.plan }
+        ensures once { IsOneCall (raid_in self.old) (raid_in self.new) }
         ensures written { (n : ℕ) → written_in self.new n ≡ written_in self.old n }
     {
         self.arrays.sync_array(&mut self.slices, disk);

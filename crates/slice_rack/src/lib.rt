@@ -126,6 +126,8 @@ impl<R: Rack> Rack for SliceRack<R> {
 
     ghost runs = { λ old new. Runs (tables old) (tables new) (R.seen old.rack) (R.seen new.rack) (R.runs old.rack new.rack) };
 
+    ghost once = { λ old new. Unit {0} };
+
     ghost lenders = { λ rack. R.lenders rack.rack };
 
     fn disks(&self) -> u32 {

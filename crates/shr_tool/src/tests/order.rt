@@ -25,6 +25,8 @@ impl<'a, R: Rack> Rack for CountingBay<'a, R> {
 
     ghost runs = { λ old new. R.runs old.bay new.bay };
 
+    ghost once = { λ old new. R.once old.bay new.bay };
+
     ghost lenders = { λ counting. R.lenders counting.bay };
 
     fn disks(&self) -> u32 {

@@ -1,4 +1,5 @@
-use Rattle.std.proofs.Common.{refl}
+use Rattle.std.proofs.Common.{◌+◌, refl, arith}
+use Rattle.rack.proofs.Calling.{several_fewer, several_one}
 use Rattle.rack.proofs.Writing.{only_quiet}
 use Rattle.lvm_group.specs.Framed.{IsShown}
 use Rattle.lvm_group.specs.Volume.{linear}
@@ -26,3 +27,11 @@ returns-in-Err-clause-runs g c = (
   c.in-Err.ensures.runs,
   record { volume = refl; pool = refl; seqno = refl; writes = λ fit. only_quiet (IsShown (linear c.args.self.now)) c.in-Err.ensures.reads.stays c.in-Err.ensures.reads.keeps },
 )
+
+pub returns-in-Ok-clause-once : goal.returns-in-Ok-clause-once
+returns-in-Ok-clause-once g c =
+    several_fewer g.R.Rack.once 1 (1 + (linear c.args.self.now).arrays) _ _ (omega arith) (several_one g.R.Rack.once _ _ c.in-Ok.ensures.once)
+
+pub returns-in-Err-clause-once : goal.returns-in-Err-clause-once
+returns-in-Err-clause-once g c =
+    several_fewer g.R.Rack.once 1 (1 + (linear c.args.self.now).arrays) _ _ (omega arith) (several_one g.R.Rack.once _ _ c.in-Err.ensures.once)

@@ -1,4 +1,5 @@
-use Rattle.std.proofs.Common.{refl}
+use Rattle.std.proofs.Common.{◌+◌, refl, arith}
+use Rattle.rack.proofs.Calling.{several_fewer}
 use Rattle.rack.proofs.Writing.{only_quiet}
 use Rattle.lvm_group.specs.Framed.{IsShown}
 use Rattle.lvm_group.specs.Volume.{linear}
@@ -24,3 +25,11 @@ returns-in-Err-clause-runs g c = (
   c.in-Err.ensures.runs,
   record { volume = refl; pool = refl; seqno = refl; writes = λ fit. only_quiet (IsShown (linear c.args.self.now)) c.in-Err.ensures.syncs.stays c.in-Err.ensures.syncs.keeps },
 )
+
+pub returns-in-Ok-clause-once : goal.returns-in-Ok-clause-once
+returns-in-Ok-clause-once g c =
+    several_fewer g.R.Rack.once (linear c.args.self.now).arrays (1 + (linear c.args.self.now).arrays) _ _ (omega arith) c.in-Ok.ensures.several
+
+pub returns-in-Err-clause-once : goal.returns-in-Err-clause-once
+returns-in-Err-clause-once g c =
+    several_fewer g.R.Rack.once (linear c.args.self.now).arrays (1 + (linear c.args.self.now).arrays) _ _ (omega arith) c.in-Err.ensures.several

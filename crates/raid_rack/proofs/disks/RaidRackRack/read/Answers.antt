@@ -1,12 +1,12 @@
-use Rattle.std.proofs.Common.{sym, subst}
+use Rattle.std.proofs.Common.{sym, subst, arith}
 use Rattle.rack.specs.Calls.{Reads}
 use Rattle.slice_rack.specs.SliceRack.{tables, below_of}
 use Rattle.slice_rack.specs.Sliced.{slices_of}
-use Rattle.raid_rack.specs.Moves.{KeepsArrays}
 use Rattle.raid_rack.specs.Runs.{RaidRuns}
 use Rattle.raid_rack.specs.RaidRack.{IsFit, SliceRuns, raid_by, raid_in, raid_seen, refused_in, slices_in, slices_seen, written_in}
-use Rattle.raid_rack.specs.AllRuns.{Serves}
+use Rattle.raid_rack.specs.AllRuns.{IsOneCall, Serves}
 use Rattle.raid_rack.specs.Laws.{stops_inside}
+use Rattle.raid_rack.proofs.Raises.{raises_more}
 use Rattle.raid_rack.proofs.Serving.{read_call, runs_moves, served_call}
 use Rattle.raid_rack.proofs.disks.RaidRackRack.read.Goals as goal
 
@@ -35,6 +35,7 @@ returns-clause-runs g c =
           reads.stays.sectors reads.stays.spent c.read_array.ensures.reads.moves.arrays c.answer.ensures.uncounted,
     )
 
-pub returns-clause-arrays : goal.returns-clause-arrays
-returns-clause-arrays g c =
-    subst (λ r. KeepsArrays (raid_in c.args.self.now) (raid_in r)) (sym c.answer.ensures.same) c.read_array.ensures.reads.moves.arrays
+pub returns-clause-once : goal.returns-clause-once
+returns-clause-once g c =
+    subst (λ r. IsOneCall (raid_in c.args.self.now) (raid_in r)) (sym c.answer.ensures.same)
+    (record { raises = raises_more 17 18 _ _ (omega arith) c.read_array.ensures.raises; arrays = c.read_array.ensures.reads.moves.arrays; plan = c.read_array.ensures.reads.moves.plan })

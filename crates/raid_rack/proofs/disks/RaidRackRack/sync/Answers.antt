@@ -1,7 +1,8 @@
-use Rattle.std.proofs.Common.{refl}
+use Rattle.std.proofs.Common.{refl, arith}
 use Rattle.slice_rack.specs.SliceRack.{tables, below_of}
 use Rattle.raid_rack.specs.RaidRack.{written_in}
 use Rattle.raid_rack.specs.Laws.{stops_inside}
+use Rattle.raid_rack.proofs.Raises.{raises_more}
 use Rattle.raid_rack.proofs.Serving.{sync_call, runs_moves}
 use Rattle.raid_rack.proofs.disks.RaidRackRack.sync.Goals as goal
 
@@ -20,3 +21,6 @@ returns-clause-runs g c =
           (stops_inside (tables c.sync_array.new.rack) (g.R.Rack.seen (below_of c.sync_array.new.rack))) c.sync_array.ensures.syncs.moves,
       record { sectors = syncs.stays.sectors; spent = syncs.stays.spent; arrays = c.sync_array.ensures.syncs.moves.arrays; refused = λ n alive. refl },
     )
+
+pub returns-clause-once : goal.returns-clause-once
+returns-clause-once g c = record { raises = raises_more 17 18 _ _ (omega arith) c.sync_array.ensures.raises; arrays = c.sync_array.ensures.syncs.moves.arrays; plan = c.sync_array.ensures.syncs.moves.plan }

@@ -2,10 +2,10 @@ use Rattle.std.proofs.Common.{◌<◌, ap, sym, subst, ◌∙◌}
 use Rattle.rack.specs.Calls.{Writes}
 use Rattle.slice_rack.specs.SliceRack.{tables, below_of}
 use Rattle.slice_rack.specs.Sliced.{slices_of}
-use Rattle.raid_rack.specs.Moves.{KeepsArrays, written_at}
+use Rattle.raid_rack.specs.Moves.{written_at}
 use Rattle.raid_rack.specs.Runs.{RaidRuns}
 use Rattle.raid_rack.specs.RaidRack.{IsFit, SliceRuns, raid_by, raid_in, raid_seen, refused_in, slices_in, slices_seen, is_written, written_in}
-use Rattle.raid_rack.specs.AllRuns.{Serves}
+use Rattle.raid_rack.specs.AllRuns.{IsOneCall, Serves}
 use Rattle.raid_rack.specs.Laws.{stops_inside}
 use Rattle.raid_rack.proofs.Serving.{flags_kept, write_call, runs_call, served_call}
 use Rattle.raid_rack.proofs.disks.RaidRackRack.write.Goals as goal
@@ -46,6 +46,7 @@ returns-clause-runs g c =
 pub returns-clause-written : goal.returns-clause-written
 returns-clause-written g c n apart = ap (λ r. written_in r n) c.answer.ensures.same ∙ c.note_written.ensures.others n apart
 
-pub returns-clause-arrays : goal.returns-clause-arrays
-returns-clause-arrays g c =
-    subst (λ r. KeepsArrays (raid_in c.args.self.now) (raid_in r)) (sym c.answer.ensures.same) c.write_array.ensures.writes.arrays
+pub returns-clause-once : goal.returns-clause-once
+returns-clause-once g c =
+    subst (λ r. IsOneCall (raid_in c.args.self.now) (raid_in r)) (sym c.answer.ensures.same)
+    (record { raises = c.write_array.ensures.raises; arrays = c.write_array.ensures.writes.arrays; plan = c.write_array.ensures.writes.plan })
