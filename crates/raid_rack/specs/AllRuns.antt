@@ -35,6 +35,7 @@ serves_then v w z f g h made one two = record {
 -- A single call: its numbers rise by a bounded number, nothing of an array changes but whom it lost, and a plan stays.
 pub record IsOneCall (v w : Raid) : Type 0 where
   pub raises : RaisesBy 18 v w
+  pub made : w.state.made ≡ v.state.made
   pub arrays : KeepsArrays v w
   pub plan : w.state.plan ≡ v.state.plan
 

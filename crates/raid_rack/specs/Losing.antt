@@ -9,7 +9,7 @@ use Rattle.raid_rack.specs.Raid.{Raid}
 pub only_same : (u w : View) → w ≡ u → LosesOnly u w
 only_same u w same = subst (LosesOnly u) (sym same) (record { same = same_array u; seats = λ k. inl refl })
 
-geometry_then : (t u v : Super) → HasGeometry t u → HasGeometry u v → HasGeometry t v
+pub geometry_then : (t u v : Super) → HasGeometry t u → HasGeometry u v → HasGeometry t v
 geometry_then t u v one two = record {
   set = two.set ∙ one.set;
   level = two.level ∙ one.level;

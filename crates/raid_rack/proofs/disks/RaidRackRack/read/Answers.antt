@@ -38,4 +38,4 @@ returns-clause-runs g c =
 pub returns-clause-once : goal.returns-clause-once
 returns-clause-once g c =
     subst (λ r. IsOneCall (raid_in c.args.self.now) (raid_in r)) (sym c.answer.ensures.same)
-    (record { raises = raises_more 17 18 _ _ (omega arith) c.read_array.ensures.raises; arrays = c.read_array.ensures.reads.moves.arrays; plan = c.read_array.ensures.reads.moves.plan })
+    (record { raises = raises_more 17 18 _ _ (omega arith) c.read_array.ensures.raises; made = c.read_array.ensures.reads.moves.book.same.made; arrays = c.read_array.ensures.reads.moves.arrays; plan = c.read_array.ensures.reads.moves.plan })

@@ -23,4 +23,4 @@ returns-clause-runs g c =
     )
 
 pub returns-clause-once : goal.returns-clause-once
-returns-clause-once g c = record { raises = raises_more 17 18 _ _ (omega arith) c.sync_array.ensures.raises; arrays = c.sync_array.ensures.syncs.moves.arrays; plan = c.sync_array.ensures.syncs.moves.plan }
+returns-clause-once g c = record { raises = raises_more 17 18 _ _ (omega arith) c.sync_array.ensures.raises; made = c.sync_array.ensures.syncs.moves.book.same.made; arrays = c.sync_array.ensures.syncs.moves.arrays; plan = c.sync_array.ensures.syncs.moves.plan }

@@ -49,4 +49,4 @@ returns-clause-written g c n apart = ap (λ r. written_in r n) c.answer.ensures.
 pub returns-clause-once : goal.returns-clause-once
 returns-clause-once g c =
     subst (λ r. IsOneCall (raid_in c.args.self.now) (raid_in r)) (sym c.answer.ensures.same)
-    (record { raises = c.write_array.ensures.raises; arrays = c.write_array.ensures.writes.arrays; plan = c.write_array.ensures.writes.plan })
+    (record { raises = c.write_array.ensures.raises; made = c.write_array.ensures.writes.brings.book.same.made; arrays = c.write_array.ensures.writes.arrays; plan = c.write_array.ensures.writes.plan })
