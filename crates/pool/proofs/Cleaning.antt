@@ -1,5 +1,5 @@
 -- The end of a run.
-use Rattle.std.proofs.Common.{◌≡◌, ℕ, ◌<◌, refl, subst, lt-ltb}
+use Rattle.std.proofs.Common.{◌≡◌, ℕ, ◌<◌, refl, subst, lt-ltb, arith}
 use Rattle.rack.specs.Values.{IsSingle}
 use Rattle.rack.specs.Seen.{Rose, Seen}
 use Rattle.slice_rack.specs.Slices.{Slices, disk_of}
@@ -13,6 +13,7 @@ use Rattle.raid_rack.specs.declared.arrays.Arrays.{Arrays}
 use Rattle.raid_rack.specs.declared.arrays.RaidRack.{RaidRack}
 use Rattle.raid_rack.specs.Cleaning.{CleansAll, LeavesItsRows as LeavesRowsOf}
 use Rattle.raid_rack.specs.Laws.{live_parts, stops_inside}
+use Rattle.raid_rack.specs.Moves.{RaisesBy}
 use Rattle.raid_rack.specs.Raid.{IsTold, StopsInside, held_in, live_of, spent_of}
 use Rattle.raid_rack.specs.RaidRack.{IsFit, KeepsRack, SliceRuns, raid_by, raid_in, raid_seen, slices_in, slices_seen}
 use Rattle.raid_rack.proofs.Moving.{moves_bring}
@@ -20,7 +21,10 @@ use Rattle.raid_rack.proofs.Serving.{whole_call}
 use Rattle.raid_rack.proofs.Whole.{before_amid}
 use Rattle.pool.specs.declared.Pool.{Pool}
 use Rattle.pool.specs.View.{View, arrays_of, book, slices_shown, view, volume}
+use Rattle.pool.specs.Keeping.{most_raised}
 use Rattle.pool.specs.Calls.{Ends, LeavesItsRows}
+use Rattle.raid_rack.proofs.Raises.{raises_more}
+use Rattle.pool.proofs.Booked.{book_lost}
 use Rattle.pool.proofs.Doing.{does_flush}
 use Rattle.pool.proofs.Reached.{reached_keeps, reached_stays, with_arrays}
 use Rattle.pool.proofs.Serving.{Laws, is_call}
@@ -42,6 +46,7 @@ pub record IsCleaned {R : Type 0} (seen : R → Seen) (runs : R → R → Type 0
   pub cleans : CleansAll (raid_in old) (raid_in new) (slices_seen seen old) (slices_seen seen new)
   pub images : LeavesRowsOf (raid_in old) (raid_in new) (slices_seen seen old) (slices_seen seen new)
   pub keeps : KeepsRack (raid_seen seen old) (raid_seen seen new)
+  pub raises : RaisesBy 288 (raid_in old) (raid_in new)
   pub ran : SliceRuns seen runs (slices_in old) (slices_in new)
 
 -- where no disk of the bay has a new fault, no slice has one
@@ -61,9 +66,12 @@ end_done seen runs laws p raid fit cleaned =
     let l = linear p.volume in
     let moves = cleaned.cleans.moves in
     let stays = reached_stays seen p raid fit cleaned.keeps in
-    let call = is_call seen runs laws p q fit stays refl cleaned.ran moves.book (record { left = moves.left; cause = moves.cause }) in
+    let keeps = book_lost (book x) (book y) (slices_shown y) stays.fit.0.running.set stays.fit.0.heeded moves.book.same.made moves.arrays in
+    let call = is_call seen runs laws 1 p q fit stays refl cleaned.ran moves.book (record { left = moves.left; cause = moves.cause }) keeps
+    (raises_more 288 most_raised (book x) (book y) (omega arith) cleaned.raises) in
     record {
       passes = call.passes;
+      raises = call.raises;
       marks = call.marks;
       does = does_flush x y call.passes call.sound (reached_keeps seen p raid fit cleaned.keeps)
           (λ s v live left.

@@ -1,20 +1,25 @@
 -- What a call of a pool keeps, by what the calls of its parts say.
 use Rattle.std.specs.Prelude.{unwrap_or}
-use Rattle.std.proofs.Common.{◌≡◌, ℕ, not, false, refl, sym, ap, subst, ◌∙◌, inl}
-use Rattle.std.proofs.lemmas.Bool.{both_ways, and_left}
+use Rattle.std.proofs.Common.{◌≡◌, ℕ, ◌+◌, ◌*◌, not, false, refl, sym, ap, subst, ◌∙◌, inl, inr, arith}
+use Rattle.std.proofs.lemmas.Bool.{both_ways, and_left, cases_Bool}
 use Rattle.rack.specs.Seen.{Rose, Stays}
-use Rattle.rack.specs.Joins.{stays_same}
-use Rattle.rack.proofs.Writing.{only_none}
+use Rattle.rack.specs.Joins.{rose_before, rose_since, stays_same, stays_then}
+use Rattle.rack.specs.Sequences.{WritesOnly}
+use Rattle.rack.proofs.Writing.{only_none, only_then}
 use Rattle.slice_rack.specs.Slices.{Slices, disk_of, seat_of}
 use Rattle.slice_rack.specs.Runs.{IsSliced, Runs}
+use Rattle.array_image.specs.Places.{log_slice}
 use Rattle.array_image.specs.States.{is_current}
 use Rattle.commit_log.proofs.Kept.{place_of_log}
 use Rattle.array_model.specs.View.{HasFault as HasDriveFault}
-use Rattle.raid_rack.specs.Book.{IsAfter, after_same}
+use Rattle.raid_rack.specs.Book.{IsAfter, after_same, after_then}
 use Rattle.raid_rack.specs.Moves.{AreCaused}
 use Rattle.raid_rack.specs.Raid.{Raid, gone_in, is_left}
 use Rattle.raid_rack.proofs.Whole.{heeded_left}
 use Rattle.pool.specs.View.{View, book, slices_shown, volume}
+use Rattle.pool.proofs.Booked.{book_same, book_then}
+use Rattle.raid_rack.proofs.Raises.{raises_more, raises_then}
+use Rattle.pool.specs.Keeping.{KeepsBook, Raises, most_raised}
 use Rattle.pool.specs.Calls.{DriveWent, Marks, MarksBut, Passes}
 
 -- no call
@@ -24,6 +29,7 @@ passes_same x fit = record {
   linear = refl;
   slices = refl;
   marks = after_same (book x).state;
+  book = book_same (book x);
   apart = only_none x.bay (IsSliced x.slices) fit.0.running.set.fit.0;
 }
 
@@ -32,12 +38,13 @@ marks_same x lost place was now = absurd (both_ways (is_current (book x).state p
 
 -- the volume stays, and calls in a row of its slices run below it
 pub passes_of : {own : Type 0} (x y : View) → (volume x).fit → Stays (volume x) (volume y) → y.linear ≡ x.linear
-    → Runs x.slices y.slices x.bay y.bay own → IsAfter (book x).state (book y).state → Passes x y
-passes_of x y fit stays same runs marks = record {
+    → Runs x.slices y.slices x.bay y.bay own → IsAfter (book x).state (book y).state → KeepsBook (book x) (book y) → Passes x y
+passes_of x y fit stays same runs marks keeps = record {
   stays = stays;
   linear = same;
   slices = runs.tables;
   marks = marks;
+  book = keeps;
   apart = runs.apart fit.0.running.set.fit.0 fit.0.running.set.fit.1;
 }
 
@@ -59,3 +66,33 @@ not_left v place missing = and_left (is_current v.state place) (not (gone_in v p
 pub marks_of : (x y : View) → (volume x).fit → y.slices ≡ x.slices → AreCaused (book x) (book y) (slices_shown x) (slices_shown y) → Marks x y
 marks_of x y fit same caused place was now =
     inl (went x y place same (caused.cause place (heeded_left (book x) place fit.0.heeded was) (not_left (book y) place now)))
+
+-- ---- calls in a row
+
+pub passes_then : (x y z : View) → Passes x y → Passes y z → Passes x z
+passes_then x y z one two = record {
+  stays = stays_then one.stays two.stays;
+  linear = two.linear ∙ one.linear;
+  slices = two.slices ∙ one.slices;
+  marks = after_then (book x).state (book y).state (book z).state one.marks two.marks;
+  book = book_then (book x) (book y) (book z) one.marks.same.made two.marks one.book two.book;
+  apart = only_then (IsSliced x.slices) one.apart (subst (λ (t : Slices). WritesOnly y.bay z.bay (IsSliced t)) one.slices two.apart);
+}
+
+pub marks_then : (x y z : View) → Passes x y → Passes y z → Marks x y → Marks y z → Marks x z
+marks_then x y z one two first second place was now =
+    elim (cases_Bool (is_current (book y).state place)) [
+      | inl then ↦ elim (second place then now) [ inl rose ↦ inl (later rose) | inr none ↦ absurd none ]
+      | inr gone ↦ elim (first place was gone) [ inl rose ↦ inl (rose_before (two.apart.stays.faults _) rose) | inr none ↦ absurd none ]
+    ]
+  where
+    later : DriveWent y z place → DriveWent x z place
+    later rose =
+        rose_since (one.apart.stays.faults _)
+        (subst (λ (t : Slices). Rose (y.bay.faults (disk_of t (log_slice place))) (z.bay.faults (disk_of t (log_slice place)))) one.slices rose)
+
+-- one call more
+pub raises_next : (calls : ℕ) (x y z : View) → Passes x y → Raises calls x y → Raises 1 y z → Raises (calls + 1) x z
+raises_next calls x y z passes one two =
+    raises_more (most_raised * calls + most_raised) (most_raised * (calls + 1)) (book x) (book z) (omega arith)
+    (raises_then (most_raised * calls) most_raised (book x) (book y) (book z) passes.marks.same.made one two)

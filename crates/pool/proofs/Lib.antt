@@ -1,6 +1,7 @@
-mod Keeping
-mod Doing
-mod Serving
+pub mod Booked
+pub mod Keeping
+pub mod Doing
+pub mod Serving
 mod Reached
 mod Losing
 mod Cleaning

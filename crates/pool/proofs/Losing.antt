@@ -13,7 +13,7 @@ use Rattle.commit_log.proofs.Deciding.{names_first}
 use Rattle.array_model.specs.View.{has_gone}
 use Rattle.array_core.specs.Seats.{gone, names}
 use Rattle.raid_rack.specs.Losses.{has_other}
-use Rattle.raid_rack.specs.Moves.{IsHeeded, IsSet, Mends, noted_at}
+use Rattle.raid_rack.specs.Moves.{IsHeeded, IsSet, Mends, RaisesBy, noted_at}
 use Rattle.raid_rack.specs.Raid.{Raid, gone_in, is_left}
 use Rattle.raid_rack.specs.RaidRack.{KeepsRack, SliceRuns, raid_in, raid_seen, slices_in, slices_seen}
 use Rattle.raid_rack.specs.declared.arrays.RaidRack.{RaidRack}
@@ -22,7 +22,10 @@ use Rattle.pool.specs.declared.Pool.{Pool}
 use Rattle.pool.specs.declared.calls.LoseFault.{LoseFault}
 use Rattle.pool.specs.declared.calls.LoseFault.TheVariants.{LastDrive, NoSuchDrive}
 use Rattle.pool.specs.View.{View, arrays_of, book, slices_shown, view, volume}
+use Rattle.pool.specs.Keeping.{most_raised}
 use Rattle.pool.specs.Calls.{LosesDrive, MarksBut}
+use Rattle.raid_rack.proofs.Raises.{raises_more}
+use Rattle.pool.proofs.Booked.{book_noted}
 use Rattle.pool.proofs.Keeping.{marks_same, not_left, passes_of, went}
 use Rattle.pool.proofs.Doing.{does_kept, does_none}
 use Rattle.pool.proofs.Reached.{reached_keeps, reached_stays, with_arrays}
@@ -101,6 +104,7 @@ pub record IsLost {R : Type 0} (seen : R → Seen) (runs : R → R → Type 0) (
   pub other : has_other (raid_in old).state place ≡ true
   pub mends : Mends (noted_at (place ∷ []) (raid_in old)) (raid_in new) (slices_seen seen old) (slices_seen seen new)
   pub keeps : KeepsRack (raid_seen seen old) (raid_seen seen new)
+  pub raises : RaisesBy 17 (raid_in old) (raid_in new)
   pub ran : SliceRuns seen runs (slices_in old) (slices_in new)
 
 never_fault : (e : LoseFault) → ◌≡◌ {A = Result (Unit {0}) LoseFault} (Ok tt) (Err e) → ⊥
@@ -119,9 +123,12 @@ lose_done seen runs laws p raid place fit current lost =
     let x = view seen p in
     let y = view seen (with_arrays p raid) in
     let stays = reached_stays seen p raid fit lost.keeps in
-    let passes = passes_of x y fit stays refl lost.ran lost.mends.moves.book in
+    let keeps = book_noted (book x) (book y) (slices_shown x) (slices_shown y) (place ∷ []) fit.0.running.set stays.fit.0.running.set
+    stays.fit.0.heeded lost.mends.moves.book.same.made lost.mends.moves.arrays in
+    let passes = passes_of x y fit stays refl lost.ran lost.mends.moves.book keeps in
     record {
       passes = passes;
+      raises = raises_more 17 most_raised (book x) (book y) (omega arith) lost.raises;
       marks = marks_lost x y place fit lost.ran.tables current lost.mends;
       missing = (λ same. absurd (never_fault NoSuchDrive same), λ none. absurd (both_ways (is_current (book x).state place) none current));
       last = (λ same. absurd (never_fault LastDrive same), λ none. absurd (both_ways (has_other (book x).state place) none.1 lost.other));
@@ -129,9 +136,10 @@ lose_done seen runs laws p raid place fit current lost =
       does = does_kept x y passes (sound_in seen laws (with_arrays p raid) stays.fit) (reached_keeps seen p raid fit lost.keeps);
     }
 
-pub lose_missing : (x : View) (place : ℕ) → IsCall x x → is_current (book x).state place ≡ false → LosesDrive x x place {X = Unit {0}} (Err NoSuchDrive)
+pub lose_missing : (x : View) (place : ℕ) → IsCall 1 x x → is_current (book x).state place ≡ false → LosesDrive x x place {X = Unit {0}} (Err NoSuchDrive)
 lose_missing x place call none = record {
   passes = call.passes;
+  raises = call.raises;
   marks = marks_same x (λ p. p ≡ place);
   missing = (λ same. none, λ is. refl);
   last = (λ same. absurd (missing_last (same_fault NoSuchDrive LastDrive same)), λ at. absurd (both_ways (is_current (book x).state place) none at.0));
@@ -139,10 +147,11 @@ lose_missing x place call none = record {
   does = does_none x call.passes call.sound;
 }
 
-pub lose_last : (x : View) (place : ℕ) → IsCall x x → is_current (book x).state place ≡ true → has_other (book x).state place ≡ false
+pub lose_last : (x : View) (place : ℕ) → IsCall 1 x x → is_current (book x).state place ≡ true → has_other (book x).state place ≡ false
     → LosesDrive x x place {X = Unit {0}} (Err LastDrive)
 lose_last x place call current alone = record {
   passes = call.passes;
+  raises = call.raises;
   marks = marks_same x (λ p. p ≡ place);
   missing = (
     λ same. absurd (missing_last (sym (same_fault LastDrive NoSuchDrive same))),

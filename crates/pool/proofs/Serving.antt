@@ -1,6 +1,6 @@
 -- What a pool's calls are to the array that its volume holds, by what the calls of its parts say.
 use Rattle.std.specs.Prelude.{Result}
-use Rattle.std.proofs.Common.{◌≡◌, ℕ, ◌<◌, ◌≤◌, Bool, true, false, List, Ok, Err, refl, sym, subst, ◌∙◌, arith}
+use Rattle.std.proofs.Common.{◌≡◌, ℕ, ◌+◌, ◌<◌, ◌≤◌, Bool, true, false, List, Ok, Err, refl, sym, subst, ◌∙◌, arith}
 use Rattle.std.proofs.lemmas.Bool.{both_ways}
 use Rattle.rack.specs.declared.Gone.{Gone}
 use Rattle.rack.specs.Seen.{Seen, Stays}
@@ -10,6 +10,8 @@ use Rattle.slice_rack.specs.SliceRack.{below_of, tables}
 use Rattle.slice_rack.specs.Laws as slices
 use Rattle.lvm_group.specs.Laws as volumes
 use Rattle.lvm_group.specs.Volume.{linear}
+use Rattle.rack.specs.Several.{Several}
+use Rattle.raid_rack.specs.AllRuns.{AreRuns, IsOneCall}
 use Rattle.raid_rack.specs.Laws.{raid_sound, stops_inside}
 use Rattle.raid_rack.specs.Moves.{AreCaused}
 use Rattle.raid_rack.specs.Book.{IsAfter}
@@ -19,7 +21,10 @@ use Rattle.pool.specs.declared.calls.SectorFault.{SectorFault}
 use Rattle.pool.specs.declared.calls.SectorFault.TheVariants.{Range, Spent}
 use Rattle.pool.specs.View.{View, arrays_of, bay_in, view, volume}
 use Rattle.pool.specs.Volume.{is_spent, size_of}
+use Rattle.pool.specs.Keeping.{KeepsBook, Raises, most_raised}
 use Rattle.pool.specs.Calls.{Flushes, HasFault, Marks, Passes, ReadsSector, WritesSector}
+use Rattle.raid_rack.proofs.Raises.{raises_more, raises_none}
+use Rattle.pool.proofs.Booked.{book_lost, several_raise}
 use Rattle.pool.proofs.Keeping.{marks_of, marks_same, passes_of, passes_same}
 use Rattle.pool.proofs.Doing.{does_flush, does_kept, does_none, does_refused, does_write}
 
@@ -41,27 +46,46 @@ sound_in seen laws pool fit traced =
     (slices.is_sound (tables rack) bay rack.orderly drives.1 (laws (bay_in pool) drives.0 traced)))
 
 -- what each call keeps and marks, and what holds of the volume after it
-pub record IsCall (x y : View) : Type 0 where
+pub record IsCall (calls : ℕ) (x y : View) : Type 0 where
   pub passes : Passes x y
+  pub raises : Raises calls x y
   pub marks : Marks x y
   pub sound : y.bay.traced → IsSound (volume y)
 
-pub is_call : {R : Type 0} (seen : R → Seen) (runs : R → R → Type 0) (laws : Laws seen) (p q : Pool R) → (volume (view seen p)).fit
+pub is_call : {R : Type 0} (seen : R → Seen) (runs : R → R → Type 0) (laws : Laws seen) (calls : ℕ) (p q : Pool R) → (volume (view seen p)).fit
     → Stays (volume (view seen p)) (volume (view seen q)) → linear q.volume ≡ linear p.volume
     → SliceRuns seen runs (slices_in (arrays_of p)) (slices_in (arrays_of q))
     → IsAfter (raid_in (arrays_of p)).state (raid_in (arrays_of q)).state
     → AreCaused (raid_in (arrays_of p)) (raid_in (arrays_of q)) (slices_seen seen (arrays_of p)) (slices_seen seen (arrays_of q))
-    → IsCall (view seen p) (view seen q)
-is_call seen runs laws p q fit stays same ran marks caused = record {
-  passes = passes_of (view seen p) (view seen q) fit stays same ran marks;
+    → KeepsBook (raid_in (arrays_of p)) (raid_in (arrays_of q)) → Raises calls (view seen p) (view seen q)
+    → IsCall calls (view seen p) (view seen q)
+is_call seen runs laws calls p q fit stays same ran marks caused keeps raises = record {
+  passes = passes_of (view seen p) (view seen q) fit stays same ran marks keeps;
+  raises = raises;
   marks = marks_of (view seen p) (view seen q) fit ran.tables caused;
   sound = sound_in seen laws q stays.fit;
 }
 
+-- a call of the volume
+pub volume_call : {R : Type 0} (seen : R → Seen) (runs : R → R → Type 0) (laws : Laws seen) (p q : Pool R) → (volume (view seen p)).fit
+    → Stays (volume (view seen p)) (volume (view seen q)) → linear q.volume ≡ linear p.volume → AreRuns seen runs (arrays_of p) (arrays_of q)
+    → Several (λ a b. IsOneCall (raid_in a) (raid_in b)) (1 + (linear p.volume).arrays) (arrays_of p) (arrays_of q)
+    → IsCall 1 (view seen p) (view seen q)
+volume_call seen runs laws p q fit stays same ran several =
+    let v = raid_in (arrays_of p) in
+    let w = raid_in (arrays_of q) in
+    let running = stays.fit.0 in
+    let disks = fit.1.arrays in
+    let most = fit.0.running.set.most in
+    is_call seen runs laws 1 p q fit stays same ran.0 ran.1.book ran.1.caused
+    (book_lost v w (slices_seen seen (arrays_of q)) running.running.set running.heeded ran.1.book.same.made ran.2.arrays)
+    (several_raise (1 + (linear p.volume).arrays) most_raised (arrays_of p) (arrays_of q) (omega (arith, disks, most)) several)
+
 -- no call
-pub no_call : {R : Type 0} (seen : R → Seen) (laws : Laws seen) (p : Pool R) → (volume (view seen p)).fit → IsCall (view seen p) (view seen p)
+pub no_call : {R : Type 0} (seen : R → Seen) (laws : Laws seen) (p : Pool R) → (volume (view seen p)).fit → IsCall 1 (view seen p) (view seen p)
 no_call seen laws p fit = record {
   passes = passes_same (view seen p) fit;
+  raises = raises_more 0 most_raised (raid_in (arrays_of p)) (raid_in (arrays_of p)) (omega arith) (raises_none (raid_in (arrays_of p)));
   marks = marks_same (view seen p) (λ place. ⊥);
   sound = sound_in seen laws p fit;
 }
@@ -100,19 +124,21 @@ fault_spent x y sector low spent = record {
 
 -- ---- a read
 
-pub read_past : (x : View) (sector : ℕ) (into : List ℕ) → IsCall x x → size_of x ≤ sector → ReadsSector x x sector into {X = Unit {0}} (Err Range)
+pub read_past : (x : View) (sector : ℕ) (into : List ℕ) → IsCall 1 x x → size_of x ≤ sector → ReadsSector x x sector into {X = Unit {0}} (Err Range)
 read_past x sector into call past = record {
   passes = call.passes;
+  raises = call.raises;
   marks = call.marks;
   fault = fault_range x sector past;
   value = tt;
   does = does_none x call.passes call.sound;
 }
 
-pub read_done : (x y : View) (sector : ℕ) (into : List ℕ) → IsCall x y → sector < size_of x
+pub read_done : (x y : View) (sector : ℕ) (into : List ℕ) → IsCall 1 x y → sector < size_of x
     → Reads (volume x) (volume y) 0 sector into {X = Unit {0}} (Ok tt) → ReadsSector x y sector into {X = Unit {0}} (Ok tt)
 read_done x y sector into call low reads = record {
   passes = call.passes;
+  raises = call.raises;
   marks = call.marks;
   fault = fault_none x y sector low reads.cause.served;
   value = λ a holds.
@@ -121,10 +147,11 @@ read_done x y sector into call low reads = record {
   does = does_kept x y call.passes call.sound reads.keeps;
 }
 
-pub read_spent : (x y : View) (sector : ℕ) (into : List ℕ) (gone : Gone) → IsCall x y → sector < size_of x
+pub read_spent : (x y : View) (sector : ℕ) (into : List ℕ) (gone : Gone) → IsCall 1 x y → sector < size_of x
     → Reads (volume x) (volume y) 0 sector into {X = Unit {0}} (Err gone) → ReadsSector x y sector into {X = Unit {0}} (Err Spent)
 read_spent x y sector into gone call low reads = record {
   passes = call.passes;
+  raises = call.raises;
   marks = call.marks;
   fault = fault_spent x y sector low (reads.cause.spent tt);
   value = tt;
@@ -133,31 +160,34 @@ read_spent x y sector into gone call low reads = record {
 
 -- ---- a write
 
-pub write_past : (x : View) (sector : ℕ) (from : List ℕ) → IsCall x x → size_of x ≤ sector → WritesSector x x sector from {X = Unit {0}} (Err Range)
+pub write_past : (x : View) (sector : ℕ) (from : List ℕ) → IsCall 1 x x → size_of x ≤ sector → WritesSector x x sector from {X = Unit {0}} (Err Range)
 write_past x sector from call past = record {
   passes = call.passes;
+  raises = call.raises;
   marks = call.marks;
   fault = fault_range x sector past;
   written = tt;
   kept = does_none x call.passes call.sound;
 }
 
-pub write_done : (x y : View) (sector : ℕ) (from : List ℕ) → IsCall x y → sector < size_of x
+pub write_done : (x y : View) (sector : ℕ) (from : List ℕ) → IsCall 1 x y → sector < size_of x
     → Writes (volume x) (volume y) 0 sector from {X = Unit {0}} (Ok tt) → WritesSector x y sector from {X = Unit {0}} (Ok tt)
 write_done x y sector from call low writes = record {
   passes = call.passes;
+  raises = call.raises;
   marks = call.marks;
   fault = fault_none x y sector low writes.cause.served;
   written = does_write x y sector from call.passes call.sound writes.stops writes.done;
   kept = tt;
 }
 
-pub write_spent : (x y : View) (sector : ℕ) (from : List ℕ) (gone : Gone) → IsCall x y → sector < size_of x
+pub write_spent : (x y : View) (sector : ℕ) (from : List ℕ) (gone : Gone) → IsCall 1 x y → sector < size_of x
     → Writes (volume x) (volume y) 0 sector from {X = Unit {0}} (Err gone) → WritesSector x y sector from {X = Unit {0}} (Err Spent)
 write_spent x y sector from gone call low writes =
     let spent = writes.cause.spent tt in
     record {
       passes = call.passes;
+      raises = call.raises;
       marks = call.marks;
       fault = fault_spent x y sector low spent;
       written = tt;
@@ -166,9 +196,10 @@ write_spent x y sector from gone call low writes =
 
 -- ---- a flush
 
-pub sync_done : (x y : View) (result : Result (Unit {0}) Gone) → IsCall x y → Syncs (volume x) (volume y) 0 result → Flushes x y
+pub sync_done : (x y : View) (result : Result (Unit {0}) Gone) → IsCall 1 x y → Syncs (volume x) (volume y) 0 result → Flushes x y
 sync_done x y (Ok u) call syncs = record {
   passes = call.passes;
+  raises = call.raises;
   marks = call.marks;
   does = does_flush x y call.passes call.sound syncs.keeps (λ s v live left. syncs.done s v live left);
 }

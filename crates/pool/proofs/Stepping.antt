@@ -18,14 +18,16 @@ use Rattle.pool_state.specs.declared.contents.Work.TheVariants.{Resync, Rebuild,
 use Rattle.raid_rack.specs.Moves.{IsSet, LosesOnly}
 use Rattle.raid_rack.proofs.Rebuilt.{row_left}
 use Rattle.raid_rack.specs.Raid.{Raid}
-use Rattle.raid_rack.specs.RaidRack.{raid_in, raid_seen, slices_seen}
+use Rattle.raid_rack.specs.RaidRack.{IsFit, arrays_in, raid_in, raid_seen, slices_seen}
 use Rattle.raid_rack.specs.Works.{Does, array_of, is_due, is_rebuilding_seat, is_stuck, is_whole_row, next_row, stepped}
 use Rattle.raid_rack.specs.declared.arrays.RaidRack.{RaidRack}
 use Rattle.raid_rack.specs.declared.works.Stuck.{Stuck}
 use Rattle.pool.specs.declared.Pool.{Pool}
 use Rattle.pool.specs.View.{View, arrays_of, book, view, volume}
 use Rattle.pool.specs.Works.{HasRowsAlone, IsStuck, IsWorked, LacksRow, left_of, progress_by, works_by, works_of}
+use Rattle.pool.specs.Keeping.{KeepsBook}
 use Rattle.pool.specs.Calls.{IsOneFewer, IsQuiet, Marks, Passes}
+use Rattle.pool.proofs.Booked.{book_same, book_worked}
 use Rattle.pool.proofs.Counted.{work_counted}
 use Rattle.pool.proofs.Reached.{with_arrays}
 use Rattle.pool.proofs.Serving.{Laws}
@@ -120,17 +122,29 @@ pub record SaysOf {R : Type 0} (seen : R → Seen) (work : Work) (r : Result (Un
   pub does : is_due (raid_in old) work ≡ true → Does work (raid_in old) (raid_in new) (slices_seen seen old) (slices_seen seen new) (is_ok r)
   pub named : IfErr r (λ e. e.array ≡ array_of work)
 
+-- what it keeps of the book
+pub work_book : {R : Type 0} (seen : R → Seen) (p : Pool R) (new : RaidRack R) (work : Work) → (volume (view seen p)).fit → (r : Result (Unit {0}) Stuck)
+    → IsFit (arrays_in new) (slices_seen seen new) → SaysOf seen work r (arrays_of p) new → KeepsBook (raid_in (arrays_of p)) (raid_in new)
+work_book seen p new work fit r after says =
+    let v = raid_in (arrays_of p) in
+    elim (cases_Bool (is_due v work)) [
+      | inl due ↦
+          book_worked work v (raid_in new) (slices_seen seen (arrays_of p)) (slices_seen seen new) (is_ok r) fit.0.running.set after.running.set after.heeded
+          due (says.does due)
+      | inr idle ↦ subst (λ (k : RaidRack _). KeepsBook v (raid_in k)) (sym (says.idle idle).1) (book_same v)
+    ]
+
 module _ {R : Type 0} (seen : R → Seen) (runs : R → R → Type 0) (laws : Laws seen) (p : Pool R) (new : RaidRack R) (work : Work)
     (fit : (volume (view seen p)).fit) (first : slice_get (works_of (view seen p)) 0 ≡ Some work) where
   -- it is one less
-  pub one_fewer : (r : Result (Unit {0}) Stuck) → IsWorked seen runs p (with_arrays p new) → SaysOf seen work r (arrays_of p) new
+  pub one_fewer : (r : Result (Unit {0}) Stuck) → IsWorked seen runs 1 p (with_arrays p new) → SaysOf seen work r (arrays_of p) new
       → OnOk r (IsOneFewer (view seen p) (view seen (with_arrays p new)))
   one_fewer (Err e) worked says = tt
   one_fewer (Ok u) worked says =
       λ quiet alone.
       let x = view seen p in
       let y = view seen (with_arrays p new) in
-      let call = worked_call seen runs laws p (with_arrays p new) fit worked in
+      let call = worked_call seen runs laws 1 p (with_arrays p new) fit worked in
       elim (cases_Bool (is_due (book x) work)) [
         | inl due ↦
             let one = work_counted (linear p.volume) (book x) (book y) (slices_seen seen (arrays_of p)) (slices_seen seen new) work fit.0.running.set

@@ -1,5 +1,5 @@
 -- Works of maintenance in a row, and what they are to the volume.
-use Rattle.std.proofs.Common.{◌≡◌, refl, sym, subst, ◌∙◌}
+use Rattle.std.proofs.Common.{◌≡◌, ℕ, ◌+◌, ◌*◌, refl, sym, subst, ◌∙◌, arith}
 use Rattle.rack.specs.Seen.{IsPick, Seen, Stays}
 use Rattle.rack.specs.Calls.{KeepsAll}
 use Rattle.rack.specs.Joins.{keeps_all_then, stays_same, stays_then, keeps_same, leaves_same}
@@ -9,20 +9,24 @@ use Rattle.lvm_group.proofs.Below.{keeps_volume, stays_volume}
 use Rattle.lvm_group.specs.Runs.{Linear}
 use Rattle.lvm_group.specs.Shown.{volume_of}
 use Rattle.lvm_group.specs.Volume.{linear}
+use Rattle.raid_rack.specs.Moves.{RaisesBy}
 use Rattle.raid_rack.specs.RaidRack.{KeepsRack, SliceRuns, raid_in, raid_seen, slices_in, slices_seen, written_in}
 use Rattle.raid_rack.specs.Runs.{RaidRuns, raid_runs_same, raid_runs_then}
 use Rattle.raid_rack.specs.declared.arrays.RaidRack.{RaidRack}
 use Rattle.pool.specs.declared.Pool.{Pool}
 use Rattle.pool.specs.View.{arrays_of, bay_in, view, volume}
+use Rattle.pool.specs.Keeping.{KeepsBook, most_raised}
 use Rattle.pool.specs.Works.{IsWorked}
 use Rattle.pool.specs.Volume.{Does, unchanged}
+use Rattle.raid_rack.proofs.Raises.{raises_more, raises_none, raises_then}
+use Rattle.pool.proofs.Booked.{book_same, book_then}
 use Rattle.pool.proofs.Doing.{does_kept}
 use Rattle.pool.proofs.Reached.{with_arrays}
 use Rattle.pool.proofs.Serving.{IsCall, Laws, is_call}
 
 module _ {R : Type 0} (seen : R → Seen) (runs : R → R → Type 0) where
   -- no work
-  pub worked_none : ((r : R) → runs r r) → (p : Pool R) → (volume (view seen p)).fit → IsWorked seen runs p p
+  pub worked_none : ((r : R) → runs r r) → (p : Pool R) → (volume (view seen p)).fit → IsWorked seen runs 0 p p
   worked_none same p fit =
       let raid = arrays_of p in
       record {
@@ -30,23 +34,41 @@ module _ {R : Type 0} (seen : R → Seen) (runs : R → R → Type 0) where
         keeps = record { stays = stays_same (raid_seen seen raid) fit.0; keeps = record { held = λ d s live. keeps_same ((raid_seen seen raid).held d s); stops = λ traced. leaves_same (raid_seen seen raid) (IsPick (raid_seen seen raid) (raid_seen seen raid) (raid_seen seen raid).held) } };
         ran = runs_none (tables (slices_in raid)) (seen (bay_in p)) (runs (bay_in p) (bay_in p)) (same (bay_in p));
         book = raid_runs_same (written_in raid) (raid_in raid) (slices_seen seen raid);
+        arrays = book_same (raid_in raid);
+        raises = raises_none (raid_in raid);
       }
+
+  -- more than were done
+  pub worked_more : (count : ℕ) (p q : Pool R) → IsWorked seen runs 0 p q → IsWorked seen runs count p q
+  worked_more count p q worked = record {
+    linear = worked.linear;
+    keeps = worked.keeps;
+    ran = worked.ran;
+    book = worked.book;
+    arrays = worked.arrays;
+    raises = raises_more 0 (most_raised * count) (raid_in (arrays_of p)) (raid_in (arrays_of q)) (omega arith) worked.raises;
+  }
 
   -- a work of the arrays, reached through the volume
   pub worked_by : (p : Pool R) (old new : RaidRack R) → old ≡ arrays_of p → KeepsRack (raid_seen seen old) (raid_seen seen new)
       → SliceRuns seen runs (slices_in old) (slices_in new)
       → RaidRuns (written_in old) (written_in new) (raid_in old) (raid_in new) (slices_seen seen old) (slices_seen seen new)
-      → IsWorked seen runs p (with_arrays p new)
-  worked_by p old new same keeps ran book = record {
+      → KeepsBook (raid_in (arrays_of p)) (raid_in new) → RaisesBy 18 (raid_in old) (raid_in new)
+      → IsWorked seen runs 1 p (with_arrays p new)
+  worked_by p old new same keeps ran book arrays raises = record {
     linear = refl;
     keeps = subst (λ (r : RaidRack R). KeepsRack (raid_seen seen r) (raid_seen seen new)) same keeps;
     ran = subst (λ (r : RaidRack R). SliceRuns seen runs (slices_in r) (slices_in new)) same ran;
     book = subst (λ (r : RaidRack R). RaidRuns (written_in r) (written_in new) (raid_in r) (raid_in new) (slices_seen seen r) (slices_seen seen new)) same book;
+    arrays = arrays;
+    raises = raises_more 18 most_raised (raid_in (arrays_of p)) (raid_in new) (omega arith)
+        (subst (λ (r : RaidRack R). RaisesBy 18 (raid_in r) (raid_in new)) same raises);
   }
 
   -- works in a row
-  pub worked_then : ((r s t : R) → runs r s → runs s t → runs r t) → (p q r : Pool R) → IsWorked seen runs p q → IsWorked seen runs q r → IsWorked seen runs p r
-  worked_then join p q r one two =
+  pub worked_then : ((r s t : R) → runs r s → runs s t → runs r t) → (count : ℕ) (p q r : Pool R) → IsWorked seen runs count p q → IsWorked seen runs 1 q r
+      → IsWorked seen runs (count + 1) p r
+  worked_then join count p q r one two =
       let a = arrays_of p in
       let b = arrays_of q in
       let c = arrays_of r in
@@ -61,31 +83,34 @@ module _ {R : Type 0} (seen : R → Seen) (runs : R → R → Type 0) where
             (join (bay_in p) (bay_in q) (bay_in r) one.ran.below two.ran.below);
         book = raid_runs_then (written_in a) (written_in b) (written_in c) (raid_in a) (raid_in b) (raid_in c)
             (slices_seen seen a) (slices_seen seen b) (slices_seen seen c) one.book two.book;
+        arrays = book_then (raid_in a) (raid_in b) (raid_in c) one.book.book.same.made two.book.book one.arrays two.arrays;
+        raises = raises_more (most_raised * count + most_raised) (most_raised * (count + 1)) (raid_in a) (raid_in c) (omega arith)
+            (raises_then (most_raised * count) most_raised (raid_in a) (raid_in b) (raid_in c) one.book.book.same.made one.raises two.raises);
       }
 
   -- the volume after them
-  worked_stays : (p q : Pool R) → (volume (view seen p)).fit → IsWorked seen runs p q → Stays (volume (view seen p)) (volume (view seen q))
-  worked_stays p q fit worked =
+  worked_stays : (count : ℕ) (p q : Pool R) → (volume (view seen p)).fit → IsWorked seen runs count p q → Stays (volume (view seen p)) (volume (view seen q))
+  worked_stays count p q fit worked =
       subst (λ (l : Linear). Stays (volume (view seen p)) (volume_of l (raid_seen seen (arrays_of q)))) (sym worked.linear)
       (stays_volume {l = linear p.volume} {a = raid_seen seen (arrays_of p)} {b = raid_seen seen (arrays_of q)} fit.1 worked.keeps.stays)
 
-  worked_keeps : (p q : Pool R) → (volume (view seen p)).fit → IsWorked seen runs p q → KeepsAll (volume (view seen p)) (volume (view seen q))
-  worked_keeps p q fit worked =
+  worked_keeps : (count : ℕ) (p q : Pool R) → (volume (view seen p)).fit → IsWorked seen runs count p q → KeepsAll (volume (view seen p)) (volume (view seen q))
+  worked_keeps count p q fit worked =
       let l = linear p.volume in
       let a = raid_seen seen (arrays_of p) in
       let b = raid_seen seen (arrays_of q) in
       subst (λ (own : Linear). KeepsAll (volume (view seen p)) (volume_of own b)) (sym worked.linear)
       (keeps_volume {l = l} {a = a} {b = b} p.volume.orderly (stays_volume {l = l} {a = a} {b = b} fit.1 worked.keeps.stays).fit.1 worked.keeps.keeps)
 
-  pub worked_fit : (p q : Pool R) → (volume (view seen p)).fit → IsWorked seen runs p q → (volume (view seen q)).fit
-  worked_fit p q fit worked = (worked_stays p q fit worked).fit
+  pub worked_fit : (count : ℕ) (p q : Pool R) → (volume (view seen p)).fit → IsWorked seen runs count p q → (volume (view seen q)).fit
+  worked_fit count p q fit worked = (worked_stays count p q fit worked).fit
 
-  pub worked_call : (laws : Laws seen) (p q : Pool R) → (volume (view seen p)).fit → IsWorked seen runs p q → IsCall (view seen p) (view seen q)
-  worked_call laws p q fit worked =
-      is_call seen runs laws p q fit (worked_stays p q fit worked) worked.linear worked.ran worked.book.book worked.book.caused
+  pub worked_call : (laws : Laws seen) (count : ℕ) (p q : Pool R) → (volume (view seen p)).fit → IsWorked seen runs count p q → IsCall count (view seen p) (view seen q)
+  worked_call laws count p q fit worked =
+      is_call seen runs laws count p q fit (worked_stays count p q fit worked) worked.linear worked.ran worked.book.book worked.book.caused worked.arrays worked.raises
 
-  pub worked_does : (laws : Laws seen) (p q : Pool R) → (volume (view seen p)).fit → IsWorked seen runs p q
+  pub worked_does : (laws : Laws seen) (count : ℕ) (p q : Pool R) → (volume (view seen p)).fit → IsWorked seen runs count p q
       → Does (view seen p) (view seen q) unchanged unchanged
-  worked_does laws p q fit worked =
-      let call = worked_call laws p q fit worked in
-      does_kept (view seen p) (view seen q) call.passes call.sound (worked_keeps p q fit worked)
+  worked_does laws count p q fit worked =
+      let call = worked_call laws count p q fit worked in
+      does_kept (view seen p) (view seen q) call.passes call.sound (worked_keeps count p q fit worked)

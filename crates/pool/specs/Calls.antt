@@ -20,16 +20,18 @@ use Rattle.pool.specs.declared.calls.SectorFault.{SectorFault}
 use Rattle.pool.specs.declared.calls.SectorFault.TheVariants.{Range, Spent}
 use Rattle.pool.specs.View.{View, book, slices_shown, volume}
 use Rattle.raid_rack.specs.declared.works.Stuck.{Stuck}
+use Rattle.pool.specs.Keeping.{KeepsBook, Raises}
 use Rattle.pool.specs.Works.{HasRowsAlone, IsStuck, left_of}
 use Rattle.pool.specs.Volume.{Does, Holds, is_spent, size_of, unchanged}
 
--- What each call keeps: the volume stays where it is, marks and nothing else come to the book, and of the bay's disks only sectors
--- of slices are written.
+-- What each call keeps: the volume stays where it is, marks alone come to the state, or the end of its plan, arrays lose whom these marks
+-- name and nobody else, and of the bay's disks only sectors of slices are written.
 pub record Passes (x y : View) : Type 0 where
   pub stays : Stays (volume x) (volume y)
   pub linear : y.linear ≡ x.linear
   pub slices : y.slices ≡ x.slices
   pub marks : IsAfter (book x).state (book y).state
+  pub book : KeepsBook (book x) (book y)
   pub apart : WritesOnly x.bay y.bay (IsSliced x.slices)
 
 -- the faults of a place's drive rose
@@ -53,6 +55,7 @@ pub record HasFault (x y : View) (sector : ℕ) {X : Type 0} (result : Result X 
 -- a read gives the current value and changes none
 pub record ReadsSector (x y : View) (sector : ℕ) (into : List ℕ) {X : Type 0} (result : Result X SectorFault) : Type 0 where
   pub passes : Passes x y
+  pub raises : Raises 1 x y
   pub marks : Marks x y
   pub fault : HasFault x y sector result
   pub value : OnOk result ((a : FlatArray) → Holds x a → into ≡ (a.values sector).current)
@@ -61,6 +64,7 @@ pub record ReadsSector (x y : View) (sector : ℕ) (into : List ℕ) {X : Type 0
 -- a write appends its value; refused, it changes no sector that isn't spent
 pub record WritesSector (x y : View) (sector : ℕ) (from : List ℕ) {X : Type 0} (result : Result X SectorFault) : Type 0 where
   pub passes : Passes x y
+  pub raises : Raises 1 x y
   pub marks : Marks x y
   pub fault : HasFault x y sector result
   pub written : OnOk result (Does x y (λ a. written a sector from) (λ a. written a sector from))
@@ -69,12 +73,14 @@ pub record WritesSector (x y : View) (sector : ℕ) (from : List ℕ) {X : Type 
 -- a flush leaves the current value of each sector alone
 pub record Flushes (x y : View) : Type 0 where
   pub passes : Passes x y
+  pub raises : Raises 1 x y
   pub marks : Marks x y
   pub does : Does x y unchanged flushed
 
 -- A drive is lost. Refused exactly where the place isn't in the list or is marked missing, and else exactly where no other drive is left.
 pub record LosesDrive (x y : View) (place : ℕ) {X : Type 0} (result : Result X LoseFault) : Type 0 where
   pub passes : Passes x y
+  pub raises : Raises 1 x y
   pub marks : MarksBut (λ p. p ≡ place) x y
   pub missing : (result ≡ Err NoSuchDrive) ↔ (is_current (book x).state place ≡ false)
   pub last : (result ≡ Err LastDrive) ↔ ((is_current (book x).state place ≡ true) × (has_other (book x).state place ≡ false))
@@ -92,6 +98,7 @@ LeavesItsRows x y =
 -- The end of a run flushes the volume, and its superblocks leave no rows to resync but those that were left.
 pub record Ends (x y : View) : Type 0 where
   pub passes : Passes x y
+  pub raises : Raises 1 x y
   pub marks : Marks x y
   pub does : Does x y unchanged flushed
   pub rows : LeavesItsRows x y
@@ -109,6 +116,7 @@ IsOneFewer x y =
 -- left of the arrays, as many fewer are left as were asked for, or none. Else an array can't do a work.
 pub record Steps (x y : View) (count : ℕ) (result : Result ℕ Stuck) : Type 0 where
   pub passes : Passes x y
+  pub raises : Raises count x y
   pub marks : Marks x y
   pub does : Does x y unchanged unchanged
   pub left : IfOk result (λ left. left ≡ left_of y)

@@ -3,3 +3,4 @@ pub mod Volume
 pub mod Works
 pub mod Calls
 pub mod Made
+pub mod Keeping

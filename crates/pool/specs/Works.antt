@@ -21,7 +21,8 @@ use Rattle.raid_rack.specs.RaidRack.{KeepsRack, SliceRuns, raid_in, raid_seen, s
 use Rattle.raid_rack.specs.Runs.{RaidRuns}
 use Rattle.raid_rack.specs.Works.{array_of, is_due, is_rebuilding_seat, is_stuck}
 use Rattle.pool.specs.declared.Pool.{Pool}
-use Rattle.pool.specs.View.{View, arrays_of, book}
+use Rattle.pool.specs.Keeping.{KeepsBook, Raises}
+use Rattle.pool.specs.View.{View, arrays_of, book, view}
 
 -- ---- how an array stands
 
@@ -114,11 +115,13 @@ pub record IsStuck (l : Linear) (v : Raid) (array : ℕ) : Type 0 where
 
 -- ---- works that are done
 
--- Works in a row: the volume lies where it lay, its arrays keep their values, and they run on the slices below.
-pub record IsWorked {R : Type 0} (seen : R → Seen) (runs : R → R → Type 0) (p q : Pool R) : Type 0 where
+-- So many works in a row: the volume lies where it lay, its arrays keep their values and their members, and they run on the slices below.
+pub record IsWorked {R : Type 0} (seen : R → Seen) (runs : R → R → Type 0) (count : ℕ) (p q : Pool R) : Type 0 where
   pub linear : linear_of q.volume ≡ linear_of p.volume
   pub keeps : KeepsRack (raid_seen seen (arrays_of p)) (raid_seen seen (arrays_of q))
   pub ran : SliceRuns seen runs (slices_in (arrays_of p)) (slices_in (arrays_of q))
   pub book :
       RaidRuns (written_in (arrays_of p)) (written_in (arrays_of q)) (raid_in (arrays_of p)) (raid_in (arrays_of q))
       (slices_seen seen (arrays_of p)) (slices_seen seen (arrays_of q))
+  pub arrays : KeepsBook (raid_in (arrays_of p)) (raid_in (arrays_of q))
+  pub raises : Raises count (view seen p) (view seen q)

@@ -70,7 +70,7 @@ impl<R: Bay> Pool<R> {
     /// Does the first of the works that are left, where one is.
     fn advance(&mut self) -> Result<(), Stuck>
         requires { (volume (view R.seen self.old)).fit }
-        ensures worked { IsWorked R.seen R.runs self.old self.new }
+        ensures worked { IsWorked R.seen R.runs 1 self.old self.new }
         ensures counted { OnOk result (IsOneFewer (view R.seen self.old) (view R.seen self.new)) }
         ensures stuck { IfErr result (λ e. IsStuck (view R.seen self.new).linear (book (view R.seen self.new)) e.array) }
     {

@@ -13,13 +13,18 @@ use Rattle.pool.specs.declared.calls.SectorFault.{SectorFault}
 use Rattle.pool.specs.declared.calls.SectorFault.TheVariants.{Spent}
 use Rattle.pool.specs.View.{View, contents_in, volume}
 use Rattle.pool.specs.Volume.{Holds, Means, is_spent, unchanged}
+use Rattle.pool.specs.Keeping.{Raises}
 use Rattle.pool.specs.Calls.{Marks, Passes, WritesSector}
 use Rattle.shr_tool.specs.Filling.{Fills, FillsSome}
-use Rattle.shr_tool.proofs.Meanings.{does_none, does_then, marks_same, marks_then, passes_same, passes_then}
+use Rattle.pool.proofs.Booked.{raises_fewer, raises_still}
+use Rattle.pool.proofs.Doing.{does_none}
+use Rattle.pool.proofs.Keeping.{marks_same, marks_then, passes_same, passes_then, raises_next}
+use Rattle.shr_tool.proofs.Meanings.{does_then}
 
 -- The sectors up to one have been filled, and the last one of them isn't spent.
 pub record IsFilled (x y : View) (sector at : ℕ) (bytes : List ℕ) : Type 0 where
   pub passes : Passes x y
+  pub raises : Raises (at - sector) x y
   pub marks : Marks x y
   pub some : FillsSome x y sector (at - sector) bytes
   pub last : (s : ℕ) → s + 1 ≡ at → sector ≤ s → is_spent y s ≡ false
@@ -33,6 +38,7 @@ filled_start x sector bytes fit sound =
     λ a. sym (ap (λ n. filled a sector n bytes) (omega arith) ∙ filled_none a sector bytes) in
     record {
       passes = passes_same x fit;
+      raises = raises_still (sector - sector) x;
       marks = marks_same x (λ place. ⊥);
       some = record {
         does = record {
@@ -92,6 +98,7 @@ filled_step x y z sector at bytes r done from before writes_r =
     let alive = writes.fault.served.1 in
     record {
       passes = passes_then x y z before.passes writes.passes;
+      raises = raises_fewer (at - sector + 1) (at + 1 - sector) x z (omega (arith, from)) (raises_next (at - sector) x y z before.passes before.raises writes.raises);
       marks = marks_then x y z before.passes writes.passes before.marks writes.marks;
       some = record {
         does =
@@ -121,6 +128,7 @@ filled_all x y sector at count bytes all done =
     let many : at - sector ≡ count = omega arith in
     record {
       passes = done.passes;
+      raises = subst (λ n. Raises n x y) many done.raises;
       marks = done.marks;
       done = (subst (λ n. FillsSome x y sector n bytes) many done.some, λ s next low. done.last s (next ∙ sym all) low);
       refused = tt;
@@ -139,6 +147,7 @@ filled_spent x y z sector at count bytes r refused from inside before writes_r =
     let writes : WritesSector y z at bytes {X = Unit {0}} (Err Spent) = subst (λ q. WritesSector y z at bytes q) refused writes_r in
     record {
       passes = passes_then x y z before.passes writes.passes;
+      raises = raises_fewer (at - sector + 1) count x z (omega (arith, from, inside)) (raises_next (at - sector) x y z before.passes before.raises writes.raises);
       marks = marks_then x y z before.passes writes.passes before.marks writes.marks;
       done = tt;
       refused = (

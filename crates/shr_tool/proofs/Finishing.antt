@@ -18,8 +18,8 @@ use Rattle.shr_tool.specs.Events.{Event, array_by}
 use Rattle.shr_tool.specs.Timeline.{ground_of, moment_of}
 use Rattle.shr_tool.specs.Serving.{HasStopCause, Ran, Serves, StopsAtEnd}
 use Rattle.shr_tool.specs.Outcome.{DoneOutcome, EndsAt, HasStatusCause, Lasts, LeavesItsRows, Outcome, status_by}
-use Rattle.shr_tool.proofs.History.{means_at, ran_before}
-use Rattle.shr_tool.proofs.Meanings.{passes_then}
+use Rattle.shr_tool.proofs.History.{means_at, ran_before, standing}
+use Rattle.pool.proofs.Keeping.{passes_then}
 
 -- the end of a pool leaves the rows that were left
 rows_at :
@@ -51,6 +51,7 @@ ends_at x m y a events ran ends =
           λ place was now.
           subst (λ t. Rose (m.bay.faults (disk_of t (log_slice place))) (y.bay.faults (disk_of t (log_slice place)))) ran.passes.slices
           (elim (ends.marks place was now) [ inl rose ↦ rose | inr never ↦ absurd never ]);
+      stands = standing m y 1 ends.passes ends.raises;
       during =
           λ holds traced k i since until stops.
           means_at x y b i passes

@@ -5,15 +5,17 @@ use Rattle.rack.specs.Seen.{Image}
 use Rattle.shr_script.specs.Line.{Line}
 use Rattle.flat_array.specs.Array.{FlatArray}
 use Rattle.shr_script.specs.Script.{script_of, cut_script_of}
-use Rattle.pool.specs.View.{View, volume}
+use Rattle.pool.specs.View.{View, book, slices_shown, volume}
 use Rattle.pool.specs.Volume.{Holds, Means}
 use Rattle.pool.specs.Calls.{Passes}
+use Rattle.pool.specs.Keeping.{Raises}
 use Rattle.shr_tool.specs.declared.perform.Answer.{Answer}
-use Rattle.shr_tool.specs.Events.{Event, any_spent, array_by, becomes, is_spent, line_of, lines_of, text_of, texts}
-use Rattle.shr_tool.specs.Timeline.{Ground, Moment, Happens, MeansAt, Performs, Timeline, ground_of, moment_of}
+use Rattle.shr_tool.specs.Events.{Event, any_spent, array_by, becomes, calls_in, is_spent, line_of, lines_of, text_of, texts}
+use Rattle.shr_tool.specs.Timeline.{Ground, KeepsStanding, Moment, Happens, MeansAt, Performs, Timeline, ground_of, moment_of}
 use Rattle.shr_tool.specs.Serving.{Answered, Ran, Replies}
 use Rattle.shr_tool.proofs.Joined.{ground_same}
-use Rattle.shr_tool.proofs.Meanings.{passes_same, passes_then}
+use Rattle.pool.proofs.Booked.{book_seated}
+use Rattle.pool.proofs.Keeping.{passes_same, passes_then}
 
 -- ---- one event more
 
@@ -85,6 +87,7 @@ timeline_kept Traced old new g limit past p a (event ∷ events) q within line =
         later = happens.later;
         cause = happens.cause;
         marks = happens.marks;
+        stands = happens.stands;
         during =
             λ traced k i since until stops.
             happens.during traced k i since until (past traced k i (let rest = order traced in omega arith) stops);
@@ -112,6 +115,12 @@ pub means_at :
     (x y : View) (a : FlatArray) (i : Image) → Passes x y → Means y a i → MeansAt (ground_of x) (moment_of y) a i
 means_at x y a i passes means = subst (λ g. MeansAt g (moment_of y) a i) (ground_same x y passes) means
 
+-- what so many calls do to the book
+pub standing : (x y : View) (calls : ℕ) → Passes x y → Raises calls x y → KeepsStanding calls (moment_of x) (moment_of y)
+standing x y calls passes raises =
+    let fit = passes.stays.fit.0 in
+    record { raises = raises; keeps = passes.book; seated = book_seated (book y) (slices_shown y) fit.running.set fit.heeded }
+
 -- a line that was done is an event
 performed :
     (x y z : View) (event : Event) (text : List ℕ) (Traced : Type 0) (a : FlatArray)
@@ -126,6 +135,7 @@ performed x y z event text Traced a passes performs traced holds =
       later = λ told. (performs.leaves (traced told) a (holds told)).later;
       cause = performs.cause;
       marks = performs.marks;
+      stands = standing y z (calls_in (line_of event)) performs.passes performs.raises;
       during =
           λ told k i since until stops.
           elim ((performs.leaves (traced told) a (holds told)).new k i since until stops) [

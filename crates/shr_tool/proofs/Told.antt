@@ -20,6 +20,7 @@ happens_for P Q stops g p q a event for happens = record {
   later = λ traced. happens.later (for traced);
   cause = happens.cause;
   marks = happens.marks;
+  stands = happens.stands;
   during = λ traced. happens.during (for traced);
   ended = λ traced. happens.ended (for traced);
 }
@@ -41,6 +42,7 @@ ends_for T U S R y g p q a told traced ends = record {
   later = λ so. ends.later (traced so);
   after = ends.after;
   cause = ends.cause;
+  stands = ends.stands;
   during = λ is so. ends.during (told is) (traced so);
   ended = λ is so. ends.ended (told is) (traced so);
   rows = λ is. ends.rows (told is);

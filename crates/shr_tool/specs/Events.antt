@@ -29,6 +29,19 @@ line_of (last place) = Ok (Lose place)
 line_of (stepped count left) = Ok (Step count)
 line_of (stuck count array) = Ok (Step count)
 
+-- how many calls of a pool a line has: one for each sector of a fill and each work of a step
+abbrev pub calls_in : Line → ℕ
+calls_in (Ok (Read sector)) = 1
+calls_in (Ok (Write sector bytes)) = 1
+calls_in (Ok (Fill sector count byte)) = count
+calls_in (Ok Flush) = 1
+calls_in (Ok Size) = 1
+calls_in (Ok (Lose place)) = 1
+calls_in (Ok (Step count)) = count
+calls_in (Ok Quit) = 1
+calls_in (Ok Unbuilt) = 1
+calls_in (Err fault) = 1
+
 -- the reply where an array can't do a work
 abbrev pub stuck_line : ℕ → List ℕ
 stuck_line array = refused_line (codes "stuck " ++ decimal array)

@@ -21,6 +21,7 @@ use Rattle.assembler.specs.Refusing.{is_early}
 use Rattle.assembler.specs.Sound.{AreSlicesOf, HoldSound, IsMeantRefusal, MayStop}
 use Rattle.assembler.specs.Volume.{AllLive, IsVolumeOf}
 use Rattle.assembler.specs.Writing.{WritesPool}
+use Rattle.pool.specs.Keeping.{HasMarkedSeats}
 use Rattle.shr_script.specs.Reply.{refused_line}
 use Rattle.shr_tool.specs.declared.opening.Task.{Task}
 use Rattle.shr_tool.specs.declared.status.Status.{Status}
@@ -70,6 +71,8 @@ pub record OpenedOn {R : Type 0} (seen : R → Seen) (runs : R → R → Type 0)
   pub from : Moment
   pub clock : from.clock ≡ (seen opened).clock
   pub faults : (d : ℕ) → from.faults d ≡ (seen opened).faults d
+  -- just those members of its arrays are missing whose drives are marked
+  pub seated : HasMarkedSeats from.book
   -- it is opened as disks have it that held a sound pool and refused no call
   pub meant : (f : Found) → HoldSound (seen bay) f → IsUnfaulted (seen bay) (seen opened) → IsOpenedAs f (seen opened) ground from
   -- then both copies of each drive's partition table are the table that its disk had, durably

@@ -20,7 +20,7 @@ use Rattle.shr_tool.specs.declared.status.Status.TheVariants.{Done, Words, Limit
 use Rattle.shr_tool.specs.declared.serve.Stop.{Stop}
 use Rattle.shr_tool.specs.declared.serve.Stop.TheVariants.{Quit as AtQuit, Input, SourceFault, Limit as AtLimit, SinkFault}
 use Rattle.shr_tool.specs.Events.{Event, any_spent, array_by, lines_of, text_of, texts}
-use Rattle.shr_tool.specs.Timeline.{Ground, Moment, MeansAt, Timeline}
+use Rattle.shr_tool.specs.Timeline.{Ground, KeepsStanding, Moment, MeansAt, Timeline}
 
 -- no disk's faults rose since they were counted so
 abbrev pub NoneRose : (ℕ → ℕ) → (ℕ → ℕ) → Type 0
@@ -43,6 +43,7 @@ pub record EndsAt (Told : Type 0) (Traced : Type 0) (y : Seen) (g : Ground) (p q
   pub cause :
       (place : ℕ) → is_current p.book.state place ≡ true → is_current q.book.state place ≡ false
       → Rose (p.faults (disk_of g.slices (log_slice place))) (q.faults (disk_of g.slices (log_slice place)))
+  pub stands : KeepsStanding 1 p q
   pub during : Told → Traced → (k : ℕ) (i : Image) → p.clock < k → k ≤ q.clock → y.stops k i → MeansAt g q a i
   pub ended : Told → Traced → (i : Image) → y.stops q.clock i → MeansAt g q (flushed a) i
   pub rows : Told → LeavesItsRows y g p q

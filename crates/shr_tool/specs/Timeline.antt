@@ -1,5 +1,5 @@
 -- A run as a list of events at moments that never fall.
-use Rattle.std.specs.Prelude.{◌≡◌, ◌⊎◌, ℕ, ◌+◌, ◌<◌, ◌≤◌, min, true, false, List, [], ◌∷◌, Ok}
+use Rattle.std.specs.Prelude.{◌≡◌, ◌⊎◌, ℕ, ◌+◌, ◌*◌, ◌<◌, ◌≤◌, min, true, false, List, [], ◌∷◌, Ok}
 use Rattle.rack.specs.Seen.{Image, Rose}
 use Rattle.rack.specs.Moments.{Leaves}
 use Rattle.shr_script.specs.declared.Command.TheVariants.{Lose, Step}
@@ -9,13 +9,15 @@ use Rattle.array_image.specs.States.{is_current}
 use Rattle.slice_rack.specs.Slices.{Slices, disk_of}
 use Rattle.lvm_group.specs.Runs.{Linear, sectors_in}
 use Rattle.raid_rack.specs.Book.{IsAfter}
+use Rattle.raid_rack.specs.Moves.{RaisesBy}
 use Rattle.raid_rack.specs.Losses.{has_other}
 use Rattle.raid_rack.specs.Raid.{Raid}
 use Rattle.pool.specs.Calls.{Passes}
+use Rattle.pool.specs.Keeping.{HasMarkedSeats, KeepsBook, Raises, most_raised}
 use Rattle.pool.specs.View.{View, book, contents_in, spent_by}
 use Rattle.pool.specs.Works.{HasRowsAlone, IsStuck, left_by}
 use Rattle.pool.specs.Volume.{Holds, Means, PicksLive}
-use Rattle.shr_tool.specs.Events.{Event, Touches, TouchesLast, becomes, text_of}
+use Rattle.shr_tool.specs.Events.{Event, Touches, TouchesLast, becomes, calls_in, line_of, text_of}
 use Rattle.shr_tool.specs.Events.Event.{answered, spent, lost, last, stepped, stuck}
 
 -- What is known between two events: the clock, the disks' counts of faults, and the pool's state and arrays.
@@ -71,12 +73,20 @@ pub record MarksFor (g : Ground) (p q : Moment) (event : Event) : Type 0 where
       (place : ℕ) → is_current p.book.state place ≡ true → is_current q.book.state place ≡ false
       → Rose (p.faults (disk_of g.slices (log_slice place))) (q.faults (disk_of g.slices (log_slice place))) ⊎ (event ≡ lost place)
 
+-- What so many calls do to a pool's book: its numbers rise by a bounded number for each, arrays lose the members on drives that are marked
+-- meanwhile, and no row is left to resync that wasn't; and at their end just those members are missing.
+pub record KeepsStanding (calls : ℕ) (p q : Moment) : Type 0 where
+  pub raises : RaisesBy (most_raised * calls) p.book q.book
+  pub keeps : KeepsBook p.book q.book
+  pub seated : HasMarkedSeats q.book
+
 -- An event: what a stop inside it leaves means the array before it or after it, and one at its end the array after it. The clock is told
 -- where stops are.
 pub record Happens (Traced : Type 0) (stops : ℕ → Image → Type 0) (g : Ground) (p q : Moment) (a : FlatArray) (event : Event) : Type 0 where
   pub later : Traced → p.clock ≤ q.clock
   pub cause : HasCause g p q event
   pub marks : MarksFor g p q event
+  pub stands : KeepsStanding (calls_in (line_of event)) p q
   pub during :
       Traced → (k : ℕ) (i : Image) → p.clock < k → k ≤ q.clock → stops k i
       → MeansAt g q a i ⊎ MeansAt g q (becomes a event) i
@@ -93,6 +103,7 @@ Timeline Traced stops g p a (event ∷ events) q =
 -- A line was answered on a pool by this text.
 pub record Performs (x y : View) (event : Event) (text : List ℕ) : Type 0 where
   pub passes : Passes x y
+  pub raises : Raises (calls_in (line_of event)) x y
   pub cause : HasCause (ground_of x) (moment_of x) (moment_of y) event
   pub marks : MarksFor (ground_of x) (moment_of x) (moment_of y) event
   pub text_is : (a : FlatArray) → Holds x a → text ≡ text_of a event

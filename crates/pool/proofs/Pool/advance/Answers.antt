@@ -1,9 +1,9 @@
 use Rattle.std.proofs.Common.{◌≡◌, Some, slice_get, sym, subst}
-use Rattle.raid_rack.specs.RaidRack.{IsFit, arrays_in, slices_seen}
+use Rattle.raid_rack.specs.RaidRack.{IsFit, KeepsRack, arrays_in, raid_seen, slices_seen}
 use Rattle.pool.specs.View.{arrays_of, view}
 use Rattle.pool.specs.Works.{works_of}
-use Rattle.pool.proofs.Stepping.{SaysOf, is_stuck_at, none_left, one_fewer}
-use Rattle.pool.proofs.Working.{worked_by, worked_none}
+use Rattle.pool.proofs.Stepping.{SaysOf, is_stuck_at, none_left, one_fewer, work_book}
+use Rattle.pool.proofs.Working.{worked_by, worked_more, worked_none}
 use Rattle.pool.proofs.Pool.advance.Goals as goal
 
 pub work-requires : goal.work-requires
@@ -15,10 +15,11 @@ returns-in-Some g c =
     let p = c.args.self.now in
     let new = c.work.new.self in
     let own = c.work.ensures in
-    let worked = worked_by seen g.R.Rack.runs p _ new c.inner.ensures.value own.keeps own.runs own.book in
     let first : slice_get (works_of (view seen p)) 0 ≡ Some c.in-Some.work = sym c.in-Some.ensures.first in
     let says : SaysOf seen c.in-Some.work c.work.result (arrays_of p) new =
     subst (λ old. SaysOf seen c.in-Some.work c.work.result old new) c.inner.ensures.value (record { idle = own.idle; does = own.does; named = own.named }) in
+    let worked = worked_by seen g.R.Rack.runs p _ new c.inner.ensures.value own.keeps own.runs own.book
+    (work_book seen p new c.in-Some.work c.requires c.work.result (subst (λ old. KeepsRack (raid_seen seen old) (raid_seen seen new)) c.inner.ensures.value own.keeps).stays.fit says) own.raises in
     record {
       worked = worked;
       counted = one_fewer seen g.R.Rack.runs g.met.R.Rack.sound p new c.in-Some.work c.requires first c.work.result worked says;
@@ -29,7 +30,7 @@ pub returns-in-None : goal.returns-in-None
 returns-in-None g c =
     let p = c.args.self.now in
     record {
-      worked = worked_none g.R.Rack.seen g.R.Rack.runs g.met.R.Rack.runs_same p c.requires;
+      worked = worked_more g.R.Rack.seen g.R.Rack.runs 1 p p (worked_none g.R.Rack.seen g.R.Rack.runs g.met.R.Rack.runs_same p c.requires);
       counted = λ quiet alone. (alone, λ some. absurd (none_left (works_of (view g.R.Rack.seen p)) (sym c.in-None.ensures.first) some));
       stuck = tt;
     }

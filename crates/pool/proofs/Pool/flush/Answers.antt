@@ -1,5 +1,5 @@
 use Rattle.pool.specs.View.{view}
-use Rattle.pool.proofs.Serving.{is_call, sync_done}
+use Rattle.pool.proofs.Serving.{volume_call, sync_done}
 use Rattle.pool.proofs.Pool.flush.Goals as goal
 
 pub returns-clause-flushes : goal.returns-clause-flushes
@@ -7,6 +7,6 @@ returns-clause-flushes g c =
     let syncs = c.sync.ensures.syncs in
     let runs = c.sync.ensures.runs in
     sync_done (view g.R.Rack.seen c.args.self.now) (view g.R.Rack.seen (record { volume = c.sync.new.self })) c.sync.result
-    (is_call g.R.Rack.seen g.R.Rack.runs g.met.R.Rack.sound c.args.self.now (record { volume = c.sync.new.self }) c.requires syncs.stays runs.1.volume
-    runs.0.0 runs.0.1.book runs.0.1.caused)
+    (volume_call g.R.Rack.seen g.R.Rack.runs g.met.R.Rack.sound c.args.self.now (record { volume = c.sync.new.self }) c.requires syncs.stays runs.1.volume
+    runs.0 c.sync.ensures.once)
     syncs

@@ -1,7 +1,7 @@
 -- What was put, once the pool was ended.
 use Rattle.pool.specs.View.{view}
 use Rattle.shr_tool.proofs.Exported.{export_outcome}
-use Rattle.shr_tool.proofs.Meanings.{passes_then}
+use Rattle.pool.proofs.Keeping.{passes_then}
 use Rattle.shr_tool.proofs.exporting.export_pool.Goals as goal
 
 pub returns-clause-passes : goal.returns-clause-passes

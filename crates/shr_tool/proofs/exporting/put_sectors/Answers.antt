@@ -1,7 +1,7 @@
 -- Each sector is read and put, up to the first that is refused.
 use Rattle.std.proofs.Common.{Err, ◌<◌, ◌∙◌, ap, subst, arith}
 use Rattle.shr_tool.proofs.Exported.{prefix_more, put_more, ran_read, ran_spent, value_read}
-use Rattle.shr_tool.proofs.Meanings.{passes_then}
+use Rattle.pool.proofs.Keeping.{passes_then}
 use Rattle.shr_tool.proofs.exporting.put_sectors.Goals as goal
 
 pub returns-in-Err-Spent-clause-passes : goal.returns-in-Err-Spent-clause-passes

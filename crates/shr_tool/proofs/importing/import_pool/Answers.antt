@@ -1,7 +1,7 @@
 -- What was written, once the pool was ended.
 use Rattle.pool.specs.View.{view}
 use Rattle.shr_tool.proofs.Imported.{import_outcome}
-use Rattle.shr_tool.proofs.Meanings.{passes_then}
+use Rattle.pool.proofs.Keeping.{passes_then}
 use Rattle.shr_tool.proofs.importing.import_pool.Goals as goal
 
 pub returns-clause-passes : goal.returns-clause-passes

@@ -1,7 +1,7 @@
 -- Each piece is taken and written, up to the end of the input or of the volume.
 use Rattle.std.proofs.Common.{◌≡◌, ◌*◌, ◌<◌, Err, refl, sym, ◌∙◌, ap, subst, arith}
 use Rattle.shr_tool.proofs.Imported.{ended_before, ended_in, ended_with, failed_behind, failed_in, goes_on, has_taken, spent_at, written_more}
-use Rattle.shr_tool.proofs.Meanings.{passes_then}
+use Rattle.pool.proofs.Keeping.{passes_then}
 use Rattle.shr_tool.proofs.importing.write_pieces.Goals as goal
 
 pub returns-in-Err-clause-imports : goal.returns-in-Err-clause-imports

@@ -1,6 +1,7 @@
 -- The pool holds the bay's reference, and gives the bay back as it left it.
 use Rattle.std.proofs.Common.{◌≡◌, ◌∙◌, ap, sym, subst, refl, inl, inr}
-use Rattle.pool.specs.View.{bay_in}
+use Rattle.pool.specs.View.{bay_in, book, slices_shown, view}
+use Rattle.pool.proofs.Booked.{book_seated}
 use Rattle.shr_tool.specs.Opened.{NotOpened, OpenedOn}
 use Rattle.shr_tool.proofs.Through.{pool_through, written_through, ground_in, held_by_meant, moment_in, opened_as, stops_mean, traced_through}
 use Rattle.shr_tool.proofs.Told.{task_for}
@@ -32,6 +33,7 @@ returns-in-Ok-clause-outcome g c =
       from = moment_in seen pool (λ r. r.now);
       clock = refl;
       faults = λ d. refl;
+      seated = book_seated (book (view (λ r. seen r.now) pool)) (slices_shown (view (λ r. seen r.now) pool)) opens.fit.0.running.set opens.fit.0.heeded;
       meant = opened_as pool (λ r. seen r.now) _ opens.meant opens.marks;
       tables = opens.mended;
       moments = λ a meant calm traced. stops_mean pool (λ r. seen r.now) _ a opens.meant meant calm traced;

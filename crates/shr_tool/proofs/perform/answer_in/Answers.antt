@@ -2,7 +2,7 @@
 use Rattle.std.proofs.Common.{Err, refl, ◌∙◌, ap}
 use Rattle.shr_script.specs.Reply.{refused_line}
 use Rattle.shr_tool.specs.Events.Event.{answered}
-use Rattle.shr_tool.proofs.Meanings.{sound_in}
+use Rattle.pool.proofs.Serving.{sound_in}
 use Rattle.shr_tool.proofs.Performing.{still_done}
 use Rattle.shr_tool.proofs.perform.answer_in.Goals as goal
 

@@ -1,7 +1,8 @@
 -- Each sector is written, up to the first that is refused.
 use Rattle.std.proofs.Common.{Err, ◌∙◌, ap, arith}
 use Rattle.pool.specs.View.{bay_in, view}
-use Rattle.shr_tool.proofs.Meanings.{size_small, sound_in}
+use Rattle.pool.proofs.Serving.{sound_in}
+use Rattle.shr_tool.proofs.Meanings.{size_small}
 use Rattle.shr_tool.proofs.Filled.{filled_start, filled_step, filled_all, filled_spent}
 use Rattle.shr_tool.proofs.perform.fill_sectors.Goals as goal
 

@@ -4,7 +4,7 @@ use Rattle.std.specs.Prelude.{decimal}
 use Rattle.shr_script.specs.declared.Command.TheVariants.{Size, Quit, Unbuilt}
 use Rattle.shr_script.specs.Reply.{as_line}
 use Rattle.shr_tool.specs.Events.Event.{answered}
-use Rattle.shr_tool.proofs.Meanings.{sound_in}
+use Rattle.pool.proofs.Serving.{sound_in}
 use Rattle.shr_tool.proofs.Performing.{still_done}
 use Rattle.shr_tool.proofs.perform.perform.Goals as goal
 

@@ -5,7 +5,7 @@ use Rattle.pool.specs.View.{view}
 use Rattle.pool.specs.Volume.{size_of}
 use Rattle.shr_tool.specs.Events.Event.{answered, spent}
 use Rattle.shr_tool.specs.Serving.{refuses}
-use Rattle.shr_tool.proofs.Meanings.{sound_in}
+use Rattle.pool.proofs.Serving.{sound_in}
 use Rattle.shr_tool.proofs.Performing.{fill_done, fill_outside, fill_spent}
 use Rattle.shr_tool.proofs.perform.perform_fill.Goals as goal
 use Rattle.shr_tool.proofs.perform.perform_fill.Goals.{then-count-size-via-then-count-size, then-count-size-via-else-count-size+then-sector-size}

@@ -2,7 +2,7 @@
 use Rattle.std.proofs.Common.{◌^◌}
 use Rattle.pool.specs.View.{view}
 use Rattle.shr_tool.proofs.Finishing.{limit_status, outcome_by, status_cause, status_limit}
-use Rattle.shr_tool.proofs.Meanings.{passes_then}
+use Rattle.pool.proofs.Keeping.{passes_then}
 use Rattle.shr_tool.proofs.Limits.{keeps_limit}
 use Rattle.shr_tool.proofs.serve.finish.serve_pool.Goals as goal
 

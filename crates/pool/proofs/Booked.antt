@@ -1,0 +1,235 @@
+-- What calls keep of a pool's book.
+use Rattle.std.specs.Prelude.{unwrap_or}
+use Rattle.std.specs.Option.{option_map_or}
+use Rattle.std.proofs.Common.{◌≡◌, ◌⊎◌, ℕ, ◌+◌, ◌*◌, ◌<◌, ◌≤◌, ◌==◌, ◌&&◌, not, Bool, true, false, if◌then◌else◌, List, [], ◌∷◌, length, slice_get, Option, Some, None, option_map, refl, sym, ap, ap₂, subst, ◌∙◌, inl, inr, arith, eqb-true, lt-ltb}
+use Rattle.std.proofs.lemmas.Bool.{and_parts, both_ways, cases_Bool, cases_eq}
+use Rattle.arrayvec.specs.ArrayVec.{ArrayVec}
+use Rattle.rack.specs.Several.{Several, Through}
+use Rattle.rack.specs.Seen.{Seen}
+use Rattle.array_image.specs.Arrays.{place_with}
+use Rattle.array_image.specs.States.{is_current}
+use Rattle.array_model.specs.declared.Seat.{Seat}
+use Rattle.array_model.specs.declared.Seat.TheVariants.{Missing}
+use Rattle.array_model.specs.View.{View as ArrayView, HasGeometry, has_gone, is_missing_seat, member_on, place_at, seat_reach, seat_unless, IsArray}
+use Rattle.array_core.specs.Seats.{gone, names, seat_of}
+use Rattle.array_sync.specs.Steps.{reach_on, rebuilt, resynced}
+use Rattle.array_sync.proofs.Rebuilt.{other_member, own_reach, place_found, reach_before, rebuilding}
+use Rattle.pool_state.specs.declared.contents.State.{State}
+use Rattle.pool_state.specs.declared.contents.Work.{Work}
+use Rattle.pool_state.specs.declared.contents.Work.TheVariants.{Resync, Rebuild, TakeOver, Begin, Reshape, Finish, Make, Zero, Ready, Extend, Close}
+use Rattle.raid_rack.specs.AllRuns.{IsOneCall}
+use Rattle.raid_rack.specs.Book.{IsAfter}
+use Rattle.raid_rack.specs.Losing.{geometry_then, only_then}
+use Rattle.raid_rack.specs.Moves.{IsHeeded, IsSeated, IsSet, KeepsArrays, LosesOnly, RaisesBy, noted_at}
+use Rattle.raid_rack.specs.Raid.{Raid}
+use Rattle.raid_rack.specs.RaidRack.{raid_in}
+use Rattle.raid_rack.specs.Works.{Does, is_due, is_rebuilding_seat, is_whole_row, stepped}
+use Rattle.raid_rack.specs.declared.arrays.RaidRack.{RaidRack}
+use Rattle.raid_rack.proofs.Raises.{raises_more, raises_none, raises_then}
+use Rattle.raid_rack.proofs.Rebuilt.{row_left}
+use Rattle.raid_rack.proofs.Seated.{gone_lost}
+use Rattle.pool.specs.View.{View, book}
+use Rattle.pool.specs.Keeping.{HasMarkedSeats, KeepsArray, KeepsBook, Raises, most_raised}
+
+-- ---- an array
+
+geometry_same : (u : ArrayView) → HasGeometry u.truth u.truth
+geometry_same u = record { set = refl; level = refl; size = refl; disks = refl; roles = refl; features = refl; position = refl }
+
+array_same : (s : State) (u : ArrayView) → KeepsArray s u u
+array_same s u = record { geometry = geometry_same u; young = refl; rows = omega arith; members = λ k low current. omega arith }
+
+-- the places of members go by the roles
+same_place : (u w : ArrayView) (k : ℕ) → HasGeometry u.truth w.truth → place_at w k ≡ place_at u k
+same_place u w k geometry = ap (λ (r : ArrayVec ℕ). unwrap_or (place_with r.items k) 16) geometry.roles
+
+array_then : (s t : State) (u v w : ArrayView) → ((p : ℕ) → is_current t p ≡ true → is_current s p ≡ true)
+    → KeepsArray s u v → KeepsArray t v w → KeepsArray t u w
+array_then s t u v w fewer one two = record {
+  geometry = geometry_then u.truth v.truth w.truth one.geometry two.geometry;
+  young = two.young ∙ one.young;
+  rows = let a = one.rows in let b = two.rows in omega (arith, a, b);
+  members = λ k low current.
+      let a = one.members k low (subst (λ p. is_current s p ≡ true) (same_place v w k two.geometry) (fewer (place_at w k) current)) in
+      let b = two.members k (subst (λ n. k < n) (sym one.geometry.disks) low) current in
+      omega (arith, a, b);
+}
+
+-- a member that isn't missing, where just those are that are marked or have gone
+not_marked : (current gone : Bool) → gone ≡ false → Some true ≡ Some (not (current && not gone)) → current ≡ false
+not_marked false gone none is = refl
+not_marked true true none is = absurd (both_ways true none refl)
+not_marked true false none is = absurd (let bad : Some true ≡ Some false = is in cc)
+
+none_gone : (w : ArrayView) (p : ℕ) → w.went ≡ [] → has_gone w p ≡ false
+none_gone w p heeded = ap (λ ps. names ps p) heeded
+
+array_lost : (s : State) (n : ℕ) (u w : ArrayView) (y : Seen) → IsSeated s n w y → w.went ≡ [] → LosesOnly u w → KeepsArray s u w
+array_lost s n u w y seated heeded only = record {
+  geometry = only.same.geometry;
+  young = only.same.young;
+  rows = let e = only.same.resync in omega (arith, e);
+  members = λ k low current.
+      elim (only.seats k) [
+        | inl same ↦
+            let e : (member_on w k).reach ≡ (member_on u k).reach =
+            ap₂ (λ (size : ℕ) (o : Option Seat). option_map_or (seat_reach size) o 0) only.same.geometry.size same in
+            omega (arith, e)
+        | inr lost ↦
+            absurd
+            (both_ways (is_current s (place_at w k))
+            (not_marked (is_current s (place_at w k)) (has_gone w (place_at w k)) (none_gone w (place_at w k) heeded)
+            (sym (ap (option_map is_missing_seat) lost) ∙ seated.marks k (subst (λ m. k < m) (sym only.same.geometry.disks) low)))
+            current)
+      ];
+}
+
+array_resynced : (s : State) (u : ArrayView) → KeepsArray s u (resynced u)
+array_resynced s u = record {
+  geometry = record { set = refl; level = refl; size = refl; disks = refl; roles = refl; features = refl; position = refl };
+  young = refl;
+  rows = omega arith;
+  members = λ k low current. omega arith;
+}
+
+array_rebuilt : (s t : State) (n : ℕ) (u : ArrayView) (x : Seen) (place : ℕ) → IsSeated s n u x
+    → option_map_or is_rebuilding_seat (seat_of u place) false ≡ true → KeepsArray t u (rebuilt u place)
+array_rebuilt s t n u x place seated rebuilds =
+    let left = row_left s n u x place seated rebuilds in
+    let found = place_found u place _ seated.is_array left.seat in
+    let p = found.0 in
+    let is = rebuilding u place p seated.is_array left found.1 found.2 in
+    record {
+      geometry = geometry_same u;
+      young = refl;
+      rows = omega arith;
+      members = λ k low current.
+          elim (cases_eq k p) [
+            | inl same ↦
+                let before = reach_before u place p (reach_on u place) is in
+                let after = own_reach u place p (reach_on u place) is in
+                let more : (member_on u p).reach ≤ (member_on (rebuilt u place) p).reach = omega (arith, before, after) in
+                subst (λ j. (member_on u j).reach ≤ (member_on (rebuilt u place) j).reach) (sym same) more
+            | inr other ↦
+                let e = ap (λ m. m.reach) (other_member u place p (reach_on u place) is k low other) in
+                omega (arith, e)
+          ];
+    }
+
+-- ---- all arrays
+
+pub book_same : (v : Raid) → KeepsBook v v
+book_same v n low = array_same v.state (v.arrays n)
+
+pub book_then : (v w z : Raid) → w.state.made ≡ v.state.made → IsAfter w.state z.state → KeepsBook v w → KeepsBook w z → KeepsBook v z
+book_then v w z made after one two n low =
+    array_then w.state z.state (v.arrays n) (w.arrays n) (z.arrays n) after.current (one n low) (two n (subst (λ k. n < k) (sym made) low))
+
+-- calls that lose members alone
+pub book_lost : (v w : Raid) (y : Seen) → IsSet w y → IsHeeded w → w.state.made ≡ v.state.made → KeepsArrays v w → KeepsBook v w
+book_lost v w y set heeded made keeps n low =
+    let there = subst (λ k. n < k) (sym made) low in
+    array_lost w.state n (v.arrays n) (w.arrays n) y (set.arrays n there) (heeded n there) (keeps n low)
+
+pub book_seated : (w : Raid) (y : Seen) → IsSet w y → IsHeeded w → HasMarkedSeats w
+book_seated w y set heeded n k low inside =
+    let u = w.arrays n in
+    let p = place_at u k in
+    (set.arrays n low).marks k inside
+    ∙ ap (λ gone. Some (not (is_current w.state p && not gone))) (none_gone u p (heeded n low))
+    ∙ ap (λ b. Some (not b)) (and_true (is_current w.state p))
+  where
+    and_true : (b : Bool) → (b && true) ≡ b
+    and_true true = refl
+    and_true false = refl
+
+-- a loss that is noted, and mended then
+seat_lost : (places : List ℕ) (place : ℕ) (o : Option Seat) → (option_map (seat_unless (names places) place) o ≡ o) ⊎ (option_map (seat_unless (names places) place) o ≡ Some Missing)
+seat_lost places place None = inl refl
+seat_lost places place (Some seat) = by (names places place)
+  where
+    by : (lost : Bool) → (Some (if lost then Missing else seat) ≡ Some seat) ⊎ (Some (if lost then Missing else seat) ≡ Some Missing)
+    by true = inr refl
+    by false = inl refl
+
+gone_only : (u : ArrayView) (places : List ℕ) → IsArray u → LosesOnly u (gone places u)
+gone_only u places is_array = record {
+  same = record { number = refl; geometry = geometry_same u; devices = refl; resync = refl; young = refl };
+  seats = λ k.
+      elim (seat_lost places (place_at u k) (slice_get u.seats k)) [
+        | inl same ↦ inl (gone_lost u places is_array k ∙ same)
+        | inr lost ↦ inr (gone_lost u places is_array k ∙ lost)
+      ];
+}
+
+pub book_noted : (v w : Raid) (x y : Seen) (places : List ℕ) → IsSet v x → IsSet w y → IsHeeded w → w.state.made ≡ v.state.made
+    → KeepsArrays (noted_at places v) w → KeepsBook v w
+book_noted v w x y places before set heeded made keeps =
+    book_lost v w y set heeded made
+    (λ n low.
+    only_then (v.arrays n) (gone places (v.arrays n)) (w.arrays n) (gone_only (v.arrays n) places (before.arrays n low).is_array)
+    (subst (λ (u : ArrayView). LosesOnly u (w.arrays n)) (ap (λ b. if b then gone places (v.arrays n) else v.arrays n) (lt-ltb n v.state.made low)) (keeps n low)))
+
+-- a step of array m
+book_stepped : (v w : Raid) (y : Seen) (m : ℕ) (next : ArrayView) (is_done : Bool) → IsSet w y → IsHeeded w → w.state.made ≡ v.state.made
+    → (m < v.state.made → KeepsArray w.state (v.arrays m) next)
+    → ((n : ℕ) → n < v.state.made → LosesOnly (stepped v m next is_done n) (w.arrays n)) → KeepsBook v w
+book_stepped v w y m next is_done set heeded made step only n low =
+    let there = subst (λ k. n < k) (sym made) low in
+    let seated = set.arrays n there in
+    elim (cases_Bool ((n == m) && is_done)) [
+      | inl done ↦
+          let same = eqb-true n m (and_parts (n == m) is_done done).0 in
+          let last = subst (λ (u : ArrayView). LosesOnly u (w.arrays n)) (ap (λ b. if b then next else v.arrays n) done) (only n low) in
+          array_then w.state w.state (v.arrays n) next (w.arrays n) (λ p is. is)
+          (subst (λ k. KeepsArray w.state (v.arrays k) next) (sym same) (step (subst (λ k. k < v.state.made) same low)))
+          (array_lost w.state n next (w.arrays n) y seated (heeded n there) last)
+      | inr idle ↦
+          array_lost w.state n (v.arrays n) (w.arrays n) y seated (heeded n there)
+          (subst (λ (u : ArrayView). LosesOnly u (w.arrays n)) (ap (λ b. if b then next else v.arrays n) idle) (only n low))
+    ]
+
+pub book_worked : (work : Work) (v w : Raid) (x y : Seen) (answered : Bool) → IsSet v x → IsSet w y → IsHeeded w → is_due v work ≡ true
+    → Does work v w x y answered → KeepsBook v w
+book_worked (Resync m) v w x y answered before set heeded due does =
+    book_stepped v w y m (resynced (v.arrays m)) does.steps.is_done set heeded does.steps.brings.book.same.made (λ low. array_resynced w.state (v.arrays m)) does.steps.arrays
+book_worked (Rebuild m place) v w x y answered before set heeded due does =
+    let u = v.arrays m in
+    let rebuilds = option_map_or is_rebuilding_seat (seat_of u place) false in
+    let parts = and_parts _ (rebuilds && is_whole_row u.truth.resync_offset) due in
+    book_stepped v w y m (rebuilt u place) does.steps.is_done set heeded does.steps.brings.book.same.made
+    (λ low. array_rebuilt v.state w.state m u x place (before.arrays m low) (and_parts rebuilds (is_whole_row u.truth.resync_offset) parts.1).0) does.steps.arrays
+book_worked (TakeOver m) v w x y answered before set heeded due does = absurd does
+book_worked (Begin m place) v w x y answered before set heeded due does = absurd does
+book_worked (Reshape m) v w x y answered before set heeded due does = absurd does
+book_worked (Finish m) v w x y answered before set heeded due does = absurd does
+book_worked (Make m height) v w x y answered before set heeded due does = absurd does
+book_worked (Zero m) v w x y answered before set heeded due does = absurd does
+book_worked (Ready m) v w x y answered before set heeded due does = absurd does
+book_worked Extend v w x y answered before set heeded due does = absurd does
+book_worked Close v w x y answered before set heeded due does =
+    book_lost v w y set heeded does.1.brings.book.same.made does.1.arrays
+
+-- ---- numbers
+
+-- single calls of the arrays, so many at most
+through_raises : {R : Type 0} (x : RaidRack R) (calls : List (RaidRack R)) (y : RaidRack R)
+    → Through (λ a b. IsOneCall (raid_in a) (raid_in b)) x calls y
+    → RaisesBy (18 * length calls) (raid_in x) (raid_in y)
+through_raises x [] y same = subst (λ r. RaisesBy 0 (raid_in x) (raid_in r)) (sym same) (raises_none (raid_in x))
+through_raises x (z ∷ calls) y through =
+    let rest = through_raises z calls y through.1 in
+    raises_more (18 + 18 * length calls) (18 * length (z ∷ calls)) (raid_in x) (raid_in y) (omega arith)
+    (raises_then 18 (18 * length calls) (raid_in x) (raid_in z) (raid_in y) through.0.made through.0.raises rest)
+
+pub several_raise : {R : Type 0} (most k : ℕ) (x y : RaidRack R) → 18 * most ≤ k → Several (λ a b. IsOneCall (raid_in a) (raid_in b)) most x y
+    → RaisesBy k (raid_in x) (raid_in y)
+several_raise most k x y enough several =
+    let few = several.few in
+    raises_more (18 * length several.calls) k (raid_in x) (raid_in y) (omega (arith, few, enough)) (through_raises x several.calls y several.through)
+
+pub raises_fewer : (least most : ℕ) (x y : View) → least ≤ most → Raises least x y → Raises most x y
+raises_fewer least most x y fewer raises = raises_more (most_raised * least) (most_raised * most) (book x) (book y) (omega (arith, fewer)) raises
+
+pub raises_still : (calls : ℕ) (x : View) → Raises calls x x
+raises_still calls x = raises_more 0 (most_raised * calls) (book x) (book x) (omega arith) (raises_none (book x))

@@ -1,0 +1,35 @@
+-- What calls of a pool keep of its book: the state and the arrays, by which sectors are spent.
+use Rattle.std.specs.Prelude.{◌≡◌, ℕ, ◌*◌, ◌<◌, ◌≤◌, true, not, slice_get, Some, option_map}
+use Rattle.pool_state.specs.declared.contents.State.{State}
+use Rattle.array_image.specs.States.{is_current}
+use Rattle.array_model.specs.View.{View as ArrayView, HasGeometry, is_missing_seat, member_on, place_at}
+use Rattle.raid_rack.specs.Moves.{RaisesBy}
+use Rattle.raid_rack.specs.Raid.{Raid}
+use Rattle.pool.specs.View.{View, book}
+
+-- An array after calls: it has the members and the sectors that it had, no row is left to resync that wasn't, and each member counts as
+-- far as it did, unless its drive is marked missing by the state.
+pub record KeepsArray (s : State) (u w : ArrayView) : Type 0 where
+  pub geometry : HasGeometry u.truth w.truth
+  pub young : w.young ≡ u.young
+  pub rows : u.resync ≤ w.resync
+  pub members : (k : ℕ) → k < u.truth.raid_disks → is_current s (place_at w k) ≡ true → (member_on u k).reach ≤ (member_on w k).reach
+
+-- So each array of a book. What is spent after calls and wasn't before them is so by drives that were marked meanwhile, or by numbers that
+-- came to their end.
+abbrev pub KeepsBook : Raid → Raid → Type 0
+KeepsBook v w = (n : ℕ) → n < v.state.made → KeepsArray w.state (v.arrays n) (w.arrays n)
+
+-- In each array just those members are missing whose drives are marked.
+abbrev pub HasMarkedSeats : Raid → Type 0
+HasMarkedSeats v =
+    (n k : ℕ) → n < v.state.made → k < (v.arrays n).truth.raid_disks
+    → option_map is_missing_seat (slice_get (v.arrays n).seats k) ≡ Some (not (is_current v.state (place_at (v.arrays n) k)))
+
+-- the most by which a call raises the log's number, the epoch, and each array's events
+abbrev pub most_raised : ℕ
+most_raised = 306
+
+-- so many calls
+abbrev pub Raises : ℕ → View → View → Type 0
+Raises calls x y = RaisesBy (most_raised * calls) (book x) (book y)
