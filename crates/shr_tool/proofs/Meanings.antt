@@ -1,33 +1,19 @@
 -- What calls of a pool in a row do to the array that its volume holds.
-use Rattle.std.proofs.Common.{◌≡◌, ℕ, ◌<◌, ◌^◌, refl, sym, ◌∙◌, subst, inl, inr, arith}
-use Rattle.std.proofs.lemmas.Bool.{both_ways, cases_Bool}
-use Rattle.rack.specs.Seen.{Image, Rose, Seen}
-use Rattle.rack.specs.Moments.{IsSound, Leaves}
-use Rattle.rack.specs.Joins.{leaves_same, leaves_then, leaves_weaker, rose_before, rose_since, stays_same, stays_then}
-use Rattle.rack.specs.Sequences.{WritesOnly}
-use Rattle.rack.proofs.Writing.{only_none, only_then}
+use Rattle.std.proofs.Common.{◌≡◌, ◌<◌, ◌^◌, sym, subst, arith}
+use Rattle.rack.specs.Seen.{Image, Seen}
+use Rattle.rack.specs.Moments.{Leaves}
+use Rattle.rack.specs.Joins.{leaves_then, leaves_weaker}
 use Rattle.rack.specs.Values.{MayLeave}
 use Rattle.flat_array.specs.Array.{FlatArray}
-use Rattle.array_image.specs.Arrays.{arrays_in, replayed}
-use Rattle.array_image.specs.Places.{log_slice}
-use Rattle.array_image.specs.States.{is_current}
-use Rattle.slice_rack.specs.Slices.{Slices, disk_of, sectors_of}
-use Rattle.slice_rack.specs.Sliced.{sliced}
-use Rattle.slice_rack.specs.SliceRack.{below_of, tables}
-use Rattle.slice_rack.specs.Laws as slices
-use Rattle.lvm_group.specs.Laws as volumes
+use Rattle.slice_rack.specs.Slices.{Slices}
 use Rattle.lvm_group.specs.Volume.{linear}
 use Rattle.lvm_group.proofs.Counted.{no_more_sectors}
-use Rattle.raid_rack.specs.Laws.{raid_sound, stops_inside}
-use Rattle.raid_rack.specs.RaidRack.{raid_in, raid_seen, slices_in, slices_seen}
+use Rattle.raid_rack.specs.RaidRack.{raid_seen}
 use Rattle.pool.specs.declared.Pool.{Pool}
-use Rattle.slice_rack.specs.Runs.{IsSliced}
 use Rattle.lvm_group.specs.Runs.{Linear}
-use Rattle.lvm_group.specs.Shown.{contents_of}
-use Rattle.raid_rack.specs.Book.{after_same, after_then}
-use Rattle.pool.specs.View.{View, arrays_of, bay_in, book, contents_in, view, volume}
-use Rattle.pool.specs.Volume.{Does, Holds, Means, size_of, unchanged}
-use Rattle.pool.specs.Calls.{DriveWent, Marks, MarksBut, Passes}
+use Rattle.pool.specs.View.{View, arrays_of, contents_in, view, volume}
+use Rattle.pool.specs.Volume.{Does, Holds, Means, size_of}
+use Rattle.pool.specs.Calls.{Passes}
 
 -- a volume has fewer sectors than a number of 52 bits says
 pub size_small : {R : Type 0} (seen : R → Seen) (pool : Pool R) → (volume (view seen pool)).fit → size_of (view seen pool) < 2 ^ 52
