@@ -1,4 +1,5 @@
 pub mod NewVolume
+pub mod NewMeaning
 pub mod NewTargets
 pub mod Written
 pub mod TextStands

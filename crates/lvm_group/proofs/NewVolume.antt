@@ -65,7 +65,7 @@ new_writable extent sectors numbers few holds =
       short = omega arith;
     }
 
-new_runs : (pool : List ℕ) (extent : ℕ) (sectors : ℕ → ℕ) (numbers : List ℕ) → length numbers ≤ 16 → linear_in (length numbers) (new_group pool extent sectors numbers) ≡ new_volume extent numbers
+pub new_runs : (pool : List ℕ) (extent : ℕ) (sectors : ℕ → ℕ) (numbers : List ℕ) → length numbers ≤ 16 → linear_in (length numbers) (new_group pool extent sectors numbers) ≡ new_volume extent numbers
 new_runs pool extent sectors numbers few =
     ap (λ (runs : List Run). record { extent = extent; arrays = length numbers; runs = runs }) (runs_back numbers (grown [] numbers) few (grown_within [] numbers refl))
 
@@ -125,7 +125,7 @@ new_settled pool extent a b numbers text labels headers some few holds short rea
 
 -- ---- as it is made
 
-own_pvs_same : (pool : List ℕ) (f g : ℕ → ℕ) (array : ℕ) (numbers : List ℕ) → ((i : ℕ) → i < array + length numbers → f i ≡ g i) → own_pvs pool f array numbers ≡ own_pvs pool g array numbers
+pub own_pvs_same : (pool : List ℕ) (f g : ℕ → ℕ) (array : ℕ) (numbers : List ℕ) → ((i : ℕ) → i < array + length numbers → f i ≡ g i) → own_pvs pool f array numbers ≡ own_pvs pool g array numbers
 unfolding own_pvs
 own_pvs_same pool f g array [] same = refl
 own_pvs_same pool f g array (number ∷ others) same =

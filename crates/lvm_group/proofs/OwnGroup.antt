@@ -242,6 +242,11 @@ own_inside pool extent joined g a own arrays small =
           (extent_inside extent joined a.sectors (runs_in g.lvs) e is.placed within).1;
     }
 
+-- an extent of it lies inside an array
+pub own_extent : (pool : List ℕ) (extent joined : ℕ) (sectors : ℕ → ℕ) (g : Group) (e : ℕ) → is_own_group pool extent sectors joined g ≡ true → e < extents_of (runs_in g.lvs)
+    → ((place_of (runs_in g.lvs) e).array < joined) × (data_start + (place_of (runs_in g.lvs) e).extent * extent + extent ≤ sectors (place_of (runs_in g.lvs) e).array)
+own_extent pool extent joined sectors g e own within = extent_inside extent joined sectors (runs_in g.lvs) e (own_placed pool extent joined sectors g own).placed within
+
 -- its extents have the pool's size
 pub own_sized : (pool : List ℕ) (extent joined : ℕ) (sectors : ℕ → ℕ) (g : Group) → is_own_group pool extent sectors joined g ≡ true → g.extent_size ≡ extent
 own_sized pool extent joined sectors g own = (own_placed pool extent joined sectors g own).sized

@@ -8,8 +8,9 @@ ghost use Rattle.lvm_group.specs.Made.{new_group, text_at};
 ghost use Rattle.lvm_group.specs.Runs.{extents_of};
 
 use crate::making::{Room, lay_out, take_room};
-use crate::writing::{label_sector, piece, text_header};
+use crate::writing::{label_sector, labels_fit, own_locations_fit, piece, text_header};
 use arrayvec::ArrayVec;
+use lvm_label::{encoded_headers_decode, encoded_labels_decode};
 use rack::NoMemory;
 use shr_base::Id;
 use std::alloc::Global;
@@ -47,7 +48,7 @@ pub struct NewGroup {
 
 impl NewGroup {
     ghost use Rattle.lvm_group.specs.Founding as spec;
-    ghost use Rattle.lvm_group.specs.Founding.{IsGroupOf};
+    ghost use Rattle.lvm_group.specs.Founding.{IsGroupOf, IsReadAgain};
     ghost use Rattle.lvm_group.specs.Made.{new_sector};
 
     /// The group of arrays of so many sectors, as many as there are numbers, of which each has as many extents as its number says.
@@ -63,8 +64,12 @@ impl NewGroup {
         requires below { AreBelow numbers.items }
         requires holds { HoldAll extent (slice_index sectors.items) 0 numbers.items }
         requires small { (array : ℕ) → array < length numbers.items → slice_index sectors.items array < 2 ^ 52 }
-        ensures { IfOk result (λ group. IsGroupOf pool.now.0 extent sectors.items numbers.items group) }
+        ensures group { IfOk result (λ group. IsGroupOf pool.now.0 extent sectors.items numbers.items group) }
+        // What it says of the arrays' sectors is read again by the rules of a group.
+        ensures read_again { IfOk result (λ group. IsReadAgain pool.now.0 extent sectors.items numbers.items) }
     {
+        encoded_labels_decode();
+        encoded_headers_decode();
         let mut room = take_room(alloc)?;
         lay_out(
             pool,
@@ -73,6 +78,8 @@ impl NewGroup {
             numbers.as_slice(),
             &mut room,
         );
+        labels_fit(pool, sectors.as_slice());
+        own_locations_fit(room.text.as_slice());
         Ok(NewGroup {
             pool: *pool,
             extent: u64::from(extent),

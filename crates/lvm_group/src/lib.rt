@@ -23,7 +23,8 @@
 //! before a header has the text. Whatever a stop leaves after it means that group and that volume, and no
 //! array is bad (specs/Made.antt). Whether a volume can be extended and the runs that it then has are told by
 //! specs/Growth.antt. Where the arrays' members are written without them, a [`NewGroup`] says what each sector of the arrays is
-//! to hold, and [`Volume::over`] is the volume on them.
+//! to hold, and [`Volume::over`] is the volume on them: arrays that hold these sectors mean that volume, with no array bad, and
+//! behind the first 2048 of each they are zeros (`IsReadAgain` of specs/Founding.antt).
 //!
 //! **Extending.** [`Volume::extend`] writes a new text behind the last one of each array, and once all is durable
 //! the headers with it: a stop at any moment leaves some of the first writes, or all of them and some of the

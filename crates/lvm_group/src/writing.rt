@@ -1,6 +1,6 @@
 //! Writing labels, headers and texts on the arrays.
 
-ghost use Rattle.std.specs.Prelude.{◌≡◌, ◌<◌, ◌≤◌, ◌+◌, ◌*◌, ◌^◌, ◌++◌, ℕ, List, OnOk, length};
+ghost use Rattle.std.specs.Prelude.{◌≡◌, ◌<◌, ◌≤◌, ◌+◌, ◌*◌, ◌^◌, ◌++◌, ℕ, List, OnOk, length, slice_index};
 ghost use Rattle.lvm_label.specs.Fields.{padded};
 ghost use Rattle.lvm_label.specs.Header.{IsLocation, header_bytes};
 ghost use Rattle.lvm_label.specs.Label.{IsLabel, label_bytes};
@@ -184,6 +184,17 @@ pub(crate) fn own_labels_fit<R: Rack>(rack: &R, pool: &Id, arrays: u32)
 {
     for array in 0..arrays {
         let _ = label_sector(pool, array, rack.sectors(array));
+    }
+}
+
+/// So have those of arrays of these sizes.
+pub(crate) fn labels_fit(pool: &Id, sizes: &[u64])
+    requires few { length sizes.now ≤ 16 }
+    requires small { (array : ℕ) → array < length sizes.now → slice_index sizes.now array < 2 ^ 52 }
+    ensures { (array : ℕ) → array < length sizes.now → IsLabel (own_label pool.now.0 array (slice_index sizes.now array)) }
+{
+    for array in 0..sizes.len() as u32 {
+        let _ = label_sector(pool, array, sizes[array as usize]);
     }
 }
 

@@ -31,12 +31,12 @@ use Rattle.new_pool.specs.Contents.{IsNewPool}
 use Rattle.new_pool.proofs.Identities.{newest_is, no_drive, seat_at}
 
 -- the gate of a new drive is closed, with number 0
-closed_gate : gate_of first_gate ≡ Some (record { is_open = false; number = 0 })
+pub closed_gate : gate_of first_gate ≡ Some (record { is_open = false; number = 0 })
 unfolding gate_of bytes_at put_at number_at times_x_to times_x
 closed_gate = refl
 
 -- the first place that passes, of those of which none does
-none_found : (test : ℕ → Bool) (ps : List ℕ) → ((p : ℕ) → names ps p ≡ true → test p ≡ false) → find test ps ≡ None
+pub none_found : (test : ℕ → Bool) (ps : List ℕ) → ((p : ℕ) → names ps p ≡ true → test p ≡ false) → find test ps ≡ None
 none_found test [] none = refl
 none_found test (p ∷ ps) none =
     ap (λ b. if b then Some p else find test ps) (none p (names_first p ps)) ∙ none_found test ps (λ q among. none q (names_later p ps q among))
@@ -48,10 +48,10 @@ module _ (plan : NewPool) (birth : Birth) (disks : Disks) (c : Image) (is : IsNe
   abbrev ids : Identities
   ids = identities_of disks c
 
-  abbrev logs : Image
+  abbrev pub logs : Image
   logs = logs_of disks (seat_of s disks ids) c
 
-  gate_block : (p : ℕ) → p < disks.count → logs (log_slice p) gate_sector ≡ first_gate
+  pub gate_block : (p : ℕ) → p < disks.count → logs (log_slice p) gate_sector ≡ first_gate
   gate_block p low =
       let wide = is.logs p low in
       ap (λ n. if (n == 0) && nat_lt gate_sector log_sectors then option_map_or (λ d. option_map_or (λ (e : Extent). c d (e.first + gate_sector)) (log_extent (disks.sectors d)) []) (seat_of s disks ids (place_of (log_slice p))) [] else []) (slice_of_log p)
@@ -60,7 +60,7 @@ module _ (plan : NewPool) (birth : Birth) (disks : Disks) (c : Image) (is : IsNe
       ∙ ap (λ b. option_map_or (λ (e : Extent). c p (e.first + gate_sector)) (if b then Some (record { first = state_sector; sectors = log_sectors }) else None) []) (le-leb arrays_first (disks.sectors p) (omega (arith, wide)))
       ∙ (is.drives p low).gate
 
-  current_low : (p : ℕ) → names (current_places s) p ≡ true → p < disks.count
+  pub current_low : (p : ℕ) → names (current_places s) p ≡ true → p < disks.count
   current_low p among = elim (cases_lt p disks.count) [
     | inl low ↦ low
     | inr high ↦ absurd (both_ways (is_current s p) (no_drive plan birth disks c is p high) (sym (names_current s p) ∙ among))
@@ -114,7 +114,7 @@ module _ (plan : NewPool) (birth : Birth) (disks : Disks) (c : Image) (is : IsNe
 
   -- ---- its logs
 
-  good_log : (p : ℕ) → names (current_places s) p ≡ true → is_bad_log (current_places s) logs p ≡ false
+  pub good_log : (p : ℕ) → names (current_places s) p ≡ true → is_bad_log (current_places s) logs p ≡ false
   good_log p among =
       ap (λ o. (is_there (logs (log_slice p) gate_sector) && is_none o) || option_map_or (λ (a : GateAt). (a.place == p) && is_none (record_in logs a.place a.gate.number)) (pending_at (current_places s) logs) false) (gate_is p among)
       ∙ ap (λ o. (is_there (logs (log_slice p) gate_sector) && false) || option_map_or (λ (a : GateAt). (a.place == p) && is_none (record_in logs a.place a.gate.number)) o false) none_pending

@@ -4,3 +4,5 @@ pub mod Truths
 pub mod Rows
 pub mod Sound
 pub mod Values
+pub mod Undamaged
+pub mod Meaning

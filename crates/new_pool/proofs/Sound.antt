@@ -197,6 +197,17 @@ module _ (plan : NewPool) (birth : Birth) (disks : Disks) (c : Image) (is : IsNe
         ap (λ (v : List ℕ). length v) (slice_at plan birth disks c is n a at (place j) (data_sector + sector) among (omega (arith, inside)))
         ∙ is.sized (place j) (a.first + (data_sector + sector)) drive (omega (arith, room, inside))
 
+    -- that of a member, as far as it counts
+    pub value_at_sized : (sector j : ℕ) → j < k → sector < (member_in s slices n u j).reach → length (slices (member_slice (member_in s slices n u j).place n) (data_sector + sector)) ≡ 512
+    value_at_sized sector j low reached =
+        let among = among_at j low in
+        let drive = member_low plan birth disks c is n a at (place j) among in
+        let reach : (member_in s slices n u j).reach ≡ a.size =
+        ap (λ b. if b then option_map_or (λ (own : Super). if is_rebuilding own then own.recovery_offset else a.size) (super_in s slices n (place j)) 0 else 0)
+        (drive_current plan birth is.is_plan (place j) (subst (λ m. place j < m) is.count drive))
+        ∙ ap (λ o. option_map_or (λ (own : Super). if is_rebuilding own then own.recovery_offset else a.size) o 0) (super_at (place j) among) in
+        value_sized sector j (subst (λ size. sector < size) reach reached) low
+
     abbrev pub layout_by : Bool → Layout
     layout_by two = if int_eq (pos (if two then 1 else 5)) (pos 1) then mirror k else parity k
 

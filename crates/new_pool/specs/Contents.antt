@@ -1,10 +1,11 @@
--- The contents of a new pool's disks.
-use Rattle.std.specs.Prelude.{◌≡◌, ◌≢◌, ℕ, ◌+◌, ◌<◌, ◌≤◌, true, false, List, length, slice_get, Some}
+-- The contents of a new pool's disks, and what they mean.
+use Rattle.std.specs.Prelude.{◌≡◌, ◌≢◌, ℕ, ◌+◌, ◌<◌, ◌≤◌, true, false, List, [], ◌∷◌, length, replicate, slice_get, Some}
 use Rattle.rack.specs.Seen.{Image}
 use Rattle.md_super.specs.declared.superblock.Super.{Super}
 use Rattle.array_image.specs.Places.{arrays_first, array_id, drive_id, super_sector}
 use Rattle.array_image.specs.Supers.{super_of}
 use Rattle.pool_image.specs.Disks.{Disks}
+use Rattle.pool_image.specs.Meaning.{Volume, meaning}
 use Rattle.pool_format.specs.declared.Birth.{Birth}
 use Rattle.pool_format.specs.declared.planning.NewArray.{NewArray}
 use Rattle.pool_format.specs.declared.planning.NewPool.{NewPool}
@@ -30,3 +31,10 @@ pub record IsNewPool (plan : NewPool) (birth : Birth) (disks : Disks) (c : Image
   pub others :
       (n d : ℕ) (a : NewArray) (t : Super) → slice_get plan.arrays.items n ≡ Some a → has a.members.items d ≡ false → d < disks.count
       → super_of (c d (a.first + super_sector)) ≡ Some t → t.set_id.0 ≢ array_id birth.pool n
+
+-- The meaning of contents isn't refused: it is one volume of so many sectors, which are zeros.
+pub record MeanZeros (disks : Disks) (c : Image) (sectors : ℕ) : Type 0 where
+  pub volume : Volume
+  pub meant : meaning disks c ≡ Some (volume ∷ [])
+  pub size : volume.sectors ≡ sectors
+  pub zeros : (s : ℕ) → s < sectors → volume.contents s ≡ replicate 512 0

@@ -1,21 +1,22 @@
 -- The plan of a rack's disks is sound, and the disks have room for it.
-use Rattle.std.proofs.Common.{◌≡◌, ℕ, zero, suc, ◌+◌, ◌*◌, ◌<◌, ◌≤◌, ◌^◌, ◌==◌, nat_le, not, Bool, true, false, List, [], ◌∷◌, if◌then◌else◌, filter, length, map, position, remove, sum, get_or, lt-ltb, slice_get, slice_index, Some, None, Ok, refl, sym, ap, subst, unwrap_or, ◌∙◌, inl, inr, eq-eqb, arith}
-use Rattle.std.specs.List.{fold, range_with_len, position_or_len}
+use Rattle.std.proofs.Common.{◌≡◌, ℕ, zero, suc, ◌+◌, ◌*◌, ◌<◌, ◌≤◌, ◌^◌, ◌==◌, nat_le, not, Bool, true, false, List, [], ◌∷◌, if◌then◌else◌, drop, filter, length, map, position, remove, sum, sum_by, get_or, lt-ltb, slice_get, slice_index, Some, None, Ok, refl, sym, ap, subst, unwrap_or, ◌∙◌, inl, inr, eq-eqb, arith}
+use Rattle.std.specs.List.{fold, range_with_len, position_or_len, zip}
 use Rattle.std.proofs.Math.Nat.{mul-le-mul_right, mul-le-mul_left}
 use Rattle.std.proofs.lemmas.Bool.{both_ways, cases_lt}
+use Rattle.std.proofs.lemmas.List.Sums.{sum_by-cons}
 use Rattle.std.proofs.lemmas.Option.{get_or_from_slice_get, slice_get_within}
 use Rattle.rack.specs.Seen.{Seen}
 use Rattle.layer_plan.specs.declared.Layer.{Layer}
 use Rattle.layer_plan.specs.declared.Layers.{Layers}
 use Rattle.layer_plan.specs.declared.PlanError.TheVariants.{TooFew, NoRoom}
-use Rattle.layer_plan.specs.Layering.{IsLayering, array_of, places_reaching}
-use Rattle.layer_plan.specs.Slicing.{slicing_capacity}
+use Rattle.layer_plan.specs.Layering.{IsLayering, array_of, is_redundant, layer_between, places_reaching}
+use Rattle.layer_plan.specs.Slicing.{IsBest, array_capacity, slicing_capacity}
 use Rattle.shr_base.specs.Units.{units_of}
 use Rattle.pool_state.specs.Valid.{is_extent}
 use Rattle.array_image.specs.Places.{arrays_first}
 use Rattle.pool_format.specs.declared.planning.NewArray.{NewArray}
 use Rattle.pool_format.specs.declared.planning.NewPool.{NewPool}
-use Rattle.pool_format.specs.Plan.{AreLow, HasRoom, IsPlan, IsPlanOf, arrays_from, has, slices_before, units_on}
+use Rattle.pool_format.specs.Plan.{AreLow, HasRoom, IsPlan, IsPlanOf, arrays_from, capacity_of, has, slices_before, units_on}
 use Rattle.pool_format.proofs.Lists.{first_has, got, no_element}
 use Rattle.pool_format.proofs.Units.{SaysPlan, all_small, extent_bounds, never_refused, unit_at, units_count, units_room}
 use Rattle.pool_format.proofs.Laying.{member_inside}
@@ -56,6 +57,34 @@ others_some (x ∷ y ∷ ys) (suc i) two some =
     let here = some 0 x refl in
     let more : 0 + x ≤ sum (remove (x ∷ y ∷ ys) (suc i)) = fold_least (0 + x) (remove (y ∷ ys) i) in
     omega (arith, here, more)
+
+-- ---- what the layers offer
+
+-- a layer offers what its array does
+steps_capacity : (units : List ℕ) (steps : List (ℕ × ℕ)) → sum_by (λ (l : Layer). l.extents) (filter is_redundant (map (layer_between units) steps)) ≡ slicing_capacity (map array_of (filter is_redundant (map (layer_between units) steps)))
+steps_capacity units [] = refl
+steps_capacity units (step ∷ steps) = of (is_redundant (layer_between units step)) (steps_capacity units steps)
+  where
+    of : (b : Bool) → sum_by (λ (l : Layer). l.extents) (filter is_redundant (map (layer_between units) steps)) ≡ slicing_capacity (map array_of (filter is_redundant (map (layer_between units) steps)))
+        → sum_by (λ (l : Layer). l.extents) (if b then layer_between units step ∷ filter is_redundant (map (layer_between units) steps) else filter is_redundant (map (layer_between units) steps))
+        ≡ slicing_capacity (map array_of (if b then layer_between units step ∷ filter is_redundant (map (layer_between units) steps) else filter is_redundant (map (layer_between units) steps)))
+    of true rest =
+        sum_by-cons (λ (l : Layer). l.extents) (layer_between units step) (filter is_redundant (map (layer_between units) steps))
+        ∙ ap (λ n. (layer_between units step).extents + n) rest
+        ∙ sym (sum_by-cons array_capacity (array_of (layer_between units step)) (map array_of (filter is_redundant (map (layer_between units) steps))))
+    of false rest = rest
+
+layering_capacity : (units : List ℕ) (layers : List Layer) → IsLayering units layers → sum_by (λ (l : Layer). l.extents) layers ≡ slicing_capacity (map array_of layers)
+layering_capacity units layers layering =
+    subst (λ ls. sum_by (λ (l : Layer). l.extents) ls ≡ slicing_capacity (map array_of ls)) (sym layering.between) (steps_capacity units (zip layering.cuts (drop 1 layering.cuts)))
+
+-- and the array that it becomes
+arrays_offer : (first extent : ℕ) (layers : List Layer) → sum (map (λ (a : NewArray). a.extents) (arrays_from first extent layers)) ≡ sum_by (λ (l : Layer). l.extents) layers
+arrays_offer first extent [] = refl
+arrays_offer first extent (layer ∷ others) =
+    sum_by-cons (λ n. n) layer.extents (map (λ (a : NewArray). a.extents) (arrays_from (first + (layer.height * extent + 4096)) extent others))
+    ∙ ap (λ n. layer.extents + n) (arrays_offer (first + (layer.height * extent + 4096)) extent others)
+    ∙ sym (sum_by-cons (λ (l : Layer). l.extents) layer others)
 
 module _ (x : Seen) (extent : ℕ) (is : is_extent extent ≡ true) (bounded : (d : ℕ) → d < x.disks → x.sectors d < 2 ^ 48)
     (most : x.disks ≤ 16) (units : List ℕ) (units_are : units ≡ units_on x extent) (layers : Layers)
@@ -98,13 +127,17 @@ module _ (x : Seen) (extent : ℕ) (is : is_extent extent ≡ true) (bounded : (
       (arrays_are : plan.arrays.items ≡ arrays_from arrays_first extent layers.layers.items)
       (few : length layers.layers.items ≤ 16) (bound : layers.bound ≡ sum (remove units layers.spared))
       (tight : layers.bound ≡ layers.capacity) (capacity : layers.capacity ≡ slicing_capacity (map array_of layers.layers.items)) where
-    pub planned_of : IsPlanOf (units_on x extent) extent plan
-    planned_of = record {
+    pub planned_of : IsBest units layers.capacity → IsPlanOf (units_on x extent) extent plan
+    planned_of best = record {
       extent_is = extent_is;
       units_are = plan_units ∙ units_are;
       layers = layers.layers.items;
       layering = subst (λ us. IsLayering us layers.layers.items) units_are layering;
       arrays_are = arrays_are;
+      best =
+          subst (λ us. IsBest us (capacity_of plan)) units_are
+          (subst (IsBest units)
+          (capacity ∙ sym (layering_capacity units layers.layers.items layering) ∙ sym (arrays_offer arrays_first extent layers.layers.items) ∙ ap (λ (xs : List NewArray). sum (map (λ (a : NewArray). a.extents) xs)) (sym arrays_are)) best);
     }
 
     arrays_many : length plan.arrays.items ≡ length layers.layers.items

@@ -7,7 +7,7 @@ use Rattle.parity.specs.Xor.{xor_all}
 use Rattle.raid_map.specs.LeftSymmetric.{StandsAt, parity_at, row_at}
 use Rattle.array_image.specs.Places.{data_sector}
 use Rattle.lvm_group.specs.declared.founding.NewGroup.{NewGroup}
-use Rattle.lvm_group.specs.Founding.{IsGroupOf, extent_of, numbers_of, pool_of, sectors_of}
+use Rattle.lvm_group.specs.Founding.{IsGroupOf, IsReadAgain, extent_of, numbers_of, pool_of, sectors_of}
 use Rattle.lvm_group.specs.Made.{new_sector}
 use Rattle.pool_format.specs.declared.Birth.{Birth}
 use Rattle.pool_format.specs.declared.planning.NewArray.{NewArray}
@@ -32,6 +32,10 @@ array_sector plan birth number sector = new_sector birth.pool plan.extent (slice
 -- the group of a new pool
 abbrev pub IsNewGroup : NewPool → Birth → NewGroup → Type 0
 IsNewGroup plan birth group = IsGroupOf birth.pool plan.extent (sizes_of plan) (extents_of plan) group
+
+-- arrays that hold what the plan says mean that group, and none of them is bad
+abbrev pub IsGroupRead : NewPool → Birth → Type 0
+IsGroupRead plan birth = IsReadAgain birth.pool plan.extent (sizes_of plan) (extents_of plan)
 
 -- what an array of a group holds
 abbrev pub group_sector : NewGroup → ℕ → ℕ → List ℕ

@@ -14,7 +14,7 @@ use Rattle.pool_format.specs.Arrays.{new_views}
 use Rattle.pool_format.specs.Parts.{new_state}
 use Rattle.pool_format.specs.Drives.{IsNewDrive, IsWhole}
 use Rattle.pool_format.specs.Plan.{HasRoom, IsPlan, IsPlanOf, units_on}
-use Rattle.pool_format.specs.Data.{extents_of}
+use Rattle.pool_format.specs.Data.{IsGroupRead, extents_of}
 use Rattle.pool_format.specs.Writing.{IsPart}
 
 -- nothing was made, for this reason
@@ -23,7 +23,7 @@ IsRefusedFor why result = MatchResult result (λ made. ⊥) (λ back. back.why �
 
 -- The pool of the plan of a rack's disks: its state, the arrays that its superblocks make, and the volume of all that they offer.
 -- Only tables and slices of the plan were written. Each sector has one value, which a stop leaves, and each disk that is told has
--- the table, the state, the gate, the superblocks and the data of its place.
+-- the table, the state, the gate, the superblocks and the data of its place. What its arrays hold by these is read as the volume's group.
 pub record IsMade (x y : Seen) (extent : ℕ) (birth : Birth) (a : Arrays) (l : Linear) : Type 0 where
   pub plan : NewPool
   pub planned : IsPlanOf (units_on x extent) extent plan
@@ -35,6 +35,7 @@ pub record IsMade (x y : Seen) (extent : ℕ) (birth : Birth) (a : Arrays) (l : 
   pub only : WritesOnly x y (IsPart plan x.sectors)
   pub single : (d s : ℕ) → IsLive x y d s → IsSingle (y.held d s)
   pub drives : (d : ℕ) → IsWhole x d → IsNewDrive plan birth d (x.sectors d) (now_on y d)
+  pub group : IsGroupRead plan birth
 
 -- what a refused making left: a part of those writes
 pub record IsGivenBack (x y : Seen) (extent : ℕ) : Type 0 where

@@ -1,5 +1,5 @@
 -- The plan of a new pool: the units of its drives, and its arrays with the slices of their members.
-use Rattle.std.specs.Prelude.{◌≡◌, ℕ, Bool, true, ◌+◌, ◌-◌, ◌*◌, ◌<◌, ◌≤◌, ◌^◌, ◌==◌, List, [], ◌∷◌, All, map, filter, length, position, slice_get, Some, sum_by, take}
+use Rattle.std.specs.Prelude.{◌≡◌, ℕ, Bool, true, ◌+◌, ◌-◌, ◌*◌, ◌<◌, ◌≤◌, ◌^◌, ◌==◌, List, [], ◌∷◌, All, map, filter, length, position, slice_get, Some, sum, sum_by, take}
 use Rattle.std.specs.List.{range_with_len, list_any}
 use Rattle.rack.specs.Seen.{Seen}
 use Rattle.shr_base.specs.Units.{units_of}
@@ -7,6 +7,7 @@ use Rattle.layer_plan.specs.declared.Layer.{Layer}
 use Rattle.layer_plan.specs.declared.PlanError.{PlanError}
 use Rattle.layer_plan.specs.declared.PlanError.TheVariants.{TooFew, TooMany, NoRoom}
 use Rattle.layer_plan.specs.Layering.{IsLayering}
+use Rattle.layer_plan.specs.Slicing.{IsBest}
 use Rattle.pool_state.specs.Valid.{is_extent}
 use Rattle.array_image.specs.Places.{arrays_first}
 use Rattle.pool_format.specs.declared.planning.NewArray.{NewArray}
@@ -42,13 +43,18 @@ arrays_from first extent (layer ∷ others) =
 abbrev pub slices_before : ℕ → ℕ → List Layer → ℕ
 slices_before extent n layers = arrays_first + sum_by (λ layer. layer.height * extent + 4096) (take n layers)
 
--- the plan of drives of so many units
+-- the extents that all its arrays offer
+abbrev pub capacity_of : NewPool → ℕ
+capacity_of plan = sum (map (λ a. a.extents) plan.arrays.items)
+
+-- the plan of drives of so many units: no slicing of them offers more
 pub record IsPlanOf (units : List ℕ) (extent : ℕ) (plan : NewPool) : Type 0 where
   pub extent_is : plan.extent ≡ extent
   pub units_are : plan.units.items ≡ units
   pub layers : List Layer
   pub layering : IsLayering units layers
   pub arrays_are : plan.arrays.items ≡ arrays_from arrays_first extent layers
+  pub best : IsBest units (capacity_of plan)
 
 -- whether a place is one of these
 abbrev pub has : List ℕ → ℕ → Bool

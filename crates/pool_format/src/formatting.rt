@@ -17,7 +17,7 @@ ghost use Rattle.pool_format.specs.Format.{IsGivenBack, IsMade, IsRefusedFor};
 ghost use Rattle.pool_format.specs.Arrays.{new_views};
 ghost use Rattle.pool_format.specs.Parts as parts;
 ghost use Rattle.pool_format.specs.Volume.{HasLayout};
-ghost use Rattle.pool_format.specs.Data.{IsNewGroup, extents_of};
+ghost use Rattle.pool_format.specs.Data.{IsGroupRead, IsNewGroup, extents_of};
 ghost use Rattle.pool_format.specs.Drives.{IsNewDrive, IsWhole, LeavesClosed, LeavesLaid, LeavesState};
 ghost use Rattle.pool_format.specs.Writing.{InEnds, IsPart, Lays};
 
@@ -57,7 +57,8 @@ struct Memory {
 /// Takes it.
 fn take_memory(alloc: Global, plan: &NewPool, birth: &Birth) -> Result<Memory, NoMemory>
     requires { IsPlan plan.now }
-    ensures { IfOk result (λ memory. IsNewGroup plan.now birth.now memory.group) }
+    ensures group { IfOk result (λ memory. IsNewGroup plan.now birth.now memory.group) }
+    ensures read { IfOk result (λ memory. IsGroupRead plan.now birth.now) }
 {
     let log = Log::make(alloc)?;
     let group = new_group(alloc, plan, birth)?;

@@ -9,7 +9,7 @@ ghost use Rattle.lvm_group.specs.Volume.{below_of as rack_in, linear};
 ghost use Rattle.raid_rack.specs.RaidRack.{arrays_in, arrays_of, raid_in, raid_seen, slices_in};
 ghost use Rattle.pool_format.specs.Arrays.{new_views};
 ghost use Rattle.pool_format.specs.Data as spec;
-ghost use Rattle.pool_format.specs.Data.{IsNewGroup};
+ghost use Rattle.pool_format.specs.Data.{IsGroupRead, IsNewGroup};
 ghost use Rattle.pool_format.specs.Parts as parts;
 ghost use Rattle.pool_format.specs.Plan.{HasRoom, IsPlan};
 ghost use Rattle.pool_format.specs.Volume.{IsNewRaid};
@@ -54,7 +54,8 @@ fn sizes_of(plan: &NewPool) -> ArrayVec<u64, 16>
 /// The group of the volume.
 pub(crate) fn new_group(alloc: Global, plan: &NewPool, birth: &Birth) -> Result<NewGroup, NoMemory>
     requires { IsPlan plan.now }
-    ensures { IfOk result (λ group. IsNewGroup plan.now birth.now group) }
+    ensures group { IfOk result (λ group. IsNewGroup plan.now birth.now group) }
+    ensures read { IfOk result (λ group. IsGroupRead plan.now birth.now) }
 {
     NewGroup::make(
         alloc,

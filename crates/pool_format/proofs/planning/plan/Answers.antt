@@ -43,6 +43,7 @@ returns-in-Ok-clause-plan g c =
     (c.arrays_of.ensures ∙ ap (λ (ls : List Layer). arrays_from arrays_first c.args.extent ls) c.as_slice-in-Ok.ensures.value)
     (subst (λ (ls : List Layer). length ls ≤ 16) c.as_slice-in-Ok.ensures.value c.as_slice-in-Ok.ensures.fits)
     c.in-Ok.ensures.bound c.in-Ok.ensures.tight c.in-Ok.ensures.capacity
+    c.in-Ok.ensures.best
 
 pub returns-in-Ok-clause-sound : goal.returns-in-Ok-clause-sound
 returns-in-Ok-clause-sound g c =
