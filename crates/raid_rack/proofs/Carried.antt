@@ -14,7 +14,7 @@ use Rattle.array_image.proofs.Frames.{Agree, state_same, supers_same, truth_by_s
 use Rattle.array_image.specs.Arrays.{replayed}
 use Rattle.array_image.specs.Held.{IsSettled, current_in}
 use Rattle.array_image.specs.Marks.{lowered}
-use Rattle.array_image.specs.Left.{IsInside, LogsInside, Picks}
+use Rattle.array_image.specs.Left.{IsInside, IsLeft, LogsInside, Picks}
 use Rattle.commit_log.specs.View.{LogView, names, next_number}
 use Rattle.commit_log.specs.Kept.{LogKept, AreLeft, Brings, gone_with}
 use Rattle.commit_log.specs.Commits.{Commits}
@@ -37,17 +37,19 @@ use Rattle.raid_rack.proofs.Rows.{from_same, settled_rows}
 use Rattle.raid_rack.specs.Marking.{Restates, SaysBetween, Part}
 use Rattle.raid_rack.specs.Moves.{IsSeated, AreMarked, IsAmid, PartOf}
 use Rattle.raid_rack.specs.Settling.{HasSupers, state_after}
+use Rattle.raid_rack.specs.Agreeing.{SupersAgree}
+use Rattle.raid_rack.proofs.Agreed.{agree_by, staged_agrees}
 use Rattle.raid_rack.proofs.Missing.{length_marked}
 use Rattle.raid_rack.proofs.Added.{marks_bring}
 use Rattle.raid_rack.proofs.Marking.{MarksCall, alike_agree, alike_state, restated_after, NotesLost, marks_part, shape_after}
 use Rattle.raid_rack.proofs.Restated.{IsStaged, restates_staged}
 use Rattle.raid_rack.proofs.Over.{someone_left, member_left, number_room, not_true}
-use Rattle.raid_rack.proofs.Seated.{place_few}
+use Rattle.raid_rack.proofs.Seated.{names_joined, none_listed, place_few}
 use Rattle.raid_rack.proofs.Noted.{gone_not, live_later}
 use Rattle.raid_rack.proofs.Changed.{lowered_none}
 use Rattle.raid_rack.proofs.Elements.{among_first, apart_found, look_lacks}
 use Rattle.raid_rack.proofs.Adding.{which, current_is, on_current, was_current, no_data, all_apart, all_live, supers_calm, supers_inside}
-use Rattle.raid_rack.proofs.Committed.{IsCommit, raid_after, after_further, after_marked, gone_current, after_gone, commit_losing, seated_marked, raised_range, next_later}
+use Rattle.raid_rack.proofs.Committed.{IsCommit, raid_after, after_further, after_marked, gone_current, gone_few, after_gone, commit_losing, seated_marked, raised_range, next_later}
 
 -- a seat that isn't missing
 seat_left : (seats : List Seat) → 0 < present seats → (k : ℕ) × (k < length seats) × (is_missing_seat (unwrap_or (slice_get seats k) Missing) ≡ false)
@@ -66,6 +68,10 @@ pub seat_marks : (o : Option Seat) (current went : Bool) → option_map is_missi
 seat_marks None current went is left = absurd (let bad : None ≡ Some (not (current && not went)) = is in cc)
 seat_marks (Some seat) false went is left = ap (λ x. option_map not x) is
 seat_marks (Some seat) true went is left = ap (λ x. option_map not x) is ∙ ap (λ g. Some (not (not (not g)))) (left refl)
+
+or_last : (x y : Bool) → y ≡ true → (x || y) ≡ true
+or_last true y is = refl
+or_last false y is = is
 
 module _ (v : Raid) (lost on gone : List ℕ) (l : LogView) (xs : List Target) (f : ℕ → View) (b c : Seen) (commit : IsCommit v lost on gone l xs f b c)
     (n : ℕ) (vals : ℕ → Values) (spent : ℕ → Bool) (joined : n < v.state.joined) (low : n < v.state.made)
@@ -158,11 +164,17 @@ module _ (v : Raid) (lost on gone : List ℕ) (l : LogView) (xs : List Target) (
   losing : IsLosing (v.arrays n) (f n) (names gone)
   losing = commit_losing v lost on gone l xs f b c commit n low
 
-  never_empty : (f n).went ≡ [] → ⊥
-  never_empty none =
-      let q = commit.marking.one in
-      let had = commit.marking.noted n q low commit.marking.named in
-      both_ways (has_gone (v.arrays n) q) (ap (λ ps. names ps q) (losing.went none)) had
+  -- whoever went in the commit is listed
+  gone_listed : (f n).went ≡ [] → gone ≡ []
+  gone_listed none =
+      none_listed gone
+      (λ p. elim (cases_Bool (names gone p)) [
+        | inl is ↦
+            absurd (both_ways (has_gone (f n) p) (ap (λ ps. names ps p) none)
+            (ap (λ (u : View). has_gone u p) (commit.arrays n low)
+            ∙ names_joined (v.arrays n).went gone p (gone_few v lost on gone l xs f b c commit p is) ∙ or_last (has_gone (v.arrays n) p) (names gone p) is))
+        | inr not_there ↦ not_there
+      ])
 
   staged : IsStaged v.state (state_after v lost) (gone_in v) (v.arrays n) l.added b n
   staged =
@@ -237,7 +249,7 @@ module _ (v : Raid) (lost on gone : List ℕ) (l : LogView) (xs : List Target) (
     view_number = seated.number;
     truth = losing.truth;
     written = subst IsWritten (sym (commit.arrays n low)) amid.stood.written;
-    went = λ none. absurd (never_empty none);
+    went = gone_listed;
   }
 
   part : Part v.state (state_after v lost) amid.durable (shape_of (v.arrays n)) vals vals spent (gone_in v) (gone_with (gone_in v) gone) v
@@ -258,10 +270,6 @@ module _ (v : Raid) (lost on gone : List ℕ) (l : LogView) (xs : List Target) (
             (after_gone v lost on gone l xs f b c commit n q low ∙ or_last (gone_in v q) (names gone q) is))
         | inr none ↦ none
       ]
-    where
-      or_last : (x y : Bool) → y ≡ true → (x || y) ≡ true
-      or_last true y is = refl
-      or_last false y is = is
 
   -- contents that have the new state and the superblocks of the commit
   put_rows : LeavesRows v b n → (before r : Image) → Picks b before → state_in r ≡ Some (state_after v lost) → Agree n r (put b.sectors l.added before)
@@ -315,6 +323,13 @@ module _ (v : Raid) (lost on gone : List ℕ) (l : LogView) (xs : List Target) (
                 (log.few someone.0 was_one) (log.there someone.0 was_one left_both.0) was_one left_both.0 someone.1)
                 (alike_agree n r e small new)
           ]
+
+  -- whoever is left has the array's superblock, so they agree
+  pub commit_agrees : (r : Image) → IsLeft c r → SupersAgree (state_after v lost) r n
+  commit_agrees r left =
+      let at = restated_after v.state (state_after v lost) (shape_of (v.arrays n)) false (v.arrays n) (gone_in v) l on gone b c n r small marks_call restates left in
+      agree_by (state_after v lost) r (put b.sectors l.added at.0) n at.2
+      (staged_agrees v.state (state_after v lost) (gone_in v) (v.arrays n) l.added b n at.0 staged (restates.alone at.0 at.1))
 
   pub commit_part : PartOf v (raid_after v lost (next_number l.number) f) b c n vals vals spent
   commit_part =

@@ -8,7 +8,6 @@ use Rattle.array_image.specs.Arrays.{Shape}
 use Rattle.array_image.specs.Held.{IsSettled}
 use Rattle.commit_log.specs.Kept.{LogKept}
 use Rattle.commit_log.specs.View.{names}
-use Rattle.commit_log.proofs.Deciding.{names_first}
 use Rattle.commit_log.proofs.KeptAfter.{kept_more}
 use Rattle.array_model.specs.declared.Seat.{Seat}
 use Rattle.array_model.specs.declared.Seat.TheVariants.{Missing}
@@ -31,7 +30,7 @@ use Rattle.raid_rack.proofs.Changed.{LosesOne, ViewsOne, called, caused, further
 use Rattle.raid_rack.proofs.Parts.{acts_some}
 use Rattle.raid_rack.proofs.Views.{NotesOne, views_notes}
 use Rattle.raid_rack.proofs.Over.{over_still}
-use Rattle.raid_rack.proofs.Seated.{view_with}
+use Rattle.raid_rack.proofs.Seated.{none_listed, view_with}
 use Rattle.raid_rack.proofs.Whole.{heeded_gone}
 use Rattle.raid_rack.proofs.Written.{ActsOne, may_renew, one_still, one_unwritten, other_part, other_rows, own_part}
 use Rattle.raid_rack.specs.Rows.{KeepsRows, LeavesRows}
@@ -84,10 +83,6 @@ seats_still v w a b notes none n =
     same : (o : Option Seat) → option_map (λ (seat : Seat). seat) o ≡ o
     same None = refl
     same (Some seat) = refl
-
-none_listed : (ps : List ℕ) → ((p : ℕ) → names ps p ≡ false) → ps ≡ []
-none_listed [] none = refl
-none_listed (p ∷ ps) none = absurd (both_ways (names (p ∷ ps) p) (none p) (names_first p ps))
 
 fresh_still : (v w : View) (a b : Seen) → Notes v w a b → NoneFails a b → v.went ≡ [] → w.went ≡ []
 fresh_still v w a b notes none fresh =

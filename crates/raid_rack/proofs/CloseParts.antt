@@ -22,7 +22,6 @@ use Rattle.commit_log.specs.Kept.{AreLeft, LogKept, Brings as BringsState}
 use Rattle.commit_log.specs.Standing.{IsAlike}
 use Rattle.commit_log.proofs.Kept.{before_inside, brought_state, kept_decides, kept_ready, put_none, stands_of}
 use Rattle.commit_log.proofs.KeptAfter.{kept_after}
-use Rattle.commit_log.proofs.Deciding.{names_first}
 use Rattle.array_model.specs.View.{View, may_vary, shape_of}
 use Rattle.array_model.specs.Says.{Holds, HoldsShape, Says}
 use Rattle.array_model.specs.ArrayCalls.{Covers}
@@ -48,7 +47,7 @@ use Rattle.raid_rack.proofs.Noted.{idle_now, live_later, losing_spent}
 use Rattle.raid_rack.proofs.Over.{number_room, over_still, someone_left}
 use Rattle.raid_rack.proofs.Own.{says_same}
 use Rattle.raid_rack.proofs.Rows.{from_same}
-use Rattle.raid_rack.proofs.Seated.{names_joined}
+use Rattle.raid_rack.proofs.Seated.{names_joined, none_listed}
 use Rattle.raid_rack.proofs.Whole.{heeded_gone}
 
 -- ---- what contents say goes by the plan nowhere
@@ -270,21 +269,19 @@ module _ (v : Raid) (on gone : List ℕ) (l : LogView) (f : ℕ → View) (b c :
 
   -- whoever went in the commit is listed
   gone_listed : (f n).went ≡ [] → gone ≡ []
-  gone_listed none = by gone (λ p is. (closing_few v on gone l f b c commit p is, closing_current v on gone l f b c commit p is)) (λ p is. went p is)
+  gone_listed none =
+      none_listed gone
+      (λ p. elim (cases_Bool (names gone p)) [
+        | inl is ↦
+            absurd (both_ways (names (f n).went p) (ap (λ ps. names ps p) none)
+            (ap (λ (u : View). names u.went p) (commit.arrays n low)
+            ∙ names_joined (v.arrays n).went gone p (closing_few v on gone l f b c commit p is) ∙ or_last (names (v.arrays n).went p) (names gone p) is))
+        | inr not_there ↦ not_there
+      ])
     where
-      went : (p : ℕ) → names gone p ≡ true → ⊥
-      went p is =
-          let few = closing_few v on gone l f b c commit p is in
-          both_ways (names (f n).went p) (ap (λ ps. names ps p) none)
-          (ap (λ (u : View). names u.went p) (commit.arrays n low) ∙ names_joined (v.arrays n).went gone p few ∙ or_last (names (v.arrays n).went p) (names gone p) is)
-        where
-          or_last : (x y : Bool) → y ≡ true → (x || y) ≡ true
-          or_last true y is = refl
-          or_last false y is = is
-
-      by : (ps : List ℕ) → ((p : ℕ) → names ps p ≡ true → (p < 16) × (is_current v.state p ≡ true)) → ((p : ℕ) → names ps p ≡ true → ⊥) → ps ≡ []
-      by [] few none_there = refl
-      by (p ∷ ps) few none_there = absurd (none_there p (names_first p ps))
+      or_last : (x y : Bool) → y ≡ true → (x || y) ≡ true
+      or_last true y is = refl
+      or_last false y is = is
 
   holds_listing : Holds (closed v.state) (shape_of (v.arrays n)) (listing (v.arrays n) gone) vals spent c
   unfolding shape_of

@@ -275,17 +275,5 @@ module _ (v : Raid) (lost on gone : List ℕ) (l : LogView) (xs : List Target) (
     seats = λ n low. subst (λ (u : View). present u.seats ≤ present (v.arrays n).seats) (sym (commit.arrays n low)) (gone_fewer (v.arrays n) gone (set_before.arrays n low).is_array);
   }
 
-  -- each array has some lost place among those that went
   pub commit_losing : (n : ℕ) → n < v.state.made → IsLosing (v.arrays n) (f n) (names gone)
-  commit_losing n low =
-      after_losing n low
-      (λ none.
-      let q = commit.marking.one in
-      let had = commit.marking.noted n q low commit.marking.named in
-      let few = (gone_some v q (and_parts (is_current v.state q) (gone_in v q) (sym (commit.marking.lost_is q) ∙ commit.marking.named)).1).0 in
-      absurd (both_ways (names (without gone (v.arrays n)).went q) (ap (λ ps. names ps q) none)
-      (names_joined (v.arrays n).went gone q few ∙ or_first (has_gone (v.arrays n) q) (names gone q) had)))
-    where
-      or_first : (x y : Bool) → x ≡ true → (x || y) ≡ true
-      or_first true y is = refl
-      or_first false y is = absurd (both_ways false refl is)
+  commit_losing n low = after_losing n low (commit.marking.fresh n gone low)

@@ -47,6 +47,10 @@ pub mod Serving
 pub mod Worked
 pub mod Reading
 pub mod Restated
+pub mod Agreed
+pub mod Agreeing
+pub mod Sparing
+pub mod Restating
 pub mod Copies
 pub mod Brought
 pub mod Added

@@ -28,9 +28,13 @@ use Rattle.raid_rack.proofs.Missing.{current_marked}
 use Rattle.raid_rack.proofs.Added.{names_current}
 use Rattle.raid_rack.proofs.Moving.{moves_then}
 use Rattle.raid_rack.proofs.Raises.{raised_up}
-use Rattle.raid_rack.proofs.Noted.{IsNoting, with_arrays, moves_noted, noted_went, current_few}
+use Rattle.raid_rack.proofs.Noted.{IsNoting, with_arrays, moves_noted, noted_went, current_few, gone_some}
+use Rattle.raid_rack.proofs.Seated.{names_joined}
 use Rattle.raid_rack.proofs.Committed.{IsCommit, raid_after, valid_marked}
-use Rattle.raid_rack.proofs.Turns.{moves_commit, commit_progress}
+use Rattle.raid_rack.specs.Agreeing.{MakesAgree}
+use Rattle.raid_rack.proofs.Agreeing.{agree_then}
+use Rattle.raid_rack.proofs.Over.{someone_left}
+use Rattle.raid_rack.proofs.Turns.{agrees_commit, moves_commit, commit_progress}
 use Rattle.raid_rack.proofs.Turned.{newly_named, newly_other, moves_emptied}
 
 -- ---- lists of which each element is changed
@@ -147,14 +151,24 @@ marking_of a b c lost on l t x y noted settles running same t_is on_is copies nu
       staged = subst (λ k. HasStaged (raid_by c) k c.log.added) (sym (ap (λ (s : State). s.made) settles.same)) settles.staged;
       copies = subst (λ (s : State). AddsCopies s on c.log.added l.added) t_is copies;
       number = number;
-      lost_is = λ p. ap (λ ps. names ps p) (sym same) ∙ newly_named c p running.count running.set.few;
-      one = noted.one;
-      named = noted.named;
-      noted = λ n p low is.
-          let made : n < b.state.made = subst (λ (s : State). n < s.made) settles.same low in
-          settles.went n p made (noted.noted n p (subst (λ (s : State). n < s.made) noted.same made) is);
+      lost_is = lost_is;
+      noted = was_noted;
+      fresh = λ n gone low none.
+          let q = noted.one in
+          let both = and_parts (is_current c.state q) (gone_in (raid_by c) q) (sym (lost_is q) ∙ noted.named) in
+          let u = (raid_by c).arrays n in
+          absurd (both_ways (names (without gone u).went q) (ap (λ ps. names ps q) none)
+          (names_joined u.went gone q (gone_some (raid_by c) q both.1).0 ∙ ap (λ (b : Bool). b || names gone q) (was_noted n q low noted.named)));
       on_is = on_is ∙ ap current_places t_is;
     }
+  where
+    lost_is : (p : ℕ) → names lost p ≡ (is_current c.state p && gone_in (raid_by c) p)
+    lost_is p = ap (λ ps. names ps p) (sym same) ∙ newly_named c p running.count running.set.few
+
+    was_noted : (n p : ℕ) → n < c.state.made → names lost p ≡ true → has_gone ((raid_by c).arrays n) p ≡ true
+    was_noted n p low is =
+        let made : n < b.state.made = subst (λ (s : State). n < s.made) settles.same low in
+        settles.went n p made (noted.noted n p (subst (λ (s : State). n < s.made) noted.same made) is)
 
 -- ---- what the code asks on the way
 
@@ -203,12 +217,16 @@ ends_turn a b c all log l t lost on gone x y z noted settles running t_is markin
     let same_number = sym number in
     let whole : raid_after v lost (next_number l.number) f ≡ raid_by (record c { state = t; all = all; log = log }) =
     λ i. record { state = back i; arrays = f; number = same_number i } in
-    let step = moves_then (raid_by a) (raid_by b) (raid_after v lost (next_number l.number) f) x x z noted.moves (moves_commit (raid_by b) v lost on gone l c.log.added f x y z settled commit) in
+    let last = moves_commit (raid_by b) v lost on gone l c.log.added f x y z settled commit in
+    let step = moves_then (raid_by a) (raid_by b) (raid_after v lost (next_number l.number) f) x x z noted.moves last in
     record {
+      supers = subst (λ (w : Raid). MakesAgree (raid_by a) w x z) whole
+          (agree_then (raid_by a) (raid_by b) (raid_after v lost (next_number l.number) f) x x z noted.moves last
+          (agrees_commit (raid_by b) v lost on gone l c.log.added f x y z settled commit));
       moves = subst (λ (w : Raid). Moves (raid_by a) w x z) whole step;
       progress =
           subst (λ (w : Raid). AreMarked w ⊎ ((p : ℕ) × (is_left (raid_by a) p ≡ true) × (is_left w p ≡ false))) whole
-          (elim (commit_progress v lost on gone l c.log.added f y z commit) [
+          (elim (commit_progress v lost on gone l c.log.added f y z commit noted.one noted.named) [
             | inl are ↦ inl are
             | inr some ↦ inr (some.0, noted.moves.left some.0 (settled.moves.left some.0 some.1), some.2)
           ]);
@@ -259,10 +277,14 @@ ends_empty a b c t lost on x y noted settles running same t_is on_is empty =
     let whole : record v { state = state_after v lost } ≡ raid_by (record c { state = t }) =
     λ i. record { state = back i; arrays = v.arrays; number = v.number } in
     let joined = moves_then (raid_by a) v (record v { state = state_after v lost }) x y y (moves_then (raid_by a) (raid_by b) v x x y noted.moves settles.moves) step in
+    let over : (p : ℕ) → is_current t p ≡ true → ⊥ = λ p current.
+    both_ways (is_current t p) (sym (names_current t p) ∙ ap (λ ps. names ps p) (sym on_is ∙ none)) current in
     record {
+      supers = λ unfaulted n vals spent low made goes.
+          let one = someone_left (raid_by (record c { state = t })) n goes in
+          absurd (over one.0 one.1);
       moves = subst (λ (w : Raid). Moves (raid_by a) w x y) whole joined;
-      progress = inl (λ p current.
-          absurd (both_ways (is_current t p) (sym (names_current t p) ∙ ap (λ ps. names ps p) (sym on_is ∙ none)) current));
+      progress = inl (λ p current. absurd (over p current));
       raises =
           let stays = settles.number in
           let first = noted.raises in
@@ -289,9 +311,7 @@ pub ends_early : (a b c : Arrays) (lost : List ℕ) (x y : Seen) → IsTurn a lo
     → (newly_gone c.state c.all.items ≡ lost → ⊥) → EndsTurn a c x y
 ends_early a b c lost x y turn noted settles running other =
     let joined = moves_then (raid_by a) (raid_by b) (raid_by c) x x y noted.moves settles.moves in
-    record {
-      moves = joined;
-      progress = inr (newly_other a c (sym (settles.same ∙ noted.same)) turn.running.count running.count turn.running.set.few
+    let lost_one = newly_other a c (sym (settles.same ∙ noted.same)) turn.running.count running.count turn.running.set.few
           (λ p was current.
           elim (cases_Bool (gone_in (raid_by c) p)) [
             | inl is ↦ is
@@ -299,7 +319,11 @@ ends_early a b c lost x y turn noted settles running other =
                 let before = joined.left p (and_from (is_current c.state p) (not (gone_in (raid_by c) p)) current (ap not not_yet)) in
                 absurd (both_ways true (sym (and_parts (is_current a.state p) (not (gone_in (raid_by a) p)) before).1 ∙ ap not was) refl)
           ])
-          (λ same. other (same ∙ sym turn.lost_are)));
+          (λ same. other (same ∙ sym turn.lost_are)) in
+    record {
+      moves = joined;
+      progress = inr lost_one;
+      supers = λ unfaulted. absurd (unfaulted lost_one.0 (joined.cause lost_one.0 lost_one.1 lost_one.2));
       raises =
           let stays = settles.number in
           let first = noted.raises in

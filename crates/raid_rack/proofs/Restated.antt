@@ -79,7 +79,7 @@ pub record IsStaged (s t : State) (gone : ℕ → Bool) (u : View) (xs : List Ta
   pub unmarked : u.marked ≡ false
 
 -- the contents with the targets have its superblocks
-has_supers : (s t : State) (gone : ℕ → Bool) (u : View) (xs : List Target) (a : Seen) (n : ℕ) (c : Image) (staged : IsStaged s t gone u xs a n)
+pub has_supers : (s t : State) (gone : ℕ → Bool) (u : View) (xs : List Target) (a : Seen) (n : ℕ) (c : Image) (staged : IsStaged s t gone u xs a n)
     → HasTargets staged.adds.targets (put a.sectors xs c)
 has_supers s t gone u xs a n c staged x among =
     let at = staged.are_targets x among in

@@ -1,5 +1,5 @@
 -- The turns of the mending of losses end.
-use Rattle.std.proofs.Common.{◌≡◌, ◌⊎◌, ℕ, zero, suc, ◌+◌, ◌<◌, ◌≤◌, Bool, true, false, ◌==◌, not, if◌then◌else◌, List, [], ◌∷◌, filter, length, get_or, slice_get, option_map, refl, sym, ap, ◌∙◌, inl, inr, eqb-true, arith}
+use Rattle.std.proofs.Common.{◌≡◌, ◌⊎◌, ℕ, zero, suc, ◌+◌, ◌<◌, ◌≤◌, Bool, true, false, ◌==◌, not, if◌then◌else◌, List, [], ◌∷◌, filter, length, get_or, slice_get, option_map, refl, sym, ap, subst, ◌∙◌, inl, inr, eqb-true, arith}
 use Rattle.std.proofs.lemmas.Bool.{cases_Bool, cases_eq, both_ways, and_parts, and_from}
 use Rattle.std.specs.List.{range_with_len}
 use Rattle.arrayvec.specs.ArrayVec.{ArrayVec}
@@ -14,6 +14,8 @@ use Rattle.raid_rack.specs.Losses.{newly_gone}
 use Rattle.raid_rack.specs.Moves.{AreMarked, Moves, Mends, RaisesBy}
 use Rattle.raid_rack.specs.Cleaning.{IsIdle}
 use Rattle.raid_rack.specs.RaidRack.{IsRunning, raid_by, no_array}
+use Rattle.raid_rack.specs.Agreeing.{MakesAgree}
+use Rattle.raid_rack.proofs.Agreeing.{agree_still}
 use Rattle.raid_rack.proofs.Moving.{moves_then}
 use Rattle.raid_rack.proofs.Noted.{with_arrays, current_few, moves_heeded}
 use Rattle.raid_rack.proofs.Mended.{each_get, each_sectors, first_named}
@@ -105,6 +107,12 @@ unfolding HasTurns count_left
 turns_done v i end (inl are) = are
 turns_done v i end (inr room) = absurd (omega (arith, end, room))
 
+-- after them superblocks agree, where somebody wasn't marked before them
+pub done_agree : (a b : Arrays) (x y : Seen) → AreMarked (raid_by b) → (b ≡ a) ⊎ MakesAgree (raid_by a) (raid_by b) x y → (AreMarked (raid_by a) → ⊥)
+    → MakesAgree (raid_by a) (raid_by b) x y
+done_agree a b x y are (inl same) some = absurd (some (subst (λ (c : Arrays). AreMarked (raid_by c)) same are))
+done_agree a b x y are (inr agree) some = agree
+
 -- ---- and then they are heeded
 
 pub heeds : (a b : Arrays) (all : ArrayVec View) (x y : Seen) → Moves (raid_by a) (raid_by b) x y → IsRunning b y → AreMarked (raid_by b)
@@ -128,6 +136,15 @@ heeds a b all x y moves running are each count =
       },
       record { count = count ∙ running.count; set = step.set },
     )
+
+pub heeds_agree : (a b : Arrays) (all : ArrayVec View) (x y : Seen) → Moves (raid_by a) (raid_by b) x y → IsRunning b y → AreMarked (raid_by b)
+    → ((n : ℕ) → slice_get all.items n ≡ option_map heeded (slice_get b.all.items n))
+    → MakesAgree (raid_by a) (raid_by b) x y → MakesAgree (raid_by a) (raid_by (record b { all = all })) x y
+heeds_agree a b all x y moves running are each agree =
+    let f : ℕ → View = λ n. get_or all.items n no_array in
+    let step = moves_heeded (raid_by b) f y running.set (λ n low. each_get heeded b.all.items all.items n each (let same = running.count in omega (arith, low, same)))
+    (λ n. each_sectors heeded b.all.items all.items n (λ u. refl) each) are in
+    agree_still (raid_by a) (raid_by b) (with_arrays (raid_by b) f) x y y moves step (λ none. (refl, refl)) agree
 
 pub heeds_raise : (k : ℕ) (a b : Arrays) (all : ArrayVec View) (x y : Seen) → Moves (raid_by a) (raid_by b) x y → IsRunning b y
     → ((n : ℕ) → slice_get all.items n ≡ option_map heeded (slice_get b.all.items n)) → RaisesBy k (raid_by a) (raid_by b) → RaisesBy k (raid_by a) (raid_by (record b { all = all }))

@@ -9,6 +9,7 @@ use Rattle.rack.specs.Seen.{Seen, Stays}
 use Rattle.pool_state.specs.declared.contents.State.{State}
 use Rattle.array_image.specs.States.{is_current}
 use Rattle.array_image.specs.Places.{data_sector}
+use Rattle.commit_log.proofs.Deciding.{names_first}
 use Rattle.commit_log.proofs.Naming.{names_range}
 use Rattle.array_model.specs.declared.Seat.{Seat}
 use Rattle.array_model.specs.declared.Seat.TheVariants.{Whole, Missing, Rebuilding}
@@ -141,6 +142,11 @@ seated_with s n u seats went lost x y stays seated are listed =
     was k there is = there (are k ∙ missing_then (lost (place_at u k)) (slice_get u.seats k) is)
 
 -- ---- losses that are noted
+
+-- a list that names nobody is empty
+pub none_listed : (ps : List ℕ) → ((p : ℕ) → names ps p ≡ false) → ps ≡ []
+none_listed [] none = refl
+none_listed (p ∷ ps) none = absurd (both_ways (names (p ∷ ps) p) (none p) (names_first p ps))
 
 pub names_joined : (first second : List ℕ) (p : ℕ) → p < 16 → names (joined first second) p ≡ (names first p || names second p)
 names_joined first second p low =

@@ -20,6 +20,8 @@ use Rattle.raid_rack.specs.Raid.{Raid, gone_in, is_left}
 use Rattle.raid_rack.specs.Book.{IsAfter, after_then}
 use Rattle.raid_rack.specs.Marking.{SaysBetween}
 use Rattle.raid_rack.specs.Moves.{AreMarked, IsAmid, PartOf, Moves}
+use Rattle.raid_rack.specs.Agreeing.{MakesAgree}
+use Rattle.raid_rack.specs.Cleaning.{NoneFails}
 use Rattle.raid_rack.specs.Settling.{SettlesTo, state_after}
 use Rattle.raid_rack.specs.Losing.{only_then}
 use Rattle.raid_rack.proofs.Losing.{only_gone}
@@ -29,7 +31,7 @@ use Rattle.raid_rack.proofs.Noted.{gone_some, losing_spent}
 use Rattle.raid_rack.proofs.Elements.{look_lacks}
 use Rattle.raid_rack.proofs.Adding.{which, current_is}
 use Rattle.raid_rack.proofs.Committed.{IsCommit, commit_unwritten, raid_after, after_gone, after_new, gone_current, after_set, after_left, after_cause, after_further, after_marked, commit_losing, next_later}
-use Rattle.raid_rack.proofs.Carried.{commit_part, commit_rows}
+use Rattle.raid_rack.proofs.Carried.{commit_agrees, commit_part, commit_rows}
 use Rattle.raid_rack.specs.Rows.{rows_then}
 
 -- a second part that depends on what stood before the first
@@ -134,11 +136,36 @@ moves_commit u v lost on gone l xs f a b c settles commit =
           ((one.parts n vals spent joined made mid_goes covered).holds amid) (settles.settled n vals spent low joined mid_goes covered amid) first.after);
     }
 
+-- and it makes the superblocks agree
+pub agrees_commit : (u v : Raid) (lost on gone : List ℕ) (l : LogView) (xs : List Target) (f : ℕ → View) (a b c : Seen)
+    → SettlesTo u v a b v.state.made xs → IsCommit v lost on gone l xs f b c
+    → MakesAgree u (raid_after v lost (next_number l.number) f) a c
+agrees_commit u v lost on gone l xs f a b c settles commit none n vals spent joined made goes covers amid =
+    let one = settles.moves in
+    let low : n < v.state.made = subst (λ k. n < k) (sym one.book.same.made) made in
+    let mid_goes = over_still v (raid_after v lost (next_number l.number) f) (after_further v lost on gone l xs f b c commit) n low goes in
+    let covered : Covers (v.arrays n) spent = λ y alive.
+    losing_spent (v.arrays n) (f n) (names gone) (commit.marking.set.arrays n low).is_array (commit_losing v lost on gone l xs f b c commit n low) y (covers y alive) in
+    commit_agrees v lost on gone l xs f b c commit n vals spent (subst (λ k. n < k) (sym one.book.same.joined) joined) low goes covers
+    ((one.parts n vals spent joined made mid_goes covered).holds amid) (settles.settled n vals spent low joined mid_goes covered amid)
+
+-- where no drive refused a call in it, whoever went is marked
+pub commit_marked : (v : Raid) (lost on gone : List ℕ) (l : LogView) (xs : List Target) (f : ℕ → View) (b c : Seen) → IsCommit v lost on gone l xs f b c
+    → NoneFails b c → AreMarked (raid_after v lost (next_number l.number) f)
+commit_marked v lost on gone l xs f b c commit none p current =
+    elim (cases_Bool (gone_in (raid_after v lost (next_number l.number) f) p)) [
+      | inl is ↦
+          let still = (and_parts (is_current v.state p) (not (gone_in v p)) (sym (current_is v lost on l xs b commit.marking p) ∙ current)).1 in
+          absurd (none p (commit.call.gone.cause p (after_new v lost on gone l xs f b c commit p (not_true (gone_in v p) still) is)))
+      | inr not_gone ↦ not_gone
+    ]
+
 -- whoever was left and went in the commit
 pub commit_progress : (v : Raid) (lost on gone : List ℕ) (l : LogView) (xs : List Target) (f : ℕ → View) (b c : Seen) → IsCommit v lost on gone l xs f b c
+    → (one : ℕ) → names lost one ≡ true
     → AreMarked (raid_after v lost (next_number l.number) f)
     ⊎ ((p : ℕ) × (is_left v p ≡ true) × (is_left (raid_after v lost (next_number l.number) f) p ≡ false))
-commit_progress v lost on [] l xs f b c commit =
+commit_progress v lost on [] l xs f b c commit one listed =
     inl (λ p current.
     elim (cases_Bool (gone_in (raid_after v lost (next_number l.number) f) p)) [
       | inl is ↦
@@ -146,11 +173,10 @@ commit_progress v lost on [] l xs f b c commit =
           absurd (both_ways false refl (after_new v lost on [] l xs f b c commit p (not_true (gone_in v p) still) is))
       | inr none ↦ none
     ])
-commit_progress v lost on (q ∷ gone) l xs f b c commit =
+commit_progress v lost on (q ∷ gone) l xs f b c commit one listed =
     let named : names (q ∷ gone) q ≡ true = names_first q gone in
     let current = gone_current v lost on (q ∷ gone) l xs f b c commit q named in
-    let one = commit.marking.one in
-    let some = gone_some v one (and_parts (is_current v.state one) (gone_in v one) (sym (commit.marking.lost_is one) ∙ commit.marking.named)).1 in
+    let some = gone_some v one (and_parts (is_current v.state one) (gone_in v one) (sym (commit.marking.lost_is one) ∙ listed)).1 in
     let now : gone_in (raid_after v lost (next_number l.number) f) q ≡ true =
     after_gone v lost on (q ∷ gone) l xs f b c commit some.1.0 q some.1.1 ∙ or_last (gone_in v q) (names (q ∷ gone) q) named in
     inr (q, sym (current_is v lost on l xs b commit.marking q) ∙ current, and_none (is_current (state_after v lost) q) (gone_in (raid_after v lost (next_number l.number) f) q) now)

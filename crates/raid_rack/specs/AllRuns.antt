@@ -1,10 +1,14 @@
 -- What calls in a row of a rack of arrays keep.
-use Rattle.std.proofs.Common.{◌≡◌, ℕ, ◌<◌, refl, sym, subst, ◌∙◌}
-use Rattle.rack.specs.Seen.{Seen}
+use Rattle.std.proofs.Common.{◌≡◌, ℕ, ◌+◌, ◌<◌, Bool, false, refl, sym, subst, ◌∙◌}
+use Rattle.rack.specs.Values.{Keeps}
+use Rattle.rack.specs.Seen.{Seen, IsLive}
+use Rattle.rack.specs.Joins.{keeps_same, keeps_then, rose_before, rose_since}
+use Rattle.array_image.specs.Places.{slice_of}
 use Rattle.array_model.specs.View.{sectors_of}
 use Rattle.raid_rack.specs.declared.arrays.RaidRack.{RaidRack}
 use Rattle.raid_rack.specs.Raid.{Raid, live_of}
 use Rattle.raid_rack.specs.Moves.{KeepsArrays, RaisesBy}
+use Rattle.raid_rack.specs.Cleaning.{NoneFails}
 use Rattle.raid_rack.specs.Losing.{arrays_same, arrays_then}
 use Rattle.raid_rack.specs.RaidRack.{SliceRuns, raid_in, refused_in, slices_in, slices_seen, written_in}
 use Rattle.raid_rack.specs.Runs.{RaidRuns}
@@ -32,6 +36,29 @@ serves_then v w z f g h made one two = record {
       ∙ one.refused n (λ y inside. two.spent n y (alive y (subst (λ k. y < k) (sym (two.sectors n)) inside)));
 }
 
+-- Where no drive refuses a call, the slices of the arrays that aren't written hold what they held, superblocks and all.
+abbrev pub Spares : (ℕ → Bool) → Seen → Seen → Type 0
+Spares written a b =
+    NoneFails a b → (n d t : ℕ) → written n ≡ false → slice_of d ≡ n + 1 → IsLive a b d t → Keeps (a.held d t) (b.held d t)
+
+-- no call spares all
+pub spares_same : (written : ℕ → Bool) (x : Seen) → Spares written x x
+spares_same written x none n d t not own live = keeps_same (x.held d t)
+
+-- calls in a row spare what is written in none of them
+pub spares_then : (p q r : ℕ → Bool) (v w z : Raid) (a b c : Seen) → RaidRuns p q v w a b → RaidRuns q r w z b c → Spares q a b → Spares r b c → Spares r a c
+spares_then p q r v w z a b c one two first second none n d t not own live =
+    keeps_then (a.held d t) (b.held d t) (c.held d t)
+    (first (λ place fault. none place (fault.0, fault.1, rose_before (two.faults fault.0) fault.2)) n d t (two.written n not) own
+    (record {
+      disk = subst (λ k. d < k) two.disks live.disk;
+      sector = subst (λ k. t < k) (two.sectors d) live.sector;
+      is_told = live.is_told;
+      unspent = two.unspent d t live.unspent;
+    }))
+    (second (λ place fault. none place (fault.0, fault.1, rose_since (one.faults fault.0) fault.2)) n d t not own
+    (record { disk = live.disk; sector = live.sector; is_told = one.told_below d live.is_told; unspent = live.unspent }))
+
 -- A single call: its numbers rise by a bounded number, nothing of an array changes but whom it lost, and a plan stays.
 pub record IsOneCall (v w : Raid) : Type 0 where
   pub raises : RaisesBy 18 v w
@@ -39,9 +66,10 @@ pub record IsOneCall (v w : Raid) : Type 0 where
   pub arrays : KeepsArrays v w
   pub plan : w.state.plan ≡ v.state.plan
 
--- what calls on the slices below keep, what is done to the book and to images, and what is refused
+-- what calls on the slices below keep, what is done to the book and to images, what is refused, and what is spared
 abbrev pub AreRuns : {R : Type 0} → (R → Seen) → (R → R → Type 0) → RaidRack R → RaidRack R → Type 0
 AreRuns seen runs x y =
     SliceRuns seen runs (slices_in x) (slices_in y)
     × RaidRuns (written_in x) (written_in y) (raid_in x) (raid_in y) (slices_seen seen x) (slices_seen seen y)
     × Serves (raid_in x) (raid_in y) (refused_in x) (refused_in y)
+    × Spares (written_in y) (slices_seen seen x) (slices_seen seen y)

@@ -9,6 +9,7 @@ pub mod Moves
 pub mod Losing
 pub mod Settling
 pub mod Cleaning
+pub mod Agreeing
 pub mod RaidRack
 pub mod Laws
 pub mod Runs

@@ -10,6 +10,7 @@ use Rattle.md_super.specs.declared.superblock.Super.{Super}
 use Rattle.array_model.specs.View.{View}
 use Rattle.raid_rack.specs.declared.arrays.RaidRack.{RaidRack}
 use Rattle.raid_rack.specs.declared.arrays.Arrays.{Arrays}
+use Rattle.raid_rack.specs.Agreeing.{MakesAgree}
 use Rattle.raid_rack.specs.Raid.{Raid, is_left, raid_of}
 use Rattle.raid_rack.specs.Moves.{AreMarked, IsHeeded, IsSet, Moves, RaisesBy}
 
@@ -76,6 +77,8 @@ pub record EndsTurn (a b : Arrays) (x y : Seen) : Type 0 where
       AreMarked (raid_by b) ⊎ ((place : ℕ) × (is_left (raid_by a) place ≡ true) × (is_left (raid_by b) place ≡ false))
   pub raises : RaisesBy 1 (raid_by a) (raid_by b)
   pub running : IsRunning b y
+  -- the commit has all superblocks
+  pub supers : MakesAgree (raid_by a) (raid_by b) x y
 
 -- the arrays of a rack of arrays, with their state and log
 abbrev pub arrays_in : {R : Type 0} → RaidRack R → Arrays

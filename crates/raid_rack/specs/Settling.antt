@@ -1,5 +1,5 @@
 -- All arrays are settled: what is added to the log.
-use Rattle.std.specs.Prelude.{◌≡◌, ℕ, ◌+◌, ◌*◌, ◌<◌, ◌≤◌, ◌&&◌, Bool, true, false, List, length, slice_get, Some}
+use Rattle.std.specs.Prelude.{◌≡◌, ℕ, ◌+◌, ◌*◌, ◌<◌, ◌≤◌, ◌&&◌, Bool, true, false, List, [], length, slice_get, Some}
 use Rattle.rack.specs.Values.{Values}
 use Rattle.rack.specs.Seen.{Seen}
 use Rattle.rack.specs.Targets.{Target}
@@ -12,6 +12,7 @@ use Rattle.array_model.specs.View.{View, has_gone, shape_of}
 use Rattle.array_model.specs.Members.{slice_on}
 use Rattle.array_model.specs.ArrayCalls.{Covers}
 use Rattle.array_model.specs.Stages.{AmongTargets}
+use Rattle.array_core.specs.Seats.{gone as without}
 use Rattle.array_core.specs.Staging.{AddsSupersOf}
 use Rattle.pool_state.specs.declared.contents.State.{State}
 use Rattle.array_image.specs.States.{is_current, current_places}
@@ -72,7 +73,7 @@ pub record IsMarking (v : Raid) (lost on : List ℕ) (l : LogView) (xs : List Ta
   pub copies : AddsCopies (state_after v lost) on xs l.added
   pub number : l.number ≡ v.number
   pub lost_is : (p : ℕ) → names lost p ≡ (is_current v.state p && gone_in v p)
-  pub one : ℕ
-  pub named : names lost one ≡ true
   pub noted : (n p : ℕ) → n < v.state.made → names lost p ≡ true → has_gone (v.arrays n) p ≡ true
+  -- where nobody is listed in an array once others are noted, nobody was before
+  pub fresh : (n : ℕ) (gone : List ℕ) → n < v.state.made → (without gone (v.arrays n)).went ≡ [] → (v.arrays n).went ≡ []
   pub on_is : on ≡ current_places (state_after v lost)

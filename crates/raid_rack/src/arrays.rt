@@ -43,8 +43,9 @@ impl<R: Rack> RaidRack<R> {
     ghost use Rattle.slice_rack.specs.SliceRack.{below_of};
     ghost use Rattle.array_image.specs.States.{is_current};
     ghost use Rattle.raid_rack.specs.Losses.{has_other};
-    ghost use Rattle.raid_rack.specs.Moves.{Mends, RaisesBy, noted_at};
+    ghost use Rattle.raid_rack.specs.Moves.{AreMarked, Mends, RaisesBy, noted_at};
     ghost use Rattle.raid_rack.specs.Cleaning.{CleansAll, LeavesItsRows};
+    ghost use Rattle.raid_rack.specs.Agreeing.{MakesAgree};
     ghost use Rattle.raid_rack.specs.Runs.{RaidRuns};
     ghost use Rattle.raid_rack.specs.RaidRack.{SliceRuns, IsFit, IsRunning, KeepsRack, arrays_in, arrays_of, raid_seen, raid_in, refused_in, slices_in, slices_seen, written_in};
 
@@ -151,11 +152,31 @@ impl<R: Rack> RaidRack<R> {
     pub fn mark_gone(&mut self)
         requires running { IsRunning (arrays_in self.old) (slices_seen R.seen self.old) }
         ensures mends { Mends (raid_in self.old) (raid_in self.new) (slices_seen R.seen self.old) (slices_seen R.seen self.new) }
+        // Where nobody is noted who isn't marked, nothing is called.
+        ensures idle { AreMarked (raid_in self.old) → (slices_in self.new ≡ slices_in self.old) × ((raid_in self.new).state ≡ (raid_in self.old).state) }
+        // Else the superblocks of each array agree afterwards, where no drive refuses a call.
+        ensures supers { (AreMarked (raid_in self.old) → ⊥) → MakesAgree (raid_in self.old) (raid_in self.new) (slices_seen R.seen self.old) (slices_seen R.seen self.new) }
         ensures fit { IsFit (arrays_in self.new) (slices_seen R.seen self.new) }
         ensures refused { (n : ℕ) → refused_in self.new n ≡ refused_in self.old n }
         ensures runs { SliceRuns R.seen R.runs (slices_in self.old) (slices_in self.new) }
     {
         self.arrays.mend(&mut self.slices);
+    }
+
+    /// Makes the superblocks of each array agree, durably: those that said another state of it than its truth, or fewer events, are
+    /// written over. All superblocks are written by one commit, with one more event. No value moves. Whoever goes is marked.
+    pub fn restate(&mut self)
+        requires fit { IsFit (arrays_in self.old) (slices_seen R.seen self.old) }
+        ensures mends { Mends (raid_in self.old) (raid_in self.new) (slices_seen R.seen self.old) (slices_seen R.seen self.new) }
+        ensures supers { MakesAgree (raid_in self.old) (raid_in self.new) (slices_seen R.seen self.old) (slices_seen R.seen self.new) }
+        ensures keeps { KeepsRack (raid_seen R.seen self.old) (raid_seen R.seen self.new) }
+        ensures raises { RaisesBy 18 (raid_in self.old) (raid_in self.new) }
+        ensures refused { (n : ℕ) → refused_in self.new n ≡ refused_in self.old n }
+        ensures written { (n : ℕ) → written_in self.new n ≡ written_in self.old n }
+        ensures runs { SliceRuns R.seen R.runs (slices_in self.old) (slices_in self.new) }
+        ensures book { RaidRuns (written_in self.old) (written_in self.new) (raid_in self.old) (raid_in self.new) (slices_seen R.seen self.old) (slices_seen R.seen self.new) }
+    {
+        self.arrays.restate(&mut self.slices);
     }
 
     /// The rack of slices, lent. The arrays, their state and their log stay as they are.

@@ -3,7 +3,7 @@
 ghost use Rattle.std.specs.Prelude.{◌≡◌, ℕ, ◌<◌, ◌≤◌, true, false, OnOk, IfErr};
 ghost use Rattle.rack.specs.Seen.{Rose};
 ghost use Rattle.rack.specs.Calls.{Reads, Syncs, Writes};
-ghost use Rattle.raid_rack.specs.AllRuns.{AreRuns, IsOneCall, serves_same, serves_then};
+ghost use Rattle.raid_rack.specs.AllRuns.{AreRuns, IsOneCall, serves_same, serves_then, spares_same, spares_then};
 ghost use Rattle.slice_rack.specs.SliceRack.{below_of, tables};
 ghost use Rattle.slice_rack.specs.Laws.{is_sound};
 ghost use Rattle.slice_rack.specs.Runs.{runs_join, runs_none};
@@ -83,6 +83,7 @@ impl<R: Rack> Rack for RaidRack<R> {
           (R.runs_same (below_of (slices_in rack))),
       raid_runs_same (written_in rack) (raid_in rack) (slices_seen R.seen rack),
       serves_same (raid_in rack) (refused_in rack),
+      spares_same (written_in rack) (slices_seen R.seen rack),
     ) };
 
     ghost runs_then = { λ x y z one two. (
@@ -93,6 +94,8 @@ impl<R: Rack> Rack for RaidRack<R> {
           (R.runs_then (below_of (slices_in x)) (below_of (slices_in y)) (below_of (slices_in z)) one.0.below two.0.below),
       raid_runs_then (written_in x) (written_in y) (written_in z) (raid_in x) (raid_in y) (raid_in z) (slices_seen R.seen x) (slices_seen R.seen y) (slices_seen R.seen z) one.1 two.1,
       serves_then (raid_in x) (raid_in y) (raid_in z) (refused_in x) (refused_in y) (refused_in z) one.1.book.same.made one.2 two.2,
+      spares_then (written_in x) (written_in y) (written_in z) (raid_in x) (raid_in y) (raid_in z) (slices_seen R.seen x) (slices_seen R.seen y) (slices_seen R.seen z)
+          one.1 two.1 one.3 two.3,
     ) };
 
     ghost runs_lenders = { λ x y runs. R.runs_lenders (below_of (slices_in x)) (below_of (slices_in y)) runs.0.below };

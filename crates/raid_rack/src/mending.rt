@@ -1,10 +1,12 @@
 //! Losses that calls met are marked: all arrays are settled, and one commit writes the marks.
 
-ghost use Rattle.std.specs.Prelude.{◌≡◌, ◌<◌, ◌==◌, true, [], ◌∷◌, length};
+ghost use Rattle.std.specs.Prelude.{◌≡◌, ◌<◌, ◌==◌, ℕ, Bool, true, [], ◌∷◌, length};
 ghost use Rattle.array_image.specs.States.{is_current};
 ghost use Rattle.raid_rack.specs.Moves.{AreMarked, Mends, Moves, IsHeeded, RaisesBy, ReadsValue, SyncsOne, WritesOne, noted_at};
 ghost use Rattle.array_model.specs.View.{sectors_of};
 ghost use Rattle.raid_rack.specs.Settling.{SettlesTo};
+ghost use Rattle.raid_rack.specs.Agreeing.{MakesAgree};
+ghost use Rattle.raid_rack.specs.AllRuns.{Spares};
 ghost use Rattle.raid_rack.specs.Cleaning.{Cleans, CleansAll, IsIdle};
 ghost use Rattle.raid_rack.specs.RaidRack.{EndsTurn, IsRunning, raid_by};
 ghost use Rattle.raid_rack.specs.Losses as spec;
@@ -67,6 +69,7 @@ impl Arrays {
         ensures marked { AreMarked (raid_by self.new) }
         ensures raises { RaisesBy 17 (raid_by self.old) (raid_by self.new) }
         ensures idle { AreMarked (raid_by self.old) → (self.new ≡ self.old) × (rack.new ≡ rack.old) }
+        ensures supers { (AreMarked (raid_by self.old) → ⊥) → MakesAgree (raid_by self.old) (raid_by self.new) (S.seen rack.old) (S.seen rack.new) }
         ensures running { IsRunning self.new (S.seen rack.new) }
         ensures runs { S.runs rack.old rack.new }
     {
@@ -85,6 +88,7 @@ impl Arrays {
         requires running { IsRunning self.old (S.seen rack.old) }
         ensures mends { Mends (raid_by self.old) (raid_by self.new) (S.seen rack.old) (S.seen rack.new) }
         ensures idle { AreMarked (raid_by self.old) → IsIdle (raid_by self.old) (raid_by self.new) × (rack.new ≡ rack.old) }
+        ensures supers { (AreMarked (raid_by self.old) → ⊥) → MakesAgree (raid_by self.old) (raid_by self.new) (S.seen rack.old) (S.seen rack.new) }
         ensures raises { RaisesBy 17 (raid_by self.old) (raid_by self.new) }
         ensures running { IsRunning self.new (S.seen rack.new) }
         ensures runs { S.runs rack.old rack.new }
@@ -93,10 +97,42 @@ impl Arrays {
         heed_all(self.all.as_mut_slice());
     }
 
+    /// Writes the superblocks of all arrays anew, by one commit with the state of the next epoch: all say their array's truth then, with
+    /// one more event. Whoever goes is marked; where somebody goes before the commit, the one that marks him has the superblocks.
+    pub(crate) fn restate<S: Rack>(&mut self, rack: &mut S)
+        requires running { IsRunning self.old (S.seen rack.old) }
+        requires heeded { IsHeeded (raid_by self.old) }
+        ensures mends { Mends (raid_by self.old) (raid_by self.new) (S.seen rack.old) (S.seen rack.new) }
+        ensures supers { MakesAgree (raid_by self.old) (raid_by self.new) (S.seen rack.old) (S.seen rack.new) }
+        ensures raises { RaisesBy 18 (raid_by self.old) (raid_by self.new) }
+        ensures running { IsRunning self.new (S.seen rack.new) }
+        ensures runs { S.runs rack.old rack.new }
+    {
+        self.log.clear();
+        self.settle_all(rack);
+        let lost = newly_gone(&self.state, self.all.as_slice());
+        if !lost.is_empty() {
+            self.mend(rack);
+            return;
+        }
+        heed_all(self.all.as_mut_slice());
+        mark_missing(&mut self.state, &lost);
+        let on = current_places(&self.state);
+        if on.is_empty() {
+            return;
+        }
+        add_copies(&self.state, &on, &mut self.log);
+        let gone = self.log.commit(rack, &on);
+        note_gone(self.all.as_mut_slice(), &gone);
+        self.mend(rack);
+    }
+
     /// Syncs an array. Whoever goes is marked, and whoever is left has one value in each sector.
     pub(crate) fn sync_array<S: Rack>(&mut self, rack: &mut S, number: u32)
         requires running { IsRunning self.old (S.seen rack.old) }
+        requires heeded { IsHeeded (raid_by self.old) }
         requires number { number < self.old.state.made }
+        ensures spares { (written : ℕ → Bool) → Spares written (S.seen rack.old) (S.seen rack.new) }
         ensures syncs { SyncsOne (raid_by self.old) (raid_by self.new) (S.seen rack.old) (S.seen rack.new) number }
         ensures raises { RaisesBy 17 (raid_by self.old) (raid_by self.new) }
         ensures running { IsRunning self.new (S.seen rack.new) }
@@ -115,8 +151,10 @@ impl Arrays {
         into: &mut [u8; 512],
     )
         requires running { IsRunning self.old (S.seen rack.old) }
+        requires heeded { IsHeeded (raid_by self.old) }
         requires number { number < self.old.state.made }
         requires sector { sector < sectors_of ((raid_by self.old).arrays number) }
+        ensures spares { (written : ℕ → Bool) → Spares written (S.seen rack.old) (S.seen rack.new) }
         ensures reads { ReadsValue (raid_by self.old) (raid_by self.new) (S.seen rack.old) (S.seen rack.new) number sector into.new }
         ensures raises { RaisesBy 17 (raid_by self.old) (raid_by self.new) }
         ensures running { IsRunning self.new (S.seen rack.new) }
@@ -138,6 +176,7 @@ impl Arrays {
         requires heeded { IsHeeded (raid_by self.old) }
         requires number { number < self.old.state.made }
         requires sector { sector < sectors_of ((raid_by self.old).arrays number) }
+        ensures spares { (written : ℕ → Bool) → written number ≡ true → Spares written (S.seen rack.old) (S.seen rack.new) }
         ensures writes { WritesOne (raid_by self.old) (raid_by self.new) (S.seen rack.old) (S.seen rack.new) number sector from.now }
         ensures raises { RaisesBy 18 (raid_by self.old) (raid_by self.new) }
         ensures running { IsRunning self.new (S.seen rack.new) }

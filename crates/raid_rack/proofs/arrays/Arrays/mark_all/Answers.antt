@@ -1,12 +1,13 @@
-use Rattle.std.proofs.Common.{ap, refl, subst, sym, ◌∙◌, arith}
+use Rattle.std.proofs.Common.{ap, refl, subst, sym, ◌∙◌, inl, inr, arith}
 use Rattle.raid_rack.specs.declared.arrays.Arrays.{Arrays}
 use Rattle.raid_rack.specs.Losses.{newly_gone}
 use Rattle.raid_rack.specs.Moves.{AreMarked}
 use Rattle.raid_rack.specs.RaidRack.{raid_by}
+use Rattle.raid_rack.proofs.Agreeing.{agree_then}
 use Rattle.raid_rack.proofs.Moving.{moves_same, moves_then}
 use Rattle.raid_rack.proofs.Raises.{raises_more, raises_none, raises_then}
 use Rattle.raid_rack.proofs.Turned.{none_newly}
-use Rattle.raid_rack.proofs.Rounds.{newly_unmarked, turns_first, turns_next, turns_done, no_length, some_length}
+use Rattle.raid_rack.proofs.Rounds.{done_agree, newly_unmarked, turns_first, turns_next, turns_done, no_length, some_length}
 use Rattle.raid_rack.proofs.arrays.Arrays.mark_all.Goals as goal
 
 pub loop-turn-init : goal.loop-turn-init
@@ -16,6 +17,7 @@ loop-turn-init g c = record {
   turns = turns_first (raid_by c.args.self.now);
   raises = raises_none (raid_by c.args.self.now);
   idle = λ are. (refl, refl);
+  supers = inl refl;
   runs = g.met.S.Rack.runs_same c.args.rack.now;
 }
 
@@ -62,6 +64,8 @@ loop-turn-preserved g c =
           (c.newly_gone-lost.ensures ∙ ap (newly_gone s.state) c.as_slice.ensures.value)
           (some_length c.newly_gone-lost.result.items (sym c.if-is_empty.ensures))
           (subst (λ (a : Arrays). AreMarked (raid_by a)) (sym (inv.idle are).0) are));
+      supers = inr (agree_then (raid_by c.args.self.now) (raid_by s) (raid_by c.mark.new.self) (g.S.Rack.seen c.args.rack.now) (g.S.Rack.seen c.loop-turn.rack) (g.S.Rack.seen c.mark.new.rack)
+          inv.moves c.mark.ensures.ends.moves c.mark.ensures.ends.supers);
       runs = g.met.S.Rack.runs_then _ _ _ inv.runs c.mark.ensures.runs;
     }
 
@@ -91,3 +95,11 @@ returns-clause-idle g c = c.loop-turn.invariant.idle
 
 pub returns-clause-runs : goal.returns-clause-runs
 returns-clause-runs g c = c.loop-turn.invariant.runs
+
+pub returns-then-is_empty-clause-supers : goal.returns-then-is_empty-clause-supers
+returns-then-is_empty-clause-supers g c =
+    done_agree c.args.self.now c.loop-turn.self (g.S.Rack.seen c.args.rack.now) (g.S.Rack.seen c.loop-turn.rack) (returns-then-is_empty-clause-marked g c) c.loop-turn.invariant.supers
+
+pub returns-clause-supers : goal.returns-clause-supers
+returns-clause-supers g c =
+    done_agree c.args.self.now c.loop-turn.self (g.S.Rack.seen c.args.rack.now) (g.S.Rack.seen c.loop-turn.rack) (returns-clause-marked g c) c.loop-turn.invariant.supers

@@ -1,4 +1,5 @@
-use Rattle.std.proofs.Common.{◌≡◌}
+use Rattle.std.proofs.Common.{◌≡◌, ◌⊎◌}
+use Rattle.raid_rack.specs.Agreeing.{MakesAgree}
 use Rattle.raid_rack.specs.Moves.{AreMarked, Moves, RaisesBy}
 use Rattle.raid_rack.specs.RaidRack.{IsRunning, raid_by}
 use Rattle.raid_rack.proofs.Rounds.{HasTurns}
@@ -11,5 +12,6 @@ invariant-loop-turn g l = record {
   turns : HasTurns (raid_by l.self) l._turn;
   raises : RaisesBy l._turn (raid_by l.fn.self) (raid_by l.self);
   idle : AreMarked (raid_by l.fn.self) → (l.self ≡ l.fn.self) × (l.rack ≡ l.fn.rack);
+  supers : (l.self ≡ l.fn.self) ⊎ MakesAgree (raid_by l.fn.self) (raid_by l.self) (g.S.Rack.seen l.fn.rack) (g.S.Rack.seen l.rack);
   runs : g.S.Rack.runs l.fn.rack l.rack;
 }

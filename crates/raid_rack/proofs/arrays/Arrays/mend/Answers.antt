@@ -1,7 +1,7 @@
 use Rattle.arrayvec.specs.ArrayVec.{with_items}
 use Rattle.array_core.specs.Seats.{heeded}
 use Rattle.raid_rack.proofs.Mended.{each_items}
-use Rattle.raid_rack.proofs.Rounds.{heeds, heeds_raise, idle_by}
+use Rattle.raid_rack.proofs.Rounds.{heeds, heeds_agree, heeds_raise, idle_by}
 use Rattle.raid_rack.proofs.arrays.Arrays.mend.Goals as goal
 
 pub returns-clause-mends : goal.returns-clause-mends
@@ -31,3 +31,10 @@ returns-clause-raises g c =
     let each = each_items s.all c.as_mut_slice.result.now c.heed_all.new.arrays heeded c.as_mut_slice.ensures.value c.heed_all.ensures in
     heeds_raise 17 c.args.self.now s (with_items s.all c.heed_all.new.arrays) (g.S.Rack.seen c.args.rack.now) (g.S.Rack.seen c.mark_all.new.rack)
     c.mark_all.ensures.moves c.mark_all.ensures.running each.0 c.mark_all.ensures.raises
+
+pub returns-clause-supers : goal.returns-clause-supers
+returns-clause-supers g c some =
+    let s = c.mark_all.new.self in
+    let each = each_items s.all c.as_mut_slice.result.now c.heed_all.new.arrays heeded c.as_mut_slice.ensures.value c.heed_all.ensures in
+    heeds_agree c.args.self.now s (with_items s.all c.heed_all.new.arrays) (g.S.Rack.seen c.args.rack.now) (g.S.Rack.seen c.mark_all.new.rack)
+    c.mark_all.ensures.moves c.mark_all.ensures.running c.mark_all.ensures.marked each.0 (c.mark_all.ensures.supers some)

@@ -1,6 +1,7 @@
-use Rattle.std.proofs.Common.{refl, slice_set, arith}
+use Rattle.std.proofs.Common.{ap, refl, slice_set, arith}
 use Rattle.arrayvec.specs.ArrayVec.{with_items}
-use Rattle.raid_rack.specs.RaidRack.{no_array}
+use Rattle.raid_rack.specs.RaidRack.{no_array, raid_by}
+use Rattle.raid_rack.proofs.Sparing.{spares_read}
 use Rattle.raid_rack.proofs.Raises.{notes_raise}
 use Rattle.raid_rack.proofs.RaisedCalls.{raises_call}
 use Rattle.raid_rack.proofs.Steps.{same_element, items_set}
@@ -56,3 +57,20 @@ returns-clause-raises g c =
     (omega arith)
     (notes_raise _ c.read.new.self (g.S.Rack.seen c.args.rack.now) (g.S.Rack.seen c.read.new.rack) c.read.ensures.notes)
     c.mend.ensures.raises
+
+pub returns-clause-spares : goal.returns-clause-spares
+returns-clause-spares g c written =
+    let a = c.args.self.now in
+    let n = c.args.number in
+    let x = g.S.Rack.seen c.args.rack.now in
+    let y = g.S.Rack.seen c.read.new.rack in
+    let count = c.requires.running.count in
+    let low = c.requires.number in
+    let reads = read_only _ c.read.new.self x y c.args.sector c.read.new.into a.state c.read.ensures.reads in
+    let one = has_read a (with_items a.all (slice_set c.deref_mut.result.now n c.read.new.self)) x y n c.args.sector c.read.new.into _ c.read.new.self
+    c.requires.running low
+    (same_element c.deref_mut.result.now a.all.items n _ no_array c.deref_mut.ensures.value (omega (arith, count, low)))
+    (items_set a.all c.deref_mut.result.now n c.read.new.self c.deref_mut.ensures.value)
+    c.read.ensures.reads reads c.read.ensures.notes in
+    spares_read written (raid_by a) _ x y (g.S.Rack.seen c.mend.new.rack) c.requires.heeded refl one.moves c.mend.ensures.mends.moves.stays
+    (λ are. ap g.S.Rack.seen (c.mend.ensures.idle are).1) reads

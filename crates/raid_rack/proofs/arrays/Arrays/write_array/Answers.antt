@@ -1,4 +1,4 @@
-use Rattle.std.proofs.Common.{get_or, slice_set, ap, arith}
+use Rattle.std.proofs.Common.{get_or, slice_set, ap, refl, arith}
 use Rattle.std.proofs.lemmas.Option.{slice_get-get_or}
 use Rattle.arrayvec.specs.ArrayVec.{with_items}
 use Rattle.commit_log.specs.View.{LogView}
@@ -8,6 +8,7 @@ use Rattle.raid_rack.proofs.Noted.{current_few}
 use Rattle.raid_rack.proofs.Sent.{has_written, later_number, writes_one}
 use Rattle.raid_rack.proofs.Raises.{writes_raise}
 use Rattle.raid_rack.proofs.RaisedCalls.{logs_raise, raises_call}
+use Rattle.raid_rack.proofs.Sparing.{spares_write}
 use Rattle.raid_rack.proofs.Steps.{same_element, items_set}
 use Rattle.raid_rack.proofs.Whole.{heeded_left}
 use Rattle.raid_rack.proofs.arrays.Arrays.write_array.Goals as goal
@@ -69,3 +70,21 @@ returns-clause-raises g c =
     (let up = logs_raise c.clear.new.self c.write.new.log c.write.ensures.log in let e = ap (λ (l : LogView). l.number) c.clear.ensures in omega (arith, up, e))
     (writes_raise _ c.write.new.self (g.S.Rack.seen c.args.rack.now) (g.S.Rack.seen c.write.new.rack) c.write.ensures.view)
     c.mend.ensures.raises
+
+pub returns-clause-spares : goal.returns-clause-spares
+returns-clause-spares g c written noted =
+    let a = c.args.self.now in
+    let n = c.args.number in
+    let x = g.S.Rack.seen c.args.rack.now in
+    let y = g.S.Rack.seen c.write.new.rack in
+    let count = c.requires.running.count in
+    let low = c.requires.number in
+    let number = ap (λ (l : LogView). l.number) c.clear.ensures in
+    let old_is = same_element c.deref_mut.result.now a.all.items n _ no_array c.deref_mut.ensures.value (omega (arith, count, low)) in
+    let wrote = has_written a (with_items a.all (slice_set c.deref_mut.result.now n c.write.new.self)) c.write.new.log x y n c.args.sector c.args.from.now c.current_places-on.result.items c.clear.new.self.number _ c.write.new.self
+    c.requires.running c.requires.heeded low old_is
+    (items_set a.all c.deref_mut.result.now n c.write.new.self c.deref_mut.ensures.value)
+    number (later_number c.clear.new.self c.write.new.log c.write.ensures.log) c.current_places-on.ensures c.went-places.ensures.few c.write.ensures.goes
+    (record { writes = c.write.ensures.writes; kept = c.write.ensures.kept; view = c.write.ensures.view; elsewhere = c.write.ensures.elsewhere }) in
+    spares_write written a _ n _ c.current_places-on.result.items x y (g.S.Rack.seen c.mend.new.rack) c.requires.running c.requires.heeded low old_is noted refl wrote.caused
+    c.mend.ensures.mends.moves.stays (λ are. ap g.S.Rack.seen (c.mend.ensures.idle are).1) c.write.ensures.elsewhere

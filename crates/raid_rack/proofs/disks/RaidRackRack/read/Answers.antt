@@ -4,7 +4,7 @@ use Rattle.slice_rack.specs.SliceRack.{tables, below_of}
 use Rattle.slice_rack.specs.Sliced.{slices_of}
 use Rattle.raid_rack.specs.Runs.{RaidRuns}
 use Rattle.raid_rack.specs.RaidRack.{IsFit, SliceRuns, raid_by, raid_in, raid_seen, refused_in, slices_in, slices_seen, written_in}
-use Rattle.raid_rack.specs.AllRuns.{IsOneCall, Serves}
+use Rattle.raid_rack.specs.AllRuns.{IsOneCall, Serves, Spares}
 use Rattle.raid_rack.specs.Laws.{stops_inside}
 use Rattle.raid_rack.proofs.Raises.{raises_more}
 use Rattle.raid_rack.proofs.Serving.{read_call, runs_moves, served_call}
@@ -28,11 +28,13 @@ returns-clause-runs g c =
     fit inside c.read_array.ensures.reads c.answer.ensures.served c.answer.ensures.refused c.answer.ensures.more in
     subst (λ r. SliceRuns g.R.Rack.seen g.R.Rack.runs (slices_in c.args.self.now) (slices_in r)
     × RaidRuns (written_in c.args.self.now) (written_in r) v (raid_in r) (slices_seen g.R.Rack.seen c.args.self.now) (slices_seen g.R.Rack.seen r)
-    × Serves v (raid_in r) (refused_in c.args.self.now) (refused_in c.answer.new.self)) (sym c.answer.ensures.same) (
+    × Serves v (raid_in r) (refused_in c.args.self.now) (refused_in c.answer.new.self)
+    × Spares (written_in r) (slices_seen g.R.Rack.seen c.args.self.now) (slices_seen g.R.Rack.seen r)) (sym c.answer.ensures.same) (
       c.read_array.ensures.runs,
       runs_moves (written_in c.args.self.now) c.args.self.now.arrays c.read_array.new.self _ _ c.requires.fit fit inside c.read_array.ensures.reads.moves,
       served_call v w (refused_in c.args.self.now) (refused_in c.answer.new.self) c.args.disk c.args.sector c.requires.sector
           reads.stays.sectors reads.stays.spent c.read_array.ensures.reads.moves.arrays c.answer.ensures.uncounted,
+      c.read_array.ensures.spares (written_in c.args.self.now),
     )
 
 pub returns-clause-once : goal.returns-clause-once

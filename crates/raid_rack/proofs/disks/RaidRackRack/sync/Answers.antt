@@ -20,6 +20,7 @@ returns-clause-runs g c =
           (record { running = c.sync_array.ensures.running; heeded = c.sync_array.ensures.syncs.heeded })
           (stops_inside (tables c.sync_array.new.rack) (g.R.Rack.seen (below_of c.sync_array.new.rack))) c.sync_array.ensures.syncs.moves,
       record { sectors = syncs.stays.sectors; spent = syncs.stays.spent; arrays = c.sync_array.ensures.syncs.moves.arrays; refused = λ n alive. refl },
+      c.sync_array.ensures.spares (written_in c.args.self.now),
     )
 
 pub returns-clause-once : goal.returns-clause-once

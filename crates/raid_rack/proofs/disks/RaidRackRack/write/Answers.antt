@@ -5,7 +5,7 @@ use Rattle.slice_rack.specs.Sliced.{slices_of}
 use Rattle.raid_rack.specs.Moves.{written_at}
 use Rattle.raid_rack.specs.Runs.{RaidRuns}
 use Rattle.raid_rack.specs.RaidRack.{IsFit, SliceRuns, raid_by, raid_in, raid_seen, refused_in, slices_in, slices_seen, is_written, written_in}
-use Rattle.raid_rack.specs.AllRuns.{IsOneCall, Serves}
+use Rattle.raid_rack.specs.AllRuns.{IsOneCall, Serves, Spares}
 use Rattle.raid_rack.specs.Laws.{stops_inside}
 use Rattle.raid_rack.proofs.Serving.{flags_kept, write_call, runs_call, served_call}
 use Rattle.raid_rack.proofs.disks.RaidRackRack.write.Goals as goal
@@ -34,13 +34,15 @@ returns-clause-runs g c =
     fit inside c.write_array.ensures.writes c.answer.ensures.served c.answer.ensures.refused c.answer.ensures.more in
     subst (λ r. SliceRuns g.R.Rack.seen g.R.Rack.runs (slices_in c.args.self.now) (slices_in r)
     × RaidRuns (written_in c.args.self.now) (written_in r) v (raid_in r) (slices_seen g.R.Rack.seen c.args.self.now) (slices_seen g.R.Rack.seen r)
-    × Serves v (raid_in r) (refused_in c.args.self.now) (refused_in c.answer.new.self)) (sym c.answer.ensures.same) (
+    × Serves v (raid_in r) (refused_in c.args.self.now) (refused_in c.answer.new.self)
+    × Spares (written_in r) (slices_seen g.R.Rack.seen c.args.self.now) (slices_seen g.R.Rack.seen r)) (sym c.answer.ensures.same) (
       c.write_array.ensures.runs,
       runs_call (written_in c.args.self.now) flags c.args.self.now.arrays c.write_array.new.self _ _ (written_at c.args.disk c.args.sector c.args.from.now)
           (flags_kept (written_in c.args.self.now) flags c.args.disk c.args.sector c.args.from.now c.note_written.ensures.noted c.note_written.ensures.others) c.requires.fit
           fit inside c.write_array.ensures.writes.brings c.write_array.ensures.writes.caused,
       served_call v w (refused_in c.args.self.now) (refused_in c.answer.new.self) c.args.disk c.args.sector c.requires.sector
           writes.stays.sectors writes.stays.spent c.write_array.ensures.writes.arrays c.answer.ensures.uncounted,
+      c.write_array.ensures.spares flags c.note_written.ensures.noted,
     )
 
 pub returns-clause-written : goal.returns-clause-written
