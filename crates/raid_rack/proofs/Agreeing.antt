@@ -1,5 +1,5 @@
 -- Parts of a call in a row, after which superblocks agree.
-use Rattle.std.proofs.Common.{◌≡◌, ℕ, ◌<◌, sym, subst}
+use Rattle.std.proofs.Common.{◌≡◌, ◌<◌, sym, subst}
 use Rattle.rack.specs.Seen.{Seen, Stays}
 use Rattle.rack.specs.Joins.{rose_early, rose_later}
 use Rattle.pool_state.specs.declared.contents.State.{State}

@@ -50,6 +50,7 @@ pub mod Restated
 pub mod Agreed
 pub mod Agreeing
 pub mod Sparing
+pub mod AgreeStill
 pub mod Restating
 pub mod Copies
 pub mod Brought

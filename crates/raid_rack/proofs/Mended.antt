@@ -312,14 +312,14 @@ pub ends_early : (a b c : Arrays) (lost : List ℕ) (x y : Seen) → IsTurn a lo
 ends_early a b c lost x y turn noted settles running other =
     let joined = moves_then (raid_by a) (raid_by b) (raid_by c) x x y noted.moves settles.moves in
     let lost_one = newly_other a c (sym (settles.same ∙ noted.same)) turn.running.count running.count turn.running.set.few
-          (λ p was current.
-          elim (cases_Bool (gone_in (raid_by c) p)) [
-            | inl is ↦ is
-            | inr not_yet ↦
-                let before = joined.left p (and_from (is_current c.state p) (not (gone_in (raid_by c) p)) current (ap not not_yet)) in
-                absurd (both_ways true (sym (and_parts (is_current a.state p) (not (gone_in (raid_by a) p)) before).1 ∙ ap not was) refl)
-          ])
-          (λ same. other (same ∙ sym turn.lost_are)) in
+    (λ p was current.
+    elim (cases_Bool (gone_in (raid_by c) p)) [
+      | inl is ↦ is
+      | inr not_yet ↦
+          let before = joined.left p (and_from (is_current c.state p) (not (gone_in (raid_by c) p)) current (ap not not_yet)) in
+          absurd (both_ways true (sym (and_parts (is_current a.state p) (not (gone_in (raid_by a) p)) before).1 ∙ ap not was) refl)
+    ])
+    (λ same. other (same ∙ sym turn.lost_are)) in
     record {
       moves = joined;
       progress = inr lost_one;

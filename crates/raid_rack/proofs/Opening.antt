@@ -160,4 +160,6 @@ opened_raid v w a b opens ready mends =
           (λ c. IsInside a.sectors c → SaysBetween v.state w.state n (held_in v a n) (spent_of w n) (replayed a.sectors c))
           (λ c says inside. says inside (before n joined))
           ((part n joined goes).leaves traced);
+      agree = λ agree none n joined goes.
+          agree none n (held_in v a n) (spent_of w n) joined (omega (arith, joined, ready)) goes (λ y alive. (live_parts w n y alive).1) (before n joined);
     }

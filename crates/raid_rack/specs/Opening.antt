@@ -1,13 +1,15 @@
 -- A pool's arrays as an opening hands them over: what slices at rest hold, with the places that are absent noted in each array.
 use Rattle.std.specs.Prelude.{◌≡◌, ℕ, ◌<◌, true, false}
 use Rattle.rack.specs.Values.{Keeps}
-use Rattle.rack.specs.Seen.{Seen}
+use Rattle.rack.specs.Seen.{Image, Seen}
 use Rattle.rack.specs.Moments.{Leaves}
 use Rattle.array_image.specs.Arrays.{replayed}
 use Rattle.array_image.specs.States.{is_current}
-use Rattle.array_image.specs.Left.{IsInside}
+use Rattle.array_image.specs.Left.{IsInside, IsLeft}
 use Rattle.commit_log.specs.Kept.{LogKept}
 use Rattle.array_model.specs.Opened.{OpensOn}
+use Rattle.raid_rack.specs.Agreeing.{MakesAgree, SupersAgree}
+use Rattle.raid_rack.specs.Cleaning.{NoneFails}
 use Rattle.raid_rack.specs.Raid.{Raid, AreLive, gone_in, held_in, is_over, live_of, spent_of, IsTold}
 use Rattle.raid_rack.specs.Marking.{SaysBetween}
 
@@ -29,3 +31,7 @@ pub record OpenedRaid (v w : Raid) (a b : Seen) : Type 0 where
   pub leaves :
       (n : ℕ) → n < v.state.joined → is_over w n ≡ false → a.traced
       → Leaves a b (λ c. IsInside a.sectors c → SaysBetween v.state w.state n (held_in v a n) (spent_of w n) (replayed a.sectors c))
+  -- and after superblocks were made to agree they do so
+  pub agree :
+      MakesAgree v w a b → NoneFails a b → (n : ℕ) → n < v.state.joined → is_over w n ≡ false
+      → (r : Image) → IsLeft b r → SupersAgree w.state r n

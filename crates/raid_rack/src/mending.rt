@@ -122,8 +122,8 @@ impl Arrays {
             return;
         }
         add_copies(&self.state, &on, &mut self.log);
-        let gone = self.log.commit(rack, &on);
-        note_gone(self.all.as_mut_slice(), &gone);
+        let went = self.log.commit(rack, &on);
+        note_gone(self.all.as_mut_slice(), &went);
         self.mend(rack);
     }
 

@@ -1,0 +1,17 @@
+use Rattle.slice_rack.specs.SliceRack.{tables, below_of}
+use Rattle.raid_rack.specs.Laws.{stops_inside}
+use Rattle.raid_rack.specs.RaidRack.{written_in}
+use Rattle.raid_rack.proofs.Serving.{moves_keep, runs_moves}
+use Rattle.raid_rack.proofs.arrays.RaidRack.restate.Goals as goal
+
+pub returns-clause-keeps : goal.returns-clause-keeps
+returns-clause-keeps g c =
+    moves_keep c.args.self.now.arrays c.restate.new.self _ _ c.requires.fit
+    (record { running = c.restate.ensures.running; heeded = c.restate.ensures.mends.heeded })
+    (stops_inside (tables c.restate.new.rack) (g.R.Rack.seen (below_of c.restate.new.rack))) c.restate.ensures.mends.moves
+
+pub returns-clause-book : goal.returns-clause-book
+returns-clause-book g c =
+    runs_moves (written_in c.args.self.now) c.args.self.now.arrays c.restate.new.self _ _ c.requires.fit
+    (record { running = c.restate.ensures.running; heeded = c.restate.ensures.mends.heeded })
+    (stops_inside (tables c.restate.new.rack) (g.R.Rack.seen (below_of c.restate.new.rack))) c.restate.ensures.mends.moves
