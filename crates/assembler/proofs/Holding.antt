@@ -1,11 +1,12 @@
 -- The rack of a pool's arrays holds what the pool's contents give.
-use Rattle.std.proofs.Common.{◌≡◌, ℕ, ◌+◌, ◌<◌, ◌≤◌, Bool, true, false, ◌&&◌, ◌||◌, not, nat_lt, is_none, List, [], ◌∷◌, filter, slice_get, Some, None, inl, inr, refl, sym, ap, subst, ◌∙◌, eq-eqb, lt-ltb, arith}
-use Rattle.std.specs.List.{range_with_len}
+use Rattle.std.proofs.Common.{◌≡◌, ◌⊎◌, ℕ, ◌+◌, ◌<◌, ◌≤◌, Bool, true, false, ◌&&◌, ◌||◌, not, nat_lt, is_none, List, [], ◌∷◌, filter, slice_get, Some, None, inl, inr, refl, sym, ap, subst, ◌∙◌, eq-eqb, lt-ltb, arith}
+use Rattle.std.specs.List.{list_any, range_with_len}
 use Rattle.std.proofs.lemmas.Bool.{both_ways, cases_Bool}
 use Rattle.rack.specs.Values.{MayLeave}
 use Rattle.rack.specs.Seen.{Image, Seen, IsLive, Rose, Stays}
 use Rattle.rack.specs.Joins.{leaves_same, leaves_then, leaves_weaker, stays_same}
 use Rattle.rack.specs.Moments.{Leaves}
+use Rattle.rack.specs.Sequences.{OnlyReads}
 use Rattle.rack.specs.Targets.{look}
 use Rattle.slice_rack.specs.Slices.{Slices, IsOrderly, seat_of, sectors_of}
 use Rattle.slice_rack.specs.Sliced.{slices_of as slices_seen}
@@ -13,7 +14,8 @@ use Rattle.pool_state.specs.declared.contents.State.{State}
 use Rattle.array_image.specs.Places.{data_sector, log_slice, member_slice}
 use Rattle.array_image.specs.States.{current_places, is_current}
 use Rattle.array_image.specs.Held.{IsSettled, held_by}
-use Rattle.array_image.specs.Left.{IsInside, reading}
+use Rattle.array_image.specs.Left.{IsClosed, IsInside, IsLeft, reading}
+use Rattle.array_image.proofs.Frames.{Agree}
 use Rattle.array_image.proofs.Sources.{held_single}
 use Rattle.commit_log.specs.View.{LogView, left_of}
 use Rattle.commit_log.specs.Opening.{Finds, ReplayCall}
@@ -27,10 +29,13 @@ use Rattle.pool_image.specs.Drives.{Found, slices_of}
 use Rattle.pool_check.specs.declared.Checked.{Checked}
 use Rattle.pool_check.specs.Checking.{IsChecked}
 use Rattle.pool_check.specs.Refusing.{is_well}
-use Rattle.raid_rack.specs.Raid.{Raid, gone_in, held_in, spent_of}
+use Rattle.raid_rack.specs.Agreeing.{MakesAgree, SupersAgree}
+use Rattle.raid_rack.specs.Cleaning.{NoneFails}
+use Rattle.raid_rack.proofs.Agreed.{agree_by}
+use Rattle.raid_rack.specs.Raid.{Raid, gone_in, held_in, is_over, spent_of}
 use Rattle.raid_rack.specs.Book.{IsAfter}
 use Rattle.raid_rack.specs.Marking.{SaysBetween}
-use Rattle.raid_rack.specs.Moves.{Mends}
+use Rattle.raid_rack.specs.Moves.{IsHeeded, Mends}
 use Rattle.raid_rack.specs.Opening.{OpenedRaid, OpensRaid}
 use Rattle.raid_rack.proofs.Added.{names_current}
 use Rattle.raid_rack.proofs.Noted.{gone_not, gone_some}
@@ -41,7 +46,8 @@ use Rattle.assembler.specs.Holding.{AreSteady, HoldPool, HoldsArrays, IsIdle, Is
 use Rattle.assembler.proofs.Amid.{closing_leaves, says_only}
 use Rattle.assembler.proofs.Arrays.{array_room, array_whole, array_read, array_values, opens_array, sectors_are}
 use Rattle.assembler.proofs.Rest.{copies_agree, log_there, opened_now}
-use Rattle.assembler.proofs.Shows.{few_made, few_place, got, none_past}
+use Rattle.assembler.proofs.Agreeing.{fresh_agrees, left_reads}
+use Rattle.assembler.proofs.Shows.{few_made, few_place, got, live as live_at, none_past}
 use Rattle.assembler.proofs.Still.{opens_still, rest_closed}
 use Rattle.assembler.proofs.Whole.{whole_member}
 
@@ -191,6 +197,44 @@ module _ (f : Found) (t : Slices) (x : Seen) (checked : Checked) (absent : List 
       (λ shutting. let slice = shutting.slice in absurd (omega (arith, slice, low)))
       (ap (λ xs. look xs (member_slice place n) s) idle)).current
 
+  -- where no superblock was stale and none is absent, they agree in whatever calls leave that only read
+  pub agree_still : (l : LogView) → number ≡ l.number → IsIdle f.state t x l → absent ≡ [] → list_any (λ flag. flag) checked.stale.items ≡ false
+      → (b : Seen) → OpensRaid v b → Stays (slices_seen t x) b
+      → ((n place s : ℕ) → n < 16 → IsLive (slices_seen t x) (slices_seen t x) (member_slice place n) s
+      → (b.held (member_slice place n) s).current ≡ ((slices_seen t x).held (member_slice place n) s).current)
+      → (w : Raid) (c : Seen) → OnlyReads b c → w.state ≡ f.state → IsHeeded w → OpenedRaid v w b c
+      → (n : ℕ) → n < f.state.joined → is_over w n ≡ false → (r : Image) → IsLeft c r → SupersAgree w.state r n
+  agree_still l number_is log none fresh b opens stays kept w c reads same heeded marks n less goes r left =
+      let a = slices_seen t x in
+      let made = low_joined n less in
+      let at = array_at n made in
+      let few = few_made f t x checked absent orderly m steady pool found.opened n made in
+      let told = marks.told n less in
+      let stood = told.stood goes in
+      let made_now : n < w.state.made = subst (λ (s : State). n < s.made) (sym same) made in
+      let sectors : (d : ℕ) → c.sectors d ≡ a.sectors d = λ d. reads.stays.sectors d ∙ stays.sectors d in
+      let live : (place u : ℕ) → place < 16 → u < c.sectors (member_slice place n) → IsLive c c (member_slice place n) u =
+      λ place u low inside. told.slices goes n place u made_now low inside in
+      let agree : Agree n r (reading a) =
+      left_reads n a c (λ d high. sectors d ∙ none_past f t x checked absent orderly m steady pool found.opened d high) sectors
+      (subst (λ k. IsClosed k c) stood.number (stood.holds.closed (heeded n made_now))) live
+      (λ place u value low inside may.
+      let d = member_slice place n in
+      let early : u < b.sectors d = subst (λ k. u < k) (reads.stays.sectors d) inside in
+      let before = opens.slices n place u made low early in
+      let first : IsLive a a d u = live_at f t x checked absent orderly m steady pool found.opened d u (subst (λ k. u < k) (sectors d) inside) in
+      let both : IsLive b c d u = live_on (opens_lasting stays) reads.stays before in
+      subst (λ j. IsLive b b (member_slice place j) u → value ≡ (b.held (member_slice place j) u).current) (opens.numbers n less)
+      (λ there. (opens.arrays n less).single place u there value
+      (subst (λ j. MayLeave (b.held (member_slice place j) u) value) (sym (opens.numbers n less)) ((reads.keeps.held d u both).within value may))) before
+      ∙ kept n place u few first)
+      r left in
+      subst (λ (s : State). SupersAgree s r n) (sym same)
+      (agree_by f.state r (reading a) n agree (fresh_agrees f t x checked absent orderly m steady pool found.opened sound none fresh n made at.0 at.1))
+    where
+      opens_lasting : {b : Seen} → Stays (slices_seen t x) b → b.lasting
+      opens_lasting stays = stays.lasting m.lasting
+
   -- ---- after the marks
 
   -- an array's sectors have one value, which is that of the pool
@@ -216,9 +260,11 @@ module _ (f : Found) (t : Slices) (x : Seen) (checked : Checked) (absent : List 
       → ((n : ℕ) → n < f.state.joined → (w : State) (spent : ℕ → Bool) → IsAfter f.state w → x.traced
       → Leaves (slices_seen t x) b (λ c. IsInside (sectors_of t) c → SaysBetween f.state w n (pool_values f n) spent (replayed (sectors_of t) c)))
       → (w : Raid) (c : Seen) → IsAfter f.state w.state → ((n : ℕ) → array_sectors_of (w.arrays n) ≡ array_sectors_of (arrays n))
-      → OpenedRaid v w b c → HoldsArrays f w (slices_seen t x) c
-  holds_marked b opens stays kept closing w c after sizes marks = record {
+      → OpenedRaid v w b c → ((n : ℕ) → n < f.state.joined → is_over w n ≡ false → (r : Image) → IsLeft c r → SupersAgree w.state r n)
+      → HoldsArrays f w (slices_seen t x) c
+  holds_marked b opens stays kept closing w c after sizes marks agree = record {
     after = after;
+    agree = agree;
     told = marks.told;
     sectors = λ n less.
         let made = low_joined n less in
@@ -280,29 +326,40 @@ module _ (f : Found) (s : State) (t : Slices) (x : Seen) (checked : Checked) (ab
   ready = (valid_arrays f.state 0 m.valid).3
 
   -- where a place is absent
-  pub rack_still : gone_now ≡ absent → (w : Raid) (c : Seen) → Mends v w (slices_seen t x) c → HoldsArrays f w (slices_seen t x) c
-  rack_still none w c mends =
+  pub rack_still : gone_now ≡ absent → (w : Raid) (c : Seen) → Mends v w (slices_seen t x) c → MakesAgree v w (slices_seen t x) c → NoneFails (slices_seen t x) c
+      → HoldsArrays f w (slices_seen t x) c
+  rack_still none w c mends agree quiet =
       let now : (n : ℕ) (u : View) → slice_get checked.arrays.items n ≡ Some u → before.arrays n ≡ gone absent (restarted u) =
       λ n u is. are n u is ∙ ap (λ ps. gone ps (restarted u)) none in
       let opens = holds_still f t x checked absent orderly m holds.steady pool found holds.sound rules v.arrays v.number now l number log in
+      let marks = opened_raid before w (slices_seen t x) c opens ready (subst (λ k. Mends k w (slices_seen t x) c) before_is mends) in
       holds_marked f t x checked absent orderly m holds.steady pool found holds.sound rules v.arrays v.number now
       (slices_seen t x) opens (stays_same (slices_seen t x) m.fit) (λ n place k low live. refl)
       (λ n less k spent after traced. leaves_same (slices_seen t x) (λ i. IsInside (sectors_of t) i → SaysBetween f.state k n (pool_values f n) spent (replayed (sectors_of t) i)))
-      w c (subst (λ k. IsAfter k w.state) (state ∙ same) mends.moves.book) mends.moves.sectors
-      (opened_raid before w (slices_seen t x) c opens ready (subst (λ k. Mends k w (slices_seen t x) c) before_is mends))
+      w c (subst (λ k. IsAfter k w.state) (state ∙ same) mends.moves.book) mends.moves.sectors marks
+      (marks.agree (subst (λ k. MakesAgree k w (slices_seen t x) c) before_is agree) quiet)
 
   -- where none is, and none goes
   pub rack_closed : absent ≡ [] → gone_now ≡ [] → (b : Seen) → ReplayCall l (current_places s) gone_now (slices_seen t x) b
-      → (w : Raid) (c : Seen) → Mends v w b c → HoldsArrays f w (slices_seen t x) c
-  rack_closed none nobody b replay w c mends =
+      → (w : Raid) (c : Seen) → Mends v w b c
+      → (MakesAgree v w b c × NoneFails b c) ⊎ (OnlyReads b c × (w.state ≡ v.state) × (list_any (λ flag. flag) checked.stale.items ≡ false))
+      → HoldsArrays f w (slices_seen t x) c
+  rack_closed none nobody b replay w c mends either =
       let now : (n : ℕ) (u : View) → slice_get checked.arrays.items n ≡ Some u → before.arrays n ≡ gone absent (restarted u) =
       λ n u is. are n u is ∙ ap (λ ps. gone ps (restarted u)) (nobody ∙ sym none) in
       let call : ReplayCall l (current_places f.state) [] (slices_seen t x) b =
       subst (λ k. ReplayCall l (current_places k) [] (slices_seen t x) b) same
       (subst (λ lost. ReplayCall l (current_places s) lost (slices_seen t x) b) nobody replay) in
       let opens = holds_closed f t x checked absent orderly m holds.steady pool found holds.sound rules v.arrays v.number now l log none number b call in
+      let kept = data_kept f t x checked absent orderly m holds.steady pool found holds.sound rules v.arrays v.number now l log.none b call in
+      let marks = opened_raid before w b c opens ready (subst (λ k. Mends k w b c) before_is mends) in
       holds_marked f t x checked absent orderly m holds.steady pool found holds.sound rules v.arrays v.number now
-      b opens replay.stays (data_kept f t x checked absent orderly m holds.steady pool found holds.sound rules v.arrays v.number now l log.none b call)
+      b opens replay.stays kept
       (says_closing f t x checked absent orderly m holds.steady pool found holds.sound rules v.arrays v.number now l log none number b call)
-      w c (subst (λ k. IsAfter k w.state) (state ∙ same) mends.moves.book) mends.moves.sectors
-      (opened_raid before w b c opens ready (subst (λ k. Mends k w b c) before_is mends))
+      w c (subst (λ k. IsAfter k w.state) (state ∙ same) mends.moves.book) mends.moves.sectors marks
+      (elim either [
+        | inl made ↦ marks.agree (subst (λ k. MakesAgree k w b c) before_is made.0) made.1
+        | inr still ↦
+            agree_still f t x checked absent orderly m holds.steady pool found holds.sound rules v.arrays v.number now l number log none still.2 b opens replay.stays kept w c
+            still.0 (still.1 ∙ state ∙ same) mends.heeded marks
+      ])

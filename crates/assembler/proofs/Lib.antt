@@ -1,3 +1,4 @@
+mod Agreeing
 mod Amid
 mod Arrays
 mod Before

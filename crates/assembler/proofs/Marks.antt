@@ -1,8 +1,8 @@
 -- Which places are marked missing once a rack of arrays is made.
-use Rattle.std.proofs.Common.{◌≡◌, ℕ, ◌<◌, ◌&&◌, ◌||◌, Bool, true, not, List, slice_get, Some, inl, inr, sym, ap, subst, ◌∙◌, arith}
+use Rattle.std.proofs.Common.{◌≡◌, ℕ, ◌<◌, ◌&&◌, ◌||◌, Bool, true, not, is_none, List, [], ◌∷◌, slice_get, Some, inl, inr, refl, sym, ap, subst, ◌∙◌, arith}
 use Rattle.std.proofs.lemmas.Bool.{and_from, and_parts, both_ways, cases_Bool}
 use Rattle.rack.specs.Seen.{Seen}
-use Rattle.slice_rack.specs.Slices.{Slices}
+use Rattle.slice_rack.specs.Slices.{Slices, seat_of}
 use Rattle.pool_state.specs.declared.contents.State.{State}
 use Rattle.array_image.specs.States.{is_current}
 use Rattle.array_model.specs.View.{View, HasFault, has_gone}
@@ -10,7 +10,8 @@ use Rattle.array_core.specs.Seats.{gone, restarted}
 use Rattle.commit_log.specs.View.{names}
 use Rattle.pool_scan.proofs.Valid.{valid_arrays, valid_places}
 use Rattle.pool_check.specs.declared.Checked.{Checked}
-use Rattle.raid_rack.specs.Moves.{IsHeeded, Mends}
+use Rattle.commit_log.proofs.Deciding.{names_first}
+use Rattle.raid_rack.specs.Moves.{AreMarked, IsHeeded, Mends}
 use Rattle.raid_rack.specs.Runs.{RaidRuns}
 use Rattle.raid_rack.proofs.Whole.{heeded_left}
 use Rattle.raid_rack.specs.Raid.{Raid, gone_in, is_left}
@@ -46,6 +47,23 @@ module _ (s : State) (t : Slices) (y : Seen) (checked : Checked) (absent places 
         let some : 0 < v.state.made = omega (arith, least, made) in
         none ∙ sym (sym (went_is 0 p some few) ∙ gone_not v p 0 few some none)
   ]
+
+  -- where none is absent, whoever went is marked
+  pub all_marked : absent ≡ [] → AreMarked v
+  all_marked none p current =
+      gone_is p (few_place p (subst (λ (k : State). is_current k p ≡ true) state current)) ∙ ap (λ (ps : List ℕ). names ps p) none
+
+  -- and else somebody isn't
+  pub some_unmarked : (absent ≡ [] → ⊥) → AreMarked v → ⊥
+  some_unmarked some are =
+      let one = named absent some in
+      let p = one.0 in
+      let current = (and_parts (is_none (seat_of t p)) (is_current s p) (sym (m.absent_is p) ∙ one.1)).1 in
+      both_ways (gone_in v p) (are p (ap (λ (k : State). is_current k p) state ∙ current)) (gone_is p (few_place p current) ∙ one.1)
+    where
+      named : (ps : List ℕ) → (ps ≡ [] → ⊥) → (p : ℕ) × (names ps p ≡ true)
+      named [] some = absurd (some refl)
+      named (p ∷ ps) some = (p, names_first p ps)
 
   pub marks_absent : ((place : ℕ) → HasFault b c place → ⊥) → (p : ℕ) → is_current w.state p ≡ (is_current s p && not (names absent p))
   marks_absent quiet p = elim (cases_Bool (is_current w.state p)) [

@@ -1,6 +1,6 @@
 -- The copies of partition tables are made to agree: the slices of the drives stay as they are, and tables that agree do so after writes to slices.
 use Rattle.std.proofs.Common.{◌≡◌, ◌⊎◌, ℕ, ◌+◌, ◌<◌, ◌≤◌, ◌==◌, true, false, ◌&&◌, is_none, List, filter, Option, Some, None, inl, inr, refl, sym, ap, subst, ◌∙◌, eqb-true, arith}
-use Rattle.std.proofs.lemmas.Bool.{and_from, and_parts, both_ways}
+use Rattle.std.proofs.lemmas.Bool.{and_from, and_parts, both_ways, cases_Bool}
 use Rattle.std.proofs.lemmas.Map.Views.{any-filter_same}
 use Rattle.rack.specs.Values.{Keeps, MayLeave}
 use Rattle.rack.specs.Seen.{IsLive, Seen, Stays}
@@ -27,6 +27,8 @@ use Rattle.pool_rest.specs.Resting.{IsOfDrive}
 use Rattle.pool_check.specs.declared.Checked.{Checked}
 use Rattle.pool_check.specs.Settling.{IsSettled, IsTableSector, KeepsTable}
 use Rattle.pool_check.proofs.Settled.{keeps_after, keeps_before, settled_by, settled_since, table_end}
+use Rattle.raid_rack.specs.Agreeing.{MakesAgree}
+use Rattle.raid_rack.proofs.Agreeing.{agree_then}
 use Rattle.raid_rack.specs.Raid.{Raid}
 use Rattle.raid_rack.specs.Moves.{IsSet, Mends, Moves}
 use Rattle.raid_rack.proofs.Added.{names_current}
@@ -54,6 +56,21 @@ reads_mend v w a b c set some reads mends = record {
   heeded = mends.heeded;
   marked = mends.marked;
 }
+
+-- losses that are mended twice
+pub mends_then : (v w z : Raid) (a b c : Seen) → Mends v w a b → Mends w z b c → Mends v z a c
+mends_then v w z a b c one two = record {
+  moves = moves_then v w z a b c one.moves two.moves;
+  heeded = two.heeded;
+  marked = λ p was. elim (cases_Bool (is_current z.state p)) [
+    | inl on ↦ absurd (both_ways (is_current w.state p) (one.marked p was) (two.moves.book.current p on))
+    | inr off ↦ off
+  ];
+}
+
+-- superblocks that agree after calls, some reads before which are calls of the same arrays
+pub reads_agree : (v w : Raid) (a b c : Seen) → IsSet v a → 0 < v.state.made → OnlyReads a b → Moves v w b c → MakesAgree v w b c → MakesAgree v w a c
+reads_agree v w a b c set some reads moves agree = agree_then v v w a b c (reads_move v a b set some reads) moves agree
 
 -- ---- sectors of tables
 

@@ -1,7 +1,7 @@
 -- What a pool's arrays hold where its disks are told.
 use Rattle.std.specs.Prelude.{◌≡◌, ℕ, ◌<◌, ◌≤◌, ◌&&◌, nat_lt, Bool, true, false, List, [], length, Option, Some, None}
 use Rattle.rack.specs.Values.{MayLeave, Values, only}
-use Rattle.rack.specs.Seen.{Seen}
+use Rattle.rack.specs.Seen.{Image, Seen}
 use Rattle.rack.specs.Moments.{Leaves}
 use Rattle.slice_rack.specs.Slices.{Slices, seat_of, sectors_of}
 use Rattle.slice_rack.specs.Sliced.{slices_of as slices_seen}
@@ -11,7 +11,7 @@ use Rattle.array_image.specs.Places.{log_slice}
 use Rattle.array_image.specs.States.{is_current}
 use Rattle.array_image.specs.Supers.{is_named}
 use Rattle.array_image.specs.Arrays.{replayed}
-use Rattle.array_image.specs.Left.{IsInside, reading}
+use Rattle.array_image.specs.Left.{IsInside, IsLeft, reading}
 use Rattle.commit_log.specs.View.{LogView, left_of, names}
 use Rattle.commit_log.specs.Opening.{Finds}
 use Rattle.pool_image.specs.Disks.{disks_of, identities_of}
@@ -24,6 +24,7 @@ use Rattle.pool_scan.specs.Scanning.{AllTold, now_in}
 use Rattle.pool_rest.specs.Standing.{IsLasting}
 use Rattle.pool_rest.specs.Resting.{AreSectors, AreSingle, StandsNow}
 use Rattle.pool_check.specs.Drives.{Drives}
+use Rattle.raid_rack.specs.Agreeing.{SupersAgree}
 use Rattle.raid_rack.specs.Raid.{Raid, IsTold, held_in, is_over, live_of, spent_of}
 use Rattle.array_model.specs.View.{sectors_of as sectors_in}
 use Rattle.raid_rack.specs.Book.{IsAfter}
@@ -85,7 +86,7 @@ pool_values f n y = only (arrays_held f n y)
 
 -- Calls on slices a, which left arrays over slices b: marks alone may have come to the pool's state. Each array that is ready for the
 -- volume is told and has the pool's sectors, of which each that can be had has one value, that of the pool's contents. At each moment
--- contents say so, by a state between the two.
+-- contents say so, by a state between the two. Afterwards the superblocks of each array agree.
 pub record HoldsArrays (f : Found) (v : Raid) (a b : Seen) : Type 0 where
   pub after : IsAfter f.state v.state
   pub told : (n : ℕ) → n < f.state.joined → IsTold v b n
@@ -97,3 +98,5 @@ pub record HoldsArrays (f : Found) (v : Raid) (a b : Seen) : Type 0 where
   pub leaves :
       (n : ℕ) → n < f.state.joined → is_over v n ≡ false → a.traced
       → Leaves a b (λ c. IsInside a.sectors c → SaysBetween f.state v.state n (pool_values f n) (spent_of v n) (replayed a.sectors c))
+  -- the superblocks of each agree, durably
+  pub agree : (n : ℕ) → n < f.state.joined → is_over v n ≡ false → (r : Image) → IsLeft b r → SupersAgree v.state r n

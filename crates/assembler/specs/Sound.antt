@@ -1,9 +1,10 @@
 -- Disks from which a pool is opened, and what an opening answers by what they mean.
 use Rattle.std.specs.Prelude.{◌≡◌, ◌⊎◌, ◌&&◌, ◌<◌, ℕ, suc, nat_lt, true, false, ◌∷◌, [], None, Some}
-use Rattle.rack.specs.Seen.{Seen}
+use Rattle.rack.specs.Seen.{Image, Seen}
 use Rattle.rack.specs.Moments.{Leaves}
 use Rattle.slice_rack.specs.Slices.{Slices, first_of, place_of, seat_of, sectors_of}
 use Rattle.slice_rack.specs.SliceRack.{below_of, tables}
+use Rattle.array_image.specs.Left.{IsLeft}
 use Rattle.array_image.specs.Places.{log_slice, member_slice}
 use Rattle.lvm_group.specs.Runs.{Linear}
 use Rattle.lvm_group.specs.Shown.{volume_of}
@@ -16,9 +17,10 @@ use Rattle.pool_rest.specs.Moments.{BringsNoState, KeepsPlaces}
 use Rattle.pool_rest.specs.Resting.{IsIdle}
 use Rattle.pool_rest.specs.SoundLogs.{HasSoundLogs}
 use Rattle.raid_rack.specs.declared.arrays.RaidRack.{RaidRack}
+use Rattle.raid_rack.specs.Agreeing.{SupersAgree}
 use Rattle.raid_rack.specs.Book.{IsAfter}
 use Rattle.raid_rack.specs.Raid.{IsTold}
-use Rattle.raid_rack.specs.RaidRack.{raid_in, raid_seen, slices_in, slices_seen}
+use Rattle.raid_rack.specs.RaidRack.{raid_in, raid_seen, slices_in, slices_seen, written_in}
 use Rattle.assembler.specs.declared.refusal.Refusal.{Refusal}
 use Rattle.assembler.specs.Holding.{AreSteady, IsSoundPool}
 use Rattle.assembler.specs.Refusing.{meant_by}
@@ -76,6 +78,13 @@ pub record IsMeantBy {R : Type 0} (seen : R → Seen) (x : Seen) (f : Found) (ra
   pub live : AllLive (raid_in rack)
   -- what a stop leaves inside the opening holds that volume, where it may come amid the replay of the record that was pending
   pub moments : MayStop x f → x.traced → Leaves x (seen (below_of (slices_in rack))) (HoldsAt (tables (slices_in rack)) l volume)
+
+-- The superblocks of each array agree, durably: in whatever a stop leaves of the slices, once it is replayed. Nothing is said of an array
+-- that was written, since its text was brought up to date: what is written marks its superblocks.
+abbrev pub HaveAgreed : {R : Type 0} → (R → Seen) → Found → RaidRack R → Type 0
+HaveAgreed seen f rack =
+    (n : ℕ) → n < f.state.joined → written_in rack n ≡ false
+    → (r : Image) → IsLeft (slices_seen seen rack) r → SupersAgree (raid_in rack).state r n
 
 -- the meaning of these disks is refused so
 abbrev pub IsMeantRefusal : Seen → Refusal → Type 0

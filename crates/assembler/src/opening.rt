@@ -10,7 +10,7 @@ ghost use Rattle.slice_rack.specs.SliceRack.{below_of, tables};
 ghost use Rattle.slice_rack.specs.Slices.{seat_of};
 ghost use Rattle.lvm_group.specs.Shown.{total, volume_of};
 ghost use Rattle.lvm_group.specs.Volume.{below_of as rack_in, linear, seqno_of};
-ghost use Rattle.assembler.specs.Sound.{HoldSound, IsMeantBy, IsMeantRefusal};
+ghost use Rattle.assembler.specs.Sound.{HaveAgreed, HoldSound, IsMeantBy, IsMeantRefusal};
 ghost use Rattle.assembler.specs.Volume.{OpensVolume, RefusesVolume};
 ghost use Rattle.array_image.specs.States.{is_current};
 ghost use Rattle.assembler.specs.Writing.{WritesPool};
@@ -109,8 +109,8 @@ fn give_back<R: Rack>(raid: RaidRack<R>, why: Refusal) -> Back<R, Refusal>
 /// a pool of which fewer than 2^62 changes were made.
 ///
 /// Of the pool's disks only drives are written: the pending record before the checks, and after these gates that are open, copies of
-/// partition tables that differ from their disk's table, the marks of an absent drive, superblocks with them, and the volume's texts where
-/// an array lacks the newest one.
+/// partition tables that differ from their disk's table, the marks of an absent drive, superblocks with them or where one is stale, and the
+/// volume's texts where an array lacks the newest one.
 pub fn assemble<R: Rack>(
     alloc: Global,
     rack: R,
@@ -139,6 +139,9 @@ pub fn assemble<R: Rack>(
         → KeepsTable (R.seen rack) (R.seen (below_of (slices_in (rack_in volume)))) d) }
     ensures mended { IfOk result (λ volume. (f : Found) → HoldSound (R.seen rack) f → IsUnfaulted (R.seen rack) (R.seen (below_of (slices_in (rack_in volume))))
         → (p d : ℕ) → f.seats p ≡ Some d → IsSettled (R.seen rack) (R.seen (below_of (slices_in (rack_in volume)))) d) }
+    // Then too the superblocks of each array agree, durably, but of one whose text was brought up to date.
+    ensures agreed { IfOk result (λ volume. (f : Found) → HoldSound (R.seen rack) f → IsUnfaulted (R.seen rack) (R.seen (below_of (slices_in (rack_in volume))))
+        → HaveAgreed R.seen f (rack_in volume)) }
     ensures exact { IfErr result (λ back. (f : Found) → HoldSound (R.seen rack) f → IsUnfaulted (R.seen rack) (R.seen back.rack)
         → back.why ≢ Memory → IsMeantRefusal (R.seen rack) back.why) }
     ensures returned { IfErr result (λ back. R.runs rack back.rack) }

@@ -1,6 +1,7 @@
 //! The rack of a pool's arrays, made of the slices of its drives.
 
-ghost use Rattle.std.specs.Prelude.{◌≡◌, ◌<◌, ◌^◌, ℕ, [], slice_get, true, Some, None};
+ghost use Rattle.std.specs.Prelude.{◌≡◌, ◌⊎◌, ◌<◌, ◌^◌, ℕ, [], slice_get, true, false, Some, None};
+ghost use Rattle.std.specs.List.{list_any};
 ghost use Rattle.slice_rack.specs.SliceRack.{tables, below_of};
 ghost use Rattle.slice_rack.specs.Sliced.{slices_of};
 ghost use Rattle.slice_rack.specs.Slices.{seat_of, sectors_of as slice_sectors};
@@ -9,7 +10,9 @@ ghost use Rattle.commit_log.specs.View.{names};
 ghost use Rattle.commit_log.specs.Phases.{AreLogs};
 ghost use Rattle.array_model.specs.View.{View, IsArray, sectors_of};
 ghost use Rattle.lvm_group.specs.Shown.{total};
-ghost use Rattle.raid_rack.specs.RaidRack.{IsFit, SliceRuns, arrays_in, raid_in, raid_seen, refused_in, slices_in, slices_seen};
+ghost use Rattle.raid_rack.specs.Agreeing.{MakesAgree};
+ghost use Rattle.raid_rack.specs.Moves.{AreMarked, Mends};
+ghost use Rattle.raid_rack.specs.RaidRack.{IsFit, IsRunning, SliceRuns, arrays_in, raid_in, raid_seen, refused_in, slices_in, slices_seen};
 ghost use Rattle.commit_log.specs.Opening.{ReplayCall};
 ghost use Rattle.pool_image.specs.Drives.{Found};
 ghost use Rattle.pool_scan.specs.Scanning.{IsUnfaulted};
@@ -65,9 +68,35 @@ fn close_gates<R: Rack>(
     log.replay(slices, &current_places(state))
 }
 
+/// Whether an array has a superblock that is stale.
+fn has_stale(stale: &[bool]) -> bool
+    ensures { result ≡ list_any (λ flag. flag) stale.now }
+{
+    stale.iter().any(|flag| *flag)
+}
+
+/// Marks the places that are noted as gone in the arrays, and makes the superblocks of each array agree where one is stale. The commit of
+/// a mark has all superblocks, so they agree after it too.
+fn mark_gone<R: Rack>(raid: &mut RaidRack<R>, is_stale: bool)
+    requires running { IsRunning (arrays_in raid.old) (slices_seen R.seen raid.old) }
+    ensures mends { Mends (raid_in raid.old) (raid_in raid.new) (slices_seen R.seen raid.old) (slices_seen R.seen raid.new) }
+    ensures supers { (is_stale ≡ true) ⊎ (AreMarked (raid_in raid.old) → ⊥)
+        → MakesAgree (raid_in raid.old) (raid_in raid.new) (slices_seen R.seen raid.old) (slices_seen R.seen raid.new) }
+    ensures idle { is_stale ≡ false → AreMarked (raid_in raid.old)
+        → (slices_in raid.new ≡ slices_in raid.old) × ((raid_in raid.new).state ≡ (raid_in raid.old).state) }
+    ensures fit { IsFit (arrays_in raid.new) (slices_seen R.seen raid.new) }
+    ensures refused { (n : ℕ) → refused_in raid.new n ≡ refused_in raid.old n }
+    ensures runs { SliceRuns R.seen R.runs (slices_in raid.old) (slices_in raid.new) }
+{
+    raid.mark_gone();
+    if is_stale {
+        raid.restate();
+    }
+}
+
 /// The rack of a pool's arrays. Gates are closed first, then the copies of partition tables are made to agree. Places that are absent are
 /// marked missing, and so are those whose drive goes meanwhile: their marks are durable when this returns, where a drive is left to write
-/// them on.
+/// them on. Where a superblock is stale, all are written anew then.
 pub(crate) fn make_rack<R: Rack>(members: Members<R>, seconds: u64) -> RaidRack<R>
     requires seats { (p : ℕ) → seats_by members.seats p ≡ seat_of (tables members.slices) p }
     requires members { AreMembers members.state (tables members.slices) (R.seen (below_of members.slices)) members.checked members.absent.items }
@@ -111,6 +140,6 @@ pub(crate) fn make_rack<R: Rack>(members: Members<R>, seconds: u64) -> RaidRack<
     let left_out = mend_tables(&mut slices, &state, seats, &gone);
     note_gone(arrays.as_mut_slice(), &left_out);
     let mut raid = RaidRack::new(slices, state, arrays, log, seconds);
-    raid.mark_gone();
+    mark_gone(&mut raid, has_stale(checked.stale.as_slice()));
     raid
 }

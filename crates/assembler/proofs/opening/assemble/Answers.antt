@@ -22,7 +22,11 @@ use Rattle.pool_rest.specs.Moments.{GivesNow, KeepsReplayed}
 use Rattle.pool_rest.proofs.Keeping.{inside_before}
 use Rattle.pool_scan.proofs.Valid.{valid_arrays}
 use Rattle.raid_rack.specs.Book.{IsAfter, after_then}
+use Rattle.raid_rack.specs.Laws.{live_parts}
+use Rattle.raid_rack.specs.Raid.{is_over}
+use Rattle.raid_rack.proofs.AgreeStill.{agree_spared}
 use Rattle.raid_rack.proofs.Live.{runs_unused}
+use Rattle.array_model.specs.View.{sectors_of}
 use Rattle.assembler.specs.Holding.{IsIdle, IsPoolOn}
 use Rattle.assembler.specs.Members.{AreMembers}
 use Rattle.assembler.specs.Refusing.{is_early, meant_by}
@@ -383,3 +387,50 @@ returns-in-Ok-open_volume-clause-keeps g c p d seat =
     opening_keeps m.state c.in-Ok.ensures.only.state t (seen c.args.rack) (seen (below_of c.in-Ok.rest.slices)) (seen (below_of m.slices)) z w m.checked m.absent.items
     c.in-Ok.ensures.only.known m.slices.orderly c.in-Ok-check.ensures.members c.in-Ok.ensures.only.only c.in-Ok-check.ensures.only c.make_rack.ensures.only.stays
     (subst (λ (u : Slices). WritesOnly z w (IsSliced u)) c.make_rack.ensures.tables (kept.apart inside.0 inside.1)) p d here (c.make_rack.ensures.keeps p d here)
+
+pub returns-in-Ok-open_volume-clause-agreed : goal.returns-in-Ok-open_volume-clause-agreed
+returns-in-Ok-open_volume-clause-agreed g c e sound quiet n joined unwritten =
+    let seen = g.R.Rack.seen in
+    let a : Seen = seen c.args.rack in
+    let rest = c.in-Ok.rest in
+    let x : Seen = seen (below_of rest.slices) in
+    let m = c.in-Ok-check.members in
+    let y : Seen = seen (below_of m.slices) in
+    let raid = c.make_rack.result in
+    let z : Seen = seen (below_of (slices_in raid)) in
+    let volume = c.in-Ok-open_volume.volume in
+    let w : Seen = seen (below_of (slices_in (rack_in volume))) in
+    let opens = c.in-Ok-open_volume.ensures.opens in
+    let members = c.in-Ok-check.ensures.members in
+    let fit = c.make_rack.ensures.fit in
+    let inside = fit.running.set.fit in
+    let ax : Stays a x = c.in-Ok.ensures.only.only.stays in
+    let xy : Stays x y = c.in-Ok-check.ensures.only.stays in
+    let yz : Stays y z = c.make_rack.ensures.only.stays in
+    let to_z : IsUnfaulted a z = quiet_first a z w (opens.kept.0.apart inside.0 inside.1).stays quiet in
+    let to_y : IsUnfaulted a y = quiet_first a y z yz to_z in
+    let to_x : IsUnfaulted a x = quiet_first a x y xy to_y in
+    let from_y : IsUnfaulted y z = quiet_last a y z (stays_then ax xy) to_z in
+    let from_z : IsUnfaulted z w = quiet_last a z w (stays_then ax (stays_then xy yz)) quiet in
+    let least = (valid_arrays m.state 0 members.valid).3 in
+    let joined_is = c.make_rack.ensures.joined in
+    let made_is = c.make_rack.ensures.made in
+    let ready : (raid_in raid).state.joined ≤ (raid_in raid).state.made = omega (arith, least, joined_is, made_is) in
+    let rested = rested_so seen a rest e sound ax to_x c.in-Ok.ensures.newest c.in-Ok.ensures.stands c.in-Ok.ensures.settled c.in-Ok.ensures.steady c.in-Ok.ensures.looked c.in-Ok.ensures.single in
+    let f = rested.settled.means.now in
+    let found = rest_found seen a rest e sound rested in
+    let checked = c.in-Ok-check.ensures.holds f found (λ p d named seat. to_x d (c.in-Ok.ensures.gone p d named seat)) (quiet_last a x y ax to_y) in
+    let arrays = c.make_rack.ensures.holds f checked.0 checked.1 from_y in
+    let alive = live_later seen g.R.Rack.runs raid (rack_in volume) opens.kept fit c.in-Ok-open_volume.ensures.fit.0 from_z ready opens.unused (c.make_rack.ensures.marks from_y).live in
+    let less : n < f.state.joined = subst (λ (s : State). n < s.joined) (sym (pool_same seen a rest e sound rested).state) joined in
+    let low : n < (raid_in raid).state.joined =
+    (let same = ap (λ (s : State). s.joined) checked.0.pool.state in omega (arith, less, joined_is, same)) in
+    let some : 0 < sectors_of ((raid_in (rack_in volume)).arrays n) =
+    (let room = arrays.room n less in let is = arrays.sectors n less in let later = opens.kept.2.sectors n in omega (arith, room, is, later)) in
+    let goes : is_over (raid_in (rack_in volume)) n ≡ false =
+    (live_parts (raid_in (rack_in volume)) n 0 (alive n 0 (let same = opens.kept.1.book.same.joined in omega (arith, low, same)) some)).0 in
+    agree_spared (written_in raid) (written_in (rack_in volume)) (raid_in raid) (raid_in (rack_in volume)) (slices_seen seen raid) (slices_seen seen (rack_in volume))
+    fit.running.set fit.heeded c.in-Ok-open_volume.ensures.fit.0.heeded opens.kept.1 opens.kept.3
+    (λ place fault. from_z (disk_of (tables (slices_in raid)) fault.0)
+    (subst (λ t. Rose (z.faults (disk_of (tables (slices_in raid)) fault.0)) (w.faults (disk_of t fault.0))) opens.kept.0.tables fault.2))
+    n (omega (arith, low, ready)) unwritten (arrays.told n less) goes (arrays.agree n less (opens.kept.1.still n goes))

@@ -1,5 +1,8 @@
-use Rattle.std.proofs.Common.{◌≡◌, ◌<◌, ℕ, Some, slice_get, option_map, sym, ap, subst, ◌∙◌, arith}
+use Rattle.std.proofs.Common.{◌≡◌, ◌⊎◌, ◌<◌, ℕ, true, false, [], Some, inl, inr, slice_get, option_map, sym, ap, subst, ◌∙◌, arith}
+use Rattle.std.specs.List.{list_any}
+use Rattle.std.proofs.lemmas.Bool.{cases_Bool}
 use Rattle.std.proofs.lemmas.Option.{get_or_from_slice_get}
+use Rattle.rack.specs.Sequences.{OnlyReads}
 use Rattle.arrayvec.specs.ArrayVec.{with_items}
 use Rattle.rack.specs.Seen.{Seen, Rose}
 use Rattle.slice_rack.specs.Slices.{Slices, disk_of, seat_of}
@@ -12,12 +15,16 @@ use Rattle.array_model.specs.View.{View, HasFault, IsArray, sectors_of}
 use Rattle.array_core.specs.Seats.{gone, restarted}
 use Rattle.commit_log.specs.View.{names}
 use Rattle.raid_rack.specs.RaidRack.{IsRunning, SliceRuns, arrays_in, no_array, raid_in, slices_in, slices_seen}
-use Rattle.raid_rack.specs.Moves.{Mends}
+use Rattle.raid_rack.specs.Agreeing.{MakesAgree}
+use Rattle.raid_rack.specs.Cleaning.{NoneFails}
+use Rattle.raid_rack.specs.Moves.{AreMarked, Mends}
 use Rattle.raid_rack.proofs.Mended.{each_items}
 use Rattle.assembler.proofs.Holding.{rack_closed, rack_still}
 use Rattle.assembler.proofs.Live.{opened_live}
 use Rattle.assembler.proofs.Making.{by_list, keeps, mended as making_mended, parts as making_parts, replayed, same as making_same, settled}
-use Rattle.assembler.proofs.Mended.{absent_still, closed_members, marking_so, mended_members, mended_reads, mended_so, rack_writes, reads_mend}
+use Rattle.assembler.proofs.Mended.{absent_still, closed_members, marking_so, mended_members, mended_reads, mended_so, rack_writes, reads_agree, reads_mend}
+use Rattle.assembler.proofs.Entry.{quiet_last}
+use Rattle.assembler.proofs.Marks.{all_marked, some_unmarked}
 use Rattle.assembler.proofs.Running.{array_now, current_logs, rack_running, twice}
 use Rattle.assembler.proofs.Sizes.{total_small}
 use Rattle.assembler.proofs.Whole.{whole_member}
@@ -71,12 +78,12 @@ mark_gone-requires g c =
 
 pub returns-clause-tables : goal.returns-clause-tables
 returns-clause-tables g c =
-    let runs = subst (λ k. SliceRuns g.R.Rack.seen g.R.Rack.runs k (slices_in c.mark_gone.new.self)) c.new-raid.ensures.slices c.mark_gone.ensures.runs in
+    let runs = subst (λ k. SliceRuns g.R.Rack.seen g.R.Rack.runs k (slices_in c.mark_gone.new.raid)) c.new-raid.ensures.slices c.mark_gone.ensures.runs in
     runs.tables ∙ c.mend_tables-left_out.ensures.tables ∙ c.close_gates-gone.ensures.runs.tables
 
 pub returns-clause-runs : goal.returns-clause-runs
 returns-clause-runs g c =
-    let runs = subst (λ k. SliceRuns g.R.Rack.seen g.R.Rack.runs k (slices_in c.mark_gone.new.self)) c.new-raid.ensures.slices c.mark_gone.ensures.runs in
+    let runs = subst (λ k. SliceRuns g.R.Rack.seen g.R.Rack.runs k (slices_in c.mark_gone.new.raid)) c.new-raid.ensures.slices c.mark_gone.ensures.runs in
     g.met.R.Rack.runs_then _ _ _ c.close_gates-gone.ensures.runs.below (g.met.R.Rack.runs_then _ _ _ c.mend_tables-left_out.ensures.runs runs.below)
 
 pub returns-clause-only : goal.returns-clause-only
@@ -87,7 +94,7 @@ returns-clause-only g c =
     let y : Seen = seen (below_of m.slices) in
     let closed = c.close_gates-gone.new.slices in
     let mended = c.mend_tables-left_out.new.slices in
-    let last = slices_in c.mark_gone.new.self in
+    let last = slices_in c.mark_gone.new.raid in
     let b : Seen = seen (below_of closed) in
     let d : Seen = seen (below_of mended) in
     let z : Seen = seen (below_of last) in
@@ -134,7 +141,7 @@ returns-clause-small g c =
     (λ p d seat. members.fit.1.small d (members.fit.1.seats p d seat))
     rules
     (λ n v at. whole_member m.state (seat_of t) n v (members.founded.each n v at) (rules n v at))
-    (λ n. sectors_of ((raid_in c.mark_gone.new.self).arrays n))
+    (λ n. sectors_of ((raid_in c.mark_gone.new.raid).arrays n))
     (λ n v at.
     c.mark_gone.ensures.mends.moves.sectors n
     ∙ ap sectors_of (get_or_from_slice_get items n (gone places (restarted v)) no_array
@@ -155,7 +162,7 @@ returns-clause-mended g c quiet p disk seat =
     let y : Seen = seen (below_of m.slices) in
     let closed = c.close_gates-gone.new.slices in
     let mended = c.mend_tables-left_out.new.slices in
-    let last = slices_in c.mark_gone.new.self in
+    let last = slices_in c.mark_gone.new.raid in
     let b : Seen = seen (below_of closed) in
     let d : Seen = seen (below_of mended) in
     let z : Seen = seen (below_of last) in
@@ -176,7 +183,7 @@ returns-clause-keeps g c p disk seat =
     let y : Seen = seen (below_of m.slices) in
     let closed = c.close_gates-gone.new.slices in
     let mended = c.mend_tables-left_out.new.slices in
-    let last = slices_in c.mark_gone.new.self in
+    let last = slices_in c.mark_gone.new.raid in
     let b : Seen = seen (below_of closed) in
     let d : Seen = seen (below_of mended) in
     let z : Seen = seen (below_of last) in
@@ -197,7 +204,7 @@ returns-clause-holds g c f holds found quiet =
     let y : Seen = seen (below_of m.slices) in
     let closed = c.close_gates-gone.new.slices in
     let mended = c.mend_tables-left_out.new.slices in
-    let last = slices_in c.mark_gone.new.self in
+    let last = slices_in c.mark_gone.new.raid in
     let b : Seen = seen (below_of closed) in
     let d : Seen = seen (below_of mended) in
     let z : Seen = seen (below_of last) in
@@ -222,29 +229,53 @@ returns-clause-holds g c f holds found quiet =
     (runs (below_of m.slices) (below_of closed)) (runs (below_of mended) (below_of last)) c.close_gates-gone.ensures.runs c.close_gates-gone.ensures.closes
     c.close_gates-gone.ensures.same c.mend_tables-left_out.ensures.mends c.mend_tables-left_out.ensures.tables marking quiet in
     let raid = raid_in c.new-raid.result in
-    let w = raid_in c.mark_gone.new.self in
-    let after : Seen = slices_seen seen c.mark_gone.new.self in
+    let w = raid_in c.mark_gone.new.raid in
+    let after : Seen = slices_seen seen c.mark_gone.new.raid in
     let more = absent_still m.state t y m.checked m.absent.items m.slices.orderly members b d went places is.mends in
     let closed_is = closed_members m.state t y b d went places m.checked m.absent.items m.slices.orderly members is in
     let running : IsRunning (arrays_in c.new-raid.result) (slices_of t b) =
     rack_running m.state t b m.checked m.absent.items closed_is rules places more (arrays_in c.new-raid.result) c.new-raid.ensures.state all in
     let some : 0 < raid.state.made =
     (let least = (valid_arrays m.state 0 members.valid).0 in subst (λ (s : State). 0 < s.made) (sym c.new-raid.ensures.state) (omega (arith, least))) in
-    let mends : Mends raid w (slices_of t b) after =
-    reads_mend raid w (slices_of t b) (slices_of t d) after running.set some
-    (mended_reads m.state t y b d went places m.checked m.absent.items m.slices.orderly members is)
-    (subst (λ u. Mends raid w (slices_of u d) after) (c.mend_tables-left_out.ensures.tables ∙ c.close_gates-gone.ensures.runs.tables)
-    (subst (λ k. Mends raid w (slices_of (tables k) (seen (below_of k))) after) c.new-raid.ensures.slices c.mark_gone.ensures.mends)) in
+    let to_t : tables mended ≡ t = c.mend_tables-left_out.ensures.tables ∙ c.close_gates-gone.ensures.runs.tables in
+    let reads : OnlyReads (slices_of t b) (slices_of t d) = mended_reads m.state t y b d went places m.checked m.absent.items m.slices.orderly members is in
+    let marks : Mends raid w (slices_of t d) after =
+    subst (λ u. Mends raid w (slices_of u d) after) to_t
+    (subst (λ k. Mends raid w (slices_of (tables k) (seen (below_of k))) after) c.new-raid.ensures.slices c.mark_gone.ensures.mends) in
+    let mends : Mends raid w (slices_of t b) after = reads_mend raid w (slices_of t b) (slices_of t d) after running.set some reads marks in
     let number = c.new-raid.ensures.number ∙ c.close_gates-gone.ensures.number in
+    let unfaulted : NoneFails (slices_of t b) after = λ place fault.
+    quiet_last y b z is.closing.stays quiet (disk_of t fault.0)
+    (subst (λ u. Rose (b.faults (disk_of t fault.0)) (z.faults (disk_of u fault.0))) (marking.tables ∙ to_t) fault.2) in
+    let flag = c.has_stale.result in
+    let agrees : (flag ≡ true) ⊎ (AreMarked raid → ⊥) → MakesAgree raid w (slices_of t b) after = λ why.
+    reads_agree raid w (slices_of t b) (slices_of t d) after running.set some reads marks.moves
+    (subst (λ u. MakesAgree raid w (slices_of u d) after) to_t
+    (subst (λ k. MakesAgree raid w (slices_of (tables k) (seen (below_of k))) after) c.new-raid.ensures.slices (c.mark_gone.ensures.supers why))) in
+    let as_listed : (p : ℕ) → names places p ≡ names m.absent.items p = λ p. ap (λ ps. names ps p) same in
+    let still : m.absent.items ≡ [] → flag ≡ false → OnlyReads (slices_of t b) after × (w.state ≡ raid.state) × (list_any (λ b. b) m.checked.stale.items ≡ false) =
+    λ none clear.
+    let idle = c.mark_gone.ensures.idle clear
+    (all_marked m.state t y m.checked m.absent.items places members raid c.new-raid.ensures.state are as_listed w (slices_of t b) after mends none) in (
+      subst (OnlyReads (slices_of t b))
+          (sym (ap (λ k. slices_of (tables k) (seen (below_of k))) (idle.0 ∙ c.new-raid.ensures.slices) ∙ ap (λ u. slices_of u d) to_t)) reads,
+      idle.1,
+      sym (c.has_stale.ensures ∙ ap (list_any (λ b. b)) c.as_slice-2.ensures.value) ∙ clear,
+    ) in
     by_list m.absent.items
     (λ none.
     rack_closed f m.state t y m.checked m.absent.items places m.slices.orderly m.log holds found members rules raid c.new-raid.ensures.state number are none (same ∙ none)
     (slices_of t b) (replayed m.state t (tables closed) (tables mended) (tables last) y b d z went places m.checked m.absent.items m.slices.orderly members m.log
     (runs (below_of m.slices) (below_of closed)) (runs (below_of mended) (below_of last)) c.close_gates-gone.ensures.runs c.close_gates-gone.ensures.closes
-    c.close_gates-gone.ensures.same c.mend_tables-left_out.ensures.mends c.mend_tables-left_out.ensures.tables marking quiet none) w after mends)
+    c.close_gates-gone.ensures.same c.mend_tables-left_out.ensures.mends c.mend_tables-left_out.ensures.tables marking quiet none) w after mends
+    (elim (cases_Bool flag) [ inl stale ↦ inl (agrees (inl stale), unfaulted) | inr clear ↦ inr (still none clear) ]))
     (λ absent.
     rack_still f m.state t y m.checked m.absent.items places m.slices.orderly m.log holds found members rules raid c.new-raid.ensures.state number are same w after
-    (subst (λ k. Mends raid w (slices_of t (seen (below_of k))) after) (c.close_gates-gone.ensures.still absent) mends))
+    (subst (λ k. Mends raid w (slices_of t (seen (below_of k))) after) (c.close_gates-gone.ensures.still absent) mends)
+    (subst (λ k. MakesAgree raid w (slices_of t (seen (below_of k))) after) (c.close_gates-gone.ensures.still absent)
+    (agrees
+    (inr (some_unmarked m.state t y m.checked m.absent.items places members raid c.new-raid.ensures.state are as_listed w (slices_of t b) after mends absent))))
+    (subst (λ k. NoneFails (slices_of t (seen (below_of k))) after) (c.close_gates-gone.ensures.still absent) unfaulted))
 
 pub returns-clause-marks : goal.returns-clause-marks
 returns-clause-marks g c quiet =
@@ -255,7 +286,7 @@ returns-clause-marks g c quiet =
     let y : Seen = seen (below_of m.slices) in
     let closed = c.close_gates-gone.new.slices in
     let mended = c.mend_tables-left_out.new.slices in
-    let last = slices_in c.mark_gone.new.self in
+    let last = slices_in c.mark_gone.new.raid in
     let b : Seen = seen (below_of closed) in
     let d : Seen = seen (below_of mended) in
     let z : Seen = seen (below_of last) in
@@ -283,7 +314,7 @@ returns-clause-marks g c quiet =
     (runs (below_of m.slices) (below_of closed)) (runs (below_of mended) (below_of last)) c.close_gates-gone.ensures.runs c.close_gates-gone.ensures.closes
     c.close_gates-gone.ensures.same c.mend_tables-left_out.ensures.mends c.mend_tables-left_out.ensures.tables marking quiet in
     let before : Seen = slices_of (tables mended) d in
-    let after : Seen = slices_seen seen c.mark_gone.new.self in
+    let after : Seen = slices_seen seen c.mark_gone.new.raid in
     let unfaulted : (place : ℕ) → HasFault before after place → ⊥ = λ place fault.
     parts.marking (disk_of (tables mended) fault.0)
     (subst (λ u. Rose (d.faults (disk_of (tables mended) fault.0)) (z.faults (disk_of u fault.0))) marking.tables fault.2) in
@@ -294,6 +325,6 @@ returns-clause-marks g c quiet =
     places (absent_still m.state t y m.checked m.absent.items m.slices.orderly members b d went places is.mends)
     (arrays_in c.new-raid.result) c.new-raid.ensures.state all)) in
     opened_live m.state t y m.checked m.absent.items places members (raid_in c.new-raid.result) c.new-raid.ensures.state are (λ q. ap (λ ps. names ps q) same)
-    (raid_in c.mark_gone.new.self) (slices_seen seen c.new-raid.result) after c.mark_gone.ensures.mends
+    (raid_in c.mark_gone.new.raid) (slices_seen seen c.new-raid.result) after c.mark_gone.ensures.mends
     rules running.set
     (subst (λ k. (place : ℕ) → HasFault (slices_of (tables k) (seen (below_of k))) after place → ⊥) (sym c.new-raid.ensures.slices) unfaulted)
