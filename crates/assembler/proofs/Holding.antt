@@ -10,6 +10,7 @@ use Rattle.rack.specs.Sequences.{OnlyReads}
 use Rattle.rack.specs.Targets.{look}
 use Rattle.slice_rack.specs.Slices.{Slices, IsOrderly, seat_of, sectors_of}
 use Rattle.slice_rack.specs.Sliced.{slices_of as slices_seen}
+use Rattle.md_super.specs.declared.superblock.Super.{Super}
 use Rattle.pool_state.specs.declared.contents.State.{State}
 use Rattle.array_image.specs.Places.{data_sector, log_slice, member_slice}
 use Rattle.array_image.specs.States.{current_places, is_current}
@@ -26,6 +27,7 @@ use Rattle.array_core.specs.Seats.{gone, names, restarted}
 use Rattle.pool_scan.proofs.Valid.{valid_arrays}
 use Rattle.array_image.specs.Arrays.{array_in, replayed, value_by}
 use Rattle.pool_image.specs.Drives.{Found, slices_of}
+use Rattle.pool_image.specs.Meaning.{truth_of}
 use Rattle.pool_check.specs.declared.Checked.{Checked}
 use Rattle.pool_check.specs.Checking.{IsChecked}
 use Rattle.pool_check.specs.Refusing.{is_well}
@@ -35,15 +37,16 @@ use Rattle.raid_rack.proofs.Agreed.{agree_by}
 use Rattle.raid_rack.specs.Raid.{Raid, gone_in, held_in, is_over, spent_of}
 use Rattle.raid_rack.specs.Book.{IsAfter}
 use Rattle.raid_rack.specs.Marking.{SaysBetween}
-use Rattle.raid_rack.specs.Moves.{IsHeeded, Mends}
+use Rattle.raid_rack.specs.Moves.{IsHeeded, KeepsArrays, Mends}
 use Rattle.raid_rack.specs.Opening.{OpenedRaid, OpensRaid}
 use Rattle.raid_rack.proofs.Added.{names_current}
 use Rattle.raid_rack.proofs.Noted.{gone_not, gone_some}
 use Rattle.raid_rack.proofs.Opening.{IsAtRest, opened_raid, opens_raid}
 use Rattle.raid_rack.proofs.Seated.{names_joined}
 use Rattle.assembler.specs.Members.{AreMembers}
-use Rattle.assembler.specs.Holding.{AreSteady, HoldPool, HoldsArrays, IsIdle, IsPoolOn, IsSoundPool, pool_values}
+use Rattle.assembler.specs.Holding.{AreSteady, HoldPool, HoldsArrays, IsArrayOf, IsIdle, IsPoolOn, IsSoundPool, pool_values}
 use Rattle.assembler.proofs.Amid.{closing_leaves, says_only}
+use Rattle.assembler.proofs.Founded.{array_founded}
 use Rattle.assembler.proofs.Arrays.{array_room, array_whole, array_read, array_values, opens_array, sectors_are}
 use Rattle.assembler.proofs.Rest.{copies_agree, log_there, opened_now}
 use Rattle.assembler.proofs.Agreeing.{fresh_agrees, left_reads}
@@ -261,9 +264,11 @@ module _ (f : Found) (t : Slices) (x : Seen) (checked : Checked) (absent : List 
       → Leaves (slices_seen t x) b (λ c. IsInside (sectors_of t) c → SaysBetween f.state w n (pool_values f n) spent (replayed (sectors_of t) c)))
       → (w : Raid) (c : Seen) → IsAfter f.state w.state → ((n : ℕ) → array_sectors_of (w.arrays n) ≡ array_sectors_of (arrays n))
       → OpenedRaid v w b c → ((n : ℕ) → n < f.state.joined → is_over w n ≡ false → (r : Image) → IsLeft c r → SupersAgree w.state r n)
+      → ((n : ℕ) (z : Super) → n < f.state.joined → truth_of f n ≡ Some z → IsArrayOf z (w.arrays n))
       → HoldsArrays f w (slices_seen t x) c
-  holds_marked b opens stays kept closing w c after sizes marks agree = record {
+  holds_marked b opens stays kept closing w c after sizes marks agree founds = record {
     after = after;
+    arrays = founds;
     agree = agree;
     told = marks.told;
     sectors = λ n less.
@@ -325,6 +330,13 @@ module _ (f : Found) (s : State) (t : Slices) (x : Seen) (checked : Checked) (ab
   ready : before.state.joined ≤ before.state.made
   ready = (valid_arrays f.state 0 m.valid).3
 
+  founds : (w : Raid) → KeepsArrays v w → (n : ℕ) (z : Super) → n < f.state.joined → truth_of f n ≡ Some z → IsArrayOf z (w.arrays n)
+  founds w keeps n z less truth =
+      let made : n < f.state.made = (let least = ready in omega (arith, least, less)) in
+      let at = got checked.arrays.items n (let count = m.founded.count in omega (arith, made, count)) in
+      array_founded f n z at.0 (v.arrays n) (w.arrays n) gone_now (found.opened.each n at.0 at.1) less truth (are n at.0 at.1)
+      (keeps n (subst (λ (k : State). n < k.made) (sym (state ∙ same)) made))
+
   -- where a place is absent
   pub rack_still : gone_now ≡ absent → (w : Raid) (c : Seen) → Mends v w (slices_seen t x) c → MakesAgree v w (slices_seen t x) c → NoneFails (slices_seen t x) c
       → HoldsArrays f w (slices_seen t x) c
@@ -337,7 +349,7 @@ module _ (f : Found) (s : State) (t : Slices) (x : Seen) (checked : Checked) (ab
       (slices_seen t x) opens (stays_same (slices_seen t x) m.fit) (λ n place k low live. refl)
       (λ n less k spent after traced. leaves_same (slices_seen t x) (λ i. IsInside (sectors_of t) i → SaysBetween f.state k n (pool_values f n) spent (replayed (sectors_of t) i)))
       w c (subst (λ k. IsAfter k w.state) (state ∙ same) mends.moves.book) mends.moves.sectors marks
-      (marks.agree (subst (λ k. MakesAgree k w (slices_seen t x) c) before_is agree) quiet)
+      (marks.agree (subst (λ k. MakesAgree k w (slices_seen t x) c) before_is agree) quiet) (founds w mends.moves.arrays)
 
   -- where none is, and none goes
   pub rack_closed : absent ≡ [] → gone_now ≡ [] → (b : Seen) → ReplayCall l (current_places s) gone_now (slices_seen t x) b
@@ -363,3 +375,4 @@ module _ (f : Found) (s : State) (t : Slices) (x : Seen) (checked : Checked) (ab
             agree_still f t x checked absent orderly m holds.steady pool found holds.sound rules v.arrays v.number now l number log none still.2 b opens replay.stays kept w c
             still.0 (still.1 ∙ state ∙ same) mends.heeded marks
       ])
+      (founds w mends.moves.arrays)

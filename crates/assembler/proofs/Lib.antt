@@ -6,6 +6,7 @@ mod Copied
 mod Drives
 mod Entry
 mod Finding
+mod Founded
 mod Holding
 mod Later
 mod LeftOut

@@ -26,7 +26,8 @@ use Rattle.pool_rest.specs.Resting.{AreSectors, AreSingle, StandsNow}
 use Rattle.pool_check.specs.Drives.{Drives}
 use Rattle.raid_rack.specs.Agreeing.{SupersAgree}
 use Rattle.raid_rack.specs.Raid.{Raid, IsTold, held_in, is_over, live_of, spent_of}
-use Rattle.array_model.specs.View.{sectors_of as sectors_in}
+use Rattle.array_image.specs.SoundArray.{first_unsynced}
+use Rattle.array_model.specs.View.{View, HasGeometry, sectors_of as sectors_in}
 use Rattle.raid_rack.specs.Book.{IsAfter}
 use Rattle.raid_rack.specs.Marking.{SaysBetween}
 
@@ -84,12 +85,18 @@ pub record IsFoundOn (x : Seen) (known : List Known) (s : State) (t : Slices) (o
 abbrev pub pool_values : Found → ℕ → ℕ → Values
 pool_values f n y = only (arrays_held f n y)
 
+-- An array of a truth: it has its members and its size, and those rows left to resync that it leaves.
+pub record IsArrayOf (t : Super) (v : View) : Type 0 where
+  pub geometry : HasGeometry t v.truth
+  pub rows : v.resync ≡ first_unsynced t
+
 -- Calls on slices a, which left arrays over slices b: marks alone may have come to the pool's state. Each array that is ready for the
 -- volume is told and has the pool's sectors, of which each that can be had has one value, that of the pool's contents. At each moment
 -- contents say so, by a state between the two. Afterwards the superblocks of each array agree.
 pub record HoldsArrays (f : Found) (v : Raid) (a b : Seen) : Type 0 where
   pub after : IsAfter f.state v.state
   pub told : (n : ℕ) → n < f.state.joined → IsTold v b n
+  pub arrays : (n : ℕ) (t : Super) → n < f.state.joined → truth_of f n ≡ Some t → IsArrayOf t (v.arrays n)
   pub sectors : (n : ℕ) → n < f.state.joined → sectors_in (v.arrays n) ≡ array_sectors f n
   pub values : (n y : ℕ) (u : List ℕ) → n < f.state.joined → live_of v n y → MayLeave (held_in v b n y) u → u ≡ arrays_held f n y
   -- the pool's own are whole sectors, with room for a label

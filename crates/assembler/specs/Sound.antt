@@ -6,11 +6,12 @@ use Rattle.slice_rack.specs.Slices.{Slices, first_of, place_of, seat_of, sectors
 use Rattle.slice_rack.specs.SliceRack.{below_of, tables}
 use Rattle.array_image.specs.Left.{IsLeft}
 use Rattle.array_image.specs.Places.{log_slice, member_slice}
+use Rattle.md_super.specs.declared.superblock.Super.{Super}
 use Rattle.lvm_group.specs.Runs.{Linear}
 use Rattle.lvm_group.specs.Shown.{volume_of}
 use Rattle.pool_image.specs.Disks.{disks_of}
 use Rattle.pool_image.specs.Drives.{Found, extent_of, found}
-use Rattle.pool_image.specs.Meaning.{Volume, is_member, meaning, refusal_of}
+use Rattle.pool_image.specs.Meaning.{Volume, is_member, meaning, refusal_of, truth_of}
 use Rattle.pool_image.specs.Replay.{Extent, extent_by}
 use Rattle.pool_scan.specs.Scanning.{now_in}
 use Rattle.pool_rest.specs.Moments.{BringsNoState, KeepsPlaces}
@@ -22,7 +23,7 @@ use Rattle.raid_rack.specs.Book.{IsAfter}
 use Rattle.raid_rack.specs.Raid.{IsTold}
 use Rattle.raid_rack.specs.RaidRack.{raid_in, raid_seen, slices_in, slices_seen, written_in}
 use Rattle.assembler.specs.declared.refusal.Refusal.{Refusal}
-use Rattle.assembler.specs.Holding.{AreSteady, IsSoundPool}
+use Rattle.assembler.specs.Holding.{AreSteady, IsArrayOf, IsSoundPool}
 use Rattle.assembler.specs.Refusing.{meant_by}
 use Rattle.assembler.specs.Moments.{HoldsAt}
 use Rattle.assembler.specs.Volume.{AllLive, HoldsVolume, IsVolumeOf}
@@ -66,7 +67,8 @@ abbrev pub MayStop : Seen → Found → Type 0
 MayStop x f = IsIdle x ⊎ ((BringsNoState x ⊎ (KeepsPlaces x × HaveStood f)) × HaveSlices f)
 
 -- A volume that was opened means what the disks x do: it is the volume of the group of their pool, over the slices of its drives. Marks
--- alone have come to the pool's state; each array that is ready for the volume is told, and no sector of these is spent.
+-- alone have come to the pool's state; each array that is ready for the volume is told, and the one of the pool's superblocks, and no
+-- sector of these is spent.
 pub record IsMeantBy {R : Type 0} (seen : R → Seen) (x : Seen) (f : Found) (rack : RaidRack R) (l : Linear) : Type 0 where
   pub volume : Volume
   pub meant : meaning (disks_of x) (now_in x) ≡ Some (volume ∷ [])
@@ -75,6 +77,7 @@ pub record IsMeantBy {R : Type 0} (seen : R → Seen) (x : Seen) (f : Found) (ra
   pub slices : AreSlicesOf f (tables (slices_in rack))
   pub after : IsAfter f.state (raid_in rack).state
   pub told : (n : ℕ) → n < f.state.joined → IsTold (raid_in rack) (slices_seen seen rack) n
+  pub arrays : (n : ℕ) (t : Super) → n < f.state.joined → truth_of f n ≡ Some t → IsArrayOf t ((raid_in rack).arrays n)
   pub live : AllLive (raid_in rack)
   -- what a stop leaves inside the opening holds that volume, where it may come amid the replay of the record that was pending
   pub moments : MayStop x f → x.traced → Leaves x (seen (below_of (slices_in rack))) (HoldsAt (tables (slices_in rack)) l volume)

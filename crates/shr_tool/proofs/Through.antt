@@ -107,7 +107,7 @@ pub opened_as :
     → IsOpenedAs f (view shown pool).bay (ground_of (view shown pool)) (moment_of (view shown pool))
 opened_as pool shown x opens marks f sound unfaulted =
     let by = opens f sound unfaulted in
-    record { lies = by.lies; slices = by.slices; after = by.after; told = by.told; live = by.live; marks = marks f sound unfaulted }
+    record { lies = by.lies; slices = by.slices; after = by.after; told = by.told; arrays = by.arrays; live = by.live; marks = marks f sound unfaulted }
 
 -- stops stay told in an opening
 pub traced_through : {R : Type 0} (shown : R → Seen) (runs : R → R → Type 0) (r s : R) → WritesPool shown runs r s → (shown r).traced → (shown s).traced

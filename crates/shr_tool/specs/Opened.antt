@@ -4,6 +4,7 @@ use Rattle.rack.specs.Seen.{Seen}
 use Rattle.rack.specs.Moments.{Leaves}
 use Rattle.rack.specs.Sequences.{OnlyReads, WritesOnly}
 use Rattle.flat_array.specs.Array.{FlatArray, fresh}
+use Rattle.md_super.specs.declared.superblock.Super.{Super}
 use Rattle.array_image.specs.States.{is_current}
 use Rattle.slice_rack.specs.Runs.{IsSliced}
 use Rattle.slice_rack.specs.Sliced.{slices_of}
@@ -12,11 +13,12 @@ use Rattle.raid_rack.specs.Raid.{IsTold}
 use Rattle.pool_check.specs.Settling.{IsSettled}
 use Rattle.pool_image.specs.Disks.{disks_of}
 use Rattle.pool_image.specs.Drives.{Found}
-use Rattle.pool_image.specs.Meaning.{Volume, meaning}
+use Rattle.pool_image.specs.Meaning.{Volume, meaning, truth_of}
 use Rattle.pool_scan.specs.Scanning.{IsUnfaulted, now_in}
 use Rattle.pool_rest.specs.Resting.{WritesDrives}
 use Rattle.assembler.specs.declared.refusal.Refusal.{Refusal}
 use Rattle.assembler.specs.declared.refusal.Refusal.TheVariants.{Memory}
+use Rattle.assembler.specs.Holding.{IsArrayOf}
 use Rattle.assembler.specs.Refusing.{is_early}
 use Rattle.assembler.specs.Sound.{AreSlicesOf, HoldSound, IsMeantRefusal, MayStop}
 use Rattle.assembler.specs.Volume.{AllLive, IsVolumeOf}
@@ -47,6 +49,8 @@ pub record IsOpenedAs (f : Found) (y : Seen) (g : Ground) (from : Moment) : Type
   pub slices : AreSlicesOf f g.slices
   pub after : IsAfter f.state from.book.state
   pub told : (n : ℕ) → n < f.state.joined → IsTold from.book (slices_of g.slices y) n
+  -- each is the array of the pool's superblocks, with the rows to resync that they leave
+  pub arrays : (n : ℕ) (t : Super) → n < f.state.joined → truth_of f n ≡ Some t → IsArrayOf t (from.book.arrays n)
   pub live : AllLive from.book
   -- just those drives are marked missing that were, or that have no disk
   pub marks : (p : ℕ) → is_current from.book.state p ≡ (is_current f.state p && is_some (f.seats p))

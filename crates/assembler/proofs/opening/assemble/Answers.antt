@@ -34,6 +34,8 @@ use Rattle.assembler.specs.Sound.{AreSlicesOf}
 use Rattle.assembler.proofs.Refusals.{meant_finding}
 use Rattle.assembler.proofs.Written.{writes_then_reads}
 use Rattle.assembler.proofs.Drives.{members_drives}
+use Rattle.pool_image.proofs.Founds.{truths_same}
+use Rattle.assembler.proofs.Founded.{array_later}
 use Rattle.assembler.proofs.Entry.{meaning_entry, quiet_first, quiet_last, refusal_entry, pool_same, rest_found, rested_so}
 use Rattle.assembler.proofs.Leaving.{IsAsRead, opening_leaves}
 use Rattle.assembler.proofs.Marks.{marks_still}
@@ -125,6 +127,11 @@ returns-in-Ok-open_volume-clause-meant g c e sound quiet =
       after = after_then e.state (raid_in raid).state (raid_in (rack_in volume)).state
           (subst (λ (s : State). IsAfter s (raid_in raid).state) same.state arrays.after) opens.kept.1.book;
       told = λ n low. opens.kept.1.told n (arrays.told n (subst (λ (s : State). n < s.joined) (sym same.state) low));
+      arrays = λ n z low truth.
+          let less = subst (λ (s : State). n < s.joined) (sym same.state) low in
+          let joined = arrays.after.same.joined in
+          array_later z ((raid_in raid).arrays n) ((raid_in (rack_in volume)).arrays n) (arrays.arrays n z less (truths_same e f same n ∙ truth))
+          (opens.kept.2.arrays n (omega (arith, less, joined, ready)));
       live = alive;
       moments = λ calm traced.
           let only = c.in-Ok-check.ensures.only in
