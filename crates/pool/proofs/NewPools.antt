@@ -1,6 +1,6 @@
 -- The disks on which a pool was made hold a sound pool.
-use Rattle.std.proofs.Common.{◌≡◌, ℕ, ◌+◌, ◌<◌, ◌≤◌, refl, sym, subst, ◌∙◌, arith}
-use Rattle.rack.specs.Seen.{Seen, Stays, IsLive}
+use Rattle.std.proofs.Common.{ℕ, ◌<◌, refl, sym, subst, ◌∙◌, arith}
+use Rattle.rack.specs.Seen.{Seen, Stays}
 use Rattle.gpt_table.specs.Disk.{now_on}
 use Rattle.lvm_group.specs.Runs.{Linear}
 use Rattle.raid_rack.specs.declared.arrays.Arrays.{Arrays}
