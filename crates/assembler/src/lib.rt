@@ -1,8 +1,8 @@
 //! Opens a pool from the disks of a rack: [`assemble`] makes its volume, or answers the first refusal that applies.
 //!
 //! The pool is brought to rest (`pool_rest`), its drives are checked and its arrays opened (`pool_check`), the slices of their members
-//! are laid, gates that are open are closed, the copies of partition tables are made to agree, drives that are absent are marked missing
-//! (`raid_rack`), and the volume is opened on the arrays (`lvm_group`). A drive that goes after the checks is a loss, as in any call.
+//! are laid, gates that are open are closed, the copies of partition tables are made to agree, drives that are absent are marked missing,
+//! superblocks that differ are made to agree (`raid_rack`), and the volume is opened on the arrays (`lvm_group`). A drive that goes after the checks is a loss, as in any call.
 //!
 //! **Its model** is that of the parts: `Raid` of raid_rack, `Linear` of lvm_group, and the pool that contents of disks mean, of
 //! pool_image.
@@ -11,8 +11,8 @@
 //! before the drives have passed their checks nothing is written but the pending record, on drives of the pool (`WritesDrives` of
 //! pool_rest). Where the disks hold a sound pool (`HoldSound` of specs/Sound.antt) and none refuses a call, the volume is the one that
 //! they mean, over the slices of their pool's drives (`IsMeantBy`), and they are refused only as their meaning is (`IsMeantRefusal`), or for
-//! want of memory; and both copies of each drive's partition table are the table that its disk had. In all, only drives are written
-//! (`WritesPool` of specs/Writing.antt).
+//! want of memory; both copies of each drive's partition table are the table that its disk had, and the superblocks of each array agree
+//! (`HaveAgreed`), but of one whose text was brought up to date. In all, only drives are written (`WritesPool` of specs/Writing.antt).
 //!
 //! Inside the crate the arrays are those of the superblocks that were read, over the slices of the drives (`AreMembers` of
 //! specs/Members.antt), and they hold what the pool's contents give (`HoldsArrays` of specs/Holding.antt).

@@ -11,7 +11,7 @@ ghost use Rattle.pool_image.specs.Drives.{Found};
 ghost use Rattle.pool_scan.specs.Scanning.{IsUnfaulted};
 ghost use Rattle.pool_rest.specs.Resting.{WritesDrives};
 ghost use Rattle.assembler.specs.Refusing.{is_early};
-ghost use Rattle.assembler.specs.Sound.{HoldSound, IsMeantBy, IsMeantRefusal};
+ghost use Rattle.assembler.specs.Sound.{HaveAgreed, HoldSound, IsMeantBy, IsMeantRefusal};
 ghost use Rattle.assembler.specs.Writing.{WritesPool};
 ghost use Rattle.raid_rack.specs.RaidRack.{arrays_in};
 ghost use Rattle.pool_format.specs.Plan.{IsUnplanned, units_on};
@@ -31,8 +31,8 @@ impl<R: Bay> Pool<R> {
     /// the times in superblocks of arrays that are made in this run.
     ///
     /// An absent drive is marked missing. Of the disks only drives of the pool are written: the pending record before the drives have
-    /// passed their checks, and after these gates that are open, copies of partition tables that differ, marks with superblocks, and texts of
-    /// the volume.
+    /// passed their checks, and after these gates that are open, copies of partition tables that differ, marks with superblocks, superblocks
+    /// where one is stale, and texts of the volume.
     pub fn open(alloc: Global, bay: R, seconds: u64) -> Result<Pool<R>, Back<R, Refusal>>
         ensures fit { IfOk result (λ pool. (volume (view R.seen pool)).fit) }
         ensures runs { IfOk result (λ pool. R.runs bay (bay_in pool)) }
@@ -45,6 +45,8 @@ impl<R: Bay> Pool<R> {
             → (p : ℕ) → is_current (book (view R.seen pool)).state p ≡ (is_current f.state p && is_some (f.seats p))) }
         ensures mended { IfOk result (λ pool. (f : Found) → HoldSound (R.seen bay) f → IsUnfaulted (R.seen bay) (R.seen (bay_in pool))
             → (p d : ℕ) → f.seats p ≡ Some d → IsSettled (R.seen bay) (R.seen (bay_in pool)) d) }
+        ensures agreed { IfOk result (λ pool. (f : Found) → HoldSound (R.seen bay) f → IsUnfaulted (R.seen bay) (R.seen (bay_in pool))
+            → HaveAgreed R.seen f (arrays_of pool)) }
         ensures exact { IfErr result (λ back. (f : Found) → HoldSound (R.seen bay) f → IsUnfaulted (R.seen bay) (R.seen back.rack)
             → back.why ≢ Refusal.Memory → IsMeantRefusal (R.seen bay) back.why) }
         ensures returned { IfErr result (λ back. R.runs bay back.rack) }

@@ -5,7 +5,7 @@
 //! mark and their superblocks. A [`RaidRack`] holds the arrays with their state, their log and the slices below. It is a rack of
 //! them over any rack of drives: disk n is array n. It loses a drive ([`RaidRack::lose`]), resyncs a row ([`RaidRack::resync`]),
 //! rebuilds one ([`RaidRack::rebuild`]), ends a plan ([`RaidRack::close`]), does whichever of these a work asks for
-//! ([`RaidRack::work`]), and ends a run ([`RaidRack::clean`]).
+//! ([`RaidRack::work`]), makes superblocks agree ([`RaidRack::restate`]), and ends a run ([`RaidRack::clean`]).
 //!
 //! **Its model.** `Raid` is what contracts see of it: the state, each array's `View`, the number of the log. `raid_of` is the rack
 //! that it shows: disk n is array n, a sector is held where no loss spent it, what a stop leaves is what the slices say once their
@@ -24,10 +24,11 @@
 //! | `Losing` | arrays of which nothing has changed but whom they lost, by calls in a row |
 //! | `Settling` | all arrays settled, and the commit that marks losses |
 //! | `Cleaning` | arrays that are ended: settled, with superblocks that leave their rows and no others |
+//! | `Agreeing` | superblocks of an array that agree, and calls after which they do |
 //! | `RaidRack` | the model of the struct |
 //! | `Runs` | what calls in a row do to the book and to images: marks have their cause, and arrays that aren't written leave their rows |
 //! | `Works` | a step of maintenance of one array, rows that are resynced and rebuilt, the end of a plan, and any of these works |
-//! | `AllRuns` | the same, with what calls keep of the slices below, and whom alone arrays lose |
+//! | `AllRuns` | the same, with what calls keep of the slices below, whom alone arrays lose, and which slices are spared |
 //! | `Laws` | what holds of the rack at any moment |
 //! | `Acts` | what a whole call does |
 //!
@@ -39,6 +40,10 @@
 //! **A clean end** is the cleaning of each array, with a mending after each. Whoever is left has one value in each sector. Where no
 //! drive refused a call, each array's superblocks leave the rows to resync that are left in it and no others, durably; nothing else
 //! is written, and no superblock that says so already.
+//!
+//! **Superblocks that agree.** A stop amid superblocks that are written one after the other leaves some of fewer events than the truth's. All superblocks are written anew by one commit (`restate`), and so they are by each commit that marks a place: then those of
+//! each array agree in every image, where no drive refuses a call (`MakesAgree`). Calls of the rack in which none does leave the slices of
+//! arrays that aren't written alone (`Spares`), so theirs go on to agree (`agree_spared` of proofs/AgreeStill.antt).
 //!
 //! **Rows to resync.** An array that isn't young and whose truth leaves just the rows that are left in it (`LeavesRows`) does so in
 //! every image at each moment of a call and after it (`KeepsRows`), unless the call writes it. The rack keeps which arrays a run has
