@@ -1,19 +1,24 @@
--- The disks on which a pool was made hold a sound pool.
-use Rattle.std.proofs.Common.{ℕ, ◌<◌, refl, sym, subst, ◌∙◌, arith}
+-- The disks on which a pool was made hold a sound pool, and mean its volume.
+use Rattle.std.proofs.Common.{◌≡◌, ℕ, ◌*◌, ◌<◌, refl, sym, ap, subst, ◌∙◌, arith}
 use Rattle.rack.specs.Seen.{Seen, Stays}
 use Rattle.gpt_table.specs.Disk.{now_on}
-use Rattle.lvm_group.specs.Runs.{Linear}
+use Rattle.lvm_group.specs.Made.{new_volume}
+use Rattle.lvm_group.specs.Runs.{Linear, sectors_in}
+use Rattle.lvm_group.proofs.NewMeaning.{new_extents_are}
 use Rattle.raid_rack.specs.declared.arrays.Arrays.{Arrays}
 use Rattle.pool_image.specs.Disks.{disks_of}
 use Rattle.pool_image.specs.Drives.{Found}
 use Rattle.pool_scan.specs.Scanning.{now_in}
 use Rattle.pool_rest.specs.Resting.{AreSectors}
 use Rattle.pool_format.specs.declared.Birth.{Birth}
+use Rattle.pool_format.specs.Data.{extents_of}
 use Rattle.pool_format.specs.Drives.{IsNewDrive}
 use Rattle.pool_format.specs.Format.{IsMade}
+use Rattle.pool_format.specs.Plan.{capacity_of}
 use Rattle.assembler.specs.Holding.{AreSteady}
-use Rattle.new_pool.specs.Contents.{IsNewPool}
+use Rattle.new_pool.specs.Contents.{IsNewPool, MeanZeros}
 use Rattle.new_pool.proofs.Founds.{found_is, shown, sound_logs}
+use Rattle.new_pool.proofs.Meaning.{zeros_meant}
 use Rattle.new_pool.proofs.Sound.{own_truth, sound_state}
 use Rattle.new_pool.proofs.Values.{sectors_now, value_now}
 use Rattle.pool.specs.Made.{HaveNoOthers, HaveOwnIds, IsPoolOf, IsSoundlyMade}
@@ -59,7 +64,7 @@ module _ (x y : Seen) (extent : ℕ) (birth : Birth) (a : Arrays) (l : Linear) (
       others = others;
     }
 
-    holds : (f : Found) × IsPoolOf made.plan birth y f
+    holds : (f : Found) × IsPoolOf made.plan birth y f (sectors_in l)
     holds = (
       shown made.plan birth (disks_of y) (now_in y) is_new,
       record {
@@ -75,8 +80,14 @@ module _ (x y : Seen) (extent : ℕ) (birth : Birth) (a : Arrays) (l : Linear) (
         state = refl;
         sectors = λ n e at. sectors_now made.plan birth (disks_of y) (now_in y) is_new n e at;
         values = λ n t e at inside. value_now made.plan birth (disks_of y) (now_in y) is_new n e at t inside;
+        means =
+            subst (MeanZeros (disks_of y) (now_in y)) (ap (λ e. sectors_in (new_volume e (extents_of made.plan))) made.planned.extent_is ∙ ap sectors_in (sym made.volume))
+            (zeros_meant made.plan birth (disks_of y) (now_in y) is_new made.group);
       },
     )
 
+  size : sectors_in l ≡ capacity_of made.plan * extent
+  size = ap sectors_in made.volume ∙ ap (λ n. n * extent) (new_extents_are (extents_of made.plan))
+
   pub soundly : IsSoundlyMade x y extent birth a l
-  soundly = record { made = made; sound = holds }
+  soundly = record { made = made; size = size; sound = holds }

@@ -36,7 +36,8 @@ pub record NotMade {R : Type 0} (seen : R → Seen) (runs : R → R → Type 0) 
   pub kept : runs bay after
   pub cause : HasFaultCause seen why bay after extent
 
--- a pool was made on the disks, and ended: `made` is the bay when it was made
+-- A pool was made on the disks, and ended: `made` is the bay when it was made. Where the disks were told, they mean one volume then, of as
+-- many sectors as the line says, all zeros; the end wrote sectors of its slices alone.
 pub record MadeOn {R : Type 0} (seen : R → Seen) (runs : R → R → Type 0) (bay after : R) (extent : ℕ) (birth : Birth) (out out' : List ℕ) (status : Status)
     : Type 0 where
   pub made : R
