@@ -78,7 +78,7 @@ fn superblock_text(text: &mut ReplyText, seen: &Super)
 
 // ` role R`
 fn add_role(text: &mut ReplyText, seen: &Super)
-    requires { array_vec_len text.old + 40 ≤ 1040 }
+    requires { array_vec_len text.old + 40 ≤ 3072 }
     ensures items { text.new.items ≡ text.old.items ++ (codes " role " ++ role_words (slice_get seen.now.roles.items seen.now.dev_number)) }
     ensures len { array_vec_len text.new ≤ array_vec_len text.old + 40 }
 {
@@ -91,7 +91,7 @@ fn add_role(text: &mut ReplyText, seen: &Super)
 /// Adds words and a number.
 pub fn add_field(text: &mut ReplyText, words: &[u8], number: u64)
     requires few { length words.now ≤ 20 }
-    requires room { array_vec_len text.old + 40 ≤ 1040 }
+    requires room { array_vec_len text.old + 40 ≤ 3072 }
     ensures items { text.new.items ≡ text.old.items ++ (words.now ++ decimal number) }
     ensures len { array_vec_len text.new ≤ array_vec_len text.old + 40 }
 {

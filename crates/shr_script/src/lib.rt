@@ -61,6 +61,8 @@ pub enum Command {
         /// How many works.
         count: u64,
     },
+    /// `status`: replies how the pool stands, in several lines.
+    Status,
     /// `quit`: ends the script, with no reply.
     Quit,
     /// A line whose first word is one of the commands that aren't built yet.
