@@ -136,6 +136,19 @@ make 'lost drives' "${three[@]}"
 serve 'a drive is lost' 0 "$writes${reads}lose 3\nlose 1\nlose 1\n$reads" \
   "ok\nok\nok\nok\nok\nok\nok\nok\n${values}refused no-such-drive\nok\nrefused no-such-drive\n$values" first second third
 serve 'and stays lost' 0 "$reads" "$values" first third
+"$tool" status first third <bytes | sed -E 's/^pool [0-9a-f]{32} /pool ID /' >shown
+expect 'as the pool says' diff - shown <<'END'
+pool ID epoch 2 extent 128
+drive 0 units 10 whole
+drive 1 units 20 missing
+drive 2 units 30 whole
+array 0 level 5 members 3 rows 26
+array 1 level 1 members 2 rows 26
+plan nothing
+size 3840
+left 0
+end
+END
 serve 'too many are lost' 8 'lose 0\nread 0\nwrite 1 61\nfill 2558 3 62\nread 2560\nwrite 2561 68\nread 2561\nlose 2\n' \
   'ok\nrefused spent 0\nrefused spent 1\nrefused spent 2558\ndata 66\nok\ndata 68\nrefused last-drive\n' first second third
 serve 'the pool is not opened any more' 6 'size\n' 'refused too-few 0\n' first second third

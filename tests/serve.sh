@@ -42,8 +42,9 @@ serve 'the last sector and the one past it' 0 'read 127\nread 128\nwrite 128 61\
   'data -\nrefused range\nrefused range\nrefused range\n'
 serve 'wrong lines' 0 'read\nread 0 \nread  0\nread -1\nread x\nread 18446744073709551616\nREAD 0\nquit now\nflush 1\nnone\n read 0\nwrite 0\nwrite 0 6\nwrite 0 6g\n' \
   "$(times 14 x | sed 's/x/refused syntax\\n/g')"
-serve 'lines that are not built yet' 0 'add x\nreplace 0 x\nstatus\n' \
-  "$(times 3 x | sed 's/x/refused unbuilt\\n/g')"
+serve 'lines that are not built yet' 0 'add x\nreplace 0 x\n' 'refused unbuilt\nrefused unbuilt\n'
+serve 'wrong lines of how the pool stands' 0 'status 0\nstatus \nstatuses\n' \
+  "$(times 3 x | sed 's/x/refused syntax\\n/g')"
 serve 'works of maintenance where none is left' 0 'step 0\nstep 1\nstep\nstep x\nstep 1 1\n' \
   "left 0\nleft 0\n$(times 3 x | sed 's/x/refused syntax\\n/g')"
 serve 'drives that are lost' 0 'write 3 61\nlose 2\nlose 18446744073709551615\nlose 1\nlose 1\nlose 0\nread 3\nwrite 3 62\nread 3\n' \
@@ -135,9 +136,8 @@ check 'an empty name' 2 'refused words\n' serve '' second
 check 'create of nothing' 2 'refused words\n' create
 check 'create of no names' 2 'refused words\n' create 128
 check 'create with an extent of 64 sectors' 2 'refused words\n' create 64 first second
-for form in status 'trial 7'; do
-  check "a form that is not built: $form" 6 'refused unbuilt\n' $form first second
-done
+check 'a form that is not built' 6 'refused unbuilt\n' trial 7 first second
+check 'status of nothing' 2 'refused words\n' status
 check 'import of nothing' 2 'refused words\n' import
 check 'a seed that is no number' 2 'refused words\n' trial +7 first second
 

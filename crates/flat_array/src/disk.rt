@@ -4,7 +4,7 @@ ghost use Rattle.std.specs.Prelude.{◌≡◌, ℕ, ◌+◌, ◌-◌, ◌<◌, �
 ghost use Rattle.rack.specs.Values.{all_of};
 ghost use Rattle.flat_array.specs.Array.{FlatArray, fresh, written, filled, flushed};
 ghost use Rattle.shr_script.specs.Reply.{without_zeros as trimmed, digits_or_dash, data_line, as_line, refused_line};
-ghost use Rattle.flat_array.specs.Reply.{reply, after};
+ghost use Rattle.flat_array.specs.Reply.{reply, after, standing_text};
 ghost use Rattle.flat_array.specs.Disk.{zero_sector as zeros, size_of, kept_at, last_alone, Holds};
 
 use shr_script::{Command, LineFault};
@@ -119,6 +119,7 @@ impl FlatDisk {
             Ok(Command::Lose { .. }) => put_refused(b"no-such-drive", out),
             // It has no works of maintenance.
             Ok(Command::Step { .. }) => put_line(b"left 0", out),
+            Ok(Command::Status) => put_standing(alloc, self.size(), out),
             Ok(Command::Quit) => Ok(()),
             Ok(Command::Unbuilt) => put_refused(b"unbuilt", out),
             Err(LineFault::Syntax) => put_refused(b"syntax", out),
@@ -269,6 +270,15 @@ fn put_size(alloc: Global, sectors: u64, out: &mut Vec<u8>) -> Result<(), AllocE
 {
     let text = format!(in alloc; "size {sectors}")?;
     put_line(text.as_bytes(), out)
+}
+
+// Appends how an array of so many sectors stands.
+fn put_standing(alloc: Global, sectors: u64, out: &mut Vec<u8>) -> Result<(), AllocError>
+    ensures { OnOk result (out.new.items ≡ out.old.items ++ standing_text sectors) }
+{
+    put_size(alloc, sectors, out)?;
+    put_line(b"left 0", out)?;
+    put_line(b"end", out)
 }
 
 // Appends a text as a line.

@@ -8,11 +8,10 @@ ghost use Rattle.image_text.specs.Lines.{volume_lines, text_lines, group_words};
 ghost use Rattle.image_text.specs.Volume.{is_zero, before_zero};
 
 use crate::Stop;
-use crate::texts::add_field;
 use crate::volume::Volume;
 use io_ends::Sink;
 use lvm_text::{Group, TextFault, parse};
-use shr_script::{ReplyText, add, line_reply};
+use shr_script::{ReplyText, add, add_field, line_reply};
 use std::alloc::Global;
 
 /// Puts one line.

@@ -9,7 +9,7 @@ ghost use Rattle.image_text.specs.Lines.{image_line, table_words, slice_line, md
 use gpt_table::{Entry, Seen, TableCopy};
 use itoa::Buffer;
 use md_super::{Super, SuperFault};
-use shr_script::{ReplyText, add, line_reply};
+use shr_script::{ReplyText, add, add_field, line_reply};
 
 /// `image N`
 pub fn image_text(text: &mut ReplyText, sectors: u64)
@@ -78,7 +78,7 @@ fn superblock_text(text: &mut ReplyText, seen: &Super)
 
 // ` role R`
 fn add_role(text: &mut ReplyText, seen: &Super)
-    requires { array_vec_len text.old + 40 ≤ 1040 }
+    requires { array_vec_len text.old + 40 ≤ 4096 }
     ensures items { text.new.items ≡ text.old.items ++ (codes " role " ++ role_words (slice_get seen.now.roles.items seen.now.dev_number)) }
     ensures len { array_vec_len text.new ≤ array_vec_len text.old + 40 }
 {
@@ -86,16 +86,4 @@ fn add_role(text: &mut ReplyText, seen: &Super)
         Some(role) => add_field(text, b" role ", u64::from(*role)),
         None => add(text, b" role none"),
     }
-}
-
-/// Adds words and a number.
-pub fn add_field(text: &mut ReplyText, words: &[u8], number: u64)
-    requires few { length words.now ≤ 20 }
-    requires room { array_vec_len text.old + 40 ≤ 1040 }
-    ensures items { text.new.items ≡ text.old.items ++ (words.now ++ decimal number) }
-    ensures len { array_vec_len text.new ≤ array_vec_len text.old + 40 }
-{
-    let mut digits = Buffer::new();
-    add(text, words);
-    add(text, digits.format(number).as_bytes());
 }

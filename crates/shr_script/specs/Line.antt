@@ -6,7 +6,7 @@ use Rattle.std.specs.Str.{bytes_eq}
 use Rattle.std.specs.Str.Parse.{digits_value}
 use Rattle.hex.specs.Hex.{decode_of}
 use Rattle.shr_script.specs.declared.Command.{Command}
-use Rattle.shr_script.specs.declared.Command.TheVariants.{Read, Write, Fill, Flush, Size, Lose, Step, Quit, Unbuilt}
+use Rattle.shr_script.specs.declared.Command.TheVariants.{Read, Write, Fill, Flush, Size, Lose, Step, Status, Quit, Unbuilt}
 use Rattle.shr_script.specs.declared.LineFault.{LineFault}
 use Rattle.shr_script.specs.declared.LineFault.TheVariants.{Syntax}
 
@@ -109,10 +109,7 @@ alone command (more ∷ words) = wrong
 
 -- the first words of lines that aren't built yet
 abbrev pub is_unbuilt : List ℕ → Bool
-is_unbuilt word =
-    bytes_eq word (codes "add")
-    || bytes_eq word (codes "replace")
-    || bytes_eq word (codes "status")
+is_unbuilt word = bytes_eq word (codes "add") || bytes_eq word (codes "replace")
 
 -- what a line of at most 1100 bytes says, by its first word
 abbrev pub built_of : List ℕ → List (List ℕ) → Line
@@ -131,6 +128,8 @@ built_of first words =
     then lose_of (only_number words)
     else if bytes_eq first (codes "step")
     then step_of (only_number words)
+    else if bytes_eq first (codes "status")
+    then alone Status words
     else if bytes_eq first (codes "quit")
     then alone Quit words
     else wrong

@@ -71,10 +71,8 @@ bytes_eq-take (suc n) (b ∷ word) (c ∷ text) short =
 -- eight bytes tell a word that isn't built yet
 is_unbuilt-take : (word : List ℕ) → is_unbuilt word ≡ is_unbuilt (take 8 word)
 is_unbuilt-take word =
-    let step = bytes_eq-take 8 word (codes "step") (lit< tt) in
     let add = bytes_eq-take 8 word (codes "add") (lit< tt) in
     let replace = bytes_eq-take 8 word (codes "replace") (lit< tt) in
-    let status = bytes_eq-take 8 word (codes "status") (lit< tt) in
     cc
 
 -- what a line says that is too long

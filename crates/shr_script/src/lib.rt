@@ -18,8 +18,8 @@ mod reply;
 pub use line::{next_line, number_of, without_return};
 pub use reader::{Ended, LineReader, SCRIPT_LIMIT};
 pub use reply::{
-    REPLY_ROOM, ReplyText, add, data_reply, left_reply, line_reply, refused_number_reply,
-    refused_reply, size_reply,
+    REPLY_ROOM, ReplyText, add, add_field, data_reply, left_reply, line_reply,
+    refused_number_reply, refused_reply, size_reply,
 };
 
 /// A line of a script, as a command.
@@ -61,6 +61,8 @@ pub enum Command {
         /// How many works.
         count: u64,
     },
+    /// `status`: replies how the pool stands, in several lines.
+    Status,
     /// `quit`: ends the script, with no reply.
     Quit,
     /// A line whose first word is one of the commands that aren't built yet.

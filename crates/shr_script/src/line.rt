@@ -76,7 +76,7 @@ fn first_space(bytes: &[u8]) -> Option<usize>
 fn is_unbuilt(word: &[u8]) -> bool
     ensures { result ≡ is_unbuilt_word word.now }
 {
-    word == b"add".as_slice() || word == b"replace".as_slice() || word == b"status".as_slice()
+    word == b"add".as_slice() || word == b"replace".as_slice()
 }
 
 // The command of a line that isn't too long, by its first word.
@@ -97,6 +97,8 @@ fn built_command(first: &[u8], rest: Option<&[u8]>) -> Result<Command, LineFault
         lose_command(only_number(rest))
     } else if first == b"step".as_slice() {
         step_command(only_number(rest))
+    } else if first == b"status".as_slice() {
+        alone(Command::Status, rest)
     } else if first == b"quit".as_slice() {
         alone(Command::Quit, rest)
     } else {

@@ -8,8 +8,8 @@ ghost use Rattle.shr_script.specs.Reply.{without_zeros, digits_or_dash, data_lin
 use arrayvec::ArrayVec;
 use itoa::Buffer;
 
-/// Room for the longest reply: `data `, 1024 digits and a line feed.
-pub const REPLY_ROOM: usize = 1040;
+/// Room for the longest reply, that of `status` with 16 drives and 16 arrays.
+pub const REPLY_ROOM: usize = 4096;
 
 /// The text of a reply.
 pub type ReplyText = ArrayVec<u8, REPLY_ROOM>;
@@ -84,11 +84,23 @@ pub fn left_reply(text: &mut ReplyText, works: u64)
 
 /// Adds bytes that have room.
 pub fn add(text: &mut ReplyText, bytes: &[u8])
-    requires { array_vec_len text.old + length bytes.now ≤ 1040 }
+    requires { array_vec_len text.old + length bytes.now ≤ 4096 }
     ensures items { text.new.items ≡ text.old.items ++ bytes.now }
     ensures len { array_vec_len text.new ≡ array_vec_len text.old + length bytes.now }
 {
     let _ = text.try_extend_from_slice(bytes);
+}
+
+/// Adds words and a number in decimal digits.
+pub fn add_field(text: &mut ReplyText, words: &[u8], number: u64)
+    requires few { length words.now ≤ 20 }
+    requires room { array_vec_len text.old + 40 ≤ 4096 }
+    ensures items { text.new.items ≡ text.old.items ++ (words.now ++ decimal number) }
+    ensures len { array_vec_len text.new ≤ array_vec_len text.old + 40 }
+{
+    let mut digits = Buffer::new();
+    add(text, words);
+    add(text, digits.format(number).as_bytes());
 }
 
 // Adds bytes as lower-case digits, or a dash for none.
@@ -108,7 +120,7 @@ fn add_digits_or_dash(text: &mut ReplyText, bytes: &[u8])
 // Adds bytes as lower-case digits.
 fn add_digits(text: &mut ReplyText, bytes: &[u8])
     requires few { length bytes.now ≤ 512 }
-    requires room { array_vec_len text.old + 2 * length bytes.now ≤ 1040 }
+    requires room { array_vec_len text.old + 2 * length bytes.now ≤ 4096 }
     ensures items { text.new.items ≡ text.old.items ++ encode_lower bytes.now }
     ensures len { array_vec_len text.new ≡ array_vec_len text.old + 2 * length bytes.now }
 {

@@ -217,6 +217,10 @@ pub record History (x y : View) (text rest : List ℕ) (count : ℕ) (out out' :
   pub cut : (more : List ℕ) → cut_script_of (done ++ more) ≡ lines_of events ++ cut_script_of more
   pub answered : Answered x y events out out'
 
+-- nothing is answered yet
+pub answered_none : (x : View) (out : List ℕ) → (volume x).fit → Answered x x [] out out
+answered_none x out fit = record { ran = ran_none x fit; put = λ a holds. sym (append-nil out) }
+
 -- nothing has been read
 pub history_none :
     (x : View) (text rest : List ℕ) (count : ℕ) (out : List ℕ)
@@ -232,5 +236,5 @@ history_none x text rest count out fit same zero = record {
   spent = refl;
   script = λ more. refl;
   cut = λ more. refl;
-  answered = record { ran = ran_none x fit; put = λ a holds. sym (append-nil out) };
+  answered = answered_none x out fit;
 }

@@ -13,6 +13,7 @@ mod Meanings
 mod Performing
 mod Pieces
 mod Putting
+mod Shown
 mod Stepped
 mod Stopping
 mod Through

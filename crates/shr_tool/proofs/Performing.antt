@@ -9,7 +9,7 @@ use Rattle.std.proofs.Math.Nat.{le-min, min-eq_left}
 use Rattle.rack.specs.Moments.{IsSound}
 use Rattle.rack.specs.Joins.{leaves_weaker}
 use Rattle.shr_script.specs.Line.{Line}
-use Rattle.shr_script.specs.declared.Command.TheVariants.{Read, Write, Fill, Flush, Lose, Step}
+use Rattle.shr_script.specs.declared.Command.TheVariants.{Read, Write, Fill, Flush, Lose}
 use Rattle.shr_script.specs.Reply.{data_line, as_line, refused_line}
 use Rattle.flat_array.specs.Array.{FlatArray, filled, flushed, written}
 use Rattle.flat_array.specs.Reply.{reply, after, spent_line, uniform_sector}
@@ -24,7 +24,7 @@ use Rattle.pool.specs.Volume.{Does, Holds, Means, is_spent, size_of, unchanged}
 use Rattle.pool.specs.Keeping.{Raises}
 use Rattle.pool.specs.Calls.{Flushes, LosesDrive, Marks, Passes, ReadsSector, WritesSector}
 use Rattle.shr_tool.specs.declared.perform.SpentAt.{SpentAt}
-use Rattle.shr_tool.specs.Events.{Event, Touches, TouchesLast, becomes, calls_in, line_of, text_of}
+use Rattle.shr_tool.specs.Events.{Event, IsOfArray, Touches, TouchesLast, becomes, calls_in, line_of, text_of}
 use Rattle.shr_tool.specs.Events.Event.{answered, spent, lost, last}
 use Rattle.shr_tool.specs.Timeline.{HasCause, MarksFor, Performs, ground_of, moment_of}
 use Rattle.shr_tool.specs.Filling.{Fills, FillsSome}
@@ -85,7 +85,7 @@ touches_none :
     → ((s : ℕ) → Touches (size_of x) line s → ⊥)
     → ((s : ℕ) → TouchesLast (size_of x) line s → ⊥)
     → ((place : ℕ) → line ≡ Ok (Lose place) → ⊥)
-    → ((count : ℕ) → line ≡ Ok (Step count) → ⊥)
+    → IsOfArray line
     → Cause x y (answered line)
 touches_none x y line none never other apart =
     (λ s touches. absurd (none s touches), λ s touches. absurd (never s touches), λ place is. absurd (other place is), apart)
@@ -98,7 +98,7 @@ touches_one :
     → ((s : ℕ) → Touches (size_of x) line s → s ≡ sector)
     → ((s : ℕ) → TouchesLast (size_of x) line s → s ≡ sector)
     → ((place : ℕ) → line ≡ Ok (Lose place) → ⊥)
-    → ((count : ℕ) → line ≡ Ok (Step count) → ⊥)
+    → IsOfArray line
     → Cause x y (answered line)
 touches_one x y line sector passes alive one same other apart = (
   λ s touches. subst (λ t. is_spent x t ≡ false) (sym (one s touches)) (passes.stays.spent 0 sector alive),
@@ -115,7 +115,7 @@ pub still_done :
     → ((s : ℕ) → Touches (size_of x) line s → ⊥)
     → ((s : ℕ) → TouchesLast (size_of x) line s → ⊥)
     → ((place : ℕ) → line ≡ Ok (Lose place) → ⊥)
-    → ((count : ℕ) → line ≡ Ok (Step count) → ⊥)
+    → IsOfArray line
     → ((a : FlatArray) → Holds x a → a ≡ after a line)
     → ((a : FlatArray) → Holds x a → text ≡ reply a line)
     → Performs x x (answered line) text
@@ -157,7 +157,7 @@ read_done x y sector into text r is_ok is reads_r =
     let reads : ReadsSector x y sector into {X = Unit {0}} (Ok tt) = subst (λ q. ReadsSector x y sector into q) is_ok reads_r in
     let served = reads.fault.served in
     performs_by x y (answered (Ok (Read sector))) text unchanged unchanged reads.passes reads.raises
-    (touches_one x y (Ok (Read sector)) sector reads.passes served.1 (λ s touches. touches.0) (λ s touches. touches.0) (λ place loses. cc) (λ count steps. cc))
+    (touches_one x y (Ok (Read sector)) sector reads.passes served.1 (λ s touches. touches.0) (λ s touches. touches.0) (λ place loses. cc) tt)
     (marks_for x y _ reads.passes reads.marks)
     (λ a holds. rw (inside_array x a sector holds served.0) (is ∙ ap data_line (reads.value a holds)))
     (λ a holds. refl)
@@ -174,7 +174,7 @@ read_outside x y sector into text r refused is reads =
     let past = reads.fault.range.0 refused in
     performs_by x y (answered (Ok (Read sector))) text unchanged unchanged reads.passes reads.raises
     (touches_none x y (Ok (Read sector)) (λ s touches. let inside = touches.1 in omega arith)
-    (λ s touches. let inside = touches.1 in omega arith) (λ place loses. cc) (λ count steps. cc))
+    (λ s touches. let inside = touches.1 in omega arith) (λ place loses. cc) tt)
     (marks_for x y _ reads.passes reads.marks)
     (λ a holds. rw (outside_array x a sector holds past) is)
     (λ a holds. refl)
@@ -214,7 +214,7 @@ write_done x y sector v text r is_ok is writes_r =
     let same : (a : FlatArray) → Holds x a → written a sector v ≡ after a (Ok (Write sector v)) =
     λ a holds. rw (inside_array x a sector holds served.0) refl in
     performs_by x y (answered (Ok (Write sector v))) text (λ a. written a sector v) (λ a. written a sector v) writes.passes writes.raises
-    (touches_one x y (Ok (Write sector v)) sector writes.passes served.1 (λ s touches. touches.0) (λ s touches. touches.0) (λ place loses. cc) (λ count steps. cc))
+    (touches_one x y (Ok (Write sector v)) sector writes.passes served.1 (λ s touches. touches.0) (λ s touches. touches.0) (λ place loses. cc) tt)
     (marks_for x y _ writes.passes writes.marks)
     (λ a holds. rw (inside_array x a sector holds served.0) is)
     same
@@ -232,7 +232,7 @@ write_outside x y sector v text r refused is writes_r =
     let past = writes.fault.range.0 refl in
     performs_by x y (answered (Ok (Write sector v))) text unchanged unchanged writes.passes writes.raises
     (touches_none x y (Ok (Write sector v)) (λ s touches. let inside = touches.1 in omega arith)
-    (λ s touches. let inside = touches.1 in omega arith) (λ place loses. cc) (λ count steps. cc))
+    (λ s touches. let inside = touches.1 in omega arith) (λ place loses. cc) tt)
     (marks_for x y _ writes.passes writes.marks)
     (λ a holds. rw (outside_array x a sector holds past) is)
     (λ a holds. rw (outside_array x a sector holds past) refl)
@@ -283,7 +283,7 @@ fill_done x y sector count byte text r inside is_ok is fills_r =
       λ s touches. fills.done.0.unspent s touches.0 touches.1,
       λ s touches. spent_at x y s false fills.passes (fills.done.1 s touches.0 touches.1),
       λ place loses. absurd (let other : ⊥ = cc in other),
-      λ n steps. let other : ⊥ = cc in other,
+      tt,
     )
     (marks_for x y _ fills.passes fills.marks)
     (λ a holds. rw (all_inside x a (sector + count) holds inside) is)
@@ -331,7 +331,7 @@ fill_outside x sector count byte text fit sound past is =
     still_done x (Ok (Fill sector count byte)) text fit sound
     (λ s touches. let inside = touches.2 in omega arith)
     (λ s touches. let inside = touches.2 in omega arith)
-    (λ place loses. cc) (λ count steps. cc)
+    (λ place loses. cc) tt
     (λ a holds. rw (test a holds) refl)
     (λ a holds. rw (test a holds) is)
 
@@ -341,7 +341,7 @@ pub flush_done :
     (x y : View) (text : List ℕ) → text ≡ as_line (codes "ok") → Flushes x y → Performs x y (answered (Ok Flush)) text
 flush_done x y text is flushes =
     performs_by x y (answered (Ok Flush)) text unchanged flushed flushes.passes flushes.raises
-    (touches_none x y (Ok Flush) (λ s touches. touches) (λ s touches. touches) (λ place loses. cc) (λ count steps. cc))
+    (touches_none x y (Ok Flush) (λ s touches. touches) (λ s touches. touches) (λ place loses. cc) tt)
     (marks_for x y _ flushes.passes flushes.marks)
     (λ a holds. is)
     (λ a holds. refl)
@@ -444,7 +444,7 @@ lose_missing x y at place text r fit cut refused same is loses =
       λ p line.
           let this : place ≡ p = cc in
           subst (λ q. is_current (book x).state q ≡ false) this (sym (current_cut x at place fit cut) ∙ missing),
-      λ count steps. cc,
+      tt,
     )
     (still_marks x y _ loses.passes same)
     (λ a holds. is)

@@ -1,9 +1,9 @@
 -- How a task came out, where the array is told for another reason.
-use Rattle.std.proofs.Common.{ℕ, List, [], ◌∷◌}
+use Rattle.std.proofs.Common.{ℕ, List, [], ◌∷◌, codes}
 use Rattle.rack.specs.Seen.{Image, Seen}
 use Rattle.flat_array.specs.Array.{FlatArray}
 use Rattle.shr_tool.specs.declared.opening.Task.{Task}
-use Rattle.shr_tool.specs.declared.opening.Task.TheVariants.{Serve, Import, Export}
+use Rattle.shr_tool.specs.declared.opening.Task.TheVariants.{Serve, Import, Export, Show}
 use Rattle.shr_tool.specs.declared.status.Status.{Status}
 use Rattle.shr_tool.specs.declared.status.Status.TheVariants.{Done, Words, Limit, Source, Sink, Refused, Memory, Spent}
 use Rattle.shr_tool.specs.Events.{Event, becomes}
@@ -151,3 +151,5 @@ task_for Import status T U S R y g from a text rest out out' told traced o =
     import_for status T U S R y g from a text rest out out' told traced o
 task_for Export status T U S R y g from a text rest out out' told traced o =
     export_for status T U S R y g from a out out' told traced o
+task_for Show status T U S R y g from a text rest out out' told traced o =
+    outcome_for status T U S R y g from a (codes "status") [] out out' told traced o

@@ -1,6 +1,6 @@
 -- What a line of a script does on a pool: as a flat array of sectors has it, or what lost drives make of it.
 use Rattle.std.specs.Prelude.{◌≡◌, ℕ, ◌+◌, ◌<◌, ◌≤◌, ◌||◌, Bool, true, false, List, [], ◌∷◌, ◌++◌, codes, decimal, Ok, Err}
-use Rattle.shr_script.specs.declared.Command.TheVariants.{Read, Write, Fill, Flush, Size, Lose, Step, Quit, Unbuilt}
+use Rattle.shr_script.specs.declared.Command.TheVariants.{Read, Write, Fill, Flush, Size, Lose, Step, Status, Quit, Unbuilt}
 use Rattle.shr_script.specs.Line.{Line}
 use Rattle.shr_script.specs.Reply.{as_line, left_line, refused_line}
 use Rattle.flat_array.specs.Array.{FlatArray}
@@ -19,6 +19,8 @@ pub data Event : Type 0 where
   stepped : ℕ → ℕ → Event
   -- they ended at one that this array can't do
   stuck : ℕ → ℕ → Event
+  -- how the pool stands was said by this text
+  shown : List ℕ → Event
 
 -- the line
 abbrev pub line_of : Event → Line
@@ -28,6 +30,7 @@ line_of (lost place) = Ok (Lose place)
 line_of (last place) = Ok (Lose place)
 line_of (stepped count left) = Ok (Step count)
 line_of (stuck count array) = Ok (Step count)
+line_of (shown text) = Ok Status
 
 -- how many calls of a pool a line has: one for each sector of a fill and each work of a step
 abbrev pub calls_in : Line → ℕ
@@ -38,6 +41,7 @@ calls_in (Ok Flush) = 1
 calls_in (Ok Size) = 1
 calls_in (Ok (Lose place)) = 1
 calls_in (Ok (Step count)) = count
+calls_in (Ok Status) = 1
 calls_in (Ok Quit) = 1
 calls_in (Ok Unbuilt) = 1
 calls_in (Err fault) = 1
@@ -54,6 +58,7 @@ text_of a (lost place) = as_line (codes "ok")
 text_of a (last place) = refused_line (codes "last-drive")
 text_of a (stepped count left) = left_line left
 text_of a (stuck count array) = stuck_line array
+text_of a (shown text) = text
 
 -- the array after it
 abbrev pub becomes : FlatArray → Event → FlatArray
@@ -63,6 +68,7 @@ becomes a (lost place) = a
 becomes a (last place) = a
 becomes a (stepped count left) = a
 becomes a (stuck count array) = a
+becomes a (shown text) = a
 
 -- the replies to events in a row, and the array after them
 abbrev pub texts : FlatArray → List Event → List ℕ
@@ -86,10 +92,25 @@ is_spent (lost place) = false
 is_spent (last place) = false
 is_spent (stepped count left) = false
 is_spent (stuck count array) = true
+is_spent (shown text) = false
 
 abbrev pub any_spent : List Event → Bool
 any_spent [] = false
 any_spent (event ∷ events) = is_spent event || any_spent events
+
+-- a line that is answered as a flat array answers it, and neither by the works that are left nor by how the pool stands
+abbrev pub IsOfArray : Line → Type 0
+IsOfArray (Ok (Read sector)) = Unit {0}
+IsOfArray (Ok (Write sector bytes)) = Unit {0}
+IsOfArray (Ok (Fill sector count byte)) = Unit {0}
+IsOfArray (Ok Flush) = Unit {0}
+IsOfArray (Ok Size) = Unit {0}
+IsOfArray (Ok (Lose place)) = Unit {0}
+IsOfArray (Ok (Step count)) = ⊥
+IsOfArray (Ok Status) = ⊥
+IsOfArray (Ok Quit) = Unit {0}
+IsOfArray (Ok Unbuilt) = Unit {0}
+IsOfArray (Err fault) = Unit {0}
 
 -- a sector that a line reads or writes, of a volume of so many sectors
 abbrev pub Touches : ℕ → Line → ℕ → Type 0
@@ -100,6 +121,7 @@ Touches size (Ok Flush) s = ⊥
 Touches size (Ok Size) s = ⊥
 Touches size (Ok (Lose place)) s = ⊥
 Touches size (Ok (Step count)) s = ⊥
+Touches size (Ok Status) s = ⊥
 Touches size (Ok Quit) s = ⊥
 Touches size (Ok Unbuilt) s = ⊥
 Touches size (Err fault) s = ⊥
@@ -113,6 +135,7 @@ TouchesLast size (Ok Flush) s = ⊥
 TouchesLast size (Ok Size) s = ⊥
 TouchesLast size (Ok (Lose place)) s = ⊥
 TouchesLast size (Ok (Step count)) s = ⊥
+TouchesLast size (Ok Status) s = ⊥
 TouchesLast size (Ok Quit) s = ⊥
 TouchesLast size (Ok Unbuilt) s = ⊥
 TouchesLast size (Err fault) s = ⊥

@@ -10,7 +10,7 @@ is_built (Create extent) = true
 is_built Serve = true
 is_built Import = true
 is_built Export = true
-is_built Status = false
+is_built Status = true
 is_built Examine = true
 is_built (Trial seed) = false
 
@@ -22,7 +22,7 @@ uses_disks (Some (Create extent)) = true
 uses_disks (Some Serve) = true
 uses_disks (Some Import) = true
 uses_disks (Some Export) = true
-uses_disks (Some Status) = false
+uses_disks (Some Status) = true
 uses_disks (Some Examine) = true
 uses_disks (Some (Trial seed)) = false
 

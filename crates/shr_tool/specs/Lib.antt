@@ -1,4 +1,5 @@
 pub mod Limits
+pub mod StatusText
 pub mod Events
 pub mod Timeline
 pub mod Filling

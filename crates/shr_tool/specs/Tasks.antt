@@ -1,23 +1,32 @@
 -- What is done on an opened pool, and how that came out.
-use Rattle.std.specs.Prelude.{ℕ, List}
+use Rattle.std.specs.Prelude.{ℕ, Bool, true, false, List, [], codes}
 use Rattle.rack.specs.Seen.{Seen}
 use Rattle.flat_array.specs.Array.{FlatArray}
 use Rattle.shr_tool.specs.declared.status.Status.{Status}
 use Rattle.shr_tool.specs.declared.opening.Task.{Task}
-use Rattle.shr_tool.specs.declared.opening.Task.TheVariants.{Serve, Import, Export}
+use Rattle.shr_tool.specs.declared.opening.Task.TheVariants.{Serve, Import, Export, Show}
 use Rattle.shr_tool.specs.Exporting.{ExportOutcome}
 use Rattle.shr_tool.specs.Importing.{ImportOutcome}
 use Rattle.shr_tool.specs.Outcome.{Outcome}
 use Rattle.shr_tool.specs.Timeline.{Ground, Moment}
 
--- by the task
+-- by the task: `status` is the script of that one line
 abbrev pub TaskOutcome : Task → Status → Type 0 → Type 0 → Seen → Ground → Moment → FlatArray → List ℕ → List ℕ → List ℕ → List ℕ → Type 0
 TaskOutcome Serve status Told Traced y g from a text rest out out' = Outcome status Told Traced y g from a text rest out out'
 TaskOutcome Import status Told Traced y g from a text rest out out' = ImportOutcome status Told Traced y g from a text rest out out'
 TaskOutcome Export status Told Traced y g from a text rest out out' = ExportOutcome status Told Traced y g from a out out'
+TaskOutcome Show status Told Traced y g from a text rest out out' = Outcome status Told Traced y g from a (codes "status") [] out out'
 
 -- that the input is told, where the task reads it
 abbrev pub NeedsInput : Task → Type 0 → Type 0
 NeedsInput Serve told = told
 NeedsInput Import told = told
 NeedsInput Export told = Unit {0}
+NeedsInput Show told = Unit {0}
+
+-- whether the task takes from the input
+abbrev pub takes_input : Task → Bool
+takes_input Serve = true
+takes_input Import = true
+takes_input Export = false
+takes_input Show = false

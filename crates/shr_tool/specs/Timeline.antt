@@ -2,7 +2,7 @@
 use Rattle.std.specs.Prelude.{◌≡◌, ◌⊎◌, ℕ, ◌+◌, ◌*◌, ◌<◌, ◌≤◌, min, true, false, List, [], ◌∷◌, Ok}
 use Rattle.rack.specs.Seen.{Image, Rose}
 use Rattle.rack.specs.Moments.{Leaves}
-use Rattle.shr_script.specs.declared.Command.TheVariants.{Lose, Step}
+use Rattle.shr_script.specs.declared.Command.TheVariants.{Lose}
 use Rattle.flat_array.specs.Array.{FlatArray}
 use Rattle.array_image.specs.Places.{log_slice}
 use Rattle.array_image.specs.States.{is_current}
@@ -17,8 +17,9 @@ use Rattle.pool.specs.Keeping.{HasMarkedSeats, KeepsBook, Raises, most_raised}
 use Rattle.pool.specs.View.{View, book, contents_in, spent_by}
 use Rattle.pool.specs.Works.{HasRowsAlone, IsStuck, left_by}
 use Rattle.pool.specs.Volume.{Holds, Means, PicksLive}
-use Rattle.shr_tool.specs.Events.{Event, Touches, TouchesLast, becomes, calls_in, line_of, text_of}
-use Rattle.shr_tool.specs.Events.Event.{answered, spent, lost, last, stepped, stuck}
+use Rattle.shr_tool.specs.Events.{Event, IsOfArray, Touches, TouchesLast, becomes, calls_in, line_of, text_of}
+use Rattle.shr_tool.specs.StatusText.{status_text}
+use Rattle.shr_tool.specs.Events.Event.{answered, spent, lost, last, stepped, stuck, shown}
 
 -- What is known between two events: the clock, the disks' counts of faults, and the pool's state and arrays.
 pub record Moment : Type 0 where
@@ -50,13 +51,14 @@ pub record HasSteps (g : Ground) (p q : Moment) (count left : ℕ) : Type 0 wher
       → HasRowsAlone q.book × (left + min count (left_by g.linear p.book) ≡ left_by g.linear p.book)
 
 -- Why an event was answered so: the sector that it refuses is spent at its end, and those that it served weren't before, nor is the last
--- one at its end; a drive that is lost was current, and another one is left; works of maintenance were done, or an array can't do one.
+-- one at its end; a drive that is lost was current, and another one is left; works of maintenance were done, or an array can't do one; how
+-- the pool stands is said of the book at the event's end.
 abbrev pub HasCause : Ground → Moment → Moment → Event → Type 0
 HasCause g p q (answered line) =
     ((s : ℕ) → Touches (sectors_in g.linear) line s → spent_by g.linear p.book s ≡ false)
     × ((s : ℕ) → TouchesLast (sectors_in g.linear) line s → spent_by g.linear q.book s ≡ false)
     × ((place : ℕ) → line ≡ Ok (Lose place) → is_current p.book.state place ≡ false)
-    × ((count : ℕ) → line ≡ Ok (Step count) → ⊥)
+    × IsOfArray line
 HasCause g p q (spent line sector) =
     Touches (sectors_in g.linear) line sector
     × (spent_by g.linear q.book sector ≡ true)
@@ -65,6 +67,7 @@ HasCause g p q (lost place) = (is_current p.book.state place ≡ true) × (is_cu
 HasCause g p q (last place) = (is_current p.book.state place ≡ true) × (has_other p.book.state place ≡ false)
 HasCause g p q (stepped count left) = HasSteps g p q count left
 HasCause g p q (stuck count array) = IsStuck g.linear q.book array
+HasCause g p q (shown text) = text ≡ status_text g.linear q.book
 
 -- Marks alone come to the pool's state, each of a drive whose disk's faults rose or that the script lost.
 pub record MarksFor (g : Ground) (p q : Moment) (event : Event) : Type 0 where

@@ -16,6 +16,7 @@ mod refusals;
 mod run;
 mod saying;
 mod serve;
+mod showing;
 mod status;
 
 use io_ends::{StdSink, StdSource};

@@ -1,6 +1,6 @@
-//! `serve NAME..`, `import NAME..` and `export NAME..`: opens the pool of the named disks and does the task on it.
+//! `serve NAME..`, `import NAME..`, `export NAME..` and `status NAME..`: opens the pool of the named disks and does the task on it.
 
-ghost use Rattle.std.specs.Prelude.{◌≡◌, ◌≢◌, ◌≤◌, ◌^◌, map, string_bytes};
+ghost use Rattle.std.specs.Prelude.{◌≡◌, ◌≢◌, ◌≤◌, ◌^◌, false, map, string_bytes};
 ghost use Rattle.flat_array.specs.Array.{FlatArray};
 ghost use Rattle.pool.specs.Calls.{Passes};
 ghost use Rattle.pool.specs.View.{bay_in, view, volume};
@@ -9,14 +9,14 @@ ghost use Rattle.shr_tool.specs.Limits.{KeepsLimit};
 ghost use Rattle.shr_tool.specs.Outcome.{HasStatusCause};
 ghost use Rattle.shr_tool.specs.Opened.{OpenOutcome};
 ghost use Rattle.shr_tool.specs.Run.{PoolOutcome};
-ghost use Rattle.shr_tool.specs.Tasks.{NeedsInput, TaskOutcome};
+ghost use Rattle.shr_tool.specs.Tasks.{NeedsInput, TaskOutcome, takes_input};
 ghost use Rattle.shr_tool.specs.Timeline.{ground_of, moment_of};
 
 use crate::attaching::{attach_all, refuse_name};
 use crate::exporting::export_pool;
 use crate::importing::import_pool;
 use crate::refusals::refuse_open;
-use crate::serve::serve_pool;
+use crate::serve::{serve_pool, show_pool};
 use crate::status::Status;
 use io_ends::{Sink, Source};
 use pool::Pool;
@@ -32,6 +32,8 @@ pub enum Task {
     Import,
     /// The volume's bytes are put.
     Export,
+    /// How the pool stands is said, as the script `status` is answered.
+    Show,
 }
 
 /// Attaches the disks, opens their pool, does the task on it, and ends the pool.
@@ -50,7 +52,7 @@ pub fn open_for<B: Bay, I: Source, O: Sink>(
     ensures cause { HasStatusCause result (I.faults input.old) (I.faults input.new) (O.faults out.old) (O.faults out.new) }
     ensures limit { task ≡ Task.Serve → I.told input.old → KeepsLimit (result ≡ Status.Limit) (2 ^ 32) (I.left input.old) (I.left input.new) }
     ensures other { task ≢ Task.Serve → result ≢ Status.Limit }
-    ensures unread { task ≡ Task.Export → input.new ≡ input.old }
+    ensures unread { takes_input task ≡ false → input.new ≡ input.old }
     ensures outcome { NeedsInput task (I.told input.old) → O.told out.old
         → PoolOutcome B.seen B.shelf B.runs bay.old bay.new task (map string_bytes names.now)
         (I.left input.old) (I.left input.new) (O.taken out.old) (O.taken out.new) result }
@@ -75,7 +77,7 @@ fn open_attached<B: Bay, I: Source, O: Sink>(
     ensures cause { HasStatusCause result (I.faults input.old) (I.faults input.new) (O.faults out.old) (O.faults out.new) }
     ensures limit { task ≡ Task.Serve → I.told input.old → KeepsLimit (result ≡ Status.Limit) (2 ^ 32) (I.left input.old) (I.left input.new) }
     ensures other { task ≢ Task.Serve → result ≢ Status.Limit }
-    ensures unread { task ≡ Task.Export → input.new ≡ input.old }
+    ensures unread { takes_input task ≡ false → input.new ≡ input.old }
     ensures outcome { NeedsInput task (I.told input.old) → O.told out.old
         → OpenOutcome B.seen B.runs bay.old bay.new task
         (I.left input.old) (I.left input.new) (O.taken out.old) (O.taken out.new) result }
@@ -105,7 +107,7 @@ fn do_on<R: Bay, I: Source, O: Sink>(
     ensures cause { HasStatusCause result (I.faults input.old) (I.faults input.new) (O.faults out.old) (O.faults out.new) }
     ensures limit { task ≡ Task.Serve → I.told input.old → KeepsLimit (result ≡ Status.Limit) (2 ^ 32) (I.left input.old) (I.left input.new) }
     ensures other { task ≢ Task.Serve → result ≢ Status.Limit }
-    ensures unread { task ≡ Task.Export → input.new ≡ input.old }
+    ensures unread { takes_input task ≡ false → input.new ≡ input.old }
     ensures outcome { NeedsInput task (I.told input.old) → O.told out.old → (a : FlatArray)
         → TaskOutcome task result (Holds (view R.seen pool.old) a) (R.seen (bay_in pool.old)).traced (R.seen (bay_in pool.new))
         (ground_of (view R.seen pool.old)) (moment_of (view R.seen pool.old)) a
@@ -115,5 +117,6 @@ fn do_on<R: Bay, I: Source, O: Sink>(
         Task::Serve => serve_pool(pool, input, out),
         Task::Import => import_pool(pool, input, out),
         Task::Export => export_pool(pool, out),
+        Task::Show => show_pool(pool, out),
     }
 }

@@ -9,6 +9,7 @@ ghost use Rattle.shr_tool.specs.Events.{stuck_line};
 ghost use Rattle.shr_tool.specs.Serving.{Answers};
 ghost use Rattle.shr_tool.specs.Filling.{Fills};
 
+use crate::showing::show;
 use pool::{LoseFault, Pool, SectorFault};
 use rack::{Bay, Rack};
 use shr_script::{
@@ -78,6 +79,7 @@ fn perform<R: Bay>(pool: &mut Pool<R>, command: &Command, text: &mut ReplyText) 
         Command::Lose { place } => perform_lose(pool, *place, text),
         Command::Flush => perform_flush(pool, text),
         Command::Size => size_reply(text, pool.size()),
+        Command::Status => show(pool, text),
         Command::Quit => text.clear(),
         Command::Unbuilt => refused_reply(text, b"unbuilt"),
     }

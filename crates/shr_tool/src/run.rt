@@ -3,7 +3,7 @@
 ghost use Rattle.std.specs.Prelude.{◌≡◌, ◌≢◌, ◌⊎◌, ◌<◌, ◌≤◌, ◌^◌, ℕ, List, true, false, length, drop, map, codes, string_bytes, Some, None};
 ghost use Rattle.rack.specs.Seen.{Rose};
 ghost use Rattle.shr_tool.specs.declared.status.Status.TheVariants.{Words, Refused, Memory};
-ghost use Rattle.shr_words.specs.declared.forms.Form.TheVariants.{Layout, Create, Serve, Import, Export, Examine};
+ghost use Rattle.shr_words.specs.declared.forms.Form.TheVariants.{Layout, Create, Serve, Import, Export, Status as StatusOf, Examine};
 ghost use Rattle.shr_words.specs.LayoutWords.{units_asked};
 ghost use Rattle.shr_words.specs.Forms.{form_of as form_in};
 ghost use Rattle.shr_tool.specs.LayoutText.{Prints};
@@ -47,6 +47,9 @@ pub fn run<B: Bay, I: Source, O: Sink>(
 
     ensures export { form_in (map string_bytes words.now) ≡ Some Export → O.told out.old
         → Ended result (PoolOutcome B.seen B.shelf B.runs bay.old bay.new Task.Export (map string_bytes (drop 1 words.now)) (I.left input.old) (I.left input.new) (O.taken out.old) (O.taken out.new)) }
+
+    ensures status { form_in (map string_bytes words.now) ≡ Some StatusOf → O.told out.old
+        → Ended result (PoolOutcome B.seen B.shelf B.runs bay.old bay.new Task.Show (map string_bytes (drop 1 words.now)) (I.left input.old) (I.left input.new) (O.taken out.old) (O.taken out.new)) }
 
     ensures create { (extent : ℕ) → form_in (map string_bytes words.now) ≡ Some (Create extent) → O.told out.old
         → Ended result (CreateOutcome B.seen B.shelf B.runs bay.old bay.new (map string_bytes (drop 2 words.now)) extent birth.now (O.taken out.old) (O.taken out.new)) }
@@ -97,7 +100,8 @@ pub fn run<B: Bay, I: Source, O: Sink>(
         Form::Create { extent } => {
             create(alloc, bay, behind(words, 2), extent, birth, out).code()
         }
-        Form::Status | Form::Trial { .. } => refuse(out, b"unbuilt", Status::Refused).code(),
+        Form::Status => open_for(alloc, bay, names, seconds, Task::Show, input, out).code(),
+        Form::Trial { .. } => refuse(out, b"unbuilt", Status::Refused).code(),
     }
 }
 

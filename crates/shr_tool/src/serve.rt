@@ -1,6 +1,7 @@
 //! Answers a script on a pool, line by line.
 
 mod finish;
+mod once;
 
 ghost use Rattle.std.specs.Prelude.{◌≡◌, ◌≢◌, ◌<◌, ◌≤◌, ◌^◌, ◌||◌, Some, Ok, IsOk, IfErr};
 ghost use Rattle.shr_script.specs.declared.Command.TheVariants.{Quit};
@@ -14,6 +15,7 @@ ghost use Rattle.shr_tool.specs.Serving.{IsReplied, LineAnswers, Serves, HasStop
 use crate::perform::{Answer, answer_in};
 pub use finish::serve_pool;
 use io_ends::{Sink, Source};
+pub use once::show_pool;
 use pool::Pool;
 use rack::{Bay, Rack};
 use shr_script::{

@@ -8,6 +8,7 @@ mod losses;
 mod order;
 mod pools;
 mod scripts;
+mod showing;
 mod stops;
 mod transfers;
 mod works;

@@ -74,7 +74,7 @@ pub fn refusal_text(text: &mut ReplyText, error: PlanError)
 
 // Adds a number in decimal digits.
 fn add_number(text: &mut ReplyText, number: u64)
-    requires { array_vec_len text.old + 20 ≤ 1040 }
+    requires { array_vec_len text.old + 20 ≤ 4096 }
     ensures items { text.new.items ≡ text.old.items ++ decimal number }
     ensures len { array_vec_len text.new ≤ array_vec_len text.old + 20 }
 {
@@ -84,7 +84,7 @@ fn add_number(text: &mut ReplyText, number: u64)
 
 // Adds each place after a space.
 fn add_places(text: &mut ReplyText, places: &[u32])
-    requires { array_vec_len text.old + 21 * length places.now ≤ 1040 }
+    requires { array_vec_len text.old + 21 * length places.now ≤ 4096 }
     ensures items { text.new.items ≡ text.old.items ++ spaced places.now }
     ensures len { array_vec_len text.new ≤ array_vec_len text.old + 21 * length places.now }
 {

@@ -38,8 +38,8 @@ pub fn serve_pool<R: Bay, I: Source, O: Sink>(
     status_of(stopped)
 }
 
-// The status of a script that stopped, on a pool that was ended.
-fn status_of(stopped: Stopped) -> Status
+/// The status of a script that stopped, on a pool that was ended.
+pub(crate) fn status_of(stopped: Stopped) -> Status
     ensures { result ≡ status_by stopped.cause stopped.refused }
 {
     match stopped.cause {

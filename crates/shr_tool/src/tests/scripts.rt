@@ -86,8 +86,8 @@ fn each_line_has_its_reply(rt: HostRuntime) -> Result<(), Fail> {
         ("step 1\nstep 0 0", "left 0\nrefused syntax\n"),
         ("add A\nreplace ", "refused unbuilt\nrefused unbuilt\n"),
         (
-            "lose 9\nlose\nlose 1 1\nstatus\nstatuses",
-            "refused no-such-drive\nrefused syntax\nrefused syntax\nrefused unbuilt\nrefused syntax\n",
+            "lose 9\nlose\nlose 1 1\nstatus 1\nstatus \nstatuses",
+            "refused no-such-drive\nrefused syntax\nrefused syntax\nrefused syntax\nrefused syntax\nrefused syntax\n",
         ),
         ("\0\nread 0\0", "refused syntax\nrefused syntax\n"),
     ];
@@ -117,10 +117,11 @@ fn long_lines_have_their_replies(rt: HostRuntime) -> Result<(), Fail> {
         ("write 00000000000000000003 ", b'f', 27 + 1024, "ok\n"),
         ("flush ", b' ', 1100, "refused syntax\n"),
         ("flush ", b' ', 1101, "refused syntax\n"),
-        ("status ", b'x', 1100, "refused unbuilt\n"),
-        ("status ", b'x', 1101, "refused unbuilt\n"),
-        ("status ", b'x', 9000, "refused unbuilt\n"),
-        ("status", b'x', 1102, "refused syntax\n"),
+        ("replace ", b'x', 1100, "refused unbuilt\n"),
+        ("replace ", b'x', 1101, "refused unbuilt\n"),
+        ("replace ", b'x', 9000, "refused unbuilt\n"),
+        ("replace", b'x', 1102, "refused syntax\n"),
+        ("status ", b'x', 1101, "refused syntax\n"),
         ("", b'q', 5000, "refused syntax\n"),
     ];
     let pool = made(&rt, rt.alloc(), DISK_SECTORS)?;
@@ -139,7 +140,7 @@ fn a_line_over_two_pieces_of_the_source_is_one_line(rt: HostRuntime) -> Result<(
     let alloc = rt.alloc();
     let pool = made(&rt, alloc, DISK_SECTORS)?;
     for first in 4070..4100 {
-        let mut script = long_line(alloc, "status ", b'x', first)?;
+        let mut script = long_line(alloc, "replace ", b'x', first)?;
         script.extend_from_slice(b"\nwrite 2 1234\r\nread 2\r\n")?;
         let put = check(&rt, alloc, &pool, &script)?;
         let want = b"refused unbuilt\nok\ndata 1234\n";

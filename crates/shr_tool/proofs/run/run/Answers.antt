@@ -14,6 +14,9 @@ returns-in-Err-Memory-clause-import g c = λ form input out. (c.refuse.result, c
 pub returns-in-Err-Memory-clause-export : goal.returns-in-Err-Memory-clause-export
 returns-in-Err-Memory-clause-export g c = λ form out. (c.refuse.result, c.code-in-Err-Memory.ensures, PoolOutcome.no_memory refl (c.refuse.ensures.says out))
 
+pub returns-in-Err-Memory-clause-status : goal.returns-in-Err-Memory-clause-status
+returns-in-Err-Memory-clause-status g c = λ form out. (c.refuse.result, c.code-in-Err-Memory.ensures, PoolOutcome.no_memory refl (c.refuse.ensures.says out))
+
 pub returns-in-Err-Memory-clause-create : goal.returns-in-Err-Memory-clause-create
 returns-in-Err-Memory-clause-create g c = λ extent form out. (c.refuse.result, c.code-in-Err-Memory.ensures, CreateOutcome.no_memory refl (c.refuse.ensures.says out))
 
@@ -40,5 +43,5 @@ returns-in-Create-clause-create g c =
           (c.create.ensures.outcome out)),
     )
 
-pub returns-in-Status-clause-unbuilt : goal.returns-in-Status-clause-unbuilt
-returns-in-Status-clause-unbuilt g c = λ form is unbuilt out. (c.refuse-in-Status.result, c.code-in-Status.ensures, inl (c.refuse-in-Status.ensures.says out))
+pub returns-in-Trial-clause-unbuilt : goal.returns-in-Trial-clause-unbuilt
+returns-in-Trial-clause-unbuilt g c = λ form is unbuilt out. (c.refuse-in-Trial.result, c.code-in-Trial.ensures, inl (c.refuse-in-Trial.ensures.says out))

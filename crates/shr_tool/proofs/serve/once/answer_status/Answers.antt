@@ -1,0 +1,15 @@
+-- The script is one line, without a line feed.
+use Rattle.std.proofs.Common.{[], codes, refl, lit≤}
+use Rattle.pool.specs.View.{view}
+use Rattle.shr_tool.proofs.History.{answered_none}
+use Rattle.shr_tool.proofs.Stopping.{last_answered}
+use Rattle.shr_tool.proofs.serve.once.answer_status.Goals as goal
+
+pub returns-clause-serves : goal.returns-clause-serves
+returns-clause-serves g c =
+    λ sink.
+    let shown = view g.R.Rack.seen in
+    let p = c.args.pool.now in
+    let out = g.O.Sink.taken c.args.out.now in
+    last_answered shown p c.answer_last.new.pool (shown p) (codes "status") [] out out (g.O.Sink.taken c.answer_last.new.out) _ _ [] _ _
+    (answered_none (shown p) out c.requires) refl refl (lit≤ tt) (c.answer_last.ensures.answers sink)
