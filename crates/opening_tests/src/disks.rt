@@ -168,3 +168,8 @@ pub(crate) fn left_without(
     assert!(rt; bay.attach(STRAY).is_ok());
     Ok(bay)
 }
+
+/// Whether disks of two bays hold the same in some sectors.
+pub(crate) fn are_same(one: (&MemBay, u32), other: (&MemBay, u32), from: u64, to: u64) -> bool {
+    (from..to).all(|sector| one.0.sector_now(one.1, sector) == other.0.sector_now(other.1, sector))
+}

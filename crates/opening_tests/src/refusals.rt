@@ -1,7 +1,7 @@
 //! Pools that have a cause of a refusal, and those that have two.
 
 use crate::damages::{Damage, apply, damages, rank};
-use crate::disks::{NONE, STRAY_SECTORS, new_disks, now_without};
+use crate::disks::{NONE, STRAY_SECTORS, are_same, new_disks, now_without};
 use crate::plans::{PLANS, Plan};
 use crate::volumes::refused;
 use assembler::Refusal;
@@ -11,22 +11,50 @@ use std::alloc::Global;
 use std::process::Abort;
 use std::test::Fail;
 
+/// Whether both damages are of the same part of drives of a pool of two, but not of the same drive.
+fn are_both(plan: &Plan, first: Damage, second: Damage) -> bool {
+    plan.drives == 2 && first != second
+}
+
+/// Whether no disk with a valid copy of the state is left.
+fn leave_no_copy(plan: &Plan, first: Damage, second: Damage) -> bool {
+    match (first, second) {
+        (Damage::NoDisks, Damage::Copy { place }) => plan.drives == 3 && place == 0,
+        (Damage::Copy { .. }, Damage::Copy { .. }) => are_both(plan, first, second),
+        _ => false,
+    }
+}
+
+/// Whether no valid superblock of the first array is left, so that nobody says who its members are.
+fn leave_no_superblock(plan: &Plan, first: Damage, second: Damage) -> bool {
+    match (first, second) {
+        (Damage::Superblock { .. }, Damage::Superblock { .. }) => are_both(plan, first, second),
+        _ => false,
+    }
+}
+
+/// Whether a disk says by neither its copy nor its table that it is the drive of a place.
+fn leave_no_name(first: Damage, second: Damage) -> bool {
+    match (first, second) {
+        (Damage::Table { place }, Damage::Copy { place: other }) => place == other,
+        _ => false,
+    }
+}
+
 /// What an opening of a pool with two causes is refused for, of which the first isn't looked for later than the second; None where it
 /// isn't refused. It is the first cause, unless one takes the other away and a third one comes.
 fn awaited(plan: &Plan, first: Damage, second: Damage) -> Option<Refusal> {
-    match (first, second) {
-        // No disk with a valid copy is left.
-        (Damage::NoDisks, Damage::Copy { place: 0 }) if plan.drives == 3 => Some(Refusal::NoPool),
-        (Damage::Copy { .. }, Damage::Copy { .. }) if plan.drives == 2 && first != second => {
-            Some(Refusal::NoPool)
-        }
-        // The disk says by neither that it is the drive of the place, so that one drive is absent.
-        (Damage::Table { place: one }, Damage::Copy { place: other }) if one == other => None,
-        // Nobody says who the members are.
-        (Damage::Superblock { .. }, Damage::Superblock { .. })
-            if plan.drives == 2 && first != second => { Some(Refusal::TooFew { array: 0 }) }
-        _ => Some(first.refusal()),
+    if leave_no_copy(plan, first, second) {
+        return Some(Refusal::NoPool);
     }
+    if leave_no_superblock(plan, first, second) {
+        return Some(Refusal::TooFew { array: 0 });
+    }
+    // One drive may be absent.
+    if leave_no_name(first, second) {
+        return None;
+    }
+    Some(first.refusal())
 }
 
 /// Which drives have no disk where one of two causes is that.
@@ -38,22 +66,6 @@ fn left_out(plan: &Plan, first: Damage, second: Damage) -> [bool; 5] {
         }
     }
     without
-}
-
-/// Asserts that a disk holds the sectors that another bay's disk does.
-fn assert_same(
-    rt: &impl Abort,
-    one: (&MemBay, u32),
-    other: (&MemBay, u32),
-    sectors: u64,
-    case: [Damage; 2],
-) {
-    for sector in 0..sectors {
-        assert!(rt;
-            one.0.sector_now(one.1, sector) == other.0.sector_now(other.1, sector),
-            "{sector} {case:?}"
-        );
-    }
 }
 
 /// Asserts why a pool with two causes is refused, and that then the stray disk isn't written.
@@ -75,8 +87,8 @@ fn assert_refused(
         Some((why, bay)) => {
             assert_eq!(rt; Some(why), awaited(plan, first, second), "{case:?}");
             let stray = bay.disks().wrapping_sub(1);
-            let sectors = STRAY_SECTORS;
-            assert_same(rt, (&bay, stray), (&damaged, plan.drives), sectors, case);
+            let unwritten = are_same((&bay, stray), (&damaged, plan.drives), 0, STRAY_SECTORS);
+            assert!(rt; unwritten, "{case:?}");
         }
     }
     Ok(())

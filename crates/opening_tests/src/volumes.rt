@@ -85,6 +85,16 @@ pub(crate) fn assert_values(rt: &impl Abort, volume: &mut Opened, but: u64, case
     }
 }
 
+/// Which drives are marked missing.
+pub(crate) fn marks(volume: &Opened) -> [bool; 5] {
+    let drives = volume.below().state().drives.as_slice();
+    let mut marks = [false; 5];
+    for place in 0..5 {
+        marks[place] = drives.get(place).map_or(false, |drive| drive.missing);
+    }
+    marks
+}
+
 /// The disks of a volume, ended cleanly.
 pub(crate) fn ended(volume: Opened) -> MemBay
     requires open { IsOpen volume }
