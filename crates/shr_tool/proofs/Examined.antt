@@ -1,8 +1,6 @@
 -- An image that was attached and examined.
 use Rattle.std.proofs.Common.{◌≡◌, ℕ, ◌<◌, ◌≤◌, false, List, length, Result, sym, ◌∙◌, ap, subst, inl, inr}
 use Rattle.std.proofs.lemmas.Bool.{cases_lt}
-use Rattle.rack.specs.declared.AttachFault.{AttachFault}
-use Rattle.rack.specs.declared.AttachFault.TheVariants.{Failed, Twice, Memory as NoRoom}
 use Rattle.rack.specs.Values.{Values, MayLeave, Keeps, only}
 use Rattle.rack.specs.Seen.{Image, Seen, Rose, IsLive}
 use Rattle.rack.specs.Shelf.{Shelf}
@@ -14,7 +12,7 @@ use Rattle.image_text.specs.Putting.{Puts, Shows}
 use Rattle.shr_tool.specs.declared.status.Status.{Status}
 use Rattle.shr_tool.specs.declared.status.Status.TheVariants.{Refused, Memory, Sink}
 use Rattle.shr_tool.specs.Entry.{waiting_at, sectors_in, contents_in, IsEntryImage}
-use Rattle.shr_tool.specs.Attaching.{AreAttached, IsUnattached}
+use Rattle.shr_tool.specs.Attaching.{AreAttached}
 use Rattle.shr_tool.specs.Saying.{Says}
 use Rattle.shr_tool.specs.Examining.{ShowsImage, Examined}
 

@@ -1,5 +1,5 @@
 -- What the sectors of a pool that were put in a row give.
-use Rattle.std.proofs.Common.{◌≡◌, ℕ, zero, suc, ◌+◌, ◌<◌, List, [], ◌∷◌, ◌++◌, map, Result, Ok, Err, append_assoc, sym, ◌∙◌, ap, subst, refl, arith}
+use Rattle.std.proofs.Common.{◌≡◌, ℕ, zero, suc, ◌+◌, List, [], ◌∷◌, ◌++◌, map, Result, Ok, Err, append_assoc, sym, ◌∙◌, ap, subst, refl, arith}
 use Rattle.std.specs.List.{range_with_len, concat}
 use Rattle.std.proofs.lemmas.List.{append-nil}
 use Rattle.std.proofs.lemmas.List.Folds.{concat-append}
@@ -12,13 +12,13 @@ use Rattle.flat_array.specs.Reply.{spent_line}
 use Rattle.pool.specs.declared.calls.SectorFault.{SectorFault}
 use Rattle.pool.specs.declared.calls.SectorFault.TheVariants.{Spent as IsSpent}
 use Rattle.pool.specs.View.{View}
-use Rattle.pool.specs.Volume.{Holds, size_of}
+use Rattle.pool.specs.Volume.{Holds}
 use Rattle.pool.specs.Calls.{Ends, ReadsSector}
 use Rattle.shr_tool.specs.declared.status.Status.{Status}
 use Rattle.shr_tool.specs.declared.exporting.ExportFault.{ExportFault}
 use Rattle.shr_tool.specs.declared.exporting.ExportFault.TheVariants.{Spent as AtSpent, Sink as AtSink}
-use Rattle.shr_tool.specs.Events.{Event, array_by}
-use Rattle.shr_tool.specs.Events.Event.{answered, spent}
+use Rattle.shr_tool.specs.Events.{array_by}
+use Rattle.shr_tool.specs.Events.Event.{spent}
 use Rattle.shr_tool.specs.Exporting.{ExportOutcome, Puts, bytes_at, bytes_of, export_status, read_of, reads_of}
 use Rattle.shr_tool.specs.Serving.{Ran}
 use Rattle.shr_tool.specs.Timeline.{ground_of, moment_of}

@@ -1,6 +1,5 @@
 -- What the pieces that were written in a row to a pool give, and how that ended.
 use Rattle.std.proofs.Common.{◌≡◌, ℕ, ◌+◌, ◌-◌, ◌*◌, ◌<◌, ◌≤◌, min, List, [], ◌∷◌, ◌++◌, length, take, drop, length-append, length-drop, length-take, append_assoc, Result, Ok, Err, codes, sym, ◌∙◌, ap, subst, refl, arith}
-use Rattle.std.specs.List.{range_with_len}
 use Rattle.std.proofs.lemmas.List.{drop-drop, nil_from_length, take-append-drop}
 use Rattle.std.proofs.lemmas.List.FromFn.{map-range_with_len_more}
 use Rattle.io_ends.specs.Source.{TakesFirst}
@@ -16,7 +15,6 @@ use Rattle.pool.specs.Calls.{Ends, WritesSector}
 use Rattle.shr_tool.specs.declared.status.Status.{Status}
 use Rattle.shr_tool.specs.declared.importing.ImportFault.{ImportFault}
 use Rattle.shr_tool.specs.declared.importing.ImportFault.TheVariants.{Source, Long, Spent as AtSpent}
-use Rattle.shr_tool.specs.Events.{Event}
 use Rattle.shr_tool.specs.Events.Event.{spent}
 use Rattle.shr_tool.specs.Importing.{ImportOutcome, Imports, SaysWritten, TakesSector, filled_up, piece_of, write_of, writes_of}
 use Rattle.shr_tool.specs.Serving.{Ran}

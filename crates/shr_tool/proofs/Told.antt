@@ -1,5 +1,5 @@
 -- How a task came out, where the array is told for another reason.
-use Rattle.std.proofs.Common.{◌≡◌, ℕ, List, [], ◌∷◌}
+use Rattle.std.proofs.Common.{ℕ, List, [], ◌∷◌}
 use Rattle.rack.specs.Seen.{Image, Seen}
 use Rattle.flat_array.specs.Array.{FlatArray}
 use Rattle.shr_tool.specs.declared.opening.Task.{Task}

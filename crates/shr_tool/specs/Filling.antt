@@ -1,6 +1,6 @@
 -- Sectors of a pool that are filled one after the other, as one event.
-use Rattle.std.specs.Prelude.{◌≡◌, ◌⊎◌, ℕ, ◌+◌, ◌-◌, ◌<◌, ◌≤◌, true, false, List, Result, OnOk, IfErr}
-use Rattle.flat_array.specs.Array.{FlatArray, filled}
+use Rattle.std.specs.Prelude.{◌≡◌, ℕ, ◌+◌, ◌-◌, ◌<◌, ◌≤◌, true, false, List, Result, OnOk, IfErr}
+use Rattle.flat_array.specs.Array.{filled}
 use Rattle.pool.specs.Calls.{Marks, Passes}
 use Rattle.pool.specs.View.{View}
 use Rattle.pool.specs.Volume.{Does, is_spent}

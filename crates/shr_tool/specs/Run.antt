@@ -1,5 +1,5 @@
 -- How a task on a pool and `create` come out, over the bay at entry.
-use Rattle.std.specs.Prelude.{◌≡◌, ℕ, List, ◌++◌, codes, decimal, take}
+use Rattle.std.specs.Prelude.{◌≡◌, ℕ, List, ◌++◌, codes, decimal}
 use Rattle.rack.specs.declared.AttachFault.{AttachFault}
 use Rattle.rack.specs.declared.AttachFault.TheVariants.{Failed, Twice, Memory as NoRoom}
 use Rattle.rack.specs.Seen.{Seen}

@@ -1,5 +1,5 @@
 -- A sector is full, or the input ended in it.
-use Rattle.std.proofs.Common.{◌≡◌, ◌+◌, ◌≤◌, ◌++◌, length, take, sym, ◌∙◌, ap, arith}
+use Rattle.std.proofs.Common.{◌≡◌, ◌++◌, length, take, sym, ◌∙◌, ap, arith}
 use Rattle.std.proofs.lemmas.List.{length-take-le, take_all}
 use Rattle.shr_tool.specs.Importing.{filled_up}
 use Rattle.shr_tool.proofs.Pieces.{full_sector, full_up, last_sector, none_after}
