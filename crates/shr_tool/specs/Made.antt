@@ -1,9 +1,7 @@
 -- How the making of a pool on attached disks came out.
 use Rattle.std.specs.Prelude.{◌≡◌, ◌⊎◌, ℕ, ◌<◌, List, ◌++◌, codes, decimal}
 use Rattle.rack.specs.Seen.{Seen, Rose}
-use Rattle.rack.specs.Sequences.{WritesOnly}
-use Rattle.slice_rack.specs.Runs.{IsSliced}
-use Rattle.lvm_group.specs.Runs.{sectors_in}
+use Rattle.lvm_group.specs.Runs.{Linear, sectors_in}
 use Rattle.raid_rack.specs.declared.arrays.Arrays.{Arrays}
 use Rattle.shr_script.specs.Reply.{as_line, refused_line}
 use Rattle.pool_format.specs.declared.Birth.{Birth}
@@ -16,7 +14,6 @@ use Rattle.shr_tool.specs.declared.status.Status.{Status}
 use Rattle.shr_tool.specs.declared.status.Status.TheVariants.{Done}
 use Rattle.shr_tool.specs.Refusing.{fault_words, fault_status}
 use Rattle.shr_tool.specs.Saying.{Says}
-use Rattle.shr_tool.specs.Timeline.{Ground}
 
 -- `created N`
 abbrev pub created_line : ℕ → List ℕ
@@ -36,17 +33,15 @@ pub record NotMade {R : Type 0} (seen : R → Seen) (runs : R → R → Type 0) 
   pub kept : runs bay after
   pub cause : HasFaultCause seen why bay after extent
 
--- A pool was made on the disks, and ended: `made` is the bay when it was made. Where the disks were told, they mean one volume then, of as
--- many sectors as the line says, all zeros; the end wrote sectors of its slices alone.
+-- A pool was made on the disks, and the line says the sectors of its volume. Where the disks were told, they mean one volume of that many
+-- sectors, all zeros.
 pub record MadeOn {R : Type 0} (seen : R → Seen) (runs : R → R → Type 0) (bay after : R) (extent : ℕ) (birth : Birth) (out out' : List ℕ) (status : Status)
     : Type 0 where
-  pub made : R
-  pub kept : runs bay made × runs made after
+  pub kept : runs bay after
   pub arrays : Arrays
-  pub ground : Ground
-  pub is_made : IsSoundlyMade (seen bay) (seen made) extent birth arrays ground.linear
-  pub apart : WritesOnly (seen made) (seen after) (IsSliced ground.slices)
-  pub says : Says Done (created_line (sectors_in ground.linear)) out out' status
+  pub volume : Linear
+  pub is_made : IsSoundlyMade (seen bay) (seen after) extent birth arrays volume
+  pub says : Says Done (created_line (sectors_in volume)) out out' status
 
 -- how it came out
 abbrev pub MakeOutcome : {R : Type 0} → (R → Seen) → (R → R → Type 0) → R → R → ℕ → Birth → List ℕ → List ℕ → Status → Type 0

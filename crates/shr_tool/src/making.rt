@@ -38,7 +38,7 @@ pub fn create<B: Bay, O: Sink>(
     }
 }
 
-// Makes a pool of the attached disks, and ends it. All of it is durable before the end, which only syncs.
+// Makes a pool of the attached disks. All of it is durable then, and nothing is left for an end of it to write.
 fn create_attached<B: Bay, O: Sink>(
     alloc: Global,
     bay: &mut B,
@@ -53,9 +53,8 @@ fn create_attached<B: Bay, O: Sink>(
     ensures outcome { O.told out.old → MakeOutcome B.seen B.runs bay.old bay.new extent birth.now (O.taken out.old) (O.taken out.new) result }
 {
     match Pool::create(alloc, bay, extent, birth) {
-        Ok(mut pool) => {
+        Ok(pool) => {
             let sectors = pool.size();
-            pool.end();
             let _bay = pool.into_inner();
             say_number(out, b"created ", sectors)
         }

@@ -1,4 +1,4 @@
--- The pool holds the bay's reference, and gives the bay back as it left it.
+-- The pool holds the bay's reference, and gives the bay back as it was made.
 use Rattle.std.proofs.Common.{◌≡◌, ◌∙◌, ap, sym, subst, inl, inr}
 use Rattle.pool.specs.View.{arrays_of, bay_in}
 use Rattle.raid_rack.specs.RaidRack.{arrays_in}
@@ -14,24 +14,20 @@ returns-in-Ok-clause-outcome g c =
     let runs = g.B.Rack.runs in
     let taken = g.O.Sink.taken in
     let pool = c.in-Ok.pool in
-    let last = c.end.new.self in
     let makes = c.in-Ok.ensures in
-    let ends = c.end.ensures in
     let inner = c.into_inner-bay.ensures in
-    let back : c.bay-1.given.0 ≡ (bay_in last).now =
-    c.bay-1.given.1 (sym (ap (λ b. b.ghost_name) inner ∙ ends.runs.0 ∙ makes.runs.0)) ∙ ap (λ b. b.now) inner in
+    let back : c.bay-1.given.0 ≡ (bay_in pool).now =
+    c.bay-1.given.1 (sym (ap (λ b. b.ghost_name) inner ∙ makes.runs.0)) ∙ ap (λ b. b.now) inner in
     λ sink.
     inr
     (subst
     (λ b. MadeOn seen runs c.args.bay.now b c.args.extent c.args.birth.now (taken c.args.out.now) (taken c.say_number.new.out) c.say_number.result)
     (sym back)
     (record {
-      made = (bay_in pool).now;
-      kept = (makes.runs.1, ends.runs.1);
+      kept = makes.runs.1;
       arrays = arrays_in (arrays_of pool);
-      ground = ground_in seen pool (λ r. r.now);
+      volume = (ground_in seen pool (λ r. r.now)).linear;
       is_made = makes.made;
-      apart = ends.ended.passes.apart;
       says =
           subst (λ n. Says Done (created_line n) (taken c.args.out.now) (taken c.say_number.new.out) c.say_number.result)
           c.size-sectors.ensures.size (c.say_number.ensures.says sink);
