@@ -56,7 +56,7 @@ impl Damage {
 }
 
 /// That a part of a place's drive is damaged.
-fn damaged(place: u32, part: Part) -> Refusal {
+pub(crate) fn damaged(place: u32, part: Part) -> Refusal {
     Refusal::Damaged { place, part }
 }
 
@@ -166,12 +166,12 @@ fn flip_tables(rt: &impl Abort, bay: &mut MemBay, plan: &Plan, place: u32) {
     flip(rt, bay, place, plan.sectors(place).wrapping_sub(1), 60);
 }
 
-/// Changes a bit of an array's label: of the first member's first chunk, and of the other copy in a mirror.
-fn flip_label(rt: &impl Abort, bay: &mut MemBay, plan: &Plan, array: u32) {
-    let label = data_at(array) + 1;
-    flip(rt, bay, plan.member(array, 0), label, 100);
+/// Changes a bit of one of an array's first sectors: on the first member, and of the other copy in a mirror.
+pub(crate) fn flip_data(rt: &impl Abort, bay: &mut MemBay, plan: &Plan, array: u32, sector: u32) {
+    let at = data_at(array) + u64::from(sector);
+    flip(rt, bay, plan.member(array, 0), at, 100);
     if plan.members(array) == 2 {
-        flip(rt, bay, plan.member(array, 1), label, 100);
+        flip(rt, bay, plan.member(array, 1), at, 100);
     }
 }
 
@@ -194,7 +194,7 @@ pub(crate) fn apply(rt: &impl Abort, new: &MemBay, bay: &mut MemBay, plan: &Plan
             let last = plan.members(array).wrapping_sub(1);
             rebuild(rt, bay, array, plan.member(array, last));
         }
-        Damage::Label { array } => flip_label(rt, bay, plan, array),
+        Damage::Label { array } => flip_data(rt, bay, plan, array, 1),
     }
 }
 
