@@ -7,7 +7,7 @@
 //! | `disks` | the disks of a new pool whose volume has known values, and a stray disk |
 //! | `volumes` | the volume of an opened pool, read and compared |
 //! | `damages` | causes of refusals, each a change of the disks, with the refusal that it is to have |
-//! | `refusals` | pools with one cause and with each two: the first one is named, and nothing is written |
+//! | `refusals` | pools with one cause and with each two: the first one is named, and a disk that is no drive isn't written |
 //! | `absences` | each drive absent, and there again at the next opening |
 //! | `records` | stops amid commits and amid openings, opened again |
 //!

@@ -148,22 +148,32 @@ fn pending_from(
     panic!(rt; "no pending record");
 }
 
+/// Opens what stops in logged writes leave: where a drive is missing, and where rows are left to resync. A record was pending in some.
+fn stop_in_writes(rt: &impl Abort, alloc: Global, plan: &Plan) -> Result<(), Fail> {
+    let mut new = new_disks(rt, alloc, plan)?;
+    if plan.drives > 2 {
+        let lost = only(rt, 1);
+        let degraded = opening(rt, alloc, &new, plan, lost)?;
+        assert!(rt; stop_in_write(rt, alloc, &degraded, plan, lost, 3)? > 0);
+    }
+    leave_rows(rt, &mut new, plan, 0);
+    assert!(rt; stop_in_write(rt, alloc, &new, plan, NONE, 3)? > 0);
+    Ok(())
+}
+
 #[test]
 fn a_stop_in_a_logged_write_leaves_the_old_value_or_the_later_one(
     rt: HostRuntime,
 ) -> Result<(), Fail> {
-    let alloc = rt.alloc();
-    for plan in PLANS {
-        let mut new = new_disks(&rt, alloc, &plan)?;
-        if plan.drives > 2 {
-            let lost = only(&rt, 1);
-            let degraded = opening(&rt, alloc, &new, &plan, lost)?;
-            assert!(rt; stop_in_write(&rt, alloc, &degraded, &plan, lost, 3)? > 0);
-        }
-        leave_rows(&rt, &mut new, &plan, 0);
-        assert!(rt; stop_in_write(&rt, alloc, &new, &plan, NONE, 3)? > 0);
-    }
-    Ok(())
+    stop_in_writes(&rt, rt.alloc(), &PLANS[0])?;
+    stop_in_writes(&rt, rt.alloc(), &PLANS[1])
+}
+
+#[test]
+fn a_stop_in_a_logged_write_to_five_drives_leaves_one_of_the_two_values(
+    rt: HostRuntime,
+) -> Result<(), Fail> {
+    stop_in_writes(&rt, rt.alloc(), &PLANS[2])
 }
 
 /// Opens what stops in an opening leave that marks a drive missing: without it, and where it is there again. A record was pending in some,
@@ -189,11 +199,20 @@ fn stop_in_marking(
 
 #[test]
 fn a_stop_in_the_marking_of_a_drive_leaves_all_values(rt: HostRuntime) -> Result<(), Fail> {
-    for plan in PLANS {
-        let new = new_disks(&rt, rt.alloc(), &plan)?;
-        stop_in_marking(&rt, rt.alloc(), &new, &plan, 1)?;
+    let alloc = rt.alloc();
+    for plan in [PLANS[0], PLANS[1]] {
+        let new = new_disks(&rt, alloc, &plan)?;
+        stop_in_marking(&rt, alloc, &new, &plan, 1)?;
     }
     Ok(())
+}
+
+#[test]
+fn a_stop_in_the_marking_of_one_of_five_drives_leaves_all_values(
+    rt: HostRuntime,
+) -> Result<(), Fail> {
+    let new = new_disks(&rt, rt.alloc(), &PLANS[2])?;
+    stop_in_marking(&rt, rt.alloc(), &new, &PLANS[2], 1)
 }
 
 /// Opens disks without the drives that are left out, and what stops in that opening leave. Then both copies of a place's table are again
