@@ -121,13 +121,20 @@ for gone in first second third; do
   "$tool" export "${left[@]}" </dev/null >exported
   expect "exported without $gone" cmp volume exported
 done
+cp kept/* .
 head -c $((512 * 20480)) /dev/urandom >volume
 cp volume script
-check 'an import as long as the volume' 0 "imported $((512 * 20480))\n" import "${left[@]}"
+check 'an import as long as the volume' 0 "imported $((512 * 20480))\n" import first second third
 echo >>script
-check 'a longer one' 6 'refused long\n' import "${left[@]}"
-"$tool" export "${left[@]}" </dev/null >exported
+check 'a longer one' 6 'refused long\n' import first second third
+"$tool" export first second third </dev/null >exported
 expect 'has written all that fits' cmp volume exported
+# a short one, since each sector is a commit of the log where a member is missing
+head -c 5000 /dev/urandom >script
+{ cat script; head -c 120 /dev/zero; tail -c +5121 volume; } >later
+check 'an import without a drive' 0 'imported 5000\n' import "${left[@]}"
+"$tool" export "${left[@]}" </dev/null >exported
+expect 'has written its sectors' cmp later exported
 truncate -s 0 script
 check 'an import of nothing' 0 'imported 0\n' import "${left[@]}"
 
