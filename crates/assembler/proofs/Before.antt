@@ -1,4 +1,4 @@
--- Drives that all have the state that stood when an opening began: their slices said it then.
+-- Drives of which one had the state that stood when an opening began, and none a later one: their slices said it then.
 use Rattle.std.proofs.Common.{◌≡◌, ℕ, ◌+◌, ◌<◌, ◌≤◌, Bool, if◌then◌else◌, [], Option, Some, None, option_map, refl, sym, ap, subst, ◌∙◌, lt-ltb, le-ltb, arith}
 use Rattle.std.specs.Prelude.{unwrap_or}
 use Rattle.std.specs.Option.{option_and_then}
@@ -17,10 +17,11 @@ use Rattle.pool_image.specs.Disks.{Disks, Identities, disks_of, identities_of, n
 use Rattle.pool_image.specs.Drives.{Found, found, found_by}
 use Rattle.pool_image.specs.Replay.{Standing, standing, written}
 use Rattle.pool_image.proofs.Rested.{stood_by}
+use Rattle.commit_log.specs.Kept.{IsNoLater}
 use Rattle.pool_scan.specs.Scanning.{now_in}
 use Rattle.assembler.specs.Sound.{HaveStood}
 use Rattle.assembler.proofs.Finding.{some_same}
-use Rattle.assembler.proofs.Rest.{nothing_decodes, ok_of, state_of_all}
+use Rattle.assembler.proofs.Rest.{nothing_decodes, ok_of, state_of_latest}
 
 -- how disks stood is part of the pool that they have
 before_is : (disks : Disks) (c : Image) (e : Found) (b : Standing) → found disks c ≡ Some e → standing disks c ≡ Some b → e.before ≡ b
@@ -64,12 +65,6 @@ module _ (a : Seen) (e : Found) (found_is : found (disks_of a) (now_in a) ≡ So
   identities_is : b.identities ≡ identities_of (disks_of a) (now_in a)
   identities_is = ap (λ (k : Standing). k.identities) (stood_by (disks_of a) (now_in a) b stands).2
 
-  copy_stood : (p d : ℕ) → seat_of t p ≡ Some d → (own : ℕ) × (copy_in c p ≡ Some (record { state = b.state; own = own }))
-  copy_stood p d seat =
-      let same = before_is (disks_of a) (now_in a) e b found_is stands in
-      let copy = subst (λ (k : Standing). (own : ℕ) × ((k.identities d).copied ≡ Some (record { state = k.state; own = own }))) same (stood p d (sym (seats p) ∙ seat)) in
-      (copy.0, copy_read p d seat ∙ ap (λ (i : Identities). (i d).copied) (sym identities_is) ∙ copy.1)
-
   copy_none : (p : ℕ) → seat_of t p ≡ None → (copy : Copied) → copy_in c p ≡ Some copy → ⊥
   copy_none p none copy is =
       let nothing : sectors_of t (log_slice p) ≡ 0 = orderly.seated (log_slice p) (ap (seat_of t) (place_is p) ∙ none) in
@@ -77,13 +72,22 @@ module _ (a : Seen) (e : Found) (found_is : found (disks_of a) (now_in a) ≡ So
       let empty : c (log_slice p) 0 ≡ [] = ap (λ (k : Bool). if k then now_in a (disk_of t (log_slice p)) (first_of t (log_slice p) + 0) else []) (le-ltb 0 (sectors_of t (log_slice p)) past) in
       nothing_decodes copy (ok_of (decoded []) copy (sym (ap (λ block. result_ok (decoded block)) empty) ∙ is))
 
-  pub stood_state : (one d : ℕ) → one < 16 → seat_of t one ≡ Some d → state_in c ≡ Some b.state
-  stood_state one d few seat =
-      let first = copy_stood one d seat in
-      state_of_all c b.state one (record { state = b.state; own = first.0 }) few first.1 (λ p copy low is. by p copy is (seat_of t p) refl)
+  -- the state that stood is the one that they say
+  pub stood_state : (few : stood.place < 16) → state_in c ≡ Some b.state
+  stood_state few =
+      let same = before_is (disks_of a) (now_in a) e b found_is stands in
+      let state : e.before.state ≡ b.state = ap (λ (k : Standing). k.state) same in
+      state_of_latest c b.state stood.place stood.own few
+      (copy_read stood.place stood.disk (seats stood.place ∙ stood.seat) ∙ ap (λ (i : Identities). (i stood.disk).copied) (said same)
+      ∙ stood.copy ∙ ap (λ (k : State). Some (record { state = k; own = stood.own })) state)
+      (λ p copy low is. by p copy is (seat_of t p) refl)
     where
-      by : (p : ℕ) (copy : Copied) → copy_in c p ≡ Some copy → (o : Option ℕ) → seat_of t p ≡ o → copy.state ≡ b.state
-      by p copy is (Some disk) at =
-          let own = copy_stood p disk at in
-          ap (λ (k : Copied). k.state) (some_same copy (record { state = b.state; own = own.0 }) (sym is ∙ own.1))
+      said : e.before ≡ b → identities_of (disks_of a) (now_in a) ≡ e.before.identities
+      said same = sym identities_is ∙ ap (λ (k : Standing). k.identities) (sym same)
+
+      by : (p : ℕ) (copy : Copied) → copy_in c p ≡ Some copy → (o : Option ℕ) → seat_of t p ≡ o → IsNoLater b.state copy
+      by p copy is (Some d) at =
+          let same = before_is (disks_of a) (now_in a) e b found_is stands in
+          subst (λ (k : Standing). IsNoLater k.state copy) same
+          (stood.latest p d copy (sym (seats p) ∙ at) (ap (λ (i : Identities). (i d).copied) (sym (said same)) ∙ sym (copy_read p d at) ∙ is))
       by p copy is None none = absurd (copy_none p none copy is)

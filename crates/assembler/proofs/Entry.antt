@@ -3,6 +3,7 @@ use Rattle.std.proofs.Common.{◌≡◌, ◌<◌, false, ◌∷◌, [], Option, 
 use Rattle.std.specs.Option.{option_map_or}
 use Rattle.rack.specs.Seen.{Seen, Stays}
 use Rattle.rack.specs.Joins.{rose_before, rose_since}
+use Rattle.rack.specs.Sequences.{OnlyReads}
 use Rattle.slice_rack.specs.SliceRack.{below_of, tables}
 use Rattle.pool_state.specs.declared.contents.State.{State}
 use Rattle.lvm_text.specs.declared.group.Group.{Group}
@@ -16,6 +17,7 @@ use Rattle.pool_image.proofs.Founds.{truths_same}
 use Rattle.pool_image.proofs.SoundSame.{sound_same}
 use Rattle.pool_scan.specs.Scanning.{AllTold, IsUnfaulted, now_in}
 use Rattle.pool_scan.proofs.Meant.{scan_meant}
+use Rattle.pool_rest.proofs.Unwritten.{means_then, reads_mean}
 use Rattle.pool_rest.specs.declared.resting.AtRest.{AtRest}
 use Rattle.pool_rest.specs.Resting as resting
 use Rattle.pool_rest.specs.Resting.{StandsNow}
@@ -138,3 +140,10 @@ module _ {R : Type 0} (seen : R → Seen) (a : Seen) (rest : AtRest R) (e : Foun
       ∙ ap (λ (o : Option Refusal). option_map_or (λ why. None) o (option_map volumes_of (found (disks_of a) (now_in x)))) (means.refusal ∙ refusal_entry ∙ none)
       ∙ ap (option_map volumes_of) means.found_now
       ∙ ap (λ (o : Option Group). Some (option_map_or (λ group. volume_by (linear_of (joined_arrays f) group) (arrays_held f) ∷ []) o [])) of.group_is
+
+  -- disks that were only read since mean what they meant
+  pub means_still : (y : Seen) → OnlyReads x y → MeansTheSame (disks_of a) (now_in a) (now_in y)
+  means_still y reads =
+      means_then (disks_of a) (now_in a) (now_in x) (now_in y) means
+      (subst (λ (k : Disks). MeansTheSame k (now_in x) (now_in y)) (sym disks_same)
+      (reads_mean x y f reads rest_found.steady.told rest_found.steady.lasts rest_found.found_is))

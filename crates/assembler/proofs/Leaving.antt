@@ -1,9 +1,9 @@
 -- What stops inside an opening leave, part by part: the drives as they were checked, the arrays made, the texts brought up.
-use Rattle.std.proofs.Common.{◌≡◌, ℕ, List, None, sym, subst, ◌∙◌}
+use Rattle.std.proofs.Common.{◌≡◌, ℕ, ◌<◌, ◌≤◌, List, None, sym, ap, subst, ◌∙◌, arith}
 use Rattle.rack.specs.Seen.{Image, Seen}
 use Rattle.rack.specs.Joins.{leaves_then, leaves_weaker}
 use Rattle.rack.specs.Moments.{Leaves}
-use Rattle.rack.specs.Sequences.{WritesOnly}
+use Rattle.rack.specs.Sequences.{OnlyReads, WritesOnly}
 use Rattle.slice_rack.specs.Slices.{Slices, IsOrderly, sectors_of}
 use Rattle.slice_rack.specs.Sliced.{sliced, slices_of as slices_seen}
 use Rattle.slice_rack.specs.SliceRack.{below_of, tables}
@@ -13,9 +13,13 @@ use Rattle.commit_log.specs.Standing.{IsAlike}
 use Rattle.lvm_group.specs.Brought.{IsBefore}
 use Rattle.lvm_group.specs.Runs.{IsOrderly as AreOrderly, Linear}
 use Rattle.lvm_group.specs.Shown.{IsInside}
+use Rattle.pool_state.specs.declared.contents.State.{State}
+use Rattle.pool_image.specs.Alike.{IsSamePool}
 use Rattle.pool_image.specs.Drives.{Found}
 use Rattle.pool_image.specs.Meaning.{Volume, arrays_held, joined_arrays, volume_by}
-use Rattle.pool_image.specs.Volumes.{linear_of}
+use Rattle.pool_image.specs.Volumes.{Arrays, linear_of}
+use Rattle.pool_image.proofs.Founds.{joined_same}
+use Rattle.raid_rack.specs.AllRuns.{AreCalls}
 use Rattle.pool_check.specs.declared.Checked.{Checked}
 use Rattle.pool_check.specs.Checking.{IsChecked}
 use Rattle.pool_check.specs.Refusing.{is_well}
@@ -24,9 +28,10 @@ use Rattle.raid_rack.specs.Raid.{Raid}
 use Rattle.raid_rack.specs.RaidRack.{raid_in, raid_seen, slices_in, slices_seen as slices_shown}
 use Rattle.assembler.specs.Members.{AreMembers}
 use Rattle.assembler.specs.Holding.{AreSteady, HoldsArrays, IsIdle, IsPoolOn, IsSoundPool}
-use Rattle.assembler.specs.Moments.{HoldsAt}
+use Rattle.assembler.specs.Moments.{GivesPool, HoldsAt}
 use Rattle.assembler.specs.Volume.{AllLive, IsVolumeOf, OpensVolume}
-use Rattle.assembler.proofs.Moments.{GivesArrays, alike_values, brought_leave, e, gives_volume, made_leave}
+use Rattle.assembler.proofs.Volumes.{opened_writes}
+use Rattle.assembler.proofs.Moments.{GivesArrays, alike_values, brought_leave, e, gives_volume, made_leave, read_leave}
 
 module _ (f : Found) (t : Slices) (y : Seen) (checked : Checked) (absent : List ℕ) (orderly : IsOrderly t)
     (m : AreMembers f.state t y checked absent) (steady : AreSteady y) (pool : IsPoolOn f.state t y f)
@@ -61,8 +66,45 @@ module _ (f : Found) (t : Slices) (y : Seen) (checked : Checked) (absent : List 
       (made_leave f v t y z may (subst (λ u. HoldsArrays f v (slices_seen t y) (slices_seen u z)) same holds) made writes traced) in
       let three : Leaves z w (HoldsAt (tables (slices_in last)) l volume) =
       brought_leave seen f (slices_seen t y) raid last later l of holds alive (opens.kept.1.book.same.joined ∙ book.joined) ordered inside
-      (subst (λ k. WritesOnly p q (IsBefore k)) book.joined opens.brings.writes) written after in
+      (subst (λ k. WritesOnly p q (IsBefore k)) book.joined (opened_writes seen runs raid last l seqno opens)) written after in
       let there : tables (slices_in last) ≡ t = opens.kept.0.tables ∙ same in
       leaves_then (HoldsAt (tables (slices_in last)) l volume)
       (subst (λ u. Leaves a z (HoldsAt u l volume)) (sym there) (leaves_then (HoldsAt t l volume) one two))
       three
+
+  -- and where an array is bad, and nothing is written any more, the arrays
+  pub refused_leaves : {R : Type 0} (seen : R → Seen) (runs : R → R → Type 0) (a : Seen) (raid last : RaidRack R) (g : Found)
+      (may : ℕ → ℕ → List ℕ → Type 0) (later : ℕ → ℕ → List ℕ → Type 0) → IsSamePool g f
+      → Leaves a y IsAsRead
+      → HoldsArrays f (raid_in raid) (slices_seen t y) (slices_shown seen raid) → AllLive (raid_in raid) → AllLive (raid_in last)
+      → (raid_in raid).state.joined ≤ (raid_in raid).state.made
+      → tables (slices_in raid) ≡ t → WritesOnly y (seen (below_of (slices_in raid))) may → y.traced
+      → AreCalls seen runs raid last → OnlyReads (raid_seen seen raid) (raid_seen seen last)
+      → WritesOnly (seen (below_of (slices_in raid))) (seen (below_of (slices_in last))) later → (seen (below_of (slices_in raid))).traced
+      → Leaves a (seen (below_of (slices_in last))) (GivesPool g t)
+  refused_leaves seen runs a raid last g may later pool_is early holds made alive ready same writes traced kept reads written after =
+      let v : Raid = raid_in raid in
+      let z : Seen = seen (below_of (slices_in raid)) in
+      let w : Seen = seen (below_of (slices_in last)) in
+      let book = holds.after.same in
+      let joined_is : f.state.joined ≡ g.state.joined = ap (λ (s : State). s.joined) pool_is.state in
+      let gives : (i : Image) → GivesArrays f v t i → GivesPool g t i =
+      λ i all n s joined low.
+      let here : n < f.state.joined = omega (arith, joined, joined_is) in
+      all n s here
+      (subst (λ k. s < k) (sym (holds.sectors n here)) (subst (λ (k : Arrays). s < k.sectors n) (sym (joined_same g f pool_is)) low))
+      ∙ ap (λ (k : Arrays). k.contents n s) (joined_same g f pool_is) in
+      let one : Leaves a y (GivesPool g t) =
+      leaves_weaker IsAsRead (GivesPool g t)
+      (λ i alike. gives i (λ n s joined low. alike_values f t y checked absent orderly m steady pool found sound n joined log idle (replayed (sectors_of t) (sliced t i)) alike s)) early in
+      let two : Leaves y z (GivesPool g t) =
+      leaves_weaker (GivesArrays f v t) (GivesPool g t) gives
+      (made_leave f v t y z may (subst (λ u. HoldsArrays f v (slices_seen t y) (slices_seen u z)) same holds) made writes traced) in
+      let there : tables (slices_in last) ≡ t = kept.0.tables ∙ same in
+      let book_last = kept.1.book.same in
+      let few : f.state.joined ≤ (raid_in last).state.made = (let one = book.joined in let two = book_last.made in omega (arith, one, two, ready)) in
+      let three : Leaves z w (GivesPool g t) =
+      leaves_weaker (GivesArrays f v t) (GivesPool g t) gives
+      (subst (λ u. Leaves z w (GivesArrays f v u)) there
+      (read_leave seen f (slices_seen t y) raid last later holds alive (book_last.joined ∙ book.joined) few (λ n. kept.2.sectors n) reads written after)) in
+      leaves_then (GivesPool g t) (leaves_then (GivesPool g t) one two) three

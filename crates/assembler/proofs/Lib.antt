@@ -1,9 +1,13 @@
+mod Agreed
 mod Agreeing
 mod Amid
+mod Apart
 mod Arrays
 mod Before
+mod Causes
 mod Copied
 mod Drives
+mod Early
 mod Entry
 mod Finding
 mod Founded

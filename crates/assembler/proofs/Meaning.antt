@@ -1,5 +1,5 @@
 -- What the check of a pool at rest refuses is what the meaning of its disks refuses.
-use Rattle.std.proofs.Common.{◌≡◌, ◌⊎◌, ℕ, ◌+◌, ◌<◌, ◌≤◌, Bool, true, false, ◌==◌, ◌&&◌, ◌||◌, not, bytes_eq, nat_lt, is_none, if◌then◌else◌, find, List, [], ◌∷◌, Option, Some, None, option_map, inl, inr, refl, sym, ap, ap₂, subst, ◌∙◌, eqb-true, lt-ltb, le-ltb, le-leb, ltb-true, arith}
+use Rattle.std.proofs.Common.{◌≡◌, ℕ, ◌+◌, ◌<◌, ◌≤◌, Bool, true, false, ◌==◌, ◌&&◌, ◌||◌, not, bytes_eq, nat_lt, is_none, if◌then◌else◌, find, List, [], ◌∷◌, Option, Some, None, option_map, inl, inr, refl, sym, ap, ap₂, subst, ◌∙◌, eqb-true, lt-ltb, le-ltb, le-leb, ltb-true, arith}
 use Rattle.std.specs.List.{list_all}
 use Rattle.std.specs.Option.{option_map_or, option_or}
 use Rattle.std.proofs.lemmas.Bool.{and_parts, both_ways, cases_Bool, cases_lt}
@@ -29,15 +29,15 @@ use Rattle.pool_scan.proofs.Valid.{valid_places}
 use Rattle.pool_check.specs.declared.Checked.{Checked}
 use Rattle.pool_check.specs.Checking.{IsChecked}
 use Rattle.pool_check.specs.Drives.{AreCopied, AreDrivesOf, found_with}
-use Rattle.pool_check.specs.Refusing.{is_well, refused_with}
+use Rattle.pool_check.specs.Refusing.{is_well, refusal_by, refused_with}
 use Rattle.pool_check.proofs.Wells.{well_passes, well_refuses}
 use Rattle.raid_rack.proofs.Added.{names_current}
 use Rattle.raid_rack.proofs.Noted.{current_few}
 use Rattle.assembler.specs.declared.refusal.Refusal.{Refusal}
-use Rattle.assembler.specs.declared.refusal.Refusal.TheVariants.{NoPool, TwoPools, Absent, Damaged, TooFew, DirtyDegraded, BadVolume, Memory}
 use Rattle.assembler.specs.Holding.{IsFoundOn, drives_of}
 use Rattle.assembler.specs.Refusing.{FailsCheck, meant_by, seats_left}
 use Rattle.assembler.proofs.Finding.{found_copied, found_drives, g, same}
+use Rattle.assembler.proofs.Refusals.{meant_check}
 
 find_false : (P : ℕ → Bool) (xs : List ℕ) (p : ℕ) → find P xs ≡ None → names xs p ≡ true → P p ≡ false
 find_false P [] p none named = absurd (both_ways false refl named)
@@ -54,16 +54,6 @@ find_false P (q ∷ qs) p none named = of (P q) refl none named (λ none named. 
 or_left : (a b : Bool) → (a || b) ≡ false → a ≡ false
 or_left true b is = absurd (both_ways true is refl)
 or_left false b is = refl
-
-memory_of : (why : Refusal) → None ≡ meant_by why → why ≡ Memory
-memory_of NoPool is = absurd (none-some meaning.no_pool is)
-memory_of TwoPools is = absurd (none-some meaning.two_pools is)
-memory_of (Absent count) is = absurd (none-some _ is)
-memory_of (Damaged place part) is = absurd (none-some _ is)
-memory_of (TooFew array) is = absurd (none-some _ is)
-memory_of (DirtyDegraded array) is = absurd (none-some _ is)
-memory_of (BadVolume array) is = absurd (none-some _ is)
-memory_of Memory is = refl
 
 -- a drive whose table says its log slice has all of it
 table_room : (f : Found) (place d : ℕ) → has_table f place d ≡ true → arrays_first ≤ f.disks.sectors d
@@ -141,13 +131,14 @@ module _ (x : Seen) (known : List Known) (s : State) (t : Slices) (on : List ℕ
   -- and drives that didn't for what the check says, where no disk has refused a call
   pub check_fails : (y : Seen) (gone : List ℕ) (why : Refusal) → is_valid s 0 ≡ true
       → ((p d : ℕ) → names gone p ≡ true → seat_by s known p ≡ Some d → ⊥) → IsUnfaulted x y
-      → FailsCheck x y known s gone damaged why → (refused_by f ≡ meant_by why) ⊎ (why ≡ Memory)
+      → FailsCheck x y known s gone damaged why → refused_by f ≡ meant_by why
   check_fails y gone why valid nobody quiet fails =
       let found : refused_with (is_well damaged) None f ≡ refused_with (is_well None) None f = ap (λ o. refused_with (is_well o) None f) whole in
       let said = fails.exact (drives_of f) (subst (λ k. AreDrivesOf x k (drives_of f)) (sym left_is) (found_drives x known s t on l is_pending damaged f is))
       (subst (λ k. AreCopied known k (drives_of f)) (sym left_is) (found_copied x known s t on l is_pending damaged f is)) in
       by (refused_with (is_well None) None f) refl
       (sym (ap₂ option_or (ap (λ (k : Found). refused_with (is_well damaged) None k) whose ∙ found) (ap (option_map (λ place. meaning.damaged place meaning.in_log)) whole)) ∙ said)
+      ∙ meant_check fails.fault ∙ sym (ap meant_by fails.said)
     where
       here : f ≡ h
       here = sym (same x known s t on l is_pending damaged f is)
@@ -190,6 +181,6 @@ module _ (x : Seen) (known : List Known) (s : State) (t : Slices) (on : List ℕ
           ap (λ k. found_with s k (drives_of f)) left_is
           ∙ ap (λ (z : State). found_with z f.seats (drives_of f)) (sym (ap (λ (k : Found). k.state) here))
 
-      by : (o : Option meaning.Refusal) → refused_with (is_well None) None f ≡ o → option_or o None ≡ meant_by why → (refused_by f ≡ meant_by why) ⊎ (why ≡ Memory)
-      by None none at = inr (memory_of why at)
-      by (Some r) some at = inl (well_refuses f log_found r some ∙ at)
+      by : (o : Option meaning.Refusal) → refused_with (is_well None) None f ≡ o → option_or o None ≡ Some (refusal_by fails.fault) → refused_by f ≡ Some (refusal_by fails.fault)
+      by None none at = absurd (none-some (refusal_by fails.fault) at)
+      by (Some r) some at = well_refuses f log_found r some ∙ at

@@ -1,5 +1,5 @@
 -- What contents of a pool's drives give of its arrays and its volume, at each moment of an opening.
-use Rattle.std.proofs.Common.{◌≡◌, ℕ, ◌+◌, ◌<◌, Bool, true, false, nat_lt, if◌then◌else◌, List, [], slice_get, Option, Some, None, option_map, inl, inr, refl, sym, ap, subst, ◌∙◌, ◌||◌, ltb-true, le-ltb, arith}
+use Rattle.std.proofs.Common.{◌≡◌, ℕ, ◌+◌, ◌<◌, ◌≤◌, Bool, true, false, nat_lt, if◌then◌else◌, List, [], slice_get, Option, Some, None, option_map, inl, inr, refl, sym, ap, subst, ◌∙◌, ◌||◌, ltb-true, le-ltb, arith}
 use Rattle.std.specs.Option.{option_map_or}
 use Rattle.std.proofs.lemmas.Bool.{both_ways}
 use Rattle.std.proofs.lemmas.Option.{none-some}
@@ -87,7 +87,7 @@ module _ (f : Found) (t : Slices) (x : Seen) (checked : Checked) (absent : List 
     own = sound.own n tr made of.truth_is
 
     -- a place that has a disk
-    pub seated : (p d : ℕ) × (seat_of t p ≡ Some d)
+    seated : (p d : ℕ) × (seat_of t p ≡ Some d)
     seated =
         let leads = truth_leads f.state (slices_of f) n tr of.truth_is in
         let here = current_is f.state (slices_of f) n leads.at tr leads.here in
@@ -281,4 +281,33 @@ brought_leave seen f a x y may l of holds alive ready orderly inside writes bay 
           ]
           ∙ sym (shows l (arrays_held f) 0 s low)
           ∙ ap (λ (m : Linear). contents_of m (arrays_held f) 0 s) of.linear;
+    }
+
+-- and while the arrays are only read, contents give them
+pub read_leave : {R : Type 0} (seen : R → Seen) (f : Found) (a : Seen) (x y : RaidRack R) (may : ℕ → ℕ → List ℕ → Type 0)
+    → HoldsArrays f (raid_in x) a (slices_shown seen x) → AllLive (raid_in y) → (raid_in y).state.joined ≡ f.state.joined → f.state.joined ≤ (raid_in y).state.made
+    → ((n : ℕ) → sectors_in_array ((raid_in y).arrays n) ≡ sectors_in_array ((raid_in x).arrays n))
+    → OnlyReads (raid_seen seen x) (raid_seen seen y)
+    → WritesOnly (seen (below_of (slices_in x))) (seen (below_of (slices_in y))) may → (seen (below_of (slices_in x))).traced
+    → Leaves (seen (below_of (slices_in x))) (seen (below_of (slices_in y))) (GivesArrays f (raid_in x) (tables (slices_in y)))
+read_leave seen f a x y may holds alive ready few sizes reads bay traced =
+    let stops = bay.stops traced in
+    let p = raid_seen seen x in
+    let q = raid_seen seen y in
+    let t = tables (slices_in y) in
+    record {
+      later = stops.later;
+      kept = stops.kept;
+      past = stops.past;
+      new = λ k i since until stop n u joined inside.
+          let there : u < sectors_in_array ((raid_in y).arrays n) = subst (λ j. u < j) (sym (sizes n)) inside in
+          let unspent = alive n u (subst (λ j. n < j) (sym ready) joined) there in
+          let live : IsLive p q n u = record {
+            disk = omega (arith, joined, few);
+            sector = there;
+            is_told = holds.told n joined;
+            unspent = unspent;
+          } in
+          holds.values n u (arrays_in (replayed (sectors_of t) (sliced t i)) n u) joined (reads.stays.spent n u unspent)
+          ((reads.keeps.stops traced).new k (arrays_in (replayed (sectors_of t) (sliced t i))) since until (sliced t i, (i, stop, λ j v. refl), λ j v. refl) n u live);
     }

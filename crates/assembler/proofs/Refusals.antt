@@ -1,7 +1,8 @@
 -- Refusals by their causes.
 use Rattle.std.proofs.Common.{◌≡◌, ◌≢◌, ℕ, ◌<◌, ◌≤◌, ◌&&◌, Bool, true, false, not, if◌then◌else◌, List, Option, Some, None, option_map, inl, inr, refl, sym, ap, subst, ◌∙◌, lt-ltb, le-ltb}
 use Rattle.std.specs.Option.{option_or}
-use Rattle.std.proofs.lemmas.Bool.{cases_lt}
+use Rattle.std.proofs.lemmas.Bool.{both_ways, cases_lt}
+use Rattle.std.proofs.lemmas.Option.{none-some}
 use Rattle.rack.specs.Seen.{Seen}
 use Rattle.pool_state.specs.declared.contents.State.{State}
 use Rattle.commit_log.specs.View.{names}
@@ -21,10 +22,10 @@ use Rattle.pool_check.specs.Drives.{AreCopied, AreDrivesOf, Drives, Loses, found
 use Rattle.pool_check.specs.Refusing.{is_well, refusal_by, refused_with}
 use Rattle.assembler.specs.declared.refusal.Refusal.{Refusal}
 use Rattle.assembler.specs.declared.refusal.Refusal.TheVariants as refusal
-use Rattle.assembler.specs.Refusing.{FailsCheck, by_check, by_finding, meant_by, seats_left}
+use Rattle.assembler.specs.Refusing.{FailsCheck, by_check, by_finding, is_early, meant_by, seats_left}
 
 -- a check's fault says the meaning's refusal
-meant_check : (fault : CheckFault) → Some (refusal_by fault) ≡ meant_by (by_check fault)
+pub meant_check : (fault : CheckFault) → Some (refusal_by fault) ≡ meant_by (by_check fault)
 meant_check (Absent count) = refl
 meant_check (Damaged place part) = refl
 meant_check (TooFew array) = refl
@@ -36,6 +37,21 @@ pub meant_finding : (x : Seen) (fault : FindFault) (why : Refusal) → why ≡ b
 meant_finding x finding.NoPool why is some meant = meant ∙ sym (ap meant_by is)
 meant_finding x finding.TwoPools why is some meant = meant ∙ sym (ap meant_by is)
 meant_finding x finding.Memory why is some meant = absurd (some is)
+
+-- neither says that an array is bad
+pub check_early : (fault : CheckFault) → is_early (by_check fault) ≡ true
+check_early (Absent count) = refl
+check_early (Damaged place part) = refl
+check_early (TooFew array) = refl
+check_early (DirtyDegraded array) = refl
+
+pub finding_sound : (fault : FindFault) (array : ℕ) → by_finding fault ≡ refusal.BadVolume array → ⊥
+finding_sound finding.NoPool array is = both_ways true (ap is_early is) refl
+finding_sound finding.TwoPools array is = both_ways true (ap is_early is) refl
+finding_sound finding.Memory array is = none-some (meaning.bad_volume array) (ap meant_by is)
+
+pub memory_sound : (array : ℕ) → refusal.Memory ≡ refusal.BadVolume array → ⊥
+memory_sound array is = none-some (meaning.bad_volume array) (ap meant_by is)
 
 -- ---- the check of the drives, of which some places had gone before
 
@@ -52,7 +68,7 @@ module _ (x y : Seen) (known : List Known) (s : State) (gone : List ℕ) (seats 
       of true = refl
       of false = refl
 
-  loses_left : Loses x y (seats_left known s gone) (seats_by now)
+  pub loses_left : Loses x y (seats_left known s gone) (seats_by now)
   loses_left = subst (λ before. Loses x y before (seats_by now)) (λ i p. seats_are p i) loses
 
   -- a fault of it
@@ -62,10 +78,11 @@ module _ (x y : Seen) (known : List Known) (s : State) (gone : List ℕ) (seats 
       → FailsCheck x y known s gone bad (by_check fault)
   fails_check bad fault exact =
       record {
+        fault = fault;
+        said = refl;
         seats = seats_by now;
         loses = loses_left;
-        exact = λ o are copied.
-            ap (λ r. option_or r (option_map (λ place. meaning.damaged place meaning.in_log) bad)) (exact o are copied) ∙ meant_check fault;
+        exact = λ o are copied. ap (λ r. option_or r (option_map (λ place. meaning.damaged place meaning.in_log) bad)) (exact o are copied);
       }
 
   -- a log that isn't well formed on a drive that went in it
@@ -75,6 +92,8 @@ module _ (x y : Seen) (known : List Known) (s : State) (gone : List ℕ) (seats 
       → FailsCheck x y known s gone bad (refusal.Damaged place Log)
   fails_log bad place is exact =
       record {
+        fault = Damaged place Log;
+        said = refl;
         seats = seats_by now;
         loses = loses_left;
         exact = λ o are copied.

@@ -1,8 +1,8 @@
 -- The slices of a pool's drives are at rest, with the copies of its state.
-use Rattle.std.proofs.Common.{◌≡◌, ℕ, ◌+◌, ◌<◌, Bool, true, false, ◌==◌, ◌&&◌, nat_lt, if◌then◌else◌, is_none, List, [], map, length, Option, Some, None, Result, Ok, Err, option_map, unwrap_or, inl, refl, sym, ap, subst, ◌∙◌, eq-eqb, lt-ltb, ltb-true, arith}
+use Rattle.std.proofs.Common.{◌≡◌, ℕ, ◌+◌, ◌<◌, ◌≤◌, Bool, true, false, ◌==◌, ◌&&◌, nat_lt, if◌then◌else◌, is_none, List, [], map, length, Option, Some, None, Result, Ok, Err, option_map, unwrap_or, inl, inr, refl, sym, ap, subst, ◌∙◌, eq-eqb, lt-ltb, ltb-true, arith}
 use Rattle.std.specs.Result.{result_ok}
 use Rattle.std.specs.List.{range_with_len, slice_index}
-use Rattle.std.proofs.lemmas.Bool.{and_parts, both_ways}
+use Rattle.std.proofs.lemmas.Bool.{and_parts, both_ways, cases_lt}
 use Rattle.std.proofs.lemmas.List.Folds.{list_any_at}
 use Rattle.std.proofs.lemmas.Option.{none-some}
 use Rattle.rack.specs.Seen.{Image, Seen}
@@ -25,6 +25,7 @@ use Rattle.pool_image.specs.Drives.{Found}
 use Rattle.pool_check.specs.declared.Checked.{Checked}
 use Rattle.pool_check.specs.Checking.{IsChecked}
 use Rattle.pool_check.specs.Refusing.{is_well}
+use Rattle.commit_log.specs.Kept.{IsNoLater}
 use Rattle.assembler.specs.Members.{AreMembers}
 use Rattle.assembler.specs.Holding.{AreSteady, IsIdle, IsPoolOn, IsSoundPool}
 use Rattle.assembler.proofs.Copied.{has_copy}
@@ -41,17 +42,31 @@ pub ok_of : {X Y : Type 0} (r : Result X Y) (y : X) → result_ok r ≡ Some y �
 ok_of (Ok z) y is = cc
 ok_of (Err why) y is = absurd (none-some y is)
 
--- contents whose copies are all of one state have this state
-pub state_of_all : (c : Image) (s : State) (one : ℕ) (first : Copied) → one < 16 → copy_in c one ≡ Some first
-    → ((p : ℕ) (copy : Copied) → p < 16 → copy_in c p ≡ Some copy → copy.state ≡ s) → state_in c ≡ Some s
+-- contents of which a copy is of a state, and none is later, have this state
+pub state_of_latest : (c : Image) (s : State) (one own : ℕ) → one < 16 → copy_in c one ≡ Some (record { state = s; own = own })
+    → ((p : ℕ) (copy : Copied) → p < 16 → copy_in c p ≡ Some copy → IsNoLater s copy) → state_in c ≡ Some s
 unfolding state_in
-state_of_all c s one first few is each = by (foremost epoch_of (map (copy_in c) (range_with_len 0 16))) refl
+state_of_latest c s one own few is each = by (foremost epoch_of (map (copy_in c) (range_with_len 0 16))) refl
   where
     by : (o : Option Copied) → foremost epoch_of (map (copy_in c) (range_with_len 0 16)) ≡ o → option_map (λ copy. copy.state) o ≡ Some s
-    by None none = absurd (none-some first (sym (none_leads epoch_of (copy_in c) 0 16 none one (omega arith) (omega (arith, few))) ∙ is))
+    by None none = absurd (none-some (record { state = s; own = own }) (sym (none_leads epoch_of (copy_in c) 0 16 none one (omega arith) (omega (arith, few))) ∙ is))
     by (Some copy) some =
         let leads = foremost_leads epoch_of (copy_in c) 0 16 copy some in
-        ap Some (each leads.at copy (let low = leads.most in omega (arith, low)) leads.here)
+        let low = leads.most in
+        elim (each leads.at copy (omega (arith, low)) leads.here) [
+          | inr same ↦ ap Some same
+          | inl lower ↦ absurd (elim (cases_lt one leads.at) [
+            | inl early ↦ (let less : s.epoch < copy.state.epoch = leads.before one (record { state = s; own = own }) (omega arith) early is in omega (arith, lower, less))
+            | inr from ↦ elim (cases_lt leads.at one) [
+              | inl late ↦ (let less : s.epoch ≤ copy.state.epoch = leads.after one (record { state = s; own = own }) late (omega (arith, few)) is in omega (arith, lower, less))
+              | inr upto ↦
+                  let here : one ≡ leads.at = omega (arith, from, upto) in
+                  let same : s.epoch ≡ copy.state.epoch =
+                  ap (λ (k : Copied). k.state.epoch) (some_same (record { state = s; own = own }) copy (sym is ∙ ap (copy_in c) here ∙ leads.here)) in
+                  omega (arith, lower, same)
+            ]
+          ])
+        ]
 
 module _ (f : Found) (t : Slices) (x : Seen) (checked : Checked) (absent : List ℕ) (orderly : IsOrderly t)
     (m : AreMembers f.state t x checked absent) (steady : AreSteady x) (pool : IsPoolOn f.state t x f)
@@ -143,8 +158,8 @@ module _ (f : Found) (t : Slices) (x : Seen) (checked : Checked) (absent : List 
       single = λ p u few inside. steady.single (disk_of t (log_slice p)) (first_of t (log_slice p) + u)
           (disk_below t x (log_slice p) u orderly m.fit.1 inside) (sector_below t x (log_slice p) u m.fit.1 inside);
       state = (let first = copy_seated one d seat in
-          state_of_all e f.state one (record { state = f.state; own = first.0 }) (few_place f t x checked absent orderly m steady pool found.opened one (m.current one d seat)) first.1
-          (λ p copy few is. copy_of p copy is));
+          state_of_latest e f.state one first.0 (few_place f t x checked absent orderly m steady pool found.opened one (m.current one d seat)) first.1
+          (λ p copy few is. inr (copy_of p copy is)));
       places = log.places;
       slices = λ j low. whole (slice_index log.on j) (named_at log.on j low);
     }

@@ -139,7 +139,7 @@ count_positions t ps (suc n) each =
     let next = count_next t n ps in
     omega (arith, rest, last, next)
 
-all_range : (q : ℕ → Bool) (a k n : ℕ) → list_all q (range_with_len a k) ≡ true → a ≤ n → n < a + k → q n ≡ true
+pub all_range : (q : ℕ → Bool) (a k n : ℕ) → list_all q (range_with_len a k) ≡ true → a ≤ n → n < a + k → q n ≡ true
 all_range q a zero n all least most = absurd (omega (arith, least, most))
 all_range q a (suc k) n all least most =
     let parts = and_parts (q a) (list_all q (range_with_len (a + 1) k)) all in

@@ -1,5 +1,5 @@
 -- The slices of a pool whose drives passed their check are those that the drives' tables have for a replay.
-use Rattle.std.proofs.Common.{◌≡◌, ℕ, suc, ◌+◌, ◌-◌, ◌<◌, ◌≤◌, ◌&&◌, Bool, nat_lt, if◌then◌else◌, List, Option, Some, None, inl, inr, refl, sym, ap, ap₂, subst, ◌∙◌, le-leb, ltb-true, arith}
+use Rattle.std.proofs.Common.{◌≡◌, ℕ, suc, ◌+◌, ◌-◌, ◌<◌, ◌≤◌, ◌&&◌, Bool, nat_lt, if◌then◌else◌, List, Option, Some, None, inl, inr, refl, sym, ap, subst, ◌∙◌, le-leb, ltb-true, arith}
 use Rattle.std.specs.Prelude.{unwrap_or}
 use Rattle.std.proofs.lemmas.Bool.{and_parts, cases_Bool, cases_eq}
 use Rattle.rack.specs.Seen.{Seen}
@@ -9,12 +9,10 @@ use Rattle.slice_rack.specs.Sliced.{IsInside}
 use Rattle.pool_state.specs.declared.contents.State.{State}
 use Rattle.array_image.specs.Places.{arrays_first, log_sectors, log_slice, member_slice, place_of, slice_of, state_sector}
 use Rattle.commit_log.specs.View.{LogView}
-use Rattle.pool_image.specs.Alike.{IsSamePool}
-use Rattle.pool_image.specs.Disks.{Disks, Identity, disks_of, identities_of}
+use Rattle.pool_image.specs.Disks.{disks_of, identities_of}
 use Rattle.pool_image.specs.Drives.{Found}
 use Rattle.pool_image.specs.Meaning.{is_member}
 use Rattle.pool_image.specs.Replay.{Extent, extent_by}
-use Rattle.pool_image.proofs.Founds.{lies_same}
 use Rattle.pool_scan.specs.declared.Known.{Known}
 use Rattle.pool_scan.specs.Choosing.{seat_by}
 use Rattle.pool_scan.specs.Scanning.{now_in}
@@ -24,17 +22,9 @@ use Rattle.pool_rest.specs.Members.{Lies}
 use Rattle.pool_rest.specs.Moments.{AreOfDrives}
 use Rattle.assembler.specs.Holding.{IsFoundOn}
 use Rattle.assembler.specs.Members.{AreMembers}
-use Rattle.assembler.specs.Sound.{AreSlicesOf, HaveSlices, extent_in}
+use Rattle.assembler.specs.Sound.{AreSlicesOf, extent_in}
+use Rattle.assembler.proofs.Apart.{HaveSlices}
 use Rattle.assembler.proofs.Finding.{same}
-use Rattle.assembler.proofs.Lies.{made_same, member_same}
-
--- a pool's tables have the slices by other contents of the same pool
-pub have_same : (e f : Found) → IsSamePool e f → HaveSlices e → HaveSlices f
-have_same e f pool have n p d made seat member =
-    let was : e.seats p ≡ Some d = sym (pool.seats p) ∙ seat in
-    ap₂ (λ (k : Disks) (i : Identity). extent_by (k.sectors d) i.table (suc n)) pool.disks (pool.identities p d was)
-    ∙ have n p d (let equal = made_same e f pool in omega (arith, made, equal)) was (sym (member_same e f pool n p) ∙ member)
-    ∙ sym (lies_same e f pool (suc n))
 
 module _ (x : Seen) (known : List Known) (s : State) (r : Slices) (on : List ℕ) (l : LogView) (is_pending : Bool) (damaged : Option ℕ) (f : Found)
     (is : IsFoundOn x known s r on l is_pending damaged f)

@@ -4,7 +4,8 @@ use Rattle.std.specs.Option.{option_map_or}
 use Rattle.std.specs.List.{list_all}
 use Rattle.rack.specs.Values.{MayLeave}
 use Rattle.rack.specs.Seen.{Image, IsLive, Rose, Seen}
-use Rattle.rack.specs.Sequences.{WritesOnly}
+use Rattle.rack.specs.Sequences.{OnlyReads, WritesOnly}
+use Rattle.rack.proofs.Writing.{only_quiet, only_then}
 use Rattle.slice_rack.specs.SliceRack.{below_of, tables}
 use Rattle.slice_rack.specs.Slices.{disk_of}
 use Rattle.lvm_text.specs.declared.group.Pv.{Pv}
@@ -28,7 +29,7 @@ use Rattle.pool_image.proofs.Groups.{AreWholeArrays, bad_alike, find_below, grou
 use Rattle.pool_image.proofs.Parts.{held_in as shown_in}
 use Rattle.shr_base.specs.declared.Id.{Id}
 use Rattle.raid_rack.specs.declared.arrays.RaidRack.{RaidRack}
-use Rattle.raid_rack.specs.AllRuns.{AreRuns}
+use Rattle.raid_rack.specs.AllRuns.{AreCalls}
 use Rattle.raid_rack.specs.Book.{IsSameBook}
 use Rattle.raid_rack.specs.Raid.{held_in, is_used_up}
 use Rattle.raid_rack.proofs.Live.{runs_live, runs_unused}
@@ -139,6 +140,21 @@ volume_holds f a b l of orderly inside writes told values =
           ∙ ap (λ (m : Linear). contents_of m (arrays_held f) 0 s) of.linear;
     }
 
+-- ---- calls of a rack of arrays
+
+-- what can be had after calls could be had before them
+live_before : {R : Type 0} (seen : R → Seen) (runs : R → R → Type 0) (x y : RaidRack R) → AreCalls seen runs x y → AllLive (raid_in y) → AllLive (raid_in x)
+live_before seen runs x y kept alive n s joined inside =
+    kept.2.spent n s
+    (alive n s (subst (λ k. n < k) (sym kept.1.book.same.joined) joined) (subst (λ k. s < k) (sym (kept.2.sectors n)) inside))
+
+-- an opening writes texts alone to the arrays
+pub opened_writes : {R : Type 0} (seen : R → Seen) (runs : R → R → Type 0) (x y : RaidRack R) (l : Linear) (seqno : ℕ) → OpensVolume seen runs x y l seqno
+    → WritesOnly (raid_seen seen x) (raid_seen seen y) (IsBefore (raid_in x).state.joined)
+opened_writes seen runs x y l seqno opens =
+    let may = IsBefore (raid_in x).state.joined in
+    only_then may opens.brings.writes (only_quiet may opens.agrees.values.stays opens.agrees.values.keeps)
+
 -- ---- on the arrays that an opening has made
 
 module _ {R : Type 0} (seen : R → Seen) (runs : R → R → Type 0) (f : Found) (a : Seen) (x : RaidRack R)
@@ -153,7 +169,7 @@ module _ {R : Type 0} (seen : R → Seen) (runs : R → R → Type 0) (f : Found
   whole = record { whole = λ n low s inside. holds.whole n s low; room = λ n low. let room = holds.room n low in omega (arith, room) }
 
   -- nothing is refused where no sector is spent in the end
-  served : (y : RaidRack R) → AreRuns seen runs x y → AllLive (raid_in y) → AreServed (raid_seen seen x) (raid_seen seen y) f.state.joined
+  served : (y : RaidRack R) → AreCalls seen runs x y → AllLive (raid_in y) → AreServed (raid_seen seen x) (raid_seen seen y) f.state.joined
   served y kept alive n low rose =
       let joined : (raid_in y).state.joined ≡ f.state.joined = kept.1.book.same.joined ∙ book.joined in
       let same : refused_in y n ≡ refused_in x n = kept.2.refused n (λ s inside. alive n s (subst (λ k. n < k) (sym joined) low) inside) in
@@ -173,19 +189,21 @@ module _ {R : Type 0} (seen : R → Seen) (runs : R → R → Type 0) (f : Found
       → AllLive (raid_in y) → (of : IsVolumeOf f l) × HoldsVolume (volume_of l (raid_seen seen y)) (volume_by (linear_of (joined_arrays f) of.group) (arrays_held f))
   volume_opened y l seqno opens orderly inside alive =
       let p = raid_seen seen x in
-      let q = raid_seen seen y in
+      let q = raid_seen seen opens.mid in
       let found : Opens f.state.pool.0 f.state.extent f.state.joined p q l seqno =
       subst (λ k. Opens f.state.pool.0 f.state.extent k p q l seqno) book.joined
       (subst (λ k. Opens f.state.pool.0 k (raid_in x).state.joined p q l seqno) book.extent
       (subst (λ (k : Id). Opens k.0 (raid_in x).state.extent (raid_in x).state.joined p q l seqno) book.pool opens.opens)) in
-      let of = opened_means f p q sizes whole (served y opens.kept alive) now l seqno found in (
+      let early = opens.early in
+      let of = opened_means f p q sizes whole (served opens.mid (early.0, early.1, early.2) (live_before seen runs opens.mid y opens.agrees.kept alive)) now l seqno found in (
         of,
-        volume_holds f p q l of orderly inside (subst (λ k. WritesOnly p q (IsBefore k)) book.joined opens.brings.writes) holds.told
+        volume_holds f p (raid_seen seen y) l of orderly inside
+            (subst (λ k. WritesOnly p (raid_seen seen y) (IsBefore k)) book.joined (opened_writes seen runs x y l seqno opens)) holds.told
             (λ n s u low live may. holds.values n s u low live may),
       )
 
   pub volume_refused : (y : RaidRack R) (n : ℕ) → IsBadVolume (raid_in x).state.pool.0 (raid_in x).state.extent (raid_in x).state.joined (raid_seen seen x) (raid_seen seen y) n
-      → AreRuns seen runs x y → AllLive (raid_in y) → meant.first_bad (joined_arrays f) ≡ Some n
+      → AreCalls seen runs x y → AllLive (raid_in y) → meant.first_bad (joined_arrays f) ≡ Some n
   volume_refused y n bad kept alive =
       let p = raid_seen seen x in
       let q = raid_seen seen y in
@@ -197,7 +215,7 @@ module _ {R : Type 0} (seen : R → Seen) (runs : R → R → Type 0) (f : Found
 -- ---- sectors that are spent
 
 -- where no disk refused a call and numbers aren't used up, no sector is spent
-pub live_later : {R : Type 0} (seen : R → Seen) (runs : R → R → Type 0) (x y : RaidRack R) → AreRuns seen runs x y
+pub live_later : {R : Type 0} (seen : R → Seen) (runs : R → R → Type 0) (x y : RaidRack R) → AreCalls seen runs x y
     → IsFit (arrays_in x) (slices_seen seen x) → IsFit (arrays_in y) (slices_seen seen y) → IsUnfaulted (seen (below_of (slices_in x))) (seen (below_of (slices_in y)))
     → (raid_in x).state.joined ≤ (raid_in x).state.made → is_used_up (raid_in y) ≡ false → (is_used_up (raid_in x) ≡ false → AllLive (raid_in x)) → AllLive (raid_in y)
 live_later seen runs x y kept before after quiet ready unused alive n s joined inside =
@@ -215,14 +233,15 @@ live_later seen runs x y kept before after quiet ready unused alive n s joined i
 pub unopened_cause : {R : Type 0} (seen : R → Seen) (x y : RaidRack R) (why : Refusal) (f : VolumeFault) → IsFit (arrays_in y) (slices_seen seen y)
     → why ≡ (if is_used_up (raid_in y) then Memory else by_volume f)
     → IsUnopened (raid_in x).state.pool.0 (raid_in x).state.extent (raid_in x).state.joined (raid_seen seen x) (raid_seen seen y) f
+    → OnlyReads (raid_seen seen x) (raid_seen seen y)
     → (why ≡ Memory) ⊎ ((array : ℕ) × (why ≡ BadVolume array) × HasBadVolume seen x y array)
-unopened_cause seen x y why f fit is unopened = by (is_used_up (raid_in y)) refl
+unopened_cause seen x y why f fit is unopened reads = by (is_used_up (raid_in y)) refl
   where
     of : is_used_up (raid_in y) ≡ false → (k : VolumeFault) → why ≡ by_volume k
         → IsUnopened (raid_in x).state.pool.0 (raid_in x).state.extent (raid_in x).state.joined (raid_seen seen x) (raid_seen seen y) k
         → (why ≡ Memory) ⊎ ((array : ℕ) × (why ≡ BadVolume array) × HasBadVolume seen x y array)
     of unused fault.Memory said cause = inl said
-    of unused (fault.BadVolume array) said cause = inr (array, said, record { bad = cause; fit = fit; unused = unused })
+    of unused (fault.BadVolume array) said cause = inr (array, said, record { reads = reads; bad = cause; fit = fit; unused = unused })
 
     by : (b : Bool) → is_used_up (raid_in y) ≡ b → (why ≡ Memory) ⊎ ((array : ℕ) × (why ≡ BadVolume array) × HasBadVolume seen x y array)
     by true used = inl (is ∙ ap (λ b. if b then Memory else by_volume f) used)

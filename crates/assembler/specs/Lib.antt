@@ -1,3 +1,4 @@
+pub mod Causes
 pub mod Holding
 pub mod Members
 pub mod Mending

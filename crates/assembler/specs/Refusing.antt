@@ -5,11 +5,12 @@ use Rattle.rack.specs.Seen.{Seen}
 use Rattle.pool_state.specs.declared.contents.State.{State}
 use Rattle.commit_log.specs.View.{names}
 use Rattle.pool_image.specs.Disks.{Seats}
+use Rattle.pool_image.specs.Drives.{Found}
 use Rattle.pool_image.specs.Meaning as meaning
 use Rattle.pool_scan.specs.declared.Known.{Known}
 use Rattle.pool_scan.specs.Choosing.{seat_by}
 use Rattle.pool_check.specs.Drives.{AreCopied, AreDrivesOf, Drives, Loses, found_with}
-use Rattle.pool_check.specs.Refusing.{is_well, part_by, refused_with}
+use Rattle.pool_check.specs.Refusing.{is_well, part_by, refusal_by, refused_with}
 use Rattle.lvm_group.specs.declared.volume.VolumeFault.{VolumeFault}
 use Rattle.lvm_group.specs.declared.volume.VolumeFault.TheVariants as volume
 use Rattle.pool_check.specs.declared.CheckFault.{CheckFault}
@@ -62,11 +63,15 @@ meant_by Memory = None
 abbrev pub seats_left : List Known → State → List ℕ → Seats
 seats_left known s gone place = if nat_lt place 16 && not (names gone place) then seat_by s known place else None
 
+-- The first refusal of a pool's drives, where the log of one place isn't well formed: or else of that log, if the place has no disk any more.
+abbrev pub refused_left : Option ℕ → Found → Option meaning.Refusal
+refused_left bad f = option_or (refused_with (is_well bad) None f) (option_map (λ place. meaning.damaged place meaning.in_log) bad)
+
 -- The drives didn't pass their check, by what was read of them: a place has lost its disk only where that refused a call, and the
 -- refusal is the first one of the pool that the disks left make, or else the log that isn't well formed.
 pub record FailsCheck (x y : Seen) (known : List Known) (s : State) (gone : List ℕ) (bad : Option ℕ) (why : Refusal) : Type 0 where
+  pub fault : CheckFault
+  pub said : why ≡ by_check fault
   pub seats : Seats
   pub loses : Loses x y (seats_left known s gone) seats
-  pub exact :
-      (o : Drives) → AreDrivesOf x seats o → AreCopied known seats o
-      → option_or (refused_with (is_well bad) None (found_with s seats o)) (option_map (λ place. meaning.damaged place meaning.in_log) bad) ≡ meant_by why
+  pub exact : (o : Drives) → AreDrivesOf x seats o → AreCopied known seats o → refused_left bad (found_with s seats o) ≡ Some (refusal_by fault)

@@ -4,28 +4,33 @@ use Rattle.rack.specs.Seen.{Image, Seen}
 use Rattle.rack.specs.Moments.{Leaves}
 use Rattle.slice_rack.specs.Slices.{Slices, first_of, place_of, seat_of, sectors_of}
 use Rattle.slice_rack.specs.SliceRack.{below_of, tables}
+use Rattle.pool_state.specs.declared.contents.Copied.{Copied}
+use Rattle.commit_log.specs.Kept.{IsNoLater}
 use Rattle.array_image.specs.Left.{IsLeft}
 use Rattle.array_image.specs.Places.{log_slice, member_slice}
 use Rattle.md_super.specs.declared.superblock.Super.{Super}
+use Rattle.pool_state.specs.declared.contents.State.{State}
 use Rattle.lvm_group.specs.Runs.{Linear}
 use Rattle.lvm_group.specs.Shown.{volume_of}
 use Rattle.pool_image.specs.Disks.{disks_of}
 use Rattle.pool_image.specs.Drives.{Found, extent_of, found}
 use Rattle.pool_image.specs.Meaning.{Volume, is_member, meaning, refusal_of, truth_of}
-use Rattle.pool_image.specs.Replay.{Extent, extent_by}
+use Rattle.pool_image.specs.Replay.{Extent, extent_by, share}
+use Rattle.pool_image.specs.Sound.{HasSoundPlan, IsSoundList}
+use Rattle.pool_check.specs.Settling.{KeepsTable}
 use Rattle.pool_scan.specs.Scanning.{now_in}
-use Rattle.pool_rest.specs.Moments.{BringsNoState, KeepsPlaces}
+use Rattle.pool_rest.specs.Moments.{BringsNoState, TakesLower}
 use Rattle.pool_rest.specs.Resting.{IsIdle}
 use Rattle.pool_rest.specs.SoundLogs.{HasSoundLogs}
 use Rattle.raid_rack.specs.declared.arrays.RaidRack.{RaidRack}
 use Rattle.raid_rack.specs.Agreeing.{SupersAgree}
 use Rattle.raid_rack.specs.Book.{IsAfter}
 use Rattle.raid_rack.specs.Raid.{IsTold}
-use Rattle.raid_rack.specs.RaidRack.{raid_in, raid_seen, slices_in, slices_seen, written_in}
+use Rattle.raid_rack.specs.RaidRack.{raid_in, raid_seen, slices_in, slices_seen}
 use Rattle.assembler.specs.declared.refusal.Refusal.{Refusal}
 use Rattle.assembler.specs.Holding.{AreSteady, IsArrayOf, IsSoundPool}
 use Rattle.assembler.specs.Refusing.{meant_by}
-use Rattle.assembler.specs.Moments.{HoldsAt}
+use Rattle.assembler.specs.Moments.{GivesPool, HoldsAt}
 use Rattle.assembler.specs.Volume.{AllLive, HoldsVolume, IsVolumeOf}
 
 -- Disks that hold a sound pool: they are told, each sector of them has one value, and by these the pool's logs, states and
@@ -50,21 +55,30 @@ pub record AreSlicesOf (f : Found) (t : Slices) : Type 0 where
   pub others : (n p : ℕ) → n < 16 → (nat_lt n f.state.made && is_member f n p) ≡ false → sectors_of t (member_slice p n) ≡ 0
   pub unseated : (k : ℕ) → f.seats (place_of k) ≡ None → sectors_of t k ≡ 0
 
--- a replay finds the slices of the members where the pool has them: no lower slice of a drive's table shares a sector with them
-abbrev pub HaveSlices : Found → Type 0
-HaveSlices f =
-    (n p d : ℕ) → n < f.state.made → f.seats p ≡ Some d → is_member f n p ≡ true
-    → extent_by (f.disks.sectors d) (f.identities d).table (suc n) ≡ extent_of f (suc n)
+-- Of an array that a drive is no member of its table has no slice that shares a sector with that of a higher array which it is a member of:
+-- a replay passes over a slice that shares one with a lower one.
+abbrev pub LieApart : Found → Type 0
+LieApart f =
+    (m n p d : ℕ) (a b : Extent) → m < n → n < f.state.made → f.seats p ≡ Some d → is_member f m p ≡ false → is_member f n p ≡ true
+    → extent_by (f.disks.sectors d) (f.identities d).table (suc m) ≡ Some a → extent_of f (suc n) ≡ Some b → share b a ≡ false
 
--- the drives of a pool have copies of the state that stood before its record was replayed
-abbrev pub HaveStood : Found → Type 0
-HaveStood f =
-    (p d : ℕ) → f.seats p ≡ Some d → (own : ℕ) × ((f.before.identities d).copied ≡ Some (record { state = f.before.state; own = own }))
+-- Before a pool's record was replayed one of its drives had the state that stood, and none another one that isn't earlier.
+pub record HaveStood (f : Found) : Type 0 where
+  pub place : ℕ
+  pub disk : ℕ
+  pub own : ℕ
+  pub seat : f.seats place ≡ Some disk
+  pub copy : (f.before.identities disk).copied ≡ Some (record { state = f.before.state; own = own })
+  pub latest : (p d : ℕ) (other : Copied) → f.seats p ≡ Some d → (f.before.identities d).copied ≡ Some other → IsNoLater f.before.state other
 
--- Nothing is pending on the disks of a pool, or a record whose targets land where the pool's slices are. It writes no state's sector, or
--- else brings a state by which no place is current that wasn't, and the pool's drives have the one that stands.
+-- Nothing is pending on the disks of a pool, or a record whose targets land where the pool's slices are: by the rules on the list of drives
+-- and on the plan, or by the drives' tables alone. It writes no state's sector, or else the drives had the state that stood, and those that it
+-- takes in have gates of lower numbers.
 abbrev pub MayStop : Seen → Found → Type 0
-MayStop x f = IsIdle x ⊎ ((BringsNoState x ⊎ (KeepsPlaces x × HaveStood f)) × HaveSlices f)
+MayStop x f =
+    IsIdle x
+    ⊎ (((IsSoundList f × HasSoundPlan f) ⊎ LieApart f)
+    × (BringsNoState x ⊎ (HaveStood f × TakesLower x)))
 
 -- A volume that was opened means what the disks x do: it is the volume of the group of their pool, over the slices of its drives. Marks
 -- alone have come to the pool's state; each array that is ready for the volume is told, and the one of the pool's superblocks, and no
@@ -82,12 +96,18 @@ pub record IsMeantBy {R : Type 0} (seen : R → Seen) (x : Seen) (f : Found) (ra
   -- what a stop leaves inside the opening holds that volume, where it may come amid the replay of the record that was pending
   pub moments : MayStop x f → x.traced → Leaves x (seen (below_of (slices_in rack))) (HoldsAt (tables (slices_in rack)) l volume)
 
--- The superblocks of each array agree, durably: in whatever a stop leaves of the slices, once it is replayed. Nothing is said of an array
--- that was written, since its text was brought up to date: what is written marks its superblocks.
-abbrev pub HaveAgreed : {R : Type 0} → (R → Seen) → Found → RaidRack R → Type 0
-HaveAgreed seen f rack =
-    (n : ℕ) → n < f.state.joined → written_in rack n ≡ false
-    → (r : Image) → IsLeft (slices_seen seen rack) r → SupersAgree (raid_in rack).state r n
+-- The superblocks of each array that is ready for the volume agree by this state, durably: in whatever a stop leaves of the slices, once it
+-- is replayed.
+abbrev pub HaveAgreed : Found → State → Seen → Type 0
+HaveAgreed f s x = (n : ℕ) → n < f.state.joined → (r : Image) → IsLeft x r → SupersAgree s r n
+
+-- Disks of a pool that was refused once its arrays were made: by slices of its drives what a stop left since x, or leaves now, holds the arrays that the
+-- pool had, and each drive has its partition table at every moment.
+pub record KeepsPool (x y : Seen) (f : Found) : Type 0 where
+  pub slices : Slices
+  pub are : AreSlicesOf f slices
+  pub moments : MayStop x f → x.traced → Leaves x y (GivesPool f slices)
+  pub tables : (p d : ℕ) → f.seats p ≡ Some d → KeepsTable x y d
 
 -- the meaning of these disks is refused so
 abbrev pub IsMeantRefusal : Seen → Refusal → Type 0

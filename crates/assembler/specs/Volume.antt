@@ -2,6 +2,7 @@
 use Rattle.std.specs.Prelude.{◌≡◌, ◌⊎◌, ◌&&◌, ℕ, ◌<◌, false, not, List, None, Some}
 use Rattle.rack.specs.Values.{MayLeave}
 use Rattle.rack.specs.Seen.{Seen}
+use Rattle.rack.specs.Sequences.{OnlyReads}
 use Rattle.pool_state.specs.declared.contents.State.{State}
 use Rattle.array_image.specs.States.{is_current}
 use Rattle.commit_log.specs.View.{names}
@@ -15,21 +16,34 @@ use Rattle.pool_image.specs.Volumes.{first_bad, linear_of}
 use Rattle.raid_rack.specs.declared.arrays.RaidRack.{RaidRack}
 use Rattle.array_model.specs.View.{sectors_of}
 use Rattle.raid_rack.specs.Raid.{Raid, is_used_up, live_of}
-use Rattle.raid_rack.specs.AllRuns.{AreRuns}
-use Rattle.raid_rack.specs.RaidRack.{IsFit, arrays_in, raid_in, raid_seen, slices_in, slices_seen}
+use Rattle.raid_rack.specs.AllRuns.{AreCalls, AreRuns}
+use Rattle.raid_rack.specs.Agreeing.{MakesAgree}
+use Rattle.raid_rack.specs.RaidRack.{IsFit, KeepsRack, arrays_in, raid_in, raid_seen, slices_in, slices_seen, written_in}
 use Rattle.slice_rack.specs.SliceRack.{below_of}
 use Rattle.assembler.specs.declared.refusal.Refusal.{Refusal}
 use Rattle.assembler.specs.declared.refusal.Refusal.TheVariants.{BadVolume, Memory}
 
--- A volume was opened on these arrays, by what was read of them, and their texts were brought up to it.
+-- The superblocks of each array were made to agree where one had been written; else nothing was called. No value came or went.
+pub record Agrees {R : Type 0} (seen : R → Seen) (runs : R → R → Type 0) (x y : RaidRack R) : Type 0 where
+  pub kept : AreCalls seen runs x y
+  pub values : KeepsRack (raid_seen seen x) (raid_seen seen y)
+  pub supers : ((y ≡ x) × ((n : ℕ) → written_in x n ≡ false)) ⊎ MakesAgree (raid_in x) (raid_in y) (slices_seen seen x) (slices_seen seen y)
+
+-- A volume was opened on these arrays, by what was read of them, and their texts were brought up to it: the arrays were `mid` then. After
+-- that their superblocks were made to agree.
 pub record OpensVolume {R : Type 0} (seen : R → Seen) (runs : R → R → Type 0) (x y : RaidRack R) (l : Linear) (seqno : ℕ) : Type 0 where
-  pub opens : Opens (raid_in x).state.pool.0 (raid_in x).state.extent (raid_in x).state.joined (raid_seen seen x) (raid_seen seen y) l seqno
-  pub brings : BringsUp (raid_in x).state.pool.0 (raid_in x).state.joined l seqno opens.runs.group (raid_seen seen x) (raid_seen seen y)
-  pub kept : AreRuns seen runs x y
+  pub mid : RaidRack R
+  pub opens : Opens (raid_in x).state.pool.0 (raid_in x).state.extent (raid_in x).state.joined (raid_seen seen x) (raid_seen seen mid) l seqno
+  pub brings : BringsUp (raid_in x).state.pool.0 (raid_in x).state.joined l seqno opens.runs.group (raid_seen seen x) (raid_seen seen mid)
+  pub early : AreRuns seen runs x mid
+  pub fit : IsFit (arrays_in mid) (slices_seen seen mid)
+  pub agrees : Agrees seen runs mid y
+  pub kept : AreCalls seen runs x y
   pub unused : is_used_up (raid_in y) ≡ false
 
--- An array is bad, by what was read of the arrays, which were y then, and numbers aren't used up.
+-- An array is bad, by what was read of the arrays, which were y then, and numbers aren't used up. Nothing was written on them.
 pub record HasBadVolume {R : Type 0} (seen : R → Seen) (x y : RaidRack R) (array : ℕ) : Type 0 where
+  pub reads : OnlyReads (raid_seen seen x) (raid_seen seen y)
   pub bad : IsBadVolume (raid_in x).state.pool.0 (raid_in x).state.extent (raid_in x).state.joined (raid_seen seen x) (raid_seen seen y) array
   pub fit : IsFit (arrays_in y) (slices_seen seen y)
   pub unused : is_used_up (raid_in y) ≡ false
@@ -40,7 +54,7 @@ pub record RefusesVolume {R : Type 0} (seen : R → Seen) (runs : R → R → Ty
   pub last : RaidRack R
   pub back : below_of (slices_in last) ≡ rack
   pub cause : (why ≡ Memory) ⊎ ((array : ℕ) × (why ≡ BadVolume array) × HasBadVolume seen x last array)
-  pub kept : AreRuns seen runs x last
+  pub kept : AreCalls seen runs x last
 
 -- The volume of the meaning: that of the pool's group, which has no bad array.
 pub record IsVolumeOf (f : Found) (l : Linear) : Type 0 where

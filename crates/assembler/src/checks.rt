@@ -1,6 +1,6 @@
 //! The drives of a pool at rest, checked: its arrays, and the slices of their members.
 
-ghost use Rattle.std.specs.Prelude.{◌≡◌, ◌≢◌, ◌⊎◌, ◌<◌, ◌≤◌, ◌^◌, ◌+◌, ◌++◌, ◌∷◌, ◌==◌, ◌&&◌, ℕ, [], not, nat_lt, is_none, length, filter, true, false, if◌then◌else◌, IfOk, IfErr, None};
+ghost use Rattle.std.specs.Prelude.{◌≡◌, ◌≢◌, ◌⊎◌, ◌<◌, ◌≤◌, ◌^◌, ◌+◌, ◌++◌, ◌∷◌, ◌==◌, ◌&&◌, ℕ, [], not, nat_lt, is_none, length, filter, true, false, if◌then◌else◌, IfOk, IfErr, OnOk, None};
 ghost use Rattle.rack.specs.Sequences.{OnlyReads};
 ghost use Rattle.slice_rack.specs.Slices.{place_of, seat_of, first_of, sectors_of};
 ghost use Rattle.slice_rack.specs.SliceRack.{tables, below_of};
@@ -9,7 +9,7 @@ ghost use Rattle.pool_state.specs.Valid.{is_valid};
 ghost use Rattle.arrayvec.specs.ArrayVec.{array_vec_len};
 ghost use Rattle.array_image.specs.States.{current_places};
 ghost use Rattle.pool_check.specs.Checking.{IsChecked};
-ghost use Rattle.pool_check.specs.Drives.{seats_by};
+ghost use Rattle.pool_check.specs.Drives.{AreCopied, AreDrivesOf, Drives, Loses, found_with, seats_by};
 ghost use Rattle.pool_check.specs.Refusing.{is_well};
 ghost use Rattle.pool_image.specs.Drives.{Found};
 ghost use Rattle.commit_log.specs.View.{names};
@@ -18,7 +18,7 @@ ghost use Rattle.pool_scan.specs.Scanning.{IsUnfaulted};
 ghost use Rattle.pool_rest.specs.Standing.{IsLaid};
 ghost use Rattle.assembler.specs.Holding.{HoldPool, IsFoundOn};
 ghost use Rattle.assembler.specs.Members.{AreMembers};
-ghost use Rattle.assembler.specs.Refusing.{FailsCheck};
+ghost use Rattle.assembler.specs.Refusing.{FailsCheck, seats_left};
 
 use crate::refusal::{Refusal, by_check};
 use commit_log::Log;
@@ -120,6 +120,11 @@ pub(crate) fn check<R: Rack>(rest: AtRest<R>) -> Result<Members<R>, Back<R, Refu
         → IsFoundOn (R.seen (below_of rest.slices)) rest.scan.disks.items rest.state (tables rest.slices) rest.on.items rest.log rest.pending rest.damaged f
         → ((p d : ℕ) → names rest.gone.items p ≡ true → seat_by rest.state rest.scan.disks.items p ≡ Some d → ⊥) → IsUnfaulted (R.seen (below_of rest.slices)) (R.seen (below_of m.slices))
         → HoldPool m.state (tables m.slices) (R.seen (below_of m.slices)) m.log f × IsChecked (is_well None) f m.checked) }
+    // Whatever the disks tell, the arrays are those of the pool that the disks left make, and no log is damaged.
+    ensures are { IfOk result (λ m. (o : Drives) → AreDrivesOf (R.seen (below_of rest.slices)) (seat_of (tables m.slices)) o
+        → AreCopied rest.scan.disks.items (seat_of (tables m.slices)) o → IsChecked (is_well None) (found_with rest.state (seat_of (tables m.slices)) o) m.checked) }
+    ensures loses { IfOk result (λ m. Loses (R.seen (below_of rest.slices)) (R.seen (below_of m.slices)) (seats_left rest.scan.disks.items rest.state rest.gone.items) (seat_of (tables m.slices))) }
+    ensures whole { OnOk result (rest.damaged ≡ None) }
     // The slices lie on the disks that were taken for the places.
     ensures seats { IfOk result (λ m. (p d : ℕ) → seat_of (tables m.slices) p ≡ Some d → seat_by rest.state rest.scan.disks.items p ≡ Some d) }
     ensures state { IfOk result (λ m. m.state ≡ rest.state) }

@@ -2,7 +2,8 @@
 //!
 //! The pool is brought to rest (`pool_rest`), its drives are checked and its arrays opened (`pool_check`), the slices of their members
 //! are laid, gates that are open are closed, the copies of partition tables are made to agree, drives that are absent are marked missing,
-//! superblocks that differ are made to agree (`raid_rack`), and the volume is opened on the arrays (`lvm_group`). A drive that goes after the checks is a loss, as in any call.
+//! superblocks that differ are made to agree (`raid_rack`), and the volume is opened on the arrays (`lvm_group`), after which superblocks are
+//! made to agree once more where a text was written to an array. A drive that goes after the checks is a loss, as in any call.
 //!
 //! **Its model** is that of the parts: `Raid` of raid_rack, `Linear` of lvm_group, and the pool that contents of disks mean, of
 //! pool_image.
@@ -11,8 +12,14 @@
 //! before the drives have passed their checks nothing is written but the pending record, on drives of the pool (`WritesDrives` of
 //! pool_rest). Where the disks hold a sound pool (`HoldSound` of specs/Sound.antt) and none refuses a call, the volume is the one that
 //! they mean, over the slices of their pool's drives (`IsMeantBy`), and they are refused only as their meaning is (`IsMeantRefusal`), or for
-//! want of memory; both copies of each drive's partition table are the table that its disk had, and the superblocks of each array agree
-//! (`HaveAgreed`), but of one whose text was brought up to date. In all, only drives are written (`WritesPool` of specs/Writing.antt).
+//! want of memory; both copies of each drive's partition table are the table that its disk had, and the superblocks of each array agree,
+//! durably (`HaveAgreed`). In all, only drives are written (`WritesPool` of specs/Writing.antt).
+//!
+//! Whatever the disks tell and whoever goes, a refusal has its cause in what was read of them (`HasRefusalCause` of specs/Causes.antt): no pool or two by the
+//! copies of the state (`FindsNoPool`); the first refusal of the pool that the disks left make, where a place has lost its disk only where that refused a call,
+//! each disk that is left was read, and the logs are those of the pool's drives (`RefusesDrives`); or a bad array of those that the disks left make
+//! (`RefusesArrays`). Sound disks that refuse no call mean what they meant after a refusal before the arrays are made; where an array's part of the
+//! volume group is bad, what a stop leaves holds the arrays that the pool had, and each drive has its partition table (`KeepsPool`).
 //!
 //! Inside the crate the arrays are those of the superblocks that were read, over the slices of the drives (`AreMembers` of
 //! specs/Members.antt), and they hold what the pool's contents give (`HoldsArrays` of specs/Holding.antt).

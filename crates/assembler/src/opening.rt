@@ -3,20 +3,23 @@
 ghost use Rattle.std.specs.Prelude.{◌≡◌, ◌≢◌, ◌⊎◌, if◌then◌else◌, ◌&&◌, is_some, ◌<◌, ◌≤◌, ◌^◌, ℕ, true, false, IfOk, IfErr};
 ghost use Rattle.rack.specs.Sequences.{OnlyReads};
 ghost use Rattle.pool_rest.specs.Resting.{WritesDrives};
+ghost use Rattle.assembler.specs.Causes.{HasRefusalCause};
 ghost use Rattle.assembler.specs.Refusing.{by_volume, is_early};
-ghost use Rattle.assembler.specs.declared.refusal.Refusal.TheVariants.{Memory};
+ghost use Rattle.assembler.specs.declared.refusal.Refusal.TheVariants.{BadVolume, Memory};
 ghost use Rattle.raid_rack.specs.Raid.{is_used_up};
 ghost use Rattle.slice_rack.specs.SliceRack.{below_of, tables};
 ghost use Rattle.slice_rack.specs.Slices.{seat_of};
 ghost use Rattle.lvm_group.specs.Shown.{total, volume_of};
 ghost use Rattle.lvm_group.specs.Volume.{below_of as rack_in, linear, seqno_of};
-ghost use Rattle.assembler.specs.Sound.{HaveAgreed, HoldSound, IsMeantBy, IsMeantRefusal};
-ghost use Rattle.assembler.specs.Volume.{OpensVolume, RefusesVolume};
+ghost use Rattle.assembler.specs.Sound.{HaveAgreed, HoldSound, IsMeantBy, IsMeantRefusal, KeepsPool};
+ghost use Rattle.assembler.specs.Volume.{Agrees, OpensVolume, RefusesVolume};
 ghost use Rattle.array_image.specs.States.{is_current};
 ghost use Rattle.assembler.specs.Writing.{WritesPool};
 ghost use Rattle.pool_check.specs.Settling.{IsSettled, KeepsTable};
+ghost use Rattle.pool_image.specs.Alike.{MeansTheSame};
+ghost use Rattle.pool_image.specs.Disks.{disks_of};
 ghost use Rattle.pool_image.specs.Drives.{Found};
-ghost use Rattle.pool_scan.specs.Scanning.{IsUnfaulted};
+ghost use Rattle.pool_scan.specs.Scanning.{IsUnfaulted, now_in};
 ghost use Rattle.raid_rack.specs.RaidRack.{IsFit, arrays_in, raid_in, raid_seen, slices_in, slices_seen};
 ghost use Rattle.array_model.specs.View.{sectors_of};
 
@@ -29,16 +32,31 @@ use rack::{Back, Rack};
 use raid_rack::RaidRack;
 use std::alloc::Global;
 
-/// Keeps a volume unless its pool's numbers are used up: then each of its sectors would be refused.
+/// Makes the superblocks of each array agree where one was written: a write to an array marks its superblocks one after the other.
+fn agree<R: Rack>(raid: &mut RaidRack<R>)
+    requires fit { IsFit (arrays_in raid.old) (slices_seen R.seen raid.old) }
+    ensures agrees { Agrees R.seen R.runs raid.old raid.new }
+{
+    if raid.has_written() {
+        raid.restate();
+    }
+}
+
+/// Makes the superblocks below a volume agree where its texts were brought up, and keeps it unless its pool's numbers are used up: then
+/// each of its sectors would be refused.
 fn keep_volume<R: Rack>(
     volume: Volume<RaidRack<R>>,
 ) -> Result<Volume<RaidRack<R>>, Back<RaidRack<R>, Refusal>>
-    requires fit { IsFit (arrays_in (rack_in volume)) (slices_seen R.seen (rack_in volume)) }
-    ensures kept { IfOk result (λ v. v ≡ volume) }
-    ensures unused { IfOk result (λ v. is_used_up (raid_in (rack_in volume)) ≡ false) }
-    ensures back { IfErr result (λ back. back.rack ≡ rack_in volume) }
-    ensures refused { IfErr result (λ back. (back.why ≡ Memory) × (is_used_up (raid_in (rack_in volume)) ≡ true)) }
+    requires fit { (volume_of (linear volume) (raid_seen R.seen (rack_in volume))).fit }
+    ensures fit { IfOk result (λ v. (volume_of (linear v) (raid_seen R.seen (rack_in v))).fit) }
+    ensures same { IfOk result (λ v. (linear v ≡ linear volume) × (seqno_of v ≡ seqno_of volume)) }
+    ensures agrees { IfOk result (λ v. Agrees R.seen R.runs (rack_in volume) (rack_in v)) }
+    ensures unused { IfOk result (λ v. is_used_up (raid_in (rack_in v)) ≡ false) }
+    ensures back { IfErr result (λ back. Agrees R.seen R.runs (rack_in volume) back.rack) }
+    ensures refused { IfErr result (λ back. (back.why ≡ Memory) × (is_used_up (raid_in back.rack) ≡ true)) }
 {
+    let mut volume = volume;
+    agree(volume.inner());
     if volume.below().is_used_up() {
         return Err(Back {
             rack: volume.into_inner(),
@@ -61,7 +79,7 @@ fn unopened<R: Rack>(raid: &RaidRack<R>, fault: VolumeFault) -> Refusal
     }
 }
 
-/// Opens the volume on the arrays of a pool. A refusal gives the disks back.
+/// Opens the volume on the arrays of a pool, whose superblocks agree after it where they did before. A refusal gives the disks back.
 fn open_volume<R: Rack>(
     alloc: Global,
     raid: RaidRack<R>,
@@ -110,7 +128,7 @@ fn give_back<R: Rack>(raid: RaidRack<R>, why: Refusal) -> Back<R, Refusal>
 ///
 /// Of the pool's disks only drives are written: the pending record before the checks, and after these gates that are open, copies of
 /// partition tables that differ from their disk's table, the marks of an absent drive, superblocks with them or where one is stale, and the
-/// volume's texts where an array lacks the newest one.
+/// volume's texts where an array lacks the newest one, with superblocks again after these.
 pub fn assemble<R: Rack>(
     alloc: Global,
     rack: R,
@@ -139,11 +157,19 @@ pub fn assemble<R: Rack>(
         → KeepsTable (R.seen rack) (R.seen (below_of (slices_in (rack_in volume)))) d) }
     ensures mended { IfOk result (λ volume. (f : Found) → HoldSound (R.seen rack) f → IsUnfaulted (R.seen rack) (R.seen (below_of (slices_in (rack_in volume))))
         → (p d : ℕ) → f.seats p ≡ Some d → IsSettled (R.seen rack) (R.seen (below_of (slices_in (rack_in volume)))) d) }
-    // Then too the superblocks of each array agree, durably, but of one whose text was brought up to date.
+    // Then too the superblocks of each array agree, durably.
     ensures agreed { IfOk result (λ volume. (f : Found) → HoldSound (R.seen rack) f → IsUnfaulted (R.seen rack) (R.seen (below_of (slices_in (rack_in volume))))
-        → HaveAgreed R.seen f (rack_in volume)) }
+        → HaveAgreed f (raid_in (rack_in volume)).state (slices_seen R.seen (rack_in volume))) }
     ensures exact { IfErr result (λ back. (f : Found) → HoldSound (R.seen rack) f → IsUnfaulted (R.seen rack) (R.seen back.rack)
         → back.why ≢ Memory → IsMeantRefusal (R.seen rack) back.why) }
+    // Whatever the disks tell and whoever goes, a refusal has its cause in what was read of them.
+    ensures cause { IfErr result (λ back. HasRefusalCause R.seen R.runs rack back.rack back.why) }
+    // Sound disks that refuse no call mean what they meant, where they are refused before the arrays are made.
+    ensures unmoved { IfErr result (λ back. (f : Found) → HoldSound (R.seen rack) f → IsUnfaulted (R.seen rack) (R.seen back.rack)
+        → is_early back.why ≡ true → MeansTheSame (disks_of (R.seen rack)) (now_in (R.seen rack)) (now_in (R.seen back.rack))) }
+    // And where an array's part of the volume is bad, what a stop leaves holds the arrays that the pool had, and each drive has its table.
+    ensures still { IfErr result (λ back. (f : Found) → HoldSound (R.seen rack) f → IsUnfaulted (R.seen rack) (R.seen back.rack)
+        → (array : ℕ) → back.why ≡ BadVolume array → KeepsPool (R.seen rack) (R.seen back.rack) f) }
     ensures returned { IfErr result (λ back. R.runs rack back.rack) }
 {
     let rest = match bring_to_rest(alloc, rack) {

@@ -8,9 +8,10 @@ ghost use Rattle.slice_rack.specs.Slices.{seat_of, sectors_of as slice_sectors};
 ghost use Rattle.array_image.specs.States.{current_places};
 ghost use Rattle.commit_log.specs.View.{names};
 ghost use Rattle.commit_log.specs.Phases.{AreLogs};
-ghost use Rattle.array_model.specs.View.{View, IsArray, sectors_of};
+ghost use Rattle.array_model.specs.View.{View, IsArray, IsSameArray, sectors_of};
 ghost use Rattle.lvm_group.specs.Shown.{total};
 ghost use Rattle.raid_rack.specs.Agreeing.{MakesAgree};
+ghost use Rattle.raid_rack.specs.Book.{IsSameBook};
 ghost use Rattle.raid_rack.specs.Moves.{AreMarked, Mends};
 ghost use Rattle.raid_rack.specs.RaidRack.{IsFit, IsRunning, SliceRuns, arrays_in, raid_in, raid_seen, refused_in, slices_in, slices_seen};
 ghost use Rattle.commit_log.specs.Opening.{ReplayCall};
@@ -110,6 +111,9 @@ pub(crate) fn make_rack<R: Rack>(members: Members<R>, seconds: u64) -> RaidRack<
     ensures made { (raid_in result).state.made ≡ members.state.made }
     ensures joined { (raid_in result).state.joined ≡ members.state.joined }
     ensures extent { (raid_in result).state.extent ≡ members.state.extent }
+    ensures book { IsSameBook members.state (raid_in result).state }
+    // The arrays are those that were opened, whomever they have lost.
+    ensures arrays { (n : ℕ) (v : View) → slice_get members.checked.arrays.items n ≡ Some v → IsSameArray v ((raid_in result).arrays n) }
     ensures small { total (λ n. sectors_of ((raid_in result).arrays n)) members.state.made < 2 ^ 52 }
     // Where no disk refuses a call, the absent places are marked missing, and no others, and no sector is spent unless numbers are used up.
     ensures marks { IsUnfaulted (R.seen (below_of members.slices)) (R.seen (below_of (slices_in result)))

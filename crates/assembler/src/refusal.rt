@@ -19,7 +19,8 @@ pub enum Refusal {
         /// How many.
         count: u32,
     },
-    /// A part of a current drive's disk isn't valid: of the lowest such place the first one.
+    /// A part of a current drive's disk isn't valid, and its reads succeeded: of the lowest such place the first one. A disk that refuses a call
+    /// is absent, and called damaged only where its log was read before, and no other refusal applies to those that are left.
     Damaged {
         /// The drive's place.
         place: u32,

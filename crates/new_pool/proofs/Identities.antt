@@ -6,6 +6,11 @@ use Rattle.std.specs.List.{range_with_len, position_or_len}
 use Rattle.std.proofs.lemmas.Bool.{cases_Bool, cases_lt}
 use Rattle.std.proofs.lemmas.Slice.Eq.{bytes_eq-Decides}
 use Rattle.rack.specs.Seen.{Image}
+use Rattle.shr_base.specs.Blocks.{bytes_at, number_at}
+use Rattle.gpt_table.specs.declared.Table.{Table}
+use Rattle.gpt_table.specs.declared.TableCopy.TheVariants.{Primary}
+use Rattle.gpt_table.proofs.Tables.{first_says}
+use Rattle.pool_state.specs.declared.contents.Copied.{Copied}
 use Rattle.pool_state.specs.declared.contents.Drive.{Drive}
 use Rattle.pool_state.specs.declared.contents.State.{State}
 use Rattle.pool_state.specs.Sector.{decoded}
@@ -15,12 +20,13 @@ use Rattle.array_image.specs.States.{epoch_of, is_current}
 use Rattle.pool_image.specs.Disks.{Candidate, Disks, Identities, candidate, id_by, identities_of, newest, seat_of, stands_for}
 use Rattle.pool_format.specs.declared.Birth.{Birth}
 use Rattle.pool_format.specs.declared.planning.NewPool.{NewPool}
-use Rattle.pool_format.specs.Parts.{new_drive, new_state}
+use Rattle.pool_format.specs.Drives.{no_state}
+use Rattle.pool_format.specs.Parts.{new_drive, new_state, new_table}
 use Rattle.array_core.proofs.Opened.{current_below}
 use Rattle.pool_format.proofs.Founded.{drive_at, drive_current, state_drives}
 use Rattle.pool_format.proofs.Lists.{no_element}
 use Rattle.pool_format.proofs.Opening.{foremost_is, foremost_there}
-use Rattle.new_pool.specs.Contents.{IsNewPool}
+use Rattle.new_pool.specs.Contents.{IsNewPool, SaysNone}
 
 -- ---- the first of a range that passes
 
@@ -57,6 +63,11 @@ position_ranged q f a (suc n) d least low here none = elim (cases_lt a d) [
 
 -- ---- a new pool
 
+-- zeros say no copy
+pub zeros_say_none : SaysNone no_state
+unfolding number_at bytes_at
+zeros_say_none = refl
+
 module _ (plan : NewPool) (birth : Birth) (disks : Disks) (c : Image) (is : IsNewPool plan birth disks c) where
   abbrev s : State
   s = new_state plan birth
@@ -64,12 +75,32 @@ module _ (plan : NewPool) (birth : Birth) (disks : Disks) (c : Image) (is : IsNe
   abbrev ids : Identities
   ids = identities_of disks c
 
-  -- each disk has the state, and is the place of its number by that
-  pub copied_at : (d : ℕ) → d < disks.count → (ids d).copied ≡ Some (record { state = s; own = d })
-  copied_at d low =
-      let wide = is.logs d low in
-      ap (λ b. if b then result_ok (decoded (c d state_sector)) else None) (lt-ltb state_sector (disks.sectors d) (omega (arith, wide)))
-      ∙ ap result_ok (is.drives d low).state.says
+  -- the first disks have the state
+  wide : (d : ℕ) → d < disks.count → nat_lt state_sector (disks.sectors d) ≡ true
+  wide d low = let room = is.logs d low in lt-ltb state_sector (disks.sectors d) (omega (arith, room))
+
+  pub copied_at : (d : ℕ) → d < is.said → d < disks.count → (ids d).copied ≡ Some (record { state = s; own = d })
+  copied_at d early low = ap (λ b. if b then result_ok (decoded (c d state_sector)) else None) (wide d low) ∙ ap result_ok (is.copies d early low).says
+
+  -- the others have none
+  pub silent_at : (d : ℕ) → is.said ≤ d → d < disks.count → (ids d).copied ≡ None
+  silent_at d late low =
+      ap (λ b. if b then result_ok (decoded (c d state_sector)) else None) (wide d low)
+      ∙ ap (λ v. result_ok (decoded v)) (is.silent d late low) ∙ zeros_say_none
+
+  -- all that a disk's copy can be
+  pub copy_here : (d : ℕ) (copy : Copied) → d < disks.count → (ids d).copied ≡ Some copy → copy.state ≡ s
+  copy_here d copy low here = elim (cases_lt d is.said) [
+    | inl early ↦ some_copy (sym here ∙ copied_at d early low)
+    | inr late ↦ absurd (no_element (sym (silent_at d late low) ∙ here))
+  ]
+    where
+      some_copy : {x y : Copied} → Some x ≡ Some y → x.state ≡ y.state
+      some_copy same = (cc)
+
+  -- each disk has its table
+  pub table_said : (d : ℕ) → d < disks.count → (ids d).table ≡ Some (new_table plan birth d (disks.sectors d))
+  table_said d low = first_says (disks.sectors d) (c d) (new_table plan birth d (disks.sectors d)) ((is.drives d low).table.copies Primary).says
 
   low_drive : (d : ℕ) → d < disks.count → d < length plan.units.items
   low_drive d low = subst (λ n. d < n) is.count low
@@ -78,10 +109,10 @@ module _ (plan : NewPool) (birth : Birth) (disks : Disks) (c : Image) (is : IsNe
   newest_is =
       let two = is.is_plan.least in
       let many = is.count in
-      let some = foremost_there epoch_of (λ d. (ids d).copied) 0 disks.count 0 (record { state = s; own = 0 }) (omega arith) (omega (arith, two, many)) (copied_at 0 (omega (arith, two, many))) in
+      let some = foremost_there epoch_of (λ d. (ids d).copied) 0 disks.count 0 (record { state = s; own = 0 }) (omega arith) (omega (arith, two, many)) (copied_at 0 is.some (omega (arith, two, many))) in
       let one = foremost_is epoch_of (λ d. (ids d).copied) 0 disks.count some.0 some.1 in
       let low : one.0 < disks.count = let high = one.2 in omega (arith, high) in
-      ap (option_map (λ copy. copy.state)) (some.1 ∙ sym one.3 ∙ copied_at one.0 low)
+      ap (option_map (λ copy. copy.state)) some.1 ∙ ap Some (copy_here one.0 some.0 low one.3)
 
   own_id : (j d : ℕ) → j < disks.count → d < disks.count → j < d → bytes_eq (drive_id birth.pool j) (drive_id birth.pool d) ≡ false
   own_id j d low_j low_d less = elim (cases_Bool (bytes_eq (drive_id birth.pool j) (drive_id birth.pool d))) [
@@ -89,11 +120,20 @@ module _ (plan : NewPool) (birth : Birth) (disks : Disks) (c : Image) (is : IsNe
     | inr other ↦ other
   ]
 
+  -- each disk is named as the drive of its number, by its copy or by its table
+  named : (d : ℕ) → d < disks.count → id_by (ids d).table (ids d).copied ≡ Some (drive_id birth.pool d)
+  named d low = elim (cases_lt d is.said) [
+    | inl early ↦
+        ap (id_by (ids d).table) (copied_at d early low)
+        ∙ ap (option_map (λ (drive : Drive). drive.id.0)) (drive_at plan birth is.is_plan d (low_drive d low))
+    | inr late ↦
+        ap (id_by (ids d).table) (silent_at d late low)
+        ∙ ap (option_map (λ (t : Table). t.disk_id.0)) (table_said d low)
+  ]
+
   pub stands_at : (d : ℕ) → d < disks.count → stands_for s (ids d) ≡ Some d
   stands_at d low =
-      let many = is.count in
-      ap (λ o. option_and_then (λ id. position (λ (drive : Drive). bytes_eq drive.id.0 id) s.drives.items) (id_by (ids d).table o)) (copied_at d low)
-      ∙ ap (λ o. option_and_then (λ id. position (λ (drive : Drive). bytes_eq drive.id.0 id) s.drives.items) (option_map (λ (drive : Drive). drive.id.0) o)) (drive_at plan birth is.is_plan d (low_drive d low))
+      ap (option_and_then (λ id. position (λ (drive : Drive). bytes_eq drive.id.0 id) s.drives.items)) (named d low)
       ∙ position_ranged (λ drive. bytes_eq drive.id.0 (drive_id birth.pool d)) (λ place. new_drive birth place (slice_index plan.units.items place)) 0 (length plan.units.items) d (omega arith)
       (let inside = low_drive d low in omega (arith, inside)) ((bytes_eq-Decides (drive_id birth.pool d) (drive_id birth.pool d)).1 refl)
       (λ j above below. own_id j d (omega (arith, below, low)) low below)

@@ -3,12 +3,18 @@ use Rattle.std.proofs.Common.{◌≡◌, ℕ, zero, suc, ◌+◌, ◌-◌, ◌<�
 use Rattle.std.specs.Option.{option_map_or, option_or}
 use Rattle.std.specs.List.{range_with_len}
 use Rattle.std.proofs.Math.Nat.{mul-le-mul_right}
+use Rattle.std.specs.Result.{result_ok}
+use Rattle.std.proofs.lemmas.Bool.{cases_lt}
 use Rattle.std.proofs.lemmas.List.{length-map}
 use Rattle.rack.specs.Seen.{Image}
+use Rattle.pool_state.specs.declared.contents.Copied.{Copied}
 use Rattle.pool_state.specs.declared.contents.State.{State}
+use Rattle.pool_state.specs.Sector.{decoded}
+use Rattle.array_image.specs.Foremost.{foremost}
 use Rattle.array_image.specs.Arrays.{Member, Shape, member_in, shape_by, value_by}
 use Rattle.array_image.specs.Held.{Among}
-use Rattle.array_image.specs.Places.{data_sector, member_slice}
+use Rattle.array_image.specs.Places.{data_sector, member_slice, state_sector}
+use Rattle.array_image.specs.States.{epoch_of}
 use Rattle.array_image.specs.Supers.{is_unclean}
 use Rattle.lvm_group.specs.Founding.{AreSized, HoldNew}
 use Rattle.lvm_group.specs.Group.{linear_in}
@@ -17,9 +23,10 @@ use Rattle.lvm_group.specs.Opening.{Means}
 use Rattle.lvm_group.specs.Runs.{Linear, array_of, sector_of, sectors_in}
 use Rattle.lvm_group.proofs.NewMeaning.{spot_inside}
 use Rattle.lvm_group.proofs.Written.{find_none, range_below}
-use Rattle.pool_image.specs.Disks.{Disks}
+use Rattle.pool_image.specs.Disks.{Disks, identities_of}
 use Rattle.pool_image.specs.Drives.{Found, found, slices_of}
-use Rattle.pool_image.specs.Meaning.{Volume, absent, array_sectors, arrays_held, arrays_of, bad_volume, dirty_degraded, first_damaged, is_dirty_degraded, is_too_few, joined_arrays, lacking_of, meaning, no_pool, refusal_of, refused_at, refused_by, shape_of, too_few, truth_of, two_pools, volume_by, volumes_of}
+use Rattle.pool_image.specs.Meaning.{Refusal, Volume, absent, array_sectors, arrays_held, arrays_of, bad_volume, damaged, dirty_degraded, first_damaged, in_state, is_dirty_degraded, is_too_few, joined_arrays, lacking_of, meaning, no_pool, refusal_of, refused_at, refused_by, shape_of, too_few, truth_of, two_pools, volume_by, volumes_of}
+use Rattle.pool_image.specs.Replay.{standing, standing_by}
 use Rattle.pool_image.specs.Volumes.{Arrays, first_bad, group_in}
 use Rattle.pool_image.proofs.Groups.{AreWholeArrays, bad_alike, group_alike}
 use Rattle.pool_image.proofs.Parts.{held_in}
@@ -32,11 +39,11 @@ use Rattle.pool_format.specs.Parts.{new_state, new_super}
 use Rattle.pool_format.proofs.Lists.{got}
 use Rattle.pool_format.proofs.Making.{size_listed}
 use Rattle.pool_format.proofs.Units.{extent_bounds}
-use Rattle.new_pool.specs.Contents.{IsNewPool, MeanZeros}
+use Rattle.new_pool.specs.Contents.{IsNewPool, MeanNoneOrZeros, MeanZeros, SaysNone, partly, zeros}
 use Rattle.new_pool.proofs.Founds.{found_is, shown, stands}
 use Rattle.new_pool.proofs.Sound.{value_at_sized}
 use Rattle.new_pool.proofs.Truths.{array_is}
-use Rattle.new_pool.proofs.Undamaged.{no_other_pool, none_absent, none_damaged}
+use Rattle.new_pool.proofs.Undamaged.{no_other_pool, none_absent, none_damaged, one_damaged}
 use Rattle.new_pool.proofs.Values.{first, is_member, none_lacks, sectors_now, shape, shape_is, value_now}
 
 -- a member of a range is that of a number
@@ -141,6 +148,25 @@ module _ (plan : NewPool) (birth : Birth) (disks : Disks) (c : Image) (is : IsNe
       ap (λ b. if b then arrays_held f n t else []) (lt-ltb t (array_sectors f n) (omega (arith, before, room)))
       ∙ value_now plan birth disks c is n a.0 a.1 t (omega (arith, before, room, sectors))
 
+  -- ---- what refuses it
+
+  refused_so : refusal_of disks c ≡ refused_by f
+  unfolding refusal_of
+  refused_so =
+      ap (λ o. option_map_or (refused_at disks c) o (Some no_pool)) (stands plan birth disks c is)
+      ∙ ap (λ b. if b then Some two_pools else option_map_or refused_by (found disks c) (Some no_pool)) (no_other_pool plan birth disks c is)
+      ∙ ap (λ o. option_map_or refused_by o (Some no_pool)) (found_is plan birth disks c is)
+
+  -- a drive that has no copy yet
+  pub state_refused : is.said < disks.count → refusal_of disks c ≡ Some (damaged is.said in_state)
+  unfolding refused_by
+  state_refused some =
+      let few : Option Refusal = option_or (option_map too_few (find (is_too_few f) (arrays_of f)))
+      (option_or (option_map dirty_degraded (find (is_dirty_degraded f) (arrays_of f))) (option_map bad_volume (first_bad (joined_arrays f)))) in
+      refused_so
+      ∙ ap (λ m. if nat_lt 1 m then Some (absent m) else option_or (first_damaged f) few) (none_absent plan birth disks c is)
+      ∙ ap (λ o. option_or o few) (one_damaged plan birth disks c is some)
+
   abbrev pub line : Linear
   line = new_volume plan.extent (extents_of plan)
 
@@ -160,25 +186,20 @@ module _ (plan : NewPool) (birth : Birth) (disks : Disks) (c : Image) (is : IsNe
 
     -- ---- what it means
 
-    unrefused : refused_by f ≡ None
+    unrefused : disks.count ≤ is.said → refused_by f ≡ None
     unfolding refused_by
-    unrefused =
+    unrefused all =
         let bad : Option ℕ → _ = λ o. option_map bad_volume o in
         let dirty : Option ℕ → _ = λ o. option_or (option_map dirty_degraded o) (bad (first_bad arrays)) in
         let few : Option ℕ → _ = λ o. option_or (option_map too_few o) (dirty (find (is_dirty_degraded f) (arrays_of f))) in
         ap (λ m. if nat_lt 1 m then Some (absent m) else option_or (first_damaged f) (few (find (is_too_few f) (arrays_of f)))) (none_absent plan birth disks c is)
-        ∙ ap (λ o. option_or o (few (find (is_too_few f) (arrays_of f)))) (none_damaged plan birth disks c is)
+        ∙ ap (λ o. option_or o (few (find (is_too_few f) (arrays_of f)))) (none_damaged plan birth disks c is all)
         ∙ ap few none_few
         ∙ ap dirty none_dirty
         ∙ ap bad none_bad
 
-    not_refused : refusal_of disks c ≡ None
-    unfolding refusal_of
-    not_refused =
-        ap (λ o. option_map_or (refused_at disks c) o (Some no_pool)) (stands plan birth disks c is)
-        ∙ ap (λ b. if b then Some two_pools else option_map_or refused_by (found disks c) (Some no_pool)) (no_other_pool plan birth disks c is)
-        ∙ ap (λ o. option_map_or refused_by o (Some no_pool)) (found_is plan birth disks c is)
-        ∙ unrefused
+    not_refused : disks.count ≤ is.said → refusal_of disks c ≡ None
+    not_refused all = refused_so ∙ unrefused all
 
     abbrev volume : Volume
     volume = volume_by line (arrays_held f)
@@ -188,10 +209,10 @@ module _ (plan : NewPool) (birth : Birth) (disks : Disks) (c : Image) (is : IsNe
         ap (λ o. option_map_or (λ g. volume_by (linear_in s.joined g) (arrays_held f) ∷ []) o []) group_is
         ∙ ap (λ (l : Linear). volume_by l (arrays_held f) ∷ []) (sym means.volume)
 
-    meant : meaning disks c ≡ Some (volume ∷ [])
+    meant : disks.count ≤ is.said → meaning disks c ≡ Some (volume ∷ [])
     unfolding meaning
-    meant =
-        ap (λ o. option_map_or (λ why. None) o (option_map volumes_of (found disks c))) not_refused
+    meant all =
+        ap (λ o. option_map_or (λ why. None) o (option_map volumes_of (found disks c))) (not_refused all)
         ∙ ap (option_map volumes_of) (found_is plan birth disks c is)
         ∙ ap Some volumes_are
 
@@ -206,5 +227,28 @@ module _ (plan : NewPool) (birth : Birth) (disks : Disks) (c : Image) (is : IsNe
         ∙ value_now plan birth disks c is (array_of line t) a.0 a.1 (sector_of line t) (omega (arith, within, sectors))
         ∙ read.blank (array_of line t) (sector_of line t) spot.least
 
-    pub zeros_meant : MeanZeros disks c (sectors_in line)
-    zeros_meant = record { volume = volume; meant = meant; size = refl; zeros = all_zeros }
+    pub zeros_meant : disks.count ≤ is.said → MeanZeros disks c (sectors_in line)
+    zeros_meant all = record { volume = volume; meant = meant all; size = refl; zeros = all_zeros }
+
+    -- all copies stand, or one is wanting
+    pub new_meant : MeanNoneOrZeros disks c (sectors_in line)
+    new_meant = elim (cases_lt is.said disks.count) [ inl some ↦ partly is.said some (state_refused some) | inr all ↦ zeros (zeros_meant all) ]
+
+-- ---- no copies
+
+none_foremost : (g : ℕ → Option Copied) (a n : ℕ) → ((d : ℕ) → d < a + n → g d ≡ None) → foremost epoch_of (map g (range_with_len a n)) ≡ None
+unfolding foremost
+none_foremost g a zero none = refl
+none_foremost g a (suc n) none =
+    ap (λ o. foremost epoch_of (o ∷ map g (range_with_len (a + 1) n))) (none a (omega arith)) ∙ none_foremost g (a + 1) n (λ d low. none d (omega (arith, low)))
+
+-- disks of which none says a state show no pool
+pub none_meant : (disks : Disks) (c : Image) → ((d : ℕ) → d < disks.count → SaysNone (c d state_sector)) → refusal_of disks c ≡ Some no_pool
+unfolding refusal_of standing
+none_meant disks c none =
+    ap (λ o. option_map_or (refused_at disks c) (option_map (standing_by disks c) (option_map (λ (copy : Copied). copy.state) o)) (Some no_pool))
+    (none_foremost (λ d. (identities_of disks c d).copied) 0 disks.count (λ d low. of d (omega (arith, low)) (nat_lt state_sector (disks.sectors d))))
+  where
+    of : (d : ℕ) → d < disks.count → (b : Bool) → (if b then result_ok (decoded (c d state_sector)) else None) ≡ None
+    of d low true = none d low
+    of d low false = refl

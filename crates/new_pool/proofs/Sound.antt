@@ -10,7 +10,6 @@ use Rattle.std.proofs.lemmas.Option.{none-some, slice_get-get_or}
 use Rattle.parity.specs.Xor.{xor_all, zeros}
 use Rattle.rack.specs.Seen.{Image}
 use Rattle.md_super.specs.declared.superblock.Super.{Super}
-use Rattle.pool_state.specs.declared.contents.Copied.{Copied}
 use Rattle.pool_state.specs.declared.contents.State.{State}
 use Rattle.array_image.specs.Places.{data_sector, member_slice, super_sector}
 use Rattle.array_image.specs.States.{is_current}
@@ -41,7 +40,7 @@ use Rattle.pool_format.proofs.Lists.{got}
 use Rattle.pool_format.proofs.Roles.{named_at, role_low, role_spare}
 use Rattle.pool_format.proofs.Supers.{roles_ok}
 use Rattle.new_pool.specs.Contents.{IsNewPool}
-use Rattle.new_pool.proofs.Identities.{copied_at}
+use Rattle.new_pool.proofs.Identities.{copy_here}
 use Rattle.new_pool.proofs.Founds.{shown}
 use Rattle.new_pool.proofs.Rows.{columns, copies_agree, parity_agrees}
 use Rattle.new_pool.proofs.Truths.{IsNewTruth, array_is, extent_at, from, low_array, member_low, no_super, slice_at, some_one, super_from, truth_at, truth_here}
@@ -288,12 +287,6 @@ module _ (plan : NewPool) (birth : Birth) (disks : Disks) (c : Image) (is : IsNe
   abbrev pub pool : Found
   pool = shown plan birth disks c is
 
-  copy_is : (d : ℕ) (copy : Copied) → d < disks.count → (identities_of disks c d).copied ≡ Some copy → copy.state ≡ new_state plan birth
-  copy_is d copy low here = some_copy (sym here ∙ copied_at plan birth disks c is d low)
-    where
-      some_copy : {x y : Copied} → Some x ≡ Some y → x.state ≡ y.state
-      some_copy same = (cc)
-
   -- what a number below those of the arrays is
   array_got : (n : ℕ) → n < (new_state plan birth).made → (a : NewArray) × (slice_get plan.arrays.items n ≡ Some a)
   array_got n low = got plan.arrays.items n low
@@ -305,9 +298,9 @@ module _ (plan : NewPool) (birth : Birth) (disks : Disks) (c : Image) (is : IsNe
         let one = new_array plan birth disks c is n a.0 a.1 in
         (one.0, (one.1).truth_is, (one.1).sound);
     joined = λ no_plan. refl;
-    copies = λ d copy low here same. copy_is d copy low here;
+    copies = λ d copy low here same. copy_here plan birth disks c is d copy low here;
     epochs = λ place d copy seated here.
-        ap (λ (t : State). t.epoch) (copy_is d copy (seat_inside (new_state plan birth) disks (identities_of disks c) place d seated) here);
+        ap (λ (t : State). t.epoch) (copy_here plan birth disks c is d copy (seat_inside (new_state plan birth) disks (identities_of disks c) place d seated) here);
   }
 
   -- each array's truth is the superblock of a member of it

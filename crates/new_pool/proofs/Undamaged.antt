@@ -1,26 +1,25 @@
 -- Each drive of a new pool is there, and no part of it is damaged.
-use Rattle.std.proofs.Common.{◌≡◌, ℕ, zero, suc, ◌+◌, ◌-◌, ◌<◌, ◌==◌, ◌&&◌, ◌||◌, not, nat_lt, bytes_eq, Bool, true, false, is_none, is_some, List, [], ◌∷◌, count_by, length, slice_get, if◌then◌else◌, Option, Some, None, option_map, unwrap_or, refl, ap, subst, ◌∙◌, lt-ltb, eq-eqb, arith}
+use Rattle.std.proofs.Common.{◌≡◌, ℕ, zero, suc, ◌+◌, ◌-◌, ◌<◌, ◌≤◌, ◌==◌, ◌&&◌, ◌||◌, not, nat_lt, bytes_eq, Bool, true, false, is_none, is_some, List, [], ◌∷◌, count_by, filter, find, length, slice_get, if◌then◌else◌, Option, Some, None, option_map, unwrap_or, refl, sym, ap, subst, ◌∙◌, inl, inr, lt-ltb, eq-eqb, arith}
 use Rattle.std.specs.Option.{option_and_then, option_map_or}
 use Rattle.std.specs.List.{list_all, list_any, range_with_len}
-use Rattle.std.proofs.lemmas.Bool.{and_from, eqb-true, or_right}
+use Rattle.std.proofs.lemmas.Bool.{and_from, cases_Bool, cases_lt, eqb-true, or_right}
 use Rattle.std.proofs.lemmas.List.Sums.{sum_by-cons}
 use Rattle.std.proofs.lemmas.Slice.Eq.{bytes_eq-Decides}
 use Rattle.rack.specs.Seen.{Image}
 use Rattle.gpt_table.specs.declared.Entry.{Entry}
 use Rattle.gpt_table.specs.declared.Table.{Table}
-use Rattle.gpt_table.specs.declared.TableCopy.TheVariants.{Primary}
-use Rattle.gpt_table.proofs.Tables.{first_says}
 use Rattle.md_super.specs.declared.superblock.Super.{Super}
 use Rattle.pool_state.specs.declared.contents.Copied.{Copied}
 use Rattle.pool_state.specs.declared.contents.Drive.{Drive}
 use Rattle.pool_state.specs.declared.contents.State.{State}
 use Rattle.array_image.specs.Places.{data_sector, drive_id, log_kind, log_sectors, log_slice, raid_kind, state_sector}
 use Rattle.array_image.specs.Record.{gate_of, gate_sector, is_bad_gate, is_bad_log, is_there}
-use Rattle.array_image.specs.States.{current_places}
+use Rattle.array_image.specs.States.{current_places, is_current}
 use Rattle.array_image.specs.Supers.{is_named}
 use Rattle.commit_log.specs.View.{names}
 use Rattle.commit_log.proofs.Amid.{place_of_log, slice_of_log}
 use Rattle.commit_log.proofs.Deciding.{names_first, names_later}
+use Rattle.raid_rack.proofs.Added.{names_current}
 use Rattle.pool_image.specs.Disks.{Disks, identities_of}
 use Rattle.pool_image.specs.Replay.{Extent}
 use Rattle.pool_image.specs.Drives.{Found, drive_sector, end_of, extent_of, slices_of}
@@ -32,12 +31,12 @@ use Rattle.pool_format.specs.declared.planning.NewPool.{NewPool}
 use Rattle.pool_format.specs.Drives.{first_gate}
 use Rattle.pool_format.specs.Parts.{entries_from, entry_of, new_state, new_super, new_table}
 use Rattle.pool_format.specs.Plan.{has}
-use Rattle.pool_format.proofs.Founded.{drive_at}
+use Rattle.pool_format.proofs.Founded.{drive_at, drive_current, state_drives}
 use Rattle.pool_format.proofs.Lists.{got, no_element}
 use Rattle.pool_format.proofs.Opening.{members_few}
 use Rattle.pool_format.proofs.Roles.{named_at}
 use Rattle.new_pool.specs.Contents.{IsNewPool}
-use Rattle.new_pool.proofs.Identities.{copied_at, seat_at}
+use Rattle.new_pool.proofs.Identities.{copied_at, seat_at, silent_at, table_said}
 use Rattle.new_pool.proofs.Founds.{closed_gate, current_low, good_log, logs, none_found, shown}
 use Rattle.new_pool.proofs.Sound.{super_at as super_there}
 use Rattle.new_pool.proofs.Truths.{array_is, extent_at}
@@ -61,6 +60,27 @@ all_pass : (test : ℕ → Bool) (a k : ℕ) → ((n : ℕ) → n < a + k → te
 all_pass test a zero each = refl
 all_pass test a (suc k) each =
     ap (λ b. b && list_all test (range_with_len (a + 1) k)) (each a (omega arith)) ∙ all_pass test (a + 1) k (λ n low. each n (omega (arith, low)))
+
+-- the first one that passes, of those of a row that are kept
+first_found : (keep test : ℕ → Bool) (a n k : ℕ) → a ≤ k → k < a + n → keep k ≡ true → test k ≡ true → ((j : ℕ) → a ≤ j → j < k → keep j ≡ true → test j ≡ false)
+    → find test (filter keep (range_with_len a n)) ≡ Some k
+first_found keep test a zero k least low kept here none = absurd (omega (arith, least, low))
+first_found keep test a (suc n) k least low kept here none = elim (cases_lt a k) [
+  | inl more ↦
+      let rest = first_found keep test (a + 1) n k (omega (arith, more)) (omega (arith, low)) kept here (λ j above below. none j (omega (arith, above)) below) in
+      elim (cases_Bool (keep a)) [
+        | inl also ↦
+            ap (λ b. find test (if b then a ∷ filter keep (range_with_len (a + 1) n) else filter keep (range_with_len (a + 1) n))) also
+            ∙ ap (λ b. if b then Some a else find test (filter keep (range_with_len (a + 1) n))) (none a (omega arith) more also)
+            ∙ rest
+        | inr apart ↦ ap (λ b. find test (if b then a ∷ filter keep (range_with_len (a + 1) n) else filter keep (range_with_len (a + 1) n))) apart ∙ rest
+      ]
+  | inr less ↦
+      let same : k ≡ a = omega (arith, least, less) in
+      ap (λ b. find test (if b then a ∷ filter keep (range_with_len (a + 1) n) else filter keep (range_with_len (a + 1) n))) (ap keep (sym same) ∙ kept)
+      ∙ ap (λ b. if b then Some a else find test (filter keep (range_with_len (a + 1) n))) (ap test (sym same) ∙ here)
+      ∙ ap Some (sym same)
+]
 
 same_bytes : (xs : List ℕ) → bytes_eq xs xs ≡ true
 same_bytes xs = (bytes_eq-Decides xs xs).1 refl
@@ -125,14 +145,17 @@ module _ (plan : NewPool) (birth : Birth) (disks : Disks) (c : Image) (is : IsNe
   pub no_other_pool : has_other_pool disks f.before ≡ false
   no_other_pool =
       none_any (λ d. option_map_or (λ (copy : Copied). not (bytes_eq copy.state.pool.0 birth.pool)) (identities_of disks c d).copied false) 0 disks.count
-      (λ d low.
-      ap (λ o. option_map_or (λ (copy : Copied). not (bytes_eq copy.state.pool.0 birth.pool)) o false) (copied_at plan birth disks c is d (omega (arith, low)))
-      ∙ ap not (same_bytes birth.pool))
+      (λ d low. of d (omega (arith, low)))
+    where
+      of : (d : ℕ) → d < disks.count → option_map_or (λ (copy : Copied). not (bytes_eq copy.state.pool.0 birth.pool)) (identities_of disks c d).copied false ≡ false
+      of d low = elim (cases_lt d is.said) [
+        | inl early ↦
+            ap (λ o. option_map_or (λ (copy : Copied). not (bytes_eq copy.state.pool.0 birth.pool)) o false) (copied_at plan birth disks c is d early low)
+            ∙ ap not (same_bytes birth.pool)
+        | inr late ↦ ap (λ o. option_map_or (λ (copy : Copied). not (bytes_eq copy.state.pool.0 birth.pool)) o false) (silent_at plan birth disks c is d late low)
+      ]
 
   -- ---- its table
-
-  table_there : (p : ℕ) → p < disks.count → (identities_of disks c p).table ≡ Some (table_of p)
-  table_there p low = first_says (disks.sectors p) (c p) (table_of p) ((is.drives p low).table.copies Primary).says
 
   log_there : (p : ℕ) → p < disks.count → has_slice_of f (disks.sectors p) (table_of p) 0 ≡ true
   unfolding extent_of
@@ -187,7 +210,7 @@ module _ (plan : NewPool) (birth : Birth) (disks : Disks) (c : Image) (is : IsNe
 
   table_good : (p : ℕ) → p < disks.count → has_table f p p ≡ true
   table_good p low =
-      ap (λ o. option_map_or (is_table f p (disks.sectors p)) o false) (table_there p low)
+      ap (λ o. option_map_or (is_table f p (disks.sectors p)) o false) (table_said plan birth disks c is p low)
       ∙ and_from (option_map_or (bytes_eq (drive_id birth.pool p)) (option_map (λ (d : Drive). d.id.0) (slice_get s.drives.items p)) false) _
       (ap (λ o. option_map_or (bytes_eq (drive_id birth.pool p)) (option_map (λ (d : Drive). d.id.0) o) false) (drive_at plan birth is.is_plan p (low_drive p low))
       ∙ same_bytes (drive_id birth.pool p))
@@ -226,18 +249,46 @@ module _ (plan : NewPool) (birth : Birth) (disks : Disks) (c : Image) (is : IsNe
       all_pass (λ n. not (is_member f n p) || is_some (super_at f n p)) 0 s.made
       (λ n less. let a = got plan.arrays.items n (omega (arith, less)) in super_or n a.0 a.1 p low)
 
-  undamaged : (p : ℕ) → names (current_places s) p ≡ true → damage_of f p ≡ None
+  -- a drive that has its copy is whole
+  undamaged : (p : ℕ) → p < is.said → names (current_places s) p ≡ true → damage_of f p ≡ None
   unfolding damage_of
-  undamaged p among =
+  undamaged p early among =
       let low = current_low plan birth disks c is p among in
       ap (option_and_then (damage_on f p)) (seated p among)
       ∙ ap (λ b. if not b then Some in_table else if is_none (identities_of disks c p).copied then Some in_state else if not (has_log f p) then Some in_log else if not (has_supers f p) then Some in_superblock else None)
       (table_good p low)
-      ∙ ap (λ o. if is_none o then Some in_state else if not (has_log f p) then Some in_log else if not (has_supers f p) then Some in_superblock else None) (copied_at plan birth disks c is p low)
+      ∙ ap (λ o. if is_none o then Some in_state else if not (has_log f p) then Some in_log else if not (has_supers f p) then Some in_superblock else None) (copied_at plan birth disks c is p early low)
       ∙ ap (λ b. if not b then Some in_log else if not (has_supers f p) then Some in_superblock else None) (log_good p among)
       ∙ ap (λ b. if not b then Some in_superblock else None) (supers_good p low)
 
-  pub none_damaged : first_damaged f ≡ None
-  none_damaged =
+  -- one that has none yet lacks that part alone
+  stateless : (p : ℕ) → is.said ≤ p → names (current_places s) p ≡ true → damage_of f p ≡ Some in_state
+  unfolding damage_of
+  stateless p late among =
+      let low = current_low plan birth disks c is p among in
+      ap (option_and_then (damage_on f p)) (seated p among)
+      ∙ ap (λ b. if not b then Some in_table else if is_none (identities_of disks c p).copied then Some in_state else if not (has_log f p) then Some in_log else if not (has_supers f p) then Some in_superblock else None)
+      (table_good p low)
+      ∙ ap (λ o. if is_none o then Some in_state else if not (has_log f p) then Some in_log else if not (has_supers f p) then Some in_superblock else None) (silent_at plan birth disks c is p late low)
+
+  pub none_damaged : disks.count ≤ is.said → first_damaged f ≡ None
+  none_damaged all =
       ap (option_and_then (λ place. option_map (damaged place) (damage_of f place)))
-      (none_found (λ place. is_some (damage_of f place)) (current_places s) (λ p among. ap is_some (undamaged p among)))
+      (none_found (λ place. is_some (damage_of f place)) (current_places s)
+      (λ p among. let low = current_low plan birth disks c is p among in ap is_some (undamaged p (omega (arith, all, low)) among)))
+
+  pub one_damaged : is.said < disks.count → first_damaged f ≡ Some (damaged is.said in_state)
+  unfolding current_places
+  one_damaged some =
+      let first : find (λ place. is_some (damage_of f place)) (current_places s) ≡ Some is.said =
+      first_found (is_current s) (λ place. is_some (damage_of f place)) 0 (length s.drives.items) is.said (omega arith)
+      (let drives = state_drives plan birth in let low = low_drive is.said some in omega (arith, drives, low)) now (ap is_some here)
+      (λ j least below current. ap is_some (undamaged j below (names_current s j ∙ current))) in
+      ap (option_and_then (λ place. option_map (damaged place) (damage_of f place))) first
+      ∙ ap (option_map (damaged is.said)) here
+    where
+      now : is_current s is.said ≡ true
+      now = drive_current plan birth is.is_plan is.said (low_drive is.said some)
+
+      here : damage_of f is.said ≡ Some in_state
+      here = stateless is.said (omega arith) (names_current s is.said ∙ now)

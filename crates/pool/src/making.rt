@@ -7,18 +7,21 @@ ghost use Rattle.array_image.specs.States.{is_current};
 ghost use Rattle.pool_state.specs.Valid.{is_extent};
 ghost use Rattle.layer_plan.specs.declared.PlanError.{PlanError};
 ghost use Rattle.pool_check.specs.Settling.{IsSettled};
+ghost use Rattle.pool_image.specs.Alike.{MeansTheSame};
+ghost use Rattle.pool_image.specs.Disks.{disks_of};
 ghost use Rattle.pool_image.specs.Drives.{Found};
-ghost use Rattle.pool_scan.specs.Scanning.{IsUnfaulted};
+ghost use Rattle.pool_scan.specs.Scanning.{IsUnfaulted, now_in};
 ghost use Rattle.pool_rest.specs.Resting.{WritesDrives};
+ghost use Rattle.assembler.specs.Causes.{HasRefusalCause};
 ghost use Rattle.assembler.specs.Refusing.{is_early};
-ghost use Rattle.assembler.specs.Sound.{HaveAgreed, HoldSound, IsMeantBy, IsMeantRefusal};
+ghost use Rattle.assembler.specs.Sound.{HaveAgreed, HoldSound, IsMeantBy, IsMeantRefusal, KeepsPool};
 ghost use Rattle.assembler.specs.Writing.{WritesPool};
 ghost use Rattle.raid_rack.specs.RaidRack.{arrays_in};
 ghost use Rattle.pool_format.specs.Plan.{IsUnplanned, units_on};
-ghost use Rattle.pool_format.specs.Format.{IsGivenBack, IsRefusedFor};
+ghost use Rattle.pool_format.specs.Format.{IsRefusedFor};
 ghost use Rattle.pool_format.specs.Volume.{HasLayout};
-ghost use Rattle.pool.specs.Made.{IsSoundlyMade};
-ghost use Rattle.pool.specs.View.{arrays_of, bay_in, book, view, volume};
+ghost use Rattle.pool.specs.Made.{IsSafelyRefused, IsSoundlyMade};
+ghost use Rattle.pool.specs.View.{arrays_of, bay_in, book, slices_shown, view, volume};
 
 use crate::{Birth, CreateFault, Pool, Refusal};
 use assembler::assemble;
@@ -32,7 +35,7 @@ impl<R: Bay> Pool<R> {
     ///
     /// An absent drive is marked missing. Of the disks only drives of the pool are written: the pending record before the drives have
     /// passed their checks, and after these gates that are open, copies of partition tables that differ, marks with superblocks, superblocks
-    /// where one is stale, and texts of the volume.
+    /// where one is stale, and texts of the volume, with superblocks again.
     pub fn open(alloc: Global, bay: R, seconds: u64) -> Result<Pool<R>, Back<R, Refusal>>
         ensures fit { IfOk result (λ pool. (volume (view R.seen pool)).fit) }
         ensures runs { IfOk result (λ pool. R.runs bay (bay_in pool)) }
@@ -46,9 +49,16 @@ impl<R: Bay> Pool<R> {
         ensures mended { IfOk result (λ pool. (f : Found) → HoldSound (R.seen bay) f → IsUnfaulted (R.seen bay) (R.seen (bay_in pool))
             → (p d : ℕ) → f.seats p ≡ Some d → IsSettled (R.seen bay) (R.seen (bay_in pool)) d) }
         ensures agreed { IfOk result (λ pool. (f : Found) → HoldSound (R.seen bay) f → IsUnfaulted (R.seen bay) (R.seen (bay_in pool))
-            → HaveAgreed R.seen f (arrays_of pool)) }
+            → HaveAgreed f (book (view R.seen pool)).state (slices_shown (view R.seen pool))) }
         ensures exact { IfErr result (λ back. (f : Found) → HoldSound (R.seen bay) f → IsUnfaulted (R.seen bay) (R.seen back.rack)
             → back.why ≢ Refusal.Memory → IsMeantRefusal (R.seen bay) back.why) }
+        // Whatever the disks tell and whoever goes, a refusal has its cause in what was read of them.
+        ensures cause { IfErr result (λ back. HasRefusalCause R.seen R.runs bay back.rack back.why) }
+        // Sound disks that refuse no call mean what they meant, or hold the arrays that the pool had.
+        ensures unmoved { IfErr result (λ back. (f : Found) → HoldSound (R.seen bay) f → IsUnfaulted (R.seen bay) (R.seen back.rack)
+            → is_early back.why ≡ true → MeansTheSame (disks_of (R.seen bay)) (now_in (R.seen bay)) (now_in (R.seen back.rack))) }
+        ensures still { IfErr result (λ back. (f : Found) → HoldSound (R.seen bay) f → IsUnfaulted (R.seen bay) (R.seen back.rack)
+            → (array : ℕ) → back.why ≡ Refusal.BadVolume array → KeepsPool (R.seen bay) (R.seen back.rack) f) }
         ensures returned { IfErr result (λ back. R.runs bay back.rack) }
     {
         match assemble(alloc, bay, seconds) {
@@ -71,7 +81,7 @@ impl<R: Bay> Pool<R> {
         ensures gone { IfErr result (λ back. (disk : ℕ) → back.why ≡ CreateFault.Gone disk → (disk < (R.seen bay).disks) × Rose ((R.seen bay).faults disk) ((R.seen back.rack).faults disk)) }
         ensures fit { IfOk result (λ pool. (volume (view R.seen pool)).fit) }
         ensures made { IfOk result (λ pool. IsSoundlyMade (R.seen bay) (R.seen (bay_in pool)) extent birth.now (arrays_in (arrays_of pool)) (view R.seen pool).linear) }
-        ensures some { IfErr result (λ back. HasLayout back.why → IsGivenBack (R.seen bay) (R.seen back.rack) extent) }
+        ensures some { IfErr result (λ back. HasLayout back.why → IsSafelyRefused (R.seen bay) (R.seen back.rack) extent birth.now) }
         ensures runs { IfOk result (λ pool. R.runs bay (bay_in pool)) }
         ensures returned { IfErr result (λ back. R.runs bay back.rack) }
     {

@@ -1,5 +1,5 @@
 -- Tables of disks are settled one after the other.
-use Rattle.std.proofs.Common.{◌≡◌, ◌≢◌, ◌⊎◌, ℕ, ◌+◌, ◌-◌, ◌<◌, ◌≤◌, Bool, true, false, if◌then◌else◌, List, [], Result, Ok, Err, Option, Some, None, option_map, inl, inr, refl, sym, ap, ap₂, subst, ◌∙◌, arith}
+use Rattle.std.proofs.Common.{◌≡◌, ◌≢◌, ◌⊎◌, ℕ, ◌+◌, ◌-◌, ◌<◌, ◌≤◌, if◌then◌else◌, List, [], Result, Ok, Err, Option, Some, None, option_map, inl, inr, refl, sym, ap, ap₂, subst, ◌∙◌, arith}
 use Rattle.std.proofs.lemmas.Bool.{cases_eq, cases_lt}
 use Rattle.std.proofs.lemmas.Option.{none-some}
 use Rattle.rack.specs.Values.{IsSingle, Keeps}
@@ -18,13 +18,8 @@ use Rattle.gpt_table.specs.Changes.{AreSingle, BothLive, BothSay, Changes, IsEls
 use Rattle.gpt_table.specs.Disk.{Contents, IsOfCopy, first_of, first_table, now_on}
 use Rattle.gpt_table.specs.Format.{entries_sector, header_sector}
 use Rattle.gpt_table.proofs.Joined.{table_at_agrees}
-use Rattle.pool_state.specs.declared.contents.State.{State}
-use Rattle.array_core.specs.Seats.{names}
 use Rattle.pool_image.specs.Disks.{Seats}
-use Rattle.pool_scan.specs.declared.Known.{Known}
-use Rattle.pool_scan.specs.Choosing.{seat_by}
-use Rattle.pool_scan.proofs.Seated.{seat_by_stands}
-use Rattle.pool_check.specs.Drives.{Goes, Loses}
+use Rattle.pool_check.specs.Drives.{Goes}
 use Rattle.pool_check.specs.Settling.{AreDistinct, AreSettled, IsLeftOn, IsSettled, IsTableSector, KeepsTable, SettlesDisk, SettlesPlace}
 use Rattle.pool_check.proofs.AfterReads.{goes_early}
 use Rattle.pool_check.proofs.Losing.{IsWithout, without_here, without_other}
@@ -476,32 +471,3 @@ module _ (a b c : Seen) (first before after : Seats) (place : ℕ) (low : place 
       by : (o : Option ℕ) → before place ≡ o → AreSettled a c first after (place + 1)
       by None none = empty_more none
       by (Some d) seat = seated_more d seat
-
--- ---- seats of one disk each
-
--- the seats of a scan
-pub distinct_seats : (s : State) (known : List Known) (gone : List ℕ) (seats : Seats)
-    → ((place : ℕ) → place < 16 → seats place ≡ (if names gone place then None else seat_by s known place)) → AreDistinct seats
-distinct_seats s known gone seats are p q d low_p low_q at_p at_q =
-    let one = (seat_by_stands s known p d (scanned p low_p at_p)).1 in
-    let two = (seat_by_stands s known q d (scanned q low_q at_q)).1 in
-    let both : Some p ≡ Some q = sym one ∙ two in
-    cc
-  where
-    by : (b : Bool) (o : Option ℕ) → (if b then None else o) ≡ Some d → o ≡ Some d
-    by true o at = absurd (none-some d at)
-    by false o at = at
-
-    scanned : (place : ℕ) → place < 16 → seats place ≡ Some d → seat_by s known place ≡ Some d
-    scanned place low at = by (names gone place) (seat_by s known place) (sym (are place low) ∙ at)
-
--- those that are left
-pub distinct_left : (x y : Seen) (before after : Seats) → Loses x y before after → AreDistinct before → AreDistinct after
-distinct_left x y before after loses distinct p q d low_p low_q at_p at_q = distinct p q d low_p low_q (was p at_p) (was q at_q)
-  where
-    was : (place : ℕ) → after place ≡ Some d → before place ≡ Some d
-    was place at = by (loses place)
-      where
-        by : (after place ≡ before place) ⊎ ((after place ≡ None) × Goes x y before place) → before place ≡ Some d
-        by (inl same) = sym same ∙ at
-        by (inr gone) = absurd (none-some d (sym gone.0 ∙ at))

@@ -20,7 +20,7 @@ use Rattle.pool_format.specs.declared.planning.NewPool.{NewPool}
 use Rattle.pool_format.specs.Plan.{HasRoom, IsPlan, has}
 use Rattle.pool_format.specs.Slices.{first_planned, sectors_planned}
 use Rattle.pool_format.specs.Data.{IsDataOf}
-use Rattle.pool_format.specs.Writing.{InLaying, IsOfSlice, IsPart, Lays}
+use Rattle.pool_format.specs.Writing.{InLaying, IsOfSlice, Lays}
 use Rattle.pool_format.proofs.Lists.{filtered}
 
 -- ---- parts
@@ -192,17 +192,6 @@ data_slice plan is d n s datum =
     let within = datum.within in
     let same : datum.array.first + (data_sector + datum.row) ≡ s = let at = datum.sector_is in omega (arith, at) in
     subst (IsOfSlice plan d) same (member_part plan is n d (data_sector + datum.row) datum.array datum.at datum.among (omega (arith, within)))
-
--- what is laid on one drive are parts
-pub laying_part : (plan : NewPool) → IsPlan plan → (a b : Seen) (place : ℕ) → Stays a b → (d s : ℕ) (v : List ℕ) → InLaying plan b.sectors place d s v → IsPart plan a.sectors d s v
-laying_part plan is a b place stays d s v may = elim may.1 [
-  | inl table ↦ inl (subst (λ n. IsOfTable n s) (stays.sectors d) table)
-  | inr datum ↦ inr (subst (λ k. IsOfSlice plan k s) (sym may.0) (data_slice plan is place datum.0 s datum.1))
-]
-
-pub part_early : (plan : NewPool) (a b : Seen) → Stays a b → (d s : ℕ) (v : List ℕ) → IsPart plan b.sectors d s v → IsPart plan a.sectors d s v
-part_early plan a b stays d s v (inl table) = inl (subst (λ n. IsOfTable n s) (stays.sectors d) table)
-part_early plan a b stays d s v (inr slice) = inr slice
 
 -- the disks have room still
 pub room_then : (plan : NewPool) (a b : Seen) → Stays a b → HasRoom plan a → HasRoom plan b

@@ -22,9 +22,9 @@ use Rattle.pool_format.specs.declared.planning.NewPool.{NewPool}
 use Rattle.pool_format.specs.Parts.{new_super, new_table, role_of}
 use Rattle.pool_format.specs.Plan.{HasRoom, IsPlan, has}
 use Rattle.pool_format.specs.Data.{IsDataOf, IsMemberData, LeavesData, array_sector}
-use Rattle.pool_format.specs.Drives.{HoldsTable, IsBlockOf, IsCopyOf, IsSuperOf, LeavesClosed, LeavesLaid, LeavesState, LeavesSuper, LeavesTable, gate_at}
-use Rattle.pool_format.specs.Writing.{InClosing, InClosings, InEnds, InStates, IsOfSlice}
-use Rattle.pool_format.proofs.Laying.{log_part, member_part, table_apart}
+use Rattle.pool_format.specs.Drives.{HoldsTable, IsBlockOf, IsCopyOf, IsSuperOf, LeavesClosed, LeavesCleared, LeavesLaid, LeavesSingle, LeavesState, LeavesSuper, LeavesTable, gate_at, no_state}
+use Rattle.pool_format.specs.Writing.{InCleared, InClosing, InClosings, InFilling, InLaying, InLayings, InStates, IsOfSlice, IsPart}
+use Rattle.pool_format.proofs.Laying.{data_slice, log_part, member_part, table_apart}
 
 -- ---- answers
 
@@ -75,7 +75,7 @@ copy_agrees copy table d e same holds =
     (subst (λ h. IsWritten copy table h (joined d start 32)) (same (header_sector copy table.sectors) (inl refl)) holds)
 
 module _ (plan : NewPool) (birth : Birth) (d : ℕ) where
-  table_agrees : (n : ℕ) (c e : Contents) → ((s : ℕ) → IsOfTable n s → c s ≡ e s) → HoldsTable plan birth d n c → HoldsTable plan birth d n e
+  pub table_agrees : (n : ℕ) (c e : Contents) → ((s : ℕ) → IsOfTable n s → c s ≡ e s) → HoldsTable plan birth d n c → HoldsTable plan birth d n e
   table_agrees n c e same holds = record { mbr = sym (same 0 (inl refl)) ∙ holds.mbr; copies = λ copy. of copy }
     where
       of : (copy : TableCopy) → HoldsCopy copy (new_table plan birth d n) e
@@ -186,6 +186,31 @@ module _ (plan : NewPool) (birth : Birth) (d : ℕ) where
   pub state_later : {a b c : Seen} → Stays a b → LeavesState plan birth d b c → LeavesState plan birth d a c
   state_later stays leaves = record { state = λ live. leaves.state (live_second stays live); single = λ s live. leaves.single s (live_second stays live) }
 
+-- ---- copies that are cleared, and one value a sector
+
+pub cleared_written : (d : ℕ) (a b : Seen) (r : Result (Unit {0}) Gone) → WritesDurably a b d state_sector no_state r → OnOk r (LeavesCleared d a b)
+cleared_written d a b (Err gone) writes = tt
+cleared_written d a b (Ok done) writes = λ live v left. writes.durable live v left
+
+pub cleared_still : (d : ℕ) {a b c : Seen} (may : ℕ → ℕ → List ℕ → Type 0) → Stays a b → WritesOnly b c may → ((v : List ℕ) → may d state_sector v → ⊥)
+    → LeavesCleared d a b → LeavesCleared d a c
+cleared_still d may stays only never cleared = λ live v left.
+    cleared (live_first only.stays live) v ((only.others d state_sector (live_second stays live) never).within v left)
+
+pub cleared_later : (d : ℕ) {a b c : Seen} → Stays a b → LeavesCleared d b c → LeavesCleared d a c
+cleared_later d stays cleared = λ live. cleared (live_second stays live)
+
+pub single_synced : (d : ℕ) (a b c : Seen) (r : Result (Unit {0}) Gone) → Stays a b → Syncs b c d r → OnOk r (LeavesSingle d a c)
+single_synced d a b c (Err gone) stays syncs = tt
+single_synced d a b c (Ok done) stays syncs = λ s live v left. syncs.done s v (live_second stays live) left
+
+pub single_still : (d : ℕ) {a b c : Seen} (may : ℕ → ℕ → List ℕ → Type 0) → Stays a b → WritesOnly b c may → ((s : ℕ) (v : List ℕ) → may d s v → ⊥)
+    → LeavesSingle d a b → LeavesSingle d a c
+single_still d may stays only never single = λ s live. single_kept (only.others d s (live_second stays live) (never s)) (single s (live_first only.stays live))
+
+pub single_later : (d : ℕ) {a b c : Seen} → Stays a b → LeavesSingle d b c → LeavesSingle d a c
+single_later d stays single = λ s live. single s (live_second stays live)
+
 -- ---- superblocks of other arrays
 
 -- superblocks of two arrays stand in two sectors
@@ -249,14 +274,23 @@ data_behind plan is d n s datum = let first = (is.each n datum.array datum.at).f
 pub super_behind : (plan : NewPool) → IsPlan plan → (d n s : ℕ) → IsSuperOf plan d n s → 10240 < s
 super_behind plan is d n s super = let first = (is.each n super.array super.at).first in let at = super.sector_is in omega (arith, first, at)
 
--- ---- what is written to close drives
+-- ---- what is written to fill drives
 
 pub closing_any : (plan : NewPool) (place d s : ℕ) (v : List ℕ) → InClosing plan place d s v → InClosings plan d s v
 closing_any plan place d s v may = subst (λ k. InClosing plan k d s v) (sym may.0) may
 
--- they are sectors of slices, and none is that of the state
+pub laying_any : (plan : NewPool) (a b : Seen) (place : ℕ) → Stays a b → (d s : ℕ) (v : List ℕ) → InLaying plan b.sectors place d s v → InLayings plan a.sectors d s v
+laying_any plan a b place stays d s v may = (
+  refl,
+  elim may.1 [
+    | inl table ↦ inl (subst (λ n. IsOfTable n s) (stays.sectors d) table)
+    | inr datum ↦ inr (subst (λ k. (n : ℕ) × IsDataOf plan k n s) (sym may.0) datum)
+  ],
+)
+
+-- they are sectors of tables and slices, and none is that of the state
 module _ (plan : NewPool) (is : IsPlan plan) where
-  pub closing_slices : (d s : ℕ) (v : List ℕ) → InClosings plan d s v → IsOfSlice plan d s
+  closing_slices : (d s : ℕ) (v : List ℕ) → InClosings plan d s v → IsOfSlice plan d s
   closing_slices d s v may = elim may.2 [
     | inl gate ↦ subst (IsOfSlice plan d) (sym gate) (log_part plan d 1 may.1 (omega arith))
     | inr super ↦
@@ -266,26 +300,33 @@ module _ (plan : NewPool) (is : IsPlan plan) where
   pub states_slices : (d s : ℕ) (v : List ℕ) → InStates plan d s v → IsOfSlice plan d s
   states_slices d s v may = subst (IsOfSlice plan d) (sym may.1) (log_part plan d 0 may.0 (omega arith))
 
-  pub closed_apart : (d s : ℕ) (v : List ℕ) → (s ≡ gate_at) ⊎ ((n : ℕ) × IsSuperOf plan d n s) → InStates plan d s v → ⊥
-  closed_apart d s v at may = elim at [
-    | inl gate ↦ let state = may.1 in omega (arith, gate, state)
-    | inr super ↦ let behind = super_behind plan is d super.0 s super.1 in let state = may.1 in omega (arith, behind, state)
+  pub stated_part : (x : Seen) (d s : ℕ) (v : List ℕ) → InStates plan d s v → IsPart plan x.sectors d s v
+  stated_part x d s v may = inr (states_slices d s v may)
+
+  pub cleared_part : (x : Seen) (d s : ℕ) (v : List ℕ) → InCleared plan d s v → IsPart plan x.sectors d s v
+  cleared_part x d s v may = stated_part x d s v may.0
+
+  pub filled_part : (a b : Seen) → Stays a b → (d s : ℕ) (v : List ℕ) → InFilling plan b.sectors d s v → IsPart plan a.sectors d s v
+  filled_part a b stays d s v (inl laying) = elim laying.1 [
+    | inl table ↦ inl (subst (λ n. IsOfTable n s) (stays.sectors d) table)
+    | inr datum ↦ inr (data_slice plan is d datum.0 s datum.1)
+  ]
+  filled_part a b stays d s v (inr closing) = inr (closing_slices d s v closing)
+
+  -- gates and superblocks stand apart from tables and data
+  pub closing_apart : (x : Seen) → HasRoom plan x → (d s : ℕ) (v : List ℕ) → IsOfTable (x.sectors d) s ⊎ ((n : ℕ) × IsDataOf plan d n s) → InClosings plan d s v → ⊥
+  closing_apart x room d s v (inl table) may = table_apart plan x is room d s table (closing_slices d s v may)
+  closing_apart x room d s v (inr datum) may = elim may.2 [
+    | inl gate ↦ let behind = data_behind plan is d datum.0 s datum.1 in omega (arith, behind, gate)
+    | inr super ↦ super_apart plan is d super.0 datum.0 s super.1 datum.1
   ]
 
-  pub ends_slices : (d s : ℕ) (v : List ℕ) → InEnds plan d s v → IsOfSlice plan d s
-  ends_slices d s v (inl closing) = closing_slices d s v closing
-  ends_slices d s v (inr state) = states_slices d s v state
-
-  data_apart : (d n s : ℕ) (v : List ℕ) → IsDataOf plan d n s → InEnds plan d s v → ⊥
-  data_apart d n s v datum (inl closing) = elim closing.2 [
-    | inl gate ↦ let behind = data_behind plan is d n s datum in omega (arith, behind, gate)
-    | inr super ↦ super_apart plan is d super.0 n s super.1 datum
+  pub filling_unstated : (x : Seen) → HasRoom plan x → (d : ℕ) (v : List ℕ) → d < length plan.units.items → InFilling plan x.sectors d state_sector v → ⊥
+  filling_unstated x room d v low (inl laying) = elim laying.1 [
+    | inl table ↦ table_apart plan x is room d state_sector table (states_slices d state_sector v (low, refl))
+    | inr datum ↦ let behind = data_behind plan is d datum.0 state_sector datum.1 in omega (arith, behind)
   ]
-  data_apart d n s v datum (inr state) = let behind = data_behind plan is d n s datum in let at = state.1 in omega (arith, behind, at)
-
-  -- nothing of that is of a table or of data
-  pub ends_apart : (x : Seen) → HasRoom plan x → (d s : ℕ) (v : List ℕ) → IsOfTable (x.sectors d) s ⊎ ((n : ℕ) × IsDataOf plan d n s) → InEnds plan d s v → ⊥
-  ends_apart x room d s v at may = elim at [
-    | inl table ↦ table_apart plan x is room d s table (ends_slices d s v may)
-    | inr datum ↦ data_apart d datum.0 s v datum.1 may
+  filling_unstated x room d v low (inr closing) = elim closing.2 [
+    | inl gate ↦ omega (arith, gate)
+    | inr super ↦ let behind = super_behind plan is d super.0 state_sector super.1 in omega (arith, behind)
   ]

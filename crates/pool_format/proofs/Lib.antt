@@ -14,3 +14,4 @@ pub mod Opening
 pub mod Founded
 pub mod Making
 pub mod Building
+pub mod Stopping

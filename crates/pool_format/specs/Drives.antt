@@ -1,7 +1,7 @@
 -- What stands on the drives of a new pool.
 use Rattle.std.specs.Prelude.{◌≡◌, ℕ, ◌+◌, ◌++◌, ◌<◌, true, false, List, codes, length, replicate, slice_get, Some, Ok}
 use Rattle.byteorder.specs.Endian.{little_bytes}
-use Rattle.rack.specs.Values.{IsSector, IsSingle}
+use Rattle.rack.specs.Values.{IsSector, IsSingle, MayLeave}
 use Rattle.rack.specs.Seen.{Seen, IsLive}
 use Rattle.shr_base.specs.Blocks.{put_at}
 use Rattle.shr_base.specs.Crc.{crc32_of}
@@ -46,6 +46,10 @@ pub record IsCopyOf (plan : NewPool) (birth : Birth) (place : ℕ) (v : List ℕ
   pub sized : IsSector v
   pub says : copy_in v ≡ Ok (record { state = new_state plan birth; own = place })
 
+-- a state's sector that was cleared: zeros, which say no copy
+abbrev pub no_state : List ℕ
+no_state = replicate 512 0
+
 -- the sector of a superblock of a place's member of the array of a number
 pub record IsSuperOf (plan : NewPool) (place number sector : ℕ) : Type 0 where
   pub array : NewArray
@@ -60,11 +64,10 @@ pub record HoldsTable (plan : NewPool) (birth : Birth) (place sectors : ℕ) (co
   pub mbr : contents 0 ≡ mbr_of sectors
   pub copies : (copy : TableCopy) → HoldsCopy copy (new_table plan birth place sectors) contents
 
--- The contents of a place's drive of so many sectors, in a new pool: its table, its copy of the state, the closed gate, and of each
--- of its members the superblock and the data.
-pub record IsNewDrive (plan : NewPool) (birth : Birth) (place sectors : ℕ) (contents : Contents) : Type 0 where
+-- The contents of a place's drive of so many sectors have all its parts but the copy of the state: its table, the closed gate, and of
+-- each of its members the superblock and the data.
+pub record HasParts (plan : NewPool) (birth : Birth) (place sectors : ℕ) (contents : Contents) : Type 0 where
   pub table : HoldsTable plan birth place sectors contents
-  pub state : IsCopyOf plan birth place (contents state_sector)
   pub gate : contents gate_at ≡ first_gate
   pub supers :
       (n : ℕ) (a : NewArray) → slice_get plan.arrays.items n ≡ Some a → has a.members.items place ≡ true
@@ -72,6 +75,11 @@ pub record IsNewDrive (plan : NewPool) (birth : Birth) (place sectors : ℕ) (co
   pub member_data :
       (n : ℕ) (a : NewArray) → slice_get plan.arrays.items n ≡ Some a → has a.members.items place ≡ true → (s : ℕ) → s < a.size
       → IsMemberData (length a.members.items) (array_sector plan birth n) (role_of a.members.items place) s (contents (a.first + data_sector + s))
+
+-- The contents of a place's drive of so many sectors, in a new pool: those parts, and its copy of the state.
+pub record IsNewDrive (plan : NewPool) (birth : Birth) (place sectors : ℕ) (contents : Contents) : Type 0 where
+  pub parts : HasParts plan birth place sectors contents
+  pub state : IsCopyOf plan birth place (contents state_sector)
 
 -- a disk that is told, and no sector of it is spent
 pub record IsWhole (x : Seen) (d : ℕ) : Type 0 where
@@ -105,3 +113,11 @@ pub record LeavesClosed (plan : NewPool) (birth : Birth) (d : ℕ) (a b : Seen) 
 pub record LeavesState (plan : NewPool) (birth : Birth) (d : ℕ) (a b : Seen) : Type 0 where
   pub state : IsLive a b d state_sector → IsCopyOf plan birth d (now_on b d state_sector)
   pub single : (s : ℕ) → IsLive a b d s → IsSingle (b.held d s)
+
+-- zeros in place of its copy of the state, durably
+abbrev pub LeavesCleared : ℕ → Seen → Seen → Type 0
+LeavesCleared d a b = IsLive a b d state_sector → (v : List ℕ) → MayLeave (b.held d state_sector) v → v ≡ no_state
+
+-- one value in each sector
+abbrev pub LeavesSingle : ℕ → Seen → Seen → Type 0
+LeavesSingle d a b = (s : ℕ) → IsLive a b d s → IsSingle (b.held d s)

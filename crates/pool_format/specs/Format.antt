@@ -15,6 +15,7 @@ use Rattle.pool_format.specs.Parts.{new_state}
 use Rattle.pool_format.specs.Drives.{IsNewDrive, IsWhole}
 use Rattle.pool_format.specs.Plan.{HasRoom, IsPlan, IsPlanOf, units_on}
 use Rattle.pool_format.specs.Data.{IsGroupRead, extents_of}
+use Rattle.pool_format.specs.Stops.{StopsAmid}
 use Rattle.pool_format.specs.Writing.{IsPart}
 
 -- nothing was made, for this reason
@@ -22,8 +23,9 @@ abbrev pub IsRefusedFor : {A R E : Type 0} → E → Result A (Back R E) → Typ
 IsRefusedFor why result = MatchResult result (λ made. ⊥) (λ back. back.why ≡ why)
 
 -- The pool of the plan of a rack's disks: its state, the arrays that its superblocks make, and the volume of all that they offer.
--- Only tables and slices of the plan were written. Each sector has one value, which a stop leaves, and each disk that is told has
--- the table, the state, the gate, the superblocks and the data of its place. What its arrays hold by these is read as the volume's group.
+-- Only tables and slices of the plan were written, in their order at each moment. Each sector has one value, which a stop leaves, and each
+-- disk that is told has the table, the state, the gate, the superblocks and the data of its place. What its arrays hold by these is read as
+-- the volume's group.
 pub record IsMade (x y : Seen) (extent : ℕ) (birth : Birth) (a : Arrays) (l : Linear) : Type 0 where
   pub plan : NewPool
   pub planned : IsPlanOf (units_on x extent) extent plan
@@ -33,12 +35,16 @@ pub record IsMade (x y : Seen) (extent : ℕ) (birth : Birth) (a : Arrays) (l : 
   pub arrays : a.all.items ≡ new_views birth 0 plan.arrays.items
   pub volume : l ≡ new_volume extent (extents_of plan)
   pub only : WritesOnly x y (IsPart plan x.sectors)
+  pub stops : StopsAmid plan birth x y
   pub single : (d s : ℕ) → IsLive x y d s → IsSingle (y.held d s)
   pub drives : (d : ℕ) → IsWhole x d → IsNewDrive plan birth d (x.sectors d) (now_on y d)
   pub group : IsGroupRead plan birth
 
--- what a refused making left: a part of those writes
-pub record IsGivenBack (x y : Seen) (extent : ℕ) : Type 0 where
+-- what a refused making left: a part of those writes, in their order
+pub record IsGivenBack (x y : Seen) (extent : ℕ) (birth : Birth) : Type 0 where
   pub plan : NewPool
   pub planned : IsPlanOf (units_on x extent) extent plan
+  pub well_planned : IsPlan plan
+  pub room : HasRoom plan x
   pub only : WritesOnly x y (IsPart plan x.sectors)
+  pub stops : StopsAmid plan birth x y

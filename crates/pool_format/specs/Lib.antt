@@ -5,5 +5,6 @@ pub mod Slices
 pub mod Data
 pub mod Drives
 pub mod Writing
+pub mod Stops
 pub mod Volume
 pub mod Format

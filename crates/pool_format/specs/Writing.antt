@@ -8,7 +8,7 @@ use Rattle.array_image.specs.Places.{place_of, state_sector}
 use Rattle.pool_format.specs.declared.planning.NewPool.{NewPool}
 use Rattle.pool_format.specs.Slices.{first_planned, sectors_planned}
 use Rattle.pool_format.specs.Data.{IsDataOf}
-use Rattle.pool_format.specs.Drives.{IsSuperOf, gate_at}
+use Rattle.pool_format.specs.Drives.{IsSuperOf, gate_at, no_state}
 
 -- a sector of one of a drive's slices
 pub record IsOfSlice (plan : NewPool) (d s : ℕ) : Type 0 where
@@ -39,6 +39,10 @@ InDatas plan place d s v = (d ≡ place) × (n : ℕ) × IsDataOf plan place n s
 abbrev pub InLaying : NewPool → (ℕ → ℕ) → ℕ → ℕ → ℕ → List ℕ → Type 0
 InLaying plan sectors place d s v = (d ≡ place) × (IsOfTable (sectors d) s ⊎ ((n : ℕ) × IsDataOf plan place n s))
 
+-- those of all drives
+abbrev pub InLayings : NewPool → (ℕ → ℕ) → ℕ → ℕ → List ℕ → Type 0
+InLayings plan sectors d s v = InLaying plan sectors d d s v
+
 -- the superblock of a place's member of the array of a number
 abbrev pub InSuper : NewPool → ℕ → ℕ → ℕ → ℕ → List ℕ → Type 0
 InSuper plan place number d s v = (d ≡ place) × IsSuperOf plan place number s
@@ -55,13 +59,17 @@ InClosing plan place d s v = (d ≡ place) × (place < length plan.units.items) 
 abbrev pub InClosings : NewPool → ℕ → ℕ → List ℕ → Type 0
 InClosings plan d s v = InClosing plan d d s v
 
+-- all parts of all drives but the copies of the state
+abbrev pub InFilling : NewPool → (ℕ → ℕ) → ℕ → ℕ → List ℕ → Type 0
+InFilling plan sectors d s v = InLayings plan sectors d s v ⊎ InClosings plan d s v
+
 -- a drive's copy of the state
 abbrev pub InStates : NewPool → ℕ → ℕ → List ℕ → Type 0
 InStates plan d s v = (d < length plan.units.items) × (s ≡ state_sector)
 
--- what is written last: gates, superblocks and states
-abbrev pub InEnds : NewPool → ℕ → ℕ → List ℕ → Type 0
-InEnds plan d s v = InClosings plan d s v ⊎ InStates plan d s v
+-- zeros in place of it
+abbrev pub InCleared : NewPool → ℕ → ℕ → List ℕ → Type 0
+InCleared plan d s v = InStates plan d s v × (v ≡ no_state)
 
 -- nothing was written but these sectors; a refusal names a disk whose faults rose
 pub record Lays (may : ℕ → ℕ → List ℕ → Type 0) (a b : Seen) {X : Type 0} (result : Result X Gone) : Type 0 where

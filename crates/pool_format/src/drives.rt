@@ -4,8 +4,8 @@ ghost use Rattle.std.specs.Prelude.{◌≡◌, ◌<◌, ℕ, length, OnOk};
 ghost use Rattle.pool_format.specs.Plan.{HasRoom, IsPlan};
 ghost use Rattle.pool_format.specs.Data.{IsNewGroup};
 ghost use Rattle.pool_format.specs.Drives as spec;
-ghost use Rattle.pool_format.specs.Drives.{LeavesClosed, LeavesLaid, LeavesSuper};
-ghost use Rattle.pool_format.specs.Writing.{InClosing, InClosings, InLaying, InSuper, InSupers, IsPart, Lays};
+ghost use Rattle.pool_format.specs.Drives.{LeavesClosed, LeavesLaid, LeavesSingle, LeavesSuper};
+ghost use Rattle.pool_format.specs.Writing.{InClosing, InClosings, InLaying, InLayings, InSuper, InSupers, Lays};
 
 use crate::Birth;
 use crate::members::write_members;
@@ -61,7 +61,7 @@ pub(crate) fn lay_drives<R: Rack>(
     requires plan { IsPlan plan.now }
     requires room { HasRoom plan.now (R.seen rack.old) }
     requires group { IsNewGroup plan.now birth.now group.now }
-    ensures lays { Lays (IsPart plan.now (R.seen rack.old).sectors) (R.seen rack.old) (R.seen rack.new) result }
+    ensures lays { Lays (InLayings plan.now (R.seen rack.old).sectors) (R.seen rack.old) (R.seen rack.new) result }
     ensures laid { OnOk result ((d : ℕ) → d < length plan.now.units.items → LeavesLaid plan.now birth.now d (R.seen rack.old) (R.seen rack.new)) }
     ensures runs { R.runs rack.old rack.new }
 {
@@ -140,6 +140,7 @@ fn close_drive<R: Rack>(rack: &mut R, plan: &NewPool, birth: &Birth, place: u32)
     requires place { place < length plan.now.units.items }
     ensures lays { Lays (InClosing plan.now place) (R.seen rack.old) (R.seen rack.new) result }
     ensures closed { OnOk result (LeavesClosed plan.now birth.now place (R.seen rack.old) (R.seen rack.new)) }
+    ensures single { OnOk result (LeavesSingle place (R.seen rack.old) (R.seen rack.new)) }
     ensures runs { R.runs rack.old rack.new }
 {
     if let Err(gone) = rack.write(place, GATE_SECTOR, &first_gate()) {
@@ -158,6 +159,7 @@ pub(crate) fn close_drives<R: Rack>(rack: &mut R, plan: &NewPool, birth: &Birth)
     requires room { HasRoom plan.now (R.seen rack.old) }
     ensures lays { Lays (InClosings plan.now) (R.seen rack.old) (R.seen rack.new) result }
     ensures closed { OnOk result ((d : ℕ) → d < length plan.now.units.items → LeavesClosed plan.now birth.now d (R.seen rack.old) (R.seen rack.new)) }
+    ensures single { OnOk result ((d : ℕ) → d < length plan.now.units.items → LeavesSingle d (R.seen rack.old) (R.seen rack.new)) }
     ensures runs { R.runs rack.old rack.new }
 {
     for place in 0..plan.units.len() as u32 {

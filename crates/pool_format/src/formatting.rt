@@ -18,8 +18,9 @@ ghost use Rattle.pool_format.specs.Arrays.{new_views};
 ghost use Rattle.pool_format.specs.Parts as parts;
 ghost use Rattle.pool_format.specs.Volume.{HasLayout};
 ghost use Rattle.pool_format.specs.Data.{IsGroupRead, IsNewGroup, extents_of};
-ghost use Rattle.pool_format.specs.Drives.{IsNewDrive, IsWhole, LeavesClosed, LeavesLaid, LeavesState};
-ghost use Rattle.pool_format.specs.Writing.{InEnds, IsPart, Lays};
+ghost use Rattle.pool_format.specs.Drives.{HasParts, IsNewDrive, IsWhole, LeavesSingle};
+ghost use Rattle.pool_format.specs.Stops.{StopsAmid};
+ghost use Rattle.pool_format.specs.Writing.{InFilling, IsPart, Lays};
 
 use crate::Birth;
 use crate::drives::{close_drives, lay_drives};
@@ -65,44 +66,30 @@ fn take_memory(alloc: Global, plan: &NewPool, birth: &Birth) -> Result<Memory, N
     Ok(Memory { log, group })
 }
 
-/// Writes all that lies below the superblocks: no disk shows a pool, and each has its table and its members' data, durably.
-fn prepare<R: Rack>(
+/// Writes all parts of the drives but their copies of the state, durably: tables and members' data first, then gates and superblocks.
+fn fill_drives<R: Rack>(
     rack: &mut R,
     plan: &NewPool,
     birth: &Birth,
     group: &NewGroup,
 ) -> Result<(), Gone>
     requires fit { (R.seen rack.old).fit }
+    requires lasting { (R.seen rack.old).lasting }
     requires plan { IsPlan plan.now }
     requires room { HasRoom plan.now (R.seen rack.old) }
     requires group { IsNewGroup plan.now birth.now group.now }
-    ensures lays { Lays (IsPart plan.now (R.seen rack.old).sectors) (R.seen rack.old) (R.seen rack.new) result }
-    ensures laid { OnOk result ((d : ℕ) → d < length plan.now.units.items → LeavesLaid plan.now birth.now d (R.seen rack.old) (R.seen rack.new)) }
+    ensures lays { Lays (InFilling plan.now (R.seen rack.old).sectors) (R.seen rack.old) (R.seen rack.new) result }
+    ensures parts { OnOk result ((d : ℕ) → IsWhole (R.seen rack.old) d → HasParts plan.now birth.now d ((R.seen rack.old).sectors d) (now_on (R.seen rack.new) d)) }
+    ensures single { OnOk result ((d : ℕ) → d < length plan.now.units.items → LeavesSingle d (R.seen rack.old) (R.seen rack.new)) }
     ensures runs { R.runs rack.old rack.new }
 {
-    match clear_states(rack, plan) {
-        Ok(()) => lay_drives(rack, plan, birth, group),
+    match lay_drives(rack, plan, birth, group) {
+        Ok(()) => close_drives(rack, plan, birth),
         Err(gone) => Err(gone),
     }
 }
 
-/// Writes the gates and the superblocks, and the state last.
-fn conclude<R: Rack>(rack: &mut R, plan: &NewPool, birth: &Birth) -> Result<(), Gone>
-    requires fit { (R.seen rack.old).fit }
-    requires plan { IsPlan plan.now }
-    requires room { HasRoom plan.now (R.seen rack.old) }
-    ensures lays { Lays (InEnds plan.now) (R.seen rack.old) (R.seen rack.new) result }
-    ensures closed { OnOk result ((d : ℕ) → d < length plan.now.units.items → LeavesClosed plan.now birth.now d (R.seen rack.old) (R.seen rack.new)) }
-    ensures states { OnOk result ((d : ℕ) → d < length plan.now.units.items → LeavesState plan.now birth.now d (R.seen rack.old) (R.seen rack.new)) }
-    ensures runs { R.runs rack.old rack.new }
-{
-    match close_drives(rack, plan, birth) {
-        Ok(()) => write_states(rack, plan, birth),
-        Err(gone) => Err(gone),
-    }
-}
-
-/// Writes a pool, durably.
+/// Writes a pool, durably: clears the copies of a state, fills the drives, and writes the copies last.
 fn write_pool<R: Rack>(
     rack: &mut R,
     plan: &NewPool,
@@ -114,15 +101,20 @@ fn write_pool<R: Rack>(
     requires plan { IsPlan plan.now }
     requires room { HasRoom plan.now (R.seen rack.old) }
     requires group { IsNewGroup plan.now birth.now group.now }
+    requires read { IsGroupRead plan.now birth.now }
     ensures lays { Lays (IsPart plan.now (R.seen rack.old).sectors) (R.seen rack.old) (R.seen rack.new) result }
+    ensures stops { StopsAmid plan.now birth.now (R.seen rack.old) (R.seen rack.new) }
     ensures single { OnOk result ((d s : ℕ) → IsLive (R.seen rack.old) (R.seen rack.new) d s → IsSingle ((R.seen rack.new).held d s)) }
     ensures drives { OnOk result ((d : ℕ) → IsWhole (R.seen rack.old) d → IsNewDrive plan.now birth.now d ((R.seen rack.old).sectors d) (now_on (R.seen rack.new) d)) }
     ensures runs { R.runs rack.old rack.new }
 {
-    match prepare(rack, plan, birth, group) {
-        Ok(()) => conclude(rack, plan, birth),
-        Err(gone) => Err(gone),
+    if let Err(gone) = clear_states(rack, plan) {
+        return Err(gone);
     }
+    if let Err(gone) = fill_drives(rack, plan, birth, group) {
+        return Err(gone);
+    }
+    write_states(rack, plan, birth)
 }
 
 /// Writes a pool of this plan, and gives its volume.
@@ -137,14 +129,17 @@ fn build<R: Rack>(
     requires plan { IsPlan plan.now }
     requires room { HasRoom plan.now (R.seen rack) }
     requires group { IsNewGroup plan.now birth.now memory.group }
+    requires read { IsGroupRead plan.now birth.now }
     ensures fit { IfOk result (λ volume. (volume_of (linear volume) (raid_seen R.seen (rack_in volume))).fit) }
     ensures state { IfOk result (λ volume. (raid_in (rack_in volume)).state ≡ parts.new_state plan.now birth.now) }
     ensures arrays { IfOk result (λ volume. arrays_of (rack_in volume) ≡ new_views birth.now 0 plan.now.arrays.items) }
     ensures volume { IfOk result (λ volume. linear volume ≡ made.new_volume plan.now.extent (extents_of plan.now)) }
     ensures only { IfOk result (λ volume. WritesOnly (R.seen rack) (R.seen (below_of (slices_in (rack_in volume)))) (IsPart plan.now (R.seen rack).sectors)) }
+    ensures stops { IfOk result (λ volume. StopsAmid plan.now birth.now (R.seen rack) (R.seen (below_of (slices_in (rack_in volume))))) }
     ensures single { IfOk result (λ volume. (d s : ℕ) → IsLive (R.seen rack) (R.seen (below_of (slices_in (rack_in volume)))) d s → IsSingle ((R.seen (below_of (slices_in (rack_in volume)))).held d s)) }
     ensures drives { IfOk result (λ volume. (d : ℕ) → IsWhole (R.seen rack) d → IsNewDrive plan.now birth.now d ((R.seen rack).sectors d) (now_on (R.seen (below_of (slices_in (rack_in volume)))) d)) }
     ensures some { IfErr result (λ back. WritesOnly (R.seen rack) (R.seen back.rack) (IsPart plan.now (R.seen rack).sectors)) }
+    ensures stopped { IfErr result (λ back. StopsAmid plan.now birth.now (R.seen rack) (R.seen back.rack)) }
     ensures gone { IfErr result (λ back. (disk : ℕ) → back.why ≡ CreateFault.Gone disk → (disk < (R.seen rack).disks) × Rose ((R.seen rack).faults disk) ((R.seen back.rack).faults disk)) }
     ensures planned { IfErr result (λ back. HasLayout back.why) }
     ensures runs { IfOk result (λ volume. R.runs rack (below_of (slices_in (rack_in volume)))) }
@@ -163,8 +158,9 @@ fn build<R: Rack>(
 /// Makes a pool on the disks of a rack, in their order, and gives its volume, which is all zeros. What the disks held is lost.
 ///
 /// The disks, 2 to 16 of fewer than 2^48 sectors, are the places 0, 1 and so on. Its arrays are the layers of their units: a mirror of
-/// two members, RAID-5 of more. An extent has `extent` sectors, a power of two from 128 to 65536. No disk shows a pool before the
-/// states are written, last. The result's arrays have events 1 and no mark, so that a clean end writes no superblock.
+/// two members, RAID-5 of more. An extent has `extent` sectors, a power of two from 128 to 65536. Copies of a state are cleared first and
+/// written last, so that a stop leaves no pool before the drives have all their other parts. The result's arrays have events 1 and no
+/// mark, so that a clean end writes no superblock.
 pub fn format<R: Rack>(
     alloc: Global,
     rack: R,
@@ -181,7 +177,7 @@ pub fn format<R: Rack>(
     // Whatever the disks tell, each call of the volume may be made.
     ensures fit { IfOk result (λ volume. (volume_of (linear volume) (raid_seen R.seen (rack_in volume))).fit) }
     ensures made { IfOk result (λ volume. IsMade (R.seen rack) (R.seen (below_of (slices_in (rack_in volume)))) extent birth.now (arrays_in (rack_in volume)) (linear volume)) }
-    ensures some { IfErr result (λ back. HasLayout back.why → IsGivenBack (R.seen rack) (R.seen back.rack) extent) }
+    ensures some { IfErr result (λ back. HasLayout back.why → IsGivenBack (R.seen rack) (R.seen back.rack) extent birth.now) }
     ensures runs { IfOk result (λ volume. R.runs rack (below_of (slices_in (rack_in volume)))) }
     ensures returned { IfErr result (λ back. R.runs rack back.rack) }
 {

@@ -4,8 +4,9 @@ ghost use Rattle.std.specs.Prelude.{◌≡◌, ◌<◌, ◌≤◌, true, length,
 ghost use Rattle.array_image.specs.Places.{drive_id, state_sector};
 ghost use Rattle.pool_format.specs.Plan.{HasRoom, IsPlan};
 ghost use Rattle.pool_format.specs.Parts as spec;
-ghost use Rattle.pool_format.specs.Drives.{LeavesState};
-ghost use Rattle.pool_format.specs.Writing.{InStates, Lays};
+ghost use Rattle.pool_format.specs.Drives.{LeavesCleared, LeavesState};
+ghost use Rattle.pool_format.specs.Stops.{CopiesInOrder};
+ghost use Rattle.pool_format.specs.Writing.{InCleared, InStates, Lays};
 
 use crate::Birth;
 use crate::planning::NewPool;
@@ -64,7 +65,8 @@ pub(crate) fn clear_states<R: Rack>(rack: &mut R, plan: &NewPool) -> Result<(), 
     requires fit { (R.seen rack.old).fit }
     requires plan { IsPlan plan.now }
     requires room { HasRoom plan.now (R.seen rack.old) }
-    ensures lays { Lays (InStates plan.now) (R.seen rack.old) (R.seen rack.new) result }
+    ensures lays { Lays (InCleared plan.now) (R.seen rack.old) (R.seen rack.new) result }
+    ensures cleared { OnOk result ((d : ℕ) → d < length plan.now.units.items → LeavesCleared d (R.seen rack.old) (R.seen rack.new)) }
     ensures runs { R.runs rack.old rack.new }
 {
     for place in 0..plan.units.len() as u32 {
@@ -75,13 +77,14 @@ pub(crate) fn clear_states<R: Rack>(rack: &mut R, plan: &NewPool) -> Result<(), 
     Ok(())
 }
 
-/// Writes each drive's copy of the state, durably.
+/// Writes each drive's copy of the state, durably, one behind the other.
 pub(crate) fn write_states<R: Rack>(rack: &mut R, plan: &NewPool, birth: &Birth) -> Result<(), Gone>
     requires fit { (R.seen rack.old).fit }
     requires plan { IsPlan plan.now }
     requires room { HasRoom plan.now (R.seen rack.old) }
     ensures lays { Lays (InStates plan.now) (R.seen rack.old) (R.seen rack.new) result }
     ensures states { OnOk result ((d : ℕ) → d < length plan.now.units.items → LeavesState plan.now birth.now d (R.seen rack.old) (R.seen rack.new)) }
+    ensures copies { CopiesInOrder plan.now birth.now (R.seen rack.old) (R.seen rack.new) }
     ensures runs { R.runs rack.old rack.new }
 {
     let state = new_state(plan, birth);

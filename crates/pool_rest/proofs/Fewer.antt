@@ -76,8 +76,8 @@ module _ (l : LogView) (on0 on : List ℕ) (c0 c : Image) (is_pending : Bool) (a
   at_now : pending_at places c ≡ Some a
   at_now = pending_at_by c c0 places gates ∙ still
 
-  number : a.gate.number ≡ l.number
-  number =
+  pub number_fewer : a.gate.number ≡ l.number
+  number_fewer =
       let at = pending_named all c0 a source in
       let low = finds.above a.place a.gate at.0 at.1 in
       elim finds.number [
@@ -94,6 +94,9 @@ module _ (l : LogView) (on0 on : List ℕ) (c0 c : Image) (is_pending : Bool) (a
       names_all p named =
           filter_names (is_left on0 []) (range_with_len 0 16) p (ap (λ b. b && true) named) (names_range 0 16 p (omega arith) (let low = few p named in omega (arith, low)))
 
+  pub at_fewer : pending_at (left_of on []) c ≡ Some a
+  at_fewer = ap (λ ps. pending_at ps c) left_is ∙ at_now
+
   pub finds_fewer : Finds l on (left_of on []) is_pending None c
   finds_fewer = subst (λ ps. Finds l on ps is_pending None c) (sym left_is) (record {
     damaged_is = sym (whole_by c c0 places gates records whole_fewer);
@@ -107,7 +110,7 @@ module _ (l : LogView) (on0 on : List ℕ) (c0 c : Image) (is_pending : Bool) (a
         ap (λ (block : List ℕ). is_there block && is_none (gate_of block)) (gates p named)
         ∙ finds.each p (of_fewer p named).1 ∙ ap is_none (sym (gate_same p named));
     above = λ p g named is. finds.above p g (of_fewer p named).1 (sym (gate_same p named) ∙ is);
-    number = inr (a.place, a.gate, kept, (pending_named places c a at_now).1, number);
+    number = inr (a.place, a.gate, kept, (pending_named places c a at_now).1, number_fewer);
     open_is = λ p g named is. finds.open_is p g (of_fewer p named).1 (sym (gate_same p named) ∙ is);
     opened = λ is. (a.place, a.gate, kept, (pending_named places c a at_now).1, is_open);
   })

@@ -4,15 +4,20 @@ use Rattle.std.proofs.lemmas.Bool.{cases_lt, and_parts}
 use Rattle.rack.specs.Seen.{Seen, Stays, Rose}
 use Rattle.rack.specs.Joins.{rose_early, rose_later}
 use Rattle.pool_state.specs.declared.contents.State.{State}
-use Rattle.slice_rack.specs.Slices.{Slices, seat_of, sectors_of, disk_of}
+use Rattle.rack.specs.Sequences.{OnlyReads}
+use Rattle.slice_rack.specs.Slices.{IsOrderly, Slices, seat_of, sectors_of, disk_of}
+use Rattle.slice_rack.specs.Sliced.{slices_of}
 use Rattle.array_image.specs.Places.{place_of, log_slice}
 use Rattle.array_image.specs.States.{is_current}
-use Rattle.commit_log.specs.View.{LogView, names}
+use Rattle.commit_log.specs.View.{LogView, left_of, names}
+use Rattle.commit_log.specs.Opening.{Finds}
 use Rattle.pool_scan.specs.declared.Known.{Known}
 use Rattle.pool_scan.specs.Scanning.{IsScan}
 use Rattle.pool_scan.specs.Choosing.{seat_by}
-use Rattle.pool_rest.specs.Standing.{IsLaid, HasLooked}
+use Rattle.pool_rest.specs.Standing.{FindsLeft, IsLaid, HasLooked}
 use Rattle.pool_rest.specs.Resting.{HaveCause, IsFlagged, HasDisk, HasRefused}
+use Rattle.pool_rest.proofs.Agreeing.{told_later, lasting_later}
+use Rattle.pool_rest.proofs.Stood.{same_reading}
 
 -- by the scan
 pub flagged_rose : (a b : Seen) (known : List Known) (d : ℕ) → IsScan a b known → IsFlagged known d → Rose (a.faults d) (b.faults d)
@@ -61,3 +66,23 @@ again_rose seen r0 ri rd rb same first second early before seated gone lost caus
     of (inr (inl flagged)) = inr (inl flagged)
     of (inr (inr (inl has))) = inr (inr has)
     of (inr (inr (inr has))) = inl (rose_early (seen ri) (seen rd) (seen rb) d second (cause has.0 d has.1 has.2))
+
+-- What was found of the pending record is what the slices hold still, but for places that were passed over by their disks' faults.
+pub found_left : (a b : Seen) (known : List Known) (s : State) (t : Slices) (on gone : List ℕ) (m : LogView) (is_pending : Bool) (damaged : Option ℕ)
+    → IsOrderly t → (slices_of t b).fit → OnlyReads a b → IsLaid a known s t on → HasLooked a b t on gone m is_pending damaged
+    → FindsLeft a b known s t on m is_pending damaged
+found_left a b known s t on gone m is_pending damaged orderly fit reads laid looked = record {
+  passed = gone;
+  cause = looked_rose a b known s t on gone m is_pending damaged laid looked;
+  finds = λ told lasts.
+      subst (λ c. Finds m on (left_of on gone) is_pending damaged c) (sym (same_reading t a b orderly fit.1 told lasts reads)) (looked.finds told lasts);
+}
+
+-- over calls that were made before too
+pub left_since : (a x b : Seen) (known : List Known) (s : State) (t : Slices) (on : List ℕ) (m : LogView) (is_pending : Bool) (damaged : Option ℕ)
+    → Stays a x → FindsLeft x b known s t on m is_pending damaged → FindsLeft a b known s t on m is_pending damaged
+left_since a x b known s t on m is_pending damaged stays left = record {
+  passed = left.passed;
+  cause = λ p d named seat. rose_later a x b d stays (left.cause p d named seat);
+  finds = λ told lasts. left.finds (told_later a x stays told) (lasting_later a x stays lasts);
+}

@@ -1,22 +1,22 @@
 -- Replayed contents stay over the reads round a replay too, and over all of bringing a pool to rest.
-use Rattle.std.proofs.Common.{◌≡◌, ◌≢◌, ℕ, ◌+◌, ◌<◌, ◌≤◌, ◌^◌, Bool, List, [], Option, Some, None, inl, inr, refl, sym, ap, subst, ◌∙◌}
+use Rattle.std.proofs.Common.{◌≡◌, ◌≢◌, ℕ, ◌+◌, ◌<◌, ◌≤◌, ◌^◌, Bool, true, false, nat_le, if◌then◌else◌, List, [], Option, Some, None, inl, inr, refl, sym, ap, subst, ◌∙◌, arith}
 use Rattle.std.proofs.lemmas.Bool.{cases_lt}
 use Rattle.rack.specs.Values.{MayLeave}
 use Rattle.rack.specs.Seen.{Image, Seen, IsLive, IsPick, Stays}
 use Rattle.rack.specs.Joins.{leaves_then, leaves_weaker, rose_early, stays_then}
 use Rattle.rack.specs.Sequences.{OnlyReads}
-use Rattle.rack.specs.Targets.{look}
 use Rattle.gpt_table.specs.declared.Table.{Table}
 use Rattle.gpt_table.specs.Changes.{the_table}
-use Rattle.slice_rack.specs.Slices.{Slices, IsOrderly, disk_of, first_of, sectors_of}
+use Rattle.slice_rack.specs.Slices.{Slices, IsOrderly, disk_of, first_of, seat_of, sectors_of}
 use Rattle.slice_rack.specs.Sliced.{IsInside, sliced, slices_of}
 use Rattle.slice_rack.specs.Laws.{disk_below, sector_below}
 use Rattle.slice_rack.specs.Runs.{inside_still}
 use Rattle.pool_state.specs.declared.contents.State.{State}
 use Rattle.array_image.specs.Arrays.{replayed}
 use Rattle.array_image.specs.Left.{reading}
-use Rattle.array_image.specs.Places.{log_slice, place_of, slice_of}
+use Rattle.array_image.specs.Places.{arrays_first, log_sectors, log_slice, place_of, slice_of, state_sector}
 use Rattle.array_image.specs.States.{state_in}
+use Rattle.array_image.proofs.Frames.{state_same}
 use Rattle.pool_image.specs.Disks.{Disks, disks_of, identities_of}
 use Rattle.pool_image.specs.Disks as disks
 use Rattle.pool_image.specs.Replay.{extent_by, standing_by}
@@ -29,14 +29,14 @@ use Rattle.pool_scan.specs.Scanning.{AllTold, IsScan, IsUnfaulted, now_in}
 use Rattle.pool_scan.proofs.Meant.{scan_meant}
 use Rattle.pool_scan.proofs.Seated.{seat_by_is}
 use Rattle.pool_rest.specs.Members.{Lies}
-use Rattle.pool_rest.specs.Moments.{AreOfDrives, BringsNoState, GivesNow, IsFewer, KeepsPlaces, KeepsReplayed}
+use Rattle.pool_rest.specs.Moments.{AreOfDrives, BringsNoState, BringsState, GivesNow, KeepsReplayed, TakesLower}
 use Rattle.pool_rest.specs.Resting.{AreSingle, Rests, seated_state}
 use Rattle.pool_rest.specs.SoundLogs.{HasSoundLogs}
 use Rattle.pool_rest.specs.Standing.{FindsAll, HasLooked, IsLaid, IsLasting, StandsAs}
 use Rattle.pool_rest.proofs.Again.{laid_later}
 use Rattle.pool_rest.proofs.Agreeing.{disks_same, lasting_later, reads_agree, told_later}
 use Rattle.pool_rest.proofs.Sliced.{sliced_inside, sliced_outside}
-use Rattle.pool_rest.proofs.Quiet.{brings_fewer, seats_now, state_still, tables_now, whole_before}
+use Rattle.pool_rest.proofs.Quiet.{brings_state, lower_still, seats_now, sector_still, state_still, tables_now, whole_before}
 use Rattle.pool_rest.proofs.Stood.{found_still, same_reading}
 
 -- slices show the same of contents that agree in their sectors
@@ -152,58 +152,28 @@ inside_before t a b stays inside = record {
 -- ---- a replay, with the reads round it
 
 -- what a replay keeps, by slices on which its record was found
-abbrev pub KeepsOn : Seen → Seen → List Known → State → LogView → Type 0
-KeepsOn x y known z m =
-    AllTold x → IsLasting x → IsUnfaulted x y → AreSingle x → (t u : Slices) (on : List ℕ) (is_pending : Bool) → IsOrderly t → IsInside t x → IsLaid x known z t on
-    → FindsAll x t on m is_pending None → ((p : ℕ) → look m.pending (log_slice p) 0 ≡ None) → AreOfDrives x (seat_by z known) u
-    → state_in (sliced u (now_in y)) ≡ Some z → KeepsReplayed x y u
+abbrev pub Replaying : Seen → Seen → List Known → State → State → LogView → Type 0
+Replaying x y known st z m =
+    (t u : Slices) (on : List ℕ) (is_pending : Bool) → IsLaid x known st t on → FindsAll x t on m is_pending None
+    → BringsState x known st z m on (reading (slices_of t x)) → AreOfDrives x (seat_by z known) u → state_in (sliced u (now_in x)) ≡ Some st → KeepsReplayed x y u
+
+-- where no disk refuses a call
+abbrev pub KeepsBrought : Seen → Seen → List Known → State → State → LogView → Type 0
+KeepsBrought x y known st z m = AllTold x → IsLasting x → IsUnfaulted x y → AreSingle x → Replaying x y known st z m
 
 -- the disks were looked at once more
-pub again_keeps : {R : Type 0} (seen : R → Seen) (r0 r1 rd rb : R) → r1 ≡ r0 → (known : List Known) (st z : State) (m : LogView) → z ≡ seated_state m.pending st
-    → Stays (seen r1) (seen rd) → OnlyReads (seen rd) (seen rb) → KeepsOn (seen r1) (seen rd) known z m
-    → AllTold (seen r0) → IsLasting (seen r0) → IsUnfaulted (seen r0) (seen rb) → AreSingle (seen r0)
-    → (t u : Slices) (on : List ℕ) (is_pending : Bool) → IsOrderly t → IsInside t (seen r0) → IsLaid (seen r0) known st t on → FindsAll (seen r0) t on m is_pending None
-    → ((p : ℕ) → look m.pending (log_slice p) 0 ≡ None) → seated_state m.pending st ≡ st → AreOfDrives (seen r0) (seat_by st known) u
-    → state_in (sliced u (now_in (seen rb))) ≡ Some st → KeepsReplayed (seen r0) (seen rb) u
-again_keeps seen r0 r1 rd rb back known st z m seated stays reads keeps told lasts free single t u on is_pending orderly inside laid finds none same of is =
+pub again_brought : {R : Type 0} (seen : R → Seen) (r0 r1 rd rb : R) → r1 ≡ r0 → (known : List Known) (st z : State) (m : LogView) → z ≡ seated_state m.pending st
+    → Stays (seen r1) (seen rd) → OnlyReads (seen rd) (seen rb) → KeepsBrought (seen r1) (seen rd) known st z m
+    → KeepsBrought (seen r0) (seen rb) known st (seated_state m.pending st) m
+again_brought seen r0 r1 rd rb back known st z m seated stays reads keeps told lasts free single t u on is_pending laid finds brings of is =
     let a = seen r0 in
     let y = seen rd in
     let b = seen rb in
     let early : Stays a y = subst (λ r. Stays (seen r) y) back stays in
-    let moved : KeepsOn a y known st m =
-    subst (λ r. KeepsOn (seen r) y known st m) back (subst (λ k. KeepsOn (seen r1) y known k m) (seated ∙ same) keeps) in
-    let told_y = told_later a y early told in
-    let lasts_y = lasting_later a y early lasts in
-    let within : IsInside u b = inside_still reads.stays (inside_still early of.inside) in
-    keeps_until y b reads told_y lasts_y a u early of.orderly within
-    (moved told lasts (λ d rose. free d (rose_early a y b d reads.stays rose)) single t u on is_pending orderly inside laid finds none of
-    (ap state_in (sym (shown_later y b reads told_y lasts_y u of.orderly within)) ∙ is))
-
--- the same of a replay that brings a state
-abbrev pub KeepsFewer : Seen → Seen → List Known → State → State → LogView → Type 0
-KeepsFewer x y known st z m =
-    AllTold x → IsLasting x → IsUnfaulted x y → AreSingle x → (t u : Slices) (on : List ℕ) (is_pending : Bool) → IsLaid x known st t on → FindsAll x t on m is_pending None
-    → IsFewer known st z m on (reading (slices_of t x)) → AreOfDrives x (seat_by z known) u → state_in (sliced u (now_in x)) ≡ Some st → KeepsReplayed x y u
-
-pub again_fewer : {R : Type 0} (seen : R → Seen) (r0 r1 rd rb : R) → r1 ≡ r0 → (known : List Known) (st z : State) (m : LogView) → z ≡ seated_state m.pending st
-    → Stays (seen r1) (seen rd) → OnlyReads (seen rd) (seen rb) → KeepsFewer (seen r1) (seen rd) known st z m
-    → KeepsFewer (seen r0) (seen rb) known st (seated_state m.pending st) m
-again_fewer seen r0 r1 rd rb back known st z m seated stays reads keeps told lasts free single t u on is_pending laid finds brings of is =
-    let a = seen r0 in
-    let y = seen rd in
-    let b = seen rb in
-    let early : Stays a y = subst (λ r. Stays (seen r) y) back stays in
-    let moved : KeepsFewer a y known st (seated_state m.pending st) m =
-    subst (λ r. KeepsFewer (seen r) y known st (seated_state m.pending st) m) back (subst (λ k. KeepsFewer (seen r1) y known st k m) seated keeps) in
+    let moved : KeepsBrought a y known st (seated_state m.pending st) m =
+    subst (λ r. KeepsBrought (seen r) y known st (seated_state m.pending st) m) back (subst (λ k. KeepsBrought (seen r1) y known st k m) seated keeps) in
     keeps_until y b reads (told_later a y early told) (lasting_later a y early lasts) a u early of.orderly (inside_still reads.stays (inside_still early of.inside))
     (moved told lasts (λ d rose. free d (rose_early a y b d reads.stays rose)) single t u on is_pending laid finds brings of is)
-
--- what a replay that was found keeps, by the slices on which its record was found
-abbrev pub Replaying : Seen → Seen → List Known → State → LogView → Type 0
-Replaying x b known st m =
-    (t u : Slices) (on : List ℕ) (is_pending : Bool) → IsOrderly t → IsInside t x → IsLaid x known st t on → FindsAll x t on m is_pending None
-    → ((p : ℕ) → look m.pending (log_slice p) 0 ≡ None) → seated_state m.pending st ≡ st → AreOfDrives x (seat_by st known) u
-    → state_in (sliced u (now_in b)) ≡ Some st → KeepsReplayed x b u
 
 module _ (a x b : Seen) (known : List Known) (st : State) (m : LogView) (is_pending : Bool) (damaged : Option ℕ) (t : Slices)
     (reads : OnlyReads a x) (stays : Stays x b) (scan : IsScan a x known) (some : m.pending ≢ [])
@@ -260,33 +230,61 @@ module _ (a x b : Seen) (known : List Known) (st : State) (m : LogView) (is_pend
         subst (λ o. FindsAll x t on m is_pending o) (whole_before a x b known st m is_pending damaged t reads stays scan some told lasts free stands rests sound)
         (found_still a x t on gone m is_pending damaged orderly fit reads looked told lasts free)
 
-    pub rest_keeps : BringsNoState a → Replaying x b known st m → (u : Slices) → AreOfDrives b (seat_by s again) u → state_in (sliced u (now_in b)) ≡ Some s → KeepsReplayed a b u
-    rest_keeps none replaying u of is =
-        let before = standing_by (disks_of a) (now_in a) st in
-        let targets = stands.targets lasts in
-        let still : brought ≡ st =
-        state_still a x b known st m is_pending damaged t reads stays scan some told lasts free stands rests sound (none before stands.stands) in
-        keeps_since a x reads told lasts b u single
-        (replaying t u on is_pending orderly fit.1 laid_now finds_now
-        (λ p. ap (λ xs. look xs (log_slice p) 0) targets ∙ none before stands.stands p)
-        (ap (λ xs. seated_state xs st) targets ∙ still)
-        (subst (λ (z : State). AreOfDrives x (seat_by z known) u) still (drives_before u of))
-        (is ∙ ap Some (same ∙ still)))
-
-    pub rest_fewer : KeepsPlaces a
-        → ((t u : Slices) (on : List ℕ) (is_pending : Bool) → IsLaid x known st t on → FindsAll x t on m is_pending None
-        → IsFewer known st (seated_state m.pending st) m on (reading (slices_of t x)) → AreOfDrives x (seat_by (seated_state m.pending st) known) u
-        → state_in (sliced u (now_in x)) ≡ Some st → KeepsReplayed x b u)
-        → (u : Slices) → AreOfDrives b (seat_by s again) u → state_in (sliced u (now_in a)) ≡ Some st → KeepsReplayed a b u
-    rest_fewer keeps replaying u of is =
+    pub rest_brought : TakesLower a → Replaying x b known st (seated_state m.pending st) m → (u : Slices) → AreOfDrives b (seat_by s again) u → state_in (sliced u (now_in a)) ≡ Some st → KeepsReplayed a b u
+    rest_brought lower replaying u of is =
         let before = standing_by (disks_of a) (now_in a) st in
         let here : brought ≡ seated_state m.pending st = ap (λ xs. seated_state xs st) (sym (stands.targets lasts)) in
         let drives = drives_before u of in
         keeps_since a x reads told lasts b u single
         (replaying t u on is_pending laid_now finds_now
-        (subst (λ (z : State). IsFewer known st z m on (reading (slices_of t x))) here
-        (brings_fewer a x b known st m is_pending damaged t reads stays scan some told lasts free stands rests sound on laid_now
+        (subst (λ (z : State). BringsState x known st z m on (reading (slices_of t x))) here
+        (brings_state a x b known st m is_pending damaged t reads stays scan some told lasts free stands rests sound on laid_now
         (λ k j few. ap (λ (c : Image). c k j) (same_reading t a x orderly fit.1 told lasts reads) ∙ stands.logs k j few)
-        (keeps before stands.stands)))
+        lower))
         (subst (λ (z : State). AreOfDrives x (seat_by z known) u) here drives)
         (ap state_in (shown_later a x reads told lasts u drives.orderly drives.inside) ∙ is))
+
+    -- a log slice of a drive begins with the state's sector
+    state_at : (u : Slices) → AreOfDrives b (seat_by s again) u → (p : ℕ) → 0 < sectors_of u (log_slice p) → first_of u (log_slice p) + 0 ≡ state_sector
+    unfolding extent_by
+    state_at u of p some =
+        let k = log_slice p in
+        let few : k < 272 = elim (cases_lt k 272) [ inl low ↦ low | inr past ↦ (let none = of.beyond k past in absurd (omega (arith, some, none))) ] in
+        by few (seat_of u (place_of k)) refl
+      where
+        log : ℕ
+        log = log_slice p
+
+        slice : slice_of log ≡ 0
+        slice = omega arith
+
+        of_room : (d : ℕ) (r : Bool) → Lies u log (if r then Some (record { first = state_sector; sectors = log_sectors }) else None) → first_of u log + 0 ≡ state_sector
+        of_room d true lies = (let first = lies.first some in omega (arith, first))
+        of_room d false lies = absurd (let none = lies.sectors in omega (arith, some, none))
+
+        by : log < 272 → (o : Option ℕ) → seat_of u (place_of log) ≡ o → first_of u log + 0 ≡ state_sector
+        by few None none = absurd (let nothing = of.orderly.seated log none in omega (arith, some, nothing))
+        by few (Some d) seat =
+            of_room d (nat_le arrays_first (b.sectors d))
+            (subst (λ n. Lies u log (extent_by (b.sectors d) (the_table (b.sectors d) (now_in b d)) n)) slice (of.lies log d few seat (inl slice)))
+
+    -- so it is of a record that writes no state's sector, by the state that stands at the end
+    pub rest_keeps : BringsNoState a → Replaying x b known st (seated_state m.pending st) m → (u : Slices) → AreOfDrives b (seat_by s again) u → state_in (sliced u (now_in b)) ≡ Some s → KeepsReplayed a b u
+    rest_keeps none replaying u of is =
+        rest_brought (lower_still a x b known st m is_pending damaged t reads stays scan some told lasts free stands rests sound none) replaying u of
+        (state_same (sliced u (now_in a)) (sliced u (now_in b)) kept ∙ is
+        ∙ ap Some (same ∙ state_still a x b known st m is_pending damaged t reads stays scan some told lasts free stands rests sound (none (standing_by (disks_of a) (now_in a) st) stands.stands)))
+      where
+        kept : (p : ℕ) → sliced u (now_in a) (log_slice p) 0 ≡ sliced u (now_in b) (log_slice p) 0
+        kept p = elim (cases_lt 0 (sectors_of u (log_slice p))) [
+          | inr past ↦ sliced_outside u (now_in a) (log_slice p) 0 past ∙ sym (sliced_outside u (now_in b) (log_slice p) 0 past)
+          | inl low ↦
+              let d = disk_of u (log_slice p) in
+              let at = state_at u of p low in
+              let there = disk_below u b (log_slice p) 0 of.orderly of.inside low in
+              let room = subst (λ n. n < b.sectors d) at (sector_below u b (log_slice p) 0 of.inside low) in
+              sliced_inside u (now_in a) (log_slice p) 0 low ∙ ap (now_in a d) at
+              ∙ sym (sector_still a x b known st m is_pending damaged t reads stays scan some told lasts free stands rests sound none d
+              (subst (λ n. d < n) all.disks there) (subst (λ n. state_sector < n) (all.sectors d) room))
+              ∙ sym (ap (now_in b d) at) ∙ sym (sliced_inside u (now_in b) (log_slice p) 0 low)
+        ]

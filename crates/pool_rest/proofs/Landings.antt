@@ -14,7 +14,7 @@ use Rattle.array_image.specs.Record.{is_target, are_apart}
 use Rattle.pool_image.specs.Disks.{Disks, Identities, seat_of}
 use Rattle.pool_image.specs.Replay.{Extent, slice_entry, extents_below, entry_extent, extent_by, landed}
 use Rattle.commit_log.proofs.Story.{payload_is}
-use Rattle.pool_rest.proofs.Cut.{extent_by_is, free_entry}
+use Rattle.pool_rest.proofs.Extents.{extent_by_is, free_entry}
 
 -- ---- targets that others come from
 

@@ -4,6 +4,7 @@ mod GonePlaces
 mod Fronts
 mod Landings
 mod BroughtCopies
+pub mod Extents
 mod Cut
 mod CutDrives
 mod Listed
@@ -19,8 +20,10 @@ mod Payloads
 mod Refusals
 mod Quiet
 mod Joined
+mod Joining
 pub mod Keeping
 mod Laid
 mod Stood
 pub mod Meant
 mod Moments
+pub mod Unwritten

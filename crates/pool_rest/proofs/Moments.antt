@@ -1,45 +1,44 @@
--- The replayed contents of the drives stay at each moment of a replay that brings no state.
-use Rattle.std.proofs.Common.{◌≡◌, ◌⊎◌, ℕ, ◌+◌, ◌<◌, ◌==◌, ◌&&◌, Bool, true, false, nat_le, nat_lt, ltb-true, if◌then◌else◌, List, [], Option, Some, None, unwrap_or, inl, inr, refl, sym, ap, subst, ◌∙◌, lt-ltb, le-ltb, arith}
+-- The replayed contents of the drives stay at each moment of a replay.
+use Rattle.std.proofs.Common.{◌≡◌, ◌⊎◌, ℕ, ◌+◌, ◌<◌, ◌≤◌, ◌==◌, Bool, true, false, nat_le, nat_lt, ltb-true, if◌then◌else◌, List, [], filter, Option, Some, None, unwrap_or, inl, inr, refl, sym, ap, subst, ◌∙◌, lt-ltb, leb-true, eq-eqb, arith}
 use Rattle.std.specs.Option.{option_map_or}
 use Rattle.std.specs.List.{range_with_len}
-use Rattle.std.proofs.lemmas.Bool.{and_from, and_parts, cases_Bool, cases_lt}
-use Rattle.std.proofs.lemmas.Option.{none-some}
+use Rattle.std.proofs.lemmas.Bool.{and_from, and_parts, both_ways, cases_lt}
 use Rattle.rack.specs.Values.{MayLeave}
 use Rattle.rack.specs.Seen.{Image, Seen, IsLive, IsPick}
 use Rattle.rack.specs.Moments.{Leaves}
 use Rattle.rack.specs.Joins.{leaves_then, leaves_weaker}
 use Rattle.rack.specs.Targets.{look, put}
-use Rattle.slice_rack.specs.Slices.{Slices, IsOrderly, disk_of, first_of, seat_of, sectors_of}
-use Rattle.slice_rack.specs.Sliced.{IsInside, sliced, slices_of}
+use Rattle.slice_rack.specs.Slices.{Slices, disk_of, first_of, seat_of, sectors_of}
+use Rattle.slice_rack.specs.Sliced.{sliced, slices_of}
 use Rattle.slice_rack.specs.Laws.{disk_below, sector_below}
 use Rattle.gpt_table.specs.Changes.{the_table}
 use Rattle.pool_state.specs.declared.contents.State.{State}
 use Rattle.array_image.specs.Arrays.{replayed}
 use Rattle.array_image.specs.Left.{reading}
 use Rattle.array_image.specs.Places.{arrays_first, log_sectors, log_slice, place_of, slice_of}
-use Rattle.array_image.specs.Record.{GateAt, gate_of, gate_sector, pending_at}
-use Rattle.array_image.specs.States.{current_places, is_current, state_in}
+use Rattle.array_image.specs.Record.{gate_sector}
+use Rattle.array_image.specs.States.{is_current, state_in}
 use Rattle.array_image.proofs.Frames.{state_same}
 use Rattle.array_image.proofs.Replays.{SameLogs, replayed_same}
+use Rattle.pool_image.specs.Alike.{drive_gate}
 use Rattle.pool_image.specs.Replay.{extent_by}
 use Rattle.commit_log.specs.View.{LogView, is_left, left_of, names}
-use Rattle.commit_log.specs.AtRest.{Opened}
 use Rattle.commit_log.specs.Commits.{Stands}
-use Rattle.commit_log.specs.Opening.{CanReplay, Replays, StandsAmid}
-use Rattle.commit_log.specs.Standing.{IsLogPart, StatesStand}
-use Rattle.commit_log.proofs.Amid.{no_gate_in_nothing, replayed_as}
-use Rattle.commit_log.proofs.Fewer.{names_filter}
-use Rattle.commit_log.proofs.Replayable.{opened_can_replay, pending_named}
+use Rattle.commit_log.specs.Opening.{CanReplay, Replays}
+use Rattle.commit_log.specs.Standing.{IsLogPart}
+use Rattle.commit_log.proofs.Amid.{replayed_as}
+use Rattle.commit_log.proofs.Fewer.{filter_names, names_filter}
+use Rattle.commit_log.proofs.Replayable.{pending_named}
 use Rattle.commit_log.proofs.Story.{logs_named}
 use Rattle.pool_scan.specs.declared.Known.{Known}
 use Rattle.pool_scan.specs.Choosing.{seat_by}
 use Rattle.pool_scan.proofs.Seated.{seat_by_stands}
 use Rattle.pool_scan.specs.Scanning.{AllTold, IsUnfaulted, now_in}
-use Rattle.pool_rest.specs.Moments.{AreOfDrives, GivesNow, IsFewer, KeepsReplayed}
+use Rattle.pool_rest.specs.Moments.{AreOfDrives, BringsState, GivesNow, IsGateBelow, KeepsReplayed}
 use Rattle.pool_rest.specs.Resting.{AreSingle}
 use Rattle.pool_rest.specs.Standing.{FindsAll, IsLaid, IsLasting}
-use Rattle.pool_rest.proofs.DriveReplays.{closing_logs}
-use Rattle.pool_rest.proofs.Fewer.{finds_fewer}
+use Rattle.pool_rest.proofs.Fewer.{at_fewer, finds_fewer}
+use Rattle.pool_rest.proofs.Joining.{joining_can_replay}
 use Rattle.pool_rest.proofs.Sliced.{SameAt, replayed_outside, replayed_sized, same_lies, same_sliced, sliced_inside, sliced_outside, stands_amid}
 use Rattle.pool_rest.proofs.OnDrives.{OnDrives, log_first, past_none, slice_lies, sliced_place}
 
@@ -229,176 +228,63 @@ module _ {x w y : Seen} {known : List Known} {s : State} {t v : Slices} {on unre
           })))));
     }
 
-  -- ---- what the log found is what is replayed
-
-  module _ (t0 : Slices) (on0 : List ℕ) (is_pending : Bool) (orderly0 : IsOrderly t0) (inside0 : IsInside t0 x) (laid : IsLaid x known s t0 on0)
-      (finds : FindsAll x t0 on0 l is_pending None) (none : (p : ℕ) → look l.pending (log_slice p) 0 ≡ None) where
-    -- the log slices that were looked at are those that are replayed
-    logs_at : (p : ℕ) → SameAt t0 v (log_slice p)
-    logs_at p = elim (cases_lt p 16) [
-      | inr past ↦
-          let here = laid.none (log_slice p) (omega (arith, past)) in
-          let there = past_none parts (log_slice p) (omega (arith, past)) in
-          record { sectors = there ∙ sym here; first = λ more. absurd (omega (arith, more, here)); disk = λ more. absurd (omega (arith, more, here)) }
-      | inl few ↦
-          let place : place_of (log_slice p) ≡ p = omega arith in
-          let slice : slice_of (log_slice p) ≡ 0 = omega arith in
-          let low : place_of (log_slice p) < 16 = omega (arith, few, place) in
-          let size = parts.cut.sectors (log_slice p) slice ∙ parts.laid.sectors (log_slice p) low ∙ sym (laid.sectors (log_slice p) (omega (arith, few))) in
-          record {
-            sectors = size;
-            first = λ more.
-                log_first parts (log_slice p) slice (omega (arith, more, size)) ∙ sym (laid.firsts (log_slice p) more);
-            disk = λ more.
-                ap (λ (o : Option ℕ). unwrap_or o 0)
-                (parts.cut.seats (place_of (log_slice p)) ∙ parts.laid.seats (place_of (log_slice p)) low ∙ sym (laid.seats (place_of (log_slice p)) low));
-          }
-    ]
-
-    live_0 : (k j : ℕ) → k < 272 → j < sectors_of t0 k → IsLive (slices_of t0 x) (slices_of t0 x) k j
-    live_0 k j few low = record {
-      disk = few;
-      sector = low;
-      is_told = told (disk_of t0 k) (disk_below t0 x k j orderly0 inside0 low);
-      unspent = lasts.unspent (disk_of t0 k) (first_of t0 k + j);
-    }
-
-    opened : state_in (reading (slices_of t0 x)) ≡ Some s → Opened s s l on0 (slices_of t0 x)
-    opened state = record {
-      rest = record {
-        lasting = lasts.lasting;
-        live = λ k j few low. live_0 k j few low;
-        single = λ p j few low. single (disk_of t0 (log_slice p)) (first_of t0 (log_slice p) + j) (disk_below t0 x (log_slice p) j orderly0 inside0 low) (sector_below t0 x (log_slice p) j inside0 low);
-        state = state;
-        places = laid.places;
-        slices = laid.whole;
-      };
-      is_pending = is_pending;
-      finds = finds;
-      brings = record { copies = λ p b is. absurd (none-some b (sym (none p) ∙ is)); either = inl refl };
-    }
-
-    -- where the calls before have only read, the same can be replayed
-    module _ (can : CanReplay l (slices_of t0 x)) where
-      size_back : (p j : ℕ) → j < sectors_of v (log_slice p) → j < sectors_of t0 (log_slice p)
-      size_back p j low = let size = (logs_at p).sectors in omega (arith, low, size)
-
-      old : (p j : ℕ) (b : List ℕ) → j < sectors_of v (log_slice p) → MayLeave ((slices_of v w).held (log_slice p) j) b → MayLeave ((slices_of t0 x).held (log_slice p) j) b
-      old p j b low may =
-          let same = logs_at p in
-          let some : 0 < sectors_of t0 (log_slice p) = (let back = size_back p j low in omega (arith, back)) in
-          let disk = disk_below v w (log_slice p) j parts.orderly parts.inside low in
-          let sector = sector_below v w (log_slice p) j parts.inside low in
-          subst (λ n. MayLeave (x.held (disk_of t0 (log_slice p)) (n + j)) b) (same.first some)
-          (subst (λ d. MayLeave (x.held d (first_of v (log_slice p) + j)) b) (same.disk some)
-          ((parts.reads.keeps.held (disk_of v (log_slice p)) (first_of v (log_slice p) + j) (live_x (disk_of v (log_slice p)) (first_of v (log_slice p) + j) disk sector)).within b may))
-
-      states : (c : Image) → StatesStand l.pending (slices_of v w) c → StatesStand l.pending (slices_of t0 x) c
-      states c stand = record {
-        picks = λ p live.
-            let size = (logs_at p).sectors in
-            let low : 0 < sectors_of v (log_slice p) = (let some = live.sector in omega (arith, some, size)) in
-            elim (stand.picks p (live_w (log_slice p) 0 low)) [
-              | inl here ↦ inl (old p 0 (c (log_slice p) 0) low here)
-              | inr new ↦ inr new
-            ];
-        inside = λ p nothing. stand.inside p ((logs_at p).sectors ∙ nothing);
-      }
-
-      before : (c : Image) → StandsAmid l.pending (slices_of v w) c → StandsAmid l.pending (slices_of t0 x) c
-      before c is = record {
-        states = states c is.states;
-        parts = λ p j some live.
-            let size = (logs_at p).sectors in
-            let low : j < sectors_of v (log_slice p) = (let inside = live.sector in omega (arith, inside, size)) in
-            old p j (c (log_slice p) j) low (is.parts p j some (live_w (log_slice p) j low));
-        inside = λ p j past. is.inside p j (let size = (logs_at p).sectors in omega (arith, past, size));
-      }
-
-      can_now : CanReplay l (slices_of v w)
-      can_now = record {
-        lasting = parts.reads.stays.lasting lasts.lasting;
-        logs = λ p j few low. live_w (log_slice p) j low;
-        targets = λ k j b is low. live_w k j low;
-        numbers = λ c stand p decides low b may. can.numbers c (states c stand) p decides (size_back p gate_sector low) b (old p gate_sector b low may);
-        same = λ c is. can.same c (before c is);
-        whole = λ c is. can.whole c (before c is);
-        number = λ c is. can.number c (before c is);
-      }
-
-    -- the state's sectors are as they were
-    state_kept : (p : ℕ) → reading (slices_of t0 x) (log_slice p) 0 ≡ sliced u (now_in y) (log_slice p) 0
-    state_kept p = elim (cases_lt 0 (sectors_of v (log_slice p))) [
-      | inr nothing ↦
-          sliced_outside t0 (now_in x) (log_slice p) 0 (let size = (logs_at p).sectors in omega (arith, nothing, size))
-          ∙ sym (sliced_outside u (now_in y) (log_slice p) 0 (let size = (logs_same p).sectors in omega (arith, nothing, size)))
-      | inl some ↦
-          let live = live_w (log_slice p) 0 some in
-          let stays = parts.call.stays in
-          let kept =
-          parts.call.apart (log_slice p) 0
-          (record {
-            disk = live.disk;
-            sector = live.sector;
-            is_told = live.is_told;
-            unspent = stays.lasts (parts.reads.stays.lasting lasts.lasting) (log_slice p) 0 live.unspent;
-          })
-          (λ shutting. let gate = shutting.gate in omega (arith, gate))
-          (none p) in
-          same_sliced t0 v (now_in x) (log_slice p) 0 (logs_at p)
-          ∙ sliced_inside v (now_in x) (log_slice p) 0 some
-          ∙ sym (now_w (disk_of v (log_slice p)) (first_of v (log_slice p) + 0) (disk_below v w (log_slice p) 0 parts.orderly parts.inside some) (sector_below v w (log_slice p) 0 parts.inside some))
-          ∙ sym kept.current
-          ∙ sym (sliced_inside v (now_in y) (log_slice p) 0 some)
-          ∙ sym (same_sliced u v (now_in y) (log_slice p) 0 (logs_same p))
-    ]
-
-    pub found_keeps : state_in (sliced u (now_in y)) ≡ Some s → KeepsReplayed x y u
-    found_keeps state =
-        replay_keeps (can_now (opened_can_replay s s l on0 (slices_of t0 x) (opened (state_same (reading (slices_of t0 x)) (sliced u (now_in y)) state_kept ∙ state))))
-
-  -- ---- a record that brings a state whose places all were current before
+  -- ---- the record that was found
 
   module _ (s0 : State) (t0 : Slices) (on0 : List ℕ) (is_pending : Bool) (laid : IsLaid x known s0 t0 on0) (finds : FindsAll x t0 on0 l is_pending None)
-      (brings : IsFewer known s0 s l on0 (reading (slices_of t0 x))) (state : state_in (sliced u (now_in x)) ≡ Some s0) where
+      (brings : BringsState x known s0 s l on0 (reading (slices_of t0 x))) (state : state_in (sliced u (now_in x)) ≡ Some s0) where
     -- a place that is replayed has its disk, and is current
-    seat_is : (p : ℕ) → 0 < sectors_of v (log_slice p) → (p < 16) × (is_current s p ≡ true)
+    seat_is : (p : ℕ) → 0 < sectors_of v (log_slice p) → (p < 16) × (seat_by s known p ≡ Some (disk_of v (log_slice p)))
     seat_is p some =
         let place : place_of (log_slice p) ≡ p = omega arith in
         let at = sliced_place parts (log_slice p) some in
-        let seat : seat_by s known p ≡ Some (disk_of v (log_slice p)) = ap (seat_by s known) (sym place) ∙ at.1 in
         let few = at.0 in
-        (omega (arith, few, place), (seat_by_stands s known p (disk_of v (log_slice p)) seat).2)
+        (omega (arith, few, place), ap (seat_by s known) (sym place) ∙ at.1)
+
+    current_is : (p : ℕ) → 0 < sectors_of v (log_slice p) → is_current s p ≡ true
+    current_is p some = (seat_by_stands s known p (disk_of v (log_slice p)) (seat_is p some).1).2
 
     there : (p : ℕ) → names on p ≡ true → 0 < sectors_of v (log_slice p)
     there p named =
         let test = and_parts (nat_lt p 16) (nat_lt 0 (sectors_of t (log_slice p))) (sym (parts.laid.places p) ∙ named) in
         subst (λ n. 0 < n) (sym (parts.cut.sectors (log_slice p) (omega arith))) (ltb-true 0 (sectors_of t (log_slice p)) test.1)
 
-    named_there : (p : ℕ) → 0 < sectors_of v (log_slice p) → names on p ≡ true
-    named_there p some =
-        parts.laid.places p
+    -- those that were current before
+    abbrev both : List ℕ
+    both = filter (is_current s0) on
+
+    was : (p : ℕ) → names both p ≡ true → (is_current s0 p ≡ true) × (0 < sectors_of v (log_slice p))
+    was p named = (let of = names_filter (is_current s0) on p named in (of.0, there p of.1))
+
+    named_there : (p : ℕ) → is_current s0 p ≡ true → 0 < sectors_of v (log_slice p) → names both p ≡ true
+    named_there p before some =
+        filter_names (is_current s0) on p before
+        (parts.laid.places p
         ∙ and_from (nat_lt p 16) (nat_lt 0 (sectors_of t (log_slice p))) (lt-ltb p 16 (seat_is p some).0)
-        (lt-ltb 0 (sectors_of t (log_slice p)) (subst (λ n. 0 < n) (parts.cut.sectors (log_slice p) (omega arith)) some))
+        (lt-ltb 0 (sectors_of t (log_slice p)) (subst (λ n. 0 < n) (parts.cut.sectors (log_slice p) (omega arith)) some)))
 
-    -- it had that disk before
-    same_seat : (p : ℕ) → is_current s p ≡ true → seat_by s known p ≡ seat_by s0 known p
-    same_seat p current = brings.seats p (brings.current p current) current
+    log_size : (p : ℕ) → p < 16 → sectors_of v (log_slice p) ≡ option_map_or (λ d. if nat_le arrays_first (x.sectors d) then log_sectors else 0) (seat_by s known p) 0
+    log_size p few =
+        let place : place_of (log_slice p) ≡ p = omega arith in
+        let slice : slice_of (log_slice p) ≡ 0 = omega arith in
+        parts.cut.sectors (log_slice p) slice ∙ parts.laid.sectors (log_slice p) (omega (arith, few, place))
+        ∙ ap (λ b. if b then option_map_or (λ d. if nat_le arrays_first (x.sectors d) then log_sectors else 0) (seat_by s known (place_of (log_slice p))) 0 else 0) (eq-eqb (slice_of (log_slice p)) 0 slice)
+        ∙ ap (λ q. option_map_or (λ d. if nat_le arrays_first (x.sectors d) then log_sectors else 0) (seat_by s known q) 0) place
 
-    same_size : (p : ℕ) → p < 16 → is_current s p ≡ true → sectors_of v (log_slice p) ≡ sectors_of t0 (log_slice p)
-    same_size p few current =
+    same_size : (p : ℕ) → p < 16 → is_current s0 p ≡ true → is_current s p ≡ true → sectors_of v (log_slice p) ≡ sectors_of t0 (log_slice p)
+    same_size p few before now =
         let place : place_of (log_slice p) ≡ p = omega arith in
         let low : place_of (log_slice p) < 16 = omega (arith, few, place) in
         parts.cut.sectors (log_slice p) (omega arith) ∙ parts.laid.sectors (log_slice p) low
         ∙ ap (λ o. if slice_of (log_slice p) == 0 then option_map_or (λ d. if nat_le arrays_first (x.sectors d) then log_sectors else 0) o 0 else 0)
-        (ap (seat_by s known) place ∙ same_seat p current ∙ ap (seat_by s0 known) (sym place))
+        (ap (seat_by s known) place ∙ brings.seats p before now ∙ ap (seat_by s0 known) (sym place))
         ∙ sym (laid.sectors (log_slice p) (omega (arith, few)))
 
-    kept_log : (p : ℕ) → names on p ≡ true → SameAt t0 v (log_slice p)
+    kept_log : (p : ℕ) → names both p ≡ true → SameAt t0 v (log_slice p)
     kept_log p named =
-        let is = seat_is p (there p named) in
-        let few = is.0 in
-        let size = same_size p few is.1 in
+        let before = was p named in
+        let now = current_is p before.1 in
+        let few = (seat_is p before.1).0 in
+        let size = same_size p few before.0 now in
         let place : place_of (log_slice p) ≡ p = omega arith in
         let low : place_of (log_slice p) < 16 = omega (arith, few, place) in
         record {
@@ -407,15 +293,16 @@ module _ {x w y : Seen} {known : List Known} {s : State} {t v : Slices} {on unre
           disk = λ more.
               ap (λ (o : Option ℕ). unwrap_or o 0)
               (parts.cut.seats (place_of (log_slice p)) ∙ parts.laid.seats (place_of (log_slice p)) low
-              ∙ (ap (seat_by s known) place ∙ same_seat p is.1 ∙ ap (seat_by s0 known) (sym place)) ∙ sym (laid.seats (place_of (log_slice p)) low));
+              ∙ (ap (seat_by s known) place ∙ brings.seats p before.0 now ∙ ap (seat_by s0 known) (sym place)) ∙ sym (laid.seats (place_of (log_slice p)) low));
         }
 
-    fewer : (p : ℕ) → names on p ≡ true → names on0 p ≡ true
+    fewer : (p : ℕ) → names both p ≡ true → names on0 p ≡ true
     fewer p named =
-        let some = there p named in
+        let before = was p named in
+        let some = before.1 in
         let size = (kept_log p named).sectors in
         laid.places p
-        ∙ and_from (is_current s0 p) (nat_lt 0 (sectors_of t0 (log_slice p))) (brings.current p (seat_is p some).1)
+        ∙ and_from (is_current s0 p) (nat_lt 0 (sectors_of t0 (log_slice p))) before.0
         (lt-ltb 0 (sectors_of t0 (log_slice p)) (omega (arith, some, size)))
 
     few_named : (p : ℕ) → names on0 p ≡ true → p < 16
@@ -431,68 +318,58 @@ module _ {x w y : Seen} {known : List Known} {s : State} {t v : Slices} {on unre
           ∙ sym (sliced_inside v (now_in x) k j low)
     ]
 
-    agree : (p j : ℕ) → names on p ≡ true → 0 < j → j < log_sectors → reading (slices_of v w) (log_slice p) j ≡ reading (slices_of t0 x) (log_slice p) j
+    agree : (p j : ℕ) → names both p ≡ true → 0 < j → j < log_sectors → reading (slices_of v w) (log_slice p) j ≡ reading (slices_of t0 x) (log_slice p) j
     agree p j named some below = read_x (log_slice p) j ∙ sym (same_sliced t0 v (now_in x) (log_slice p) j (kept_log p named))
 
     -- the place that the record is read from is replayed too
-    at_kept : names on brings.at.place ≡ true
+    at_kept : names both brings.at.place ≡ true
     at_kept =
         let p = brings.at.place in
         let at = pending_named (left_of on0 []) (reading (slices_of t0 x)) brings.at brings.source in
         let named : names on0 p ≡ true = (and_parts (names on0 p) true (names_filter (is_left on0 []) (range_with_len 0 16) p at.0).0).0 in
+        let before : is_current s0 p ≡ true = (and_parts (is_current s0 p) (nat_lt 0 (sectors_of t0 (log_slice p))) (sym (laid.places p) ∙ named)).0 in
         let log = logs_named (sectors_of t0) on0 p laid.whole named in
-        let size = same_size p log.0 brings.left in
+        let size = same_size p log.0 before brings.left in
         let full = log.1 in
-        named_there p (omega (arith, size, full))
+        named_there p before (omega (arith, size, full))
 
-    places_now : (p : ℕ) → names on p ≡ (is_current s0 p && nat_lt 0 (sectors_of v (log_slice p)))
-    places_now p = elim (cases_lt 0 (sectors_of v (log_slice p))) [
-      | inl some ↦
-          named_there p some
-          ∙ sym (and_from (is_current s0 p) (nat_lt 0 (sectors_of v (log_slice p))) (brings.current p (seat_is p some).1) (lt-ltb 0 (sectors_of v (log_slice p)) some))
-      | inr none ↦ elim (cases_Bool (names on p)) [
-        | inl named ↦ absurd (let some = there p named in omega (arith, some, none))
-        | inr other ↦ other ∙ sym (ap (λ b. is_current s0 p && b) (le-ltb 0 (sectors_of v (log_slice p)) none) ∙ no_other (is_current s0 p))
-      ]
-    ]
+    -- a drive that is taken in has a lower gate
+    gate_joins : (p : ℕ) → is_current s0 p ≡ false → is_current s p ≡ true → 0 < sectors_of v (log_slice p)
+        → IsGateBelow brings.at.gate.number (reading (slices_of v w) (log_slice p) gate_sector)
+    gate_joins p not now some =
+        let seat = seat_is p some in
+        let d = disk_of v (log_slice p) in
+        let room = by (nat_le arrays_first (x.sectors d)) refl (log_size p seat.0 ∙ ap (λ o. option_map_or (λ d. if nat_le arrays_first (x.sectors d) then log_sectors else 0) o 0) seat.1) in
+        let first = log_first parts (log_slice p) (omega arith) some in
+        let gate : first_of v (log_slice p) + gate_sector ≡ drive_gate = omega (arith, first) in
+        subst (IsGateBelow brings.at.gate.number)
+        (sym (read_x (log_slice p) gate_sector
+        ∙ sliced_inside v (now_in x) (log_slice p) gate_sector (let size = room.1 in omega (arith, size))
+        ∙ ap (now_in x d) gate))
+        (brings.joins p d not seat.1 room.0)
       where
-        no_other : (b : Bool) → (b && false) ≡ false
-        no_other true = refl
-        no_other false = refl
+        by : (b : Bool) → nat_le arrays_first (x.sectors (disk_of v (log_slice p))) ≡ b
+            → sectors_of v (log_slice p) ≡ (if nat_le arrays_first (x.sectors (disk_of v (log_slice p))) then log_sectors else 0)
+            → (arrays_first ≤ x.sectors (disk_of v (log_slice p))) × (sectors_of v (log_slice p) ≡ log_sectors)
+        by true room is = (leb-true arrays_first (x.sectors (disk_of v (log_slice p))) room, is ∙ ap (λ b. if b then log_sectors else 0) room)
+        by false short is = absurd (let none = is ∙ ap (λ b. if b then log_sectors else 0) short in omega (arith, some, none))
 
-    gate_there : (g : GateAt) → pending_at (current_places s0) (reading (slices_of v w)) ≡ Some g → is_current s g.place ≡ true
-    gate_there g is = elim (cases_lt 0 (sectors_of v (log_slice g.place))) [
-      | inl some ↦ (seat_is g.place some).1
-      | inr none ↦
-          absurd (none-some g.gate
-          (sym (ap gate_of (sliced_outside v (now_in w) (log_slice g.place) gate_sector (omega (arith, none))) ∙ no_gate_in_nothing)
-          ∙ (pending_named (current_places s0) (reading (slices_of v w)) g is).1))
-    ]
-
-    opened_fewer : Opened s0 s l on (slices_of v w)
-    opened_fewer = record {
-      rest = record {
-        lasting = parts.reads.stays.lasting lasts.lasting;
-        live = λ k j few low. live_w k j low;
-        single = λ p j few low b may.
-            let disk = disk_below v w (log_slice p) j parts.orderly parts.inside low in
-            let sector = sector_below v w (log_slice p) j parts.inside low in
-            one_value (disk_of v (log_slice p)) (first_of v (log_slice p) + j) b disk sector may ∙ sym (now_w (disk_of v (log_slice p)) (first_of v (log_slice p) + j) disk sector);
-        state =
-            state_same (reading (slices_of v w)) (sliced u (now_in x)) (λ p. read_x (log_slice p) 0 ∙ sym (same_logs (now_in x) p 0)) ∙ state;
-        places = places_now;
-        slices = closing_logs x w known s t v on unread on parts.laid parts.cut (λ p named. named);
-      };
-      is_pending = is_pending;
-      finds = finds_fewer l on0 on (reading (slices_of t0 x)) (reading (slices_of v w)) is_pending brings.at few_named fewer agree brings.source at_kept finds;
-      brings = record {
-        copies = λ p b is. (p, brings.copies p b is);
-        either = elim brings.next [
-          | inl same ↦ inl same
-          | inr later ↦ inr (record { later = later; current = brings.current; source = gate_there })
-        ];
-      };
-    }
-
-    pub fewer_keeps : KeepsReplayed x y u
-    fewer_keeps = replay_keeps (opened_can_replay s0 s l on (slices_of v w) opened_fewer)
+    pub brought_keeps : KeepsReplayed x y u
+    brought_keeps =
+        replay_keeps (joining_can_replay l both s0 s (slices_of v w) is_pending brings.at
+        (parts.reads.stays.lasting lasts.lasting) (λ k j low. live_w k j low)
+        (λ p j low b may.
+        let disk = disk_below v w (log_slice p) j parts.orderly parts.inside low in
+        let sector = sector_below v w (log_slice p) j parts.inside low in
+        one_value (disk_of v (log_slice p)) (first_of v (log_slice p) + j) b disk sector may ∙ sym (now_w (disk_of v (log_slice p)) (first_of v (log_slice p) + j) disk sector))
+        (state_same (reading (slices_of v w)) (sliced u (now_in x)) (λ p. read_x (log_slice p) 0 ∙ sym (same_logs (now_in x) p 0)) ∙ state)
+        (λ p named. (seat_is p (was p named).1).0)
+        (λ p named. ((was p named).0, current_is p (was p named).1))
+        (λ p out before. elim (cases_lt 0 (sectors_of v (log_slice p))) [
+          | inl some ↦ absurd (both_ways (names both p) out (named_there p before some))
+          | inr none ↦ (let least : sectors_of v (log_slice p) ≡ 0 = omega (arith, none) in least)
+        ])
+        gate_joins
+        (finds_fewer l on0 both (reading (slices_of t0 x)) (reading (slices_of v w)) is_pending brings.at few_named fewer agree brings.source at_kept finds)
+        (at_fewer l on0 both (reading (slices_of t0 x)) (reading (slices_of v w)) is_pending brings.at few_named fewer agree brings.source at_kept finds)
+        at_kept brings.next brings.copies)

@@ -1,6 +1,6 @@
 -- A pool whose logs were sound is quiet once it was brought to rest.
-use Rattle.std.proofs.Common.{◌≡◌, ◌≢◌, ◌⊎◌, ℕ, suc, ◌+◌, ◌<◌, ◌≤◌, ◌==◌, ◌&&◌, not, Bool, true, false, nat_le, if◌then◌else◌, is_some, List, [], ◌∷◌, length, map, slice_get, codes, bytes_eq, replicate, Option, Some, None, refl, sym, ap, ap₂, subst, ◌∙◌, inl, inr, arith, leb-true}
-use Rattle.std.specs.List.{list_all, range_with_len}
+use Rattle.std.proofs.Common.{◌≡◌, ◌≢◌, ◌⊎◌, ℕ, suc, ◌+◌, ◌<◌, ◌≤◌, ◌==◌, ◌&&◌, not, Bool, true, false, nat_le, if◌then◌else◌, is_some, List, [], ◌∷◌, length, map, slice_get, codes, bytes_eq, replicate, Option, Some, None, refl, sym, ap, ap₂, subst, ◌∙◌, inl, inr, unwrap_or, arith, leb-true, lt-ltb}
+use Rattle.std.specs.List.{filter_map, list_all, range_with_len}
 use Rattle.std.proofs.lemmas.Bool.{cases_Bool, both_ways, and_parts}
 use Rattle.std.proofs.lemmas.List.FromFn.{length-map-range_with_len}
 use Rattle.std.proofs.lemmas.Option.{none-some, cond_some}
@@ -15,14 +15,14 @@ use Rattle.slice_rack.specs.Slices.{Slices}
 use Rattle.slice_rack.specs.Sliced.{slices_of}
 use Rattle.array_image.specs.Left.{reading}
 use Rattle.array_image.specs.Foremost.{foremost}
-use Rattle.array_image.specs.Places.{log_slice, arrays_first}
+use Rattle.array_image.specs.Places.{log_slice, state_sector, arrays_first}
 use Rattle.array_image.specs.Record.{Gate, GateAt, gate_of, half_of, log_bytes, target_at, is_target, are_apart, record_of, pending_at, pending, damaged_log}
 use Rattle.array_image.specs.States.{is_current, current_places}
 use Rattle.pool_image.specs.Disks.{Disks, Identity, disks_of, identities_of, newest, seat_of}
-use Rattle.pool_image.specs.Replay.{Standing, standing, standing_by, written}
+use Rattle.pool_image.specs.Replay.{Standing, landed, standing, standing_by, written}
 use Rattle.pool_image.specs.Alike.{drive_gate, IsSameButGates, MeansTheSame}
 use Rattle.pool_image.specs.Meaning.{has_other_pool}
-use Rattle.pool_image.proofs.Identities.{newest_same, other_same, same_but_gates, seat_same}
+use Rattle.pool_image.proofs.Identities.{newest_same, other_same, same_but_gates, seat_inside, seat_same}
 use Rattle.pool_image.proofs.Rested.{stood_by}
 use Rattle.commit_log.specs.View.{LogView, names}
 use Rattle.commit_log.proofs.Counting.{is_listed}
@@ -35,16 +35,17 @@ use Rattle.pool_scan.specs.declared.Known.{Known}
 use Rattle.pool_scan.specs.Scanning.{AllTold, IsScan, IsUnfaulted, as_read, now_in}
 use Rattle.pool_scan.specs.Choosing.{AreOf, has_pool_other_than}
 use Rattle.pool_scan.proofs.Meant.{scan_meant, newest_meant, other_meant}
-use Rattle.pool_scan.proofs.Seated.{seat_by_is}
+use Rattle.pool_scan.proofs.Seated.{seat_by_is, seat_by_stands}
 use Rattle.shr_base.specs.declared.Id.{Id}
 use Rattle.pool_rest.specs.declared.standing.FindFault.{FindFault}
 use Rattle.pool_rest.specs.declared.standing.FindFault.TheVariants.{NoPool, TwoPools, Memory}
-use Rattle.pool_rest.specs.Moments.{IsFewer}
+use Rattle.pool_rest.specs.Moments.{BringsNoState, BringsState, IsGateBelow, TakesLower}
 use Rattle.pool_rest.specs.Standing.{IsLaid, IsLasting, StandsAs, IsCause, since}
 use Rattle.pool_rest.specs.Resting.{AreShut, Rests, StandsNow, seated_state}
 use Rattle.pool_rest.specs.SoundLogs.{IsSoundLog, HasSoundLogs, IsSettled}
 use Rattle.pool_rest.proofs.Agreeing.{disks_same, told_later, reads_agree, logs_agree}
 use Rattle.pool_rest.proofs.BroughtCopies.{other_still, tables}
+use Rattle.pool_rest.proofs.Landings.{where_landed}
 use Rattle.pool_rest.proofs.Meant.{few_newest, pending_asked}
 use Rattle.pool_rest.proofs.Settled.{newest_now, none_now, seats_same, whole_now}
 
@@ -201,11 +202,38 @@ module _ (a x b : Seen) (known : List Known) (st : State) (m : LogView) (is_pend
         | inr later ↦ (let copy = later.copy source.0 source.1 in absurd (none-some copy.0 (sym (none source.0.place) ∙ copy.1)))
       ]
 
-  -- where all places that are current by it were so before, the log finds it on fewer places
-  pub brings_fewer : (on : List ℕ) → IsLaid x known st t on → ((k u : ℕ) → k < 272 → reading (slices_of t x) k u ≡ before.logs k u)
-      → ((p : ℕ) → is_current brought p ≡ true → is_current st p ≡ true) → IsFewer known st brought m on (reading (slices_of t x))
-  brings_fewer on laid logs current = record {
-    current = current;
+  -- it takes no drive in then
+  pub lower_still : BringsNoState a → TakesLower a
+  lower_still none y at g p d is not seat room =
+      absurd (subst (λ (y : Standing). is_current y.state p ≡ false → seat_of (seated_state y.targets y.state) disks y.identities p ≡ Some d → ⊥)
+      (some_standing before y (sym stands.stands ∙ at))
+      (λ not seat.
+      both_ways (is_current st p) not
+      (seat_by_stands st known p d (seat_by_is disks (identities_of disks c) known are st p ∙ subst (λ (z : State). seat_of z disks (identities_of disks c) p ≡ Some d) (state_still (none before stands.stands)) seat)).2)
+      not seat)
+
+  -- and no state's sector is written
+  pub sector_still : BringsNoState a → (d : ℕ) → d < disks.count → state_sector < disks.sectors d → e d state_sector ≡ c d state_sector
+  sector_still none d there room =
+      rests.contents d state_sector there room (λ is. absurd (omega (arith, is)))
+      ∙ ap (λ b. if b then unwrap_or (look landings d state_sector) (c d state_sector) else c d state_sector) (lt-ltb state_sector (disks.sectors d) room)
+      ∙ of_look (look landings d state_sector) refl
+    where
+      landings : List Target
+      landings = filter_map (landed disks (identities_of disks c) (seat_of brought disks (identities_of disks c))) before.targets
+
+      of_look : (o : Option (List ℕ)) → look landings d state_sector ≡ o → unwrap_or (look landings d state_sector) (c d state_sector) ≡ c d state_sector
+      of_look None at = ap (λ (o : Option (List ℕ)). unwrap_or o (c d state_sector)) at
+      of_look (Some v) at =
+          elim (where_landed disks (identities_of disks c) brought before.targets (pending_sound (current_places st) before.logs).valid (pending_sound (current_places st) before.logs).apart d state_sector v at) [
+            | inl copy ↦ absurd (none-some v (sym (none before stands.stands copy.place) ∙ copy.target))
+            | inr part ↦ absurd (omega (arith, part.0))
+          ]
+
+  -- the record brings that state, as the log finds it
+  pub brings_state : (on : List ℕ) → IsLaid x known st t on → ((k u : ℕ) → k < 272 → reading (slices_of t x) k u ≡ before.logs k u)
+      → TakesLower a → BringsState x known st brought m on (reading (slices_of t x))
+  brings_state on laid logs lower = record {
     seats = λ p was is. seat_by_is disks (identities_of disks c) known are brought p ∙ log.seats p was is ∙ sym (seat_by_is disks (identities_of disks c) known are st p);
     copies = λ p u is. log.copies p u (sym (ap (λ xs. look xs (log_slice p) 0) targets) ∙ is);
     next = elim log.next [ inl same ↦ inl same | inr later ↦ inr later.later ];
@@ -218,6 +246,12 @@ module _ (a x b : Seen) (known : List Known) (st : State) (m : LogView) (is_pend
           (sym (ap (λ ps. names ps source.0.place) (current_of_all st few_before)) ∙ (pending_named (current_places st) before.logs source.0 source.1).0)).0
       | inr later ↦ later.source source.0 source.1
     ];
+    joins = λ p d not seat room.
+        let at : seat_of brought disks (identities_of disks c) p ≡ Some d = sym (seat_by_is disks (identities_of disks c) known are brought p) ∙ seat in
+        let there : arrays_first ≤ a.sectors d = subst (λ n. arrays_first ≤ n) (reads.stays.sectors d) room in
+        subst (IsGateBelow source.0.gate.number)
+        (sym (reads_agree a x reads told lasts d drive_gate (seat_inside brought disks (identities_of disks c) p d at) (omega (arith, there))))
+        (lower before stands.stands source.0 p d source.1 not at there);
   }
 
   pub whole_before : damaged ≡ None

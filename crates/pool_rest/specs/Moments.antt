@@ -1,5 +1,5 @@
 -- What a stop inside a replay leaves, by slices of the drives.
-use Rattle.std.specs.Prelude.{◌≡◌, ◌⊎◌, ℕ, ◌<◌, ◌≤◌, true, List, [], Option, Some, None, Ok}
+use Rattle.std.specs.Prelude.{◌≡◌, ◌⊎◌, ℕ, ◌<◌, ◌≤◌, true, false, List, [], Option, Some, None, Ok}
 use Rattle.rack.specs.Seen.{Image, Seen, IsPick}
 use Rattle.rack.specs.Moments.{Leaves}
 use Rattle.rack.specs.Targets.{look}
@@ -9,10 +9,11 @@ use Rattle.slice_rack.specs.Sliced.{IsInside, sliced}
 use Rattle.pool_state.specs.declared.contents.State.{State}
 use Rattle.pool_state.specs.Sector.{decoded}
 use Rattle.array_image.specs.Arrays.{replayed}
-use Rattle.array_image.specs.Record.{GateAt, pending_at}
-use Rattle.array_image.specs.States.{is_current}
-use Rattle.array_image.specs.Places.{log_slice, place_of, slice_of}
-use Rattle.pool_image.specs.Disks.{disks_of}
+use Rattle.array_image.specs.Record.{Gate, GateAt, gate_of, pending_at}
+use Rattle.array_image.specs.States.{current_places, is_current}
+use Rattle.array_image.specs.Places.{arrays_first, log_slice, place_of, slice_of}
+use Rattle.pool_image.specs.Alike.{drive_gate}
+use Rattle.pool_image.specs.Disks.{disks_of, seat_of as drive_of}
 use Rattle.pool_image.specs.Replay.{Standing, extent_by, standing}
 use Rattle.commit_log.specs.Standing.{IsAlike}
 use Rattle.commit_log.specs.View.{LogView, left_of}
@@ -26,22 +27,30 @@ use Rattle.pool_rest.specs.Resting.{seated_state}
 abbrev pub BringsNoState : Seen → Type 0
 BringsNoState x = (before : Standing) → standing (disks_of x) (now_in x) ≡ Some before → (p : ℕ) → look before.targets (log_slice p) 0 ≡ None
 
--- no place is current by the state that the pending record brings that wasn't before
-abbrev pub KeepsPlaces : Seen → Type 0
-KeepsPlaces x =
-    (before : Standing) → standing (disks_of x) (now_in x) ≡ Some before → (p : ℕ) → is_current (seated_state before.targets before.state) p ≡ true
-    → is_current before.state p ≡ true
+-- a gate of a lower number
+abbrev pub IsGateBelow : ℕ → List ℕ → Type 0
+IsGateBelow number block = (g : Gate) × (gate_of block ≡ Some g) × (g.number < number)
 
--- The record that a log found on these places brings the state s where s0 stands, or none. Its copies are of s, whose current places all
--- were current before and keep their disks, that which the record is read from too.
-pub record IsFewer (known : List Known) (s0 s : State) (l : LogView) (on : List ℕ) (c : Image) : Type 0 where
-  pub current : (p : ℕ) → is_current s p ≡ true → is_current s0 p ≡ true
+-- each drive that the pending record takes in has a gate, of a lower number than the record's
+abbrev pub TakesLower : Seen → Type 0
+TakesLower x =
+    (before : Standing) → standing (disks_of x) (now_in x) ≡ Some before
+    → (a : GateAt) (p d : ℕ) → pending_at (current_places before.state) before.logs ≡ Some a
+    → is_current before.state p ≡ false → drive_of (seated_state before.targets before.state) (disks_of x) before.identities p ≡ Some d
+    → arrays_first ≤ x.sectors d → IsGateBelow a.gate.number (now_in x d drive_gate)
+
+-- The record that a log found on these places brings the state s where s0 stands, or none. Its copies are of s. The places that are
+-- current by both keep their disks, that which the record is read from too; the others of s have gates of lower numbers.
+pub record BringsState (x : Seen) (known : List Known) (s0 s : State) (l : LogView) (on : List ℕ) (c : Image) : Type 0 where
   pub seats : (p : ℕ) → is_current s0 p ≡ true → is_current s p ≡ true → seat_by s known p ≡ seat_by s0 known p
   pub copies : (p : ℕ) (u : List ℕ) → look l.pending (log_slice p) 0 ≡ Some u → decoded u ≡ Ok (record { state = s; own = p })
   pub next : (s ≡ s0) ⊎ (s0.epoch < s.epoch)
   pub at : GateAt
   pub source : pending_at (left_of on []) c ≡ Some at
   pub left : is_current s at.place ≡ true
+  pub joins :
+      (p d : ℕ) → is_current s0 p ≡ false → seat_by s known p ≡ Some d → arrays_first ≤ x.sectors d
+      → IsGateBelow at.gate.number (now_in x d drive_gate)
 
 -- Slices of the drives that are seated so, each where the drive's table has it: all log slices that there are, and any of members.
 pub record AreOfDrives (x : Seen) (seats : ℕ → Option ℕ) (t : Slices) : Type 0 where

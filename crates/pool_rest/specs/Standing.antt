@@ -63,6 +63,12 @@ pub record HasLooked (a b : Seen) (t : Slices) (on gone : List ℕ) (m : LogView
 abbrev pub FindsAll : Seen → Slices → List ℕ → LogView → Bool → Option ℕ → Type 0
 FindsAll b t on m is_pending damaged = Finds m on (left_of on []) is_pending damaged (reading (slices_of t b))
 
+-- What was found of the pending record is what these slices hold now, but for places that were passed over: the disk of each refused a call.
+pub record FindsLeft (a b : Seen) (known : List Known) (s : State) (t : Slices) (on : List ℕ) (m : LogView) (is_pending : Bool) (damaged : Option ℕ) : Type 0 where
+  pub passed : List ℕ
+  pub cause : (p d : ℕ) → names passed p ≡ true → seat_by s known p ≡ Some d → Rose (a.faults d) (b.faults d)
+  pub finds : AllTold a → IsLasting a → Finds m on (left_of on passed) is_pending damaged (reading (slices_of t b))
+
 -- By the meaning of images, where no disk refused a call: the pool stands so on what the disks hold, the slices show its log
 -- slices, and the log has the record that is pending there.
 pub record StandsAs (a : Seen) (s : State) (t : Slices) (m : LogView) (is_pending : Bool) (damaged : Option ℕ) : Type 0 where

@@ -15,9 +15,12 @@
 //! `IsOnePool`). Where no disk refused a call, the disks hold what they held with the pending record written, and no gate was mended or
 //! opened (`RestsSo`); the pool stands so on what they hold now (`StandsNow`); and where nothing is pending any more, they mean what they
 //! meant (`MeansTheSame` of pool_image). Nothing is pending where the logs were as commits leave them (`HasSoundLogs` and `IsSettled` of
-//! specs/SoundLogs.antt). What the log found is what its slices hold at the end (`FindsAll`). Where there is nothing to replay nothing is
-//! written (`IsIdle`), and sectors that were durable stay so, but for gates that were closed (`AreSteady`). A place counts as gone only by
-//! its disk's faults. A refusal has its cause in what was read, before anything was written or after the replay (`IsRefused`).
+//! specs/SoundLogs.antt). What a stop inside leaves gives then, once the record is replayed, what the disks hold in the end, where this
+//! brings no state, or else the drives had the state that stood and those that it takes in lower gates (`KeepsReplayed` of
+//! specs/Moments.antt). What the log found is what its slices hold at the end (`FindsAll`), but for places whose disk refused a call
+//! (`FindsLeft`). Where there is nothing to replay nothing is written (`IsIdle`), and sectors that were durable stay so, but for gates that
+//! were closed (`AreSteady`). A place counts as gone only by its disk's faults, and always where its disk refused a call of the scan. A
+//! refusal has its cause in what was read, before anything was written or after the replay (`IsRefused`).
 #![tactic(auto)]
 
 mod brought;

@@ -5,11 +5,10 @@ ghost use Rattle.std.specs.List.{list_all};
 ghost use Rattle.rack.specs.Values.{Keeps};
 ghost use Rattle.rack.specs.Seen.{IsLive, Rose};
 ghost use Rattle.rack.specs.Sequences.{OnlyReads, WritesOnly};
-ghost use Rattle.slice_rack.specs.Slices.{IsOrderly, Slices, seat_of as has_seat};
+ghost use Rattle.slice_rack.specs.Slices.{Slices, seat_of as has_seat};
 ghost use Rattle.slice_rack.specs.SliceRack.{tables, below_of};
-ghost use Rattle.slice_rack.specs.Sliced.{IsInside, sliced, slices_of};
-ghost use Rattle.rack.specs.Targets.{look};
-ghost use Rattle.array_image.specs.Places.{arrays_first, log_slice};
+ghost use Rattle.slice_rack.specs.Sliced.{sliced, slices_of};
+ghost use Rattle.array_image.specs.Places.{arrays_first};
 ghost use Rattle.array_image.specs.Left.{reading};
 ghost use Rattle.array_image.specs.States.{state_in};
 ghost use Rattle.array_image.specs.Record.{is_target};
@@ -17,12 +16,12 @@ ghost use Rattle.pool_image.specs.Disks.{disks_of, identities_of};
 ghost use Rattle.commit_log.specs.View.{names, settled};
 ghost use Rattle.pool_scan.specs.Scanning.{AllTold, IsUnfaulted, now_in};
 ghost use Rattle.pool_scan.specs.Choosing.{AreOf, seat_by};
-ghost use Rattle.pool_rest.specs.Standing.{IsLasting, IsLaid, IsNewest, IsOnePool, FindsAll, IsCause, IsMeant, since};
+ghost use Rattle.pool_rest.specs.Standing.{IsLasting, IsLaid, IsNewest, IsOnePool, FindsAll, FindsLeft, IsCause, IsMeant, since};
 ghost use Rattle.pool_state.specs.Valid.{is_valid};
 ghost use Rattle.pool_image.specs.Alike.{drive_gate, MeansTheSame};
 ghost use Rattle.pool_image.specs.Replay.{Standing as Stood, brought_state, standing, standing_by};
 ghost use Rattle.pool_image.specs.Meaning.{has_other_pool};
-ghost use Rattle.pool_rest.specs.Moments.{AreOfDrives, BringsNoState, IsFewer, KeepsPlaces, KeepsReplayed};
+ghost use Rattle.pool_rest.specs.Moments.{AreOfDrives, BringsNoState, BringsState, KeepsReplayed, TakesLower};
 ghost use Rattle.pool_rest.specs.SoundLogs.{HasSoundLogs, IsSettled};
 ghost use Rattle.pool_rest.specs.Resting.{IsOfDrive, IsReplayed, AreShut, HaveCause, IsFlagged, HasDisk, HasRefused, StandsNow, RestsSo, AreSingle, AreSectors, AreSteady, IsIdle, WritesDrives, IsRefused, seated_state};
 
@@ -115,7 +114,8 @@ fn both(first: &Places, second: &Places) -> Places
 
 /// Whether a disk refused a call of a scan.
 fn is_flagged(scan: &Scan, disk: u32) -> bool
-    ensures { result ≡ true → IsFlagged scan.now.disks.items disk }
+    ensures flagged { result ≡ true → IsFlagged scan.now.disks.items disk }
+    ensures all { IsFlagged scan.now.disks.items disk → result ≡ true }
 {
     match scan.disks.as_slice().get(disk as usize) {
         Some(known) => known.gone,
@@ -186,7 +186,8 @@ impl Refused {
 /// Whether the disk of a place refused a call of a scan.
 fn is_seat_flagged(scan: &Scan, state: &State, place: u32) -> bool
     requires { length scan.now.disks.items < 2 ^ 32 }
-    ensures { result ≡ true → (d : ℕ) → seat_by state.now scan.now.disks.items place ≡ Some d → IsFlagged scan.now.disks.items d }
+    ensures flagged { result ≡ true → (d : ℕ) → seat_by state.now scan.now.disks.items place ≡ Some d → IsFlagged scan.now.disks.items d }
+    ensures all { (d : ℕ) → seat_by state.now scan.now.disks.items place ≡ Some d → IsFlagged scan.now.disks.items d → result ≡ true }
 {
     match scan.seat(state, place) {
         Some(disk) => is_flagged(scan, disk),
@@ -197,8 +198,9 @@ fn is_seat_flagged(scan: &Scan, state: &State, place: u32) -> bool
 /// Whether a place has gone, or its disk refused a call of the scan.
 fn has_gone(scan: &Scan, state: &State, gone: &Places, place: u32) -> bool
     requires { length scan.now.disks.items < 2 ^ 32 }
-    ensures { result ≡ true → (d : ℕ) → seat_by state.now scan.now.disks.items place ≡ Some d
+    ensures cause { result ≡ true → (d : ℕ) → seat_by state.now scan.now.disks.items place ≡ Some d
         → (names gone.now.items place ≡ true) ⊎ IsFlagged scan.now.disks.items d }
+    ensures all { (d : ℕ) → seat_by state.now scan.now.disks.items place ≡ Some d → IsFlagged scan.now.disks.items d → result ≡ true }
 {
     is_among(gone, place) || is_seat_flagged(scan, state, place)
 }
@@ -206,8 +208,10 @@ fn has_gone(scan: &Scan, state: &State, gone: &Places, place: u32) -> bool
 /// The places that have gone, and those whose disk refused a call of the scan.
 pub(crate) fn gone_of(scan: &Scan, state: &State, gone: &Places) -> Places
     requires { length scan.now.disks.items < 2 ^ 32 }
-    ensures { (p d : ℕ) → names result.items p ≡ true → seat_by state.now scan.now.disks.items p ≡ Some d
+    ensures cause { (p d : ℕ) → names result.items p ≡ true → seat_by state.now scan.now.disks.items p ≡ Some d
         → (names gone.now.items p ≡ true) ⊎ IsFlagged scan.now.disks.items d }
+    ensures all { (p d : ℕ) → p < 16 → seat_by state.now scan.now.disks.items p ≡ Some d → IsFlagged scan.now.disks.items d
+        → names result.items p ≡ true }
 {
     let mut places = Places::new();
     for place in 0..16 {
@@ -279,17 +283,10 @@ pub(crate) fn replay_on<R: Rack>(
     // Where no disk refused a call, gates of places that have the same disk by both states are closed.
     ensures shut { whole ≡ true → AllTold (R.seen rack) → IsLasting (R.seen rack) → IsUnfaulted (R.seen rack) (R.seen result.rack)
         → log.pending ≢ [] → AreShut (R.seen rack) (R.seen result.rack) scan.now.disks.items before.now state.now log.number }
-    // Where the record, as it was found on log slices of the same drives, brings no state, what each stop leaves is once replayed the same.
-    ensures keeps { AllTold (R.seen rack) → IsLasting (R.seen rack) → IsUnfaulted (R.seen rack) (R.seen result.rack) → AreSingle (R.seen rack)
-        → (t u : Slices) (on : List ℕ) (is_pending : Bool) → IsOrderly t → IsInside t (R.seen rack)
-        → IsLaid (R.seen rack) scan.now.disks.items state.now t on → FindsAll (R.seen rack) t on log is_pending None
-        → ((p : ℕ) → look log.pending (log_slice p) 0 ≡ None)
-        → AreOfDrives (R.seen rack) (seat_by state.now scan.now.disks.items) u → state_in (sliced u (now_in (R.seen result.rack))) ≡ Some state.now
-        → KeepsReplayed (R.seen rack) (R.seen result.rack) u }
-    // And so it is where it brings a state whose current places all were current before.
-    ensures fewer { AllTold (R.seen rack) → IsLasting (R.seen rack) → IsUnfaulted (R.seen rack) (R.seen result.rack) → AreSingle (R.seen rack)
+    // What each stop leaves is once replayed the same, if by the drives' slices the state that stands is the one from before.
+    ensures brought { AllTold (R.seen rack) → IsLasting (R.seen rack) → IsUnfaulted (R.seen rack) (R.seen result.rack) → AreSingle (R.seen rack)
         → (t u : Slices) (on : List ℕ) (is_pending : Bool) → IsLaid (R.seen rack) scan.now.disks.items before.now t on → FindsAll (R.seen rack) t on log is_pending None
-        → IsFewer scan.now.disks.items before.now state.now log on (reading (slices_of t (R.seen rack)))
+        → BringsState (R.seen rack) scan.now.disks.items before.now state.now log on (reading (slices_of t (R.seen rack)))
         → AreOfDrives (R.seen rack) (seat_by state.now scan.now.disks.items) u → state_in (sliced u (now_in (R.seen rack))) ≡ Some before.now
         → KeepsReplayed (R.seen rack) (R.seen result.rack) u }
     ensures lost { HaveCause (R.seen rack) (R.seen result.rack) scan.now.disks.items state.now result.lost.items }
@@ -342,6 +339,8 @@ fn as_it_stands<R: Rack>(found: Standing<R>) -> AtRest<R>
     ensures damaged { result.damaged ≡ found.looked.damaged }
     ensures gone { (p d : ℕ) → names result.gone.items p ≡ true → seat_by found.state found.scan.disks.items p ≡ Some d
         → (names found.looked.gone.items p ≡ true) ⊎ IsFlagged found.scan.disks.items d }
+    ensures unread { (p d : ℕ) → p < 16 → seat_by found.state found.scan.disks.items p ≡ Some d → IsFlagged found.scan.disks.items d
+        → names result.gone.items p ≡ true }
 {
     let gone = gone_of(&found.scan, &found.state, &found.looked.gone);
     AtRest {
@@ -396,21 +395,12 @@ fn replay_found<R: Rack>(found: Standing<R>, room: Scan) -> Result<AtRest<R>, Ba
     ensures newest { IfOk result (λ r. AllTold (R.seen (below_of found.slices)) → IsLasting (R.seen (below_of found.slices))
         → IsNewest (since (R.seen (below_of found.slices)) (R.seen (below_of r.slices))) (R.seen (below_of r.slices)) r.scan.disks.items r.state) }
     ensures one { IfOk result (λ r. IsOnePool r.scan.disks.items r.state) }
-    // Where the record, as it was found on log slices, brings no state, what each stop leaves is once replayed the same.
-    ensures keeps { IfOk result (λ r. AllTold (R.seen (below_of found.slices)) → IsLasting (R.seen (below_of found.slices))
-        → IsUnfaulted (R.seen (below_of found.slices)) (R.seen (below_of r.slices)) → AreSingle (R.seen (below_of found.slices))
-        → (t u : Slices) (on : List ℕ) (is_pending : Bool) → IsOrderly t → IsInside t (R.seen (below_of found.slices))
-        → IsLaid (R.seen (below_of found.slices)) found.scan.disks.items found.state t on → FindsAll (R.seen (below_of found.slices)) t on found.log is_pending None
-        → ((p : ℕ) → look found.log.pending (log_slice p) 0 ≡ None) → seated_state found.log.pending found.state ≡ found.state
-        → AreOfDrives (R.seen (below_of found.slices)) (seat_by found.state found.scan.disks.items) u
-        → state_in (sliced u (now_in (R.seen (below_of r.slices)))) ≡ Some found.state
-        → KeepsReplayed (R.seen (below_of found.slices)) (R.seen (below_of r.slices)) u) }
-    // And so it is where it brings a state whose current places all were current before.
-    ensures fewer { IfOk result (λ r. AllTold (R.seen (below_of found.slices)) → IsLasting (R.seen (below_of found.slices))
+    // What each stop leaves is once replayed the same, if by the drives' slices the state that stands is the one from before.
+    ensures brought { IfOk result (λ r. AllTold (R.seen (below_of found.slices)) → IsLasting (R.seen (below_of found.slices))
         → IsUnfaulted (R.seen (below_of found.slices)) (R.seen (below_of r.slices)) → AreSingle (R.seen (below_of found.slices))
         → (t u : Slices) (on : List ℕ) (is_pending : Bool) → IsLaid (R.seen (below_of found.slices)) found.scan.disks.items found.state t on
         → FindsAll (R.seen (below_of found.slices)) t on found.log is_pending None
-        → IsFewer found.scan.disks.items found.state (seated_state found.log.pending found.state) found.log on (reading (slices_of t (R.seen (below_of found.slices))))
+        → BringsState (R.seen (below_of found.slices)) found.scan.disks.items found.state (seated_state found.log.pending found.state) found.log on (reading (slices_of t (R.seen (below_of found.slices))))
         → AreOfDrives (R.seen (below_of found.slices)) (seat_by (seated_state found.log.pending found.state) found.scan.disks.items) u
         → state_in (sliced u (now_in (R.seen (below_of found.slices)))) ≡ Some found.state
         → KeepsReplayed (R.seen (below_of found.slices)) (R.seen (below_of r.slices)) u) }
@@ -418,6 +408,9 @@ fn replay_found<R: Rack>(found: Standing<R>, room: Scan) -> Result<AtRest<R>, Ba
     ensures gone { IfOk result (λ r. (p d : ℕ) → names r.gone.items p ≡ true → seat_by r.state r.scan.disks.items p ≡ Some d
         → Rose ((R.seen (below_of found.slices)).faults d) ((R.seen (below_of r.slices)).faults d)
         ⊎ (IsFlagged found.scan.disks.items d ⊎ HasDisk found.scan.disks.items found.state found.looked.gone.items d)) }
+    ensures unread { IfOk result (λ r. (p d : ℕ) → p < 16 → seat_by r.state r.scan.disks.items p ≡ Some d → IsFlagged r.scan.disks.items d
+        → names r.gone.items p ≡ true) }
+    ensures finds { IfOk result (λ r. FindsLeft (R.seen (below_of found.slices)) (R.seen (below_of r.slices)) r.scan.disks.items r.state (tables r.slices) r.on.items r.log r.pending r.damaged) }
     ensures runs { IfOk result (λ r. R.runs (below_of found.slices) (below_of r.slices)) }
     ensures back { IfErr result (λ back. WritesOnly (R.seen (below_of found.slices)) (R.seen back.rack)
         (IsOfDrive (R.seen (below_of found.slices)) found.scan.disks.items (seated_state found.log.pending found.state))) }
@@ -503,15 +496,20 @@ pub fn bring_to_rest<R: Rack>(alloc: Global, rack: R) -> Result<AtRest<R>, Back<
         → HasSoundLogs (disks_of (R.seen rack)) (now_in (R.seen rack)) → BringsNoState (R.seen rack) → AreSingle (R.seen rack)
         → (u : Slices) → AreOfDrives (R.seen (below_of r.slices)) (seat_by r.state r.scan.disks.items) u
         → state_in (sliced u (now_in (R.seen (below_of r.slices)))) ≡ Some r.state → KeepsReplayed (R.seen rack) (R.seen (below_of r.slices)) u) }
-    // And so it is where it brings a state whose current places all were current before, and their drives have the state that stood.
-    ensures fewer { IfOk result (λ r. AllTold (R.seen rack) → IsLasting (R.seen rack) → IsUnfaulted (R.seen rack) (R.seen (below_of r.slices))
-        → HasSoundLogs (disks_of (R.seen rack)) (now_in (R.seen rack)) → KeepsPlaces (R.seen rack) → AreSingle (R.seen rack)
+    // And so it is whatever it brings, where by those slices the drives have the state that stood, and those that it takes in have lower gates.
+    ensures brought { IfOk result (λ r. AllTold (R.seen rack) → IsLasting (R.seen rack) → IsUnfaulted (R.seen rack) (R.seen (below_of r.slices))
+        → HasSoundLogs (disks_of (R.seen rack)) (now_in (R.seen rack)) → TakesLower (R.seen rack) → AreSingle (R.seen rack)
         → (u : Slices) → AreOfDrives (R.seen (below_of r.slices)) (seat_by r.state r.scan.disks.items) u
         → ((before : Stood) → standing (disks_of (R.seen rack)) (now_in (R.seen rack)) ≡ Some before → state_in (sliced u (now_in (R.seen rack))) ≡ Some before.state)
         → KeepsReplayed (R.seen rack) (R.seen (below_of r.slices)) u) }
     // A place counts as gone only where its disk refused a call.
     ensures gone { IfOk result (λ r. (p d : ℕ) → names r.gone.items p ≡ true → seat_by r.state r.scan.disks.items p ≡ Some d
         → Rose ((R.seen rack).faults d) ((R.seen (below_of r.slices)).faults d)) }
+    // It does where its disk refused a call of the scan, so of the others all was read.
+    ensures unread { IfOk result (λ r. (p d : ℕ) → p < 16 → seat_by r.state r.scan.disks.items p ≡ Some d → IsFlagged r.scan.disks.items d
+        → names r.gone.items p ≡ true) }
+    // What the log has found is what its slices hold, but for places whose disk refused a call.
+    ensures finds { IfOk result (λ r. FindsLeft (R.seen rack) (R.seen (below_of r.slices)) r.scan.disks.items r.state (tables r.slices) r.on.items r.log r.pending r.damaged) }
     ensures runs { IfOk result (λ r. R.runs rack (below_of r.slices)) }
     ensures back { IfErr result (λ back. OnlyReads (R.seen rack) (R.seen back.rack) ⊎ WritesDrives (R.seen rack) (R.seen back.rack)) }
     ensures kept { IfErr result (λ back. AllTold (R.seen rack) → IsLasting (R.seen rack) → IsUnfaulted (R.seen rack) (R.seen back.rack)

@@ -14,7 +14,7 @@ use Rattle.array_model.specs.View.{View, HasFault, HasGeometry, has_gone, is_mis
 use Rattle.array_core.specs.Seats.{names}
 use Rattle.array_sync.proofs.Adopted.{same_lists}
 use Rattle.raid_rack.specs.declared.arrays.RaidRack.{RaidRack}
-use Rattle.raid_rack.specs.AllRuns.{AreRuns}
+use Rattle.raid_rack.specs.AllRuns.{AreCalls}
 use Rattle.raid_rack.specs.Laws.{live_parts}
 use Rattle.raid_rack.specs.Moves.{AreCaused, IsHeeded, IsSet, KeepsArrays}
 use Rattle.raid_rack.specs.Raid.{Raid, gone_in, is_empty, is_left, is_over, is_used_up, live_of}
@@ -99,7 +99,7 @@ module _ (v w : Raid) (a b : Seen) (before : IsSet v a) (after : IsSet w b) (hee
 
 -- ---- calls of a rack in a row
 
-module _ {R : Type 0} (seen : R → Seen) (runs : R → R → Type 0) (x y : RaidRack R) (kept : AreRuns seen runs x y) where
+module _ {R : Type 0} (seen : R → Seen) (runs : R → R → Type 0) (x y : RaidRack R) (kept : AreCalls seen runs x y) where
   pub runs_unused : is_used_up (raid_in y) ≡ false → is_used_up (raid_in x) ≡ false
   runs_unused fresh =
       let book = kept.1.book in

@@ -3,6 +3,8 @@ use Rattle.std.proofs.Common.{◌≡◌, ℕ, ◌+◌, ◌<◌, Bool, false, ref
 use Rattle.rack.specs.Values.{Keeps}
 use Rattle.rack.specs.Seen.{Seen, IsLive}
 use Rattle.rack.specs.Joins.{keeps_same, keeps_then, rose_before, rose_since}
+use Rattle.slice_rack.specs.SliceRack.{below_of, tables}
+use Rattle.slice_rack.specs.Runs.{runs_join, runs_none}
 use Rattle.array_image.specs.Places.{slice_of}
 use Rattle.array_model.specs.View.{sectors_of}
 use Rattle.raid_rack.specs.declared.arrays.RaidRack.{RaidRack}
@@ -11,7 +13,7 @@ use Rattle.raid_rack.specs.Moves.{KeepsArrays, RaisesBy}
 use Rattle.raid_rack.specs.Cleaning.{NoneFails}
 use Rattle.raid_rack.specs.Losing.{arrays_same, arrays_then}
 use Rattle.raid_rack.specs.RaidRack.{SliceRuns, raid_in, refused_in, slices_in, slices_seen, written_in}
-use Rattle.raid_rack.specs.Runs.{RaidRuns}
+use Rattle.raid_rack.specs.Runs.{RaidRuns, raid_runs_same, raid_runs_then}
 
 -- No spent sector comes back, and an array of which no sector is spent in the end has refused nothing meanwhile. Nothing of an array
 -- changes but whom it lost. `before` and `now` are the spent answers of each array.
@@ -65,6 +67,34 @@ pub record IsOneCall (v w : Raid) : Type 0 where
   pub made : w.state.made ≡ v.state.made
   pub arrays : KeepsArrays v w
   pub plan : w.state.plan ≡ v.state.plan
+
+-- what calls on the slices below keep, what is done to the book and to images, and what is refused
+abbrev pub AreCalls : {R : Type 0} → (R → Seen) → (R → R → Type 0) → RaidRack R → RaidRack R → Type 0
+AreCalls seen runs x y =
+    SliceRuns seen runs (slices_in x) (slices_in y)
+    × RaidRuns (written_in x) (written_in y) (raid_in x) (raid_in y) (slices_seen seen x) (slices_seen seen y)
+    × Serves (raid_in x) (raid_in y) (refused_in x) (refused_in y)
+
+-- no call keeps all
+pub calls_same : {R : Type 0} (seen : R → Seen) (runs : R → R → Type 0) (x : RaidRack R) → runs (below_of (slices_in x)) (below_of (slices_in x)) → AreCalls seen runs x x
+calls_same seen runs x same = (
+  runs_none (tables (slices_in x)) (seen (below_of (slices_in x))) (runs (below_of (slices_in x)) (below_of (slices_in x))) same,
+  raid_runs_same (written_in x) (raid_in x) (slices_seen seen x),
+  serves_same (raid_in x) (refused_in x),
+)
+
+-- calls in a row keep what each of them does
+pub calls_then : {R : Type 0} (seen : R → Seen) (runs : R → R → Type 0) (x y z : RaidRack R)
+    → (runs (below_of (slices_in x)) (below_of (slices_in y)) → runs (below_of (slices_in y)) (below_of (slices_in z)) → runs (below_of (slices_in x)) (below_of (slices_in z)))
+    → AreCalls seen runs x y → AreCalls seen runs y z → AreCalls seen runs x z
+calls_then seen runs x y z join one two = (
+  runs_join (tables (slices_in x)) (tables (slices_in y)) (tables (slices_in z))
+      (seen (below_of (slices_in x))) (seen (below_of (slices_in y))) (seen (below_of (slices_in z)))
+      (runs (below_of (slices_in x)) (below_of (slices_in y))) (runs (below_of (slices_in y)) (below_of (slices_in z)))
+      (runs (below_of (slices_in x)) (below_of (slices_in z))) one.0 two.0 (join one.0.below two.0.below),
+  raid_runs_then (written_in x) (written_in y) (written_in z) (raid_in x) (raid_in y) (raid_in z) (slices_seen seen x) (slices_seen seen y) (slices_seen seen z) one.1 two.1,
+  serves_then (raid_in x) (raid_in y) (raid_in z) (refused_in x) (refused_in y) (refused_in z) one.1.book.same.made one.2 two.2,
+)
 
 -- what calls on the slices below keep, what is done to the book and to images, what is refused, and what is spared
 abbrev pub AreRuns : {R : Type 0} → (R → Seen) → (R → R → Type 0) → RaidRack R → RaidRack R → Type 0

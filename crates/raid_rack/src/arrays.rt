@@ -1,6 +1,7 @@
 //! The arrays of a pool, over slices of its drives.
 
 ghost use Rattle.std.specs.Prelude.{◌≡◌, ℕ, true, false, [], ◌∷◌, slice_get, MatchOption, Some, None, OnOk, OnErr};
+ghost use Rattle.std.specs.List.{list_any};
 
 use crate::losses::has_other;
 use array_core::Array;
@@ -104,6 +105,14 @@ impl<R: Rack> RaidRack<R> {
         &self.arrays.state
     }
 
+    /// Whether this run has written an array. Superblocks that agreed before the run may differ in such an array alone.
+    pub fn has_written(&self) -> bool
+        ensures none { result ≡ false → (n : ℕ) → written_in self.now n ≡ false }
+        ensures some { result ≡ true → (n : ℕ) × (written_in self.now n ≡ true) }
+    {
+        is_any(&self.written)
+    }
+
     /// The array of a number, if there is one.
     pub fn array(&self, number: u32) -> Option<&Array>
         ensures { MatchOption result (slice_get (arrays_of self.now) number ≡ None) (λ a. slice_get (arrays_of self.now) number ≡ Some a.now) }
@@ -194,4 +203,11 @@ impl<R: Rack> RaidRack<R> {
     {
         self.slices
     }
+}
+
+/// Whether a flag is set.
+fn is_any(flags: &[bool]) -> bool
+    ensures { result ≡ list_any (λ flag. flag) flags.now }
+{
+    flags.iter().any(|flag| *flag)
 }

@@ -13,15 +13,18 @@ use Rattle.pool_image.specs.Drives.{Found}
 use Rattle.pool_image.specs.Meaning.{Volume}
 use Rattle.pool_scan.specs.Scanning.{IsUnfaulted}
 use Rattle.pool_rest.specs.Resting.{WritesDrives}
+use Rattle.assembler.specs.declared.refusal.Refusal.{Refusal}
+use Rattle.assembler.specs.Causes.{ArraysOn, HasRefusalCause, RefusesArrays}
 use Rattle.assembler.specs.Moments.{HoldsAt}
 use Rattle.assembler.specs.Sound.{HoldSound, IsMeantBy, MayStop}
 use Rattle.assembler.specs.Writing.{WritesPool}
 use Rattle.pool_format.specs.declared.formatting.CreateFault.{CreateFault}
 use Rattle.pool_format.specs.declared.formatting.CreateFault.TheVariants.{Layout, Gone, Memory}
-use Rattle.pool_format.specs.Format.{IsGivenBack}
+use Rattle.pool_format.specs.declared.Birth.{Birth}
 use Rattle.pool_format.specs.Plan.{IsUnplanned, units_on}
 use Rattle.pool_format.specs.Volume.{HasLayout}
 use Rattle.pool.specs.declared.Pool.{Pool}
+use Rattle.pool.specs.Made.{IsSafelyRefused}
 use Rattle.pool.specs.View.{arrays_of, book, view, volume}
 use Rattle.pool.specs.Volume.{Holds}
 use Rattle.shr_tool.specs.Made.{HasFaultCause}
@@ -53,6 +56,49 @@ pub written_through :
 written_through shown runs does to so r s (inl reads) = inl reads
 written_through shown runs does to so r s (inr (inl drives)) = inr (inl drives)
 written_through shown runs does to so r s (inr (inr pool)) = inr (inr (pool_through shown runs does to so r s pool))
+
+abbrev arrays_through : {R B : Type 0} → (R → B) → ArraysOn R → ArraysOn B
+arrays_through to x = record { arrays = x.arrays; slices = x.slices; below = to x.below; refused = x.refused; written = x.written }
+
+-- and refused by what was read of it
+pub refused_through :
+    {R B : Type 0} (shown : B → Seen) (runs : R → R → Type 0) (does : B → B → Type 0) (to : R → B)
+    → ((r s : R) → runs r s → does (to r) (to s))
+    → (r s : R) (why : Refusal) → HasRefusalCause (λ q. shown (to q)) runs r s why → HasRefusalCause shown does (to r) (to s) why
+refused_through shown runs does to so r s why (inl none) = inl none
+refused_through shown runs does to so r s why (inr pool) = inr (record {
+  mid = to pool.mid;
+  kept = so r pool.mid pool.kept;
+  early = pool.early;
+  known = pool.known;
+  state = pool.state;
+  newest = pool.newest;
+  one = pool.one;
+  bad = pool.bad;
+  logs = pool.logs;
+  cause = elim pool.cause [ inl drives ↦ inl drives | inr arrays ↦ inr (arrays.0, of arrays.1) ];
+})
+  where
+    of : RefusesArrays (λ q. shown (to q)) runs r pool.mid s pool.known pool.state why → RefusesArrays shown does (to r) (to pool.mid) (to s) pool.known pool.state why
+    of is = record {
+      at = to is.at;
+      made = arrays_through to is.made;
+      last = arrays_through to is.last;
+      kept = (so pool.mid is.at is.kept.0, so is.at is.made.below is.kept.1);
+      checked = is.checked;
+      drives = is.drives;
+      book = is.book;
+      arrays = is.arrays;
+      fit = is.fit;
+      slices = record { tables = is.slices.tables; below = so is.made.below is.last.below is.slices.below; apart = is.slices.apart };
+      raid = is.raid;
+      serves = is.serves;
+      back_is = ap to is.back_is;
+      cause = elim is.cause [
+        | inl memory ↦ inl memory
+        | inr bad ↦ inr (bad.0, bad.1, record { reads = bad.2.reads; bad = bad.2.bad; unused = bad.2.unused })
+      ];
+    }
 
 -- values of which a stop can leave one alone
 keeps_only : (v : List ℕ) (h : Values) → ((u : List ℕ) → MayLeave h u → u ≡ v) → Keeps (only v) h
@@ -123,12 +169,12 @@ moment_in shown pool to = moment_of (view (λ r. shown (to r)) pool)
 
 -- why no pool was made on a bay that is reached through a reference
 pub fault_through :
-    {R B : Type 0} (shown : B → Seen) (to : R → B) (r s : R) (extent : ℕ) (why : CreateFault)
+    {R B : Type 0} (shown : B → Seen) (to : R → B) (r s : R) (extent : ℕ) (birth : Birth) (why : CreateFault)
     → ((fault : PlanError) → (why ≡ Layout fault) ↔ IsUnplanned (units_on (shown (to r)) extent) fault)
     → ((fault : PlanError) → why ≡ Layout fault → s ≡ r)
     → ((disk : ℕ) → why ≡ Gone disk → (disk < (shown (to r)).disks) × Rose ((shown (to r)).faults disk) ((shown (to s)).faults disk))
-    → (HasLayout why → IsGivenBack (shown (to r)) (shown (to s)) extent)
-    → HasFaultCause shown why (to r) (to s) extent
-fault_through shown to r s extent (Layout error) planned same gone back = ((planned error).0 refl, ap to (same error refl))
-fault_through shown to r s extent (Gone disk) planned same gone back = ((gone disk refl).0, (gone disk refl).1, back tt)
-fault_through shown to r s extent Memory planned same gone back = back tt
+    → (HasLayout why → IsSafelyRefused (shown (to r)) (shown (to s)) extent birth)
+    → HasFaultCause shown why (to r) (to s) extent birth
+fault_through shown to r s extent birth (Layout error) planned same gone back = ((planned error).0 refl, ap to (same error refl))
+fault_through shown to r s extent birth (Gone disk) planned same gone back = ((gone disk refl).0, (gone disk refl).1, back tt)
+fault_through shown to r s extent birth Memory planned same gone back = back tt

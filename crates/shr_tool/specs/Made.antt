@@ -7,9 +7,8 @@ use Rattle.shr_script.specs.Reply.{as_line, refused_line}
 use Rattle.pool_format.specs.declared.Birth.{Birth}
 use Rattle.pool_format.specs.declared.formatting.CreateFault.{CreateFault}
 use Rattle.pool_format.specs.declared.formatting.CreateFault.TheVariants.{Layout, Gone, Memory}
-use Rattle.pool_format.specs.Format.{IsGivenBack}
 use Rattle.pool_format.specs.Plan.{IsUnplanned, units_on}
-use Rattle.pool.specs.Made.{IsSoundlyMade}
+use Rattle.pool.specs.Made.{IsSafelyRefused, IsSoundlyMade}
 use Rattle.shr_tool.specs.declared.status.Status.{Status}
 use Rattle.shr_tool.specs.declared.status.Status.TheVariants.{Done}
 use Rattle.shr_tool.specs.Refusing.{fault_words, fault_status}
@@ -19,22 +18,24 @@ use Rattle.shr_tool.specs.Saying.{Says}
 abbrev pub created_line : ℕ → List ℕ
 created_line sectors = as_line (codes "created " ++ decimal sectors)
 
--- why none was made: the disks have no plan, and nothing was called; or a disk refused a call
-abbrev pub HasFaultCause : {R : Type 0} → (R → Seen) → CreateFault → R → R → ℕ → Type 0
-HasFaultCause seen (Layout error) bay after extent = IsUnplanned (units_on (seen bay) extent) error × (after ≡ bay)
-HasFaultCause seen (Gone disk) bay after extent =
-    (disk < (seen bay).disks) × Rose ((seen bay).faults disk) ((seen after).faults disk) × IsGivenBack (seen bay) (seen after) extent
-HasFaultCause seen Memory bay after extent = IsGivenBack (seen bay) (seen after) extent
+-- why none was made: the disks have no plan, and nothing was called; or a disk refused a call, and what stops had left by then has no meaning
+-- or is a pool of zeros, once copies of a state were cleared
+abbrev pub HasFaultCause : {R : Type 0} → (R → Seen) → CreateFault → R → R → ℕ → Birth → Type 0
+HasFaultCause seen (Layout error) bay after extent birth = IsUnplanned (units_on (seen bay) extent) error × (after ≡ bay)
+HasFaultCause seen (Gone disk) bay after extent birth =
+    (disk < (seen bay).disks) × Rose ((seen bay).faults disk) ((seen after).faults disk) × IsSafelyRefused (seen bay) (seen after) extent birth
+HasFaultCause seen Memory bay after extent birth = IsSafelyRefused (seen bay) (seen after) extent birth
 
 -- no pool was made on the disks
-pub record NotMade {R : Type 0} (seen : R → Seen) (runs : R → R → Type 0) (bay after : R) (extent : ℕ) (out out' : List ℕ) (status : Status) : Type 0 where
+pub record NotMade {R : Type 0} (seen : R → Seen) (runs : R → R → Type 0) (bay after : R) (extent : ℕ) (birth : Birth) (out out' : List ℕ) (status : Status)
+    : Type 0 where
   pub why : CreateFault
   pub says : Says (fault_status why) (refused_line (fault_words why)) out out' status
   pub kept : runs bay after
-  pub cause : HasFaultCause seen why bay after extent
+  pub cause : HasFaultCause seen why bay after extent birth
 
 -- A pool was made on the disks, and the line says the sectors of its volume. Where the disks were told, they mean one volume of that many
--- sectors, all zeros.
+-- sectors, all zeros; and what a stop inside leaves has no meaning or means that volume, once copies of a state were cleared.
 pub record MadeOn {R : Type 0} (seen : R → Seen) (runs : R → R → Type 0) (bay after : R) (extent : ℕ) (birth : Birth) (out out' : List ℕ) (status : Status)
     : Type 0 where
   pub kept : runs bay after
@@ -46,4 +47,4 @@ pub record MadeOn {R : Type 0} (seen : R → Seen) (runs : R → R → Type 0) (
 -- how it came out
 abbrev pub MakeOutcome : {R : Type 0} → (R → Seen) → (R → R → Type 0) → R → R → ℕ → Birth → List ℕ → List ℕ → Status → Type 0
 MakeOutcome seen runs bay after extent birth out out' status =
-    NotMade seen runs bay after extent out out' status ⊎ MadeOn seen runs bay after extent birth out out' status
+    NotMade seen runs bay after extent birth out out' status ⊎ MadeOn seen runs bay after extent birth out out' status

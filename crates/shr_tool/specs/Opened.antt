@@ -11,16 +11,18 @@ use Rattle.slice_rack.specs.Sliced.{slices_of}
 use Rattle.raid_rack.specs.Book.{IsAfter}
 use Rattle.raid_rack.specs.Raid.{IsTold}
 use Rattle.pool_check.specs.Settling.{IsSettled}
+use Rattle.pool_image.specs.Alike.{MeansTheSame}
 use Rattle.pool_image.specs.Disks.{disks_of}
 use Rattle.pool_image.specs.Drives.{Found}
 use Rattle.pool_image.specs.Meaning.{Volume, meaning, truth_of}
 use Rattle.pool_scan.specs.Scanning.{IsUnfaulted, now_in}
 use Rattle.pool_rest.specs.Resting.{WritesDrives}
 use Rattle.assembler.specs.declared.refusal.Refusal.{Refusal}
-use Rattle.assembler.specs.declared.refusal.Refusal.TheVariants.{Memory}
+use Rattle.assembler.specs.declared.refusal.Refusal.TheVariants.{BadVolume, Memory}
+use Rattle.assembler.specs.Causes.{HasRefusalCause}
 use Rattle.assembler.specs.Holding.{IsArrayOf}
 use Rattle.assembler.specs.Refusing.{is_early}
-use Rattle.assembler.specs.Sound.{AreSlicesOf, HoldSound, IsMeantRefusal, MayStop}
+use Rattle.assembler.specs.Sound.{AreSlicesOf, HaveAgreed, HoldSound, IsMeantRefusal, KeepsPool, MayStop}
 use Rattle.assembler.specs.Volume.{AllLive, IsVolumeOf}
 use Rattle.assembler.specs.Writing.{WritesPool}
 use Rattle.pool.specs.Keeping.{HasMarkedSeats}
@@ -32,8 +34,9 @@ use Rattle.shr_tool.specs.Saying.{Says}
 use Rattle.shr_tool.specs.Tasks.{TaskOutcome}
 use Rattle.shr_tool.specs.Timeline.{Ground, MeansAt, Moment}
 
--- The pool of attached disks can't be opened. Until its drives have passed their checks nothing is written but the pending record, on
--- drives of the pool; disks that hold a sound pool, and refuse no call, are refused as they mean.
+-- The pool of attached disks can't be opened, and why has its cause in what was read of them. Until its drives have passed their checks nothing is
+-- written but the pending record, on drives of the pool; disks that hold a sound pool, and refuse no call, are refused as they mean, and
+-- mean afterwards what they meant, or, where an array's part of the volume group is bad, hold the arrays that they held.
 pub record NotOpened {R : Type 0} (seen : R → Seen) (runs : R → R → Type 0) (bay after : R) (out out' : List ℕ) (status : Status) : Type 0 where
   pub why : Refusal
   pub says : Says (refusal_status why) (refused_line (refusal_words why)) out out' status
@@ -41,6 +44,13 @@ pub record NotOpened {R : Type 0} (seen : R → Seen) (runs : R → R → Type 0
   pub early : is_early why ≡ true → OnlyReads (seen bay) (seen after) ⊎ WritesDrives (seen bay) (seen after)
   pub written : OnlyReads (seen bay) (seen after) ⊎ (WritesDrives (seen bay) (seen after) ⊎ WritesPool seen runs bay after)
   pub exact : (f : Found) → HoldSound (seen bay) f → IsUnfaulted (seen bay) (seen after) → why ≢ Memory → IsMeantRefusal (seen bay) why
+  pub cause : HasRefusalCause seen runs bay after why
+  pub unmoved :
+      (f : Found) → HoldSound (seen bay) f → IsUnfaulted (seen bay) (seen after) → is_early why ≡ true
+      → MeansTheSame (disks_of (seen bay)) (now_in (seen bay)) (now_in (seen after))
+  pub still :
+      (f : Found) → HoldSound (seen bay) f → IsUnfaulted (seen bay) (seen after) → (array : ℕ) → why ≡ BadVolume array
+      → KeepsPool (seen bay) (seen after) f
 
 -- A pool was opened as its disks had it: its volume is that of the group of what they held, over the slices of its drives; marks alone
 -- have come to its state. Each of the volume's arrays is told, and no sector of these is spent. `y` is what the disks show then.
@@ -82,6 +92,9 @@ pub record OpenedOn {R : Type 0} (seen : R → Seen) (runs : R → R → Type 0)
   -- then both copies of each drive's partition table are the table that its disk had, durably
   pub tables :
       (f : Found) → HoldSound (seen bay) f → IsUnfaulted (seen bay) (seen opened) → (p d : ℕ) → f.seats p ≡ Some d → IsSettled (seen bay) (seen opened) d
+  -- and the superblocks of each array that is ready for the volume agree, durably
+  pub agreed :
+      (f : Found) → HoldSound (seen bay) f → IsUnfaulted (seen bay) (seen opened) → HaveAgreed f from.book.state (slices_of ground.slices (seen opened))
   -- what a stop inside the opening leaves means the array that the disks meant
   pub moments :
       (a : FlatArray) → (meant : IsMeant (seen bay) (seen opened) a) → MayStop (seen bay) meant.pool → (seen bay).traced

@@ -63,8 +63,8 @@ pub fn open_for<B: Bay, I: Source, O: Sink>(
     }
 }
 
-// Opens the pool of the attached disks, and does the task on it.
-fn open_attached<B: Bay, I: Source, O: Sink>(
+/// Opens the pool of the attached disks, and does the task on it.
+pub(crate) fn open_attached<B: Bay, I: Source, O: Sink>(
     alloc: Global,
     bay: &mut B,
     seconds: u64,

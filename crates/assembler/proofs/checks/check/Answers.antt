@@ -19,10 +19,14 @@ use Rattle.assembler.proofs.Finding.{found_copied, found_drives, found_holds}
 use Rattle.assembler.proofs.Later.{holds_later}
 use Rattle.assembler.specs.Members.{AreMembers}
 use Rattle.assembler.specs.declared.refusal.Refusal.TheVariants.{Damaged}
-use Rattle.assembler.specs.Refusing.{FailsCheck, by_check}
-use Rattle.assembler.proofs.Refusals.{fails_check, fails_log}
+use Rattle.assembler.specs.Refusing.{FailsCheck, by_check, seats_left}
+use Rattle.assembler.proofs.Refusals.{fails_check, fails_log, loses_left}
 use Rattle.assembler.proofs.Unseated.{check_members, logs_only, no_members, nobody_lost, seating, seats_are, seats_before, taken, taken_by}
 use Rattle.assembler.proofs.checks.check.Goals as goal
+
+none_of : (o : Option ℕ) → ((place : ℕ) → o ≡ Some place → ⊥) → o ≡ None
+none_of None none = refl
+none_of (Some place) none = absurd (none place refl)
 
 pub check_drives-requires-clause-seating : goal.check_drives-requires-clause-seating
 check_drives-requires-clause-seating g c =
@@ -194,7 +198,32 @@ returns-clause-holds g c f is nobody quiet =
           (subst (λ k. IsChecked (is_well rest.damaged) (found_with k f.seats (drives_of f)) c.in-Ok.checked) (sym holds.pool.state)
           (subst (λ k. IsChecked (is_well rest.damaged) (found_with rest.state k (drives_of f)) c.in-Ok.checked) (sym left) found)),
     )
-  where
-    none_of : (o : Option ℕ) → ((place : ℕ) → o ≡ Some place → ⊥) → o ≡ None
-    none_of None none = refl
-    none_of (Some place) none = absurd (none place refl)
+
+pub returns-clause-are : goal.returns-clause-are
+returns-clause-are g c o are copied =
+    let rest = c.args.rest in
+    let x : Seen = g.R.Rack.seen (below_of rest.slices) in
+    let w : Slices = tables c.lay_members.new.slices in
+    let after : ℕ → Option ℕ = seats_by c.check_drives.new.seats in
+    let left : seat_of w ≡ after = λ i p. (sym (returns-clause-taken g c p)) i in
+    subst (λ b. IsChecked (is_well b) (found_with rest.state (seat_of w) o) c.in-Ok.checked) (none_of rest.damaged c.in_default.not-Some)
+    (subst (λ k. IsChecked (is_well rest.damaged) (found_with rest.state k o) c.in-Ok.checked) (sym left)
+    (c.in-Ok.ensures.exact o
+    (subst (λ r. AreDrivesOf (g.R.Rack.seen r) after o) (sym c.inner.ensures.value) (subst (λ k. AreDrivesOf x k o) left are))
+    (subst (λ k. AreCopied rest.scan.disks.items k o) left copied)))
+
+pub returns-clause-loses : goal.returns-clause-loses
+returns-clause-loses g c =
+    let seen = g.R.Rack.seen in
+    let rest = c.args.rest in
+    let x : Seen = seen (below_of rest.slices) in
+    let known = rest.scan.disks.items in
+    let now = c.check_drives.new.seats in
+    let left = seats_left known rest.state rest.gone.items in
+    subst (λ k. Loses x (seen (below_of c.lay_members.new.slices)) left k) (λ i p. (returns-clause-taken g c p) i)
+    (subst (λ r. Loses x (seen r) left (seats_by now)) (sym (c.lay_members.ensures.below ∙ c.unseat_lost.ensures.below))
+    (loses_left x (seen c.check_drives.new.rack) known rest.state rest.gone.items c.seats_of-seats.result now c.seats_of-seats.ensures.each c.seats_of-seats.ensures.beyond
+    (subst (λ r. Loses (seen r) (seen c.check_drives.new.rack) (seats_by c.seats_of-seats.result) (seats_by now)) c.inner.ensures.value c.check_drives.ensures.seats)))
+
+pub returns-clause-whole : goal.returns-clause-whole
+returns-clause-whole g c = none_of c.args.rest.damaged c.in_default.not-Some

@@ -1,7 +1,7 @@
 use Rattle.std.proofs.Common.{◌≡◌, ◌⊎◌, ◌<◌, ℕ, true, false, [], Some, inl, inr, slice_get, option_map, sym, ap, subst, ◌∙◌, arith}
 use Rattle.std.specs.List.{list_any}
 use Rattle.std.proofs.lemmas.Bool.{cases_Bool}
-use Rattle.std.proofs.lemmas.Option.{get_or_from_slice_get}
+use Rattle.std.proofs.lemmas.Option.{get_or_from_slice_get, slice_get_within}
 use Rattle.rack.specs.Sequences.{OnlyReads}
 use Rattle.arrayvec.specs.ArrayVec.{with_items}
 use Rattle.rack.specs.Seen.{Seen, Rose}
@@ -16,9 +16,11 @@ use Rattle.array_core.specs.Seats.{gone, restarted}
 use Rattle.commit_log.specs.View.{names}
 use Rattle.raid_rack.specs.RaidRack.{IsRunning, SliceRuns, arrays_in, no_array, raid_in, slices_in, slices_seen}
 use Rattle.raid_rack.specs.Agreeing.{MakesAgree}
+use Rattle.raid_rack.specs.Book.{IsSameBook}
 use Rattle.raid_rack.specs.Cleaning.{NoneFails}
 use Rattle.raid_rack.specs.Moves.{AreMarked, Mends}
 use Rattle.raid_rack.proofs.Mended.{each_items}
+use Rattle.assembler.proofs.Causes.{made_array}
 use Rattle.assembler.proofs.Holding.{rack_closed, rack_still}
 use Rattle.assembler.proofs.Live.{opened_live}
 use Rattle.assembler.proofs.Making.{by_list, keeps, mended as making_mended, parts as making_parts, replayed, same as making_same, settled}
@@ -328,3 +330,26 @@ returns-clause-marks g c quiet =
     (raid_in c.mark_gone.new.raid) (slices_seen seen c.new-raid.result) after c.mark_gone.ensures.mends
     rules running.set
     (subst (λ k. (place : ℕ) → HasFault (slices_of (tables k) (seen (below_of k))) after place → ⊥) (sym c.new-raid.ensures.slices) unfaulted)
+
+pub returns-clause-book : goal.returns-clause-book
+returns-clause-book g c =
+    subst (λ (s : State). IsSameBook s (raid_in c.mark_gone.new.raid).state) c.new-raid.ensures.state c.mark_gone.ensures.mends.moves.book.same
+
+pub returns-clause-arrays : goal.returns-clause-arrays
+returns-clause-arrays g c n u at =
+    let m = c.args.members in
+    let places = c.mend_tables-left_out.result.items in
+    let raid = raid_in c.new-raid.result in
+    let first = (each_items m.checked.arrays c.as_mut_slice.result.now c.restart_rebuilds.new.arrays restarted c.as_mut_slice.ensures.value c.restart_rebuilds.ensures).0 in
+    let second = (each_items (with_items m.checked.arrays c.restart_rebuilds.new.arrays) c.as_mut_slice-2.result.now c.note_gone.new.arrays (gone places) c.as_mut_slice-2.ensures.value c.note_gone.ensures).0 in
+    let items = c.new-raid.result.arrays.all.items in
+    let is : raid.arrays n ≡ gone places (restarted u) =
+    get_or_from_slice_get items n (gone places (restarted u)) no_array
+    (ap (λ xs. slice_get xs n) c.new-raid.ensures.arrays ∙ second n
+    ∙ ap (option_map (gone places)) (first n) ∙ twice places (slice_get m.checked.arrays.items n)
+    ∙ ap (option_map (λ v. gone places (restarted v))) at) in
+    let low : n < raid.state.made =
+    (let below = slice_get_within m.checked.arrays.items n u at in
+    let count = c.requires.members.founded.count in
+    let made = ap (λ (s : State). s.made) c.new-raid.ensures.state in omega (arith, below, count, made)) in
+    made_array places u (raid.arrays n) ((raid_in c.mark_gone.new.raid).arrays n) is (c.mark_gone.ensures.mends.moves.arrays n low)

@@ -3,7 +3,7 @@ use Rattle.rack.specs.Joins.{live_first, live_second, stays_then}
 use Rattle.pool_format.specs.Drives.{LeavesClosed}
 use Rattle.pool_format.specs.Writing.{InClosing, InSupers}
 use Rattle.pool_format.proofs.Laying.{lays_after, lays_sync, lays_weaker, lays_write}
-use Rattle.pool_format.proofs.Leaving.{closed_still, on_any, stands, super_behind, super_later, sync_only, written}
+use Rattle.pool_format.proofs.Leaving.{closed_still, on_any, single_synced, stands, super_behind, super_later, sync_only, written}
 use Rattle.pool_format.proofs.drives.close_drive.Goals as goal
 
 pub returns-in-Err-clause-lays : goal.returns-in-Err-clause-lays
@@ -60,3 +60,8 @@ returns-clause-closed g c =
     } in
     on_any c.sync.result
     (closed_still plan birth place (λ d s v. ⊥) (stays_then early only.stays) (sync_only c.sync.ensures.syncs) (λ s v at none. none) closed)
+
+pub returns-clause-single : goal.returns-clause-single
+returns-clause-single g c =
+    single_synced c.args.place (g.R.Rack.seen c.args.rack.now) (g.R.Rack.seen c.write_supers.new.rack) (g.R.Rack.seen c.sync.new.self) c.sync.result
+    (stays_then c.write.ensures.writes.stays c.write_supers.ensures.lays.only.stays) c.sync.ensures.syncs

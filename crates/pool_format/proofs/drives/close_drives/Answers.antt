@@ -1,16 +1,17 @@
 use Rattle.std.proofs.Common.{◌≡◌, Err, inl, inr, subst, arith}
 use Rattle.std.proofs.lemmas.Bool.{cases_lt}
 use Rattle.rack.proofs.Writing.{only_none}
-use Rattle.pool_format.specs.Drives.{LeavesClosed}
+use Rattle.pool_format.specs.Drives.{LeavesClosed, LeavesSingle}
 use Rattle.pool_format.specs.Writing.{InClosing, InClosings}
 use Rattle.pool_format.proofs.Laying.{lays_after, lays_end, lays_weaker, room_then}
-use Rattle.pool_format.proofs.Leaving.{closed_later, closed_still, closing_any}
+use Rattle.pool_format.proofs.Leaving.{closed_later, closed_still, closing_any, single_later, single_still}
 use Rattle.pool_format.proofs.drives.close_drives.Goals as goal
 
 pub loop-place-init : goal.loop-place-init
 loop-place-init g c = record {
   laid = only_none (g.R.Rack.seen c.args.rack.now) (InClosings c.args.plan.now) c.requires.fit;
   closed = λ d below. absurd (omega (arith, below));
+  single = λ d below. absurd (omega (arith, below));
   runs = g.met.R.Rack.runs_same c.args.rack.now;
 }
 
@@ -43,6 +44,14 @@ loop-place-preserved g c =
             let same : place ≡ d = omega (arith, below, last) in
             closed_later plan birth d stays (subst (λ k. LeavesClosed plan birth k m b) same c.in_default.ensures.closed)
       ];
+      single = λ d below. elim (cases_lt d place) [
+        | inl before ↦
+            single_still d (InClosing plan place) stays c.close_drive.ensures.lays.only (λ s v may. let same = may.0 in omega (arith, before, same))
+            (c.loop-place.invariant.single d before)
+        | inr last ↦
+            let same : place ≡ d = omega (arith, below, last) in
+            single_later d stays (subst (λ k. LeavesSingle k m b) same c.in_default.ensures.single)
+      ];
       runs = g.met.R.Rack.runs_then _ _ _ c.loop-place.invariant.runs c.close_drive.ensures.runs;
     }
 
@@ -59,3 +68,6 @@ returns-clause-lays g c = lays_end (InClosings c.args.plan.now) (g.R.Rack.seen c
 
 pub returns-clause-closed : goal.returns-clause-closed
 returns-clause-closed g c = λ d below. c.loop-place.invariant.closed d (omega (arith, below, c.loop-place-test.false, c.len-place-end.ensures.value))
+
+pub returns-clause-single : goal.returns-clause-single
+returns-clause-single g c = λ d below. c.loop-place.invariant.single d (omega (arith, below, c.loop-place-test.false, c.len-place-end.ensures.value))

@@ -2,14 +2,14 @@ use Rattle.std.proofs.Common.{◌≡◌, Err, inl, inr, subst, arith}
 use Rattle.std.proofs.lemmas.Bool.{cases_lt}
 use Rattle.rack.proofs.Writing.{only_none}
 use Rattle.pool_format.specs.Drives.{LeavesLaid}
-use Rattle.pool_format.specs.Writing.{InLaying, IsPart}
-use Rattle.pool_format.proofs.Laying.{laying_part, lays_after, lays_end, lays_weaker, room_then}
-use Rattle.pool_format.proofs.Leaving.{laid_later, laid_still}
+use Rattle.pool_format.specs.Writing.{InLaying, InLayings}
+use Rattle.pool_format.proofs.Laying.{lays_after, lays_end, lays_weaker, room_then}
+use Rattle.pool_format.proofs.Leaving.{laid_later, laid_still, laying_any}
 use Rattle.pool_format.proofs.drives.lay_drives.Goals as goal
 
 pub loop-place-init : goal.loop-place-init
 loop-place-init g c = record {
-  only = only_none (g.R.Rack.seen c.args.rack.now) (IsPart c.args.plan.now (g.R.Rack.seen c.args.rack.now).sectors) c.requires.fit;
+  only = only_none (g.R.Rack.seen c.args.rack.now) (InLayings c.args.plan.now (g.R.Rack.seen c.args.rack.now).sectors) c.requires.fit;
   laid = λ d below. absurd (omega (arith, below));
   runs = g.met.R.Rack.runs_same c.args.rack.now;
 }
@@ -33,8 +33,8 @@ loop-place-preserved g c =
     let b = g.R.Rack.seen c.lay_drive.new.rack in
     let stays = c.loop-place.invariant.only.stays in
     record {
-      only = (lays_after (IsPart plan a.sectors) a m b c.lay_drive.result c.loop-place.invariant.only
-          (lays_weaker (InLaying plan m.sectors place) (IsPart plan a.sectors) m b c.lay_drive.result (laying_part plan c.requires.plan a m place stays) c.lay_drive.ensures.lays)).only;
+      only = (lays_after (InLayings plan a.sectors) a m b c.lay_drive.result c.loop-place.invariant.only
+          (lays_weaker (InLaying plan m.sectors place) (InLayings plan a.sectors) m b c.lay_drive.result (laying_any plan a m place stays) c.lay_drive.ensures.lays)).only;
       laid = λ d below. elim (cases_lt d place) [
         | inl before ↦
             laid_still plan birth d (InLaying plan m.sectors place) stays c.lay_drive.ensures.lays.only
@@ -52,12 +52,12 @@ returns-in-Err-clause-lays g c =
     let a = g.R.Rack.seen c.args.rack.now in
     let m = g.R.Rack.seen c.loop-place.rack in
     let b = g.R.Rack.seen c.lay_drive.new.rack in
-    lays_after (IsPart plan a.sectors) a m b (Err c.in-Err.gone) c.loop-place.invariant.only
-    (lays_weaker (InLaying plan m.sectors c.loop-place.place) (IsPart plan a.sectors) m b (Err c.in-Err.gone)
-    (laying_part plan c.requires.plan a m c.loop-place.place c.loop-place.invariant.only.stays) c.in-Err.ensures.lays)
+    lays_after (InLayings plan a.sectors) a m b (Err c.in-Err.gone) c.loop-place.invariant.only
+    (lays_weaker (InLaying plan m.sectors c.loop-place.place) (InLayings plan a.sectors) m b (Err c.in-Err.gone)
+    (laying_any plan a m c.loop-place.place c.loop-place.invariant.only.stays) c.in-Err.ensures.lays)
 
 pub returns-clause-lays : goal.returns-clause-lays
-returns-clause-lays g c = lays_end (IsPart c.args.plan.now (g.R.Rack.seen c.args.rack.now).sectors) (g.R.Rack.seen c.args.rack.now) (g.R.Rack.seen c.loop-place.rack) c.loop-place.invariant.only
+returns-clause-lays g c = lays_end (InLayings c.args.plan.now (g.R.Rack.seen c.args.rack.now).sectors) (g.R.Rack.seen c.args.rack.now) (g.R.Rack.seen c.loop-place.rack) c.loop-place.invariant.only
 
 pub returns-clause-laid : goal.returns-clause-laid
 returns-clause-laid g c = λ d below. c.loop-place.invariant.laid d (omega (arith, below, c.loop-place-test.false, c.len-place-end.ensures.value))

@@ -1,13 +1,17 @@
-use Rattle.std.proofs.Common.{Err, refl, arith}
+use Rattle.std.proofs.Common.{◌≡◌, ◌<◌, Ok, Err, inl, inr, refl, replicate, length, subst, arith}
+use Rattle.std.proofs.lemmas.Bool.{cases_lt}
+use Rattle.rack.proofs.Durably.{durable_only}
 use Rattle.rack.proofs.Writing.{only_none}
-use Rattle.pool_format.specs.Writing.{InStates}
+use Rattle.pool_format.specs.Drives.{LeavesCleared}
+use Rattle.pool_format.specs.Writing.{InCleared}
 use Rattle.pool_format.proofs.Laying.{lays_after, lays_durable, lays_end}
-use Rattle.std.proofs.Common.{replicate}
+use Rattle.pool_format.proofs.Leaving.{cleared_later, cleared_still, cleared_written}
 use Rattle.pool_format.proofs.states.clear_states.Goals as goal
 
 pub loop-place-init : goal.loop-place-init
 loop-place-init g c = record {
-  laid = only_none (g.R.Rack.seen c.args.rack.now) (InStates c.args.plan.now) c.requires.fit;
+  laid = only_none (g.R.Rack.seen c.args.rack.now) (InCleared c.args.plan.now) c.requires.fit;
+  cleared = λ d below. absurd (omega (arith, below));
   runs = g.met.R.Rack.runs_same c.args.rack.now;
 }
 
@@ -24,14 +28,42 @@ write_durably-requires-clause-sector g c =
     omega (arith, logs, same)
 
 pub loop-place-preserved : goal.loop-place-preserved
-loop-place-preserved g c = record {
-  laid = (lays_after (InStates c.args.plan.now) (g.R.Rack.seen c.args.rack.now) (g.R.Rack.seen c.loop-place.rack) (g.R.Rack.seen c.write_durably.new.rack) c.write_durably.result c.loop-place.invariant.laid (lays_durable (InStates c.args.plan.now) (g.R.Rack.seen c.loop-place.rack) (g.R.Rack.seen c.write_durably.new.rack) c.loop-place.place 2048 (replicate 512 0) c.write_durably.result (let disks = c.requires.room.disks in let same = c.loop-place.invariant.laid.stays.disks in omega (arith, disks, same, c.loop-place-test.true, c.len-place-end.ensures.value)) ((omega (arith, c.loop-place-test.true, c.len-place-end.ensures.value)), refl) c.write_durably.ensures.writes)).only;
-  runs = g.met.R.Rack.runs_then _ _ _ c.loop-place.invariant.runs c.write_durably.ensures.runs;
-}
+loop-place-preserved g c =
+    let plan = c.args.plan.now in
+    let place = c.loop-place.place in
+    let a = g.R.Rack.seen c.args.rack.now in
+    let m = g.R.Rack.seen c.loop-place.rack in
+    let b = g.R.Rack.seen c.write_durably.new.rack in
+    let stays = c.loop-place.invariant.laid.stays in
+    let low : place < length plan.units.items = omega (arith, c.loop-place-test.true, c.len-place-end.ensures.value) in
+    record {
+      laid = (lays_after (InCleared plan) a m b c.write_durably.result c.loop-place.invariant.laid
+          (lays_durable (InCleared plan) m b place 2048 (replicate 512 0) c.write_durably.result (let disks = c.requires.room.disks in let same = stays.disks in omega (arith, disks, same, low))
+          ((low, refl), refl) c.write_durably.ensures.writes)).only;
+      cleared = λ d below. elim (cases_lt d place) [
+        | inl before ↦
+            cleared_still d _ stays (durable_only c.write_durably.result c.write_durably.ensures.writes) (λ w may. let same = may.0 in omega (arith, before, same))
+            (c.loop-place.invariant.cleared d before)
+        | inr last ↦
+            let same : place ≡ d = omega (arith, below, last) in
+            cleared_later d stays (subst (λ k. LeavesCleared k m b) same (cleared_written place m b (Ok tt) c.in_default.ensures.writes))
+      ];
+      runs = g.met.R.Rack.runs_then _ _ _ c.loop-place.invariant.runs c.write_durably.ensures.runs;
+    }
 
 pub returns-in-Err-clause-lays : goal.returns-in-Err-clause-lays
 returns-in-Err-clause-lays g c =
-    lays_after (InStates c.args.plan.now) (g.R.Rack.seen c.args.rack.now) (g.R.Rack.seen c.loop-place.rack) (g.R.Rack.seen c.write_durably.new.rack) (Err c.in-Err.gone) c.loop-place.invariant.laid (lays_durable (InStates c.args.plan.now) (g.R.Rack.seen c.loop-place.rack) (g.R.Rack.seen c.write_durably.new.rack) c.loop-place.place 2048 (replicate 512 0) (Err c.in-Err.gone) (let disks = c.requires.room.disks in let same = c.loop-place.invariant.laid.stays.disks in omega (arith, disks, same, c.loop-place-test.true, c.len-place-end.ensures.value)) ((omega (arith, c.loop-place-test.true, c.len-place-end.ensures.value)), refl) c.in-Err.ensures.writes)
+    let plan = c.args.plan.now in
+    let place = c.loop-place.place in
+    let m = g.R.Rack.seen c.loop-place.rack in
+    let b = g.R.Rack.seen c.write_durably.new.rack in
+    let low : place < length plan.units.items = omega (arith, c.loop-place-test.true, c.len-place-end.ensures.value) in
+    lays_after (InCleared plan) (g.R.Rack.seen c.args.rack.now) m b (Err c.in-Err.gone) c.loop-place.invariant.laid
+    (lays_durable (InCleared plan) m b place 2048 (replicate 512 0) (Err c.in-Err.gone)
+    (let disks = c.requires.room.disks in let same = c.loop-place.invariant.laid.stays.disks in omega (arith, disks, same, low)) ((low, refl), refl) c.in-Err.ensures.writes)
 
 pub returns-clause-lays : goal.returns-clause-lays
-returns-clause-lays g c = lays_end (InStates c.args.plan.now) (g.R.Rack.seen c.args.rack.now) (g.R.Rack.seen c.loop-place.rack) c.loop-place.invariant.laid
+returns-clause-lays g c = lays_end (InCleared c.args.plan.now) (g.R.Rack.seen c.args.rack.now) (g.R.Rack.seen c.loop-place.rack) c.loop-place.invariant.laid
+
+pub returns-clause-cleared : goal.returns-clause-cleared
+returns-clause-cleared g c = λ d below. c.loop-place.invariant.cleared d (omega (arith, below, c.loop-place-test.false, c.len-place-end.ensures.value))

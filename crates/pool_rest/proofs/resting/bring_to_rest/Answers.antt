@@ -6,8 +6,8 @@ use Rattle.slice_rack.specs.SliceRack.{tables, below_of}
 use Rattle.pool_image.specs.Disks.{disks_of}
 use Rattle.pool_image.specs.Alike.{MeansTheSame}
 use Rattle.pool_scan.specs.Scanning.{IsUnfaulted, now_in}
-use Rattle.pool_rest.specs.Standing.{IsLaid, IsNewest, IsOnePool, FindsAll, since}
-use Rattle.pool_rest.specs.Resting.{RestsSo, StandsNow, WritesDrives, seated_state}
+use Rattle.pool_rest.specs.Standing.{IsLaid, IsNewest, IsOnePool, FindsAll, FindsLeft, since}
+use Rattle.pool_rest.specs.Resting.{IsFlagged, RestsSo, StandsNow, WritesDrives, seated_state}
 use Rattle.pool_rest.proofs.Agreeing.{told_later, lasting_later}
 use Rattle.pool_rest.proofs.Meant.{gone_none}
 use Rattle.pool_rest.proofs.Again.{laid_later, newest_still, newest_from, cause_from, single_now}
@@ -15,12 +15,12 @@ use Rattle.pool_rest.specs.SoundLogs.{IsSettled}
 use Rattle.pool_rest.proofs.Refusals.{meant_after}
 use Rattle.pool_rest.proofs.Stood.{found_still}
 use Rattle.pool_rest.proofs.Payloads.{steady_after}
-use Rattle.pool_rest.proofs.GonePlaces.{stands_rose}
+use Rattle.pool_rest.proofs.GonePlaces.{stands_rose, found_left, left_since}
 use Rattle.pool_scan.specs.Choosing.{seat_by}
 use Rattle.pool_rest.proofs.Quiet.{none_flagged, no_cause, settled_after, settled_idle}
 use Rattle.pool_rest.proofs.Joined.{no_elements, writes_idle, writes_since, free_before, free_after, since_rests, since_so, since_stands, since_means, not_idle, idle_so, idle_stands, idle_same}
 use Rattle.pool_scan.proofs.Meant.{scan_meant}
-use Rattle.pool_rest.proofs.Keeping.{keeps_read, rest_fewer, rest_keeps, single_later}
+use Rattle.pool_rest.proofs.Keeping.{keeps_read, rest_brought, rest_keeps, single_later}
 use Rattle.pool_rest.proofs.resting.bring_to_rest.Goals as goal
 
 pub returns-then-pending_count-eq0-clause-only : goal.returns-then-pending_count-eq0-clause-only
@@ -344,11 +344,11 @@ returns-in-Ok-replay_found-clause-keeps g c = λ told lasts free sound brings si
     (scan_meant (since a b) b rest.scan.disks.items newest.scan (told_later a b (stays_then only.stays stays) told) free)
     (settled.state _ stands.stands)
     found.on.items found.looked.gone.items found.slices.orderly c.in-Ok-stand.ensures.fit c.in-Ok-stand.ensures.laid c.in-Ok-stand.ensures.looked brings
-    (c.in-Ok-replay_found.ensures.keeps (told_later a x only.stays told) (lasting_later a x only.stays lasts) later (single_later a x only told lasts single))
+    (c.in-Ok-replay_found.ensures.brought (told_later a x only.stays told) (lasting_later a x only.stays lasts) later (single_later a x only told lasts single))
     u of is
 
-pub returns-in-Ok-replay_found-clause-fewer : goal.returns-in-Ok-replay_found-clause-fewer
-returns-in-Ok-replay_found-clause-fewer g c = λ told lasts free sound brings single u of is.
+pub returns-in-Ok-replay_found-clause-brought : goal.returns-in-Ok-replay_found-clause-brought
+returns-in-Ok-replay_found-clause-brought g c = λ told lasts free sound brings single u of is.
     let seen = g.R.Rack.seen in
     let a = seen c.args.rack in
     let rest = c.in-Ok-replay_found.rest in
@@ -364,7 +364,7 @@ returns-in-Ok-replay_found-clause-fewer g c = λ told lasts free sound brings si
     let stands = c.in-Ok-stand.ensures.meant told early in
     let settled = returns-in-Ok-replay_found-clause-settled g c told lasts free sound in
     let newest = returns-in-Ok-replay_found-clause-newest g c told lasts in
-    rest_fewer a x b found.scan.disks.items found.state found.log found.looked.pending found.looked.damaged (tables found.slices)
+    rest_brought a x b found.scan.disks.items found.state found.log found.looked.pending found.looked.damaged (tables found.slices)
     only stays c.in-Ok-stand.ensures.newest.scan (λ none. c.if-pending_count-eq0.false (c.pending_count.ensures ∙ ap length none)) told lasts early stands
     (since_rests a x b found.scan.disks.items found.state (tables found.slices) found.log found.looked.pending found.looked.damaged
     only stays c.in-Ok-stand.ensures.newest.scan c.in-Ok-stand.ensures.meant c.in-Ok-replay_found.ensures.replayed told lasts free)
@@ -372,7 +372,7 @@ returns-in-Ok-replay_found-clause-fewer g c = λ told lasts free sound brings si
     (scan_meant (since a b) b rest.scan.disks.items newest.scan (told_later a b (stays_then only.stays stays) told) free)
     (settled.state _ stands.stands)
     found.on.items found.looked.gone.items found.slices.orderly c.in-Ok-stand.ensures.fit c.in-Ok-stand.ensures.laid c.in-Ok-stand.ensures.looked brings
-    (c.in-Ok-replay_found.ensures.fewer (told_later a x only.stays told) (lasting_later a x only.stays lasts) later (single_later a x only told lasts single))
+    (c.in-Ok-replay_found.ensures.brought (told_later a x only.stays told) (lasting_later a x only.stays lasts) later (single_later a x only told lasts single))
     u of (is _ stands.stands)
 
 pub returns-then-pending_count-eq0-clause-keeps : goal.returns-then-pending_count-eq0-clause-keeps
@@ -382,9 +382,43 @@ returns-then-pending_count-eq0-clause-keeps g c = λ told lasts free sound bring
     keeps_read (seen c.args.rack) (seen (below_of c.as_it_stands.result.slices))
     (subst (λ k. OnlyReads (seen c.args.rack) (seen (below_of k))) (sym same) c.in-Ok-stand.ensures.only) told lasts u single of.orderly of.inside
 
-pub returns-then-pending_count-eq0-clause-fewer : goal.returns-then-pending_count-eq0-clause-fewer
-returns-then-pending_count-eq0-clause-fewer g c = λ told lasts free sound brings single u of is.
+pub returns-then-pending_count-eq0-clause-brought : goal.returns-then-pending_count-eq0-clause-brought
+returns-then-pending_count-eq0-clause-brought g c = λ told lasts free sound brings single u of is.
     let seen = g.R.Rack.seen in
     let same = c.as_it_stands.ensures.slices in
     keeps_read (seen c.args.rack) (seen (below_of c.as_it_stands.result.slices))
     (subst (λ k. OnlyReads (seen c.args.rack) (seen (below_of k))) (sym same) c.in-Ok-stand.ensures.only) told lasts u single of.orderly of.inside
+
+pub returns-then-pending_count-eq0-clause-unread : goal.returns-then-pending_count-eq0-clause-unread
+returns-then-pending_count-eq0-clause-unread g c = λ p d low seat flagged.
+    let rest = c.as_it_stands.ensures in
+    let found = c.in-Ok-stand.found in
+    let seat_now : seat_by found.state found.scan.disks.items p ≡ Some d =
+    ap (λ s. seat_by s found.scan.disks.items p) (sym rest.state) ∙ ap (λ k. seat_by c.as_it_stands.result.state k.disks.items p) (sym rest.scan) ∙ seat in
+    rest.unread p d low seat_now (subst (λ k. IsFlagged k.disks.items d) rest.scan flagged)
+
+pub returns-then-pending_count-eq0-clause-finds : goal.returns-then-pending_count-eq0-clause-finds
+returns-then-pending_count-eq0-clause-finds g c =
+    let seen = g.R.Rack.seen in
+    let rest = c.as_it_stands.ensures in
+    let now = c.as_it_stands.result in
+    let found = c.in-Ok-stand.found in
+    let stand = c.in-Ok-stand.ensures in
+    let a = seen c.args.rack in
+    let b = seen (below_of found.slices) in
+    subst (λ k. FindsLeft a (seen (below_of k)) now.scan.disks.items now.state (tables k) now.on.items now.log now.pending now.damaged) (sym rest.slices)
+    (subst (λ e. FindsLeft a b now.scan.disks.items now.state (tables found.slices) now.on.items now.log now.pending e) (sym rest.damaged)
+    (subst (λ p. FindsLeft a b now.scan.disks.items now.state (tables found.slices) now.on.items now.log p found.looked.damaged) (sym rest.pending)
+    (subst (λ m. FindsLeft a b now.scan.disks.items now.state (tables found.slices) now.on.items m found.looked.pending found.looked.damaged) (sym rest.log)
+    (subst (λ o. FindsLeft a b now.scan.disks.items now.state (tables found.slices) o.items found.log found.looked.pending found.looked.damaged) (sym rest.on)
+    (subst (λ s. FindsLeft a b now.scan.disks.items s (tables found.slices) found.on.items found.log found.looked.pending found.looked.damaged) (sym rest.state)
+    (subst (λ k. FindsLeft a b k.disks.items found.state (tables found.slices) found.on.items found.log found.looked.pending found.looked.damaged) (sym rest.scan)
+    (found_left a b found.scan.disks.items found.state (tables found.slices) found.on.items found.looked.gone.items found.log found.looked.pending found.looked.damaged
+    found.slices.orderly stand.fit stand.only stand.laid stand.looked)))))))
+
+pub returns-in-Ok-replay_found-clause-finds : goal.returns-in-Ok-replay_found-clause-finds
+returns-in-Ok-replay_found-clause-finds g c =
+    let seen = g.R.Rack.seen in
+    let rest = c.in-Ok-replay_found.rest in
+    left_since (seen c.args.rack) (seen (below_of c.in-Ok-stand.found.slices)) (seen (below_of rest.slices)) rest.scan.disks.items rest.state (tables rest.slices) rest.on.items rest.log rest.pending rest.damaged
+    c.in-Ok-stand.ensures.only.stays c.in-Ok-replay_found.ensures.finds

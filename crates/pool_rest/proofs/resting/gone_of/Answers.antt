@@ -1,9 +1,9 @@
 use Rattle.std.proofs.Common.{◌≡◌, ◌⊎◌, ℕ, ◌+◌, ◌≤◌, Bool, List, length, not, true, false, refl, sym, ap, subst, ◌∙◌, arith, inl, inr}
-use Rattle.std.proofs.lemmas.Bool.{both_ways}
+use Rattle.std.proofs.lemmas.Bool.{both_ways, cases_eq}
 use Rattle.commit_log.specs.View.{names}
 use Rattle.pool_scan.specs.Choosing.{seat_by}
 use Rattle.pool_rest.specs.Resting.{IsFlagged}
-use Rattle.pool_rest.proofs.Listed.{few_pushed, of_pushed}
+use Rattle.pool_rest.proofs.Listed.{pushed, few_pushed, of_pushed, pushed_other, pushed_in}
 use Rattle.pool_rest.proofs.resting.gone_of.Goals as goal
 
 not_false : (b : Bool) → not b ≡ false → b ≡ true
@@ -14,6 +14,7 @@ pub loop-place-init : goal.loop-place-init
 loop-place-init c = record {
   few = subst (λ (ps : List ℕ). length ps ≤ 0) (sym c.new-places.ensures) (omega arith);
   each = λ p d named. absurd (both_ways (names c.new-places.result.items p) (ap (λ ps. names ps p) c.new-places.ensures) named);
+  all = λ p d low. absurd (omega (arith, low));
 }
 
 pub push_unless-requires : goal.push_unless-requires
@@ -30,6 +31,19 @@ loop-place-preserved c =
       each = λ p d named seat. elim (of_pushed out n p c.loop-place.places.items (sym (ap (λ ps. names ps p) items) ∙ named)) [
         | inl earlier ↦ inv.each p d earlier seat
         | inr here ↦
-            subst (λ q. (names c.args.gone.now.items q ≡ true) ⊎ IsFlagged c.args.scan.now.disks.items d) (sym here.1) (c.has_gone-has_gone.ensures (not_false c.has_gone-has_gone.result here.0) d (ap (seat_by c.args.state.now c.args.scan.now.disks.items) (sym here.1) ∙ seat))
+            subst (λ q. (names c.args.gone.now.items q ≡ true) ⊎ IsFlagged c.args.scan.now.disks.items d) (sym here.1) (c.has_gone-has_gone.ensures.cause (not_false c.has_gone-has_gone.result here.0) d (ap (seat_by c.args.state.now c.args.scan.now.disks.items) (sym here.1) ∙ seat))
+      ];
+      all = λ p d low seat flagged. elim (cases_eq p n) [
+        | inr other ↦
+            ap (λ ps. names ps p) items ∙ pushed_other out n p c.loop-place.places.items other
+            ∙ inv.all p d (omega (arith, low, other)) seat flagged
+        | inl here ↦
+            ap (λ ps. names ps p) items
+            ∙ subst (λ q. names (pushed out n c.loop-place.places.items) q ≡ true) (sym here)
+            (pushed_in out n c.loop-place.places.items
+            (ap not (c.has_gone-has_gone.ensures.all d (ap (seat_by c.args.state.now c.args.scan.now.disks.items) (sym here) ∙ seat) flagged)))
       ];
     }
+
+pub returns-clause-all : goal.returns-clause-all
+returns-clause-all c p d low seat flagged = c.loop-place.invariant.all p d (omega (arith, low, c.loop-place-test.false)) seat flagged

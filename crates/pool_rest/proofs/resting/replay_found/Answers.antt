@@ -4,25 +4,17 @@ use Rattle.array_image.specs.Record.{is_target}
 use Rattle.pool_scan.specs.Scanning.{AllTold, IsUnfaulted, now_in}
 use Rattle.pool_scan.specs.Choosing.{AreOf, seat_by}
 use Rattle.commit_log.specs.View.{names}
-use Rattle.std.proofs.Common.{◌≡◌, ◌⊎◌, Some, true, sym, ap, subst, ◌∙◌, inl, inr}
-use Rattle.rack.specs.Seen.{Rose}
+use Rattle.std.proofs.Common.{◌≡◌, ◌⊎◌, ◌||◌, Some, true, sym, ap, subst, ◌∙◌, inl, inr}
+use Rattle.rack.specs.Seen.{Rose, Stays}
 use Rattle.rack.specs.Sequences.{WritesOnly}
 use Rattle.slice_rack.specs.SliceRack.{tables, below_of}
 use Rattle.pool_rest.specs.Resting.{IsOfDrive, IsReplayed, AreShut, IsFlagged, HasDisk, StandsNow, seated_state}
-use Rattle.pool_rest.specs.Standing.{IsLaid, IsLasting, IsNewest, IsOnePool, FindsAll, since}
+use Rattle.pool_rest.specs.Standing.{IsLaid, IsLasting, IsNewest, IsOnePool, FindsAll, FindsLeft, since}
 use Rattle.pool_rest.proofs.Agreeing.{told_later, lasting_later}
 use Rattle.pool_rest.proofs.Again.{replay_only, again_only, again_replayed, again_stands, again_finds, again_shut, laid_later, newest_since, cause_since}
-use Rattle.pool_rest.proofs.GonePlaces.{stands_rose, again_rose}
+use Rattle.pool_rest.proofs.GonePlaces.{stands_rose, again_rose, found_left, left_since}
 use Rattle.pool_rest.proofs.Listed.{or_true}
-use Rattle.std.proofs.Common.{ℕ, Bool, List, None}
-use Rattle.rack.specs.Targets.{look}
-use Rattle.slice_rack.specs.Slices.{IsOrderly, Slices}
-use Rattle.slice_rack.specs.Sliced.{IsInside, sliced}
-use Rattle.array_image.specs.Places.{log_slice}
-use Rattle.array_image.specs.States.{state_in}
-use Rattle.pool_rest.specs.Moments.{AreOfDrives, KeepsReplayed}
-use Rattle.pool_rest.specs.Resting.{AreSingle}
-use Rattle.pool_rest.proofs.Keeping.{KeepsFewer, again_fewer, again_keeps}
+use Rattle.pool_rest.proofs.Keeping.{KeepsBrought, again_brought}
 use Rattle.pool_rest.proofs.resting.replay_found.Goals as goal
 
 pub returns-in-Err-clause-back : goal.returns-in-Err-clause-back
@@ -159,26 +151,42 @@ returns-clause-gone g c = λ p d named seat.
       | inr early ↦ inr (c.refused_of-early.ensures p d early seat_now)
     ]))
 
-pub returns-clause-keeps : goal.returns-clause-keeps
-returns-clause-keeps g c =
+pub returns-clause-brought : goal.returns-clause-brought
+returns-clause-brought g c =
     let seen = g.R.Rack.seen in
     let found = c.args.found in
     let again = below_of c.in-Ok.again.slices in
-    subst (λ k. AllTold (seen (below_of found.slices)) → IsLasting (seen (below_of found.slices)) → IsUnfaulted (seen (below_of found.slices)) (seen (below_of k)) → AreSingle (seen (below_of found.slices))
-    → (t u : Slices) (on : List ℕ) (is_pending : Bool) → IsOrderly t → IsInside t (seen (below_of found.slices)) → IsLaid (seen (below_of found.slices)) found.scan.disks.items found.state t on
-    → FindsAll (seen (below_of found.slices)) t on found.log is_pending None → ((p : ℕ) → look found.log.pending (log_slice p) 0 ≡ None) → seated_state found.log.pending found.state ≡ found.state
-    → AreOfDrives (seen (below_of found.slices)) (seat_by found.state found.scan.disks.items) u → state_in (sliced u (now_in (seen (below_of k)))) ≡ Some found.state
-    → KeepsReplayed (seen (below_of found.slices)) (seen (below_of k)) u)
+    subst (λ k. KeepsBrought (seen (below_of found.slices)) (seen (below_of k)) found.scan.disks.items found.state (seated_state found.log.pending found.state) found.log)
     (sym c.as_it_stands-rest.ensures.slices)
-    (again_keeps seen (below_of found.slices) c.into_inner.result c.replay_on-done.result.rack again c.into_inner.ensures found.scan.disks.items found.state c.seated_by-seated.result found.log
-    c.seated_by-seated.ensures c.replay_on-done.ensures.only.stays c.in-Ok.ensures.only c.replay_on-done.ensures.keeps)
+    (again_brought seen (below_of found.slices) c.into_inner.result c.replay_on-done.result.rack again c.into_inner.ensures found.scan.disks.items found.state c.seated_by-seated.result found.log
+    c.seated_by-seated.ensures c.replay_on-done.ensures.only.stays c.in-Ok.ensures.only c.replay_on-done.ensures.brought)
 
-pub returns-clause-fewer : goal.returns-clause-fewer
-returns-clause-fewer g c =
+pub returns-clause-unread : goal.returns-clause-unread
+returns-clause-unread g c = λ p d low seat flagged.
+    let rest = c.as_it_stands-rest.ensures in
+    let again = c.in-Ok.again in
+    let seat_now : seat_by again.state again.scan.disks.items p ≡ Some d =
+    ap (λ s. seat_by s again.scan.disks.items p) (sym rest.state) ∙ ap (λ k. seat_by c.as_it_stands-rest.result.state k.disks.items p) (sym rest.scan) ∙ seat in
+    c.both-rest.ensures.either p low
+    ∙ ap (λ b. b || names c.refused_of-early.result.items p) (rest.unread p d low seat_now (subst (λ k. IsFlagged k.disks.items d) rest.scan flagged))
+
+pub returns-clause-finds : goal.returns-clause-finds
+returns-clause-finds g c =
     let seen = g.R.Rack.seen in
-    let found = c.args.found in
-    let again = below_of c.in-Ok.again.slices in
-    subst (λ k. KeepsFewer (seen (below_of found.slices)) (seen (below_of k)) found.scan.disks.items found.state (seated_state found.log.pending found.state) found.log)
-    (sym c.as_it_stands-rest.ensures.slices)
-    (again_fewer seen (below_of found.slices) c.into_inner.result c.replay_on-done.result.rack again c.into_inner.ensures found.scan.disks.items found.state c.seated_by-seated.result found.log
-    c.seated_by-seated.ensures c.replay_on-done.ensures.only.stays c.in-Ok.ensures.only c.replay_on-done.ensures.fewer)
+    let rest = c.as_it_stands-rest.ensures in
+    let now = c.as_it_stands-rest.result in
+    let again = c.in-Ok.again in
+    let a = seen (below_of c.args.found.slices) in
+    let d = seen c.replay_on-done.result.rack in
+    let b = seen (below_of again.slices) in
+    let first : Stays a d = subst (λ r. Stays (seen r) d) c.into_inner.ensures c.replay_on-done.ensures.only.stays in
+    subst (λ k. FindsLeft a (seen (below_of k)) now.scan.disks.items now.state (tables k) now.on.items now.log now.pending now.damaged) (sym rest.slices)
+    (subst (λ e. FindsLeft a b now.scan.disks.items now.state (tables again.slices) now.on.items now.log now.pending e) (sym rest.damaged)
+    (subst (λ p. FindsLeft a b now.scan.disks.items now.state (tables again.slices) now.on.items now.log p again.looked.damaged) (sym rest.pending)
+    (subst (λ m. FindsLeft a b now.scan.disks.items now.state (tables again.slices) now.on.items m again.looked.pending again.looked.damaged) (sym rest.log)
+    (subst (λ o. FindsLeft a b now.scan.disks.items now.state (tables again.slices) o.items again.log again.looked.pending again.looked.damaged) (sym rest.on)
+    (subst (λ s. FindsLeft a b now.scan.disks.items s (tables again.slices) again.on.items again.log again.looked.pending again.looked.damaged) (sym rest.state)
+    (subst (λ k. FindsLeft a b k.disks.items again.state (tables again.slices) again.on.items again.log again.looked.pending again.looked.damaged) (sym rest.scan)
+    (left_since a d b again.scan.disks.items again.state (tables again.slices) again.on.items again.log again.looked.pending again.looked.damaged first
+    (found_left d b again.scan.disks.items again.state (tables again.slices) again.on.items again.looked.gone.items again.log again.looked.pending again.looked.damaged
+    again.slices.orderly c.in-Ok.ensures.fit c.in-Ok.ensures.only c.in-Ok.ensures.laid c.in-Ok.ensures.looked))))))))

@@ -2,7 +2,7 @@ use Rattle.std.proofs.Common.{sym, subst, ◌∙◌}
 use Rattle.slice_rack.specs.SliceRack.{tables, below_of}
 use Rattle.pool_rest.specs.Members.{IsCutBelow}
 use Rattle.pool_rest.proofs.DriveReplays.{on_drives, unread_none, shut_drives, closing_logs, only_drives, halves_kept, lost_cause, replayed_drives}
-use Rattle.pool_rest.proofs.Moments.{fewer_keeps, found_keeps}
+use Rattle.pool_rest.proofs.Moments.{brought_keeps}
 use Rattle.pool_rest.proofs.resting.replay_on.Goals as goal
 
 pub replay-gone-requires-clause-logs : goal.replay-gone-requires-clause-logs
@@ -44,16 +44,9 @@ returns-clause-shut g c = λ whole told lasts free some.
     c.lay_drives-unread.new.slices.orderly c.lay_drives-unread.ensures.fit c.replay-gone.ensures.runs c.replay-gone.ensures.replays in
     shut_drives c.args.before.now parts told lasts free some (c.closing_of-closing.ensures.all whole (unread_none parts free))
 
-pub returns-clause-keeps : goal.returns-clause-keeps
-returns-clause-keeps g c = λ told lasts free single t u on is_pending orderly inside laid finds none of state.
+pub returns-clause-brought : goal.returns-clause-brought
+returns-clause-brought g c = λ told lasts free single t u on is_pending laid finds brings of state.
     let parts = on_drives g.R.Rack.seen c.args.rack _ _ _ _ c.into_inner.result _ c.args.scan.now.disks.items c.args.state.now _ _ _ _ _ _ _ c.args.log
     c.new-slices.ensures.below c.seat_drives-on.ensures.below c.into_inner.ensures c.seat_drives-on.ensures.laid c.lay_drives-unread.ensures.only c.lay_drives-unread.ensures.cut
     c.lay_drives-unread.new.slices.orderly c.lay_drives-unread.ensures.fit c.replay-gone.ensures.runs c.replay-gone.ensures.replays in
-    found_keeps parts free told lasts single u of t on is_pending orderly inside laid finds none state
-
-pub returns-clause-fewer : goal.returns-clause-fewer
-returns-clause-fewer g c = λ told lasts free single t u on is_pending laid finds brings of state.
-    let parts = on_drives g.R.Rack.seen c.args.rack _ _ _ _ c.into_inner.result _ c.args.scan.now.disks.items c.args.state.now _ _ _ _ _ _ _ c.args.log
-    c.new-slices.ensures.below c.seat_drives-on.ensures.below c.into_inner.ensures c.seat_drives-on.ensures.laid c.lay_drives-unread.ensures.only c.lay_drives-unread.ensures.cut
-    c.lay_drives-unread.new.slices.orderly c.lay_drives-unread.ensures.fit c.replay-gone.ensures.runs c.replay-gone.ensures.replays in
-    fewer_keeps parts free told lasts single u of c.args.before.now t on is_pending laid finds brings state
+    brought_keeps parts free told lasts single u of c.args.before.now t on is_pending laid finds brings state

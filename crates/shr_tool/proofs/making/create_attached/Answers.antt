@@ -45,11 +45,11 @@ returns-in-Err-clause-outcome g c =
     λ sink.
     inl
     (subst
-    (λ b. NotMade seen runs c.args.bay.now b c.args.extent (taken c.args.out.now) (taken c.refuse_create.new.out) c.refuse_create.result)
+    (λ b. NotMade seen runs c.args.bay.now b c.args.extent c.args.birth.now (taken c.args.out.now) (taken c.refuse_create.new.out) c.refuse_create.result)
     (sym same)
     (record {
       why = back.why;
       says = c.refuse_create.ensures.says sink;
       kept = refuses.returned.1;
-      cause = fault_through seen (λ r. r.now) _ back.rack c.args.extent back.why refuses.layout refuses.unchanged refuses.gone refuses.some;
+      cause = fault_through seen (λ r. r.now) _ back.rack c.args.extent c.args.birth.now back.why refuses.layout refuses.unchanged refuses.gone refuses.some;
     }))

@@ -3,7 +3,7 @@ use Rattle.std.proofs.Common.{◌≡◌, ◌∙◌, ap, sym, subst, refl, inl, i
 use Rattle.pool.specs.View.{bay_in, book, slices_shown, view}
 use Rattle.pool.proofs.Booked.{book_seated}
 use Rattle.shr_tool.specs.Opened.{NotOpened, OpenedOn}
-use Rattle.shr_tool.proofs.Through.{pool_through, written_through, ground_in, held_by_meant, moment_in, opened_as, stops_mean, traced_through}
+use Rattle.shr_tool.proofs.Through.{pool_through, refused_through, written_through, ground_in, held_by_meant, moment_in, opened_as, stops_mean, traced_through}
 use Rattle.shr_tool.proofs.Told.{task_for}
 use Rattle.shr_tool.proofs.opening.open_attached.Goals as goal
 
@@ -36,6 +36,7 @@ returns-in-Ok-clause-outcome g c =
       seated = book_seated (book (view (λ r. seen r.now) pool)) (slices_shown (view (λ r. seen r.now) pool)) opens.fit.0.running.set opens.fit.0.heeded;
       meant = opened_as pool (λ r. seen r.now) _ opens.meant opens.marks;
       tables = opens.mended;
+      agreed = opens.agreed;
       moments = λ a meant calm traced. stops_mean pool (λ r. seen r.now) _ a opens.meant meant calm traced;
       apart = does.passes.apart;
       outcome = λ a.
@@ -66,4 +67,7 @@ returns-in-Err-clause-outcome g c =
       early = refuses.early;
       written = written_through seen _ runs (λ r. r.now) (λ r s ran. ran.1) _ back.rack refuses.written;
       exact = refuses.exact;
+      cause = refused_through seen _ runs (λ r. r.now) (λ r s ran. ran.1) _ back.rack back.why refuses.cause;
+      unmoved = refuses.unmoved;
+      still = refuses.still;
     }))
