@@ -9,6 +9,7 @@
 //! | `damages` | causes of refusals, each a change of the disks, with the refusal that it is to have |
 //! | `refusals` | pools with one cause and with each two: the first one is named, and a disk that is no drive isn't written |
 //! | `absences` | each drive absent, and there again at the next opening |
+//! | `quiet` | openings of pools that were ended cleanly: how many calls they make |
 //! | `records` | stops amid commits and amid openings, opened again |
 //!
 //! The crate has tests alone.
@@ -22,6 +23,8 @@ mod damages;
 mod disks;
 #[cfg(test)]
 mod plans;
+#[cfg(test)]
+mod quiet;
 #[cfg(test)]
 mod records;
 #[cfg(test)]

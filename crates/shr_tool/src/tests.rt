@@ -1,5 +1,7 @@
 //! Tests of whole runs over disks in memory, beside a flat array.
 
+mod damages;
+mod drives;
 mod examining;
 mod faults;
 mod forms;
@@ -49,6 +51,17 @@ struct Ran {
 
 // A bay of these disks, all zeros.
 fn bay_of(rt: &impl Abort, alloc: Global, disks: &[(&str, u64)]) -> Result<MemBay, Fail> {
+    bay_with(rt, alloc, disks, Vec::new(alloc), ROOM)
+}
+
+// The same, with calls that are to fail, by their numbers, and so many calls that it keeps.
+fn bay_with(
+    rt: &impl Abort,
+    alloc: Global,
+    disks: &[(&str, u64)],
+    failing: Vec<u64>,
+    room: u64,
+) -> Result<MemBay, Fail> {
     let mut shelf = Vec::new(alloc);
     for (name, sectors) in disks {
         let name = Name::of(alloc, name.as_bytes())?;
@@ -59,7 +72,7 @@ fn bay_of(rt: &impl Abort, alloc: Global, disks: &[(&str, u64)]) -> Result<MemBa
         shelf.push(disk)?;
     }
     assert!(rt; shelf.len() < 1 << 32 && shelf.iter().all(|disk| disk.sectors < 1 << 48));
-    Ok(MemBay::new(alloc, shelf, Vec::new(alloc), ROOM)?)
+    Ok(MemBay::new(alloc, shelf, failing, room)?)
 }
 
 // A run with these words over any bay and source.
@@ -159,9 +172,14 @@ fn lines_of(alloc: Global, script: &[u8]) -> Result<Vec<Result<Command, LineFaul
     Ok(lines)
 }
 
-// What a flat array of zeros replies to a script.
+// What a flat array of zeros replies to a script, one of the usual sectors.
 fn flat_replies(alloc: Global, script: &[u8]) -> Result<Vec<u8>, Fail> {
-    let mut disk = FlatDisk::zeros(alloc, SECTORS)?;
+    flat_replies_of(alloc, SECTORS, script)
+}
+
+// The same of an array of so many sectors.
+fn flat_replies_of(alloc: Global, sectors: u64, script: &[u8]) -> Result<Vec<u8>, Fail> {
+    let mut disk = FlatDisk::zeros(alloc, sectors)?;
     let mut replies = Vec::new(alloc);
     let lines = lines_of(alloc, script)?;
     for line in lines.iter() {
