@@ -235,6 +235,15 @@ member() {
   expect 'with its role' grep -q "Device Role : Active device $5" says
 }
 
+# A mirror with extents of 8192 sectors.
+rm -f first second third
+truncate -s $((512 * 159744)) first second
+: >script
+check 'large extents: the pool is made' 0 'created 81920\n' create 8192 first second
+"$tool" status first second >shown
+expect 'and has all its rows' grep -qx 'array 0 level 1 members 2 rows 656' shown
+serve 'up to its last sector' 0 'write 81919 61\nread 81919\nread 81920\n' 'ok\ndata 61\nrefused range\n' first second
+
 # As others read the drives.
 have sgdisk gdisk || { echo "skipped: sgdisk isn't here, and gdisk can't be installed"; verify() { :; }; }
 have mdadm mdadm || { echo "skipped: mdadm isn't here, and can't be installed"; member() { :; }; }
