@@ -41,6 +41,9 @@ kept_logs s number a b lasting stays keeps kept =
         others = λ p u copy few there now is.
             let inside = subst (λ n. 0 < n) (stays.sectors (log_slice p)) there in
             kept.copies.others p u copy few inside (before p 0 u few inside now) is;
+        earlier = λ p u copy few former there now is.
+            let inside = subst (λ n. 0 < n) (stays.sectors (log_slice p)) there in
+            kept.copies.earlier p u copy few former inside (before p 0 u few inside now) is;
       };
       numbers = λ p current there v now.
           let inside = subst (λ n. 1 < n) (stays.sectors (log_slice p)) there in

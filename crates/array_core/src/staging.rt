@@ -34,8 +34,8 @@ impl Array {
         stage_slots(self.number, &change.truth, slots.as_slice(), log);
     }
 
-    /// Adds those of the array as it is.
-    pub(crate) fn stage_own(&self, log: &mut Log)
+    /// Adds those of the array as it is: the superblock of each member that isn't missing, by position.
+    pub fn stage_own(&self, log: &mut Log)
         requires { length log.old.added + 16 ≤ most_sectors }
         ensures added { spec.AddsSupersOf self.now log.old.added log.new.added }
         ensures log { log.new ≡ record log.old { added = log.new.added } }

@@ -100,21 +100,21 @@ all_no_later s c a (suc n) each = (
   all_no_later s c (a + 1) n (λ p copy below is. each p copy (omega arith) is),
 )
 
-read_has : (s : State) (u : List ℕ) → IsCopyOf s u → HasIf s (result_ok (decoded u))
-read_has s u copy = subst (λ r. HasIf s (result_ok r)) (sym copy.1) refl
+read_has : (s : State) (own : ℕ) (u : List ℕ) → IsCopyOf s own u → HasIf s (result_ok (decoded u))
+read_has s own u copy = subst (λ r. HasIf s (result_ok r)) (sym copy.copy) refl
 
-one_has : (s : State) (c : Image) (a n p : ℕ) → a ≤ p → p < a + n → IsCopyOf s (c (log_slice p) 0) → HasState s (map (copy_in c) (range_with_len a n))
+one_has : (s : State) (c : Image) (a n p : ℕ) → a ≤ p → p < a + n → IsCopyOf s p (c (log_slice p) 0) → HasState s (map (copy_in c) (range_with_len a n))
 one_has s c a zero p from below copy = absurd (omega arith)
 one_has s c a (suc n) p from below copy =
     elim (cases_lt a p) [
       | inl above ↦ inr (one_has s c (a + 1) n p (omega arith) (omega arith) copy)
-      | inr here ↦ inl (let same : p ≡ a = omega arith in subst (λ q. HasIf s (copy_in c q)) same (read_has s (c (log_slice p) 0) copy))
+      | inr here ↦ inl (let same : p ≡ a = omega arith in subst (λ q. HasIf s (copy_in c q)) same (read_has s p (c (log_slice p) 0) copy))
     ]
 
 -- contents with a copy of a state, and no later one, have this state
 pub state_by_copies : (s : State) (c : Image) (p : ℕ)
     → ((q : ℕ) (copy : Copied) → q < 16 → decoded (c (log_slice q) 0) ≡ Ok copy → IsNoLater s copy)
-    → p < 16 → IsCopyOf s (c (log_slice p) 0)
+    → p < 16 → IsCopyOf s p (c (log_slice p) 0)
     → state_in c ≡ Some s
 unfolding state_in
 state_by_copies s c p none below copy =

@@ -138,13 +138,13 @@ state_latest s c p copy is small at =
 
 -- Contents in which copies of a state came, which is no earlier, have this state or the one from before.
 pub state_either : (s t : State) (c e : Image) → state_in e ≡ Some s → s.epoch ≤ t.epoch
-    → ((p : ℕ) → p < 16 → (c (log_slice p) 0 ≡ e (log_slice p) 0) ⊎ IsCopyOf t (c (log_slice p) 0))
+    → ((p : ℕ) → p < 16 → (c (log_slice p) 0 ≡ e (log_slice p) 0) ⊎ IsCopyOf t p (c (log_slice p) 0))
     → (state_in c ≡ Some s) ⊎ (state_in c ≡ Some t)
 unfolding state_in
 state_either s t c e is up each =
     elim (front_all t c e 0 16 (λ p from past. elim (each p (omega (arith, past))) [
       | inl same ↦ inl (ap (λ block. result_ok (decoded block)) same)
-      | inr new ↦ inr (record { state = t; own = new.0 }, ap result_ok new.1, refl)
+      | inr new ↦ inr (record { state = t; own = new.own }, ap result_ok new.copy, refl)
     ])
     (λ z front. let same : z.state ≡ s = some_state z.state s (ap (option_map (λ copy. copy.state)) (sym front) ∙ is) in omega (arith, up, ap (λ (u : State). u.epoch) same))) [
       | inl same ↦ inl (ap (option_map (λ copy. copy.state)) same ∙ is)

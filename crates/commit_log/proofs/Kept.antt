@@ -19,7 +19,7 @@ use Rattle.array_image.specs.Left.{IsInside, Picks}
 use Rattle.commit_log.specs.View.{LogView, names, is_left}
 use Rattle.commit_log.specs.Standing.{LogsStand, StatesStand, deciding, IsReady, SomeoneDecides, IsLogPart, IsAlike}
 use Rattle.commit_log.specs.Commits.{Stands}
-use Rattle.commit_log.specs.Kept.{IsCopyOf, IsNoLater, CopiesStand, LogKept, AreLeft, Brings}
+use Rattle.commit_log.specs.Kept.{IsCopyOf, IsNoLater, CopiesStand, LogKept, AreLeft, Brings, BringsTo, MayJoin}
 use Rattle.commit_log.proofs.Copies.{state_by_copies, nothing_decodes}
 
 -- ---- sectors that can be called
@@ -72,11 +72,11 @@ IsOld s c q = (copy : Copied) → decoded (c (log_slice q) 0) ≡ Ok copy → Is
 abbrev pub LogsLive : Seen → Type 0
 LogsLive x = (p t : ℕ) → p < 16 → t < x.sectors (log_slice p) → IsLive x x (log_slice p) t
 
-old_or_new : (s t : State) (gone : ℕ → Bool) (on : List ℕ) (xs : List Target) (x : Seen) (c : Image) (q : ℕ)
-    → LogsLive x → CopiesStand s gone x → Brings s t xs on → StatesStand xs x c → q < 16
-    → IsOld s c q ⊎ IsCopyOf t (c (log_slice q) 0)
+old_or_new : (s t : State) (number : ℕ) (gone : ℕ → Bool) (on takes : List ℕ) (xs : List Target) (x : Seen) (c : Image) (q : ℕ)
+    → LogsLive x → CopiesStand s gone x → BringsTo s t number gone x xs on takes → StatesStand xs x c → q < 16
+    → IsOld s c q ⊎ IsCopyOf t q (c (log_slice q) 0)
 unfolding IsOld
-old_or_new s t gone on xs x c q logs copies brings stand few =
+old_or_new s t number gone on takes xs x c q logs copies brings stand few =
     elim (cases_lt 0 (x.sectors (log_slice q))) [
       | inr nothing ↦ inl (λ copy is. absurd (nothing_decodes copy (subst (λ u. decoded u ≡ Ok copy) (stand.inside q (omega arith)) is)))
       | inl there ↦
@@ -84,10 +84,10 @@ old_or_new s t gone on xs x c q logs copies brings stand few =
             | inl old ↦ inl (λ copy is. copies.others q (c (log_slice q) 0) copy few there old is)
             | inr new ↦ elim brings.either [
               | inl same ↦ absurd (none-some (c (log_slice q) 0) (sym (same.1 q) ∙ new))
-              | inr later ↦ elim (cases_Bool (names on q)) [
+              | inr later ↦ elim (cases_Bool (names takes q)) [
                 | inl named ↦
                     let w = later.2 q named in
-                    inr (subst (λ u. IsCopyOf t u) (ap (λ o. unwrap_or o []) (sym w.1 ∙ new)) w.2)
+                    inr (subst (λ u. IsCopyOf t q u) (ap (λ o. unwrap_or o []) (sym w.1 ∙ new)) w.2)
                 | inr other ↦ absurd (none-some (c (log_slice q) 0) (sym (later.3 q other) ∙ new))
               ]
             ]
@@ -95,8 +95,8 @@ old_or_new s t gone on xs x c q logs copies brings stand few =
     ]
 
 -- one of the first places has a new copy, or all have old ones
-search : (s t : State) (c : Image) (n : ℕ) → ((q : ℕ) → q < n → IsOld s c q ⊎ IsCopyOf t (c (log_slice q) 0))
-    → ((q : ℕ) → q < n → IsOld s c q) ⊎ ((q : ℕ) × (q < n) × IsCopyOf t (c (log_slice q) 0))
+search : (s t : State) (c : Image) (n : ℕ) → ((q : ℕ) → q < n → IsOld s c q ⊎ IsCopyOf t q (c (log_slice q) 0))
+    → ((q : ℕ) → q < n → IsOld s c q) ⊎ ((q : ℕ) × (q < n) × IsCopyOf t q (c (log_slice q) 0))
 search s t c zero each = inl (λ q below. absurd (omega (arith, below)))
 search s t c (suc n) each =
     elim (each n (omega arith)) [
@@ -115,21 +115,22 @@ pub later_yet : (s t : State) (copy : Copied) → s.epoch < t.epoch → IsNoLate
 later_yet s t copy later (inl lower) = inl (omega arith)
 later_yet s t copy later (inr same) = let e = ap (λ (u : State). u.epoch) same in inl (omega arith)
 
-pub epoch_up : (s t : State) (xs : List Target) (on : List ℕ) → Brings s t xs on → (t ≡ s) ⊎ (s.epoch < t.epoch)
-epoch_up s t xs on brings = elim brings.either [ inl same ↦ inl same.0 | inr later ↦ inr later.0 ]
+pub epoch_up : (s t : State) (number : ℕ) (gone : ℕ → Bool) (x : Seen) (xs : List Target) (on takes : List ℕ) → BringsTo s t number gone x xs on takes
+    → (t ≡ s) ⊎ (s.epoch < t.epoch)
+epoch_up s t number gone x xs on takes brings = elim brings.either [ inl same ↦ inl same.0 | inr later ↦ inr later.0 ]
 
 -- what a copy of a state says
-pub copy_state : (t : State) (copy : Copied) (u : List ℕ) → IsCopyOf t u → decoded u ≡ Ok copy → copy.state ≡ t
-copy_state t copy u new is = ap (λ r. option_map_or (λ d. d.state) (result_ok r) copy.state) (sym is ∙ new.1)
+pub copy_state : (t : State) (copy : Copied) (own : ℕ) (u : List ℕ) → IsCopyOf t own u → decoded u ≡ Ok copy → copy.state ≡ t
+copy_state t copy own u new is = ap (λ r. option_map_or (λ d. d.state) (result_ok r) copy.state) (sym is ∙ new.copy)
 
 -- no place has a copy that is later than the new state
 none_later : (s t : State) (c : Image) → (t ≡ s) ⊎ (s.epoch < t.epoch)
-    → ((q : ℕ) → q < 16 → IsOld s c q ⊎ IsCopyOf t (c (log_slice q) 0))
+    → ((q : ℕ) → q < 16 → IsOld s c q ⊎ IsCopyOf t q (c (log_slice q) 0))
     → (q : ℕ) (copy : Copied) → q < 16 → decoded (c (log_slice q) 0) ≡ Ok copy → IsNoLater t copy
 unfolding IsOld
 none_later s t c up each q copy few is =
     elim (each q few) [
-      | inr new ↦ inr (copy_state t copy (c (log_slice q) 0) new is)
+      | inr new ↦ inr (copy_state t copy q (c (log_slice q) 0) new is)
       | inl old ↦ elim up [
         | inl same ↦ subst (λ u. IsNoLater u copy) (sym same) (old copy is)
         | inr later ↦ later_yet s t copy later (old copy is)
@@ -137,15 +138,15 @@ none_later s t c up each q copy few is =
     ]
 
 -- A stop in a commit leaves the state from before or the new one, where a place that is left has both.
-stands_as : (s t : State) (gone : ℕ → Bool) (on : List ℕ) (xs : List Target) (x : Seen) (c : Image) (p : ℕ)
-    → LogsLive x → CopiesStand s gone x → Brings s t xs on → StatesStand xs x c
+stands_as : (s t : State) (number : ℕ) (gone : ℕ → Bool) (on takes : List ℕ) (xs : List Target) (x : Seen) (c : Image) (p : ℕ)
+    → LogsLive x → CopiesStand s gone x → BringsTo s t number gone x xs on takes → StatesStand xs x c
     → p < 16 → 0 < x.sectors (log_slice p) → is_current s p ≡ true → gone p ≡ false
     → (state_in c ≡ Some s) ⊎ (state_in c ≡ Some t)
 unfolding IsOld
-stands_as s t gone on xs x c p logs copies brings stand few there current left =
-    let each : (q : ℕ) → q < 16 → IsOld s c q ⊎ IsCopyOf t (c (log_slice q) 0) =
-    λ q small. old_or_new s t gone on xs x c q logs copies brings stand small in
-    let up = epoch_up s t xs on brings in
+stands_as s t number gone on takes xs x c p logs copies brings stand few there current left =
+    let each : (q : ℕ) → q < 16 → IsOld s c q ⊎ IsCopyOf t q (c (log_slice q) 0) =
+    λ q small. old_or_new s t number gone on takes xs x c q logs copies brings stand small in
+    let up = epoch_up s t number gone x xs on takes brings in
     elim (search s t c 16 each) [
       | inr found ↦ inr (state_by_copies t c found.0 (none_later s t c up each) found.1 found.2)
       | inl old ↦
@@ -153,11 +154,11 @@ stands_as s t gone on xs x c p logs copies brings stand few there current left =
             | inl held ↦ inl (state_by_copies s c p (λ q copy small is. old q small copy is) few (copies.own p (c (log_slice p) 0) current left held))
             | inr new ↦ elim brings.either [
               | inl same ↦ absurd (none-some (c (log_slice p) 0) (sym (same.1 p) ∙ new))
-              | inr later ↦ elim (cases_Bool (names on p)) [
+              | inr later ↦ elim (cases_Bool (names takes p)) [
                 | inr other ↦ absurd (none-some (c (log_slice p) 0) (sym (later.3 p other) ∙ new))
                 | inl named ↦
                     let w = later.2 p named in
-                    inr (state_by_copies t c p (none_later s t c up each) few (subst (λ u. IsCopyOf t u) (ap (λ o. unwrap_or o []) (sym w.1 ∙ new)) w.2))
+                    inr (state_by_copies t c p (none_later s t c up each) few (subst (λ u. IsCopyOf t p u) (ap (λ o. unwrap_or o []) (sym w.1 ∙ new)) w.2))
               ]
             ]
           ]
@@ -186,12 +187,23 @@ brings_none s =
       either = inl (refl, λ p. refl);
     }
 
+-- no place joins
+pub brings_to : (s t : State) (number : ℕ) (gone : ℕ → Bool) (x : Seen) (xs : List Target) (on : List ℕ) → Brings s t xs on → BringsTo s t number gone x xs on on
+brings_to s t number gone x xs on brings =
+    record {
+      current = λ p is. inl (brings.current p is);
+      left = brings.left;
+      more = λ p named. named;
+      inside = brings.inside;
+      either = brings.either;
+    }
+
 -- what a stop leaves of the log slices has the state
 pub kept_state : (s : State) (number : ℕ) (gone : ℕ → Bool) (x : Seen) (c : Image) (p : ℕ)
     → LogKept s number gone x → LogsStand x c → is_current s p ≡ true → gone p ≡ false → state_in c ≡ Some s
 unfolding look
 kept_state s number gone x c p kept stand current left =
-    elim (stands_as s s gone [] [] x c p kept.logs kept.copies (brings_none s)
+    elim (stands_as s s number gone [] [] [] x c p kept.logs kept.copies (brings_to s s number gone x [] [] (brings_none s))
     (record { picks = λ q live. inl (stand.picks q 0 live); inside = λ q none. stand.inside q 0 (omega (arith, none)) })
     (kept.few p current) (kept.there p current left) current left) [ inl is ↦ is | inr is ↦ is ]
 
@@ -210,32 +222,32 @@ kept_replayed s number gone x c p kept stand current left =
           absurd (nothing_decodes copy (subst (λ u. decoded u ≡ Ok copy) none is))
     ])
     few
-    (subst (λ u. IsCopyOf s u) (sym quiet)
+    (subst (λ u. IsCopyOf s p u) (sym quiet)
     (kept.copies.own p (c (log_slice p) 0) current left (stand.picks (log_slice p) 0 (kept.logs p 0 few (kept.there p current left)))))
 
 -- with all targets written, contents have the state that these bring
-pub brought_state : (s t : State) (gone : ℕ → Bool) (on : List ℕ) (xs : List Target) (x : Seen) (c : Image) (p : ℕ)
-    → LogsLive x → CopiesStand s gone x → Brings s t xs on → Stands x c
+pub joined_state : (s t : State) (number : ℕ) (gone : ℕ → Bool) (on takes : List ℕ) (xs : List Target) (x : Seen) (c : Image) (p : ℕ)
+    → LogsLive x → CopiesStand s gone x → BringsTo s t number gone x xs on takes → Stands x c
     → p < 16 → 0 < x.sectors (log_slice p) → is_current s p ≡ true → gone p ≡ false → is_current t p ≡ true
     → state_in (put x.sectors xs c) ≡ Some t
-brought_state s t gone on xs x c p logs copies brings stand few there current left now =
+joined_state s t number gone on takes xs x c p logs copies brings stand few there current left now =
     let stands : StatesStand xs x (put x.sectors xs c) =
     record {
       picks = λ q live. put_picks q live (look xs (log_slice q) 0) refl (nat_lt 0 (x.sectors (log_slice q)));
       inside = λ q none. put_outside x.sectors xs c (log_slice q) 0 (omega (arith, none)) ∙ stand.inside q 0 (omega (arith, none));
     } in
-    let up = epoch_up s t xs on brings in
-    let each : (q : ℕ) → q < 16 → IsOld s (put x.sectors xs c) q ⊎ IsCopyOf t (put x.sectors xs c (log_slice q) 0) =
-    λ q small. old_or_new s t gone on xs x (put x.sectors xs c) q logs copies brings stands small in
+    let up = epoch_up s t number gone x xs on takes brings in
+    let each : (q : ℕ) → q < 16 → IsOld s (put x.sectors xs c) q ⊎ IsCopyOf t q (put x.sectors xs c (log_slice q) 0) =
+    λ q small. old_or_new s t number gone on takes xs x (put x.sectors xs c) q logs copies brings stands small in
     state_by_copies t (put x.sectors xs c) p (none_later s t (put x.sectors xs c) up each) few
     (elim brings.either [
       | inl same ↦
-          subst (λ u. IsCopyOf u (put x.sectors xs c (log_slice p) 0)) (sym same.0)
+          subst (λ u. IsCopyOf u p (put x.sectors xs c (log_slice p) 0)) (sym same.0)
           (copies.own p (put x.sectors xs c (log_slice p) 0) current left
           (subst (λ u. MayLeave (x.held (log_slice p) 0) u) (sym (put_none x.sectors xs c (log_slice p) 0 (same.1 p))) (stand.picks (log_slice p) 0 (logs p 0 few there))))
       | inr later ↦
           let new = later.2 p (later.1 p now) in
-          subst (λ u. IsCopyOf t u) (sym (put_some x.sectors xs c (log_slice p) 0 new.0 there new.1)) new.2
+          subst (λ u. IsCopyOf t p u) (sym (put_some x.sectors xs c (log_slice p) 0 new.0 there new.1)) new.2
     ])
   where
     put_picks : (q : ℕ) → IsLive x x (log_slice q) 0 → (o : Option (List ℕ)) → look xs (log_slice q) 0 ≡ o → (inside : Bool)
@@ -245,47 +257,64 @@ brought_state s t gone on xs x c p logs copies brings stand few there current le
     put_picks q live None is true = inl (stand.picks (log_slice q) 0 live)
     put_picks q live (Some w) is true = inr is
 
+pub brought_state : (s t : State) (gone : ℕ → Bool) (on : List ℕ) (xs : List Target) (x : Seen) (c : Image) (p : ℕ)
+    → LogsLive x → CopiesStand s gone x → Brings s t xs on → Stands x c
+    → p < 16 → 0 < x.sectors (log_slice p) → is_current s p ≡ true → gone p ≡ false → is_current t p ≡ true
+    → state_in (put x.sectors xs c) ≡ Some t
+brought_state s t gone on xs x c p logs copies brings =
+    joined_state s t 0 gone on on xs x c p logs copies (brings_to s t 0 gone x xs on brings)
+
 -- ---- before a commit
 
--- a current place of either state was one of the old state
-current_before : (s t : State) (xs : List Target) (on : List ℕ) (c : Image) (p : ℕ) (u : State)
-    → Brings s t xs on → (state_in c ≡ Some s) ⊎ (state_in c ≡ Some t) → state_in c ≡ Some u → is_current u p ≡ true → is_current s p ≡ true
-current_before s t xs on c p u brings (inl is) state current =
-    subst (λ (v : State). is_current v p ≡ true) (ap (λ o. unwrap_or o s) (sym state ∙ is)) current
-current_before s t xs on c p u brings (inr is) state current =
+-- a current place of either state was one of the old state, or joins
+current_before : (s t : State) (number : ℕ) (gone : ℕ → Bool) (x : Seen) (xs : List Target) (on takes : List ℕ) (c : Image) (p : ℕ) (u : State)
+    → BringsTo s t number gone x xs on takes → (state_in c ≡ Some s) ⊎ (state_in c ≡ Some t) → state_in c ≡ Some u → is_current u p ≡ true
+    → (is_current s p ≡ true) ⊎ MayJoin number gone x p
+current_before s t number gone x xs on takes c p u brings (inl is) state current =
+    inl (subst (λ (v : State). is_current v p ≡ true) (ap (λ o. unwrap_or o s) (sym state ∙ is)) current)
+current_before s t number gone x xs on takes c p u brings (inr is) state current =
     brings.current p (subst (λ (v : State). is_current v p ≡ true) (ap (λ o. unwrap_or o s) (sym state ∙ is)) current)
 
 -- the log has what a commit needs, where a place is left
-pub kept_ready : (s t : State) (gone : ℕ → Bool) (l : LogView) (on : List ℕ) (x : Seen) (p : ℕ)
-    → LogKept s l.number gone x → Brings s t l.added on
+pub joined_ready : (s t : State) (gone : ℕ → Bool) (l : LogView) (on takes : List ℕ) (x : Seen) (p : ℕ)
+    → LogKept s l.number gone x → BringsTo s t l.number gone x l.added on takes
     → l.number < 2 ^ 63 - 1 → x.lasting
     → ((d u : ℕ) (v : List ℕ) → look l.added d u ≡ Some v → IsLive x x d u)
     → is_current s p ≡ true → gone p ≡ false
     → IsReady l on x
-kept_ready s t gone l on x p kept brings room lasting targets current left =
+joined_ready s t gone l on takes x p kept brings room lasting targets current left =
     record {
       room = room;
       lasting = lasting;
       logs = kept.logs;
       targets = targets;
       numbers = λ c stand q decides there.
-          kept.numbers q
-          (current_before s t l.added on c q decides.0 brings
-          (stands_as s t gone on l.added x c p kept.logs kept.copies brings stand (kept.few p current) (kept.there p current left) current left) decides.1 decides.2)
-          there;
+          elim (current_before s t l.number gone x l.added on takes c q decides.0 brings
+          (stands_as s t l.number gone on takes l.added x c p kept.logs kept.copies brings stand (kept.few p current) (kept.there p current left) current left) decides.1 decides.2) [
+            | inl was ↦ kept.numbers q was there
+            | inr joins ↦ joins.numbered
+          ];
       halves = λ c stand a is named. kept.halves c stand a is;
     }
 
+pub kept_ready : (s t : State) (gone : ℕ → Bool) (l : LogView) (on : List ℕ) (x : Seen) (p : ℕ)
+    → LogKept s l.number gone x → Brings s t l.added on
+    → l.number < 2 ^ 63 - 1 → x.lasting
+    → ((d u : ℕ) (v : List ℕ) → look l.added d u ≡ Some v → IsLive x x d u)
+    → is_current s p ≡ true → gone p ≡ false
+    → IsReady l on x
+kept_ready s t gone l on x p kept brings = joined_ready s t gone l on on x p kept (brings_to s t l.number gone x l.added on brings)
+
 -- and a place of the commit that is left and current by the new state decides at each stop
-pub kept_decides : (s t : State) (number : ℕ) (gone : ℕ → Bool) (xs : List Target) (on lost : List ℕ) (x : Seen) (p : ℕ)
-    → LogKept s number gone x → Brings s t xs on → AreLeft s gone on
+pub joined_decides : (s t : State) (number : ℕ) (gone : ℕ → Bool) (xs : List Target) (on takes lost : List ℕ) (x : Seen) (p : ℕ)
+    → LogKept s number gone x → BringsTo s t number gone x xs on takes → AreLeft s gone on
     → is_left on lost p ≡ true → is_current t p ≡ true
     → SomeoneDecides xs on lost x
-kept_decides s t number gone xs on lost x p kept brings are_left is current c stand =
+joined_decides s t number gone xs on takes lost x p kept brings are_left is current c stand =
     let named = (and_parts (names on p) (not (names lost p)) is).0 in
     let both = and_parts (is_current s p) (not (gone p)) (sym (are_left p) ∙ named) in
     let stays = not_true (gone p) both.1 in
-    elim (stands_as s t gone on xs x c p kept.logs kept.copies brings stand (kept.few p both.0) (kept.there p both.0 stays) both.0 stays) [
+    elim (stands_as s t number gone on takes xs x c p kept.logs kept.copies brings stand (kept.few p both.0) (kept.there p both.0 stays) both.0 stays) [
       | inl old ↦ (p, is, (s, old, both.0))
       | inr new ↦ (p, is, (t, new, current))
     ]
@@ -293,6 +322,13 @@ kept_decides s t number gone xs on lost x p kept brings are_left is current c st
     not_true : (b : Bool) → not b ≡ true → b ≡ false
     not_true false is = refl
     not_true true is = absurd (both_ways false refl is)
+
+pub kept_decides : (s t : State) (number : ℕ) (gone : ℕ → Bool) (xs : List Target) (on lost : List ℕ) (x : Seen) (p : ℕ)
+    → LogKept s number gone x → Brings s t xs on → AreLeft s gone on
+    → is_left on lost p ≡ true → is_current t p ≡ true
+    → SomeoneDecides xs on lost x
+kept_decides s t number gone xs on lost x p kept brings =
+    joined_decides s t number gone xs on on lost x p kept (brings_to s t number gone x xs on brings)
 
 -- nothing is pending where each current place is left
 pub kept_idle : (s : State) (number : ℕ) (gone : ℕ → Bool) (x : Seen) (c : Image)

@@ -10,14 +10,14 @@ use Rattle.pool_state.specs.declared.contents.Copied.{Copied}
 use Rattle.pool_state.specs.declared.contents.State.{State}
 use Rattle.pool_state.specs.Sector.{decoded}
 use Rattle.array_image.specs.Places.{log_slice, place_of}
-use Rattle.array_image.specs.Record.{pending}
+use Rattle.array_image.specs.Record.{gate_sector, pending}
 use Rattle.array_image.specs.States.{is_current}
 use Rattle.array_image.specs.Arrays.{replayed}
 use Rattle.commit_log.specs.View.{LogView, names, next_number}
-use Rattle.commit_log.specs.Standing.{LogsStand, deciding, IsReady, SomeoneDecides, IsLogPart}
+use Rattle.commit_log.specs.Standing.{LogsStand, deciding, IsNumbered, IsReady, SomeoneDecides, IsLogPart}
 use Rattle.commit_log.specs.Commits.{Stands, CommitCall}
-use Rattle.commit_log.specs.Kept.{IsCopyOf, IsNoLater, CopiesStand, LogKept, AreLeft, gone_with, Brings}
-use Rattle.commit_log.proofs.Kept.{live_on, live_after, LogsLive, place_of_log, epoch_up, later_yet, copy_state}
+use Rattle.commit_log.specs.Kept.{IsCopyOf, IsNoLater, CopiesStand, LogKept, AreLeft, gone_with, Brings, BringsTo}
+use Rattle.commit_log.proofs.Kept.{live_on, live_after, LogsLive, place_of_log, epoch_up, later_yet, copy_state, brings_to}
 
 -- what stood before a call of the log may be called after it
 pub logs_after : {a b : Seen} → a.lasting → Stays a b → LogsLive a → (p t : ℕ) → p < 16 → t < b.sectors (log_slice p) → IsLive b b (log_slice p) t
@@ -29,42 +29,62 @@ or_none true c is = absurd (both_ways true is refl)
 or_none false c is = (refl, is)
 
 -- the copies that a commit leaves on a place
-copies_after : (s t : State) (gone : ℕ → Bool) (l : LogView) (on lost : List ℕ) (a b : Seen) (p : ℕ) (u : List ℕ)
-    → CommitCall l on lost a b → LogsLive a → a.lasting → CopiesStand s gone a → Brings s t l.added on
+copies_after : (s t : State) (gone : ℕ → Bool) (l : LogView) (on takes lost : List ℕ) (a b : Seen) (p : ℕ) (u : List ℕ)
+    → CommitCall l on lost a b → LogsLive a → a.lasting → CopiesStand s gone a → BringsTo s t l.number gone a l.added on takes
     → p < 16 → 0 < a.sectors (log_slice p) → MayLeave (b.held (log_slice p) 0) u
-    → MayLeave (a.held (log_slice p) 0) u ⊎ IsCopyOf t u
-copies_after s t gone l on lost a b p u commit logs lasting copies brings few there left =
+    → MayLeave (a.held (log_slice p) 0) u ⊎ IsCopyOf t p u
+copies_after s t gone l on takes lost a b p u commit logs lasting copies brings few there left =
     let live = live_on lasting commit.stays (logs p 0 few there) in
     let first : IsLogPart (log_slice p) 0 → ⊥ = λ part. absurd (omega (arith, part.1)) in
     elim (commit.within (log_slice p) 0 u live first left) [
       | inl old ↦ inl old
       | inr new ↦ elim brings.either [
         | inl same ↦ absurd (none-some u (sym (same.1 p) ∙ new))
-        | inr later ↦ elim (cases_Bool (names on p)) [
+        | inr later ↦ elim (cases_Bool (names takes p)) [
           | inr other ↦ absurd (none-some u (sym (later.3 p other) ∙ new))
           | inl named ↦
               let w = later.2 p named in
-              inr (subst (λ v. IsCopyOf t v) (ap (λ o. unwrap_or o []) (sym w.1 ∙ new)) w.2)
+              inr (subst (λ v. IsCopyOf t p v) (ap (λ o. unwrap_or o []) (sym w.1 ∙ new)) w.2)
         ]
       ]
     ]
 
+-- a current place that is left has its log slice
+log_of : (s t : State) (gone : ℕ → Bool) (l : LogView) (on takes : List ℕ) (a : Seen) (p : ℕ) → LogKept s l.number gone a → BringsTo s t l.number gone a l.added on takes
+    → is_current t p ≡ true → gone p ≡ false → (p < 16) × (0 < a.sectors (log_slice p))
+log_of s t gone l on takes a p kept brings current left =
+    elim (brings.current p current) [
+      | inl was ↦ (kept.few p was, kept.there p was left)
+      | inr joins ↦ (joins.few, let there = joins.there in omega (arith, there))
+    ]
+
+-- it is one of the 16
+few_of : (s t : State) (gone : ℕ → Bool) (l : LogView) (on takes : List ℕ) (a : Seen) (p : ℕ) → LogKept s l.number gone a → BringsTo s t l.number gone a l.added on takes
+    → is_current t p ≡ true → p < 16
+few_of s t gone l on takes a p kept brings current = elim (brings.current p current) [ inl was ↦ kept.few p was | inr joins ↦ joins.few ]
+
+-- and its gate has no greater number than the log's
+numbered_of : (s t : State) (gone : ℕ → Bool) (l : LogView) (on takes : List ℕ) (a : Seen) (p : ℕ) → LogKept s l.number gone a → BringsTo s t l.number gone a l.added on takes
+    → is_current t p ≡ true → gate_sector < a.sectors (log_slice p) → IsNumbered l.number a p
+numbered_of s t gone l on takes a p kept brings current there =
+    elim (brings.current p current) [ inl was ↦ kept.numbers p was there | inr joins ↦ joins.numbered ]
+
 -- those of a place that is left
-own_after : (s t : State) (gone : ℕ → Bool) (l : LogView) (on lost : List ℕ) (a b : Seen) (p : ℕ) (u : List ℕ)
-    → CommitCall l on lost a b → LogKept s l.number gone a → a.lasting → Brings s t l.added on
+own_after : (s t : State) (gone : ℕ → Bool) (l : LogView) (on takes lost : List ℕ) (a b : Seen) (p : ℕ) (u : List ℕ)
+    → CommitCall l on lost a b → LogKept s l.number gone a → a.lasting → BringsTo s t l.number gone a l.added on takes
     → is_current t p ≡ true → gone p ≡ false → names lost p ≡ false → MayLeave (b.held (log_slice p) 0) u
-    → IsCopyOf t u
-own_after s t gone l on lost a b p u commit kept lasting brings current left stays left_now =
-    let before = brings.current p current in
-    let live = live_on lasting commit.stays (kept.logs p 0 (kept.few p before) (kept.there p before left)) in
+    → IsCopyOf t p u
+own_after s t gone l on takes lost a b p u commit kept lasting brings current left stays left_now =
+    let at = log_of s t gone l on takes a p kept brings current left in
+    let live = live_on lasting commit.stays (kept.logs p 0 at.0 at.1) in
     let first : IsLogPart (log_slice p) 0 → ⊥ = λ part. absurd (omega (arith, part.1)) in
     elim brings.either [
       | inl same ↦
-          subst (λ v. IsCopyOf v u) (sym same.0)
-          (kept.copies.own p u before left ((commit.apart (log_slice p) 0 live first (same.1 p)).within u left_now))
+          subst (λ v. IsCopyOf v p u) (sym same.0)
+          (kept.copies.own p u (subst (λ (v : State). is_current v p ≡ true) same.0 current) left ((commit.apart (log_slice p) 0 live first (same.1 p)).within u left_now))
       | inr later ↦
           let w = later.2 p (later.1 p current) in
-          subst (λ v. IsCopyOf t v)
+          subst (λ v. IsCopyOf t p v)
           (sym (commit.written (log_slice p) 0 w.0 u live (ap (names lost) (place_of_log p) ∙ stays) w.1 left_now)) w.2
     ]
 
@@ -94,31 +114,54 @@ quiet_after s t gone l on lost a b c d u commit ready someone stand stays =
         sym (commit.written d u w (c d u) over stays is (stand.picks d u (live_after commit.stays over)))
 
 -- no copy that a commit leaves is later than the state that it brings
-others_after : (s t : State) (gone : ℕ → Bool) (l : LogView) (on lost : List ℕ) (a b : Seen) (p : ℕ) (u : List ℕ) (copy : Copied)
-    → CommitCall l on lost a b → LogKept s l.number gone a → Brings s t l.added on → a.lasting
+others_after : (s t : State) (gone : ℕ → Bool) (l : LogView) (on takes lost : List ℕ) (a b : Seen) (p : ℕ) (u : List ℕ) (copy : Copied)
+    → CommitCall l on lost a b → LogKept s l.number gone a → BringsTo s t l.number gone a l.added on takes → a.lasting
     → p < 16 → 0 < b.sectors (log_slice p) → MayLeave (b.held (log_slice p) 0) u → decoded u ≡ Ok copy → IsNoLater t copy
-others_after s t gone l on lost a b p u copy commit kept brings lasting few there left is =
+others_after s t gone l on takes lost a b p u copy commit kept brings lasting few there left is =
     let before : 0 < a.sectors (log_slice p) = subst (λ n. 0 < n) (commit.stays.sectors (log_slice p)) there in
-    elim (copies_after s t gone l on lost a b p u commit kept.logs lasting kept.copies brings few before left) [
-      | inr new ↦ inr (copy_state t copy u new is)
+    elim (copies_after s t gone l on takes lost a b p u commit kept.logs lasting kept.copies brings few before left) [
+      | inr new ↦ inr (copy_state t copy p u new is)
       | inl old ↦
           let at = kept.copies.others p u copy few before old is in
-          elim (epoch_up s t l.added on brings) [
+          elim (epoch_up s t l.number gone a l.added on takes brings) [
             | inl same ↦ subst (λ v. IsNoLater v copy) (sym same) at
             | inr later ↦ later_yet s t copy later at
           ]
     ]
 
+-- and those of a place that isn't current by it are earlier
+earlier_after : (s t : State) (gone : ℕ → Bool) (l : LogView) (on takes lost : List ℕ) (a b : Seen) (p : ℕ) (u : List ℕ) (copy : Copied)
+    → CommitCall l on lost a b → LogKept s l.number gone a → BringsTo s t l.number gone a l.added on takes → a.lasting
+    → p < 16 → is_current t p ≡ false → 0 < b.sectors (log_slice p) → MayLeave (b.held (log_slice p) 0) u → decoded u ≡ Ok copy → copy.state.epoch < t.epoch
+earlier_after s t gone l on takes lost a b p u copy commit kept brings lasting few former there left is =
+    let before : 0 < a.sectors (log_slice p) = subst (λ n. 0 < n) (commit.stays.sectors (log_slice p)) there in
+    let live = live_on lasting commit.stays (kept.logs p 0 few before) in
+    let first : IsLogPart (log_slice p) 0 → ⊥ = λ part. absurd (omega (arith, part.1)) in
+    let old : look l.added (log_slice p) 0 ≡ None → MayLeave (a.held (log_slice p) 0) u = λ none. (commit.apart (log_slice p) 0 live first none).within u left in
+    elim brings.either [
+      | inl same ↦
+          subst (λ (v : State). copy.state.epoch < v.epoch) (sym same.0)
+          (kept.copies.earlier p u copy few (subst (λ (v : State). is_current v p ≡ false) same.0 former) before (old (same.1 p)) is)
+      | inr later ↦ elim (cases_Bool (names takes p)) [
+        | inl named ↦ absurd (both_ways (is_current t p) former (brings.left p named))
+        | inr other ↦ lower s t copy later.0 (kept.copies.others p u copy few before (old (later.3 p other)) is)
+      ]
+    ]
+  where
+    lower : (s t : State) (copy : Copied) → s.epoch < t.epoch → IsNoLater s copy → copy.state.epoch < t.epoch
+    lower s t copy later (inl less) = omega (arith, later, less)
+    lower s t copy later (inr same) = let e = ap (λ (v : State). v.epoch) same in omega (arith, later, e)
+
 -- nor is one that its replay brings
-brought_after : (s t : State) (gone : ℕ → Bool) (l : LogView) (on lost : List ℕ) (a b : Seen) (c : Image) (p : ℕ) (copy : Copied)
-    → CommitCall l on lost a b → LogKept s l.number gone a → Brings s t l.added on
+brought_after : (s t : State) (gone : ℕ → Bool) (l : LogView) (on takes lost : List ℕ) (a b : Seen) (c : Image) (p : ℕ) (copy : Copied)
+    → CommitCall l on lost a b → LogKept s l.number gone a → BringsTo s t l.number gone a l.added on takes
     → IsReady l on a → SomeoneDecides l.added on lost a
     → Stands b c → p < 16 → 0 < b.sectors (log_slice p) → decoded (replayed b.sectors c (log_slice p) 0) ≡ Ok copy → IsNoLater t copy
 unfolding replayed look
-brought_after s t gone l on lost a b c p copy commit kept brings ready someone stand few there is =
+brought_after s t gone l on takes lost a b c p copy commit kept brings ready someone stand few there is =
     let live = live_on ready.lasting commit.stays (kept.logs p 0 few (subst (λ n. 0 < n) (commit.stays.sectors (log_slice p)) there)) in
     let own : decoded (c (log_slice p) 0) ≡ Ok copy → IsNoLater t copy =
-    λ at. others_after s t gone l on lost a b p (c (log_slice p) 0) copy commit kept brings ready.lasting few there
+    λ at. others_after s t gone l on takes lost a b p (c (log_slice p) 0) copy commit kept brings ready.lasting few there
     (stand.picks (log_slice p) 0 (live_after commit.stays live)) at in
     let rests = commit.rests ready someone c (record { picks = λ q i live. stand.picks (log_slice q) i live; inside = stand.inside }) in
     let Goal : List Target → Type 0 = λ xs.
@@ -142,22 +185,22 @@ brought_after s t gone l on lost a b c p copy commit kept brings ready someone s
     at_some (Some w) looked true own at =
         elim brings.either [
           | inl same ↦ absurd (none-some w (sym (same.1 p) ∙ looked))
-          | inr later ↦ elim (cases_Bool (names on p)) [
+          | inr later ↦ elim (cases_Bool (names takes p)) [
             | inr other ↦ absurd (none-some w (sym (later.3 p other) ∙ looked))
             | inl named ↦
                 let new = later.2 p named in
-                inr (copy_state t copy w (subst (λ v. IsCopyOf t v) (ap (λ r. unwrap_or r []) (sym new.1 ∙ looked)) new.2) at)
+                inr (copy_state t copy p w (subst (λ v. IsCopyOf t p v) (ap (λ r. unwrap_or r []) (sym new.1 ∙ looked)) new.2) at)
           ]
         ]
 
 -- where somebody went, a current place has gone
-one_gone : (s t : State) (gone : ℕ → Bool) (l : LogView) (on lost : List ℕ) (a b : Seen) → CommitCall l on lost a b → Brings s t l.added on
+one_gone : (s t : State) (gone : ℕ → Bool) (l : LogView) (on takes lost : List ℕ) (a b : Seen) → CommitCall l on lost a b → BringsTo s t l.number gone a l.added on takes
     → (places : List ℕ) → places ≡ lost → (places ≡ [] → ⊥) → (p : ℕ) × (is_current t p ≡ true) × (gone_with gone lost p ≡ true)
-one_gone s t gone l on lost a b commit brings [] is some = absurd (some refl)
-one_gone s t gone l on lost a b commit brings (p ∷ others) is some =
+one_gone s t gone l on takes lost a b commit brings [] is some = absurd (some refl)
+one_gone s t gone l on takes lost a b commit brings (p ∷ others) is some =
     let named : names lost p ≡ true = subst (λ ps. names ps p ≡ true) is (ap (λ e. e || names others p) (eq-eqb p p refl)) in (
       p,
-      brings.left p (elim (commit.gone.called p named) [ inl on_it ↦ on_it | inr target ↦ brings.inside p target ]),
+      brings.left p (elim (commit.gone.called p named) [ inl on_it ↦ brings.more p on_it | inr target ↦ brings.inside p target ]),
       or_true (gone p) (names lost p) named,
     )
   where
@@ -166,39 +209,48 @@ one_gone s t gone l on lost a b commit brings (p ∷ others) is some =
     or_true false c is = is
 
 -- A commit leaves what the next one needs, for the state that it brings and without the places that went in it.
-pub kept_after : (s t : State) (gone : ℕ → Bool) (l : LogView) (on lost : List ℕ) (a b : Seen)
-    → CommitCall l on lost a b → LogKept s l.number gone a → Brings s t l.added on → AreLeft s gone on
+pub joined_after : (s t : State) (gone : ℕ → Bool) (l : LogView) (on takes lost : List ℕ) (a b : Seen)
+    → CommitCall l on lost a b → LogKept s l.number gone a → BringsTo s t l.number gone a l.added on takes → AreLeft s gone on
     → IsReady l on a → SomeoneDecides l.added on lost a
     → LogKept t (next_number l.number) (gone_with gone lost) b
-kept_after s t gone l on lost a b commit kept brings are_left ready someone =
+joined_after s t gone l on takes lost a b commit kept brings are_left ready someone =
     record {
       logs = logs_after ready.lasting commit.stays kept.logs;
-      few = λ p current. kept.few p (brings.current p current);
+      few = λ p current. few_of s t gone l on takes a p kept brings current;
       there = λ p current left.
           subst (λ n. 0 < n) (sym (commit.stays.sectors (log_slice p)))
-          (kept.there p (brings.current p current) (or_none (gone p) (names lost p) left).0);
+          (log_of s t gone l on takes a p kept brings current (or_none (gone p) (names lost p) left).0).1;
       copies = record {
         own = λ p u current left left_now.
             let both = or_none (gone p) (names lost p) left in
-            own_after s t gone l on lost a b p u commit kept ready.lasting brings current both.0 both.1 left_now;
-        others = λ p u copy few there left is. others_after s t gone l on lost a b p u copy commit kept brings ready.lasting few there left is;
+            own_after s t gone l on takes lost a b p u commit kept ready.lasting brings current both.0 both.1 left_now;
+        others = λ p u copy few there left is. others_after s t gone l on takes lost a b p u copy commit kept brings ready.lasting few there left is;
+        earlier = λ p u copy few former there left is. earlier_after s t gone l on takes lost a b p u copy commit kept brings ready.lasting few former there left is;
       };
       numbers = λ p current there.
           let before = subst (λ n. 1 < n) (commit.stays.sectors (log_slice p)) there in
-          commit.numbers p (live_on ready.lasting commit.stays (kept.logs p 1 (kept.few p (brings.current p current)) before)) (kept.numbers p (brings.current p current) before);
+          commit.numbers p (live_on ready.lasting commit.stays (kept.logs p 1 (few_of s t gone l on takes a p kept brings current) before))
+          (numbered_of s t gone l on takes a p kept brings current before);
       halves = λ c stand a is. (commit.rests ready someone c stand).numbers a is;
       whole = λ c stand. (commit.after ready someone c stand).whole;
       idle = λ c stand.
           elim (commit.rests ready someone c stand).targets [
             | inl none ↦ inl none
-            | inr all ↦ inr (one_gone s t gone l on lost a b commit brings lost refl all.0)
+            | inr all ↦ inr (one_gone s t gone l on takes lost a b commit brings lost refl all.0)
           ];
       quiet = λ c stand d u left.
           let both = or_none (gone (place_of d)) (names lost (place_of d)) left in
           quiet_after s t gone l on lost a b c d u commit ready someone stand both.1;
       brought = λ c p copy stand few there is.
-          brought_after s t gone l on lost a b c p copy commit kept brings ready someone stand few there is;
+          brought_after s t gone l on takes lost a b c p copy commit kept brings ready someone stand few there is;
     }
+
+-- so it is where no place joins
+pub kept_after : (s t : State) (gone : ℕ → Bool) (l : LogView) (on lost : List ℕ) (a b : Seen)
+    → CommitCall l on lost a b → LogKept s l.number gone a → Brings s t l.added on → AreLeft s gone on
+    → IsReady l on a → SomeoneDecides l.added on lost a
+    → LogKept t (next_number l.number) (gone_with gone lost) b
+kept_after s t gone l on lost a b commit kept brings = joined_after s t gone l on on lost a b commit kept (brings_to s t l.number gone a l.added on brings)
 
 -- ---- calls that write nothing, and losses
 
@@ -242,6 +294,9 @@ kept_keeps s number gone a b lasting stays keeps kept =
         others = λ p u copy few there now is.
             let before = subst (λ n. 0 < n) (stays.sectors (log_slice p)) there in
             kept.copies.others p u copy few before (held_before lasting stays keeps kept.logs p 0 u few before now) is;
+        earlier = λ p u copy few former there now is.
+            let before = subst (λ n. 0 < n) (stays.sectors (log_slice p)) there in
+            kept.copies.earlier p u copy few former before (held_before lasting stays keeps kept.logs p 0 u few before now) is;
       };
       numbers = λ p current there v now.
           let before = subst (λ n. 1 < n) (stays.sectors (log_slice p)) there in
@@ -267,6 +322,7 @@ kept_more s number gone now x more kept =
       copies = record {
         own = λ p u current left. kept.copies.own p u current (was_left p left);
         others = kept.copies.others;
+        earlier = kept.copies.earlier;
       };
       numbers = kept.numbers;
       halves = kept.halves;

@@ -421,7 +421,7 @@ pub brought_copies : (s t u : State) (xs : List Target) (on : List ℕ) (c : Ima
     → ((a : GateAt) → pending_at (current_places u) c ≡ Some a → names on a.place ≡ true) → BringsCopies u t xs c
 brought_copies s t u xs on c brings which source = record { copies = copies; either = either which }
   where
-    copies : (p : ℕ) (v : List ℕ) → look xs (log_slice p) 0 ≡ Some v → IsCopyOf t v
+    copies : (p : ℕ) (v : List ℕ) → look xs (log_slice p) 0 ≡ Some v → IsCopyOf t p v
     copies p v is =
         elim brings.either [
           | inl same ↦ absurd (none-some v (sym (same.1 p) ∙ is))
@@ -429,7 +429,7 @@ brought_copies s t u xs on c brings which source = record { copies = copies; eit
             | inr other ↦ absurd (none-some v (sym (later.3 p other) ∙ is))
             | inl named ↦
                 let w = later.2 p named in
-                subst (λ k. IsCopyOf t k) (some_bytes w.0 v (sym w.1 ∙ is)) w.2
+                subst (λ k. IsCopyOf t p k) (some_bytes w.0 v (sym w.1 ∙ is)) w.2
           ]
         ]
       where

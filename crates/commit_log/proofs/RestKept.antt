@@ -41,11 +41,14 @@ copies_rest : (s : State) (on : List ℕ) (gone : ℕ → Bool) (x : Seen) → A
 copies_rest s on gone x rest there agree =
     record {
       own = λ p u current left may.
-          let at = agree.own p current left in (
-            at.0,
-            ap decoded (read_now s on x p u rest (decides_small (reading x) p (s, rest.state, current)) (there p current left) may)
-                ∙ ok_of (decoded (reading x (log_slice p) 0)) _ at.1,
-          );
+          let at = agree.own p current left in
+          record {
+            own = at.0;
+            copy =
+                ap decoded (read_now s on x p u rest (decides_small (reading x) p (s, rest.state, current)) (there p current left) may)
+                ∙ ok_of (decoded (reading x (log_slice p) 0)) _ at.1;
+            drive = at.2;
+          };
       others = λ p u copy small inside may is.
           let here : copy_in (reading x) p ≡ Some copy = ap result_ok (ap decoded (sym (read_now s on x p u rest small inside may)) ∙ is) in
           let low = state_latest s (reading x) p copy rest.state small here in
@@ -53,6 +56,8 @@ copies_rest s on gone x rest there agree =
             | inl less ↦ inl less
             | inr most ↦ inr (agree.same p copy small here (omega (arith, low, most)))
           ];
+      earlier = λ p u copy small former inside may is.
+          agree.earlier p copy small former (ap result_ok (ap decoded (sym (read_now s on x p u rest small inside may)) ∙ is));
     }
 
 -- Where nothing is pending, closing the gates that are open leaves the log as the next commit needs it.
@@ -77,6 +82,7 @@ rest_kept s gone l on one a b opened idle named replay there agree =
     (record {
       own = λ p u current left may. before.own p u current left (same p u (few p current) (there p current left) may);
       others = λ p u copy small inside may is. before.others p u copy small (had p inside) (same p u small (had p inside) may) is;
+      earlier = λ p u copy small former inside may is. before.earlier p u copy small former (had p inside) (same p u small (had p inside) may) is;
     })
   where
     nothing : (d : ℕ) → look [] d 0 ≡ None

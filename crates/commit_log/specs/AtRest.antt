@@ -12,7 +12,7 @@ use Rattle.array_image.specs.Left.{reading}
 use Rattle.commit_log.specs.View.{LogView, names, left_of}
 use Rattle.commit_log.specs.Phases.{AreLogs}
 use Rattle.commit_log.specs.Opening.{Finds}
-use Rattle.commit_log.specs.Kept.{IsCopyOf}
+use Rattle.commit_log.specs.Kept.{IsCopyOf, id_of}
 
 -- Slices at rest: each sector of a log slice has one value, `s` is the state that they say, and `on` are its current places that
 -- have a log slice, which is whole.
@@ -30,9 +30,9 @@ pub record IsNext (s t : State) (c : Image) : Type 0 where
   pub current : (p : ℕ) → is_current t p ≡ true → is_current s p ≡ true
   pub source : (a : GateAt) → pending_at (current_places s) c ≡ Some a → is_current t a.place ≡ true
 
--- The targets have copies of one state at most: of the one that contents have, or of the next.
+-- The targets have copies of one state at most, each its place's: of the one that contents have, or of the next.
 pub record BringsCopies (s t : State) (xs : List Target) (c : Image) : Type 0 where
-  pub copies : (p : ℕ) (u : List ℕ) → look xs (log_slice p) 0 ≡ Some u → IsCopyOf t u
+  pub copies : (p : ℕ) (u : List ℕ) → look xs (log_slice p) 0 ≡ Some u → IsCopyOf t p u
   pub either : (t ≡ s) ⊎ IsNext s t c
 
 -- What an opening knows once it has looked for the pending record among these places: nobody went, and no log is damaged.
@@ -42,7 +42,9 @@ pub record Opened (s t : State) (l : LogView) (on : List ℕ) (x : Seen) : Type 
   pub finds : Finds l on (left_of on []) is_pending None (reading x)
   pub brings : BringsCopies s t l.pending (reading x)
 
--- The copies of the state on slices at rest: on each current place that is there this state, and no other one of its epoch.
+-- The copies of the state on slices at rest: on each current place that is there its copy of this state, no other one of its
+-- epoch, and on a place that isn't current an earlier one at most.
 pub record CopiesAgree (s : State) (gone : ℕ → Bool) (x : Seen) : Type 0 where
-  pub own : (p : ℕ) → is_current s p ≡ true → gone p ≡ false → (k : ℕ) × (copy_in (reading x) p ≡ Some (record { state = s; own = k }))
+  pub own : (p : ℕ) → is_current s p ≡ true → gone p ≡ false → (k : ℕ) × (copy_in (reading x) p ≡ Some (record { state = s; own = k })) × (id_of s k ≡ id_of s p)
   pub same : (p : ℕ) (copy : Copied) → p < 16 → copy_in (reading x) p ≡ Some copy → copy.state.epoch ≡ s.epoch → copy.state ≡ s
+  pub earlier : (p : ℕ) (copy : Copied) → p < 16 → is_current s p ≡ false → copy_in (reading x) p ≡ Some copy → copy.state.epoch < s.epoch

@@ -1,5 +1,5 @@
 -- What is kept of the log slices from one commit to the next.
-use Rattle.std.specs.Prelude.{◌≡◌, ◌⊎◌, ℕ, ◌<◌, Bool, true, false, ◌==◌, ◌&&◌, ◌||◌, not, List, [], Ok, Some, None}
+use Rattle.std.specs.Prelude.{◌≡◌, ◌⊎◌, ℕ, ◌<◌, Bool, true, false, ◌==◌, ◌&&◌, ◌||◌, not, List, [], slice_get, Option, Ok, Some, None, option_map}
 use Rattle.std.specs.List.{list_any}
 use Rattle.rack.specs.Values.{MayLeave}
 use Rattle.rack.specs.Seen.{Image, Seen, IsLive}
@@ -15,21 +15,30 @@ use Rattle.commit_log.specs.View.{names}
 use Rattle.commit_log.specs.Standing.{LogsStand, deciding, IsWhole, IsNumbered}
 use Rattle.commit_log.specs.Commits.{Stands}
 
--- a sector is a copy of a state
-abbrev pub IsCopyOf : State → List ℕ → Type 0
-IsCopyOf s u = (own : ℕ) × (decoded u ≡ Ok (record { state = s; own = own }))
+-- the id of a place's drive
+abbrev pub id_of : State → ℕ → Option (List ℕ)
+id_of s place = option_map (λ drive. drive.id.0) (slice_get s.drives.items place)
+
+-- a sector is a copy of a state that names the drive of a place
+pub record IsCopyOf (s : State) (place : ℕ) (u : List ℕ) : Type 0 where
+  pub own : ℕ
+  pub copy : decoded u ≡ Ok (record { state = s; own = own })
+  pub drive : id_of s own ≡ id_of s place
 
 -- a copy of a lower epoch, or of this very state
 abbrev pub IsNoLater : State → Copied → Type 0
 IsNoLater s copy = (copy.state.epoch < s.epoch) ⊎ (copy.state ≡ s)
 
 -- The copies on the places' log slices, where those that have gone aren't written any more: a current place that is left has
--- this state, and no place has a later one or another one of its epoch.
+-- its copy of this state, no place has a later one or another one of its epoch, and one that isn't current has an earlier one at most.
 pub record CopiesStand (s : State) (gone : ℕ → Bool) (x : Seen) : Type 0 where
-  pub own : (p : ℕ) (u : List ℕ) → is_current s p ≡ true → gone p ≡ false → MayLeave (x.held (log_slice p) 0) u → IsCopyOf s u
+  pub own : (p : ℕ) (u : List ℕ) → is_current s p ≡ true → gone p ≡ false → MayLeave (x.held (log_slice p) 0) u → IsCopyOf s p u
   pub others :
       (p : ℕ) (u : List ℕ) (copy : Copied) → p < 16 → 0 < x.sectors (log_slice p) → MayLeave (x.held (log_slice p) 0) u
       → decoded u ≡ Ok copy → IsNoLater s copy
+  pub earlier :
+      (p : ℕ) (u : List ℕ) (copy : Copied) → p < 16 → is_current s p ≡ false → 0 < x.sectors (log_slice p)
+      → MayLeave (x.held (log_slice p) 0) u → decoded u ≡ Ok copy → copy.state.epoch < s.epoch
 
 -- What a commit finds of the log slices and leaves of them to the next one: `number` is the log's, and `gone` are the places that
 -- answered `Gone`, marked or not.
@@ -60,7 +69,7 @@ AreLeft s gone on = (p : ℕ) → names on p ≡ (is_current s p && not (gone p)
 abbrev pub gone_with : (gone : ℕ → Bool) → (lost : List ℕ) → ℕ → Bool
 gone_with gone lost p = gone p || names lost p
 
--- The targets have no copy of a state, or on each place of the commit one of a later state, by which no place is current that
+-- The targets have no copy of a state, or on each place of the commit its copy of a later state, by which no place is current that
 -- wasn't.
 pub record Brings (s t : State) (xs : List Target) (on : List ℕ) : Type 0 where
   pub current : (p : ℕ) → is_current t p ≡ true → is_current s p ≡ true
@@ -70,5 +79,24 @@ pub record Brings (s t : State) (xs : List Target) (on : List ℕ) : Type 0 wher
   pub either :
       ((t ≡ s) × ((p : ℕ) → look xs (log_slice p) 0 ≡ None))
       ⊎ ((s.epoch < t.epoch) × ((p : ℕ) → is_current t p ≡ true → names on p ≡ true)
-      × ((p : ℕ) → names on p ≡ true → (u : List ℕ) × (look xs (log_slice p) 0 ≡ Some u) × IsCopyOf t u)
+      × ((p : ℕ) → names on p ≡ true → (u : List ℕ) × (look xs (log_slice p) 0 ≡ Some u) × IsCopyOf t p u)
       × ((p : ℕ) → names on p ≡ false → look xs (log_slice p) 0 ≡ None))
+
+-- A place that is to join: it is left, and has a log slice with a gate of no greater number than the log's.
+pub record MayJoin (number : ℕ) (gone : ℕ → Bool) (x : Seen) (p : ℕ) : Type 0 where
+  pub few : p < 16
+  pub left : gone p ≡ false
+  pub there : gate_sector < x.sectors (log_slice p)
+  pub numbered : IsNumbered number x p
+
+-- The same, where places may join: `takes` are the places of the commit and those that do. Each of them gets its copy.
+pub record BringsTo (s t : State) (number : ℕ) (gone : ℕ → Bool) (x : Seen) (xs : List Target) (on takes : List ℕ) : Type 0 where
+  pub current : (p : ℕ) → is_current t p ≡ true → (is_current s p ≡ true) ⊎ MayJoin number gone x p
+  pub left : (p : ℕ) → names takes p ≡ true → is_current t p ≡ true
+  pub more : (p : ℕ) → names on p ≡ true → names takes p ≡ true
+  pub inside : (p : ℕ) → list_any (λ x. place_of x.disk == p) xs ≡ true → names takes p ≡ true
+  pub either :
+      ((t ≡ s) × ((p : ℕ) → look xs (log_slice p) 0 ≡ None))
+      ⊎ ((s.epoch < t.epoch) × ((p : ℕ) → is_current t p ≡ true → names takes p ≡ true)
+      × ((p : ℕ) → names takes p ≡ true → (u : List ℕ) × (look xs (log_slice p) 0 ≡ Some u) × IsCopyOf t p u)
+      × ((p : ℕ) → names takes p ≡ false → look xs (log_slice p) 0 ≡ None))

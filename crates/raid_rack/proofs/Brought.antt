@@ -10,7 +10,7 @@ use Rattle.pool_state.specs.declared.contents.State.{State}
 use Rattle.array_image.specs.Places.{log_slice, place_of}
 use Rattle.array_image.specs.States.{is_current}
 use Rattle.commit_log.specs.View.{names}
-use Rattle.commit_log.specs.Kept.{IsCopyOf, Brings}
+use Rattle.commit_log.specs.Kept.{IsCopyOf, Brings, id_of}
 use Rattle.commit_log.proofs.Deciding.{names_first, names_later}
 use Rattle.raid_rack.specs.Losses.{IsCopyOn, AreCopiesOn, AddsCopies}
 
@@ -28,7 +28,7 @@ module _ (t : State) where
   pub record HasCopy (xs : List Target) (p : ℕ) : Type 0 where
     pub bytes : List ℕ
     pub is_found : look xs (log_slice p) 0 ≡ Some bytes
-    pub is_copy : IsCopyOf t bytes
+    pub is_copy : IsCopyOf t p bytes
 
   pub copies_look : (on : List ℕ) (xs : List Target) (p : ℕ) → AreCopiesOn t on xs
       → ((names on p ≡ true) × HasCopy xs p) ⊎ ((names on p ≡ false) × (look xs (log_slice p) 0 ≡ None))
@@ -54,7 +54,7 @@ module _ (t : State) where
               is_found =
                   ap (λ o. option_or o (if is_at (log_slice p) 0 x then Some x.bytes else None)) none.1
                   ∙ ap (λ (b : Bool). if b then Some x.bytes else None) (own_at q p x are.0 same);
-              is_copy = (q, are.0.copy);
+              is_copy = record { own = q; copy = are.0.copy; drive = ap (id_of t) same };
             },
           )
           | inr other ↦ inr (
@@ -107,7 +107,7 @@ module _ (t : State) where
       ]
 
       has : (p : ℕ) → names on p ≡ true → ((names on p ≡ true) × HasCopy adds.targets p) ⊎ ((names on p ≡ false) × (look adds.targets (log_slice p) 0 ≡ None))
-          → (u : List ℕ) × (look added (log_slice p) 0 ≡ Some u) × IsCopyOf t u
+          → (u : List ℕ) × (look added (log_slice p) 0 ≡ Some u) × IsCopyOf t p u
       has p named (inl had) = (had.1.bytes, whole p ∙ ap (λ o. option_or o (look before (log_slice p) 0)) had.1.is_found, had.1.is_copy)
       has p named (inr none) = absurd (both_ways (names on p) none.0 named)
 

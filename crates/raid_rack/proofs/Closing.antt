@@ -28,7 +28,7 @@ use Rattle.raid_rack.proofs.Added.{names_current}
 use Rattle.raid_rack.proofs.Adding.{IsCopyFor, copies_from}
 use Rattle.raid_rack.proofs.Brought.{copies_bring, copies_inside}
 use Rattle.raid_rack.proofs.Changed.{seated_still}
-use Rattle.raid_rack.proofs.Committed.{next_later, raised_range}
+use Rattle.raid_rack.proofs.Committed.{next_later, raised_later, raised_range}
 use Rattle.raid_rack.proofs.Elements.{look_among, look_lacks}
 use Rattle.raid_rack.proofs.Noted.{bool_same, current_few, gone_from, gone_some}
 use Rattle.raid_rack.proofs.Over.{IsFurther}
@@ -64,6 +64,7 @@ pub after_closed : (s : State) → IsAfter s (closed s)
 after_closed s = record {
   same = record { pool = refl; extent = refl; drives = refl; plan = inr refl; made = refl; joined = refl; serial = refl };
   epoch = (raised_range s.epoch).0;
+  raised = inr (raised_later s.epoch);
   current = λ p is. is;
 }
 

@@ -1,5 +1,5 @@
 -- The commit that marks losses, as a part of a call: what holds of the arrays by the marked state.
-use Rattle.std.proofs.Common.{◌≡◌, ℕ, zero, suc, ◌+◌, ◌-◌, ◌^◌, ◌<◌, ◌≤◌, Bool, true, false, ◌==◌, ◌&&◌, ◌||◌, not, nat_lt, nat_le, if◌then◌else◌, List, [], ◌∷◌, map, Some, None, refl, sym, ap, subst, ◌∙◌, inl, inr, eqb-true, lt-ltb, le-ltb, ltb-true, arith}
+use Rattle.std.proofs.Common.{◌≡◌, ◌⊎◌, ℕ, zero, suc, ◌+◌, ◌-◌, ◌^◌, ◌<◌, ◌≤◌, Bool, true, false, ◌==◌, ◌&&◌, ◌||◌, not, nat_lt, nat_le, if◌then◌else◌, List, [], ◌∷◌, map, Some, None, refl, sym, ap, subst, ◌∙◌, inl, inr, eqb-true, lt-ltb, le-ltb, ltb-true, arith}
 use Rattle.std.proofs.lemmas.Bool.{cases_Bool, cases_eq, cases_lt, both_ways, and_parts, and_from, le-leb, leb-true}
 use Rattle.std.specs.List.{list_all}
 use Rattle.rack.specs.Values.{Keeps}
@@ -53,6 +53,13 @@ raised_range e = elim (cases_lt e (2 ^ 63 - 1)) [
       (omega (arith, is), λ low. omega (arith, is, low))
 ]
 
+-- it is raised until the last one
+pub raised_later : (e : ℕ) → (e < raised e) ⊎ (2 ^ 63 - 1 ≤ raised e)
+raised_later e = elim (cases_lt e (2 ^ 63 - 1)) [
+  | inl room ↦ inl (let is : raised e ≡ e + 1 = ap (λ (b : Bool). if b then e + 1 else e) (lt-ltb e (2 ^ 63 - 1) room) in omega (arith, is))
+  | inr last ↦ inr (let is : raised e ≡ e = ap (λ (b : Bool). if b then e + 1 else e) (le-ltb e (2 ^ 63 - 1) last) in omega (arith, is, last))
+]
+
 pub valid_marked : (lost : List ℕ) (s : State) (own : ℕ) → is_valid s own ≡ true → is_valid (marked lost s) own ≡ true
 valid_marked lost s own is =
     let one = and_parts (is_extent s.extent) (has_places s own && (has_arrays s && (list_all is_drive s.drives.items && has_epoch s))) is in
@@ -74,6 +81,7 @@ pub after_marked : (lost : List ℕ) (s : State) → IsAfter s (marked lost s)
 after_marked lost s = record {
   same = record { pool = refl; extent = refl; drives = drives_same lost 0 s.drives.items; plan = inl refl; made = refl; joined = refl; serial = refl };
   epoch = (raised_range s.epoch).0;
+  raised = inr (raised_later s.epoch);
   current = λ p is. (and_parts (is_current s p) (not (names lost p)) (sym (current_marked lost s p) ∙ is)).0;
 }
 

@@ -3,12 +3,12 @@ use Rattle.std.proofs.Common.{◌≡◌, ◌⊎◌, ℕ, zero, suc, ◌+◌, ◌
 use Rattle.std.proofs.lemmas.Bool.{cases_lt, cases_eq}
 use Rattle.std.proofs.lemmas.Option.{slice_get-get_or, slice_get_past}
 
-get_set_same : {X : Type 0} (xs : List X) (i : ℕ) (v : X) → i < length xs → slice_get (set xs i v) i ≡ Some v
+pub get_set_same : {X : Type 0} (xs : List X) (i : ℕ) (v : X) → i < length xs → slice_get (set xs i v) i ≡ Some v
 get_set_same [] i v below = absurd (omega (arith, below))
 get_set_same (x ∷ xs) zero v below = refl
 get_set_same (x ∷ xs) (suc i) v below = get_set_same xs i v (omega (arith, below))
 
-get_set_other : {X : Type 0} (xs : List X) (i n : ℕ) (v : X) → (n ≡ i → ⊥) → slice_get (set xs i v) n ≡ slice_get xs n
+pub get_set_other : {X : Type 0} (xs : List X) (i n : ℕ) (v : X) → (n ≡ i → ⊥) → slice_get (set xs i v) n ≡ slice_get xs n
 get_set_other [] i n v other = refl
 get_set_other (x ∷ xs) zero zero v other = absurd (other refl)
 get_set_other (x ∷ xs) zero (suc n) v other = refl

@@ -57,3 +57,7 @@ pub mod Brought
 pub mod Added
 pub mod Opening
 pub mod Founding
+mod SettledWhole
+mod LayingDrive
+mod Enlisted
+mod Apart

@@ -311,7 +311,7 @@ kept_marked s number gone now x all kept =
       logs = kept.logs;
       few = kept.few;
       there = λ p current left. kept.there p current (all p current);
-      copies = record { own = λ p u current left may. kept.copies.own p u current (all p current) may; others = kept.copies.others };
+      copies = record { own = λ p u current left may. kept.copies.own p u current (all p current) may; others = kept.copies.others; earlier = kept.copies.earlier };
       numbers = kept.numbers;
       halves = kept.halves;
       whole = kept.whole;

@@ -69,7 +69,7 @@ pub record HasSettled (a d : Arrays) (x y : Seen) : Type 0 where
   pub settles : SettlesTo (raid_by a) (raid_by d) x y d.state.made d.log.added
 
 -- from the log's number alone
-settles_from : (a c : Arrays) (log : LogView) (x y : Seen) → log.number ≡ a.log.number
+pub settles_from : (a c : Arrays) (log : LogView) (x y : Seen) → log.number ≡ a.log.number
     → SettlesTo (raid_by (record a { log = log })) (raid_by c) x y a.state.made c.log.added → SettlesTo (raid_by a) (raid_by c) x y a.state.made c.log.added
 settles_from a c log x y number settles =
     let whole : raid_by (record a { log = log }) ≡ raid_by a =
@@ -112,7 +112,7 @@ has_settled a c all log lost x y before number from running lost_is none each co
 
 -- ---- the commit
 
-and_none : (b : Bool) → (b && false) ≡ false
+pub and_none : (b : Bool) → (b && false) ≡ false
 and_none true = refl
 and_none false = refl
 

@@ -61,12 +61,12 @@ slots_few u is_array =
 not_missing : (seat : Seat) → is_missing_seat seat ≡ false → seat ≡ Missing → ⊥
 not_missing seat there is = both_ways true (sym (ap is_missing_seat is) ∙ there) refl
 
-of_member : (v : Raid) (m : ℕ) (x : Target) (s : State) (y : Seen) (before added : List Target) (adds : AddsSupersOf (v.arrays m) before added)
-    → IsSeated s m (v.arrays m) y → AmongTargets x adds.targets → IsSuperOf v (m + 1) x
-of_member v m x s y before added adds seated among =
+of_member : (v : Raid) (m : ℕ) (x : Target) (before added : List Target) (adds : AddsSupersOf (v.arrays m) before added)
+    → IsArray (v.arrays m) → AmongTargets x adds.targets → IsSuperOf v (m + 1) x
+of_member v m x before added adds is_array among =
     let u = v.arrays m in
     let from = supers_from u.number u.truth (slots_of u) adds.targets x adds.supers among in
-    let at = slot_facts u from.index from.slot seated.is_array from.at in
+    let at = slot_facts u from.index from.slot is_array from.at in
     record {
       array = m;
       low = omega arith;
@@ -112,30 +112,30 @@ slice_array : (v : Raid) (n m j k : ℕ) → n < 16 → m < 16 → (v.arrays n).
     → slice_on (v.arrays n) j ≡ slice_on (v.arrays m) k → n ≡ m
 slice_array v n m j k few also one two same = omega (arith, few, also, one, two, same)
 
-pub staged_more : (v w : Raid) (m : ℕ) (xs ys : List Target) (x y : Seen) → m < v.state.made → v.state.made ≤ 16
-    → IsSet v x → ((n : ℕ) → (n ≡ m → ⊥) → w.arrays n ≡ v.arrays n) → IsSeated v.state m (w.arrays m) y
+pub staged_more : (v w : Raid) (m : ℕ) (xs ys : List Target) → m < 16
+    → ((n : ℕ) → n < m → (v.arrays n).number ≡ n) → ((n : ℕ) → (n ≡ m → ⊥) → w.arrays n ≡ v.arrays n) → (w.arrays m).number ≡ m → IsArray (w.arrays m)
     → HasStaged v m xs → AddsSupersOf (w.arrays m) xs ys → (w.arrays m).marked ≡ false → HasStaged w (m + 1) ys
-staged_more v w m xs ys x y low few set others seated staged adds unmarked =
+staged_more v w m xs ys few numbers others number is_array staged adds unmarked =
     let u = w.arrays m in
     let earlier : (n : ℕ) → n < m → w.arrays n ≡ v.arrays n = λ n less. others n (λ same. omega (arith, less, same)) in
     record {
       only = λ z among.
           elim (among_either z xs adds.targets (subst (AmongTargets z) adds.appended among)) [
             | inl old ↦ more_super v w m (m + 1) z (omega arith) earlier (staged.only z old)
-            | inr new ↦ of_member w m z v.state y xs ys adds seated new
+            | inr new ↦ of_member w m z xs ys adds is_array new
           ];
       apart = ap are_apart adds.appended
-          ∙ apart_append xs adds.targets staged.apart (own_apart u xs ys adds seated.is_array)
+          ∙ apart_append xs adds.targets staged.apart (own_apart u xs ys adds is_array)
           (λ p q one two disk sector.
           let old = staged.only p one in
-          let new = of_member w m q v.state y xs ys adds seated two in
+          let new = of_member w m q xs ys adds is_array two in
           let less = old.low in
-          let number_old = (set.arrays old.array (omega (arith, less, low))).number in
-          let number_new : u.number ≡ m = seated.number in
+          let number_old = numbers old.array less in
+          let number_new : u.number ≡ m = number in
           let at_old : p.disk ≡ slice_on (v.arrays old.array) old.position = old.disk in
           let from = supers_from u.number u.truth (slots_of u) adds.targets q adds.supers two in
           let at_new = from.on.disk in
-          absurd (omega (arith, less, low, few, number_old, number_new, at_old, at_new, disk)));
+          absurd (omega (arith, less, few, number_old, number_new, at_old, at_new, disk)));
       each = λ n less.
           elim (cases_eq n m) [
             | inl same ↦ subst (λ k. HasSupers (w.arrays k) ys) (sym same)
@@ -147,7 +147,7 @@ staged_more v w m xs ys x y low few set others seated staged adds unmarked =
           ];
       few =
           let count = supers_count u.number u.truth (slots_of u) adds.targets adds.supers in
-          let most = slots_few u seated.is_array in
+          let most = slots_few u is_array in
           let old = staged.few in
           let sum : length ys ≡ length xs + length adds.targets = ap length adds.appended ∙ length-append xs adds.targets in
           omega (arith, count, most, old, sum);
@@ -216,7 +216,9 @@ settles_more v w f a b c m xs ys few before call syncs adds unmarked raised =
                 ap (λ k. has_gone (f k) p) same ∙ call.views.went p ∙ or_right (call.views.lost p) (has_gone (w.arrays m) p) (subst (λ k. has_gone (w.arrays k) p ≡ true) same had)
             | inr other ↦ ap (λ (u : View). has_gone u p) (call.views.others n other) ∙ had
           ];
-      staged = staged_more w (with_arrays w f) m xs ys b c call.views.low few before.moves.set call.views.others call.views.seated before.staged adds unmarked;
+      staged = staged_more w (with_arrays w f) m xs ys (let last = call.views.low in omega (arith, last, few))
+          (λ n less. (before.moves.set.arrays n (let last = call.views.low in omega (arith, less, last))).number)
+          call.views.others call.views.seated.number call.views.seated.is_array before.staged adds unmarked;
       settled = λ n vals spent low joined goes covers amid.
           let made : n < w.state.made = let last = call.views.low in omega (arith, low, last) in
           let was : n < v.state.made = subst (λ (s : State). n < s.made) before.same made in

@@ -1,5 +1,5 @@
 -- The book of a pool, as calls of a rack of arrays change it: marks are added, a plan ends, and nothing else.
-use Rattle.std.specs.Prelude.{◌≡◌, ◌⊎◌, ℕ, ◌≤◌, true, List, map, refl}
+use Rattle.std.specs.Prelude.{◌≡◌, ◌⊎◌, ℕ, ◌-◌, ◌<◌, ◌≤◌, ◌^◌, true, List, map, refl}
 use Rattle.std.proofs.Common.{◌∙◌, inl, inr, arith}
 use Rattle.pool_state.specs.declared.contents.Drive.{Drive}
 use Rattle.pool_state.specs.declared.contents.Plan.TheVariants.{Nothing}
@@ -24,6 +24,8 @@ pub record IsSameBook (p q : State) : Type 0 where
 pub record IsAfter (p q : State) : Type 0 where
   pub same : IsSameBook p q
   pub epoch : p.epoch ≤ q.epoch
+  -- a change raises the epoch, until epochs are used up
+  pub raised : (q ≡ p) ⊎ (p.epoch < q.epoch) ⊎ (2 ^ 63 - 1 ≤ q.epoch)
   pub current : (place : ℕ) → is_current q place ≡ true → is_current p place ≡ true
 
 -- ---- books that follow each other
@@ -48,13 +50,29 @@ after_same p =
     record {
       same = record { pool = refl; extent = refl; drives = refl; plan = inl refl; made = refl; joined = refl; serial = refl };
       epoch = omega arith;
+      raised = inl refl;
       current = λ place is. is;
     }
+
+raised_then : (p q r : State) → IsAfter p q → IsAfter q r → (r ≡ p) ⊎ (p.epoch < r.epoch) ⊎ (2 ^ 63 - 1 ≤ r.epoch)
+raised_then p q r one two =
+    let up = one.epoch in
+    let next = two.epoch in
+    elim two.raised [
+      | inr (inl later) ↦ inr (inl (omega (arith, up, later)))
+      | inr (inr most) ↦ inr (inr most)
+      | inl same ↦ elim one.raised [
+        | inl before ↦ inl (same ∙ before)
+        | inr (inl later) ↦ inr (inl (omega (arith, next, later)))
+        | inr (inr most) ↦ inr (inr (omega (arith, next, most)))
+      ]
+    ]
 
 pub after_then : (p q r : State) → IsAfter p q → IsAfter q r → IsAfter p r
 after_then p q r one two =
     record {
       same = same_then p q r one.same two.same;
       epoch = let first = one.epoch in let second = two.epoch in omega arith;
+      raised = raised_then p q r one two;
       current = λ place is. one.current place (two.current place is);
     }

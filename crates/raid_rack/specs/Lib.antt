@@ -16,3 +16,5 @@ pub mod Runs
 pub mod Works
 pub mod Opening
 pub mod AllRuns
+pub mod NewDrive
+pub mod Enlisting

@@ -31,6 +31,8 @@
 //! | `AllRuns` | the same, with what calls keep of the slices below, whom alone arrays lose, and which slices are spared |
 //! | `Laws` | what holds of the rack at any moment |
 //! | `Acts` | what a whole call does |
+//! | `NewDrive` | where a new drive's slices lie, its table, and what is written on it before it is one of the pool |
+//! | `Enlisting` | a new drive at a place whose drive is missing: the book with it, and what stops leave meanwhile |
 //!
 //! **The contract of the mending** is one record, `Mends`, over any rack of slices that spends no sector. Whoever went in a call of
 //! an array, or goes meanwhile, is marked when it returns, each with its cause, and nobody else is; down to the last drive. At each
@@ -57,6 +59,11 @@
 //! end of a plan (`ClosesPlan`) is a commit of the state's copies alone. A work is one of these three (`Does`), where it is due
 //! (`is_due`).
 //!
+//! **A new drive** at a place whose drive is missing gets the closed gate with number 0, its table, zeros in the place of a state, and
+//! slices for the log and for each array that it is a member of and reaches (`LaysDrive`, `SeatsDrive`). Calls on a disk that has no
+//! place are reads to the slices (`reads_apart` of proofs/Apart.antt). The state that has it is valid (proofs/Enlisted.antt). The commit
+//! that makes it one of the pool isn't there yet; what it is to do is defined (`Enlists`).
+//!
 //! **What can't be had.** Where no disk refuses a call, calls in a row spend no sector (`live_still` of proofs/Live.antt), unless numbers
 //! are used up ([`RaidRack::is_used_up`]).
 //!
@@ -75,9 +82,11 @@
 
 mod arrays;
 mod disks;
+mod enlisting;
 mod losses;
 mod marks;
 mod mending;
+mod new_drive;
 mod spent;
 mod works;
 

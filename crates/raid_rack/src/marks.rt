@@ -42,7 +42,7 @@ pub(crate) fn end_plan(state: &mut State)
 }
 
 /// One more epoch; it stands still at the last one.
-fn raised(epoch: u64) -> u64
+pub(crate) fn raised(epoch: u64) -> u64
     ensures { result ≡ spec.raised epoch }
 {
     if epoch < LAST_EPOCH { epoch + 1 } else { epoch }

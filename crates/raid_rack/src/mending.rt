@@ -21,7 +21,7 @@ const MOST_TURNS: u32 = 17;
 
 impl Arrays {
     /// Settles all arrays: their members are synced, and their superblocks added to the log.
-    fn settle_all<S: Rack>(&mut self, rack: &mut S)
+    pub(crate) fn settle_all<S: Rack>(&mut self, rack: &mut S)
         requires running { IsRunning self.old (S.seen rack.old) }
         requires empty { self.old.log.added ≡ [] }
         ensures settles { SettlesTo (raid_by self.old) (raid_by self.new) (S.seen rack.old) (S.seen rack.new) self.old.state.made self.new.log.added }

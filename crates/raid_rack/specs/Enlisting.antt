@@ -1,0 +1,180 @@
+-- A new drive is taken in at a place whose drive is missing: what a rack of arrays is after it, and what stops leave meanwhile.
+use Rattle.std.specs.Prelude.{◌≡◌, ◌≢◌, ◌⊎◌, ℕ, ◌+◌, ◌*◌, ◌<◌, ◌≤◌, ◌++◌, Bool, true, false, List, length, Option, Some, None, option_map, slice_set, if◌then◌else◌}
+use Rattle.rack.specs.Values.{Values, IsSingle, Keeps, MayLeave}
+use Rattle.rack.specs.Seen.{Image, Seen, Rose, IsLive}
+use Rattle.rack.specs.Moments.{Leaves}
+use Rattle.rack.specs.Sequences.{OnlyReads, WritesOnly}
+use Rattle.rack.specs.Targets.{Target}
+use Rattle.shr_base.specs.declared.Id.{Id}
+use Rattle.gpt_table.specs.declared.TableCopy.{TableCopy}
+use Rattle.gpt_table.specs.Disk.{HoldsCopy, now_on}
+use Rattle.gpt_table.specs.Plans.{IsOfTable}
+use Rattle.slice_rack.specs.Slices.{Slices, sectors_of as sectors_sliced}
+use Rattle.slice_rack.specs.Sliced.{slices_of, sliced}
+use Rattle.slice_rack.specs.Runs.{IsSliced}
+use Rattle.pool_state.specs.declared.contents.Plan.{Plan}
+use Rattle.pool_state.specs.declared.contents.State.{State}
+use Rattle.array_image.specs.Places.{drive_id, log_sectors, log_slice, member_slice}
+use Rattle.array_image.specs.Record.{gate_sector}
+use Rattle.array_image.specs.States.{is_current, state_in}
+use Rattle.array_image.specs.Arrays.{Shape, replayed}
+use Rattle.array_image.specs.Held.{IsSettled}
+use Rattle.array_image.specs.Left.{IsInside}
+use Rattle.array_model.specs.ArrayCalls.{Covers}
+use Rattle.array_model.specs.View.{View, HasFault, sectors_of, shape_of, spent_in}
+use Rattle.array_model.specs.Says.{Says}
+use Rattle.array_model.specs.Stages.{AmongTargets}
+use Rattle.array_core.specs.Seats.{renewed, seat_of}
+use Rattle.array_model.specs.declared.Seat.TheVariants.{Missing, Rebuilding}
+use Rattle.array_core.specs.Staging.{AddsSupersOf}
+use Rattle.raid_rack.specs.Book.{IsAfter}
+use Rattle.raid_rack.specs.Losses.{has_other}
+use Rattle.raid_rack.specs.Marking.{SaysBetween}
+use Rattle.raid_rack.specs.Missing.{raised}
+use Rattle.raid_rack.specs.Moves.{AreCaused, IsAmid, IsHeeded, KeepsArrays, Mends, Moves, RaisesBy}
+use Rattle.raid_rack.specs.NewDrive.{IsOfDrive, drive_table, first_gate, joins, length_in, no_state}
+use Rattle.raid_rack.specs.Raid.{Raid, IsTold, held_in, is_over, live_of, spent_of}
+
+-- ---- the book
+
+-- the id of the next new drive
+abbrev pub next_drive : State → Id
+next_drive s = record { 0 = drive_id s.pool.0 s.serial }
+
+-- the state in which the drive of a place is a new one of so many units, of the next epoch
+abbrev pub enlisted : (place units : ℕ) → Plan → State → State
+enlisted place units plan s = record s {
+  epoch = raised s.epoch;
+  drives = record { items = slice_set s.drives.items place (record { id = next_drive s; units = units; missing = false }) };
+  plan = plan;
+  serial = s.serial + 1;
+}
+
+-- the pool with it: its members, in the arrays that its disk reaches, are to be rebuilt from their start
+abbrev pub with_drive : (place units : ℕ) → Plan → (ℕ → Bool) → Raid → Raid
+with_drive place units plan joining v = record v {
+  state = enlisted place units plan v.state;
+  arrays = λ n. if joining n then renewed place (next_drive v.state) (v.arrays n) else v.arrays n;
+}
+
+-- What holds of the book after the call, whatever disks tell: but for the drive and its members nothing has changed save marks of
+-- losses, each with its cause. `a` and `b` are the slices by the new tables.
+pub record IsEnlisted (place units : ℕ) (plan : Plan) (joining : ℕ → Bool) (v w : Raid) (a b : Seen) : Type 0 where
+  pub book : IsAfter (enlisted place units plan v.state) w.state
+  pub plan_is : w.state.plan ≡ plan
+  pub arrays : KeepsArrays (with_drive place units plan joining v) w
+  pub sectors : (n : ℕ) → sectors_of (w.arrays n) ≡ sectors_of (v.arrays n)
+  pub caused : AreCaused (with_drive place units plan joining v) w a b
+  pub heeded : IsHeeded w
+  pub number : v.number ≤ w.number
+  pub events : (n : ℕ) → n < v.state.made → (v.arrays n).truth.events ≤ (w.arrays n).truth.events
+  pub raises : RaisesBy 18 v w
+  -- what is spent stays so
+  pub spent : (n y : ℕ) → n < v.state.made → spent_in (w.arrays n) y ≡ false → spent_in (v.arrays n) y ≡ false
+  pub still : (n : ℕ) → n < v.state.made → has_other w.state place ≡ true → is_over w n ≡ false → is_over v n ≡ false
+
+-- ---- values
+
+-- contents say array n by a state, and its sectors hold these values
+pub record SaysBy (s : State) (n : ℕ) (vals : ℕ → Values) (spent : ℕ → Bool) (r : Image) : Type 0 where
+  pub is_state : state_in r ≡ Some s
+  pub shape : Shape
+  pub says : Says s n shape vals spent r
+
+-- Contents of the drives say it by the tables before, and by the state before; or by the tables after, and by the state before or one
+-- that has the new drive.
+abbrev pub SaysByTables : (t u : Slices) → (s next last : State) → ℕ → (ℕ → Values) → (ℕ → Bool) → Image → Type 0
+SaysByTables t u s next last n vals spent c =
+    SaysBy s n vals spent (replayed (sectors_sliced t) (sliced t c))
+    ⊎ (SaysBy s n vals spent (replayed (sectors_sliced u) (sliced u c)) ⊎ SaysBetween next last n vals spent (replayed (sectors_sliced u) (sliced u c)))
+
+-- Array n, which was told, where the new disk is told and a drive is left that the pool had: it is told after the call, with the values
+-- that it had, and at each moment contents say these.
+pub record KeepsTold (t u : Slices) (place units : ℕ) (plan : Plan) (v w : Raid) (a b : Seen) (n : ℕ) : Type 0 where
+  pub told : IsTold w (slices_of u b) n
+  pub keeps : (y : ℕ) → live_of w n y → Keeps (held_in v (slices_of t a) n y) (held_in w (slices_of u b) n y)
+  pub leaves :
+      a.traced
+      → is_over w n ≡ false
+      → Leaves a b (SaysByTables t u v.state (enlisted place units plan v.state) w.state n (held_in v (slices_of t a) n) (spent_of w n))
+
+-- a sector of the new disk's tables, its state or its gate, or one of a slice
+abbrev pub IsWrittenBy : Slices → (disk sectors : ℕ) → ℕ → ℕ → List ℕ → Type 0
+IsWrittenBy u disk sectors d s v = IsOfDrive disk sectors d s v ⊎ IsSliced u d s v
+
+-- The drive is one of the pool: `t` and `u` are the tables before and after, `a` and `b` the drives, and `arrays` the arrays before.
+pub record Enlists (t u : Slices) (arrays : List View) (place disk units : ℕ) (plan : Plan) (v w : Raid) (a b : Seen) : Type 0 where
+  pub is : IsEnlisted place units plan (joins arrays place (a.sectors disk)) v w (slices_of u a) (slices_of u b)
+  pub only : WritesOnly a b (IsWrittenBy u disk (a.sectors disk))
+  -- the disk has its table, durably
+  pub copies :
+      ((s : ℕ) → IsOfTable (a.sectors disk) s → IsLive a b disk s) → (copy : TableCopy)
+      → HoldsCopy copy (drive_table (next_drive v.state).0 arrays place (a.sectors disk) (length arrays)) (now_on b disk)
+  pub durable : (s : ℕ) → IsOfTable (a.sectors disk) s → IsLive a b disk s → IsSingle (b.held disk s)
+  pub told :
+      (n : ℕ) → n < v.state.made → IsTold v (slices_of t a) n → a.told disk → has_other w.state place ≡ true
+      → KeepsTold t u place units plan v w a b n
+
+-- ---- refusals
+
+-- the new disk refused a call, and nothing else has changed than its tables, its state's sector and its gate
+pub record IsRefused (disk : ℕ) (a b : Seen) : Type 0 where
+  pub only : WritesOnly a b (IsOfDrive disk (a.sectors disk))
+  pub gone : Rose (a.faults disk) (b.faults disk)
+
+-- Another drive than the new one was found gone and is marked: the drive isn't taken in. But for the marks all is as before.
+pub record IsNotWhole (t : Slices) (disk : ℕ) (v w : Raid) (a b : Seen) : Type 0 where
+  pub only : WritesOnly a b (IsWrittenBy t disk (a.sectors disk))
+  pub mends : Mends v w (slices_of t a) (slices_of t b)
+  pub raises : RaisesBy 18 v w
+  pub lost : (p : ℕ) × (is_current v.state p ≡ true) × (is_current w.state p ≡ false) × HasFault (slices_of t a) (slices_of t b) p
+
+-- ---- the parts of the call
+
+-- All arrays are settled, and nobody went: the log is as it was, and no array is marked.
+pub record SettlesWhole (v w : Raid) (a b : Seen) : Type 0 where
+  pub moves : Moves v w a b
+  pub reads : OnlyReads a b
+  pub same : w.state ≡ v.state
+  pub number : w.number ≡ v.number
+  pub raised : (n : ℕ) → n < v.state.made → (w.arrays n).truth.events ≤ (v.arrays n).truth.events + 1
+  pub heeded : IsHeeded w
+  pub unmarked : (n : ℕ) → n < v.state.made → (w.arrays n).marked ≡ false
+  pub settled :
+      (n : ℕ) (vals : ℕ → Values) (spent : ℕ → Bool) → n < v.state.made → n < v.state.joined → is_over w n ≡ false → Covers (w.arrays n) spent
+      → IsAmid v a n vals spent → IsSettled (shape_of (w.arrays n)) n b.held
+
+-- a drive was found gone, and is marked
+abbrev pub HasLost : Raid → Raid → Seen → Seen → Type 0
+HasLost v w a b = (p : ℕ) × (is_current v.state p ≡ true) × (is_current w.state p ≡ false) × HasFault a b p
+
+-- the array of a number, with the member of a place renewed where it is to be
+abbrev pub renewed_at : ℕ → Id → (ℕ → Bool) → ℕ → Option View → Option View
+renewed_at place drive joining n o = option_map (λ u. if joining n then renewed place drive u else u) o
+
+-- A rack of slices has those of a place's new disk: the log slice, and the slices of its members.
+pub record HasNewSlices (arrays : List View) (place sectors : ℕ) (x : Seen) : Type 0 where
+  pub log : x.sectors (log_slice place) ≡ log_sectors
+  pub members : (n : ℕ) → n < 16 → x.sectors (member_slice place n) ≡ (if joins arrays place sectors n then length_in arrays n else 0)
+
+-- the log slice of a new drive: it says no state, and its gate is the first one
+pub record IsNewLog (place : ℕ) (x : Seen) : Type 0 where
+  pub live : (t : ℕ) → t < x.sectors (log_slice place) → IsLive x x (log_slice place) t
+  pub state : (v : List ℕ) → MayLeave (x.held (log_slice place) 0) v → v ≡ no_state
+  pub gate : (v : List ℕ) → MayLeave (x.held (log_slice place) gate_sector) v → v ≡ first_gate
+
+-- Array n, over slices that the new drive has already: at each moment contents say it by the state before or by one that has the drive,
+-- with its values, and it stands after the commit.
+pub record JoinsPart (place units : ℕ) (plan : Plan) (v w : Raid) (a b : Seen) (n : ℕ) (vals : ℕ → Values) (spent : ℕ → Bool) : Type 0 where
+  pub leaves :
+      a.traced
+      → Leaves a b (λ c. IsInside a.sectors c
+      → SaysBy v.state n vals spent (replayed a.sectors c) ⊎ SaysBetween (enlisted place units plan v.state) w.state n vals spent (replayed a.sectors c))
+  pub holds : IsAmid w b n vals spent
+
+-- all arrays that stand and are settled, where a drive is left that the pool had
+abbrev pub JoinsEach : (place units : ℕ) → Plan → Raid → Raid → Seen → Seen → Type 0
+JoinsEach place units plan v w a b =
+    IsNewLog place a → has_other w.state place ≡ true
+    → (n : ℕ) (vals : ℕ → Values) (spent : ℕ → Bool) → n < v.state.joined → n < v.state.made → is_over w n ≡ false → Covers (w.arrays n) spent
+    → IsAmid v a n vals spent → IsSettled (shape_of (v.arrays n)) n a.held → JoinsPart place units plan v w a b n vals spent
