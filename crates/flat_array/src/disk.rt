@@ -117,6 +117,7 @@ impl FlatDisk {
             Ok(Command::Flush) => put_line(b"ok", out),
             Ok(Command::Size) => put_size(alloc, self.size(), out),
             Ok(Command::Lose { .. }) => put_refused(b"no-such-drive", out),
+            Ok(Command::Replace { .. }) => put_refused(b"no-such-drive", out),
             // It has no works of maintenance.
             Ok(Command::Step { .. }) => put_line(b"left 0", out),
             Ok(Command::Status) => put_standing(alloc, self.size(), out),

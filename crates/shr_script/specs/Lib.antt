@@ -5,5 +5,6 @@ pub mod Words
 pub mod Reading
 pub mod Pieces
 pub mod LongLines
+pub mod Names
 pub mod Reply
 pub mod Trimming

@@ -1,14 +1,15 @@
 -- The lines of a script: words parted by one space.
-use Rattle.std.specs.Prelude.{ℕ, ◌-◌, ◌^◌, ◌==◌, ◌&&◌, ◌||◌, nat_le, nat_lt, Bool, if◌then◌else◌, List, [], ◌∷◌, ◌++◌, length, replicate, codes, Option, Some, None, Result, Ok, Err}
+use Rattle.std.specs.Prelude.{ℕ, ◌-◌, ◌^◌, ◌==◌, ◌&&◌, nat_le, nat_lt, Bool, if◌then◌else◌, List, [], ◌∷◌, ◌++◌, length, replicate, codes, Option, Some, None, Result, Ok, Err}
 use Rattle.std.specs.Char.{is_ascii_digit}
 use Rattle.std.specs.List.{slice_split, list_all}
 use Rattle.std.specs.Str.{bytes_eq}
 use Rattle.std.specs.Str.Parse.{digits_value}
 use Rattle.hex.specs.Hex.{decode_of}
 use Rattle.shr_script.specs.declared.Command.{Command}
-use Rattle.shr_script.specs.declared.Command.TheVariants.{Read, Write, Fill, Flush, Size, Lose, Step, Status, Quit, Unbuilt}
+use Rattle.shr_script.specs.declared.Command.TheVariants.{Read, Write, Fill, Flush, Size, Lose, Replace, Step, Status, Quit, Unbuilt}
 use Rattle.shr_script.specs.declared.LineFault.{LineFault}
 use Rattle.shr_script.specs.declared.LineFault.TheVariants.{Syntax}
+use Rattle.shr_script.specs.Names.{name_of}
 
 -- what a line says: a command, or why it is none
 abbrev pub Line : Type 0
@@ -97,6 +98,18 @@ abbrev pub lose_of : Option ℕ → Line
 lose_of (Some place) = Ok (Lose place)
 lose_of None = wrong
 
+-- `replace D NAME`
+abbrev pub replace_of : Option ℕ → Option (List ℕ) → Line
+replace_of (Some place) (Some name) = Ok (Replace place name)
+replace_of (Some place) None = wrong
+replace_of None name = wrong
+
+abbrev pub replace_words : List (List ℕ) → Line
+replace_words [] = wrong
+replace_words (place ∷ []) = wrong
+replace_words (place ∷ name ∷ []) = replace_of (number_of place) (name_of name)
+replace_words (place ∷ name ∷ more ∷ words) = wrong
+
 -- `step N`
 abbrev pub step_of : Option ℕ → Line
 step_of (Some count) = Ok (Step count)
@@ -107,9 +120,9 @@ abbrev pub alone : Command → List (List ℕ) → Line
 alone command [] = Ok command
 alone command (more ∷ words) = wrong
 
--- the first words of lines that aren't built yet
+-- the first word of lines that aren't built yet
 abbrev pub is_unbuilt : List ℕ → Bool
-is_unbuilt word = bytes_eq word (codes "add") || bytes_eq word (codes "replace")
+is_unbuilt word = bytes_eq word (codes "add")
 
 -- what a line of at most 1100 bytes says, by its first word
 abbrev pub built_of : List ℕ → List (List ℕ) → Line
@@ -126,6 +139,8 @@ built_of first words =
     then alone Size words
     else if bytes_eq first (codes "lose")
     then lose_of (only_number words)
+    else if bytes_eq first (codes "replace")
+    then replace_words words
     else if bytes_eq first (codes "step")
     then step_of (only_number words)
     else if bytes_eq first (codes "status")

@@ -68,12 +68,9 @@ bytes_eq-take (suc n) (b ∷ word) [] short = refl
 bytes_eq-take (suc n) (b ∷ word) (c ∷ text) short =
     ap (λ q. (b == c) && q) (bytes_eq-take n word text (omega arith))
 
--- eight bytes tell a word that isn't built yet
-is_unbuilt-take : (word : List ℕ) → is_unbuilt word ≡ is_unbuilt (take 8 word)
-is_unbuilt-take word =
-    let add = bytes_eq-take 8 word (codes "add") (lit< tt) in
-    let replace = bytes_eq-take 8 word (codes "replace") (lit< tt) in
-    cc
+-- four bytes tell a word that isn't built yet
+is_unbuilt-take : (word : List ℕ) → is_unbuilt word ≡ is_unbuilt (take 4 word)
+is_unbuilt-take word = bytes_eq-take 4 word (codes "add") (lit< tt)
 
 -- what a line says that is too long
 long_line : Bool → Line
@@ -120,7 +117,7 @@ line_of-alike :
 line_of-alike front xs ys long =
     let left = line_of-long (front ++ xs) (simp length-append (omega arith)) in
     let right = line_of-long (front ++ ys) (simp length-append (omega arith)) in
-    let words = take-first_word 8 front xs ys (omega arith) in
+    let words = take-first_word 4 front xs ys (omega arith) in
     let same : is_unbuilt (first_word (front ++ xs)) ≡ is_unbuilt (first_word (front ++ ys)) =
     is_unbuilt-take (first_word (front ++ xs))
     ∙ (ap is_unbuilt words ∙ sym (is_unbuilt-take (first_word (front ++ ys)))) in

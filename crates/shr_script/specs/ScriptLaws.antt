@@ -5,7 +5,7 @@ use Rattle.std.proofs.lemmas.Bool.Decides.{nat_tests}
 use Rattle.std.proofs.lemmas.List.{take_all}
 use Rattle.shr_script.specs.Trimming.{take-last}
 use Rattle.std.specs.List.{All, slice_split, filter_map, cons_option}
-use Rattle.shr_script.specs.declared.Command.TheVariants.{Read, Write, Fill, Flush, Size, Lose, Step, Status, Quit, Unbuilt}
+use Rattle.shr_script.specs.declared.Command.TheVariants.{Read, Write, Fill, Flush, Size, Lose, Replace, Step, Status, Quit, Unbuilt}
 use Rattle.shr_script.specs.Line.{Line, line_of}
 use Rattle.shr_script.specs.Script.{is_line_feed, without_return, lines_of, ended_lines_of, until_quit, script_of, cut_script_of}
 
@@ -18,6 +18,7 @@ prepend (Some (Ok (Fill sector count byte))) lines = Ok (Fill sector count byte)
 prepend (Some (Ok Flush)) lines = Ok Flush ∷ lines
 prepend (Some (Ok Size)) lines = Ok Size ∷ lines
 prepend (Some (Ok (Lose place))) lines = Ok (Lose place) ∷ lines
+prepend (Some (Ok (Replace place name))) lines = Ok (Replace place name) ∷ lines
 prepend (Some (Ok (Step count))) lines = Ok (Step count) ∷ lines
 prepend (Some (Ok Status)) lines = Ok Status ∷ lines
 prepend (Some (Ok Quit)) lines = []
@@ -34,6 +35,7 @@ until_quit-cons (Some (Ok (Fill sector count byte))) lines = refl
 until_quit-cons (Some (Ok Flush)) lines = refl
 until_quit-cons (Some (Ok Size)) lines = refl
 until_quit-cons (Some (Ok (Lose place))) lines = refl
+until_quit-cons (Some (Ok (Replace place name))) lines = refl
 until_quit-cons (Some (Ok (Step count))) lines = refl
 until_quit-cons (Some (Ok Status)) lines = refl
 until_quit-cons (Some (Ok Quit)) lines = refl

@@ -12,10 +12,12 @@
 #![tactic(auto)]
 
 mod line;
+mod name;
 mod reader;
 mod reply;
 
 pub use line::{next_line, number_of, without_return};
+pub use name::{ImageName, NAME_ROOM};
 pub use reader::{Ended, LineReader, SCRIPT_LIMIT};
 pub use reply::{
     REPLY_ROOM, ReplyText, add, add_field, data_reply, left_reply, line_reply,
@@ -56,6 +58,13 @@ pub enum Command {
         /// The number of the place.
         place: u64,
     },
+    /// `replace D NAME`: an image takes the place of a drive.
+    Replace {
+        /// The number of the place.
+        place: u64,
+        /// The name of the image.
+        name: ImageName,
+    },
     /// `step N`: does so many works of maintenance, or as many as are left.
     Step {
         /// How many works.
@@ -74,6 +83,6 @@ pub enum Command {
 pub enum LineFault {
     /// It is none of the commands, or too long.
     Syntax,
-    /// There was no memory for a name in it. No line that is built has a name.
+    /// There was no memory for a name in it. No line that is built needs any: the command itself has the name.
     Memory,
 }

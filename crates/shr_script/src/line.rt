@@ -8,11 +8,11 @@ ghost use Rattle.std.specs.Str.Parse.{digits_value};
 ghost use Rattle.hex.specs.Hex.{decode_of};
 ghost use Rattle.std.specs.Option.{option_copied};
 ghost use Rattle.std.specs.Result.{result_transpose};
-ghost use Rattle.shr_script.specs.Line.{is_space, is_unbuilt as is_unbuilt_word, built_of, only_number as number_alone, read_of, lose_of, step_of, write_words, fill_words, fill_of, alone as stands_alone, words_line, line_of, number_of as number_in, sector_of as sector_in, byte_of as byte_in};
+ghost use Rattle.shr_script.specs.Line.{is_space, is_unbuilt as is_unbuilt_word, built_of, only_number as number_alone, read_of, lose_of, step_of, write_words, replace_words, fill_words, fill_of, alone as stands_alone, words_line, line_of, number_of as number_in, sector_of as sector_in, byte_of as byte_in};
 ghost use Rattle.shr_script.specs.Script.{without_return as line_without_return};
 ghost use Rattle.shr_script.specs.Words.{words_after};
 
-use crate::{Command, LineFault};
+use crate::{Command, ImageName, LineFault};
 
 /// The longest line that is read as a command, in bytes.
 pub const LONGEST: usize = 1100;
@@ -76,7 +76,7 @@ fn first_space(bytes: &[u8]) -> Option<usize>
 fn is_unbuilt(word: &[u8]) -> bool
     ensures { result ≡ is_unbuilt_word word.now }
 {
-    word == b"add".as_slice() || word == b"replace".as_slice()
+    word == b"add".as_slice()
 }
 
 // The command of a line that isn't too long, by its first word.
@@ -95,6 +95,8 @@ fn built_command(first: &[u8], rest: Option<&[u8]>) -> Result<Command, LineFault
         alone(Command::Size, rest)
     } else if first == b"lose".as_slice() {
         lose_command(only_number(rest))
+    } else if first == b"replace".as_slice() {
+        replace_command(rest)
     } else if first == b"step".as_slice() {
         step_command(only_number(rest))
     } else if first == b"status".as_slice() {
@@ -147,6 +149,26 @@ fn lose_command(place: Option<u64>) -> Result<Command, LineFault>
     match place {
         Some(place) => Ok(Command::Lose { place }),
         None => Err(LineFault::Syntax),
+    }
+}
+
+// `replace D NAME`
+fn replace_command(rest: Option<&[u8]>) -> Result<Command, LineFault>
+    ensures { result ≡ replace_words (words_after (option_copied rest.entry)) }
+{
+    let Some(words) = rest else {
+        return Err(LineFault::Syntax);
+    };
+    let (word, rest) = cut_word(words);
+    let Some(words) = rest else {
+        return Err(LineFault::Syntax);
+    };
+    let (name, more) = cut_word(words);
+    match (more, number_of(word), ImageName::of(name)) {
+        (Some(_), _, _) => Err(LineFault::Syntax),
+        (None, None, _) => Err(LineFault::Syntax),
+        (None, Some(_), None) => Err(LineFault::Syntax),
+        (None, Some(place), Some(name)) => Ok(Command::Replace { place, name }),
     }
 }
 
