@@ -28,7 +28,8 @@ use Rattle.pool_check.specs.Founded.{is_stale, is_stale_on}
 use Rattle.pool_check.specs.Layers.{AreOpened, IsOpened}
 use Rattle.raid_rack.specs.Agreeing.{SupersAgree}
 use Rattle.raid_rack.proofs.Founding.{position_named}
-use Rattle.assembler.specs.Holding.{AreSteady, IsPoolOn, IsSoundPool}
+use Rattle.pool_model.specs.Pools.{IsSoundPool}
+use Rattle.assembler.specs.Holding.{AreSteady, IsPoolOn}
 use Rattle.assembler.specs.Members.{AreMembers}
 use Rattle.assembler.proofs.Arrays.{seat_found}
 use Rattle.assembler.proofs.Shows.{few_place, got, now}

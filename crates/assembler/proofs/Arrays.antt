@@ -43,7 +43,8 @@ use Rattle.raid_rack.specs.Moves.{IsSeated}
 use Rattle.raid_rack.proofs.Founding.{position_named}
 use Rattle.raid_rack.proofs.Seated.{array_with, gone_lost, place_few}
 use Rattle.assembler.specs.Members.{AreMembers}
-use Rattle.assembler.specs.Holding.{AreSteady, IsPoolOn, IsSoundPool}
+use Rattle.pool_model.specs.Pools.{IsSoundPool}
+use Rattle.assembler.specs.Holding.{AreSteady, IsPoolOn}
 use Rattle.assembler.proofs.Roles.{named_position}
 use Rattle.assembler.proofs.Seating.{array_seated}
 use Rattle.assembler.proofs.Shows.{few_place, live, now, reads_member}
@@ -193,6 +194,15 @@ module _ (f : Found) (t : Slices) (x : Seen) (checked : Checked) (absent : List 
       (get_map (restart tr.size) u.seats k ∙ ap (option_map (restart tr.size)) (found ∙ ap (λ (o : Option Super). Some (option_map_or seat_by o Missing)) (of.are_found p)))
       ∙ ap Some (seat_same tr.size (names absent p) (super_at f n p) (absent_none p) (rows p))
       ∙ sym (found ∙ ap (λ (o : Option Super). Some (option_map_or seat_by o Missing)) (of.are_found p))
+
+  -- a member is as its own superblock says
+  pub seats_read : (k : ℕ) → k < tr.raid_disks
+      → slice_get (gone absent (restarted v)).seats k ≡ Some (option_map_or seat_by (super_at f n (place_by tr k)) Missing)
+  seats_read k low =
+      ap (λ (z : View). slice_get (gone absent (restarted z)).seats k) of.view
+      ∙ seats_now k low
+      ∙ seat_found n (not (nat_lt n f.state.joined)) of.found tr k low
+      ∙ ap (λ (o : Option Super). Some (option_map_or seat_by o Missing)) (of.are_found (place_by tr k))
 
   pub shape_is : shape_of w ≡ shape_by f.state e n tr
   shape_is =

@@ -4,7 +4,7 @@ use Rattle.std.specs.Option.{option_and_then}
 use Rattle.std.proofs.lemmas.Bool.{both_ways, cases_Bool, cases_lt}
 use Rattle.std.proofs.lemmas.Option.{none-some, slice_get_cases}
 use Rattle.rack.specs.Seen.{Seen, Rose, Stays}
-use Rattle.rack.specs.Joins.{rose_early, rose_later}
+use Rattle.rack.specs.Joins.{rose_early, rose_later, stays_then}
 use Rattle.rack.specs.Sequences.{OnlyReads}
 use Rattle.pool_state.specs.declared.contents.State.{State}
 use Rattle.pool_state.specs.Valid.{is_valid}
@@ -26,6 +26,7 @@ use Rattle.raid_rack.specs.Moves.{LosesOnly}
 use Rattle.raid_rack.proofs.Noted.{current_few}
 use Rattle.assembler.specs.declared.refusal.Refusal.{Refusal}
 use Rattle.assembler.specs.Causes.{RefusesDrives}
+use Rattle.assembler.specs.Marking.{AreMarkedFor}
 use Rattle.assembler.specs.Refusing.{FailsCheck, seats_left}
 
 -- a disk that is left is that of a current place that hasn't gone
@@ -104,9 +105,21 @@ refuses_drives a x y known s gone bad why valid first reads cause unread newest 
   only = reads;
   seats = fails.seats;
   loses = loses_since a x y known s gone fails.seats first reads.stays fails.loses valid cause;
+  counts = fails.counts;
   read = read_left a x y known s gone fails.seats first reads.stays fails.loses newest unread;
   first = fails.exact;
 }
+
+-- who was marked since the drives' check had no disk or refused a call since the opening began
+pub marked_since : (a x y z : Seen) (first : Stays a x) (second : Stays x y) (third : Stays y z) (before now : Seats) (s t : State)
+    → Loses a y before now → AreMarkedFor y z now s t → AreMarkedFor a z before s t
+marked_since a x y z first second third before now s t loses marks p current off = elim (loses p) [
+  | inr lost ↦ inr (lost.1.0, lost.1.1, rose_early a y z lost.1.0 third lost.1.2)
+  | inl same ↦ elim (marks p current off) [
+    | inl none ↦ inl (sym same ∙ none)
+    | inr goes ↦ inr (goes.0, sym same ∙ goes.1, rose_later a y z goes.0 (stays_then first second) goes.2)
+  ]
+]
 
 -- an array of a rack is the one that was opened, whomever it has lost
 pub made_array : (places : List ℕ) (u v w : View) → v ≡ without places (restarted u) → LosesOnly v w → IsSameArray u w

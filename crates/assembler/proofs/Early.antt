@@ -26,7 +26,8 @@ use Rattle.pool_check.specs.Checking.{IsChecked}
 use Rattle.pool_check.specs.Refusing.{is_well}
 use Rattle.assembler.specs.Holding.{HoldPool}
 use Rattle.assembler.specs.Members.{AreMembers}
-use Rattle.assembler.specs.Sound.{AreSlicesOf, HoldSound, MayStop}
+use Rattle.pool_model.specs.Pools.{AreSlicesOf}
+use Rattle.assembler.specs.Sound.{HoldSound, MayStop}
 use Rattle.assembler.proofs.Apart.{apart_ruled, apart_same, have_slices}
 use Rattle.assembler.proofs.Before.{stood_state}
 use Rattle.assembler.proofs.Entry.{IsRested, f, pool_same, rest_found}

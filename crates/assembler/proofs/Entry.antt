@@ -23,7 +23,8 @@ use Rattle.pool_rest.specs.Resting as resting
 use Rattle.pool_rest.specs.Resting.{StandsNow}
 use Rattle.pool_rest.specs.SoundLogs.{HasSoundLogs, IsSettled}
 use Rattle.pool_rest.specs.Standing.{FindsAll, IsLasting, IsNewest, since}
-use Rattle.assembler.specs.Holding.{IsFoundOn, IsSoundPool}
+use Rattle.pool_model.specs.Pools.{IsSoundPool}
+use Rattle.assembler.specs.Holding.{IsFoundOn}
 use Rattle.assembler.specs.Sound.{HoldSound}
 use Rattle.assembler.specs.Volume.{IsVolumeOf}
 use Rattle.assembler.proofs.Finding.{some_same}

@@ -94,6 +94,7 @@ module _ (x : Seen) (known : List Known) (s : State) (t : Slices) (on : List ℕ
       pool = subst (λ (k : Found). IsPoolOn s t x k) (same f is) (record {
         state = refl;
         seats = seats_same;
+        chosen = λ p. refl;
         disks = refl;
         contents = λ p d u seat inside. refl;
         identities = λ p d seat. refl;

@@ -23,11 +23,15 @@ use Rattle.commit_log.specs.Opening.{Finds, ReplayCall}
 use Rattle.array_model.specs.View.{View, IsArray, has_gone, shape_of, sectors_of as array_sectors_of}
 use Rattle.array_model.specs.Opened.{OpensOn}
 use Rattle.array_model.proofs.Keeping.{live_on}
+use Rattle.std.specs.Option.{option_map_or}
+use Rattle.array_model.specs.declared.Seat.TheVariants.{Missing}
+use Rattle.array_core.specs.Opening.{seat_by}
 use Rattle.array_core.specs.Seats.{gone, names, restarted}
+use Rattle.array_core.specs.Slots.{place_by}
 use Rattle.pool_scan.proofs.Valid.{valid_arrays}
 use Rattle.array_image.specs.Arrays.{array_in, replayed, value_by}
 use Rattle.pool_image.specs.Drives.{Found, slices_of}
-use Rattle.pool_image.specs.Meaning.{truth_of}
+use Rattle.pool_image.specs.Meaning.{super_at, truth_of}
 use Rattle.pool_check.specs.declared.Checked.{Checked}
 use Rattle.pool_check.specs.Checking.{IsChecked}
 use Rattle.pool_check.specs.Refusing.{is_well}
@@ -44,10 +48,11 @@ use Rattle.raid_rack.proofs.Noted.{gone_not, gone_some}
 use Rattle.raid_rack.proofs.Opening.{IsAtRest, opened_raid, opens_raid}
 use Rattle.raid_rack.proofs.Seated.{names_joined}
 use Rattle.assembler.specs.Members.{AreMembers}
-use Rattle.assembler.specs.Holding.{AreSteady, HoldPool, HoldsArrays, IsArrayOf, IsIdle, IsPoolOn, IsSoundPool, pool_values}
+use Rattle.pool_model.specs.Pools.{IsSoundPool}
+use Rattle.assembler.specs.Holding.{AreSteady, HoldPool, HoldsArrays, IsArrayOf, IsIdle, IsPoolOn, pool_values}
 use Rattle.assembler.proofs.Amid.{closing_leaves, says_only}
 use Rattle.assembler.proofs.Founded.{array_founded}
-use Rattle.assembler.proofs.Arrays.{array_room, array_whole, array_read, array_values, opens_array, sectors_are}
+use Rattle.assembler.proofs.Arrays.{array_room, array_whole, array_read, array_values, opens_array, seats_read, sectors_are}
 use Rattle.assembler.proofs.Rest.{copies_agree, log_there, opened_now}
 use Rattle.assembler.proofs.Agreeing.{fresh_agrees, left_reads}
 use Rattle.assembler.proofs.Shows.{few_made, few_place, got, live as live_at, none_past}
@@ -264,7 +269,7 @@ module _ (f : Found) (t : Slices) (x : Seen) (checked : Checked) (absent : List 
       → Leaves (slices_seen t x) b (λ c. IsInside (sectors_of t) c → SaysBetween f.state w n (pool_values f n) spent (replayed (sectors_of t) c)))
       → (w : Raid) (c : Seen) → IsAfter f.state w.state → ((n : ℕ) → array_sectors_of (w.arrays n) ≡ array_sectors_of (arrays n))
       → OpenedRaid v w b c → ((n : ℕ) → n < f.state.joined → is_over w n ≡ false → (r : Image) → IsLeft c r → SupersAgree w.state r n)
-      → ((n : ℕ) (z : Super) → n < f.state.joined → truth_of f n ≡ Some z → IsArrayOf z (w.arrays n))
+      → ((n : ℕ) (z : Super) → n < f.state.joined → truth_of f n ≡ Some z → IsArrayOf f n z (w.arrays n))
       → HoldsArrays f w (slices_seen t x) c
   holds_marked b opens stays kept closing w c after sizes marks agree founds = record {
     after = after;
@@ -330,12 +335,19 @@ module _ (f : Found) (s : State) (t : Slices) (x : Seen) (checked : Checked) (ab
   ready : before.state.joined ≤ before.state.made
   ready = (valid_arrays f.state 0 m.valid).3
 
-  founds : (w : Raid) → KeepsArrays v w → (n : ℕ) (z : Super) → n < f.state.joined → truth_of f n ≡ Some z → IsArrayOf z (w.arrays n)
-  founds w keeps n z less truth =
+  founds : gone_now ≡ absent → (w : Raid) → KeepsArrays v w → (n : ℕ) (z : Super) → n < f.state.joined → truth_of f n ≡ Some z → IsArrayOf f n z (w.arrays n)
+  founds nobody w keeps n z less truth =
       let made : n < f.state.made = (let least = ready in omega (arith, least, less)) in
       let at = got checked.arrays.items n (let count = m.founded.count in omega (arith, made, count)) in
       array_founded f n z at.0 (v.arrays n) (w.arrays n) gone_now (found.opened.each n at.0 at.1) less truth (are n at.0 at.1)
       (keeps n (subst (λ (k : State). n < k.made) (sym (state ∙ same)) made))
+      (subst (λ (tr : Super). (k : ℕ) → k < tr.raid_disks → slice_get (v.arrays n).seats k ≡ Some (option_map_or seat_by (super_at f n (place_by tr k)) Missing))
+      (some_truth (found.opened.each n at.0 at.1).truth z (sym (found.opened.each n at.0 at.1).truth_is ∙ truth))
+      (λ k low. ap (λ (w : View). slice_get w.seats k) (are n at.0 at.1 ∙ ap (λ ps. gone ps (restarted at.0)) nobody)
+      ∙ seats_read f t x checked absent orderly m holds.steady pool found.opened rules holds.sound n less made at.0 at.1 k low))
+    where
+      some_truth : (a b : Super) → Some a ≡ Some b → a ≡ b
+      some_truth a b same = cc
 
   -- where a place is absent
   pub rack_still : gone_now ≡ absent → (w : Raid) (c : Seen) → Mends v w (slices_seen t x) c → MakesAgree v w (slices_seen t x) c → NoneFails (slices_seen t x) c
@@ -349,7 +361,7 @@ module _ (f : Found) (s : State) (t : Slices) (x : Seen) (checked : Checked) (ab
       (slices_seen t x) opens (stays_same (slices_seen t x) m.fit) (λ n place k low live. refl)
       (λ n less k spent after traced. leaves_same (slices_seen t x) (λ i. IsInside (sectors_of t) i → SaysBetween f.state k n (pool_values f n) spent (replayed (sectors_of t) i)))
       w c (subst (λ k. IsAfter k w.state) (state ∙ same) mends.moves.book) mends.moves.sectors marks
-      (marks.agree (subst (λ k. MakesAgree k w (slices_seen t x) c) before_is agree) quiet) (founds w mends.moves.arrays)
+      (marks.agree (subst (λ k. MakesAgree k w (slices_seen t x) c) before_is agree) quiet) (founds none w mends.moves.arrays)
 
   -- where none is, and none goes
   pub rack_closed : absent ≡ [] → gone_now ≡ [] → (b : Seen) → ReplayCall l (current_places s) gone_now (slices_seen t x) b
@@ -375,4 +387,4 @@ module _ (f : Found) (s : State) (t : Slices) (x : Seen) (checked : Checked) (ab
             agree_still f t x checked absent orderly m holds.steady pool found holds.sound rules v.arrays v.number now l number log none still.2 b opens replay.stays kept w c
             still.0 (still.1 ∙ state ∙ same) mends.heeded marks
       ])
-      (founds w mends.moves.arrays)
+      (founds (nobody ∙ sym none) w mends.moves.arrays)

@@ -117,6 +117,7 @@ module _ (s : State) (t w : Slices) (x y : Seen) (orderly : IsOrderly t) (now_or
         pool = record {
           state = pool.state;
           seats = λ p. pool.seats p ∙ sym (seats p);
+          chosen = pool.chosen;
           disks = pool.disks ∙ disks_same;
           contents = λ p d u seat sector.
               let there = within d u sector in

@@ -27,7 +27,8 @@ use Rattle.raid_rack.specs.declared.arrays.RaidRack.{RaidRack}
 use Rattle.raid_rack.specs.Raid.{Raid}
 use Rattle.raid_rack.specs.RaidRack.{raid_in, raid_seen, slices_in, slices_seen as slices_shown}
 use Rattle.assembler.specs.Members.{AreMembers}
-use Rattle.assembler.specs.Holding.{AreSteady, HoldsArrays, IsIdle, IsPoolOn, IsSoundPool}
+use Rattle.pool_model.specs.Pools.{IsSoundPool}
+use Rattle.assembler.specs.Holding.{AreSteady, HoldsArrays, IsIdle, IsPoolOn}
 use Rattle.assembler.specs.Moments.{GivesPool, HoldsAt}
 use Rattle.assembler.specs.Volume.{AllLive, IsVolumeOf, OpensVolume}
 use Rattle.assembler.proofs.Volumes.{opened_writes}

@@ -1,3 +1,4 @@
+pub mod Again
 mod Agreed
 mod Agreeing
 mod Amid
@@ -27,10 +28,13 @@ mod Rest
 mod Roles
 mod Running
 mod Seating
+mod Served
+mod Shapes
 mod Shows
 mod Sizes
 mod Still
 mod Tables
+mod Elsewhere
 mod Truthful
 mod Unseated
 mod Volumes

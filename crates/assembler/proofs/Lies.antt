@@ -23,7 +23,7 @@ use Rattle.pool_check.proofs.Shown.{member_lies}
 use Rattle.lvm_group.specs.Runs.{Linear}
 use Rattle.assembler.specs.Holding.{AreSteady, IsPoolOn}
 use Rattle.assembler.specs.Members.{AreMembers}
-use Rattle.assembler.specs.Sound.{AreSlicesOf, extent_in}
+use Rattle.pool_model.specs.Pools.{AreSlicesOf, extent_in}
 use Rattle.assembler.specs.Volume.{IsVolumeOf}
 use Rattle.assembler.proofs.Shows.{few_made, few_place, members, no_slice, slots}
 

@@ -1,29 +1,70 @@
 -- What is known once the rack of a pool's arrays is made: gates were closed, tables were made to agree, and losses were marked.
-use Rattle.std.proofs.Common.{◌≡◌, ℕ, true, List, [], ◌∷◌, Some, refl, sym, ap, subst, ◌∙◌}
-use Rattle.std.proofs.lemmas.Bool.{both_ways}
+use Rattle.std.proofs.Common.{◌≡◌, ◌⊎◌, ℕ, Bool, true, false, not, is_none, unwrap_or, List, [], ◌∷◌, Option, Some, None, inl, inr, refl, sym, ap, subst, ◌∙◌}
+use Rattle.std.proofs.lemmas.Bool.{and_parts, both_ways, cases_Bool}
 use Rattle.rack.specs.Seen.{Rose, Seen, Stays}
+use Rattle.rack.specs.Joins.{rose_early, rose_later, stays_then}
 use Rattle.rack.specs.Sequences.{WritesOnly}
 use Rattle.slice_rack.specs.Runs.{IsSliced, Runs}
 use Rattle.slice_rack.specs.Sliced.{slices_of}
 use Rattle.slice_rack.specs.Slices.{Slices, IsOrderly, disk_of, seat_of}
 use Rattle.pool_state.specs.declared.contents.State.{State}
-use Rattle.array_image.specs.States.{current_places}
+use Rattle.array_image.specs.Places.{place_of}
+use Rattle.array_image.specs.States.{current_places, is_current}
+use Rattle.array_model.specs.View.{HasFault}
 use Rattle.commit_log.specs.Opening.{ReplayCall}
 use Rattle.commit_log.specs.View.{LogView, names}
+use Rattle.pool_image.specs.Disks.{Seats}
 use Rattle.pool_scan.specs.Scanning.{IsUnfaulted}
 use Rattle.pool_scan.proofs.Valid.{valid_places}
 use Rattle.pool_check.specs.declared.Checked.{Checked}
+use Rattle.pool_check.specs.Drives.{Goes}
 use Rattle.pool_check.specs.Settling.{IsSettled, KeepsTable}
+use Rattle.raid_rack.specs.Moves.{IsHeeded}
+use Rattle.raid_rack.specs.Raid.{Raid, gone_in}
+use Rattle.raid_rack.specs.Runs.{RaidRuns}
 use Rattle.raid_rack.proofs.Noted.{current_few}
+use Rattle.raid_rack.proofs.Whole.{heeded_left}
+use Rattle.assembler.specs.Marking.{AreMarkedFor}
 use Rattle.assembler.specs.Members.{AreMembers}
 use Rattle.assembler.specs.Mending.{MendsTables}
 use Rattle.assembler.proofs.Entry.{quiet_first, quiet_last}
 use Rattle.assembler.proofs.Holding.{nobody_went}
-use Rattle.assembler.proofs.Mended.{IsMended, absent_same, left_same, marking_so, mended_so, rack_keeps, rack_settled}
+use Rattle.assembler.proofs.Marks.{lost_so}
+use Rattle.assembler.proofs.Mended.{IsMended, absent_same, left_named, left_same, marking_so, mended_so, rack_keeps, rack_settled}
 
 pub by_list : {P : Type 0} (ps : List ℕ) → (ps ≡ [] → P) → ((ps ≡ [] → ⊥) → P) → P
 by_list [] none some = none refl
 by_list (p ∷ ps) none some = some (λ is. cc)
+
+-- a fault of a slice is one of its place's disk, if that has one
+pub fault_seat : (t : Slices) (a b : Seen) (p slice : ℕ) → place_of slice ≡ p → Rose (a.faults (disk_of t slice)) (b.faults (disk_of t slice))
+    → (seat_of t p ≡ None) ⊎ Goes a b (seat_of t) p
+fault_seat t a b p slice place rose = by (seat_of t p) refl
+  where
+    by : (o : Option ℕ) → seat_of t p ≡ o → (seat_of t p ≡ None) ⊎ Goes a b (seat_of t) p
+    by None none = inl none
+    by (Some disk) seat =
+        inr (disk, seat, subst (λ k. Rose (a.faults k) (b.faults k)) (ap (λ q. unwrap_or (seat_of t q) 0) place ∙ ap (λ o. unwrap_or o 0) seat) rose)
+
+-- whoever is marked in calls has refused one
+pub marked_calls : (p q : ℕ → Bool) (v w : Raid) (t u : Slices) (a b : Seen) → u ≡ t → RaidRuns p q v w (slices_of t a) (slices_of u b) → IsHeeded v
+    → AreMarkedFor a b (seat_of t) v.state w.state
+marked_calls p q v w t u a b same runs heeded place current off =
+    let fault = runs.caused.cause place (heeded_left v place heeded current) (lost_so (is_current w.state place) (not (gone_in w place)) off) in
+    fault_seat t a b place fault.0 fault.1 (subst (λ j. Rose (a.faults (disk_of t fault.0)) (b.faults (disk_of j fault.0))) same fault.2)
+
+-- marks in a row
+pub marked_then : (a b c : Seen) (seats : Seats) (s t u : State) → Stays a b → Stays b c → AreMarkedFor a b seats s t → AreMarkedFor b c seats t u → AreMarkedFor a c seats s u
+marked_then a b c seats s t u first second one two place current off = elim (cases_Bool (is_current t place)) [
+  | inl on ↦ elim (two place on off) [
+    | inl none ↦ inl none
+    | inr goes ↦ inr (goes.0, goes.1, rose_later a b c goes.0 first goes.2)
+  ]
+  | inr gone ↦ elim (one place current gone) [
+    | inl none ↦ inl none
+    | inr goes ↦ inr (goes.0, goes.1, rose_early a b c goes.0 second goes.2)
+  ]
+]
 
 -- no disk refused a call in any part of it
 pub record IsQuiet (y b d z : Seen) : Type 0 where
@@ -52,6 +93,54 @@ module _ (s : State) (t u w k : Slices) (y b d z : Seen) (went places : List ℕ
 
   pub marked : WritesOnly d z (IsSliced t)
   marked = marking_so s t y b d went places checked absent orderly m mended w k z two (tables ∙ closing.tables) marking
+
+  -- a place that was left out had no disk, or that refused a call
+  pub left_for : (p : ℕ) → names places p ≡ true → (seat_of t p ≡ None) ⊎ Goes y d (seat_of t) p
+  left_for p out =
+      let none = and_parts (is_none (mended.mends.left p)) (is_current s p) (sym (left_named s t y checked absent orderly m b d went places mended.mends p) ∙ out) in
+      elim (mended.mends.loses p) [
+        | inl same ↦ inl (sym same ∙ is_none_of (mended.mends.left p) none.0)
+        | inr lost ↦ elim lost.1 [
+          | inl gone ↦ elim (gone_for p gone) [
+            | inl absent ↦ inl absent
+            | inr goes ↦ inr (goes.0, goes.1, rose_early y b d goes.0 mended.mends.only.stays goes.2)
+          ]
+          | inr goes ↦ inr (goes.0, goes.1, rose_later y b d goes.0 mended.closing.stays goes.2)
+        ]
+      ]
+    where
+      is_none_of : (o : Option ℕ) → is_none o ≡ true → o ≡ None
+      is_none_of None is = refl
+      is_none_of (Some disk) is = absurd (both_ways false refl is)
+
+      -- nobody else went while gates were closed
+      gone_for : (p : ℕ) → names went p ≡ true → (seat_of t p ≡ None) ⊎ Goes y b (seat_of t) p
+      gone_for p gone = by_list absent
+          (λ none.
+          let cause = (replay none).gone.cause p gone in
+          fault_seat t y b p cause.0 cause.1
+          (subst (λ j. Rose (y.faults (disk_of t cause.0)) (b.faults (disk_of j cause.0))) closing.tables cause.2))
+          (λ some. inl (is_none_of (seat_of t p) (and_parts (is_none (seat_of t p)) (is_current s p) (sym (m.absent_is p) ∙ sym (ap (λ ps. names ps p) (still some)) ∙ gone)).0))
+
+  -- so had whoever is marked
+  pub marked_so : (v : State) → ((p : ℕ) → is_current s p ≡ true → is_current v p ≡ false → (names places p ≡ true) ⊎ HasFault (slices_of w d) (slices_of k z) p)
+      → AreMarkedFor y z (seat_of t) s v
+  marked_so v cause p current off = elim (cause p current off) [
+    | inl out ↦ elim (left_for p out) [
+      | inl none ↦ inl none
+      | inr goes ↦ inr (goes.0, goes.1, rose_early y d z goes.0 marked.stays goes.2)
+    ]
+    | inr fault ↦
+        elim (fault_seat t d z p fault.0 fault.1
+        (subst (λ j. Rose (d.faults (disk_of j fault.0)) (z.faults (disk_of j fault.0))) (tables ∙ closing.tables)
+        (subst (λ j. Rose (d.faults (disk_of w fault.0)) (z.faults (disk_of j fault.0))) marking.tables fault.2))) [
+          | inl none ↦ inl none
+          | inr goes ↦ inr (goes.0, goes.1, rose_later y d z goes.0 mended_before goes.2)
+        ]
+  ]
+    where
+      mended_before : Stays y d
+      mended_before = stays_then mended.closing.stays mended.mends.only.stays
 
   -- each drive has its table at every moment
   pub keeps : (p disk : ℕ) → seat_of t p ≡ Some disk → KeepsTable y z disk

@@ -1,8 +1,8 @@
 -- What the check of a pool at rest refuses is what the meaning of its disks refuses.
-use Rattle.std.proofs.Common.{◌≡◌, ℕ, ◌+◌, ◌<◌, ◌≤◌, Bool, true, false, ◌==◌, ◌&&◌, ◌||◌, not, bytes_eq, nat_lt, is_none, if◌then◌else◌, find, List, [], ◌∷◌, Option, Some, None, option_map, inl, inr, refl, sym, ap, ap₂, subst, ◌∙◌, eqb-true, lt-ltb, le-ltb, le-leb, ltb-true, arith}
+use Rattle.std.proofs.Common.{◌≡◌, ℕ, ◌+◌, ◌<◌, ◌≤◌, Bool, true, false, ◌==◌, ◌&&◌, ◌||◌, not, bytes_eq, nat_lt, is_none, if◌then◌else◌, List, [], Option, Some, None, option_map, inl, inr, refl, sym, ap, ap₂, subst, ◌∙◌, lt-ltb, le-ltb, le-leb, ltb-true, arith}
 use Rattle.std.specs.List.{list_all}
 use Rattle.std.specs.Option.{option_map_or, option_or}
-use Rattle.std.proofs.lemmas.Bool.{and_parts, both_ways, cases_Bool, cases_lt}
+use Rattle.std.proofs.lemmas.Bool.{and_parts, both_ways, cases_lt}
 use Rattle.std.proofs.lemmas.Option.{none-some}
 use Rattle.rack.specs.Seen.{Image, Seen}
 use Rattle.gpt_table.specs.declared.Table.{Table}
@@ -31,6 +31,7 @@ use Rattle.pool_check.specs.Checking.{IsChecked}
 use Rattle.pool_check.specs.Drives.{AreCopied, AreDrivesOf, found_with}
 use Rattle.pool_check.specs.Refusing.{is_well, refusal_by, refused_with}
 use Rattle.pool_check.proofs.Wells.{well_passes, well_refuses}
+use Rattle.pool_model.proofs.Undamaged.{find_false, or_left}
 use Rattle.raid_rack.proofs.Added.{names_current}
 use Rattle.raid_rack.proofs.Noted.{current_few}
 use Rattle.assembler.specs.declared.refusal.Refusal.{Refusal}
@@ -38,22 +39,6 @@ use Rattle.assembler.specs.Holding.{IsFoundOn, drives_of}
 use Rattle.assembler.specs.Refusing.{FailsCheck, meant_by, seats_left}
 use Rattle.assembler.proofs.Finding.{found_copied, found_drives, g, same}
 use Rattle.assembler.proofs.Refusals.{meant_check}
-
-find_false : (P : ℕ → Bool) (xs : List ℕ) (p : ℕ) → find P xs ≡ None → names xs p ≡ true → P p ≡ false
-find_false P [] p none named = absurd (both_ways false refl named)
-find_false P (q ∷ qs) p none named = of (P q) refl none named (λ none named. find_false P qs p none named)
-  where
-    of : (b : Bool) → P q ≡ b → (if b then Some q else find P qs) ≡ None → ((q == p) || names qs p) ≡ true
-        → (find P qs ≡ None → names qs p ≡ true → P p ≡ false) → P p ≡ false
-    of true is none named later = absurd (none-some q (sym none))
-    of false is none named later = elim (cases_Bool (q == p)) [
-      | inl here ↦ subst (λ k. P k ≡ false) (eqb-true q p here) is
-      | inr other ↦ later none (sym (ap (λ b. b || names qs p) other) ∙ named)
-    ]
-
-or_left : (a b : Bool) → (a || b) ≡ false → a ≡ false
-or_left true b is = absurd (both_ways true is refl)
-or_left false b is = refl
 
 -- a drive whose table says its log slice has all of it
 table_room : (f : Found) (place d : ℕ) → has_table f place d ≡ true → arrays_first ≤ f.disks.sectors d

@@ -81,7 +81,7 @@ outside n u room behind (inl early) (inr high) = omega (arith, room, early, high
 outside n u room behind (inr late) (inr high) = omega (arith, late, high)
 
 -- nor is another one that a replay writes
-drive_never : (a : Seen) (known : List Known) (s : State) (d : ℕ) → arrays_first + 32 < a.sectors d → (u : ℕ) (v : List ℕ) → IsOfCopies (a.sectors d) u
+pub drive_never : (a : Seen) (known : List Known) (s : State) (d : ℕ) → arrays_first + 32 < a.sectors d → (u : ℕ) (v : List ℕ) → IsOfCopies (a.sectors d) u
     → IsOfDrive a known s d u v → ⊥
 drive_never a known s d room u v of is = outside (a.sectors d) u room is.behind is.before (table_end (a.sectors d) u of)
 
@@ -135,8 +135,9 @@ module _ (s : State) (t : Slices) (a : Seen) (checked : Checked) (absent : List 
   -- ---- places that are left
 
   module _ (x y : Seen) (gone now : List ℕ) (mends : MendsTables x y s (seat_of t) gone now) where
-    named : (p : ℕ) → names now p ≡ (is_none (mends.left p) && is_current s p)
-    named p =
+    -- the places that are left out
+    pub left_named : (p : ℕ) → names now p ≡ (is_none (mends.left p) && is_current s p)
+    left_named p =
         ap (λ ps. names ps p) mends.listed
         ∙ any-filter_same (λ q. q == p) (λ q. is_none (mends.left q)) (is_none (mends.left p)) (λ q same. ap (λ r. is_none (mends.left r)) (eqb-true q p same)) (current_places s)
         ∙ ap (λ b. is_none (mends.left p) && b) (names_current s p)
@@ -147,7 +148,7 @@ module _ (s : State) (t : Slices) (a : Seen) (checked : Checked) (absent : List 
     -- whoever was absent is so still
     pub absent_still : (p : ℕ) → names absent p ≡ true → names now p ≡ true
     absent_still p is =
-        named p ∙ and_from (is_none (mends.left p)) (is_current s p)
+        left_named p ∙ and_from (is_none (mends.left p)) (is_current s p)
         (elim (mends.loses p) [ inl same ↦ ap is_none same ∙ (seat_none p is).0 | inr lost ↦ ap is_none lost.0 ])
         (seat_none p is).1
 

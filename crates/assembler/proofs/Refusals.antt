@@ -19,7 +19,7 @@ use Rattle.pool_check.specs.declared.CheckFault.{CheckFault}
 use Rattle.pool_check.specs.declared.CheckFault.TheVariants.{Absent, Damaged, TooFew, DirtyDegraded}
 use Rattle.pool_check.specs.declared.Part.TheVariants.{Log}
 use Rattle.pool_check.specs.Drives.{AreCopied, AreDrivesOf, Drives, Loses, found_with, seats_by}
-use Rattle.pool_check.specs.Refusing.{is_well, refusal_by, refused_with}
+use Rattle.pool_check.specs.Refusing.{CountsAbsent, absent_among, is_well, refusal_by, refused_with}
 use Rattle.assembler.specs.declared.refusal.Refusal.{Refusal}
 use Rattle.assembler.specs.declared.refusal.Refusal.TheVariants as refusal
 use Rattle.assembler.specs.Refusing.{FailsCheck, by_check, by_finding, is_early, meant_by, seats_left}
@@ -75,13 +75,14 @@ module _ (x y : Seen) (known : List Known) (s : State) (gone : List ℕ) (seats 
   pub fails_check : (bad : Option ℕ) (fault : CheckFault)
       → ((o : Drives) → AreDrivesOf x (seats_by now) o → AreCopied known (seats_by now) o
       → refused_with (is_well bad) None (found_with s (seats_by now) o) ≡ Some (refusal_by fault))
-      → FailsCheck x y known s gone bad (by_check fault)
-  fails_check bad fault exact =
+      → CountsAbsent (absent_among s (seats_by now)) fault → FailsCheck x y known s gone bad (by_check fault)
+  fails_check bad fault exact counts =
       record {
         fault = fault;
         said = refl;
         seats = seats_by now;
         loses = loses_left;
+        counts = counts;
         exact = λ o are copied. ap (λ r. option_or r (option_map (λ place. meaning.damaged place meaning.in_log) bad)) (exact o are copied);
       }
 
@@ -89,13 +90,14 @@ module _ (x y : Seen) (known : List Known) (s : State) (gone : List ℕ) (seats 
   pub fails_log : (bad : Option ℕ) (place : ℕ) → bad ≡ Some place
       → ((o : Drives) → AreDrivesOf x (seats_by now) o → AreCopied known (seats_by now) o
       → refused_with (is_well bad) None (found_with s (seats_by now) o) ≡ None)
-      → FailsCheck x y known s gone bad (refusal.Damaged place Log)
-  fails_log bad place is exact =
+      → absent_among s (seats_by now) ≤ 1 → FailsCheck x y known s gone bad (refusal.Damaged place Log)
+  fails_log bad place is exact few =
       record {
         fault = Damaged place Log;
         said = refl;
         seats = seats_by now;
         loses = loses_left;
+        counts = few;
         exact = λ o are copied.
             ap (λ r. option_or r (option_map (λ p. meaning.damaged p meaning.in_log) bad)) (exact o are copied)
             ∙ ap (option_map (λ p. meaning.damaged p meaning.in_log)) is;

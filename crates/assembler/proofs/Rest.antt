@@ -25,9 +25,11 @@ use Rattle.pool_image.specs.Drives.{Found}
 use Rattle.pool_check.specs.declared.Checked.{Checked}
 use Rattle.pool_check.specs.Checking.{IsChecked}
 use Rattle.pool_check.specs.Refusing.{is_well}
-use Rattle.commit_log.specs.Kept.{IsNoLater}
+use Rattle.commit_log.specs.Kept.{IsNoLater, id_of}
+use Rattle.pool_model.proofs.Named.{copy_names, seat_ahead}
 use Rattle.assembler.specs.Members.{AreMembers}
-use Rattle.assembler.specs.Holding.{AreSteady, IsIdle, IsPoolOn, IsSoundPool}
+use Rattle.pool_model.specs.Pools.{IsSoundPool}
+use Rattle.assembler.specs.Holding.{AreSteady, IsIdle, IsPoolOn}
 use Rattle.assembler.proofs.Copied.{has_copy}
 use Rattle.assembler.proofs.Shows.{few_place, live, now, reads_outside, slice_seat}
 
@@ -107,11 +109,15 @@ module _ (f : Found) (t : Slices) (x : Seen) (checked : Checked) (absent : List 
       sound.rules.copies d copy (subst (λ (disks : Disks). d < disks.count) (sym pool.disks) (m.fit.1.seats p d seat)) is
       (sound.rules.epochs p d copy (pool.seats p ∙ seat) is)
 
-  copy_seated : (p d : ℕ) → seat_of t p ≡ Some d → (k : ℕ) × (copy_in e p ≡ Some (record { state = f.state; own = k }))
+  copy_seated : (p d : ℕ) → seat_of t p ≡ Some d → (k : ℕ) × (copy_in e p ≡ Some (record { state = f.state; own = k })) × (id_of f.state k ≡ id_of f.state p)
   copy_seated p d seat =
       let copy = has_copy (is_well None) f found.sound p d (m.current p d seat) (pool.seats p ∙ seat) in
       let same = copy_same p d copy.0 seat copy.1 in
-      (copy.0.own, copy_read p d seat ∙ copy.1 ∙ ap (λ (s : State). Some (record { state = s; own = copy.0.own })) same)
+      let ahead = seat_ahead f.state f.disks f.identities p d (sym (pool.chosen p) ∙ pool.seats p ∙ seat) in (
+        copy.0.own,
+        copy_read p d seat ∙ copy.1 ∙ ap (λ (s : State). Some (record { state = s; own = copy.0.own })) same,
+        ap (λ (s : State). id_of s copy.0.own) (sym same) ∙ copy_names f.state (f.identities d) p copy.0 ahead.stands copy.1,
+      )
 
   -- a place without a disk has none
   copy_none : (p : ℕ) → seat_of t p ≡ None → copy_in e p ≡ None
@@ -146,7 +152,12 @@ module _ (f : Found) (t : Slices) (x : Seen) (checked : Checked) (absent : List 
   copies_agree gone here = record {
     own = λ p current left. let seat = seat_there p current (here p current left) in copy_seated p seat.0 seat.1;
     same = λ p copy few is epoch. copy_of p copy is;
+    earlier = λ p copy few former is. nobody p copy former is (seat_of t p) refl;
   }
+    where
+      nobody : (p : ℕ) (copy : Copied) → is_current f.state p ≡ false → copy_in e p ≡ Some copy → (o : Option ℕ) → seat_of t p ≡ o → copy.state.epoch < f.state.epoch
+      nobody p copy former is (Some d) seat = absurd (both_ways (is_current f.state p) former (m.current p d seat))
+      nobody p copy former is None seat = absurd (none-some copy (sym (copy_none p seat) ∙ is))
 
   -- ---- rest
 

@@ -69,8 +69,13 @@ module _ (s : State) (l : LogView) (on : List ℕ) (a : Seen) (opened : Opened s
     copies = record {
       own = λ p u current left may.
           let at = agree.own p current left in
-          (at.0, ap decoded (reads p u (few_places p current) (there p current left) may) ∙ ok_of (decoded (reading a (log_slice p) 0)) _ at.1);
+          record {
+            own = at.0;
+            copy = ap decoded (reads p u (few_places p current) (there p current left) may) ∙ ok_of (decoded (reading a (log_slice p) 0)) _ at.1;
+            drive = at.2;
+          };
       others = no_later;
+      earlier = λ p u copy small former inside may is. agree.earlier p copy small former (ap result_ok (ap decoded (sym (reads p u small inside may)) ∙ is));
     };
     numbers = λ p current within. can.numbers (reading a) now p (s, opened.rest.state, current) within;
     halves = λ c stand g is. can.number c (amid c stand) g is;

@@ -22,7 +22,7 @@ use Rattle.pool_rest.specs.Members.{Lies}
 use Rattle.pool_rest.specs.Moments.{AreOfDrives}
 use Rattle.assembler.specs.Holding.{IsFoundOn}
 use Rattle.assembler.specs.Members.{AreMembers}
-use Rattle.assembler.specs.Sound.{AreSlicesOf, extent_in}
+use Rattle.pool_model.specs.Pools.{AreSlicesOf, extent_in}
 use Rattle.assembler.proofs.Apart.{HaveSlices}
 use Rattle.assembler.proofs.Finding.{same}
 

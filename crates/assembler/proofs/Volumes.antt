@@ -1,31 +1,25 @@
 -- The volume that is opened on arrays which hold what a pool's drives mean is the volume of the meaning.
-use Rattle.std.proofs.Common.{◌≡◌, ◌⊎◌, ℕ, ◌+◌, ◌*◌, ◌<◌, ◌≤◌, Bool, true, false, ◌==◌, ◌&&◌, ◌||◌, not, nat_le, nat_lt, bytes_eq, if◌then◌else◌, List, [], map, Option, Some, None, refl, sym, ap, ap₂, inl, inr, subst, ◌∙◌, ltb-true, arith}
-use Rattle.std.specs.Option.{option_map_or}
-use Rattle.std.specs.List.{list_all}
+use Rattle.std.proofs.Common.{◌≡◌, ◌⊎◌, ℕ, ◌<◌, ◌≤◌, Bool, true, false, nat_lt, if◌then◌else◌, List, [], Some, refl, sym, ap, inl, inr, subst, ◌∙◌, arith}
 use Rattle.rack.specs.Values.{MayLeave}
-use Rattle.rack.specs.Seen.{Image, IsLive, Rose, Seen}
+use Rattle.rack.specs.Seen.{IsLive, Rose, Seen}
 use Rattle.rack.specs.Sequences.{OnlyReads, WritesOnly}
 use Rattle.rack.proofs.Writing.{only_quiet, only_then}
 use Rattle.slice_rack.specs.SliceRack.{below_of, tables}
 use Rattle.slice_rack.specs.Slices.{disk_of}
-use Rattle.lvm_text.specs.declared.group.Pv.{Pv}
-use Rattle.lvm_text.specs.declared.group.Group.{Group}
 use Rattle.lvm_group.specs.Brought.{IsBefore}
-use Rattle.lvm_group.specs.Group.{first_bad, has_own_label, names_array, group_in, has_own_head, is_bad, is_bad_by, is_only_lv, is_own_group, is_pv, is_pv_of, highest, differ}
-use Rattle.lvm_group.specs.Ids.{array_named, pv_id, text_id}
 use Rattle.lvm_group.specs.declared.volume.VolumeFault.{VolumeFault}
 use Rattle.lvm_group.specs.declared.volume.VolumeFault.TheVariants as fault
 use Rattle.lvm_group.specs.Opening.{AreNow, AreServed, IsBadVolume, IsUnopened, Opens, within_sectors}
-use Rattle.lvm_group.specs.Parts.{has_bad_text, part_of}
 use Rattle.lvm_group.specs.Laws.{array_below, sector_below, shows}
-use Rattle.lvm_group.specs.Runs.{IsOrderly, Linear, array_of, data_start, sector_of, sectors_in}
+use Rattle.lvm_group.specs.Runs.{IsOrderly, Linear, array_of, sector_of, sectors_in}
 use Rattle.lvm_group.specs.Shown.{IsInside, contents_of, volume_of}
 use Rattle.pool_image.specs.Drives.{Found}
 use Rattle.pool_image.specs.Meaning.{array_sectors, arrays_held, joined_arrays, volume_by}
 use Rattle.pool_image.specs.Volumes.{linear_of}
 use Rattle.pool_image.specs.Volumes as meant
 use Rattle.pool_scan.specs.Scanning.{IsUnfaulted}
-use Rattle.pool_image.proofs.Groups.{AreWholeArrays, bad_alike, find_below, group_alike, map_below}
+use Rattle.pool_image.proofs.Groups.{AreWholeArrays, bad_alike, group_alike}
+use Rattle.pool_image.proofs.Joined.{bad_same, group_same}
 use Rattle.pool_image.proofs.Parts.{held_in as shown_in}
 use Rattle.shr_base.specs.declared.Id.{Id}
 use Rattle.raid_rack.specs.declared.arrays.RaidRack.{RaidRack}
@@ -38,49 +32,7 @@ use Rattle.assembler.specs.declared.refusal.Refusal.{Refusal}
 use Rattle.assembler.specs.declared.refusal.Refusal.TheVariants.{BadVolume, Memory}
 use Rattle.assembler.specs.Holding.{HoldsArrays}
 use Rattle.assembler.specs.Refusing.{by_volume}
-use Rattle.assembler.specs.Volume.{AllLive, HasBadVolume, HoldsVolume, IsVolumeOf, OpensVolume}
-
--- ---- what is said of the joined arrays goes by these alone
-
-module _ (pool : List ℕ) (extent joined : ℕ) (f g : ℕ → ℕ) (same : (n : ℕ) → n < joined → f n ≡ g n) where
-  pv_same : (pv : Pv) (n : ℕ) → is_pv_of pool extent f joined pv n ≡ is_pv_of pool extent g joined pv n
-  pv_same pv n = of (nat_lt n joined) refl
-    where
-      of : (b : Bool) → nat_lt n joined ≡ b
-          → (b && (bytes_eq pv.id (text_id (pv_id pool n)) && ((pv.pe_start == data_start) && nat_le (data_start + pv.pe_count * extent) (f n))))
-          ≡ (b && (bytes_eq pv.id (text_id (pv_id pool n)) && ((pv.pe_start == data_start) && nat_le (data_start + pv.pe_count * extent) (g n))))
-      of false past = refl
-      of true low = ap (λ k. bytes_eq pv.id (text_id (pv_id pool n)) && ((pv.pe_start == data_start) && nat_le (data_start + pv.pe_count * extent) k)) (same n (ltb-true n joined low))
-
-  pvs_same : (pv : Pv) → is_pv pool extent f joined pv ≡ is_pv pool extent g joined pv
-  pvs_same pv = of (array_named pv.name)
-    where
-      of : (o : Option ℕ) → option_map_or (is_pv_of pool extent f joined pv) o false ≡ option_map_or (is_pv_of pool extent g joined pv) o false
-      of None = refl
-      of (Some n) = pv_same pv n
-
-  own_same : (group : Group) → is_own_group pool extent f joined group ≡ is_own_group pool extent g joined group
-  own_same group =
-      ap (λ (p : Pv → Bool). has_own_head pool extent group && (list_all p group.pvs && (differ group.pvs && is_only_lv pool group.pvs group.lvs)))
-      (λ i pv. pvs_same pv i)
-
-  group_same : (c e : Image) → ((n : ℕ) → n < joined → c n ≡ e n) → group_in c f joined ≡ group_in e g joined
-  group_same c e alike =
-      ap (λ parts. highest (map (λ part. part.group) parts))
-      (map_below (λ n. part_of (c n) (f n)) (λ n. part_of (e n) (g n)) 0 joined (λ n low.
-      let below : n < joined = omega (arith, low) in
-      ap₂ part_of (alike n below) (same n below)))
-
-  bad_same : (c e : Image) → ((n : ℕ) → n < joined → c n ≡ e n) → first_bad pool extent f joined c ≡ first_bad pool extent g joined e
-  unfolding first_bad
-  bad_same c e alike =
-      find_below (is_bad pool extent f joined c) (is_bad pool extent g joined e) 0 joined (λ n low.
-      let below : n < joined = omega (arith, low) in
-      ap₂ (λ o part. is_bad_by pool extent f joined o n part) (group_same c e alike) (ap₂ part_of (alike n below) (same n below))
-      ∙ ap (λ (own : Group → Bool).
-      has_bad_text (part_of (e n) (g n))
-      || ((option_map_or (λ h. names_array h n) (group_in e g joined) false && not (has_own_label pool n (part_of (e n) (g n))))
-      || ((n == 0) && not (option_map_or own (group_in e g joined) false)))) (λ i group. own_same group i))
+use Rattle.assembler.specs.Volume.{AreStill, IsShort, AllLive, HasBadVolume, HoldsVolume, IsVolumeOf, OpensVolume}
 
 -- ---- the volume of the meaning
 
@@ -234,15 +186,16 @@ pub unopened_cause : {R : Type 0} (seen : R → Seen) (x y : RaidRack R) (why : 
     → why ≡ (if is_used_up (raid_in y) then Memory else by_volume f)
     → IsUnopened (raid_in x).state.pool.0 (raid_in x).state.extent (raid_in x).state.joined (raid_seen seen x) (raid_seen seen y) f
     → OnlyReads (raid_seen seen x) (raid_seen seen y)
-    → (why ≡ Memory) ⊎ ((array : ℕ) × (why ≡ BadVolume array) × HasBadVolume seen x y array)
+    → ((why ≡ Memory) × IsShort seen x y) ⊎ ((array : ℕ) × (why ≡ BadVolume array) × HasBadVolume seen x y array)
 unopened_cause seen x y why f fit is unopened reads = by (is_used_up (raid_in y)) refl
   where
-    of : is_used_up (raid_in y) ≡ false → (k : VolumeFault) → why ≡ by_volume k
+    of : AreStill seen x y → (k : VolumeFault) → why ≡ by_volume k
         → IsUnopened (raid_in x).state.pool.0 (raid_in x).state.extent (raid_in x).state.joined (raid_seen seen x) (raid_seen seen y) k
-        → (why ≡ Memory) ⊎ ((array : ℕ) × (why ≡ BadVolume array) × HasBadVolume seen x y array)
-    of unused fault.Memory said cause = inl said
-    of unused (fault.BadVolume array) said cause = inr (array, said, record { reads = reads; bad = cause; fit = fit; unused = unused })
+        → ((why ≡ Memory) × IsShort seen x y) ⊎ ((array : ℕ) × (why ≡ BadVolume array) × HasBadVolume seen x y array)
+    of still fault.Memory said cause = inl (said, inl still)
+    of still (fault.BadVolume array) said cause = inr (array, said, record { still = still; bad = cause })
 
-    by : (b : Bool) → is_used_up (raid_in y) ≡ b → (why ≡ Memory) ⊎ ((array : ℕ) × (why ≡ BadVolume array) × HasBadVolume seen x y array)
-    by true used = inl (is ∙ ap (λ b. if b then Memory else by_volume f) used)
-    by false unused = of unused f (is ∙ ap (λ b. if b then Memory else by_volume f) unused) unopened
+    by : (b : Bool) → is_used_up (raid_in y) ≡ b → ((why ≡ Memory) × IsShort seen x y) ⊎ ((array : ℕ) × (why ≡ BadVolume array) × HasBadVolume seen x y array)
+    by true used = inl (is ∙ ap (λ b. if b then Memory else by_volume f) used, inr used)
+    by false unused =
+        of (record { reads = reads; fit = fit; unused = unused }) f (is ∙ ap (λ b. if b then Memory else by_volume f) unused) unopened

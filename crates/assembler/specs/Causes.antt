@@ -1,5 +1,5 @@
 -- Why no volume was opened, by what was read of the disks, whatever these tell and whoever goes.
-use Rattle.std.specs.Prelude.{◌≡◌, ◌⊎◌, ℕ, Bool, false, List, slice_get, Option, Some, None}
+use Rattle.std.specs.Prelude.{◌≡◌, ◌⊎◌, ℕ, ◌≤◌, Bool, true, false, List, slice_get, Option, Some, None}
 use Rattle.rack.specs.Seen.{Seen}
 use Rattle.rack.specs.Sequences.{OnlyReads}
 use Rattle.slice_rack.specs.Slices.{Slices, seat_of}
@@ -21,9 +21,9 @@ use Rattle.pool_check.specs.declared.CheckFault.{CheckFault}
 use Rattle.pool_check.specs.declared.Checked.{Checked}
 use Rattle.pool_check.specs.Checking.{IsChecked}
 use Rattle.pool_check.specs.Drives.{AreCopied, AreDrivesOf, Drives, Loses, found_with}
-use Rattle.pool_check.specs.Refusing.{is_well, refusal_by}
+use Rattle.pool_check.specs.Refusing.{CountsAbsent, absent_among, is_well, refusal_by}
 use Rattle.raid_rack.specs.declared.arrays.RaidRack.{RaidRack}
-use Rattle.raid_rack.specs.Book.{IsSameBook}
+use Rattle.raid_rack.specs.Book.{IsAfter}
 use Rattle.raid_rack.specs.declared.arrays.Arrays.{Arrays}
 use Rattle.raid_rack.specs.AllRuns.{Serves}
 use Rattle.raid_rack.specs.Raid.{is_used_up, raid_of}
@@ -31,6 +31,7 @@ use Rattle.raid_rack.specs.RaidRack.{IsFit, arrays_in, raid_by, refused_in, slic
 use Rattle.raid_rack.specs.Runs.{RaidRuns}
 use Rattle.assembler.specs.declared.refusal.Refusal.{Refusal}
 use Rattle.assembler.specs.declared.refusal.Refusal.TheVariants.{BadVolume, Memory}
+use Rattle.assembler.specs.Marking.{AreMarkedFor}
 use Rattle.assembler.specs.Members.{AreMembers}
 use Rattle.assembler.specs.Refusing.{by_check, by_finding, refused_left}
 
@@ -52,23 +53,27 @@ pub record HasReadLogs (x y : Seen) (known : List Known) (s : State) (bad : Opti
 
 -- The drives of a pool didn't pass their check, where the disks were x before the opening, y at rest and z after the check. A place has lost its
 -- disk only where that refused a call, and of each disk that is left the copy was read that it holds. The refusal is the first one of the
--- pool that the disks left make, by what they hold. Else it is that of the log that isn't well formed, whose drive went later.
+-- pool that the disks left make, by what they hold. Else it is that of the log that isn't well formed, whose drive went later. Whatever the
+-- disks tell it is want of drives exactly where two or more current places have none left, and says how many.
 pub record RefusesDrives (x y z : Seen) (known : List Known) (s : State) (bad : Option ℕ) (why : Refusal) : Type 0 where
   pub fault : CheckFault
   pub said : why ≡ by_check fault
   pub only : OnlyReads y z
   pub seats : Seats
   pub loses : Loses x z (seat_by s known) seats
+  pub counts : CountsAbsent (absent_among s seats) fault
   pub read : AllTold x → IsLasting x → (place d : ℕ) → seats place ≡ Some d → copied_at known d ≡ copied_on (y.sectors d) (now_in y d)
   pub first : (o : Drives) → AreDrivesOf y seats o → AreCopied known seats o → refused_left bad (found_with s seats o) ≡ Some (refusal_by fault)
 
 -- The drives passed their check, by tables t of their slices: the arrays are those that the disks left make, and their members' slices are laid.
--- A place has lost its disk only where that refused a call. The disks were x before the opening, y at rest and z after the check.
+-- A place has lost its disk only where that refused a call, and at most one has none. The disks were x before the opening, y at rest and z after
+-- the check.
 pub record HasChecked (x y z : Seen) (known : List Known) (s : State) (t : Slices) (checked : Checked) : Type 0 where
   pub only : OnlyReads y z
   pub absent : List ℕ
   pub members : AreMembers s t z checked absent
   pub loses : Loses x z (seat_by s known) (seat_of t)
+  pub few : absent_among s (seat_of t) ≤ 1
   pub are : (o : Drives) → AreDrivesOf y (seat_of t) o → AreCopied known (seat_of t) o → IsChecked (is_well None) (found_with s (seat_of t) o) checked
 
 -- A rack of arrays, by what stands in it: the arrays with their state and log, the slices of their members, the rack of drives below, the spent
@@ -96,14 +101,18 @@ slices_on seen x = slices_of x.slices (seen x.below)
 abbrev pub seen_on : {R : Type 0} → (R → Seen) → ArraysOn R → Seen
 seen_on seen x = raid_of (IsFit x.arrays (slices_on seen x)) x.refused (raid_by x.arrays) (slices_on seen x)
 
+-- No memory could be had to open a volume: nothing was written on the arrays, and numbers aren't used up. Or they are.
+abbrev pub IsShortOn : {R : Type 0} → (R → Seen) → ArraysOn R → ArraysOn R → Type 0
+IsShortOn seen x y = (OnlyReads (seen_on seen x) (seen_on seen y) × (is_used_up (raid_by y.arrays) ≡ false)) ⊎ (is_used_up (raid_by y.arrays) ≡ true)
+
 -- An array's part of the volume group is bad, the lowest such array, by what was read of the arrays. Nothing was written on them, and numbers aren't used up.
 pub record IsBadOn {R : Type 0} (seen : R → Seen) (x y : ArraysOn R) (array : ℕ) : Type 0 where
   pub reads : OnlyReads (seen_on seen x) (seen_on seen y)
   pub bad : IsBadVolume (raid_by x.arrays).state.pool.0 (raid_by x.arrays).state.extent (raid_by x.arrays).state.joined (seen_on seen x) (seen_on seen y) array
   pub unused : is_used_up (raid_by y.arrays) ≡ false
 
--- Arrays were made over the slices of a pool's drives, and no volume was opened on them. They are those that the disks left make, and were `last` in
--- the end. The rack was `mid` at rest.
+-- Arrays were made over the slices of a pool's drives, and no volume was opened on them. They are those that the disks left make, with those drives
+-- marked missing that were so, had no disk or refused a call, and were `last` in the end. The rack was `mid` at rest.
 pub record RefusesArrays {R : Type 0} (seen : R → Seen) (runs : R → R → Type 0) (rack mid back : R) (known : List Known) (s : State) (why : Refusal) : Type 0 where
   pub at : R
   pub made : ArraysOn R
@@ -111,7 +120,8 @@ pub record RefusesArrays {R : Type 0} (seen : R → Seen) (runs : R → R → Ty
   pub kept : runs mid at × runs at made.below
   pub checked : Checked
   pub drives : HasChecked (seen rack) (seen mid) (seen at) known s made.slices checked
-  pub book : IsSameBook s (raid_by made.arrays).state
+  pub book : IsAfter s (raid_by made.arrays).state
+  pub marks : AreMarkedFor (seen rack) (seen made.below) (seat_by s known) s (raid_by made.arrays).state
   pub arrays : (n : ℕ) (v : View) → slice_get checked.arrays.items n ≡ Some v → IsSameArray v ((raid_by made.arrays).arrays n)
   pub fit : IsFit made.arrays (slices_on seen made)
   -- what the calls on them keep
@@ -119,7 +129,7 @@ pub record RefusesArrays {R : Type 0} (seen : R → Seen) (runs : R → R → Ty
   pub raid : RaidRuns made.written last.written (raid_by made.arrays) (raid_by last.arrays) (slices_on seen made) (slices_on seen last)
   pub serves : Serves (raid_by made.arrays) (raid_by last.arrays) made.refused last.refused
   pub back_is : last.below ≡ back
-  pub cause : (why ≡ Memory) ⊎ ((array : ℕ) × (why ≡ BadVolume array) × IsBadOn seen made last array)
+  pub cause : ((why ≡ Memory) × IsShortOn seen made last) ⊎ ((array : ℕ) × (why ≡ BadVolume array) × IsBadOn seen made last array)
 
 -- A pool was found and brought to rest, and the rack was `mid` then: by what was read of its disks the state is the newest one, of one
 -- pool, and the logs are those of its drives. Its drives were refused, or its arrays.

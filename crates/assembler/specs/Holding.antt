@@ -1,5 +1,6 @@
 -- What a pool's arrays hold where its disks are told.
-use Rattle.std.specs.Prelude.{◌≡◌, ℕ, ◌<◌, ◌≤◌, ◌&&◌, nat_lt, Bool, true, false, List, [], length, Option, Some, None}
+use Rattle.std.specs.Prelude.{◌≡◌, ◌⊎◌, ℕ, ◌<◌, ◌≤◌, ◌&&◌, nat_lt, Bool, false, List, [], length, slice_get, Option, Some, None}
+use Rattle.std.specs.Option.{option_map_or}
 use Rattle.rack.specs.Values.{MayLeave, Values, only}
 use Rattle.rack.specs.Seen.{Image, Seen}
 use Rattle.rack.specs.Moments.{Leaves}
@@ -9,25 +10,27 @@ use Rattle.md_super.specs.declared.superblock.Super.{Super}
 use Rattle.pool_state.specs.declared.contents.State.{State}
 use Rattle.array_image.specs.Places.{log_slice}
 use Rattle.array_image.specs.States.{is_current}
-use Rattle.array_image.specs.Supers.{is_named}
 use Rattle.array_image.specs.Arrays.{replayed}
 use Rattle.array_image.specs.Left.{IsInside, IsLeft, reading}
 use Rattle.commit_log.specs.View.{LogView, left_of, names}
 use Rattle.commit_log.specs.Opening.{Finds}
-use Rattle.pool_image.specs.Disks.{disks_of, identities_of}
+use Rattle.pool_image.specs.Disks.{disks_of, identities_of, seat_of as pool_seat}
 use Rattle.pool_image.specs.Drives.{Found, found}
-use Rattle.pool_image.specs.Meaning.{array_sectors, arrays_held, truth_of}
-use Rattle.pool_image.specs.Sound.{IsSoundState}
+use Rattle.pool_image.specs.Meaning.{array_sectors, arrays_held, super_at, truth_of}
 use Rattle.pool_scan.specs.declared.Known.{Known}
 use Rattle.pool_scan.specs.Choosing.{AreOf}
 use Rattle.pool_scan.specs.Scanning.{AllTold, now_in}
+use Rattle.pool_model.specs.Pools.{IsSoundPool}
 use Rattle.pool_rest.specs.Standing.{IsLasting}
 use Rattle.pool_rest.specs.Resting.{AreSectors, AreSingle, StandsNow}
 use Rattle.pool_check.specs.Drives.{Drives}
 use Rattle.raid_rack.specs.Agreeing.{SupersAgree}
 use Rattle.raid_rack.specs.Raid.{Raid, IsTold, held_in, is_over, live_of, spent_of}
 use Rattle.array_image.specs.SoundArray.{first_unsynced}
+use Rattle.array_model.specs.declared.Seat.TheVariants.{Missing}
 use Rattle.array_model.specs.View.{View, HasGeometry, sectors_of as sectors_in}
+use Rattle.array_core.specs.Opening.{seat_by}
+use Rattle.array_core.specs.Slots.{place_by}
 use Rattle.raid_rack.specs.Book.{IsAfter}
 use Rattle.raid_rack.specs.Marking.{SaysBetween}
 
@@ -42,6 +45,7 @@ pub record AreSteady (x : Seen) : Type 0 where
 pub record IsPoolOn (s : State) (t : Slices) (x : Seen) (f : Found) : Type 0 where
   pub state : f.state ≡ s
   pub seats : (p : ℕ) → f.seats p ≡ seat_of t p
+  pub chosen : (p : ℕ) → f.seats p ≡ pool_seat f.state f.disks f.identities p
   pub disks : f.disks ≡ disks_of x
   pub contents : (p d u : ℕ) → f.seats p ≡ Some d → u < x.sectors d → f.contents d u ≡ (x.held d u).current
   pub identities : (p d : ℕ) → f.seats p ≡ Some d → f.identities d ≡ identities_of f.disks f.contents d
@@ -53,11 +57,6 @@ pub record IsIdle (s : State) (t : Slices) (x : Seen) (l : LogView) : Type 0 whe
   pub is_pending : Bool
   pub finds : Finds l on (left_of on []) is_pending None (reading (slices_seen t x))
   pub none : l.pending ≡ []
-
--- The arrays and the copies of the state agree, and each array's truth names its own place.
-pub record IsSoundPool (f : Found) : Type 0 where
-  pub rules : IsSoundState f
-  pub own : (n : ℕ) (u : Super) → n < f.state.made → truth_of f n ≡ Some u → is_named u u.dev_number ≡ true
 
 -- what a pool's drives are, but for its state and its seats
 abbrev pub drives_of : Found → Drives
@@ -85,10 +84,14 @@ pub record IsFoundOn (x : Seen) (known : List Known) (s : State) (t : Slices) (o
 abbrev pub pool_values : Found → ℕ → ℕ → Values
 pool_values f n y = only (arrays_held f n y)
 
--- An array of a truth: it has its members and its size, and those rows left to resync that it leaves.
-pub record IsArrayOf (t : Super) (v : View) : Type 0 where
+-- The array of a number, of a truth: it has its members and its size, and those rows left to resync that it leaves. Each member that isn't missing
+-- counts as far as its own superblock says.
+pub record IsArrayOf (f : Found) (n : ℕ) (t : Super) (v : View) : Type 0 where
   pub geometry : HasGeometry t v.truth
   pub rows : v.resync ≡ first_unsynced t
+  pub members :
+      (k : ℕ) → k < t.raid_disks
+      → (slice_get v.seats k ≡ Some Missing) ⊎ (slice_get v.seats k ≡ Some (option_map_or seat_by (super_at f n (place_by t k)) Missing))
 
 -- Calls on slices a, which left arrays over slices b: marks alone may have come to the pool's state. Each array that is ready for the
 -- volume is told and has the pool's sectors, of which each that can be had has one value, that of the pool's contents. At each moment
@@ -96,7 +99,7 @@ pub record IsArrayOf (t : Super) (v : View) : Type 0 where
 pub record HoldsArrays (f : Found) (v : Raid) (a b : Seen) : Type 0 where
   pub after : IsAfter f.state v.state
   pub told : (n : ℕ) → n < f.state.joined → IsTold v b n
-  pub arrays : (n : ℕ) (t : Super) → n < f.state.joined → truth_of f n ≡ Some t → IsArrayOf t (v.arrays n)
+  pub arrays : (n : ℕ) (t : Super) → n < f.state.joined → truth_of f n ≡ Some t → IsArrayOf f n t (v.arrays n)
   pub sectors : (n : ℕ) → n < f.state.joined → sectors_in (v.arrays n) ≡ array_sectors f n
   pub values : (n y : ℕ) (u : List ℕ) → n < f.state.joined → live_of v n y → MayLeave (held_in v b n y) u → u ≡ arrays_held f n y
   -- the pool's own are whole sectors, with room for a label

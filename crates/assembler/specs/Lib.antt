@@ -1,9 +1,11 @@
 pub mod Causes
 pub mod Holding
+pub mod Marking
 pub mod Members
 pub mod Mending
 pub mod Moments
 pub mod Refusing
 pub mod Sound
 pub mod Volume
+pub mod Wanting
 pub mod Writing

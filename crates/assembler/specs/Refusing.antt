@@ -10,7 +10,7 @@ use Rattle.pool_image.specs.Meaning as meaning
 use Rattle.pool_scan.specs.declared.Known.{Known}
 use Rattle.pool_scan.specs.Choosing.{seat_by}
 use Rattle.pool_check.specs.Drives.{AreCopied, AreDrivesOf, Drives, Loses, found_with}
-use Rattle.pool_check.specs.Refusing.{is_well, part_by, refusal_by, refused_with}
+use Rattle.pool_check.specs.Refusing.{CountsAbsent, absent_among, is_well, part_by, refusal_by, refused_with}
 use Rattle.lvm_group.specs.declared.volume.VolumeFault.{VolumeFault}
 use Rattle.lvm_group.specs.declared.volume.VolumeFault.TheVariants as volume
 use Rattle.pool_check.specs.declared.CheckFault.{CheckFault}
@@ -68,10 +68,12 @@ abbrev pub refused_left : Option ℕ → Found → Option meaning.Refusal
 refused_left bad f = option_or (refused_with (is_well bad) None f) (option_map (λ place. meaning.damaged place meaning.in_log) bad)
 
 -- The drives didn't pass their check, by what was read of them: a place has lost its disk only where that refused a call, and the
--- refusal is the first one of the pool that the disks left make, or else the log that isn't well formed.
+-- refusal is the first one of the pool that the disks left make, or else the log that isn't well formed. Whatever they tell it says how
+-- many are wanting, where two or more are.
 pub record FailsCheck (x y : Seen) (known : List Known) (s : State) (gone : List ℕ) (bad : Option ℕ) (why : Refusal) : Type 0 where
   pub fault : CheckFault
   pub said : why ≡ by_check fault
   pub seats : Seats
   pub loses : Loses x y (seats_left known s gone) seats
+  pub counts : CountsAbsent (absent_among s seats) fault
   pub exact : (o : Drives) → AreDrivesOf x seats o → AreCopied known seats o → refused_left bad (found_with s seats o) ≡ Some (refusal_by fault)

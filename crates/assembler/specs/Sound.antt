@@ -1,13 +1,13 @@
 -- Disks from which a pool is opened, and what an opening answers by what they mean.
-use Rattle.std.specs.Prelude.{◌≡◌, ◌⊎◌, ◌&&◌, ◌<◌, ℕ, suc, nat_lt, true, false, ◌∷◌, [], None, Some}
-use Rattle.rack.specs.Seen.{Image, Seen}
+use Rattle.std.specs.Prelude.{◌≡◌, ◌⊎◌, ◌<◌, ◌&&◌, ℕ, suc, true, false, ◌∷◌, [], Some, is_some}
+use Rattle.rack.specs.Seen.{Image, IsPick, Seen}
 use Rattle.rack.specs.Moments.{Leaves}
-use Rattle.slice_rack.specs.Slices.{Slices, first_of, place_of, seat_of, sectors_of}
+use Rattle.slice_rack.specs.Slices.{Slices}
 use Rattle.slice_rack.specs.SliceRack.{below_of, tables}
 use Rattle.pool_state.specs.declared.contents.Copied.{Copied}
 use Rattle.commit_log.specs.Kept.{IsNoLater}
 use Rattle.array_image.specs.Left.{IsLeft}
-use Rattle.array_image.specs.Places.{log_slice, member_slice}
+use Rattle.array_image.specs.States.{is_current}
 use Rattle.md_super.specs.declared.superblock.Super.{Super}
 use Rattle.pool_state.specs.declared.contents.State.{State}
 use Rattle.lvm_group.specs.Runs.{Linear}
@@ -28,7 +28,9 @@ use Rattle.raid_rack.specs.Book.{IsAfter}
 use Rattle.raid_rack.specs.Raid.{IsTold}
 use Rattle.raid_rack.specs.RaidRack.{raid_in, raid_seen, slices_in, slices_seen}
 use Rattle.assembler.specs.declared.refusal.Refusal.{Refusal}
-use Rattle.assembler.specs.Holding.{AreSteady, IsArrayOf, IsSoundPool}
+use Rattle.pool_model.specs.Left.{AreAlone, AreElsewhere, HoldSame, IsPickOff}
+use Rattle.pool_model.specs.Pools.{AreSlicesOf, IsSoundPool}
+use Rattle.assembler.specs.Holding.{AreSteady, IsArrayOf}
 use Rattle.assembler.specs.Refusing.{meant_by}
 use Rattle.assembler.specs.Moments.{GivesPool, HoldsAt}
 use Rattle.assembler.specs.Volume.{AllLive, HoldsVolume, IsVolumeOf}
@@ -40,20 +42,6 @@ pub record HoldSound (x : Seen) (f : Found) : Type 0 where
   pub found_is : found (disks_of x) (now_in x) ≡ Some f
   pub sound : IsSoundPool f
   pub logs : HasSoundLogs (disks_of x) (now_in x)
-
--- where a table lays a slice
-abbrev pub extent_in : Slices → ℕ → Extent
-extent_in t k = record { first = first_of t k; sectors = sectors_of t k }
-
--- Tables of slices are those of a pool's drives: each place has its disk, and on that its log slice and the slices of the arrays that
--- name the place, where the pool has them. No other slice is there.
-pub record AreSlicesOf (f : Found) (t : Slices) : Type 0 where
-  pub seats : (p : ℕ) → seat_of t p ≡ f.seats p
-  pub logs : (p d : ℕ) → f.seats p ≡ Some d → extent_of f 0 ≡ Some (extent_in t (log_slice p))
-  pub members :
-      (n p d : ℕ) → n < f.state.made → f.seats p ≡ Some d → is_member f n p ≡ true → extent_of f (suc n) ≡ Some (extent_in t (member_slice p n))
-  pub others : (n p : ℕ) → n < 16 → (nat_lt n f.state.made && is_member f n p) ≡ false → sectors_of t (member_slice p n) ≡ 0
-  pub unseated : (k : ℕ) → f.seats (place_of k) ≡ None → sectors_of t k ≡ 0
 
 -- Of an array that a drive is no member of its table has no slice that shares a sector with that of a higher array which it is a member of:
 -- a replay passes over a slice that shares one with a lower one.
@@ -91,8 +79,10 @@ pub record IsMeantBy {R : Type 0} (seen : R → Seen) (x : Seen) (f : Found) (ra
   pub slices : AreSlicesOf f (tables (slices_in rack))
   pub after : IsAfter f.state (raid_in rack).state
   pub told : (n : ℕ) → n < f.state.joined → IsTold (raid_in rack) (slices_seen seen rack) n
-  pub arrays : (n : ℕ) (t : Super) → n < f.state.joined → truth_of f n ≡ Some t → IsArrayOf t ((raid_in rack).arrays n)
+  pub arrays : (n : ℕ) (t : Super) → n < f.state.joined → truth_of f n ≡ Some t → IsArrayOf f n t ((raid_in rack).arrays n)
   pub live : AllLive (raid_in rack)
+  -- outside the slices the disks have each drive's table, and other disks say what they said
+  pub elsewhere : (i : Image) → IsPickOff (tables (slices_in rack)) (seen (below_of (slices_in rack))) i → AreElsewhere f i
   -- what a stop leaves inside the opening holds that volume, where it may come amid the replay of the record that was pending
   pub moments : MayStop x f → x.traced → Leaves x (seen (below_of (slices_in rack))) (HoldsAt (tables (slices_in rack)) l volume)
 
@@ -102,12 +92,18 @@ abbrev pub HaveAgreed : Found → State → Seen → Type 0
 HaveAgreed f s x = (n : ℕ) → n < f.state.joined → (r : Image) → IsLeft x r → SupersAgree s r n
 
 -- Disks of a pool that was refused once its arrays were made: by slices of its drives what a stop left since x, or leaves now, holds the arrays that the
--- pool had, and each drive has its partition table at every moment.
+-- pool had, and each drive has its partition table at every moment. Whatever the disks may be left with now holds a sound pool again, by a state to
+-- which just the marks of drives that have no disk have come, and that pool has the same group, the same shapes of arrays, the same bad arrays and the same volumes. So it is
+-- where all arrays are ready for the volume, and no superblock stands where a drive that is no member of an array would have its slice.
 pub record KeepsPool (x y : Seen) (f : Found) : Type 0 where
   pub slices : Slices
   pub are : AreSlicesOf f slices
   pub moments : MayStop x f → x.traced → Leaves x y (GivesPool f slices)
   pub tables : (p d : ℕ) → f.seats p ≡ Some d → KeepsTable x y d
+  pub state : State
+  pub after : IsAfter f.state state
+  pub marks : (p : ℕ) → is_current state p ≡ (is_current f.state p && is_some (f.seats p))
+  pub again : f.state.joined ≡ f.state.made → (i : Image) → IsPick y y y.held i → AreAlone f i → HoldSame f slices state i
 
 -- the meaning of these disks is refused so
 abbrev pub IsMeantRefusal : Seen → Refusal → Type 0

@@ -1,5 +1,5 @@
 -- The volume that is opened on the arrays of a pool.
-use Rattle.std.specs.Prelude.{◌≡◌, ◌⊎◌, ◌&&◌, ℕ, ◌<◌, false, not, List, None, Some}
+use Rattle.std.specs.Prelude.{◌≡◌, ◌⊎◌, ◌&&◌, ℕ, ◌<◌, true, false, not, List, None, Some}
 use Rattle.rack.specs.Values.{MayLeave}
 use Rattle.rack.specs.Seen.{Seen}
 use Rattle.rack.specs.Sequences.{OnlyReads}
@@ -41,19 +41,27 @@ pub record OpensVolume {R : Type 0} (seen : R → Seen) (runs : R → R → Type
   pub kept : AreCalls seen runs x y
   pub unused : is_used_up (raid_in y) ≡ false
 
--- An array is bad, by what was read of the arrays, which were y then, and numbers aren't used up. Nothing was written on them.
-pub record HasBadVolume {R : Type 0} (seen : R → Seen) (x y : RaidRack R) (array : ℕ) : Type 0 where
+-- Nothing was written on arrays, which were y then, and numbers aren't used up.
+pub record AreStill {R : Type 0} (seen : R → Seen) (x y : RaidRack R) : Type 0 where
   pub reads : OnlyReads (raid_seen seen x) (raid_seen seen y)
-  pub bad : IsBadVolume (raid_in x).state.pool.0 (raid_in x).state.extent (raid_in x).state.joined (raid_seen seen x) (raid_seen seen y) array
   pub fit : IsFit (arrays_in y) (slices_seen seen y)
   pub unused : is_used_up (raid_in y) ≡ false
+
+-- No memory could be had, and nothing was written; or numbers are used up.
+abbrev pub IsShort : {R : Type 0} → (R → Seen) → RaidRack R → RaidRack R → Type 0
+IsShort seen x y = AreStill seen x y ⊎ (is_used_up (raid_in y) ≡ true)
+
+-- An array is bad, by what was read of the arrays, and nothing was written on them.
+pub record HasBadVolume {R : Type 0} (seen : R → Seen) (x y : RaidRack R) (array : ℕ) : Type 0 where
+  pub still : AreStill seen x y
+  pub bad : IsBadVolume (raid_in x).state.pool.0 (raid_in x).state.extent (raid_in x).state.joined (raid_seen seen x) (raid_seen seen y) array
 
 -- No volume was opened: no memory could be had, or numbers are used up, or an array is bad. The arrays were `last` then, over the rack that is
 -- given back.
 pub record RefusesVolume {R : Type 0} (seen : R → Seen) (runs : R → R → Type 0) (x : RaidRack R) (rack : R) (why : Refusal) : Type 0 where
   pub last : RaidRack R
   pub back : below_of (slices_in last) ≡ rack
-  pub cause : (why ≡ Memory) ⊎ ((array : ℕ) × (why ≡ BadVolume array) × HasBadVolume seen x last array)
+  pub cause : ((why ≡ Memory) × IsShort seen x last) ⊎ ((array : ℕ) × (why ≡ BadVolume array) × HasBadVolume seen x last array)
   pub kept : AreCalls seen runs x last
 
 -- The volume of the meaning: that of the pool's group, which has no bad array.

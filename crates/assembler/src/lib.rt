@@ -18,8 +18,11 @@
 //! Whatever the disks tell and whoever goes, a refusal has its cause in what was read of them (`HasRefusalCause` of specs/Causes.antt): no pool or two by the
 //! copies of the state (`FindsNoPool`); the first refusal of the pool that the disks left make, where a place has lost its disk only where that refused a call,
 //! each disk that is left was read, and the logs are those of the pool's drives (`RefusesDrives`); or a bad array of those that the disks left make
-//! (`RefusesArrays`). Sound disks that refuse no call mean what they meant after a refusal before the arrays are made; where an array's part of the
-//! volume group is bad, what a stop leaves holds the arrays that the pool had, and each drive has its partition table (`KeepsPool`).
+//! (`RefusesArrays`). How many drives are wanting is said, by what was read, of disks that tell nothing too. Sound disks that refuse no call mean what they meant after a
+//! refusal before the arrays are made; where an array's part of the volume group is bad, what a stop leaves holds the arrays that the pool had, each
+//! drive has its partition table, and in the end the disks hold a sound pool again, with the same group, shapes of arrays, bad arrays and volumes (`KeepsPool`).
+//! After want of memory it is one or the other, unless numbers are used up (`LeavesPool` of
+//! specs/Wanting.antt). Whoever goes, a drive is marked missing only where it had no disk, or that refused a call (`MarksDrives` of specs/Marking.antt).
 //!
 //! Inside the crate the arrays are those of the superblocks that were read, over the slices of the drives (`AreMembers` of
 //! specs/Members.antt), and they hold what the pool's contents give (`HoldsArrays` of specs/Holding.antt).

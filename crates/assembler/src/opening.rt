@@ -4,6 +4,7 @@ ghost use Rattle.std.specs.Prelude.{◌≡◌, ◌≢◌, ◌⊎◌, if◌then�
 ghost use Rattle.rack.specs.Sequences.{OnlyReads};
 ghost use Rattle.pool_rest.specs.Resting.{WritesDrives};
 ghost use Rattle.assembler.specs.Causes.{HasRefusalCause};
+ghost use Rattle.assembler.specs.Marking.{MarksDrives};
 ghost use Rattle.assembler.specs.Refusing.{by_volume, is_early};
 ghost use Rattle.assembler.specs.declared.refusal.Refusal.TheVariants.{BadVolume, Memory};
 ghost use Rattle.raid_rack.specs.Raid.{is_used_up};
@@ -14,6 +15,7 @@ ghost use Rattle.lvm_group.specs.Volume.{below_of as rack_in, linear, seqno_of};
 ghost use Rattle.assembler.specs.Sound.{HaveAgreed, HoldSound, IsMeantBy, IsMeantRefusal, KeepsPool};
 ghost use Rattle.assembler.specs.Volume.{Agrees, OpensVolume, RefusesVolume};
 ghost use Rattle.array_image.specs.States.{is_current};
+ghost use Rattle.assembler.specs.Wanting.{LeavesPool};
 ghost use Rattle.assembler.specs.Writing.{WritesPool};
 ghost use Rattle.pool_check.specs.Settling.{IsSettled, KeepsTable};
 ghost use Rattle.pool_image.specs.Alike.{MeansTheSame};
@@ -151,6 +153,8 @@ pub fn assemble<R: Rack>(
     // Then those drives alone are marked missing that the pool had marked, or that have no disk.
     ensures marks { IfOk result (λ volume. (f : Found) → HoldSound (R.seen rack) f → IsUnfaulted (R.seen rack) (R.seen (below_of (slices_in (rack_in volume))))
         → (p : ℕ) → is_current (raid_in (rack_in volume)).state p ≡ (is_current f.state p && is_some (f.seats p))) }
+    // Whoever goes, drives are marked missing only where they had no disk, or that refused a call.
+    ensures caused { IfOk result (λ volume. MarksDrives R.seen R.runs rack (below_of (slices_in (rack_in volume))) (raid_in (rack_in volume)).state) }
     // Whatever goes, each drive that the volume lies on has its partition table at every moment; where no disk refuses a call both copies are that
     // table in the end, durably.
     ensures keeps { IfOk result (λ volume. (p d : ℕ) → seat_of (tables (slices_in (rack_in volume))) p ≡ Some d
@@ -167,9 +171,13 @@ pub fn assemble<R: Rack>(
     // Sound disks that refuse no call mean what they meant, where they are refused before the arrays are made.
     ensures unmoved { IfErr result (λ back. (f : Found) → HoldSound (R.seen rack) f → IsUnfaulted (R.seen rack) (R.seen back.rack)
         → is_early back.why ≡ true → MeansTheSame (disks_of (R.seen rack)) (now_in (R.seen rack)) (now_in (R.seen back.rack))) }
-    // And where an array's part of the volume is bad, what a stop leaves holds the arrays that the pool had, and each drive has its table.
+    // And where an array's part of the volume is bad, what a stop leaves holds the arrays that the pool had, each drive has its table, and in the
+    // end the disks hold a sound pool again, with the same group, bad arrays and volumes.
     ensures still { IfErr result (λ back. (f : Found) → HoldSound (R.seen rack) f → IsUnfaulted (R.seen rack) (R.seen back.rack)
         → (array : ℕ) → back.why ≡ BadVolume array → KeepsPool (R.seen rack) (R.seen back.rack) f) }
+    // Where memory is wanting they mean what they meant, or hold the arrays that the pool had, unless numbers are used up.
+    ensures wanting { IfErr result (λ back. (f : Found) → HoldSound (R.seen rack) f → IsUnfaulted (R.seen rack) (R.seen back.rack)
+        → back.why ≡ Memory → LeavesPool R.seen R.runs rack back.rack f) }
     ensures returned { IfErr result (λ back. R.runs rack back.rack) }
 {
     let rest = match bring_to_rest(alloc, rack) {

@@ -11,7 +11,7 @@ ghost use Rattle.commit_log.specs.Phases.{AreLogs};
 ghost use Rattle.array_model.specs.View.{View, IsArray, IsSameArray, sectors_of};
 ghost use Rattle.lvm_group.specs.Shown.{total};
 ghost use Rattle.raid_rack.specs.Agreeing.{MakesAgree};
-ghost use Rattle.raid_rack.specs.Book.{IsSameBook};
+ghost use Rattle.raid_rack.specs.Book.{IsAfter};
 ghost use Rattle.raid_rack.specs.Moves.{AreMarked, Mends};
 ghost use Rattle.raid_rack.specs.RaidRack.{IsFit, IsRunning, SliceRuns, arrays_in, raid_in, raid_seen, refused_in, slices_in, slices_seen};
 ghost use Rattle.commit_log.specs.Opening.{ReplayCall};
@@ -22,6 +22,7 @@ ghost use Rattle.pool_check.specs.Drives.{seats_by};
 ghost use Rattle.pool_check.specs.Settling.{IsSettled, KeepsTable};
 ghost use Rattle.pool_check.specs.Refusing.{is_well};
 ghost use Rattle.assembler.specs.Holding.{HoldPool, HoldsArrays};
+ghost use Rattle.assembler.specs.Marking.{AreMarkedFor};
 ghost use Rattle.assembler.specs.Members.{AreMembers};
 ghost use Rattle.assembler.specs.Volume.{MarksAbsent};
 ghost use Rattle.assembler.specs.Writing.{IsSlicedOrTable};
@@ -111,13 +112,15 @@ pub(crate) fn make_rack<R: Rack>(members: Members<R>, seconds: u64) -> RaidRack<
     ensures made { (raid_in result).state.made ≡ members.state.made }
     ensures joined { (raid_in result).state.joined ≡ members.state.joined }
     ensures extent { (raid_in result).state.extent ≡ members.state.extent }
-    ensures book { IsSameBook members.state (raid_in result).state }
+    ensures book { IsAfter members.state (raid_in result).state }
     // The arrays are those that were opened, whomever they have lost.
     ensures arrays { (n : ℕ) (v : View) → slice_get members.checked.arrays.items n ≡ Some v → IsSameArray v ((raid_in result).arrays n) }
     ensures small { total (λ n. sectors_of ((raid_in result).arrays n)) members.state.made < 2 ^ 52 }
     // Where no disk refuses a call, the absent places are marked missing, and no others, and no sector is spent unless numbers are used up.
     ensures marks { IsUnfaulted (R.seen (below_of members.slices)) (R.seen (below_of (slices_in result)))
         → MarksAbsent members.state members.absent.items (raid_in result) }
+    // Whoever goes, a drive is marked missing only where it had no disk or that refused a call.
+    ensures caused { AreMarkedFor (R.seen (below_of members.slices)) (R.seen (below_of (slices_in result))) (seat_of (tables members.slices)) members.state (raid_in result).state }
     // Whatever goes, each drive has its table at every moment. Where no disk refuses a call both copies of it agree in the end, durably.
     ensures keeps { (p d : ℕ) → seat_of (tables members.slices) p ≡ Some d → KeepsTable (R.seen (below_of members.slices)) (R.seen (below_of (slices_in result))) d }
     ensures mended { IsUnfaulted (R.seen (below_of members.slices)) (R.seen (below_of (slices_in result)))

@@ -10,10 +10,12 @@ use Rattle.array_image.specs.States.{current_places, is_current}
 use Rattle.pool_image.specs.Disks.{Seats}
 use Rattle.pool_image.specs.Drives.{Found}
 use Rattle.pool_image.specs.Meaning.{Refusal, absent, absent_count}
+use Rattle.pool_check.specs.declared.Halt.{Halt}
+use Rattle.pool_check.specs.declared.Halt.TheVariants.{Fault, Went}
 use Rattle.pool_check.specs.declared.Layer.{Layer}
 use Rattle.pool_check.specs.declared.ArraysRead.{ArraysRead}
 use Rattle.pool_check.specs.Drives.{HasFewPlaces}
-use Rattle.pool_check.specs.Refusing.{damage_with, first_with, refused_arrays, refused_with}
+use Rattle.pool_check.specs.Refusing.{CountsAbsent, IsFault, IsOfFew, damage_with, first_with, refused_arrays, refused_with}
 use Rattle.pool_check.specs.Layers.{AreLayers}
 use Rattle.pool_check.specs.Checking.{IsChecked, refused_by_layers}
 use Rattle.pool_check.proofs.Begins.{AreSmall}
@@ -68,3 +70,8 @@ module _ (well : ℕ → Bool) (f : Found) (few : HasFewPlaces f.state f.seats) 
       listed [] n below = absurd (omega (arith, below))
       listed (x ∷ xs) zero below = (x, refl)
       listed (x ∷ xs) (suc n) below = listed xs n (omega (arith, below))
+
+-- a check that ends with a fault of a drive, where at most one is absent
+pub few_counts : (wanting : ℕ) (halt : Halt) → wanting ≤ 1 → IsFault IsOfFew halt → IsFault (CountsAbsent wanting) halt
+few_counts wanting (Fault fault) few is = is wanting few
+few_counts wanting (Went place) few is = tt

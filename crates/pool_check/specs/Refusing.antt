@@ -1,7 +1,8 @@
 -- Why drives are refused, with the test of their logs handed in, and the faults that say so.
-use Rattle.std.specs.Prelude.{◌≡◌, ℕ, ◌<◌, Bool, ◌==◌, not, nat_lt, true, false, if◌then◌else◌, find, Option, Some, None, option_map, is_some, is_none}
+use Rattle.std.specs.Prelude.{◌≡◌, ℕ, ◌<◌, ◌≤◌, Bool, ◌==◌, not, nat_lt, true, false, if◌then◌else◌, count_by, find, Option, Some, None, option_map, is_some, is_none}
 use Rattle.std.specs.Option.{option_and_then, option_map_or, option_or}
 use Rattle.array_image.specs.States.{current_places}
+use Rattle.pool_state.specs.declared.contents.State.{State as PoolState}
 use Rattle.pool_image.specs.Drives.{Found}
 use Rattle.pool_image.specs.Meaning.{Part as MeaningPart, has_log, in_table, in_state, in_log, in_superblock, Refusal, absent, damaged, too_few, dirty_degraded, absent_count, arrays_of, has_supers, has_table, is_dirty_degraded, is_too_few}
 use Rattle.rack.specs.Seen.{Seen}
@@ -91,3 +92,25 @@ IsDamage well f place fault =
 abbrev pub Halts : Seen → Seen → Seats → (CheckFault → Type 0) → Halt → Type 0
 Halts x y seats holds (Fault fault) = holds fault
 Halts x y seats holds (Went place) = Goes x y seats place
+
+-- ---- how many drives are wanting, whatever the disks tell
+
+-- the current places without a disk
+abbrev pub absent_among : PoolState → Seats → ℕ
+absent_among s seats = count_by (λ place. is_none (seats place)) (current_places s)
+
+-- A fault says how many places have no disk, where that is two or more; else at most one has none.
+abbrev pub CountsAbsent : ℕ → CheckFault → Type 0
+CountsAbsent wanting (Absent count) = (count ≡ wanting) × (1 < wanting)
+CountsAbsent wanting (Damaged place part) = wanting ≤ 1
+CountsAbsent wanting (TooFew array) = wanting ≤ 1
+CountsAbsent wanting (DirtyDegraded array) = wanting ≤ 1
+
+-- a fault of a drive or an array, which comes where at most one place has none
+abbrev pub IsOfFew : CheckFault → Type 0
+IsOfFew fault = (wanting : ℕ) → wanting ≤ 1 → CountsAbsent wanting fault
+
+-- a check ends with a fault of which this holds, or otherwise
+abbrev pub IsFault : (CheckFault → Type 0) → Halt → Type 0
+IsFault holds (Fault fault) = holds fault
+IsFault holds (Went place) = Unit {0}

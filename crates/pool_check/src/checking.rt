@@ -1,13 +1,13 @@
 //! The check of all drives, once and until no disk goes.
 
-ghost use Rattle.std.specs.Prelude.{◌≡◌, ◌==◌, ◌<◌, ◌≤◌, ◌+◌, ◌^◌, ℕ, is_none, count_by, find, length, MatchResult, IfOk, IfErr, OnOk, Some, None, option_map, if◌then◌else◌};
+ghost use Rattle.std.specs.Prelude.{◌≡◌, ◌==◌, ◌<◌, ◌≤◌, ◌+◌, ◌^◌, ℕ, is_none, count_by, find, length, MatchResult, IfSome, IfOk, IfErr, OnOk, Some, None, option_map, if◌then◌else◌};
 ghost use Rattle.rack.specs.Sequences.{OnlyReads};
 ghost use Rattle.array_image.specs.Places.{arrays_first};
 ghost use Rattle.array_image.specs.States.{current_places, is_current};
 ghost use Rattle.pool_scan.specs.Choosing.{seat_by};
 ghost use Rattle.array_core.specs.Seats.{names};
 ghost use Rattle.pool_check.specs.Drives.{AreCopied, AreDrivesOf, Drives, IsFitState, IsSeating, Loses, found_with, seats_by};
-ghost use Rattle.pool_check.specs.Refusing.{Halts, is_well, refusal_by, refused_with};
+ghost use Rattle.pool_check.specs.Refusing.{CountsAbsent, Halts, IsFault, IsOfFew, absent_among, is_well, refusal_by, refused_with};
 ghost use Rattle.pool_check.specs.Founded.{AreFounded};
 ghost use Rattle.pool_check.specs.Slots.{AreSlots};
 ghost use Rattle.pool_check.specs.Checking.{IsChecked, first_number, is_dirty, is_few, refused_by_layers};
@@ -131,7 +131,8 @@ fn first_dirty(layers: &[Layer]) -> Option<u32>
 
 /// Why the arrays can't be opened: the first cause, of the lowest array.
 fn fault_in(layers: &[Layer]) -> Option<CheckFault>
-    ensures { option_map refusal_by result ≡ refused_by_layers layers.now }
+    ensures first { option_map refusal_by result ≡ refused_by_layers layers.now }
+    ensures few { IfSome result IsOfFew }
 {
     if let Some(array) = first_few(layers) {
         return Some(CheckFault::TooFew { array });
@@ -162,6 +163,8 @@ fn check_seated<R: Rack>(
     ensures halts { IfErr result (λ halt. Halts (R.seen rack.old) (R.seen rack.new) (seats_by seats.now)
         (λ fault. (o : Drives) → AreDrivesOf (R.seen rack.old) (seats_by seats.now) o → AreCopied scan.now.disks.items (seats_by seats.now) o
         → refused_with (is_well bad) None (found_with state.now (seats_by seats.now) o) ≡ Some (refusal_by fault)) halt) }
+    ensures few { OnOk result (absent_among state.now (seats_by seats.now) ≤ 1) }
+    ensures counts { IfErr result (λ halt. IsFault (CountsAbsent (absent_among state.now (seats_by seats.now))) halt) }
     ensures runs { R.runs rack.old rack.new }
 {
     let count = absent_count(state, seats) as u32;
@@ -203,6 +206,9 @@ pub fn check_drives<R: Rack>(
     ensures exact { (o : Drives) → AreDrivesOf (R.seen rack.old) (seats_by seats.new) o → AreCopied scan.now.disks.items (seats_by seats.new) o
         → MatchResult result (IsChecked (is_well bad) (found_with state.now (seats_by seats.new) o))
         (λ fault. refused_with (is_well bad) None (found_with state.now (seats_by seats.new) o) ≡ Some (refusal_by fault)) }
+    // Whatever the disks tell, it is want of drives exactly where two or more places have no disk, and says how many.
+    ensures few { OnOk result (absent_among state.now (seats_by seats.new) ≤ 1) }
+    ensures counts { IfErr result (λ fault. CountsAbsent (absent_among state.now (seats_by seats.new)) fault) }
     // Whatever the disks tell, the members' slices lie one behind the other, and on their disks.
     ensures slots { IfOk result (λ checked. AreSlots (R.seen rack.old).sectors (seats_by seats.new) checked.arrays.items checked.extents.items) }
     // Whatever the disks tell, each array is that of valid superblocks of its members, and each member with a disk has one.

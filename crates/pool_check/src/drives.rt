@@ -10,7 +10,7 @@ ghost use Rattle.pool_image.specs.Meaning.{has_entry, has_slice, has_table};
 ghost use Rattle.pool_scan.specs.Scanning.{copied_at};
 ghost use Rattle.rack.specs.Seen.{Rose};
 ghost use Rattle.pool_check.specs.Drives.{AreCopied, AreDrivesOf, Drives, IsFitState, IsSeating, found_with, seats_by};
-ghost use Rattle.pool_check.specs.Refusing.{IsDamage, Halts, damage_by, damage_with, first_with, is_well, part_behind, part_by, refusal_by};
+ghost use Rattle.pool_check.specs.Refusing.{IsDamage, IsFault, IsOfFew, Halts, damage_by, damage_with, first_with, is_well, part_behind, part_by, refusal_by};
 ghost use Rattle.pool_check.specs.Slots.{FitsOn, IsSoundDrive};
 ghost use Rattle.pool_check.specs.Layers.{AreRead, extent_by, has_layer, is_member_of, is_sound_on, is_table_by, log_extent};
 
@@ -280,6 +280,7 @@ fn check_place<R: Rack>(
         (λ fault. (o : Drives) → AreDrivesOf (R.seen rack.old) (seats_by seats.now) o
         → AreCopied scan.now.disks.items (seats_by seats.now) o → AreRead (found_with state.now (seats_by seats.now) o) layers.now
         → IsDamage (is_well bad) (found_with state.now (seats_by seats.now) o) place fault) halt) }
+    ensures few { IfErr result (λ halt. IsFault IsOfFew halt) }
     ensures runs { R.runs rack.old rack.new }
 {
     let Some(disk) = seat_at(seats, place) else {
@@ -313,6 +314,7 @@ pub(crate) fn check_places<R: Rack>(
         (λ fault. (o : Drives) → AreDrivesOf (R.seen rack.old) (seats_by seats.now) o
         → AreCopied scan.now.disks.items (seats_by seats.now) o → AreRead (found_with state.now (seats_by seats.now) o) layers.now
         → first_with (is_well bad) (found_with state.now (seats_by seats.now) o) ≡ Some (refusal_by fault)) halt) }
+    ensures few { IfErr result (λ halt. IsFault IsOfFew halt) }
     ensures runs { R.runs rack.old rack.new }
 {
     for place in 0..16 {

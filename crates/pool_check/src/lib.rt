@@ -9,7 +9,8 @@
 //! **The contract for the layer above.** [`check_drives`] answers by that pool: the first refusal that it has but that of the volume
 //! (`refused_with` of specs/Refusing.antt), or, where it has none, the arrays with the shapes that their truths give, where their
 //! slices lie, and which of them have stale superblocks (`IsChecked` of specs/Checking.antt). Whatever the disks tell, each array is
-//! one of valid superblocks that were read of its members (`AreFounded` of specs/Founded.antt). Where nothing is pending and no disk's
+//! one of valid superblocks that were read of its members (`AreFounded` of specs/Founded.antt), and want of drives is answered exactly where two
+//! or more places have no disk, with their count (`CountsAbsent` of specs/Refusing.antt). Where nothing is pending and no disk's
 //! faults rise, the answer is the meaning's refusal (proofs/Meant.antt). Whether a place's log is well formed is not read here: the
 //! caller hands in the lowest place whose log isn't. [`lay_members`] lays the slices behind the log slices of a rack of slices, where
 //! none is refused (`AreSlots` of specs/Slots.antt), and what they show is what the drives' slices hold (proofs/Shown.antt).

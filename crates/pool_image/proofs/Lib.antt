@@ -3,6 +3,7 @@ pub mod Composed
 pub mod Rows
 pub mod Parts
 pub mod Groups
+pub mod Joined
 pub mod Identities
 pub mod Founds
 pub mod Rested

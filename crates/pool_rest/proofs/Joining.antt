@@ -120,7 +120,7 @@ module _ (l : LogView) (on : List ℕ) (s0 s : State) (x : Seen) (is_pending : B
         | inr none ↦ inl (stand.inside p (omega (arith, none)) ∙ sym (reads_nothing (log_slice p) 0 none))
         | inl there ↦ elim (stand.picks p (live (log_slice p) 0 there)) [
           | inl old ↦ inl (single p 0 there (c (log_slice p) 0) old ∙ sym (reads_now (log_slice p) 0 there))
-          | inr new ↦ inr (p, copies p (c (log_slice p) 0) new)
+          | inr new ↦ inr (record { own = p; copy = copies p (c (log_slice p) 0) new; drive = refl })
         ]
       ])
 

@@ -1,4 +1,4 @@
-use Rattle.std.proofs.Common.{◌≡◌, ◌+◌, ◌<◌, ℕ, Option, Some, None, refl, sym, ap, inl, inr, subst, ◌∙◌, arith}
+use Rattle.std.proofs.Common.{◌≡◌, ◌+◌, ◌<◌, ◌≤◌, ℕ, Option, Some, None, refl, sym, ap, inl, inr, subst, ◌∙◌, arith}
 use Rattle.std.proofs.lemmas.Option.{none-some}
 use Rattle.rack.specs.Seen.{Seen, Stays}
 use Rattle.rack.specs.Sequences.{OnlyReads}
@@ -10,7 +10,7 @@ use Rattle.slice_rack.specs.Runs.{inside_still}
 use Rattle.pool_check.specs.declared.Part.TheVariants.{Log}
 use Rattle.pool_check.specs.Checking.{IsChecked}
 use Rattle.pool_check.specs.Drives.{AreCopied, AreDrivesOf, IsSeating, Loses, found_with, seats_by}
-use Rattle.pool_check.specs.Refusing.{is_well}
+use Rattle.pool_check.specs.Refusing.{absent_among, is_well}
 use Rattle.pool_check.specs.Slots.{AreSlots}
 use Rattle.pool_check.proofs.Valid.{valid_fit}
 use Rattle.pool_scan.specs.Scanning.{IsUnfaulted}
@@ -118,7 +118,8 @@ returns-in-Err-clause-refused g c =
     (fails_check x (g.R.Rack.seen c.check_drives.new.rack) known rest.state rest.gone.items seats now c.seats_of-seats.ensures.each c.seats_of-seats.ensures.beyond
     (subst (λ r. Loses (g.R.Rack.seen r) (g.R.Rack.seen c.check_drives.new.rack) (seats_by seats) (seats_by now)) c.inner.ensures.value c.check_drives.ensures.seats)
     rest.damaged c.in-Err.fault
-    (λ o are copied. c.in-Err.ensures.exact o (subst (λ r. AreDrivesOf (g.R.Rack.seen r) (seats_by now) o) (sym c.inner.ensures.value) are) copied)))
+    (λ o are copied. c.in-Err.ensures.exact o (subst (λ r. AreDrivesOf (g.R.Rack.seen r) (seats_by now) o) (sym c.inner.ensures.value) are) copied)
+    c.in-Err.ensures.counts))
 
 pub returns-in-Some-clause-refused : goal.returns-in-Some-clause-refused
 returns-in-Some-clause-refused g c =
@@ -131,7 +132,8 @@ returns-in-Some-clause-refused g c =
     (fails_log x (g.R.Rack.seen c.check_drives.new.rack) known rest.state rest.gone.items seats now c.seats_of-seats.ensures.each c.seats_of-seats.ensures.beyond
     (subst (λ r. Loses (g.R.Rack.seen r) (g.R.Rack.seen c.check_drives.new.rack) (seats_by seats) (seats_by now)) c.inner.ensures.value c.check_drives.ensures.seats)
     rest.damaged c.in-Some.place c.in-Some.is
-    (λ o are copied. (c.in-Ok.ensures.exact o (subst (λ r. AreDrivesOf (g.R.Rack.seen r) (seats_by now) o) (sym c.inner.ensures.value) are) copied).sound))
+    (λ o are copied. (c.in-Ok.ensures.exact o (subst (λ r. AreDrivesOf (g.R.Rack.seen r) (seats_by now) o) (sym c.inner.ensures.value) are) copied).sound)
+    c.in-Ok.ensures.few)
 
 pub returns-clause-seats : goal.returns-clause-seats
 returns-clause-seats g c p d seat =
@@ -224,6 +226,10 @@ returns-clause-loses g c =
     (subst (λ r. Loses x (seen r) left (seats_by now)) (sym (c.lay_members.ensures.below ∙ c.unseat_lost.ensures.below))
     (loses_left x (seen c.check_drives.new.rack) known rest.state rest.gone.items c.seats_of-seats.result now c.seats_of-seats.ensures.each c.seats_of-seats.ensures.beyond
     (subst (λ r. Loses (seen r) (seen c.check_drives.new.rack) (seats_by c.seats_of-seats.result) (seats_by now)) c.inner.ensures.value c.check_drives.ensures.seats)))
+
+pub returns-clause-few : goal.returns-clause-few
+returns-clause-few g c =
+    subst (λ (k : ℕ → Option ℕ). absent_among c.args.rest.state k ≤ 1) (λ i p. (returns-clause-taken g c p) i) c.in-Ok.ensures.few
 
 pub returns-clause-whole : goal.returns-clause-whole
 returns-clause-whole g c = none_of c.args.rest.damaged c.in_default.not-Some

@@ -1,4 +1,4 @@
-use Rattle.std.proofs.Common.{◌∙◌, inl, sym, subst}
+use Rattle.std.proofs.Common.{◌∙◌, inl, inr, sym, subst}
 use Rattle.pool_state.specs.declared.contents.State.{State}
 use Rattle.slice_rack.specs.SliceRack.{below_of}
 use Rattle.lvm_group.specs.Brought.{BringsUp}
@@ -47,7 +47,7 @@ returns-in-Err-keep_volume-clause-refused g c =
     record {
       last = back;
       back = sym c.give_back.ensures.rack;
-      cause = inl (c.give_back.ensures.why ∙ said.refused.0);
+      cause = inl (c.give_back.ensures.why ∙ said.refused.0, inr said.refused.1);
       kept = calls_then g.R.Rack.seen g.R.Rack.runs c.args.raid (rack_in c.in-Ok.volume) back (g.met.R.Rack.runs_then _ _ _) (kept.0, kept.1, kept.2) said.back.kept;
     }
 

@@ -16,17 +16,17 @@ use Rattle.array_core.specs.Seats.{gone, restarted}
 use Rattle.commit_log.specs.View.{names}
 use Rattle.raid_rack.specs.RaidRack.{IsRunning, SliceRuns, arrays_in, no_array, raid_in, slices_in, slices_seen}
 use Rattle.raid_rack.specs.Agreeing.{MakesAgree}
-use Rattle.raid_rack.specs.Book.{IsSameBook}
+use Rattle.raid_rack.specs.Book.{IsAfter}
 use Rattle.raid_rack.specs.Cleaning.{NoneFails}
 use Rattle.raid_rack.specs.Moves.{AreMarked, Mends}
 use Rattle.raid_rack.proofs.Mended.{each_items}
 use Rattle.assembler.proofs.Causes.{made_array}
 use Rattle.assembler.proofs.Holding.{rack_closed, rack_still}
 use Rattle.assembler.proofs.Live.{opened_live}
-use Rattle.assembler.proofs.Making.{by_list, keeps, mended as making_mended, parts as making_parts, replayed, same as making_same, settled}
+use Rattle.assembler.proofs.Making.{by_list, keeps, marked_so, mended as making_mended, parts as making_parts, replayed, same as making_same, settled}
 use Rattle.assembler.proofs.Mended.{absent_still, closed_members, marking_so, mended_members, mended_reads, mended_so, rack_writes, reads_agree, reads_mend}
 use Rattle.assembler.proofs.Entry.{quiet_last}
-use Rattle.assembler.proofs.Marks.{all_marked, some_unmarked}
+use Rattle.assembler.proofs.Marks.{all_marked, marked_for, some_unmarked}
 use Rattle.assembler.proofs.Running.{array_now, current_logs, rack_running, twice}
 use Rattle.assembler.proofs.Sizes.{total_small}
 use Rattle.assembler.proofs.Whole.{whole_member}
@@ -333,7 +333,7 @@ returns-clause-marks g c quiet =
 
 pub returns-clause-book : goal.returns-clause-book
 returns-clause-book g c =
-    subst (λ (s : State). IsSameBook s (raid_in c.mark_gone.new.raid).state) c.new-raid.ensures.state c.mark_gone.ensures.mends.moves.book.same
+    subst (λ (s : State). IsAfter s (raid_in c.mark_gone.new.raid).state) c.new-raid.ensures.state c.mark_gone.ensures.mends.moves.book
 
 pub returns-clause-arrays : goal.returns-clause-arrays
 returns-clause-arrays g c n u at =
@@ -353,3 +353,35 @@ returns-clause-arrays g c n u at =
     let count = c.requires.members.founded.count in
     let made = ap (λ (s : State). s.made) c.new-raid.ensures.state in omega (arith, below, count, made)) in
     made_array places u (raid.arrays n) ((raid_in c.mark_gone.new.raid).arrays n) is (c.mark_gone.ensures.mends.moves.arrays n low)
+
+pub returns-clause-caused : goal.returns-clause-caused
+returns-clause-caused g c =
+    let m = c.args.members in
+    let seen = g.R.Rack.seen in
+    let runs = g.R.Rack.runs in
+    let t : Slices = tables m.slices in
+    let y : Seen = seen (below_of m.slices) in
+    let closed = c.close_gates-gone.new.slices in
+    let mended = c.mend_tables-left_out.new.slices in
+    let last = slices_in c.mark_gone.new.raid in
+    let b : Seen = seen (below_of closed) in
+    let d : Seen = seen (below_of mended) in
+    let z : Seen = seen (below_of last) in
+    let went = c.close_gates-gone.result.items in
+    let places = c.mend_tables-left_out.result.items in
+    let members = c.requires.members in
+    let marking = subst (λ k. SliceRuns seen runs k last) c.new-raid.ensures.slices c.mark_gone.ensures.runs in
+    let first = (each_items m.checked.arrays c.as_mut_slice.result.now c.restart_rebuilds.new.arrays restarted c.as_mut_slice.ensures.value c.restart_rebuilds.ensures).0 in
+    let second = (each_items (with_items m.checked.arrays c.restart_rebuilds.new.arrays) c.as_mut_slice-2.result.now c.note_gone.new.arrays (gone places) c.as_mut_slice-2.ensures.value c.note_gone.ensures).0 in
+    let items = c.new-raid.result.arrays.all.items in
+    let are : (n : ℕ) (u : View) → slice_get m.checked.arrays.items n ≡ Some u → (raid_in c.new-raid.result).arrays n ≡ gone places (restarted u) =
+    λ n u at. get_or_from_slice_get items n (gone places (restarted u)) no_array
+    (ap (λ xs. slice_get xs n) c.new-raid.ensures.arrays ∙ second n ∙ ap (option_map (gone places)) (first n)
+    ∙ twice places (slice_get m.checked.arrays.items n) ∙ ap (option_map (λ v. gone places (restarted v))) at) in
+    marked_so m.state t (tables closed) (tables mended) (tables last) y b d z went places m.checked m.absent.items m.slices.orderly members m.log
+    (runs (below_of m.slices) (below_of closed)) (runs (below_of mended) (below_of last)) c.close_gates-gone.ensures.runs c.close_gates-gone.ensures.closes
+    c.close_gates-gone.ensures.same c.mend_tables-left_out.ensures.mends c.mend_tables-left_out.ensures.tables marking (raid_in c.mark_gone.new.raid).state
+    (marked_for m.state t y m.checked m.absent.items places members (raid_in c.new-raid.result) c.new-raid.ensures.state are
+    (raid_in c.mark_gone.new.raid) (slices_of (tables mended) d) (slices_seen seen c.mark_gone.new.raid)
+    (subst (λ k. Mends (raid_in c.new-raid.result) (raid_in c.mark_gone.new.raid) (slices_of (tables k) (seen (below_of k))) (slices_seen seen c.mark_gone.new.raid))
+    c.new-raid.ensures.slices c.mark_gone.ensures.mends))

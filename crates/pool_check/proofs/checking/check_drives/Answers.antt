@@ -66,3 +66,6 @@ returns-in-Ok-clause-slots g c =
 pub returns-in-Ok-clause-room : goal.returns-in-Ok-clause-room
 returns-in-Ok-clause-room g c place d seat =
     subst (λ (m : ℕ). arrays_first + 32 < m) (c.again.invariant.only.stays.sectors d) (c.in-Ok.ensures.room place d seat)
+
+pub returns-in-Err-Fault-clause-counts : goal.returns-in-Err-Fault-clause-counts
+returns-in-Err-Fault-clause-counts g c = rw c.in-Err-Fault.field-0-is at c.in-Err-Fault.ensures.counts

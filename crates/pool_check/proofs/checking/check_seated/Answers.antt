@@ -12,7 +12,7 @@ use Rattle.pool_check.specs.Refusing.{is_well}
 use Rattle.pool_check.specs.Checking.{refused_by_layers}
 use Rattle.pool_check.proofs.AfterReads.{drives_then, halts_later}
 use Rattle.pool_check.proofs.Begins.{AreSmall}
-use Rattle.pool_check.proofs.Ends.{absent_refused, arrays_open, arrays_refused, damage_refused, few_absent}
+use Rattle.pool_check.proofs.Ends.{absent_refused, arrays_open, arrays_refused, damage_refused, few_absent, few_counts}
 use Rattle.pool_check.proofs.Founded.{are_founded}
 use Rattle.pool_check.proofs.Refused.{faultless}
 use Rattle.pool_check.proofs.checking.check_seated.Goals as goal
@@ -59,7 +59,7 @@ returns-in-Some-clause-halts g c o are copied =
     let small : AreSmall f =
     λ place d seat. subst (λ (n : ℕ). n < 2 ^ 48) (sym (are.sectors place d seat)) (c.requires.seating.small d (c.requires.seating.inside place d seat)) in
     arrays_refused (is_well c.args.bad) f few small c.requires.state.made (subst (λ (n : ℕ). n ≤ 1) count c.if-count-gt1.false) sound {layers = c.in-Ok.layers} layers
-    ∙ ap refused_by_layers (sym c.as_slice-2.ensures.value) ∙ sym c.in-Some.ensures
+    ∙ ap refused_by_layers (sym c.as_slice-2.ensures.value) ∙ sym c.in-Some.ensures.first
 
 pub returns-in-None-clause-checked : goal.returns-in-None-clause-checked
 returns-in-None-clause-checked g c o are copied =
@@ -75,7 +75,7 @@ returns-in-None-clause-checked g c o are copied =
     let small : AreSmall f =
     λ place d seat. subst (λ (n : ℕ). n < 2 ^ 48) (sym (are.sectors place d seat)) (c.requires.seating.small d (c.requires.seating.inside place d seat)) in
     arrays_open (is_well c.args.bad) f few small c.requires.state.made (subst (λ (n : ℕ). n ≤ 1) count c.if-count-gt1.false) sound {layers = c.in-Ok.layers} layers
-    (ap refused_by_layers (sym c.as_slice-2.ensures.value) ∙ sym c.in-None.ensures)
+    (ap refused_by_layers (sym c.as_slice-2.ensures.value) ∙ sym c.in-None.ensures.first)
 
 pub returns-in-None-clause-slots : goal.returns-in-None-clause-slots
 returns-in-None-clause-slots g c =
@@ -99,7 +99,7 @@ returns-in-None-clause-pool g c =
     are_founded s seats (record { few = c.requires.state.few; current = c.requires.seating.current }) c.in-Ok.layers
     (λ place d low seat.
     subst (λ (xs : List Layer). list_all (is_sound_on place) xs ≡ true) c.as_slice.ensures.value (c.in_default.ensures.drives place d low seat).supers)
-    (faultless c.in-Ok.layers.all.items (ap refused_by_layers (sym c.as_slice-2.ensures.value) ∙ sym c.in-None.ensures))
+    (faultless c.in-Ok.layers.all.items (ap refused_by_layers (sym c.as_slice-2.ensures.value) ∙ sym c.in-None.ensures.first))
     c.in-Ok.ensures.founded
 
 pub returns-in-None-clause-room : goal.returns-in-None-clause-room
@@ -108,3 +108,7 @@ returns-in-None-clause-room g c place d seat =
     let few = c.requires.state.few in
     subst (λ (n : ℕ). arrays_first + 32 < n) (c.in-Ok.ensures.only.stays.sectors d)
     (c.in_default.ensures.drives place d (omega (arith, listed, few)) seat).room
+
+pub returns-in-Err-check_places-clause-counts : goal.returns-in-Err-check_places-clause-counts
+returns-in-Err-check_places-clause-counts g c =
+    few_counts _ c.in-Err-check_places.halt (subst (λ (n : ℕ). n ≤ 1) c.absent_count-count.ensures c.if-count-gt1.false) c.in-Err-check_places.ensures.few

@@ -1,0 +1,26 @@
+-- Disks on which a pool left what holds a sound one again are such as an opening asks for.
+use Rattle.std.proofs.Common.{◌≡◌, inl, subst, sym, ap, ◌∙◌}
+use Rattle.rack.specs.Seen.{Seen}
+use Rattle.slice_rack.specs.Slices.{Slices}
+use Rattle.pool_state.specs.declared.contents.State.{State}
+use Rattle.pool_image.specs.Disks.{Disks, disks_of}
+use Rattle.pool_image.specs.Drives.{Found, found}
+use Rattle.pool_image.specs.Replay.{standing}
+use Rattle.pool_rest.specs.SoundLogs.{HasSoundLogs}
+use Rattle.pool_scan.specs.Scanning.{now_in}
+use Rattle.pool_model.specs.Left.{HoldAgain}
+use Rattle.assembler.specs.Holding.{AreSteady}
+use Rattle.assembler.specs.Sound.{HoldSound, MayStop}
+
+-- they hold a sound pool, and a stop inside an opening leaves what is told
+pub holds_again : (x : Seen) (f : Found) (t : Slices) (s : State) → AreSteady x → f.disks ≡ disks_of x → (again : HoldAgain f t s (now_in x))
+    → HoldSound x again.now × MayStop x again.now
+holds_again x f t s steady same again = (
+  record {
+    steady = steady;
+    found_is = ap (λ (disks : Disks). found disks (now_in x)) (sym same) ∙ again.found_is;
+    sound = again.sound;
+    logs = subst (λ (disks : Disks). HasSoundLogs disks (now_in x)) same again.logs;
+  },
+  inl (λ before at. again.idle before (ap (λ (disks : Disks). standing disks (now_in x)) same ∙ at)),
+)

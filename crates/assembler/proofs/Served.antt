@@ -1,0 +1,112 @@
+-- Arrays that were made over the slices of a pool, and only read after that, serve it: they hold what the pool's do.
+use Rattle.std.proofs.Common.{◌≡◌, ℕ, ◌<◌, ◌≤◌, false, ◌&&◌, is_some, length, Some, sym, ap, subst, ◌∙◌, arith}
+use Rattle.rack.specs.Seen.{IsLive, Seen}
+use Rattle.rack.specs.Sequences.{OnlyReads}
+use Rattle.slice_rack.specs.Slices.{Slices}
+use Rattle.pool_state.specs.declared.contents.State.{State}
+use Rattle.md_super.specs.declared.superblock.Super.{Super}
+use Rattle.array_image.specs.States.{is_current}
+use Rattle.array_model.specs.View.{sectors_of as sectors_in, shape_of}
+use Rattle.pool_image.specs.Alike.{IsSamePool}
+use Rattle.pool_image.specs.Drives.{Found}
+use Rattle.pool_image.specs.Meaning.{array_sectors, arrays_held, shape_of as shape_found, truth_of}
+use Rattle.pool_image.specs.Volumes.{Arrays}
+use Rattle.pool_image.proofs.Founds.{joined_same, super_same, truths_same}
+use Rattle.raid_rack.specs.declared.arrays.RaidRack.{RaidRack}
+use Rattle.raid_rack.specs.AllRuns.{AreCalls}
+use Rattle.raid_rack.specs.Book.{IsAfter, after_then}
+use Rattle.raid_rack.specs.Laws.{live_parts}
+use Rattle.raid_rack.specs.Raid.{Raid, is_over}
+use Rattle.raid_rack.specs.RaidRack.{IsFit, arrays_in, raid_in, raid_seen, slices_seen}
+use Rattle.pool_model.specs.Left.{IsServed}
+use Rattle.pool_model.specs.Pools.{AreSlicesOf}
+use Rattle.pool_model.proofs.Values.{HoldValues}
+use Rattle.assembler.specs.Holding.{HoldsArrays}
+use Rattle.assembler.specs.Volume.{AllLive}
+use Rattle.assembler.proofs.Founded.{array_later, array_same}
+use Rattle.assembler.proofs.Shapes.{shape_same}
+
+module _ {R : Type 0} (seen : R → Seen) (runs : R → R → Type 0) (e f : Found) (pool : IsSamePool e f) (a : Seen) (raid last : RaidRack R)
+    (kept : AreCalls seen runs raid last) (holds : HoldsArrays f (raid_in raid) a (slices_seen seen raid)) (alive : AllLive (raid_in last))
+    (ready : (raid_in raid).state.joined ≤ (raid_in raid).state.made) where
+  abbrev v : Raid
+  v = raid_in last
+
+  abbrev y : Seen
+  y = slices_seen seen last
+
+  low_of : (n : ℕ) → n < e.state.joined → n < f.state.joined
+  low_of n low = subst (λ (s : State). n < s.joined) (sym pool.state) low
+
+  now_low : (n : ℕ) → n < f.state.joined → n < v.state.joined
+  now_low n low = subst (λ k. n < k) (sym (kept.1.book.same.joined ∙ holds.after.same.joined)) low
+
+  made_low : (n : ℕ) → n < f.state.joined → n < (raid_in raid).state.made
+  made_low n low = (let joined = holds.after.same.joined in omega (arith, low, joined, ready))
+
+  sizes : (n : ℕ) → n < f.state.joined → sectors_in (v.arrays n) ≡ array_sectors f n
+  sizes n low = kept.2.sectors n ∙ holds.sectors n low
+
+  lasts : (n : ℕ) → n < f.state.joined → is_over v n ≡ false
+  lasts n low =
+      let some : 0 < sectors_in (v.arrays n) = (let room = holds.room n low in let is = sizes n low in omega (arith, room, is)) in
+      (live_parts v n 0 (alive n 0 (now_low n low) some)).0
+
+  pub later : IsAfter e.state v.state
+  later = after_then e.state (raid_in raid).state v.state (subst (λ (s : State). IsAfter s (raid_in raid).state) pool.state holds.after) kept.1.book
+
+  pub served : (t : Slices) → AreSlicesOf e t → e.state.joined ≡ e.state.made → IsServed e t v y
+  served t lie all = record {
+    slices = lie;
+    after = later;
+    joined = all;
+    told = λ n low. kept.1.told n (holds.told n (ready_low n low));
+    lasts = λ n low. lasts n (ready_low n low);
+    geometry = λ n u low truth.
+        let less = ready_low n low in
+        (array_later f n u ((raid_in raid).arrays n) (v.arrays n) (holds.arrays n u less (truths_same e f pool n ∙ truth)) (kept.2.arrays n (made_low n less))).geometry;
+  }
+    where
+      ready_low : (n : ℕ) → n < e.state.made → n < f.state.joined
+      ready_low n low = low_of n (subst (λ k. n < k) (sym all) low)
+
+  -- where just the drives without a disk are marked they have the shapes of the pool's
+  pub shapes_kept : (t : Slices) → AreSlicesOf e t → e.state.joined ≤ 16 → ((n : ℕ) → n < e.state.joined → (u : Super) × (truth_of e n ≡ Some u)) → IsFit (arrays_in last) y
+      → ((p : ℕ) → is_current v.state p ≡ (is_current e.state p && is_some (e.seats p)))
+      → (n : ℕ) → n < e.state.joined → shape_found e n ≡ Some (shape_of (v.arrays n))
+  shapes_kept t lie few truths fit marks n low =
+      let less = low_of n low in
+      let made = made_low n less in
+      let one = truths n low in
+      let there : n < v.state.made = subst (λ k. n < k) (sym kept.1.book.same.made) made in
+      shape_same e t lie n (omega (arith, low, few)) one.0 v y
+      (array_same e f n one.0 (v.arrays n) (super_same e f pool n)
+      (array_later f n one.0 ((raid_in raid).arrays n) (v.arrays n) (holds.arrays n one.0 less (truths_same e f pool n ∙ one.1)) (kept.2.arrays n made)))
+      (fit.running.set.arrays n there) (fit.heeded n there) marks one.1
+
+  -- and while they were only read they hold what they held
+  pub values_kept : OnlyReads (raid_seen seen raid) (raid_seen seen last)
+      → ((n : ℕ) → n < e.state.joined → shape_found e n ≡ Some (shape_of (v.arrays n))) → HoldValues e v y
+  values_kept reads shapes = record {
+    live = λ n x low inside. alive n x (now_low n (low_of n low)) inside;
+    sectors = λ n low. sizes n (low_of n low) ∙ sectors_same n;
+    values = λ n x u low inside live may.
+        let less = low_of n low in
+        let there : x < sectors_in (v.arrays n) = subst (λ k. x < k) (sym (sizes n less ∙ sectors_same n)) inside in
+        let is_live : IsLive (raid_seen seen raid) (raid_seen seen last) n x = record {
+          disk = (let made = kept.1.book.same.made in let most = made_low n less in omega (arith, made, most));
+          sector = there;
+          is_told = holds.told n less;
+          unspent = live;
+        } in
+        holds.values n x u less (reads.stays.spent n x live) ((reads.keeps.held n x is_live).within u may) ∙ held_same n x;
+    whole = λ n x low. subst (λ xs. length xs ≡ 512) (held_same n x) (holds.whole n x (low_of n low));
+    room = λ n low. (let room = holds.room n (low_of n low) in let same = sectors_same n in omega (arith, room, same));
+    shapes = shapes;
+  }
+    where
+      sectors_same : (n : ℕ) → array_sectors f n ≡ array_sectors e n
+      sectors_same n = ap (λ (k : Arrays). k.sectors n) (joined_same e f pool)
+
+      held_same : (n x : ℕ) → arrays_held f n x ≡ arrays_held e n x
+      held_same n x = ap (λ (k : Arrays). k.contents n x) (joined_same e f pool)

@@ -1,0 +1,440 @@
+-- What an opening knows once its arrays are made, as far as that is shared by its answers.
+use Rattle.slice_rack.specs.SliceRack.{below_of, tables}
+use Rattle.slice_rack.specs.Sliced.{slices_of}
+use Rattle.raid_rack.specs.RaidRack.{raid_in, slices_in, slices_seen, written_in}
+use Rattle.array_image.specs.States.{is_current}
+use Rattle.commit_log.specs.View.{names}
+use Rattle.pool_state.specs.declared.contents.State.{State}
+use Rattle.std.proofs.Common.{◌≡◌, ◌⊎◌, ◌<◌, ◌≤◌, ◌&&◌, ℕ, Bool, true, false, not, is_none, is_some, List, Option, Some, None, option_map, inl, inr, refl, sym, ap, ap₂, subst, ◌∙◌, arith}
+use Rattle.rack.specs.Seen.{Image, IsPick, Rose, Seen, Stays}
+use Rattle.rack.specs.Moments.{Leaves}
+use Rattle.rack.specs.Joins.{stays_then}
+use Rattle.rack.specs.Sequences.{WritesOnly}
+use Rattle.slice_rack.specs.Runs.{IsSliced, inside_still}
+use Rattle.slice_rack.specs.Slices.{Slices, disk_of, seat_of}
+use Rattle.lvm_group.specs.Volume.{below_of as rack_in}
+use Rattle.pool_image.specs.Alike.{IsSamePool}
+use Rattle.pool_image.specs.Disks.{disks_of}
+use Rattle.pool_image.specs.Drives.{Found}
+use Rattle.pool_image.specs.Meaning.{bad_volume, joined_arrays, refused_by}
+use Rattle.pool_image.specs.Volumes.{first_bad}
+use Rattle.pool_scan.specs.declared.Known.{Known}
+use Rattle.pool_scan.specs.Choosing.{seat_by}
+use Rattle.pool_check.specs.Checking.{IsChecked}
+use Rattle.pool_check.specs.Drives.{Loses}
+use Rattle.pool_check.specs.Refusing.{is_well}
+use Rattle.pool_check.specs.Settling.{KeepsTable}
+use Rattle.array_model.specs.View.{HasFault}
+use Rattle.pool_scan.specs.Scanning.{IsUnfaulted, now_in}
+use Rattle.pool_scan.proofs.Valid.{valid_arrays}
+use Rattle.raid_rack.specs.Book.{IsAfter}
+use Rattle.raid_rack.specs.Raid.{is_used_up}
+use Rattle.raid_rack.proofs.Live.{runs_unused}
+use Rattle.assembler.specs.declared.refusal.Refusal.{Refusal}
+use Rattle.assembler.specs.declared.refusal.Refusal.TheVariants.{BadVolume, Memory}
+use Rattle.assembler.specs.Causes.{HasChecked, IsBadOn, IsShortOn, RefusesArrays, RefusesPool, arrays_on}
+use Rattle.assembler.specs.Marking.{AreMarkedFor}
+use Rattle.assembler.specs.Holding.{HoldPool, HoldsArrays}
+use Rattle.assembler.specs.Members.{AreMembers}
+use Rattle.pool_model.specs.Left.{AreAlone, AreElsewhere, HoldSame, IsPickOff, IsServed}
+use Rattle.pool_model.specs.Pools.{AreSlicesOf}
+use Rattle.pool_model.proofs.Again.{left_known}
+use Rattle.pool_model.proofs.Found.{found_is, some_made}
+use Rattle.pool_model.proofs.Values.{HoldValues, same_again}
+use Rattle.assembler.specs.Sound.{HoldSound, KeepsPool, MayStop}
+use Rattle.assembler.specs.Volume.{AllLive, AreStill}
+use Rattle.assembler.specs.Wanting.{HasUsedUp}
+use Rattle.assembler.specs.Writing.{IsDriveOrTable}
+use Rattle.assembler.proofs.Causes.{loses_since, marked_since}
+use Rattle.assembler.proofs.Drives.{members_drives}
+use Rattle.assembler.proofs.Early.{early_leaves}
+use Rattle.assembler.proofs.Elsewhere.{elsewhere}
+use Rattle.assembler.proofs.Finding.{same as found_by_rest}
+use Rattle.assembler.proofs.Entry.{IsRested, quiet_first, quiet_last, pool_same, rest_found, rested_so}
+use Rattle.assembler.proofs.Leaving.{IsAsRead, refused_leaves}
+use Rattle.assembler.proofs.Marks.{marks_still}
+use Rattle.assembler.proofs.Meaning.{check_passes}
+use Rattle.assembler.proofs.Mended.{opening_keeps}
+use Rattle.assembler.proofs.Served.{shapes_kept, later, served, values_kept}
+use Rattle.assembler.proofs.Volumes.{live_later}
+use Rattle.assembler.proofs.Lies.{slices_lie, slices_same}
+use Rattle.assembler.proofs.opening.assemble.Given.{Over}
+use Rattle.assembler.proofs.opening.assemble.Goals.{After-make_rack, In-Err-open_volume, In-Ok-open_volume}
+
+disks_still : (a b : Seen) → Stays a b → disks_of a ≡ disks_of b
+disks_still a b stays = ap₂ (λ count sectors. record { count = count; sectors = sectors }) (sym stays.disks) (λ i d. sym (stays.sectors d) i)
+
+some_is : (o : Option ℕ) → not (is_none o) ≡ is_some o
+some_is None = refl
+some_is (Some d) = refl
+
+marks_of : (current none absent : Bool) → absent ≡ (none && current) → (current && not absent) ≡ (current && not none)
+marks_of true none absent is = ap not (is ∙ of none)
+  where
+    of : (b : Bool) → (b && true) ≡ b
+    of true = refl
+    of false = refl
+marks_of false none absent is = refl
+
+-- ---- once arrays are made
+
+-- The disks are `a` before the opening, `x` at rest, `y` once they are checked and `z` once arrays are made of them, over slices by the tables `t`. Where
+-- they held a sound pool `e`, it is `f` at rest.
+module _ (g : Over) (c : After-make_rack g) where
+  abbrev pub a : Seen
+  a = g.R.Rack.seen c.args.rack
+
+  abbrev pub x : Seen
+  x = g.R.Rack.seen (below_of c.in-Ok.rest.slices)
+
+  abbrev pub y : Seen
+  y = g.R.Rack.seen (below_of c.in-Ok-check.members.slices)
+
+  abbrev pub z : Seen
+  z = g.R.Rack.seen (below_of (slices_in c.make_rack.result))
+
+  abbrev pub t : Slices
+  t = tables c.in-Ok-check.members.slices
+
+  abbrev pub known : List Known
+  known = c.in-Ok.rest.scan.disks.items
+
+  pub ax : Stays a x
+  ax = c.in-Ok.ensures.only.only.stays
+
+  pub xy : Stays x y
+  xy = c.in-Ok-check.ensures.only.stays
+
+  pub ay : Stays a y
+  ay = stays_then ax xy
+
+  pub yz : Stays y z
+  yz = c.make_rack.ensures.only.stays
+
+  pub ready : (raid_in c.make_rack.result).state.joined ≤ (raid_in c.make_rack.result).state.made
+  ready =
+      let least = (valid_arrays c.in-Ok-check.members.state 0 c.in-Ok-check.ensures.members.valid).3 in
+      let joined = c.make_rack.ensures.joined in
+      let made = c.make_rack.ensures.made in
+      omega (arith, least, joined, made)
+
+  -- a place has lost its disk only where that refused a call
+  pub lost : Loses a y (seat_by c.in-Ok.rest.state known) (seat_of t)
+  lost =
+      loses_since a x y known c.in-Ok.rest.state c.in-Ok.rest.gone.items (seat_of t) ax xy c.in-Ok-check.ensures.loses c.in-Ok.ensures.valid c.in-Ok.ensures.gone
+
+  -- and is marked only then, or where it had none
+  pub marked : (w : Seen) (s : State) → Stays y w → AreMarkedFor y w (seat_of t) c.in-Ok-check.members.state s
+      → AreMarkedFor a w (seat_by c.in-Ok.rest.state known) c.in-Ok.rest.state s
+  marked w s stays marks =
+      marked_since a x y w ax xy stays (seat_by c.in-Ok.rest.state known) (seat_of t) c.in-Ok.rest.state s lost
+      (subst (λ (r : State). AreMarkedFor y w (seat_of t) r s) c.in-Ok-check.ensures.state marks)
+
+  -- where slices alone are written from then on
+  module _ (w : Seen) (texts : WritesOnly z w (IsSliced t)) where
+    pub drives_only : WritesOnly x w (IsDriveOrTable x known c.in-Ok.rest.state)
+    drives_only =
+        members_drives c.in-Ok-check.members.state t y c.in-Ok-check.members.checked c.in-Ok-check.members.absent.items known c.in-Ok.rest.state
+        c.in-Ok-check.members.slices.orderly c.in-Ok-check.ensures.members c.in-Ok-check.ensures.state c.in-Ok-check.ensures.seats x z w c.in-Ok-check.ensures.only
+        c.make_rack.ensures.only texts
+
+    pub tables_kept : (p d : ℕ) → seat_of t p ≡ Some d → KeepsTable a w d
+    tables_kept p d seat =
+        opening_keeps c.in-Ok-check.members.state c.in-Ok.ensures.only.state t a x y z w c.in-Ok-check.members.checked c.in-Ok-check.members.absent.items
+        c.in-Ok.ensures.only.known c.in-Ok-check.members.slices.orderly c.in-Ok-check.ensures.members c.in-Ok.ensures.only.only c.in-Ok-check.ensures.only yz texts p d seat
+        (c.make_rack.ensures.keeps p d seat)
+
+  module _ (to_z : IsUnfaulted a z) where
+    pub to_y : IsUnfaulted a y
+    to_y = quiet_first a y z yz to_z
+
+    pub to_x : IsUnfaulted a x
+    to_x = quiet_first a x y xy to_y
+
+    pub from_y : IsUnfaulted y z
+    from_y = quiet_last a y z ay to_z
+
+    -- ---- and the disks held a sound pool
+
+    module _ (e : Found) (sound : HoldSound a e) where
+      pub rested : IsRested g.R.Rack.seen a c.in-Ok.rest
+      rested =
+          let is = c.in-Ok.ensures in
+          rested_so g.R.Rack.seen a c.in-Ok.rest e sound ax to_x is.newest is.stands is.settled is.steady is.looked is.single
+
+      -- the pool at rest
+      abbrev pub f : Found
+      f = rested.settled.means.now
+
+      pub same : IsSamePool e f
+      same = pool_same g.R.Rack.seen a c.in-Ok.rest e sound rested
+
+      pub checked : HoldPool c.in-Ok-check.members.state t y c.in-Ok-check.members.log f × IsChecked (is_well None) f c.in-Ok-check.members.checked
+      checked =
+          c.in-Ok-check.ensures.holds f (rest_found g.R.Rack.seen a c.in-Ok.rest e sound rested) (λ p d gone seat. to_x d (c.in-Ok.ensures.gone p d gone seat))
+          (quiet_last a x y ax to_y)
+
+      pub state : f.state ≡ c.in-Ok-check.members.state
+      state = checked.0.pool.state
+
+      pub members : AreMembers f.state t y c.in-Ok-check.members.checked c.in-Ok-check.members.absent.items
+      members =
+          subst (λ (s : State). AreMembers s t y c.in-Ok-check.members.checked c.in-Ok-check.members.absent.items) (sym state) c.in-Ok-check.ensures.members
+
+      pub holds : HoldPool f.state t y c.in-Ok-check.members.log f
+      holds = subst (λ (s : State). HoldPool s t y c.in-Ok-check.members.log f) (sym state) checked.0
+
+      pub lie : AreSlicesOf f t
+      lie =
+          slices_lie f t y c.in-Ok-check.members.checked c.in-Ok-check.members.absent.items c.in-Ok-check.members.slices.orderly members holds.steady holds.pool
+          checked.1.opened
+
+      -- nothing is refused but the volume maybe
+      pub passes : refused_by f ≡ option_map bad_volume (first_bad (joined_arrays f))
+      passes =
+          check_passes x known c.in-Ok.rest.state (tables c.in-Ok.rest.slices) c.in-Ok.rest.on.items c.in-Ok.rest.log c.in-Ok.rest.pending c.in-Ok.rest.damaged f
+          (rest_found g.R.Rack.seen a c.in-Ok.rest e sound rested) rested.settled.whole c.in-Ok-check.members.checked checked.1
+
+      -- what stops left up to the check
+      pub early : MayStop a e → a.traced
+          → Leaves a y
+          (IsAsRead f t y c.in-Ok-check.members.checked c.in-Ok-check.members.absent.items c.in-Ok-check.members.slices.orderly members holds.steady holds.pool checked.1
+          holds.sound c.in-Ok-check.members.log holds.log)
+      early =
+          let is = c.in-Ok.ensures in
+          let told = sound.steady.told in
+          let lasts = sound.steady.lasts in
+          early_leaves g.R.Rack.seen a c.in-Ok.rest e sound rested t y c.in-Ok-check.members.checked c.in-Ok-check.members.absent.items
+          c.in-Ok-check.members.slices.orderly c.in-Ok-check.members.log members holds checked.1 lie c.in-Ok-check.ensures.only (state ∙ c.in-Ok-check.ensures.state)
+          (is.idle told lasts to_x) (λ none. is.keeps told lasts to_x sound.logs none sound.steady.single)
+          (λ lower. is.brought told lasts to_x sound.logs lower sound.steady.single)
+
+      pub arrays : HoldsArrays f (raid_in c.make_rack.result) (slices_of t y) (slices_seen g.R.Rack.seen c.make_rack.result)
+      arrays = c.make_rack.ensures.holds f checked.0 checked.1 from_y
+
+      -- those are marked missing that were, or have no disk
+      pub marks_made : (p : ℕ) → is_current (raid_in c.make_rack.result).state p ≡ (is_current e.state p && is_some (e.seats p))
+      marks_made p =
+          let m = c.in-Ok-check.members in
+          let pool = checked.0.pool in
+          (c.make_rack.ensures.marks from_y).marks p
+          ∙ marks_of (is_current m.state p) (is_none (seat_of t p)) (names m.absent.items p) (c.in-Ok-check.ensures.members.absent_is p)
+          ∙ ap (λ b. is_current m.state p && b) (some_is (seat_of t p))
+          ∙ ap₂ (λ (r : State) (o : Option ℕ). is_current r p && is_some o) (sym pool.state) (sym (pool.seats p))
+          ∙ ap₂ (λ (r : State) (o : Option ℕ). is_current r p && is_some o) same.state (same.seats p)
+
+      -- outside the slices the disks are as they were, whatever they may be left with
+      pub off_slices : (w : Seen) → WritesOnly z w (IsSliced t) → (i : Image) → IsPickOff t w i → AreElsewhere e i
+      off_slices w own i off =
+          let m = c.in-Ok-check.members in
+          let rest = c.in-Ok.rest in
+          let found = rest_found g.R.Rack.seen a rest e sound rested in
+          elsewhere m.state c.in-Ok.ensures.only.state t a x y z w m.checked m.absent.items c.in-Ok.ensures.only.known m.slices.orderly c.in-Ok-check.ensures.members
+          c.in-Ok.ensures.only.only c.in-Ok-check.ensures.only c.make_rack.ensures.only own sound.steady found.steady e f same
+          (found_is (disks_of a) (now_in a) e sound.found_is).1
+          (λ d. ap (λ (j : Found). j.identities d) (sym (found_by_rest x rest.scan.disks.items rest.state (tables rest.slices) rest.on.items rest.log rest.pending rest.damaged f found)))
+          (λ p. sym (holds.pool.seats p)) (tables_kept w own) i off
+
+-- ---- once a volume is opened on them
+
+module _ (g : Over) (c : In-Ok-open_volume g) where
+  abbrev pub made : After-make_rack g
+  made = c.before.before
+
+  abbrev pub opened : Seen
+  opened = g.R.Rack.seen (below_of (slices_in (rack_in c.in-Ok-open_volume.volume)))
+
+  pub texts : WritesOnly (z g made) opened (IsSliced (tables (slices_in c.make_rack.result)))
+  texts = (let inside = c.make_rack.ensures.fit.running.set.fit in c.in-Ok-open_volume.ensures.opens.kept.0.apart inside.0 inside.1)
+
+  pub own_texts : WritesOnly (z g made) opened (IsSliced (t g made))
+  own_texts = subst (λ (u : Slices). WritesOnly (z g made) opened (IsSliced u)) c.make_rack.ensures.tables texts
+
+  module _ (quiet : IsUnfaulted (a g made) opened) where
+    pub first_quiet : IsUnfaulted (a g made) (z g made)
+    first_quiet = quiet_first (a g made) (z g made) opened texts.stays quiet
+
+    pub last_quiet : IsUnfaulted (z g made) opened
+    last_quiet = quiet_last (a g made) (z g made) opened (stays_then (ay g made) (yz g made)) quiet
+
+    pub nobody_failed : (place : ℕ) → HasFault (slices_seen g.R.Rack.seen c.make_rack.result) (slices_seen g.R.Rack.seen (rack_in c.in-Ok-open_volume.volume)) place → ⊥
+    nobody_failed place fault =
+        last_quiet (disk_of (tables (slices_in c.make_rack.result)) fault.0)
+        (subst
+        (λ u. Rose ((z g made).faults (disk_of (tables (slices_in c.make_rack.result)) fault.0)) (opened.faults (disk_of u fault.0)))
+        c.in-Ok-open_volume.ensures.opens.kept.0.tables fault.2)
+
+    -- no sector of the arrays is spent, before it and after it
+    pub live_first : AllLive (raid_in c.make_rack.result)
+    live_first =
+        (c.make_rack.ensures.marks (from_y g made first_quiet)).live
+        (runs_unused g.R.Rack.seen g.R.Rack.runs c.make_rack.result (rack_in c.in-Ok-open_volume.volume) c.in-Ok-open_volume.ensures.opens.kept
+        c.in-Ok-open_volume.ensures.opens.unused)
+
+    pub live_last : AllLive (raid_in (rack_in c.in-Ok-open_volume.volume))
+    live_last =
+        live_later g.R.Rack.seen g.R.Rack.runs c.make_rack.result (rack_in c.in-Ok-open_volume.volume) c.in-Ok-open_volume.ensures.opens.kept c.make_rack.ensures.fit
+        c.in-Ok-open_volume.ensures.fit.0 last_quiet (ready g made) c.in-Ok-open_volume.ensures.opens.unused (c.make_rack.ensures.marks (from_y g made first_quiet)).live
+
+-- ---- or none is
+
+module _ (g : Over) (c : In-Err-open_volume g) where
+  abbrev pub built : After-make_rack g
+  built = c.before.before
+
+  abbrev pub ended : Seen
+  ended = g.R.Rack.seen (below_of (slices_in c.in-Err-open_volume.ensures.refused.last))
+
+  pub calls : WritesOnly (z g built) ended (IsSliced (tables (slices_in c.make_rack.result)))
+  calls = (let inside = c.make_rack.ensures.fit.running.set.fit in c.in-Err-open_volume.ensures.refused.kept.0.apart inside.0 inside.1)
+
+  pub own_calls : WritesOnly (z g built) ended (IsSliced (t g built))
+  own_calls = subst (λ (u : Slices). WritesOnly (z g built) ended (IsSliced u)) c.make_rack.ensures.tables calls
+
+  -- why
+  pub arrays_for : (why : Refusal)
+      → ((why ≡ Memory) × IsShortOn g.R.Rack.seen (arrays_on c.make_rack.result) (arrays_on c.in-Err-open_volume.ensures.refused.last))
+      ⊎ ((array : ℕ) × (why ≡ BadVolume array) × IsBadOn g.R.Rack.seen (arrays_on c.make_rack.result) (arrays_on c.in-Err-open_volume.ensures.refused.last) array)
+      → RefusesArrays g.R.Rack.seen g.R.Rack.runs c.args.rack (below_of c.in-Ok.rest.slices) c.in-Err-open_volume.back.rack (known g built) c.in-Ok.rest.state why
+  arrays_for why cause =
+      let check = c.in-Ok-check.ensures in
+      let m = c.in-Ok-check.members in
+      let raid = c.make_rack.result in
+      let refused = c.in-Err-open_volume.ensures.refused in
+      record {
+        at = below_of m.slices;
+        made = arrays_on raid;
+        last = arrays_on refused.last;
+        kept = (check.runs, c.make_rack.ensures.runs);
+        checked = m.checked;
+        drives =
+            subst (λ (u : Slices). HasChecked (a g built) (x g built) (y g built) (known g built) c.in-Ok.rest.state u m.checked) (sym c.make_rack.ensures.tables) (record {
+              only = check.only;
+              absent = m.absent.items;
+              members = subst (λ (s : State). AreMembers s (t g built) (y g built) m.checked m.absent.items) check.state check.members;
+              loses = lost g built;
+              few = check.few;
+              are = check.are;
+            });
+        book = subst (λ (s : State). IsAfter s (raid_in raid).state) check.state c.make_rack.ensures.book;
+        marks = marked g built (z g built) (raid_in raid).state (yz g built) c.make_rack.ensures.caused;
+        arrays = c.make_rack.ensures.arrays;
+        fit = c.make_rack.ensures.fit;
+        slices = refused.kept.0;
+        raid = refused.kept.1;
+        serves = refused.kept.2;
+        back_is = refused.back;
+        cause = cause;
+      }
+
+  pub pool_for : (why : Refusal)
+      → RefusesArrays g.R.Rack.seen g.R.Rack.runs c.args.rack (below_of c.in-Ok.rest.slices) c.in-Err-open_volume.back.rack (known g built) c.in-Ok.rest.state why
+      → RefusesPool g.R.Rack.seen g.R.Rack.runs c.args.rack c.in-Err-open_volume.back.rack why
+  pool_for why arrays =
+      let is = c.in-Ok.ensures in
+      let rest = c.in-Ok.rest in
+      record {
+        mid = below_of rest.slices;
+        kept = is.runs;
+        early = is.only;
+        known = known g built;
+        state = rest.state;
+        newest = is.newest;
+        one = is.one;
+        bad = rest.damaged;
+        logs = record { slices = tables rest.slices; on = rest.on.items; log = rest.log; is_pending = rest.pending; laid = is.laid; finds = is.finds };
+        cause = inr (c.in-Ok-check.ensures.whole, arrays);
+      }
+
+  pub numbers_ended : is_used_up (raid_in c.in-Err-open_volume.ensures.refused.last) ≡ true
+      → HasUsedUp g.R.Rack.seen g.R.Rack.runs c.args.rack c.in-Err-open_volume.back.rack
+  unfolding pool_for arrays_for
+  numbers_ended used = (let arrays = arrays_for Memory (inl (refl, inr used)) in record { pool = pool_for Memory arrays; arrays = arrays; used_up = used })
+
+  module _ (quiet : IsUnfaulted (a g built) (g.R.Rack.seen c.in-Err-open_volume.back.rack)) where
+    pub all_quiet : IsUnfaulted (a g built) ended
+    all_quiet = subst (λ r. IsUnfaulted (a g built) (g.R.Rack.seen r)) (sym c.in-Err-open_volume.ensures.refused.back) quiet
+
+    pub made_quiet : IsUnfaulted (a g built) (z g built)
+    made_quiet = quiet_first (a g built) (z g built) ended calls.stays all_quiet
+
+    module _ (e : Found) (sound : HoldSound (a g built) e) (still : AreStill g.R.Rack.seen c.make_rack.result c.in-Err-open_volume.ensures.refused.last) where
+      pub live_still : AllLive (raid_in c.in-Err-open_volume.ensures.refused.last)
+      live_still =
+          live_later g.R.Rack.seen g.R.Rack.runs c.make_rack.result c.in-Err-open_volume.ensures.refused.last c.in-Err-open_volume.ensures.refused.kept c.make_rack.ensures.fit
+          still.fit (quiet_last (a g built) (z g built) ended (stays_then (ay g built) (yz g built)) all_quiet) (ready g built) still.unused
+          (c.make_rack.ensures.marks (from_y g built made_quiet)).live
+
+      nobody_went : (place : ℕ) → HasFault (slices_seen g.R.Rack.seen c.make_rack.result) (slices_seen g.R.Rack.seen c.in-Err-open_volume.ensures.refused.last) place → ⊥
+      nobody_went place fault =
+          quiet_last (a g built) (z g built) ended (stays_then (ay g built) (yz g built)) all_quiet (disk_of (tables (slices_in c.make_rack.result)) fault.0)
+          (subst
+          (λ u. Rose ((z g built).faults (disk_of (tables (slices_in c.make_rack.result)) fault.0)) (ended.faults (disk_of u fault.0)))
+          c.in-Err-open_volume.ensures.refused.kept.0.tables fault.2)
+
+      -- nobody is marked since
+      pub marks_kept : (p : ℕ) → is_current (raid_in c.in-Err-open_volume.ensures.refused.last).state p ≡ (is_current e.state p && is_some (e.seats p))
+      marks_kept p =
+          let raid = c.make_rack.result in
+          let refused = c.in-Err-open_volume.ensures.refused in
+          marks_still (written_in raid) (written_in refused.last) (raid_in raid) (raid_in refused.last) (slices_seen g.R.Rack.seen raid) (slices_seen g.R.Rack.seen refused.last)
+          refused.kept.1 c.make_rack.ensures.fit.heeded still.fit.heeded nobody_went p
+          ∙ marks_made g built made_quiet e sound p
+
+      -- whatever the disks may be left with holds the pool again
+      pub pool_again : e.state.joined ≡ e.state.made → (i : Image) → IsPick ended ended ended.held i → AreAlone e i
+          → HoldSame e (t g built) (raid_in c.in-Err-open_volume.ensures.refused.last).state i
+      pool_again all i pick alone =
+          let seen = g.R.Rack.seen in
+          let runs = g.R.Rack.runs in
+          let raid = c.make_rack.result in
+          let refused = c.in-Err-open_volume.ensures.refused in
+          let pool = same g built made_quiet e sound in
+          let has = arrays g built made_quiet e sound in
+          let there : tables (slices_in refused.last) ≡ t g built = refused.kept.0.tables ∙ c.make_rack.ensures.tables in
+          let v = raid_in refused.last in
+          let own : AreSlicesOf e (t g built) = slices_same e (f g built made_quiet e sound) pool (t g built) (lie g built made_quiet e sound) in
+          let serves : IsServed e (t g built) v (slices_of (t g built) ended) =
+          subst (λ u. IsServed e (t g built) v (slices_of u ended)) there
+          (served seen runs e (f g built made_quiet e sound) pool (slices_of (t g built) (y g built)) raid refused.last refused.kept has live_still (ready g built) (t g built) own all) in
+          let few = (some_made e (found_is (disks_of (a g built)) (now_in (a g built)) e sound.found_is).0).1 in
+          let shapes =
+          shapes_kept seen runs e (f g built made_quiet e sound) pool (slices_of (t g built) (y g built)) raid refused.last refused.kept has live_still (ready g built)
+          (t g built) own (omega (arith, few, all))
+          (λ n low. let truth = sound.sound.rules.arrays n (subst (λ k. n < k) all low) in (truth.0, truth.1)) still.fit marks_kept in
+          let values : HoldValues e v (slices_of (t g built) ended) =
+          subst (λ u. HoldValues e v (slices_of u ended)) there
+          (values_kept seen runs e (f g built made_quiet e sound) pool (slices_of (t g built) (y g built)) raid refused.last refused.kept has live_still (ready g built) still.reads shapes) in
+          let stays : Stays (y g built) ended = stays_then (yz g built) calls.stays in
+          let whole : Stays (a g built) ended = stays_then (ay g built) stays in
+          same_again e (t g built) v (slices_of (t g built) ended) i
+          (left_known e (t g built) ended v serves (inside_still stays (members g built made_quiet e sound).fit.1) (disks_of (a g built)) (now_in (a g built)) i sound.found_is
+          (disks_still (a g built) ended whole) sound.sound (off_slices g built made_quiet e sound ended own_calls i (λ d u live never. pick d u live)) alone pick)
+          values
+
+      -- the arrays that the pool had are there at every moment
+      pub pool_kept : KeepsPool (a g built) (g.R.Rack.seen c.in-Err-open_volume.back.rack) e
+      pool_kept =
+          let seen = g.R.Rack.seen in
+          let runs = g.R.Rack.runs in
+          let m = c.in-Ok-check.members in
+          let raid = c.make_rack.result in
+          let refused = c.in-Err-open_volume.ensures.refused in
+          let pool = same g built made_quiet e sound in
+          let has = holds g built made_quiet e sound in
+          subst (λ r. KeepsPool (a g built) (seen r) e) refused.back (record {
+            slices = t g built;
+            are = slices_same e (f g built made_quiet e sound) pool (t g built) (lie g built made_quiet e sound);
+            moments = λ calm traced.
+                let onwards = (ay g built).traced traced in
+                refused_leaves (f g built made_quiet e sound) (t g built) (y g built) m.checked m.absent.items m.slices.orderly (members g built made_quiet e sound)
+                has.steady has.pool (checked g built made_quiet e sound).1 has.sound m.log has.log seen runs (a g built) raid refused.last e _
+                (IsSliced (tables (slices_in raid))) pool (early g built made_quiet e sound calm traced) (arrays g built made_quiet e sound)
+                ((c.make_rack.ensures.marks (from_y g built made_quiet)).live (runs_unused seen runs raid refused.last refused.kept still.unused)) live_still
+                (ready g built) c.make_rack.ensures.tables c.make_rack.ensures.only onwards refused.kept still.reads calls ((yz g built).traced onwards);
+            tables = λ p d seat. tables_kept g built ended own_calls p d (sym (has.pool.seats p) ∙ pool.seats p ∙ seat);
+            state = (raid_in refused.last).state;
+            after = later seen runs e (f g built made_quiet e sound) pool (slices_of (t g built) (y g built)) raid refused.last refused.kept (arrays g built made_quiet e sound) live_still (ready g built);
+            marks = marks_kept;
+            again = pool_again;
+          })

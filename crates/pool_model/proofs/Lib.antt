@@ -1,0 +1,11 @@
+pub mod Current
+pub mod Named
+pub mod Found
+pub mod Copies
+pub mod Seats
+pub mod Rested
+pub mod Layers
+pub mod Extents
+pub mod Again
+pub mod Undamaged
+pub mod Values

@@ -1,0 +1,101 @@
+-- Where the arrays of a book hold what the pool's do, the pool that is found again has the same volumes, and the same bad arrays.
+use Rattle.std.proofs.Common.{◌≡◌, ℕ, ◌<◌, ◌≤◌, List, [], length, Option, Some, sym, ap, subst, ◌∙◌, arith}
+use Rattle.std.specs.Option.{option_map_or}
+use Rattle.rack.specs.Values.{MayLeave}
+use Rattle.rack.specs.Seen.{Image, Seen}
+use Rattle.shr_base.specs.declared.Id.{Id}
+use Rattle.slice_rack.specs.Slices.{Slices}
+use Rattle.pool_state.specs.declared.contents.State.{State}
+use Rattle.array_image.specs.Arrays.{Shape, sectors_by, value_by}
+use Rattle.array_model.specs.View.{sectors_of as sectors_in, shape_of}
+use Rattle.raid_rack.specs.Raid.{Raid, held_in, live_of}
+use Rattle.pool_image.specs.Drives.{Found, slices_of}
+use Rattle.pool_image.specs.Meaning.{array_sectors, arrays_held, joined_arrays, shape_of as shape_found}
+use Rattle.pool_image.specs.Volumes.{Arrays}
+use Rattle.pool_image.proofs.Groups.{AreWholeArrays}
+use Rattle.pool_image.proofs.Joined.{AreAlike, bad_kept, group_kept, volumes_kept}
+use Rattle.pool_scan.proofs.Valid.{valid_arrays}
+use Rattle.pool_model.specs.Left.{HoldSame}
+use Rattle.pool_model.proofs.Again.{known_again, members, same}
+use Rattle.pool_model.proofs.Copies.{IsKnown, c, s}
+use Rattle.pool_model.proofs.Current.{array_current, shape_current}
+use Rattle.pool_model.proofs.Extents.{says}
+use Rattle.pool_model.proofs.Found.{valid}
+use Rattle.pool_model.proofs.Rested.{now}
+use Rattle.pool_model.proofs.Undamaged.{present_now, sound_parts}
+
+-- No sector of the arrays that are ready for the volume is spent, and they have the sectors and the contents of the pool's, whole sectors with
+-- room for a label. They have the shapes of the pool's.
+pub record HoldValues (f : Found) (v : Raid) (y : Seen) : Type 0 where
+  pub live : (n x : ℕ) → n < f.state.joined → x < sectors_in (v.arrays n) → live_of v n x
+  pub sectors : (n : ℕ) → n < f.state.joined → sectors_in (v.arrays n) ≡ array_sectors f n
+  pub values : (n x : ℕ) (u : List ℕ) → n < f.state.joined → x < array_sectors f n → live_of v n x → MayLeave (held_in v y n x) u → u ≡ arrays_held f n x
+  pub whole : (n x : ℕ) → n < f.state.joined → length (arrays_held f n x) ≡ 512
+  pub room : (n : ℕ) → n < f.state.joined → 4 ≤ array_sectors f n
+  pub shapes : (n : ℕ) → n < f.state.joined → shape_found f n ≡ Some (shape_of (v.arrays n))
+
+module _ (f : Found) (t : Slices) (v : Raid) (y : Seen) (i : Image) (known : IsKnown f t v y i) (holds : HoldValues f v y) where
+  abbrev book : State
+  book = s f t v y i known
+
+  abbrev held : Image
+  held = c f t v y i known
+
+  abbrev g : Found
+  g = now f t v y i known
+
+  all_valid : (1 ≤ f.state.joined) × (f.state.joined ≤ f.state.made)
+  all_valid = (let of = valid f known.is in let all = valid_arrays f.state of.0 of.1 in (all.2, all.3))
+
+  made_low : (n : ℕ) → n < f.state.joined → n < f.state.made
+  made_low n low = (let most = all_valid.1 in omega (arith, low, most))
+
+  module _ (n : ℕ) (low : n < f.state.joined) where
+    shape_now : shape_found g n ≡ Some (shape_of (v.arrays n))
+    shape_now =
+        shape_current book (slices_of g) held n (same f t v y i known n (made_low n low))
+        ∙ (says f t v y i known n (made_low n low)).shape_is
+
+    sectors_now : array_sectors g n ≡ array_sectors f n
+    unfolding shape_of
+    sectors_now = ap (λ (o : Option Shape). option_map_or sectors_by o 0) shape_now ∙ holds.sectors n low
+
+    values_now : (x : ℕ) → x < array_sectors f n → arrays_held g n x ≡ arrays_held f n x
+    values_now x inside =
+        let less = made_low n low in
+        let alive : live_of v n x = holds.live n x low (subst (λ k. x < k) (sym (holds.sectors n low)) inside) in
+        array_current book (slices_of g) held n (same f t v y i known n less) (members f t v y i known n less) x
+        ∙ ap (λ (o : Option Shape). option_map_or (λ shape. value_by shape held n x) o []) (says f t v y i known n less).shape_is
+        ∙ holds.values n x (value_by (shape_of (v.arrays n)) held n x) low inside alive ((says f t v y i known n less).value x alive)
+
+  whole : AreWholeArrays (joined_arrays f)
+  whole = record { whole = λ n low x inside. holds.whole n x low; room = λ n low. holds.room n low }
+
+  alike : AreAlike (joined_arrays g) (joined_arrays f)
+  alike = record {
+    pool = ap (λ (k : Id). k.0) known.served.after.same.pool;
+    extent = known.served.after.same.extent;
+    joined = known.served.after.same.joined;
+    sectors = sectors_now;
+    contents = λ n x low inside. values_now n low x inside;
+  }
+
+  abbrev before : Arrays
+  before = joined_arrays f
+
+  abbrev after : Arrays
+  after = joined_arrays g
+
+  pub same_again : HoldSame f t book i
+  unfolding known_again
+  same_again = record {
+    again = known_again f t v y i known;
+    sectors = sectors_now;
+    values = λ n x low inside. values_now n low x inside;
+    group = group_kept after before alike whole;
+    bad = bad_kept after before alike whole;
+    present = present_now f t v y i known;
+    parts = λ p d here seat. sound_parts f t v y i known p d here seat;
+    shapes = λ n low. shape_now n low ∙ sym (holds.shapes n low);
+    volumes = λ sound. volumes_kept after before alike whole all_valid.0 sound;
+  }

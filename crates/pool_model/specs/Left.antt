@@ -1,0 +1,108 @@
+-- What a stop between two calls of a pool leaves on its disks.
+use Rattle.std.specs.Prelude.{◌≡◌, ℕ, suc, ◌+◌, ◌<◌, ◌≤◌, true, false, List, [], None, Some, is_some}
+use Rattle.rack.specs.Values.{MayLeave}
+use Rattle.rack.specs.Seen.{Image, IsLive, Seen}
+use Rattle.slice_rack.specs.Runs.{IsSliced}
+use Rattle.slice_rack.specs.Slices.{Slices, first_of as slice_first, place_of as slice_place, seat_of, sectors_of}
+use Rattle.slice_rack.specs.Sliced.{sliced}
+use Rattle.gpt_table.specs.Changes.{the_table}
+use Rattle.md_super.specs.declared.superblock.Super.{Super}
+use Rattle.pool_state.specs.declared.contents.State.{State}
+use Rattle.array_image.specs.Arrays.{arrays_in, replayed}
+use Rattle.array_image.specs.Left.{Picks}
+use Rattle.array_image.specs.Places.{log_slice, member_slice, super_sector}
+use Rattle.array_image.specs.States.{is_current}
+use Rattle.array_image.specs.Supers.{super_of}
+use Rattle.array_model.specs.View.{HasGeometry}
+use Rattle.pool_image.specs.Disks.{identities_of}
+use Rattle.pool_image.specs.Drives.{Found, extent_of, first_of, found}
+use Rattle.pool_image.specs.Meaning.{absent_count, array_sectors, arrays_held, group_of, has_log, has_table, is_member, joined_arrays, shape_of, truth_of, volumes_of}
+use Rattle.pool_image.specs.Replay.{Standing, standing}
+use Rattle.pool_image.specs.Sound.{AreSame}
+use Rattle.pool_image.specs.Volumes.{first_bad}
+use Rattle.pool_rest.specs.SoundLogs.{HasSoundLogs}
+use Rattle.raid_rack.specs.Book.{IsAfter}
+use Rattle.raid_rack.specs.Raid.{Raid, IsTold, is_over}
+use Rattle.pool_model.specs.Pools.{AreSlicesOf, IsSoundPool, extent_in}
+
+-- A pool that is served: the disks had the pool f, and over the slices of its drives its arrays stand by the book v, as the slices y
+-- show them. Marks alone have come to its state, all its arrays are ready for the volume, none of them is over, and each has the
+-- members and the sizes that it had.
+pub record IsServed (f : Found) (t : Slices) (v : Raid) (y : Seen) : Type 0 where
+  pub slices : AreSlicesOf f t
+  pub after : IsAfter f.state v.state
+  pub joined : f.state.joined ≡ f.state.made
+  pub told : (n : ℕ) → n < f.state.made → IsTold v y n
+  pub lasts : (n : ℕ) → n < f.state.made → is_over v n ≡ false
+  pub geometry : (n : ℕ) (u : Super) → n < f.state.made → truth_of f n ≡ Some u → HasGeometry u (v.arrays n).truth
+
+-- What contents of the disks have outside the slices: each drive its table, and other disks say of the pool what they said.
+pub record AreElsewhere (f : Found) (i : Image) : Type 0 where
+  pub tables : (p d : ℕ) → f.seats p ≡ Some d → the_table (f.disks.sectors d) (i d) ≡ (f.identities d).table
+  pub others : (d : ℕ) → ((p : ℕ) → f.seats p ≡ Some d → ⊥) → d < f.disks.count → identities_of f.disks i d ≡ f.identities d
+
+-- On a drive that is no member of an array no superblock stands where its slice would be.
+abbrev pub AreAlone : Found → Image → Type 0
+AreAlone f i =
+    (n p d first : ℕ) → n < f.state.made → f.seats p ≡ Some d → is_member f n p ≡ false → first_of f n ≡ Some first
+    → first + super_sector < f.disks.sectors d → super_of (i d (first + super_sector)) ≡ None
+
+-- contents that disks may be left with outside the slices
+abbrev pub IsPickOff : Slices → Seen → Image → Type 0
+IsPickOff t x i = (d s : ℕ) → IsLive x x d s → ((v : List ℕ) → IsSliced t d s v → ⊥) → MayLeave (x.held d s) (i d s)
+
+-- Outside the slices the disks are as the pool has them, whatever they may be left with.
+pub record HoldRest (f : Found) (t : Slices) (x : Seen) : Type 0 where
+  pub elsewhere : (i : Image) → IsPickOff t x i → AreElsewhere f i
+  pub alone : (i : Image) → IsPickOff t x i → AreAlone f i
+
+-- contents of the disks that such a pool leaves: its slices, which lie inside the disks, have what they may be left with
+pub record IsLeftBy (f : Found) (t : Slices) (y : Seen) (i : Image) : Type 0 where
+  pub sectors : (k : ℕ) → y.sectors k ≡ sectors_of t k
+  pub picks : Picks y (sliced t i)
+  pub inside : (k d : ℕ) → seat_of t (slice_place k) ≡ Some d → 0 < sectors_of t k → slice_first t k + sectors_of t k ≤ f.disks.sectors d
+  pub elsewhere : AreElsewhere f i
+  pub alone : AreAlone f i
+
+-- Slices of the drives of a pool that are current: those of other places don't matter to it.
+pub record HaveSlices (g : Found) (t : Slices) : Type 0 where
+  pub seats : (p : ℕ) → is_current g.state p ≡ true → seat_of t p ≡ g.seats p
+  pub logs : (p : ℕ) → is_current g.state p ≡ true → extent_of g 0 ≡ Some (extent_in t (log_slice p))
+  pub members :
+      (n p : ℕ) → n < g.state.made → is_current g.state p ≡ true → is_member g n p ≡ true → extent_of g (suc n) ≡ Some (extent_in t (member_slice p n))
+  pub others : (n p : ℕ) → n < g.state.made → is_member g n p ≡ false → sectors_of t (member_slice p n) ≡ 0
+
+-- Contents of disks hold a sound pool again, by the state s: each of its places has the drive that it had in f. Nothing is pending, no
+-- log is damaged, its slices are those of t, and its arrays hold what these give.
+pub record HoldAgain (f : Found) (t : Slices) (s : State) (i : Image) : Type 0 where
+  pub now : Found
+  pub found_is : found f.disks i ≡ Some now
+  pub sound : IsSoundPool now
+  pub logs : HasSoundLogs f.disks i
+  pub idle : (before : Standing) → standing f.disks i ≡ Some before → before.targets ≡ []
+  pub state : now.state ≡ s
+  pub seats : (p : ℕ) → is_current s p ≡ true → now.seats p ≡ f.seats p
+  pub slices : HaveSlices now t
+  pub joined : now.state.joined ≡ now.state.made
+  pub alone : AreAlone now i
+  pub values : (n x : ℕ) → n < f.state.made → arrays_held now n x ≡ arrays_in (replayed (sectors_of t) (sliced t i)) n x
+
+-- A drive of a pool g, which is found after f: its table is as good as it was, it has a copy of the state, and its log is well formed.
+pub record HasSoundParts (f g : Found) (p d : ℕ) : Type 0 where
+  pub table : has_table g p d ≡ has_table f p d
+  pub copy : is_some (g.identities d).copied ≡ true
+  pub log : has_log g p ≡ true
+
+-- Such a pool, whose arrays hold what those of f do, where they are ready for the volume: so their group is the same, and the lowest bad array.
+-- Where none is bad they make the same volumes. No place is absent, and of each drive the table is as it was, and the copy and the log are sound.
+-- Each array that is ready for the volume has the shape that it had: the same members count, as far as they did, so it is too few just where it was.
+pub record HoldSame (f : Found) (t : Slices) (s : State) (i : Image) : Type 0 where
+  pub again : HoldAgain f t s i
+  pub sectors : (n : ℕ) → n < f.state.joined → array_sectors again.now n ≡ array_sectors f n
+  pub values : (n x : ℕ) → n < f.state.joined → x < array_sectors f n → arrays_held again.now n x ≡ arrays_held f n x
+  pub group : group_of again.now ≡ group_of f
+  pub bad : first_bad (joined_arrays again.now) ≡ first_bad (joined_arrays f)
+  pub present : absent_count again.now ≡ 0
+  pub parts : (p d : ℕ) → is_current s p ≡ true → f.seats p ≡ Some d → HasSoundParts f again.now p d
+  pub shapes : (n : ℕ) → n < f.state.joined → shape_of again.now n ≡ shape_of f n
+  pub volumes : first_bad (joined_arrays f) ≡ None → AreSame (volumes_of f) (volumes_of again.now)

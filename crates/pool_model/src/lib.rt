@@ -1,0 +1,13 @@
+//! What the disks of a pool hold between two calls. The crate has definitions and lemmas alone, and no code.
+//!
+//! **Its model.** `IsSoundPool f` says that the parts of a pool's drives agree, and `AreSlicesOf f t` that tables of slices are those of its
+//! drives (`specs/Pools.antt`). `IsServed f t v y` says of a pool `f` that its arrays stand by a book `v` on slices `y`, which lie as `t` has
+//! them, and `HoldRest f t x` of disks `x` that outside the slices they are as the pool has them. `HoldAgain f t s i` says of contents `i` of the
+//! disks that they hold a sound pool again, by the state `s` (`specs/Left.antt`).
+//!
+//! **For the layers above.** `proofs/Again.antt`: all that the disks of such a pool may be left with holds a sound pool again, by the book's
+//! state, with the same drives for its places; nothing is pending there, no log is damaged, and the arrays hold what the slices give
+//! (`left_again`; by contents of the slices, `opens_again`). Calls that write slices alone leave the rest of the disks as it was (`rest_later`).
+//! `proofs/Values.antt`: where no sector is spent and the arrays have the shapes of the pool's and hold what those did, their shapes, their group, the
+//! lowest bad array and the volumes are the same (`same_again`). `proofs/Named.antt`: which place a disk stands for goes by the ids of the drives (`seat_ahead`, `copy_names`).
+#![tactic(auto)]
