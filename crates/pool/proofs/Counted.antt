@@ -1,8 +1,9 @@
 -- What is left after a work that is done where no drive is lost.
 use Rattle.std.specs.List.{range_with_len}
-use Rattle.std.proofs.Common.{◌≡◌, ℕ, ◌+◌, ◌-◌, ◌<◌, ◌^◌, ◌==◌, ◌&&◌, nat_lt, Bool, true, false, if◌then◌else◌, List, [], ◌∷◌, drop, length, map, slice_get, Option, Some, IfSome, refl, sym, ap, subst, ◌∙◌, arith, eq-eqb, ne_eqb, lt-ltb, eqb-true, ltb-true}
-use Rattle.std.proofs.lemmas.Bool.{both_ways, and_parts}
+use Rattle.std.proofs.Common.{◌≡◌, ℕ, ◌+◌, ◌-◌, ◌<◌, ◌^◌, ◌==◌, ◌&&◌, nat_lt, Bool, true, false, if◌then◌else◌, List, [], ◌∷◌, drop, length, map, slice_get, Option, Some, IfSome, option_map, inl, inr, refl, sym, ap, subst, ◌∙◌, arith, eq-eqb, ne_eqb, lt-ltb, eqb-true, ltb-true}
+use Rattle.std.proofs.lemmas.Bool.{both_ways, and_parts, cases_eq}
 use Rattle.std.proofs.lemmas.List.{length-map}
+use Rattle.std.proofs.lemmas.Option.{slice_get_within}
 use Rattle.arrayvec.specs.ArrayVec.{ArrayVec}
 use Rattle.shr_base.specs.declared.Id.{Id}
 use Rattle.rack.specs.Seen.{Seen}
@@ -13,11 +14,12 @@ use Rattle.pool_state.specs.declared.contents.Work.{Work}
 use Rattle.pool_state.specs.declared.contents.Work.TheVariants.{Resync, Rebuild, TakeOver, Begin, Reshape, Finish, Make, Zero, Ready, Extend, Close}
 use Rattle.array_image.specs.States.{is_current}
 use Rattle.array_model.specs.declared.Seat.{Seat}
-use Rattle.array_model.specs.View.{View}
-use Rattle.array_sync.specs.Steps.{resynced}
+use Rattle.array_model.specs.declared.Seat.TheVariants.{Missing}
+use Rattle.array_model.specs.View.{View, is_missing_seat, rows_of}
+use Rattle.array_sync.specs.Steps.{rebuilt, resynced}
 use Rattle.growth_plan.specs.declared.ArrayNow.{ArrayNow}
 use Rattle.growth_plan.specs.declared.Progress.{Progress}
-use Rattle.growth_plan.specs.Doing.{HasOneLayer, after, change, is_of_layer}
+use Rattle.growth_plan.specs.Doing.{Book, HasOneLayer, after, change, is_of_layer, row_rebuilt}
 use Rattle.growth_plan.specs.Works.{works_left}
 use Rattle.growth_plan.proofs.Done.{first_done}
 use Rattle.lvm_group.specs.Runs.{Linear, extents_of}
@@ -25,11 +27,13 @@ use Rattle.raid_rack.specs.Book.{IsSameBook, drive_of}
 use Rattle.raid_rack.specs.Moves.{IsHeeded, IsSet, LosesOnly}
 use Rattle.raid_rack.specs.Raid.{Raid}
 use Rattle.raid_rack.specs.RaidRack.{no_super}
-use Rattle.raid_rack.specs.Works.{ClosesPlan, Does, ResyncsOne, is_due, is_rebuilding, is_whole_row, stepped}
+use Rattle.raid_rack.specs.Works.{ClosesPlan, Does, RebuildsOne, ResyncsOne, StepsOne, is_due, is_whole_row, stepped}
+use Rattle.raid_rack.proofs.Rebuilt.{next_rebuilt, row_left}
 use Rattle.pool.specs.Works.{array_now, arrays_now, is_rebuilding_on, left_by, progress_by, works_by, HasRowsAlone}
 use Rattle.pool.proofs.Books.{is_book}
 use Rattle.pool.proofs.Counting.{none_changed, now_resynced, now_same, one_changed}
-use Rattle.pool.proofs.Quiet.{seats_same, state_same}
+use Rattle.pool.proofs.Quiet.{is_missing, seats_same, state_same}
+use Rattle.pool.proofs.Rebuilding.{now_rebuilt, was_rebuilt}
 
 -- a list without its first work
 one_less : (works : List Work) (work : Work) → slice_get works 0 ≡ Some work → length (drop 1 works) + 1 ≡ length works
@@ -72,7 +76,8 @@ module _ (l : Linear) (v w : Raid) (a b : Seen) (before : IsSet v a) (after_set 
     (book : IsSameBook v.state w.state) (marks : (p : ℕ) → is_current w.state p ≡ is_current v.state p) (alone : HasRowsAlone v)
     (next : ℕ → View) (only : (n : ℕ) → n < v.state.made → LosesOnly (next n) (w.arrays n))
     (roles : (n : ℕ) → (next n).truth.roles ≡ (v.arrays n).truth.roles) (disks : (n : ℕ) → (next n).truth.raid_disks ≡ (v.arrays n).truth.raid_disks)
-    (seats : (n : ℕ) → (next n).seats ≡ (v.arrays n).seats) (devices : (n : ℕ) → (next n).devices ≡ (v.arrays n).devices)
+    (missing : (n k : ℕ) → n < v.state.made → slice_get (v.arrays n).seats k ≡ Some Missing → slice_get (next n).seats k ≡ Some Missing)
+    (less : (n p : ℕ) → n < v.state.made → is_rebuilding_on (next n) p ≡ true → is_rebuilding_on (v.arrays n) p ≡ true)
     (young : (n : ℕ) → (next n).young ≡ (v.arrays n).young) where
   low : (n : ℕ) → n < v.state.made → n < w.state.made
   low n inside = subst (λ k. n < k) (sym book.made) inside
@@ -81,7 +86,7 @@ module _ (l : Linear) (v w : Raid) (a b : Seen) (before : IsSet v a) (after_set 
   seats_at n inside =
       seats_same v.state w.state n (v.arrays n) (next n) (w.arrays n) a b (before.arrays n inside) (after_set.arrays n (low n inside))
       (heeded n inside) (still n (low n inside)) marks (only n inside) (roles n) (disks n)
-      (λ k missing. ap (λ (s : List Seat). slice_get s k) (seats n) ∙ missing)
+      (λ k. missing n k inside)
 
   now_at : (n : ℕ) → n < v.state.made → array_now w.state.extent (w.arrays n) ≡ array_now v.state.extent (next n)
   now_at n inside =
@@ -93,12 +98,11 @@ module _ (l : Linear) (v w : Raid) (a b : Seen) (before : IsSet v a) (after_set 
     grown = λ n inside.
         let here : n < v.state.made = subst (λ k. n < k) book.made inside in
         (only n here).same.young ∙ young n ∙ alone.grown n here;
-    whole = λ n p inside.
+    one = λ n inside p q first second.
         let here : n < v.state.made = subst (λ k. n < k) book.made inside in
-        rebuilding_same (next n) (w.arrays n) (only n here) (seats_at n here) p
-        ∙ rebuilding_as (next n) p
-        ∙ alike (λ r d t e. rebuilding_by r d t e p) (roles n) (disks n) (seats n) (devices n)
-        ∙ sym (rebuilding_as (v.arrays n) p) ∙ alone.whole n p here;
+        let was : (k : ℕ) → is_rebuilding_on (w.arrays n) k ≡ true → is_rebuilding_on (v.arrays n) k ≡ true =
+        λ k is. less n k here (sym (rebuilding_same (next n) (w.arrays n) (only n here) (seats_at n here) k) ∙ is) in
+        alone.one n here p q (was p first) (was q second);
   }
 
   -- the works that are left are those of the book after it, by the plan that is left
@@ -139,49 +143,108 @@ rest_left l v w a work set some small same first other is =
     ap (λ (ws : List Work). length ws + 1) (new ∙ is ∙ done (λ of. absurd (both_ways (is_of_layer work) other of)))
     ∙ one_less (works_left v.state p) work head ∙ ap length (sym own)
 
+-- an array of a step, by its number
+stepped_at : (v : Raid) (m : ℕ) (next : View → View) (n : ℕ) → stepped v m (next (v.arrays m)) true n ≡ (if n == m then (next (v.arrays n)) else v.arrays n)
+stepped_at v m next n = by (n == m) refl
+  where
+    by : (t : Bool) → (n == m) ≡ t → (if t && true then (next (v.arrays m)) else v.arrays n) ≡ (if t then (next (v.arrays n)) else v.arrays n)
+    by true is = ap (λ k. next (v.arrays k)) (sym (eqb-true n m is))
+    by false is = refl
+
+-- A step of array m that makes another of it, which stands by one work less.
+module _ (l : Linear) (v w : Raid) (a b : Seen) (work : Work) (m : ℕ) (next : View → View) (to : ArrayNow → ArrayNow)
+    (set : IsSet v a) (heeded : IsHeeded v) (some : 0 < length v.state.drives.items) (small : extents_of l.runs < 2 ^ 52) (alone : HasRowsAlone v)
+    (first : slice_get (works_by l v) 0 ≡ Some work) (marks : (p : ℕ) → is_current w.state p ≡ is_current v.state p)
+    (inside : m < v.state.made) (steps : StepsOne v w a b m (next (v.arrays m)) true)
+    (truth : (u : View) → (next u).truth.roles ≡ u.truth.roles) (disks : (u : View) → (next u).truth.raid_disks ≡ u.truth.raid_disks)
+    (young : (u : View) → (next u).young ≡ u.young)
+    (missing : (k : ℕ) → slice_get (v.arrays m).seats k ≡ Some Missing → slice_get (next (v.arrays m)).seats k ≡ Some Missing)
+    (less : (p : ℕ) → is_rebuilding_on (next (v.arrays m)) p ≡ true → is_rebuilding_on (v.arrays m) p ≡ true)
+    (now : array_now v.state.extent (next (v.arrays m)) ≡ to (array_now v.state.extent (v.arrays m)))
+    (plain : is_of_layer work ≡ false)
+    (book : after work v.state (progress_by l v) ≡ record { state = v.state; progress = record (progress_by l v) { arrays = record { items = change m to (arrays_now v) } } }) where
+  abbrev made : ℕ → View
+  made = stepped v m (next (v.arrays m)) true
+
+  only : (n : ℕ) → n < v.state.made → LosesOnly (made n) (w.arrays n)
+  only n low = subst (λ d. LosesOnly (stepped v m (next (v.arrays m)) d n) (w.arrays n)) (steps.answer refl) (steps.arrays n low)
+
+  here : (n : ℕ) → n ≡ m → made n ≡ next (v.arrays m)
+  here n is = stepped_at v m next n ∙ ap (λ t. if t then (next (v.arrays n)) else v.arrays n) (eq-eqb n m is) ∙ ap (λ k. next (v.arrays k)) is
+
+  other : (n : ℕ) → (n ≡ m → ⊥) → made n ≡ v.arrays n
+  other n not = stepped_at v m next n ∙ ap (λ t. if t then (next (v.arrays n)) else v.arrays n) (ne_eqb n m not)
+
+  kept : {X : Type 0} (f : View → X) → ((u : View) → f (next u) ≡ f u) → (n : ℕ) → f (made n) ≡ f (v.arrays n)
+  kept f same n =
+      elim (cases_eq n m) [
+        | inl is ↦ ap f (here n is) ∙ same (v.arrays m) ∙ ap (λ k. f (v.arrays k)) (sym is)
+        | inr not ↦ ap f (other n not)
+      ]
+
+  missing_at : (n k : ℕ) → n < v.state.made → slice_get (v.arrays n).seats k ≡ Some Missing → slice_get (made n).seats k ≡ Some Missing
+  missing_at n k low gone =
+      elim (cases_eq n m) [
+        | inl is ↦ ap (λ (u : View). slice_get u.seats k) (here n is) ∙ missing k (ap (λ j. slice_get (v.arrays j).seats k) (sym is) ∙ gone)
+        | inr not ↦ ap (λ (u : View). slice_get u.seats k) (other n not) ∙ gone
+      ]
+
+  less_at : (n p : ℕ) → n < v.state.made → is_rebuilding_on (made n) p ≡ true → is_rebuilding_on (v.arrays n) p ≡ true
+  less_at n p low rebuilds =
+      elim (cases_eq n m) [
+        | inl is ↦
+            ap (λ j. is_rebuilding_on (v.arrays j) p) is ∙ less p (sym (ap (λ (u : View). is_rebuilding_on u p) (here n is)) ∙ rebuilds)
+        | inr not ↦ sym (ap (λ (u : View). is_rebuilding_on u p) (other n not)) ∙ rebuilds
+      ]
+
+  counted : IsOneLess l v w
+  counted =
+      let same = steps.brings.book.same in
+      let f : ℕ → ArrayNow = λ n. array_now v.state.extent (v.arrays n) in
+      let roles_at = kept {X = ArrayVec ℕ} (λ u. u.truth.roles) truth in
+      let disks_at = kept {X = ℕ} (λ u. u.truth.raid_disks) disks in
+      let young_at = kept {X = Bool} (λ u. u.young) young in
+      let at = now_at l v w a b set steps.brings.set heeded steps.heeded same marks alone made only roles_at disks_at missing_at less_at young_at in
+      let changed = one_changed f (λ n. array_now w.state.extent (w.arrays n)) to m v.state.made
+      (λ n low is. at n low ∙ ap (array_now v.state.extent) (here n is) ∙ now ∙ ap (λ k. to (array_now v.state.extent (v.arrays k))) (sym is))
+      (λ n low not. at n low ∙ ap (array_now v.state.extent) (other n not)) in
+      record {
+        less = rest_left l v w a work set some small same first plain
+            (left_as l v w a b set steps.brings.set heeded steps.heeded same marks alone made only roles_at disks_at missing_at less_at young_at
+            (change m to (arrays_now v)) v.state.plan steps.plan changed
+            ∙ ap (λ (k : Book). works_left k.state k.progress) (sym book));
+        alone = still_alone l v w a b set steps.brings.set heeded steps.heeded same marks alone made only roles_at disks_at missing_at less_at young_at;
+      }
+
 -- a row is resynced
 resync_counted : (l : Linear) (v w : Raid) (a b : Seen) (m : ℕ) → IsSet v a → IsHeeded v → 0 < length v.state.drives.items → extents_of l.runs < 2 ^ 52
     → HasRowsAlone v → slice_get (works_by l v) 0 ≡ Some (Resync m) → ((p : ℕ) → is_current w.state p ≡ is_current v.state p)
-    → ResyncsOne v w a b m true → IsOneLess l v w
-resync_counted l v w a b m set heeded some small alone first marks does =
-    let steps = does.steps in
-    let same = steps.brings.book.same in
-    let next : ℕ → View = stepped v m (resynced (v.arrays m)) true in
-    let only : (n : ℕ) → n < v.state.made → LosesOnly (next n) (w.arrays n) =
-    λ n low. subst (λ d. LosesOnly (stepped v m (resynced (v.arrays m)) d n) (w.arrays n)) (steps.answer refl) (steps.arrays n low) in
-    let at : (n : ℕ) → next n ≡ (if n == m then (resynced (v.arrays n)) else v.arrays n) = λ n. at_row v m n in
-    let roles = kept_at {X = ArrayVec ℕ} v m (λ u. u.truth.roles) (λ u. refl) in
-    let disks = kept_at {X = ℕ} v m (λ u. u.truth.raid_disks) (λ u. refl) in
-    let seats = kept_at {X = List Seat} v m (λ u. u.seats) (λ u. refl) in
-    let devices = kept_at {X = List Id} v m (λ u. u.devices) (λ u. refl) in
-    let young = kept_at {X = Bool} v m (λ u. u.young) (λ u. refl) in
-    let f : ℕ → ArrayNow = λ n. array_now v.state.extent (v.arrays n) in
-    let to : ArrayNow → ArrayNow = λ x. record x { resync = x.resync - 1 } in
-    let now = now_at l v w a b set steps.brings.set heeded steps.heeded same marks alone next only roles disks seats devices young in
-    let changed = one_changed f (λ n. array_now w.state.extent (w.arrays n)) to m v.state.made
-    (λ n low is. now n low ∙ ap (array_now v.state.extent) (at n) ∙ ap (λ t. array_now v.state.extent (if t then (resynced (v.arrays n)) else v.arrays n)) (eq-eqb n m is)
-    ∙ now_resynced v.state.extent (v.arrays n) (alone.grown n low))
-    (λ n low other. now n low ∙ ap (array_now v.state.extent) (at n) ∙ ap (λ t. array_now v.state.extent (if t then (resynced (v.arrays n)) else v.arrays n)) (ne_eqb n m other)) in
-    record {
-      less = rest_left l v w a (Resync m) set some small same first refl
-          (left_as l v w a b set steps.brings.set heeded steps.heeded same marks alone next only roles disks seats devices young
-          (change m to (arrays_now v)) v.state.plan steps.plan changed);
-      alone = still_alone l v w a b set steps.brings.set heeded steps.heeded same marks alone next only roles disks seats devices young;
-    }
-  where
-    at_eq : (v : Raid) (m n : ℕ) (t : Bool) → (n == m) ≡ t → (if t && true then (resynced (v.arrays m)) else v.arrays n) ≡ (if t then (resynced (v.arrays n)) else v.arrays n)
-    at_eq v m n true is = ap (λ k. resynced (v.arrays k)) (sym (eqb-true n m is))
-    at_eq v m n false is = refl
+    → m < v.state.made → ResyncsOne v w a b m true → IsOneLess l v w
+resync_counted l v w a b m set heeded some small alone first marks inside does =
+    counted l v w a b (Resync m) m resynced (λ x. record x { resync = x.resync - 1 }) set heeded some small alone first marks inside does.steps
+    (λ u. refl) (λ u. refl) (λ u. refl) (λ k gone. gone)
+    (λ p is. sym (rebuilding_as (resynced (v.arrays m)) p ∙ sym (rebuilding_as (v.arrays m) p)) ∙ is)
+    (now_resynced v.state.extent (v.arrays m) (alone.grown m inside)) refl refl
 
-    at_row : (v : Raid) (m n : ℕ) → stepped v m (resynced (v.arrays m)) true n ≡ (if n == m then (resynced (v.arrays n)) else v.arrays n)
-    at_row v m n = at_eq v m n (n == m) refl
-
-    kept_if : {X : Type 0} (f : View → X) → ((u : View) → f (resynced u) ≡ f u) → (u : View) (t : Bool) → f (if t then (resynced u) else u) ≡ f u
-    kept_if f same u true = same u
-    kept_if f same u false = refl
-
-    kept_at : {X : Type 0} (v : Raid) (m : ℕ) (f : View → X) → ((u : View) → f (resynced u) ≡ f u) → (n : ℕ) → f (stepped v m (resynced (v.arrays m)) true n) ≡ f (v.arrays n)
-    kept_at v m f same n = ap f (at_row v m n) ∙ kept_if f same (v.arrays n) (n == m)
+-- a row is rebuilt
+rebuild_counted : (l : Linear) (v w : Raid) (a b : Seen) (m place : ℕ) → IsSet v a → IsHeeded v → 0 < length v.state.drives.items → extents_of l.runs < 2 ^ 52
+    → HasRowsAlone v → slice_get (works_by l v) 0 ≡ Some (Rebuild m place) → ((p : ℕ) → is_current w.state p ≡ is_current v.state p)
+    → m < v.state.made → is_rebuilding_on (v.arrays m) place ≡ true → RebuildsOne v w a b m place true → IsOneLess l v w
+rebuild_counted l v w a b m place set heeded some small alone first marks inside rebuilds does =
+    let u = v.arrays m in
+    let seated = set.arrays m inside in
+    let has = row_left v.state m u a place seated rebuilds in
+    let one = alone.one m inside in
+    let next = next_rebuilt v.state m u a place seated has in
+    let count = seated.is_array.seats in
+    counted l v w a b (Rebuild m place) m (λ u. rebuilt u place) row_rebuilt set heeded some small alone first marks inside does.steps
+    (λ u. refl) (λ u. refl) (λ u. refl)
+    (λ k gone.
+    let low = slice_get_within u.seats k Missing gone in
+    is_missing (slice_get (rebuilt u place).seats k)
+    (next.seated.marks k (omega (arith, low, count)) ∙ sym (seated.marks k (omega (arith, low, count))) ∙ ap (option_map is_missing_seat) gone))
+    (was_rebuilt u place seated.is_array has one)
+    (now_rebuilt u place seated.is_array has one v.state.extent) refl refl
 
 -- the plan ends
 close_counted : (l : Linear) (v w : Raid) (a b : Seen) → IsSet v a → IsHeeded v → 0 < length v.state.drives.items → extents_of l.runs < 2 ^ 52
@@ -189,28 +252,29 @@ close_counted : (l : Linear) (v w : Raid) (a b : Seen) → IsSet v a → IsHeede
     → ClosesPlan v w a b → IsOneLess l v w
 close_counted l v w a b set heeded some small alone first marks does =
     let same = does.brings.book.same in
-    let now = now_at l v w a b set does.brings.set heeded does.heeded same marks alone v.arrays does.arrays (λ n. refl) (λ n. refl) (λ n. refl) (λ n. refl) (λ n. refl) in
+    let now = now_at l v w a b set does.brings.set heeded does.heeded same marks alone v.arrays does.arrays (λ n. refl) (λ n. refl) (λ n k low gone. gone) (λ n p low is. is)
+    (λ n. refl) in
     record {
       less = rest_left l v w a Close set some small same first refl
-          (left_as l v w a b set does.brings.set heeded does.heeded same marks alone v.arrays does.arrays (λ n. refl) (λ n. refl) (λ n. refl) (λ n. refl) (λ n. refl)
+          (left_as l v w a b set does.brings.set heeded does.heeded same marks alone v.arrays does.arrays (λ n. refl) (λ n. refl) (λ n k low gone. gone) (λ n p low is. is)
+          (λ n. refl)
           (arrays_now v) Nothing does.plan
           (none_changed (λ n. array_now v.state.extent (v.arrays n)) (λ n. array_now w.state.extent (w.arrays n)) v.state.made now));
-      alone = still_alone l v w a b set does.brings.set heeded does.heeded same marks alone v.arrays does.arrays (λ n. refl) (λ n. refl) (λ n. refl) (λ n. refl) (λ n. refl);
+      alone = still_alone l v w a b set does.brings.set heeded does.heeded same marks alone v.arrays does.arrays (λ n. refl) (λ n. refl) (λ n k low gone. gone) (λ n p low is. is)
+          (λ n. refl);
     }
-
--- no member is rebuilt where none is being rebuilt
-none_rebuilt : (v : Raid) (m place : ℕ) → HasRowsAlone v → is_rebuilding v m place ≡ true → ⊥
-none_rebuilt v m place alone due =
-    let parts = and_parts (nat_lt m v.state.made) (is_rebuilding_on (v.arrays m) place && is_whole_row (v.arrays m).truth.resync_offset) due in
-    let own = and_parts (is_rebuilding_on (v.arrays m) place) (is_whole_row (v.arrays m).truth.resync_offset) parts.1 in
-    both_ways (is_rebuilding_on (v.arrays m) place) (alone.whole m place (ltb-true m v.state.made parts.0)) own.0
 
 -- Any work: where no drive is lost and it is answered to be done, it is one less.
 pub work_counted : (l : Linear) (v w : Raid) (a b : Seen) (work : Work) → IsSet v a → IsHeeded v → 0 < length v.state.drives.items → extents_of l.runs < 2 ^ 52
     → HasRowsAlone v → slice_get (works_by l v) 0 ≡ Some work → ((p : ℕ) → is_current w.state p ≡ is_current v.state p)
     → is_due v work ≡ true → Does work v w a b true → IsOneLess l v w
-work_counted l v w a b (Resync m) set heeded some small alone first marks due does = resync_counted l v w a b m set heeded some small alone first marks does
-work_counted l v w a b (Rebuild m place) set heeded some small alone first marks due does = absurd (none_rebuilt v m place alone due)
+work_counted l v w a b (Resync m) set heeded some small alone first marks due does =
+    let parts = and_parts (nat_lt m v.state.made) (nat_lt (v.arrays m).resync (rows_of (v.arrays m))) due in
+    resync_counted l v w a b m set heeded some small alone first marks (ltb-true m v.state.made parts.0) does
+work_counted l v w a b (Rebuild m place) set heeded some small alone first marks due does =
+    let parts = and_parts (nat_lt m v.state.made) (is_rebuilding_on (v.arrays m) place && is_whole_row (v.arrays m).truth.resync_offset) due in
+    let own = and_parts (is_rebuilding_on (v.arrays m) place) (is_whole_row (v.arrays m).truth.resync_offset) parts.1 in
+    rebuild_counted l v w a b m place set heeded some small alone first marks (ltb-true m v.state.made parts.0) own.0 does
 work_counted l v w a b (TakeOver m) set heeded some small alone first marks due does = absurd does
 work_counted l v w a b (Begin m place) set heeded some small alone first marks due does = absurd does
 work_counted l v w a b (Reshape m) set heeded some small alone first marks due does = absurd does

@@ -2,6 +2,7 @@ pub mod Booked
 pub mod Keeping
 pub mod Doing
 pub mod Serving
+mod Rebuilding
 mod Reached
 mod Losing
 mod Cleaning

@@ -30,7 +30,7 @@ same_list {X} (x ∷ xs) (y ∷ ys) each =
     ap₂ (λ (z : X) (zs : List X). z ∷ zs) same (same_list xs ys (λ k. each (suc k)))
 
 -- a seat that is said to be missing is
-is_missing : (o : Option Seat) → option_map is_missing_seat o ≡ Some true → o ≡ Some Missing
+pub is_missing : (o : Option Seat) → option_map is_missing_seat o ≡ Some true → o ≡ Some Missing
 is_missing None is = cc
 is_missing (Some Whole) is = let no : false ≡ true = cc is in absurd (both_ways false refl no)
 is_missing (Some Missing) is = refl

@@ -112,8 +112,8 @@ abbrev pub IsOneFewer : View → View → Type 0
 IsOneFewer x y =
     IsQuiet x y → HasRowsAlone (book x) → HasRowsAlone (book y) × (0 < left_of x → left_of y + 1 ≡ left_of x)
 
--- Works of maintenance are done. No value moves, and what is answered is left. Where no disk's faults rose and only rows to resync were
--- left of the arrays, as many fewer are left as were asked for, or none. Else an array can't do a work.
+-- Works of maintenance are done. No value moves, and what is answered is left. Where no disk's faults rose and only rows to resync and to
+-- rebuild were left of the arrays, as many fewer are left as were asked for, or none. Else an array can't do a work.
 pub record Steps (x y : View) (count : ℕ) (result : Result ℕ Stuck) : Type 0 where
   pub passes : Passes x y
   pub raises : Raises count x y

@@ -86,10 +86,14 @@ left_by l v = length (works_by l v)
 abbrev pub left_of : View → ℕ
 left_of x = left_by x.linear (book x)
 
--- Of the arrays only rows to resync may be left: none is young, and no member is being rebuilt.
+-- one member of an array at most is being rebuilt
+abbrev pub IsOneRebuilt : ArrayView → Type 0
+IsOneRebuilt v = (p q : ℕ) → is_rebuilding_on v p ≡ true → is_rebuilding_on v q ≡ true → p ≡ q
+
+-- Of the arrays only rows to resync and to rebuild may be left: none is young, and of each one member at most is being rebuilt.
 pub record HasRowsAlone (v : Raid) : Type 0 where
   pub grown : (n : ℕ) → n < v.state.made → (v.arrays n).young ≡ false
-  pub whole : (n p : ℕ) → n < v.state.made → is_rebuilding_on (v.arrays n) p ≡ false
+  pub one : (n : ℕ) → n < v.state.made → IsOneRebuilt (v.arrays n)
 
 -- ---- works that can't be done
 

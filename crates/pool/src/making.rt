@@ -13,8 +13,10 @@ ghost use Rattle.pool_image.specs.Drives.{Found};
 ghost use Rattle.pool_scan.specs.Scanning.{IsUnfaulted, now_in};
 ghost use Rattle.pool_rest.specs.Resting.{WritesDrives};
 ghost use Rattle.assembler.specs.Causes.{HasRefusalCause};
+ghost use Rattle.assembler.specs.Marking.{MarksDrives};
 ghost use Rattle.assembler.specs.Refusing.{is_early};
 ghost use Rattle.assembler.specs.Sound.{HaveAgreed, HoldSound, IsMeantBy, IsMeantRefusal, KeepsPool};
+ghost use Rattle.assembler.specs.Wanting.{LeavesPool};
 ghost use Rattle.assembler.specs.Writing.{WritesPool};
 ghost use Rattle.raid_rack.specs.RaidRack.{arrays_in};
 ghost use Rattle.pool_format.specs.Plan.{IsUnplanned, units_on};
@@ -46,6 +48,8 @@ impl<R: Bay> Pool<R> {
             → IsMeantBy R.seen (R.seen bay) f (arrays_of pool) (view R.seen pool).linear) }
         ensures marks { IfOk result (λ pool. (f : Found) → HoldSound (R.seen bay) f → IsUnfaulted (R.seen bay) (R.seen (bay_in pool))
             → (p : ℕ) → is_current (book (view R.seen pool)).state p ≡ (is_current f.state p && is_some (f.seats p))) }
+        // Whoever goes, drives are marked missing only where they had no disk, or that refused a call.
+        ensures caused { IfOk result (λ pool. MarksDrives R.seen R.runs bay (bay_in pool) (book (view R.seen pool)).state) }
         ensures mended { IfOk result (λ pool. (f : Found) → HoldSound (R.seen bay) f → IsUnfaulted (R.seen bay) (R.seen (bay_in pool))
             → (p d : ℕ) → f.seats p ≡ Some d → IsSettled (R.seen bay) (R.seen (bay_in pool)) d) }
         ensures agreed { IfOk result (λ pool. (f : Found) → HoldSound (R.seen bay) f → IsUnfaulted (R.seen bay) (R.seen (bay_in pool))
@@ -59,6 +63,8 @@ impl<R: Bay> Pool<R> {
             → is_early back.why ≡ true → MeansTheSame (disks_of (R.seen bay)) (now_in (R.seen bay)) (now_in (R.seen back.rack))) }
         ensures still { IfErr result (λ back. (f : Found) → HoldSound (R.seen bay) f → IsUnfaulted (R.seen bay) (R.seen back.rack)
             → (array : ℕ) → back.why ≡ Refusal.BadVolume array → KeepsPool (R.seen bay) (R.seen back.rack) f) }
+        ensures wanting { IfErr result (λ back. (f : Found) → HoldSound (R.seen bay) f → IsUnfaulted (R.seen bay) (R.seen back.rack)
+            → back.why ≡ Refusal.Memory → LeavesPool R.seen R.runs bay back.rack f) }
         ensures returned { IfErr result (λ back. R.runs bay back.rack) }
     {
         match assemble(alloc, bay, seconds) {

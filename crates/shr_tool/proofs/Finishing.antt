@@ -1,15 +1,19 @@
 -- How a script came out, from why it stopped and how the pool was ended.
-use Rattle.std.proofs.Common.{◌≡◌, ℕ, ◌<◌, Bool, true, false, List, [], ◌∷◌, ◌++◌, refl, sym, ◌∙◌, ap, subst, inl, inr}
-use Rattle.rack.specs.Seen.{Rose}
-use Rattle.array_image.specs.Left.{IsLeft}
-use Rattle.array_image.specs.Places.{log_slice}
-use Rattle.slice_rack.specs.Slices.{disk_of}
+use Rattle.std.proofs.Common.{◌≡◌, ℕ, ◌<◌, Bool, true, false, List, [], ◌∷◌, ◌++◌, refl, sym, ◌∙◌, ap, subst, inl, inr, arith}
+use Rattle.rack.specs.Seen.{Image, IsPick}
 use Rattle.slice_rack.specs.Sliced.{slices_of}
-use Rattle.raid_rack.specs.Raid.{IsTold}
+use Rattle.pool_image.specs.Disks.{disks_of}
+use Rattle.pool_image.specs.Drives.{Found}
+use Rattle.pool_model.specs.Left.{HoldAgain, HoldRest}
+use Rattle.pool_model.specs.Pools.{AreSlicesOf}
+use Rattle.pool_model.proofs.Again.{left_again}
+use Rattle.raid_rack.specs.Book.{after_then}
+use Rattle.raid_rack.specs.Losing.{geometry_then}
+use Rattle.raid_rack.specs.Raid.{IsTold, is_over}
 use Rattle.flat_array.specs.Array.{FlatArray, flushed}
 use Rattle.pool.specs.View.{View, book}
 use Rattle.pool.specs.Volume.{Holds}
-use Rattle.pool.specs.Calls.{Ends}
+use Rattle.pool.specs.Calls.{Ends, Passes}
 use Rattle.shr_tool.specs.declared.serve.Stop.{Stop}
 use Rattle.shr_tool.specs.declared.serve.Stop.TheVariants.{Quit as AtQuit, Input, SourceFault, Limit as AtLimit, SinkFault}
 use Rattle.shr_tool.specs.declared.status.Status.{Status}
@@ -17,7 +21,7 @@ use Rattle.shr_tool.specs.declared.status.Status.TheVariants.{Limit}
 use Rattle.shr_tool.specs.Events.{Event, array_by}
 use Rattle.shr_tool.specs.Timeline.{ground_of, moment_of}
 use Rattle.shr_tool.specs.Serving.{HasStopCause, Ran, Serves, StopsAtEnd}
-use Rattle.shr_tool.specs.Outcome.{DoneOutcome, EndsAt, HasStatusCause, Lasts, LeavesItsRows, Outcome, status_by}
+use Rattle.shr_tool.specs.Outcome.{DoneOutcome, EndsAt, HasStatusCause, IsRunOn, Lasts, LeavesItsRows, Outcome, status_by}
 use Rattle.shr_tool.proofs.History.{means_at, ran_before, standing}
 use Rattle.pool.proofs.Keeping.{passes_then}
 
@@ -31,9 +35,7 @@ rows_at :
 rows_at x m y a events ran ends holds none n inside over settled r left t truth =
     ends.rows none n
     ((ran.holds a holds).told n (subst (λ l. n < l.arrays) (sym ran.passes.linear) inside))
-    over settled r
-    (subst (λ s. IsLeft (slices_of s y.bay) r) (sym (passes_then x m y ran.passes ends.passes).slices) left)
-    t truth
+    over settled r left t truth
 
 -- as an event after the script's
 ends_at :
@@ -46,11 +48,10 @@ ends_at x m y a events ran ends =
     let passes = passes_then x m y ran.passes ends.passes in
     record {
       later = λ traced. (ends.passes.apart.stops (ran.passes.stays.traced traced)).later;
+      slices = ends.passes.slices;
       after = ends.passes.marks;
       cause =
-          λ place was now.
-          subst (λ t. Rose (m.bay.faults (disk_of t (log_slice place))) (y.bay.faults (disk_of t (log_slice place)))) ran.passes.slices
-          (elim (ends.marks place was now) [ inl rose ↦ rose | inr never ↦ absurd never ]);
+          λ place was now. elim (ends.marks place was now) [ inl rose ↦ rose | inr never ↦ absurd never ];
       stands = standing m y 1 ends.passes ends.raises;
       during =
           λ holds traced k i since until stops.
@@ -61,6 +62,42 @@ ends_at x m y a events ran ends =
           means_at x y (flushed b) i passes (ends.does.ends (ran.passes.stays.traced traced) b (ran.holds a holds) i stops);
       rows = λ holds. rows_at x m y a events ran ends holds;
     }
+
+-- each of the volume's arrays is told
+told_at :
+    (x m y : View) (a : FlatArray) (events : List Event)
+    → Ran x m events
+    → Ends m y
+    → Holds x a
+    → (n : ℕ) → n < x.linear.arrays → IsTold (book y) (slices_of y.slices y.bay) n
+told_at x m y a events ran ends holds n inside =
+    let passes = passes_then x m y ran.passes ends.passes in
+    (ends.does.becomes (array_by a events) (ran.holds a holds)).told n (subst (λ l. n < l.arrays) (sym passes.linear) inside)
+
+-- and what the disks may be left with holds a sound pool again
+again_at :
+    (x y : View) (a : FlatArray) (f : Found)
+    → Passes x y
+    → IsRunOn f (ground_of x) (moment_of x) y.bay
+    → ((n : ℕ) → n < x.linear.arrays → IsTold (book y) (slices_of y.slices y.bay) n)
+    → ((n : ℕ) → n < f.state.made → is_over (book y) n ≡ false)
+    → (i : Image) → IsPick y.bay y.bay y.bay.held i → HoldAgain f y.slices (book y).state i
+again_at x y a f passes on told goes i pick =
+    let made = on.after.same.made in
+    let joined = on.joined in
+    let arrays = on.arrays in
+    left_again f y.slices y.bay (book y)
+    (record {
+      slices = subst (AreSlicesOf f) (sym passes.slices) on.slices;
+      after = after_then f.state (book x).state (book y).state on.after passes.marks;
+      joined = on.joined;
+      told = λ n low. told n (omega (arith, low, joined, arrays));
+      lasts = goes;
+      geometry = λ n t low truth.
+          geometry_then t ((book x).arrays n).truth ((book y).arrays n).truth (on.geometry n t low truth) (passes.book n (omega (arith, low, made))).geometry;
+    })
+    passes.stays.fit.0.running.set.fit.1
+    (disks_of y.bay) on.before i on.found_is refl on.sound (subst (λ s. HoldRest f s y.bay) (sym passes.slices) on.rest) pick
 
 -- the events of a script, and the end of the pool
 pub lasts_of :
@@ -77,11 +114,8 @@ lasts_of x m y a events ran ends =
       clock = refl;
       faults = λ d. refl;
       ends = ends_at x m y a events ran ends;
-      told =
-          λ holds n inside.
-          subst (λ s. IsTold (book y) (slices_of s y.bay) n) passes.slices
-          ((ends.does.becomes (array_by a events) (ran.holds a holds)).told n
-          (subst (λ l. n < l.arrays) (sym passes.linear) inside));
+      told = told_at x m y a events ran ends;
+      again = λ holds f on goes i pick. again_at x y a f passes on (told_at x m y a events ran ends holds) goes i pick;
     }
 
 -- all lines were answered

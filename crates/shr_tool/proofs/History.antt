@@ -86,6 +86,7 @@ timeline_kept Traced old new g limit past p a (event ∷ events) q within line =
       record {
         later = happens.later;
         cause = happens.cause;
+        slices = happens.slices;
         marks = happens.marks;
         stands = happens.stands;
         during =
@@ -134,6 +135,7 @@ performed x y z event text Traced a passes performs traced holds =
     (record {
       later = λ told. (performs.leaves (traced told) a (holds told)).later;
       cause = performs.cause;
+      slices = performs.passes.slices;
       marks = performs.marks;
       stands = standing y z (calls_in (line_of event)) performs.passes performs.raises;
       during =

@@ -39,7 +39,7 @@ abbrev pub Cause : View → View → Event → Type 0
 Cause x y event = HasCause (ground_of x) (moment_of x) (moment_of y) event
 
 -- the marks of a call that loses no drive itself
-pub marks_for : (x y : View) (event : Event) → Passes x y → Marks x y → MarksFor (ground_of x) (moment_of x) (moment_of y) event
+pub marks_for : (x y : View) (event : Event) → Passes x y → Marks x y → MarksFor (moment_of x) (moment_of y) event
 marks_for x y event passes marks = record {
   after = passes.marks;
   cause = λ place was now. elim (marks place was now) [ inl rose ↦ inl rose | inr none ↦ absurd none ];
@@ -51,7 +51,7 @@ pub performs_by :
     → Passes x y
     → Raises (calls_in (line_of event)) x y
     → Cause x y event
-    → MarksFor (ground_of x) (moment_of x) (moment_of y) event
+    → MarksFor (moment_of x) (moment_of y) event
     → ((a : FlatArray) → Holds x a → text ≡ text_of a event)
     → ((a : FlatArray) → Holds x a → now a ≡ becomes a event)
     → ((a : FlatArray) → Holds x a → (during a ≡ a) ⊎ (during a ≡ becomes a event))
@@ -419,7 +419,7 @@ kept_by {X} {E} {K} r e refused kept = subst (λ q. OnErr q K) refused kept
 
 -- refused, it marks no drive
 still_marks :
-    (x y : View) (event : Event) → Passes x y → book y ≡ book x → MarksFor (ground_of x) (moment_of x) (moment_of y) event
+    (x y : View) (event : Event) → Passes x y → book y ≡ book x → MarksFor (moment_of x) (moment_of y) event
 still_marks x y event passes same = record {
   after = passes.marks;
   cause = λ p was now.

@@ -3,7 +3,7 @@ use Rattle.std.proofs.Common.{◌≡◌, ℕ, ◌<◌, ◌≤◌, ◌^◌, ◌||
 use Rattle.std.proofs.lemmas.List.{append-nil}
 use Rattle.std.proofs.Math.Seq.{take-append_seam}
 use Rattle.pool.specs.View.{View}
-use Rattle.shr_script.specs.declared.Command.TheVariants.{Read, Write, Fill, Flush, Size, Lose, Step, Status, Quit, Unbuilt}
+use Rattle.shr_script.specs.declared.Command.TheVariants.{Read, Write, Fill, Flush, Size, Lose, Replace, Step, Status, Quit, Unbuilt}
 use Rattle.shr_script.specs.Line.{Line, line_of as line_in}
 use Rattle.shr_script.specs.Script.{without_return, script_of, cut_script_of}
 use Rattle.shr_script.specs.Reading.{ReadsPart, ReadsLine, ReadsRest, ReadsMost}
@@ -23,6 +23,7 @@ prepend-replied (Ok (Fill sector count byte)) tail replied = refl
 prepend-replied (Ok Flush) tail replied = refl
 prepend-replied (Ok Size) tail replied = refl
 prepend-replied (Ok (Lose place)) tail replied = refl
+prepend-replied (Ok (Replace place name)) tail replied = refl
 prepend-replied (Ok (Step count)) tail replied = refl
 prepend-replied (Ok Status) tail replied = refl
 prepend-replied (Ok Quit) tail replied = absurd replied

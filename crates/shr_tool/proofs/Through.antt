@@ -1,22 +1,31 @@
 -- A pool holds a reference to its bay: what is done through it is done to the bay.
-use Rattle.std.proofs.Common.{◌≡◌, ◌⊎◌, ◌↔◌, ◌&&◌, is_some, ℕ, ◌<◌, List, [], ◌∷◌, Option, Some, None, refl, sym, subst, ◌∙◌, ap, inl, inr}
-use Rattle.rack.specs.Seen.{Seen, Rose}
+use Rattle.std.proofs.Common.{◌≡◌, ◌⊎◌, ◌↔◌, ◌&&◌, is_some, ℕ, ◌<◌, List, [], ◌∷◌, Option, Some, None, refl, sym, subst, ◌∙◌, ap, inl, inr, arith}
+use Rattle.rack.specs.Seen.{Image, Seen, Rose, Stays}
 use Rattle.rack.specs.Values.{Values, MayLeave, Keeps, only}
-use Rattle.rack.specs.Joins.{leaves_weaker}
+use Rattle.rack.specs.Joins.{leaves_weaker, stays_then}
 use Rattle.rack.specs.Moments.{Leaves}
-use Rattle.rack.specs.Sequences.{OnlyReads}
+use Rattle.rack.specs.Sequences.{OnlyReads, WritesOnly}
+use Rattle.slice_rack.specs.Runs.{IsSliced}
 use Rattle.flat_array.specs.Array.{FlatArray, fresh}
 use Rattle.array_image.specs.States.{is_current}
 use Rattle.lvm_group.specs.Runs.{Linear}
 use Rattle.layer_plan.specs.declared.PlanError.{PlanError}
-use Rattle.pool_image.specs.Drives.{Found}
+use Rattle.pool_state.specs.declared.contents.State.{State}
+use Rattle.pool_image.specs.Drives.{Found, found}
 use Rattle.pool_image.specs.Meaning.{Volume}
-use Rattle.pool_scan.specs.Scanning.{IsUnfaulted}
+use Rattle.pool_scan.specs.declared.Known.{Known}
+use Rattle.pool_scan.specs.Scanning.{IsUnfaulted, now_in}
+use Rattle.pool_image.specs.Disks.{Disks, disks_of}
+use Rattle.pool_model.specs.Left.{AreAlone, IsPickOff}
+use Rattle.pool_model.proofs.Again.{rest_later}
 use Rattle.pool_rest.specs.Resting.{WritesDrives}
 use Rattle.assembler.specs.declared.refusal.Refusal.{Refusal}
-use Rattle.assembler.specs.Causes.{ArraysOn, HasRefusalCause, RefusesArrays}
+use Rattle.assembler.specs.declared.refusal.Refusal.TheVariants as refusal
+use Rattle.assembler.specs.Causes.{ArraysOn, HasRefusalCause, RefusesArrays, RefusesPool}
+use Rattle.assembler.specs.Marking.{MarksDrives}
 use Rattle.assembler.specs.Moments.{HoldsAt}
 use Rattle.assembler.specs.Sound.{HoldSound, IsMeantBy, MayStop}
+use Rattle.assembler.specs.Wanting.{LeavesPool}
 use Rattle.assembler.specs.Writing.{WritesPool}
 use Rattle.pool_format.specs.declared.formatting.CreateFault.{CreateFault}
 use Rattle.pool_format.specs.declared.formatting.CreateFault.TheVariants.{Layout, Gone, Memory}
@@ -29,6 +38,7 @@ use Rattle.pool.specs.View.{arrays_of, book, view, volume}
 use Rattle.pool.specs.Volume.{Holds}
 use Rattle.shr_tool.specs.Made.{HasFaultCause}
 use Rattle.shr_tool.specs.Opened.{IsMeant, IsOpenedAs}
+use Rattle.shr_tool.specs.Outcome.{IsRunOn}
 use Rattle.shr_tool.specs.Timeline.{Ground, MeansAt, Moment, ground_of, moment_of}
 
 -- a bay that is reached through references is written as they are
@@ -61,44 +71,72 @@ abbrev arrays_through : {R B : Type 0} → (R → B) → ArraysOn R → ArraysOn
 arrays_through to x = record { arrays = x.arrays; slices = x.slices; below = to x.below; refused = x.refused; written = x.written }
 
 -- and refused by what was read of it
-pub refused_through :
-    {R B : Type 0} (shown : B → Seen) (runs : R → R → Type 0) (does : B → B → Type 0) (to : R → B)
-    → ((r s : R) → runs r s → does (to r) (to s))
-    → (r s : R) (why : Refusal) → HasRefusalCause (λ q. shown (to q)) runs r s why → HasRefusalCause shown does (to r) (to s) why
-refused_through shown runs does to so r s why (inl none) = inl none
-refused_through shown runs does to so r s why (inr pool) = inr (record {
-  mid = to pool.mid;
-  kept = so r pool.mid pool.kept;
-  early = pool.early;
-  known = pool.known;
-  state = pool.state;
-  newest = pool.newest;
-  one = pool.one;
-  bad = pool.bad;
-  logs = pool.logs;
-  cause = elim pool.cause [ inl drives ↦ inl drives | inr arrays ↦ inr (arrays.0, of arrays.1) ];
-})
-  where
-    of : RefusesArrays (λ q. shown (to q)) runs r pool.mid s pool.known pool.state why → RefusesArrays shown does (to r) (to pool.mid) (to s) pool.known pool.state why
-    of is = record {
-      at = to is.at;
-      made = arrays_through to is.made;
-      last = arrays_through to is.last;
-      kept = (so pool.mid is.at is.kept.0, so is.at is.made.below is.kept.1);
-      checked = is.checked;
-      drives = is.drives;
-      book = is.book;
-      arrays = is.arrays;
-      fit = is.fit;
-      slices = record { tables = is.slices.tables; below = so is.made.below is.last.below is.slices.below; apart = is.slices.apart };
-      raid = is.raid;
-      serves = is.serves;
-      back_is = ap to is.back_is;
-      cause = elim is.cause [
-        | inl memory ↦ inl memory
-        | inr bad ↦ inr (bad.0, bad.1, record { reads = bad.2.reads; bad = bad.2.bad; unused = bad.2.unused })
-      ];
-    }
+module _ {R B : Type 0} (shown : B → Seen) (runs : R → R → Type 0) (does : B → B → Type 0) (to : R → B) (so : (r s : R) → runs r s → does (to r) (to s)) (r s : R) where
+  arrays_refused : (why : Refusal) (mid : R) (known : List Known) (state : State) → RefusesArrays (λ q. shown (to q)) runs r mid s known state why
+      → RefusesArrays shown does (to r) (to mid) (to s) known state why
+  arrays_refused why mid known state is = record {
+    at = to is.at;
+    made = arrays_through to is.made;
+    last = arrays_through to is.last;
+    kept = (so mid is.at is.kept.0, so is.at is.made.below is.kept.1);
+    checked = is.checked;
+    drives = is.drives;
+    book = is.book;
+    marks = is.marks;
+    arrays = is.arrays;
+    fit = is.fit;
+    slices = record { tables = is.slices.tables; below = so is.made.below is.last.below is.slices.below; apart = is.slices.apart };
+    raid = is.raid;
+    serves = is.serves;
+    back_is = ap to is.back_is;
+    cause = elim is.cause [
+      | inl memory ↦ inl memory
+      | inr bad ↦ inr (bad.0, bad.1, record { reads = bad.2.reads; bad = bad.2.bad; unused = bad.2.unused })
+    ];
+  }
+
+  pool_refused : (why : Refusal) → RefusesPool (λ q. shown (to q)) runs r s why → RefusesPool shown does (to r) (to s) why
+  pool_refused why pool = record {
+    mid = to pool.mid;
+    kept = so r pool.mid pool.kept;
+    early = pool.early;
+    known = pool.known;
+    state = pool.state;
+    newest = pool.newest;
+    one = pool.one;
+    bad = pool.bad;
+    logs = pool.logs;
+    cause = elim pool.cause [ inl drives ↦ inl drives | inr arrays ↦ inr (arrays.0, arrays_refused why pool.mid pool.known pool.state arrays.1) ];
+  }
+
+  pub refused_through : (why : Refusal) → HasRefusalCause (λ q. shown (to q)) runs r s why → HasRefusalCause shown does (to r) (to s) why
+  refused_through why (inl none) = inl none
+  refused_through why (inr pool) = inr (pool_refused why pool)
+
+  -- what want of memory leaves of it
+  pub wanting_through : (f : Found) → LeavesPool (λ q. shown (to q)) runs r s f → LeavesPool shown does (to r) (to s) f
+  unfolding pool_refused arrays_refused
+  wanting_through f (inl means) = inl means
+  wanting_through f (inr (inl kept)) = inr (inl kept)
+  wanting_through f (inr (inr used)) =
+      inr (inr (record {
+        pool = pool_refused refusal.Memory used.pool;
+        arrays = arrays_refused refusal.Memory used.pool.mid used.pool.known used.pool.state used.arrays;
+        used_up = used.used_up;
+      }))
+
+  -- and who is marked in its opening
+  pub marks_through : (now : State) → MarksDrives (λ q. shown (to q)) runs r s now → MarksDrives shown does (to r) (to s) now
+  marks_through now marks = record {
+    mid = to marks.mid;
+    kept = (so r marks.mid marks.kept.0, so marks.mid s marks.kept.1);
+    known = marks.known;
+    state = marks.state;
+    newest = marks.newest;
+    one = marks.one;
+    after = marks.after;
+    marks = marks.marks;
+  }
 
 -- values of which a stop can leave one alone
 keeps_only : (v : List ℕ) (h : Values) → ((u : List ℕ) → MayLeave h u → u ≡ v) → Keeps (only v) h
@@ -153,7 +191,30 @@ pub opened_as :
     → IsOpenedAs f (view shown pool).bay (ground_of (view shown pool)) (moment_of (view shown pool))
 opened_as pool shown x opens marks f sound unfaulted =
     let by = opens f sound unfaulted in
-    record { lies = by.lies; slices = by.slices; after = by.after; told = by.told; arrays = by.arrays; live = by.live; marks = marks f sound unfaulted }
+    record { lies = by.lies; slices = by.slices; after = by.after; told = by.told; arrays = by.arrays; live = by.live; elsewhere = by.elsewhere; marks = marks f sound unfaulted }
+
+-- the run is one on that pool
+pub runs_on :
+    (bay opened after : Seen) (g : Ground) (from : Moment) (f : Found)
+    → HoldSound bay f → IsOpenedAs f opened g from → Stays bay opened → WritesOnly opened after (IsSliced from.slices) → f.state.joined ≡ f.state.made
+    → ((i : Image) → IsPickOff from.slices opened i → AreAlone f i) → IsRunOn f g from after
+runs_on bay opened after g from f sound meant stays only joined alone = record {
+  before = now_in bay;
+  found_is = ap (λ (disks : Disks). found disks (now_in bay)) same ∙ sound.found_is;
+  sound = sound.sound;
+  slices = meant.slices;
+  after = meant.after;
+  joined = joined;
+  arrays = ap (λ (l : Linear). l.arrays) meant.lies.linear;
+  geometry = λ n t low truth. (meant.arrays n t (omega (arith, low, joined)) truth).geometry;
+  rest = rest_later f from.slices opened after (stays.lasting sound.steady.lasts.lasting) only (record { elsewhere = meant.elsewhere; alone = alone });
+}
+  where
+    all : Stays bay after
+    all = stays_then stays only.stays
+
+    same : disks_of after ≡ disks_of bay
+    same = λ j. record { count = all.disks j; sectors = λ d. all.sectors d j }
 
 -- stops stay told in an opening
 pub traced_through : {R : Type 0} (shown : R → Seen) (runs : R → R → Type 0) (r s : R) → WritesPool shown runs r s → (shown r).traced → (shown s).traced

@@ -19,6 +19,7 @@ happens_for :
 happens_for P Q stops g p q a event for happens = record {
   later = λ traced. happens.later (for traced);
   cause = happens.cause;
+  slices = happens.slices;
   marks = happens.marks;
   stands = happens.stands;
   during = λ traced. happens.during (for traced);
@@ -40,6 +41,7 @@ ends_for :
     → (U → T) → (R → S) → EndsAt T S y g p q a → EndsAt U R y g p q a
 ends_for T U S R y g p q a told traced ends = record {
   later = λ so. ends.later (traced so);
+  slices = ends.slices;
   after = ends.after;
   cause = ends.cause;
   stands = ends.stands;
@@ -59,6 +61,7 @@ lasts_for T U S R y g from a events told traced lasts = record {
   faults = lasts.faults;
   ends = ends_for T U S R y g lasts.last lasts.final _ told traced lasts.ends;
   told = λ is. lasts.told (told is);
+  again = λ is. lasts.again (told is);
 }
 
 -- the same run, told where the array is told

@@ -1,6 +1,6 @@
 -- What a line of a script does on a pool: as a flat array of sectors has it, or what lost drives make of it.
 use Rattle.std.specs.Prelude.{◌≡◌, ℕ, ◌+◌, ◌<◌, ◌≤◌, ◌||◌, Bool, true, false, List, [], ◌∷◌, ◌++◌, codes, decimal, Ok, Err}
-use Rattle.shr_script.specs.declared.Command.TheVariants.{Read, Write, Fill, Flush, Size, Lose, Step, Status, Quit, Unbuilt}
+use Rattle.shr_script.specs.declared.Command.TheVariants.{Read, Write, Fill, Flush, Size, Lose, Replace, Step, Status, Quit, Unbuilt}
 use Rattle.shr_script.specs.Line.{Line}
 use Rattle.shr_script.specs.Reply.{as_line, left_line, refused_line}
 use Rattle.flat_array.specs.Array.{FlatArray}
@@ -15,6 +15,8 @@ pub data Event : Type 0 where
   lost : ℕ → Event
   -- it wasn't, being the last one
   last : ℕ → Event
+  -- the drive of a place wasn't replaced by the image of a name, and this says why
+  declined : ℕ → List ℕ → List ℕ → Event
   -- so many works of maintenance were asked for, and after them so many are left
   stepped : ℕ → ℕ → Event
   -- they ended at one that this array can't do
@@ -28,6 +30,7 @@ line_of (answered line) = line
 line_of (spent line sector) = line
 line_of (lost place) = Ok (Lose place)
 line_of (last place) = Ok (Lose place)
+line_of (declined place name why) = Ok (Replace place name)
 line_of (stepped count left) = Ok (Step count)
 line_of (stuck count array) = Ok (Step count)
 line_of (shown text) = Ok Status
@@ -40,6 +43,7 @@ calls_in (Ok (Fill sector count byte)) = count
 calls_in (Ok Flush) = 1
 calls_in (Ok Size) = 1
 calls_in (Ok (Lose place)) = 1
+calls_in (Ok (Replace place name)) = 1
 calls_in (Ok (Step count)) = count
 calls_in (Ok Status) = 1
 calls_in (Ok Quit) = 1
@@ -56,6 +60,7 @@ text_of a (answered line) = reply a line
 text_of a (spent line sector) = spent_line sector
 text_of a (lost place) = as_line (codes "ok")
 text_of a (last place) = refused_line (codes "last-drive")
+text_of a (declined place name why) = refused_line why
 text_of a (stepped count left) = left_line left
 text_of a (stuck count array) = stuck_line array
 text_of a (shown text) = text
@@ -66,6 +71,7 @@ becomes a (answered line) = after a line
 becomes a (spent line sector) = after_spent a line sector
 becomes a (lost place) = a
 becomes a (last place) = a
+becomes a (declined place name why) = a
 becomes a (stepped count left) = a
 becomes a (stuck count array) = a
 becomes a (shown text) = a
@@ -90,6 +96,7 @@ is_spent (answered line) = false
 is_spent (spent line sector) = true
 is_spent (lost place) = false
 is_spent (last place) = false
+is_spent (declined place name why) = false
 is_spent (stepped count left) = false
 is_spent (stuck count array) = true
 is_spent (shown text) = false
@@ -98,7 +105,7 @@ abbrev pub any_spent : List Event → Bool
 any_spent [] = false
 any_spent (event ∷ events) = is_spent event || any_spent events
 
--- a line that is answered as a flat array answers it, and neither by the works that are left nor by how the pool stands
+-- a line that is answered as a flat array answers it, and not by the drives, the works that are left or how the pool stands
 abbrev pub IsOfArray : Line → Type 0
 IsOfArray (Ok (Read sector)) = Unit {0}
 IsOfArray (Ok (Write sector bytes)) = Unit {0}
@@ -106,6 +113,7 @@ IsOfArray (Ok (Fill sector count byte)) = Unit {0}
 IsOfArray (Ok Flush) = Unit {0}
 IsOfArray (Ok Size) = Unit {0}
 IsOfArray (Ok (Lose place)) = Unit {0}
+IsOfArray (Ok (Replace place name)) = ⊥
 IsOfArray (Ok (Step count)) = ⊥
 IsOfArray (Ok Status) = ⊥
 IsOfArray (Ok Quit) = Unit {0}
@@ -120,6 +128,7 @@ Touches size (Ok (Fill sector count byte)) s = (sector ≤ s) × (s < sector + c
 Touches size (Ok Flush) s = ⊥
 Touches size (Ok Size) s = ⊥
 Touches size (Ok (Lose place)) s = ⊥
+Touches size (Ok (Replace place name)) s = ⊥
 Touches size (Ok (Step count)) s = ⊥
 Touches size (Ok Status) s = ⊥
 Touches size (Ok Quit) s = ⊥
@@ -134,6 +143,7 @@ TouchesLast size (Ok (Fill sector count byte)) s = (s + 1 ≡ sector + count) ×
 TouchesLast size (Ok Flush) s = ⊥
 TouchesLast size (Ok Size) s = ⊥
 TouchesLast size (Ok (Lose place)) s = ⊥
+TouchesLast size (Ok (Replace place name)) s = ⊥
 TouchesLast size (Ok (Step count)) s = ⊥
 TouchesLast size (Ok Status) s = ⊥
 TouchesLast size (Ok Quit) s = ⊥

@@ -1,6 +1,6 @@
 -- How the opening of a pool on attached disks, and the task on it, came out.
 use Rattle.std.specs.Prelude.{◌≡◌, ◌≢◌, ◌⊎◌, ◌&&◌, ◌<◌, ℕ, true, is_some, List, [], ◌∷◌, Some}
-use Rattle.rack.specs.Seen.{Seen}
+use Rattle.rack.specs.Seen.{Image, Seen}
 use Rattle.rack.specs.Moments.{Leaves}
 use Rattle.rack.specs.Sequences.{OnlyReads, WritesOnly}
 use Rattle.flat_array.specs.Array.{FlatArray, fresh}
@@ -21,14 +21,19 @@ use Rattle.assembler.specs.declared.refusal.Refusal.{Refusal}
 use Rattle.assembler.specs.declared.refusal.Refusal.TheVariants.{BadVolume, Memory}
 use Rattle.assembler.specs.Causes.{HasRefusalCause}
 use Rattle.assembler.specs.Holding.{IsArrayOf}
+use Rattle.assembler.specs.Marking.{MarksDrives}
 use Rattle.assembler.specs.Refusing.{is_early}
-use Rattle.assembler.specs.Sound.{AreSlicesOf, HaveAgreed, HoldSound, IsMeantRefusal, KeepsPool, MayStop}
+use Rattle.pool_model.specs.Left.{AreAlone, AreElsewhere, IsPickOff}
+use Rattle.pool_model.specs.Pools.{AreSlicesOf}
+use Rattle.assembler.specs.Sound.{HaveAgreed, HoldSound, IsMeantRefusal, KeepsPool, MayStop}
 use Rattle.assembler.specs.Volume.{AllLive, IsVolumeOf}
+use Rattle.assembler.specs.Wanting.{LeavesPool}
 use Rattle.assembler.specs.Writing.{WritesPool}
 use Rattle.pool.specs.Keeping.{HasMarkedSeats}
 use Rattle.shr_script.specs.Reply.{refused_line}
 use Rattle.shr_tool.specs.declared.opening.Task.{Task}
 use Rattle.shr_tool.specs.declared.status.Status.{Status}
+use Rattle.shr_tool.specs.Outcome.{IsRunOn}
 use Rattle.shr_tool.specs.Refusing.{refusal_words, refusal_status}
 use Rattle.shr_tool.specs.Saying.{Says}
 use Rattle.shr_tool.specs.Tasks.{TaskOutcome}
@@ -36,7 +41,8 @@ use Rattle.shr_tool.specs.Timeline.{Ground, MeansAt, Moment}
 
 -- The pool of attached disks can't be opened, and why has its cause in what was read of them. Until its drives have passed their checks nothing is
 -- written but the pending record, on drives of the pool; disks that hold a sound pool, and refuse no call, are refused as they mean, and
--- mean afterwards what they meant, or, where an array's part of the volume group is bad, hold the arrays that they held.
+-- mean afterwards what they meant, or, where an array's part of the volume group is bad, hold the arrays that they held. After want of memory they do
+-- one of these, unless numbers are used up.
 pub record NotOpened {R : Type 0} (seen : R → Seen) (runs : R → R → Type 0) (bay after : R) (out out' : List ℕ) (status : Status) : Type 0 where
   pub why : Refusal
   pub says : Says (refusal_status why) (refused_line (refusal_words why)) out out' status
@@ -51,17 +57,20 @@ pub record NotOpened {R : Type 0} (seen : R → Seen) (runs : R → R → Type 0
   pub still :
       (f : Found) → HoldSound (seen bay) f → IsUnfaulted (seen bay) (seen after) → (array : ℕ) → why ≡ BadVolume array
       → KeepsPool (seen bay) (seen after) f
+  pub wanting : (f : Found) → HoldSound (seen bay) f → IsUnfaulted (seen bay) (seen after) → why ≡ Memory → LeavesPool seen runs bay after f
 
 -- A pool was opened as its disks had it: its volume is that of the group of what they held, over the slices of its drives; marks alone
 -- have come to its state. Each of the volume's arrays is told, and no sector of these is spent. `y` is what the disks show then.
 pub record IsOpenedAs (f : Found) (y : Seen) (g : Ground) (from : Moment) : Type 0 where
   pub lies : IsVolumeOf f g.linear
-  pub slices : AreSlicesOf f g.slices
+  pub slices : AreSlicesOf f from.slices
   pub after : IsAfter f.state from.book.state
-  pub told : (n : ℕ) → n < f.state.joined → IsTold from.book (slices_of g.slices y) n
+  pub told : (n : ℕ) → n < f.state.joined → IsTold from.book (slices_of from.slices y) n
   -- each is the array of the pool's superblocks, with the rows to resync that they leave
-  pub arrays : (n : ℕ) (t : Super) → n < f.state.joined → truth_of f n ≡ Some t → IsArrayOf t (from.book.arrays n)
+  pub arrays : (n : ℕ) (t : Super) → n < f.state.joined → truth_of f n ≡ Some t → IsArrayOf f n t (from.book.arrays n)
   pub live : AllLive from.book
+  -- outside the slices the disks have each drive's table, and other disks say what they said
+  pub elsewhere : (i : Image) → IsPickOff from.slices y i → AreElsewhere f i
   -- just those drives are marked missing that were, or that have no disk
   pub marks : (p : ℕ) → is_current from.book.state p ≡ (is_current f.state p && is_some (f.seats p))
 
@@ -87,6 +96,8 @@ pub record OpenedOn {R : Type 0} (seen : R → Seen) (runs : R → R → Type 0)
   pub faults : (d : ℕ) → from.faults d ≡ (seen opened).faults d
   -- just those members of its arrays are missing whose drives are marked
   pub seated : HasMarkedSeats from.book
+  -- and in the opening drives are marked only where they have no disk, or that refused a call
+  pub caused : MarksDrives seen runs bay opened from.book.state
   -- it is opened as disks have it that held a sound pool and refused no call
   pub meant : (f : Found) → HoldSound (seen bay) f → IsUnfaulted (seen bay) (seen opened) → IsOpenedAs f (seen opened) ground from
   -- then both copies of each drive's partition table are the table that its disk had, durably
@@ -94,13 +105,18 @@ pub record OpenedOn {R : Type 0} (seen : R → Seen) (runs : R → R → Type 0)
       (f : Found) → HoldSound (seen bay) f → IsUnfaulted (seen bay) (seen opened) → (p d : ℕ) → f.seats p ≡ Some d → IsSettled (seen bay) (seen opened) d
   -- and the superblocks of each array that is ready for the volume agree, durably
   pub agreed :
-      (f : Found) → HoldSound (seen bay) f → IsUnfaulted (seen bay) (seen opened) → HaveAgreed f from.book.state (slices_of ground.slices (seen opened))
+      (f : Found) → HoldSound (seen bay) f → IsUnfaulted (seen bay) (seen opened) → HaveAgreed f from.book.state (slices_of from.slices (seen opened))
   -- what a stop inside the opening leaves means the array that the disks meant
   pub moments :
       (a : FlatArray) → (meant : IsMeant (seen bay) (seen opened) a) → MayStop (seen bay) meant.pool → (seen bay).traced
       → Leaves (seen bay) (seen opened) (MeansAt ground from a)
   -- from then on, sectors of slices alone
-  pub apart : WritesOnly (seen opened) (seen after) (IsSliced ground.slices)
+  pub apart : WritesOnly (seen opened) (seen after) (IsSliced from.slices)
+  -- So the run is one on that pool, where all its arrays are ready for the volume and no superblock stands on a drive that is no member of an
+  -- array, where its slice would be.
+  pub run_on :
+      (f : Found) → HoldSound (seen bay) f → IsUnfaulted (seen bay) (seen opened) → f.state.joined ≡ f.state.made
+      → ((i : Image) → IsPickOff from.slices (seen opened) i → AreAlone f i) → IsRunOn f ground from (seen after)
   -- the task, from the volume that the disks meant
   pub outcome :
       (a : FlatArray)

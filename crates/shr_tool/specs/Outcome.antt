@@ -1,6 +1,6 @@
 -- How a script on a pool came out, by the status that is answered.
 use Rattle.std.specs.Prelude.{◌≡◌, ℕ, ◌<◌, ◌≤◌, ◌^◌, Bool, true, false, List, [], ◌∷◌, ◌++◌, length, take, Some}
-use Rattle.rack.specs.Seen.{Image, Seen, Rose}
+use Rattle.rack.specs.Seen.{Image, IsPick, Seen, Rose}
 use Rattle.io_ends.specs.Sink.{AddsPrefix}
 use Rattle.md_super.specs.declared.superblock.Super.{Super}
 use Rattle.array_image.specs.Left.{IsLeft}
@@ -8,6 +8,12 @@ use Rattle.array_image.specs.Places.{log_slice}
 use Rattle.array_image.specs.States.{is_current}
 use Rattle.array_image.specs.Supers.{truth_in}
 use Rattle.array_core.specs.Superblocks.{is_settled, left_offset}
+use Rattle.array_model.specs.View.{HasGeometry}
+use Rattle.pool_image.specs.Disks.{disks_of}
+use Rattle.pool_image.specs.Drives.{Found, found}
+use Rattle.pool_image.specs.Meaning.{truth_of}
+use Rattle.pool_model.specs.Left.{HoldAgain, HoldRest}
+use Rattle.pool_model.specs.Pools.{AreSlicesOf, IsSoundPool}
 use Rattle.slice_rack.specs.Slices.{disk_of}
 use Rattle.slice_rack.specs.Sliced.{slices_of}
 use Rattle.raid_rack.specs.Book.{IsAfter}
@@ -32,24 +38,39 @@ abbrev pub LeavesItsRows : Seen → Ground → Moment → Moment → Type 0
 LeavesItsRows y g p q =
     NoneRose p.faults q.faults
     → (n : ℕ) → n < g.linear.arrays → is_over q.book n ≡ false → is_settled (p.book.arrays n) ≡ false
-    → (r : Image) → IsLeft (slices_of g.slices y) r → (t : Super) → truth_in q.book.state r n ≡ Some t
+    → (r : Image) → IsLeft (slices_of q.slices y) r → (t : Super) → truth_in q.book.state r n ≡ Some t
     → t.resync_offset ≡ left_offset (p.book.arrays n)
 
--- The end of a pool: marks alone come to its book, each of a drive whose disk's faults rose, what a stop inside it leaves means the array,
--- and then its current values alone. The clock is told where stops are.
+-- The end of a pool: the slices of its drives stay where they lie, marks alone come to its book, each of a drive whose disk's faults rose, what
+-- a stop inside it leaves means the array, and then its current values alone. The clock is told where stops are.
 pub record EndsAt (Told : Type 0) (Traced : Type 0) (y : Seen) (g : Ground) (p q : Moment) (a : FlatArray) : Type 0 where
   pub later : Traced → p.clock ≤ q.clock
+  pub slices : q.slices ≡ p.slices
   pub after : IsAfter p.book.state q.book.state
   pub cause :
       (place : ℕ) → is_current p.book.state place ≡ true → is_current q.book.state place ≡ false
-      → Rose (p.faults (disk_of g.slices (log_slice place))) (q.faults (disk_of g.slices (log_slice place)))
+      → Rose (p.faults (disk_of p.slices (log_slice place))) (q.faults (disk_of p.slices (log_slice place)))
   pub stands : KeepsStanding 1 p q
   pub during : Told → Traced → (k : ℕ) (i : Image) → p.clock < k → k ≤ q.clock → y.stops k i → MeansAt g q a i
   pub ended : Told → Traced → (i : Image) → y.stops q.clock i → MeansAt g q (flushed a) i
   pub rows : Told → LeavesItsRows y g p q
 
+-- The pool of a run, which its disks had before it: a sound one, whose drives have the run's slices. Its arrays are the volume's, with the
+-- members and the sizes of its superblocks, and outside the slices its disks, y, are as it has them.
+pub record IsRunOn (f : Found) (g : Ground) (from : Moment) (y : Seen) : Type 0 where
+  pub before : Image
+  pub found_is : found (disks_of y) before ≡ Some f
+  pub sound : IsSoundPool f
+  pub slices : AreSlicesOf f from.slices
+  pub after : IsAfter f.state from.book.state
+  pub joined : f.state.joined ≡ f.state.made
+  pub arrays : g.linear.arrays ≡ f.state.joined
+  pub geometry : (n : ℕ) (t : Super) → n < f.state.made → truth_of f n ≡ Some t → HasGeometry t (from.book.arrays n).truth
+  pub rest : HoldRest f from.slices y
+
 -- Events of a script from a moment on, and the end of the pool: the disks show it afterwards, and where the pool told its volume to hold
--- an array, each of the volume's arrays is told by the last book.
+-- an array, each of the volume's arrays is told by the last book. Then all that the disks may be left with holds a sound pool again, by the
+-- last book's state, unless an array is over.
 pub record Lasts (Told Traced : Type 0) (y : Seen) (g : Ground) (from : Moment) (a : FlatArray) (events : List Event) : Type 0 where
   pub last : Moment
   pub timeline : Timeline (Traced × Told) y.stops g from a events last
@@ -57,7 +78,10 @@ pub record Lasts (Told Traced : Type 0) (y : Seen) (g : Ground) (from : Moment) 
   pub clock : final.clock ≡ y.clock
   pub faults : (d : ℕ) → final.faults d ≡ y.faults d
   pub ends : EndsAt Told Traced y g last final (array_by a events)
-  pub told : Told → (n : ℕ) → n < g.linear.arrays → IsTold final.book (slices_of g.slices y) n
+  pub told : Told → (n : ℕ) → n < g.linear.arrays → IsTold final.book (slices_of final.slices y) n
+  pub again :
+      Told → (f : Found) → IsRunOn f g from y → ((n : ℕ) → n < f.state.made → is_over final.book n ≡ false)
+      → (i : Image) → IsPick y y y.held i → HoldAgain f final.slices final.book.state i
 
 -- all lines of the text were answered, and the pool was ended; sectors were refused as spent, or none
 pub record DoneOutcome (is_refused : Bool) (Told Traced : Type 0) (y : Seen) (g : Ground) (from : Moment) (a : FlatArray) (text out out' : List ℕ) : Type 0 where

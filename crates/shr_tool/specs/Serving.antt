@@ -3,7 +3,7 @@ use Rattle.std.specs.Prelude.{◌≡◌, ℕ, ◌<◌, ◌≤◌, ◌^◌, ◌||
 use Rattle.rack.specs.Seen.{Rose}
 use Rattle.io_ends.specs.Sink.{AddsPrefix}
 use Rattle.shr_script.specs.Line.{Line}
-use Rattle.shr_script.specs.declared.Command.TheVariants.{Read, Write, Fill, Flush, Size, Lose, Step, Status, Quit, Unbuilt}
+use Rattle.shr_script.specs.declared.Command.TheVariants.{Read, Write, Fill, Flush, Size, Lose, Replace, Step, Status, Quit, Unbuilt}
 use Rattle.flat_array.specs.Array.{FlatArray}
 use Rattle.shr_script.specs.Script.{script_of, cut_script_of}
 use Rattle.pool.specs.Calls.{Passes}
@@ -24,6 +24,7 @@ IsReplied (Ok (Fill sector count byte)) = Unit {0}
 IsReplied (Ok Flush) = Unit {0}
 IsReplied (Ok Size) = Unit {0}
 IsReplied (Ok (Lose place)) = Unit {0}
+IsReplied (Ok (Replace place name)) = Unit {0}
 IsReplied (Ok (Step count)) = Unit {0}
 IsReplied (Ok Status) = Unit {0}
 IsReplied (Ok Quit) = ⊥

@@ -1,5 +1,5 @@
 -- A run as a list of events at moments that never fall.
-use Rattle.std.specs.Prelude.{◌≡◌, ◌⊎◌, ℕ, ◌+◌, ◌*◌, ◌<◌, ◌≤◌, min, true, false, List, [], ◌∷◌, Ok}
+use Rattle.std.specs.Prelude.{◌≡◌, ◌⊎◌, ℕ, ◌+◌, ◌*◌, ◌<◌, ◌≤◌, nat_lt, min, if◌then◌else◌, true, false, List, [], ◌∷◌, length, codes, Ok}
 use Rattle.rack.specs.Seen.{Image, Rose}
 use Rattle.rack.specs.Moments.{Leaves}
 use Rattle.shr_script.specs.declared.Command.TheVariants.{Lose}
@@ -16,42 +16,49 @@ use Rattle.pool.specs.Calls.{Passes}
 use Rattle.pool.specs.Keeping.{HasMarkedSeats, KeepsBook, Raises, most_raised}
 use Rattle.pool.specs.View.{View, book, contents_in, spent_by}
 use Rattle.pool.specs.Works.{HasRowsAlone, IsStuck, left_by}
+use Rattle.pool_state.specs.declared.contents.State.{State}
 use Rattle.pool.specs.Volume.{Holds, Means, PicksLive}
 use Rattle.shr_tool.specs.Events.{Event, IsOfArray, Touches, TouchesLast, becomes, calls_in, line_of, text_of}
 use Rattle.shr_tool.specs.StatusText.{status_text}
-use Rattle.shr_tool.specs.Events.Event.{answered, spent, lost, last, stepped, stuck, shown}
+use Rattle.shr_tool.specs.Events.Event.{answered, spent, lost, last, declined, stepped, stuck, shown}
 
--- What is known between two events: the clock, the disks' counts of faults, and the pool's state and arrays.
+-- What is known between two events: the clock, the disks' counts of faults, the pool's state and arrays, and where the slices of its drives
+-- lie on the disks of its bay.
 pub record Moment : Type 0 where
   pub clock : ℕ
   pub faults : ℕ → ℕ
   pub book : Raid
-
--- where a pool's volume lies on the disks of its bay
-pub record Ground : Type 0 where
   pub slices : Slices
+
+-- where a pool's volume lies on its arrays
+pub record Ground : Type 0 where
   pub linear : Linear
 
 abbrev pub moment_of : View → Moment
-moment_of x = record { clock = x.bay.clock; faults = x.bay.faults; book = book x }
+moment_of x = record { clock = x.bay.clock; faults = x.bay.faults; book = book x; slices = x.slices }
 
 abbrev pub ground_of : View → Ground
-ground_of x = record { slices = x.slices; linear = x.linear }
+ground_of x = record { linear = x.linear }
 
--- contents of the disks mean an array, in the sectors that aren't spent at a moment
+-- contents of the disks mean an array, in the sectors that aren't spent at a moment, read where the slices of drives lie then
 abbrev pub MeansAt : Ground → Moment → FlatArray → Image → Type 0
-MeansAt g q a disks = PicksLive (spent_by g.linear q.book) a (contents_in g.slices g.linear disks)
+MeansAt g q a disks = PicksLive (spent_by g.linear q.book) a (contents_in q.slices g.linear disks)
 
--- Steps of maintenance: so many works are left by the book at their end. Where no disk's faults rose, and only rows to resync were left of
--- the arrays, these are as many fewer as were asked for, or none.
+-- Steps of maintenance: so many works are left by the book at their end. Where no disk's faults rose, and only rows to resync and to rebuild
+-- were left of the arrays, these are as many fewer as were asked for, or none.
 pub record HasSteps (g : Ground) (p q : Moment) (count left : ℕ) : Type 0 where
   pub left_is : left ≡ left_by g.linear q.book
   pub progress :
       ((d : ℕ) → Rose (p.faults d) (q.faults d) → ⊥) → HasRowsAlone p.book
       → HasRowsAlone q.book × (left + min count (left_by g.linear p.book) ≡ left_by g.linear p.book)
 
+-- why the drive of a place isn't replaced: none has it, or that isn't built
+abbrev pub decline_of : State → ℕ → List ℕ
+decline_of s place = if nat_lt place (length s.drives.items) then codes "unbuilt" else codes "no-such-drive"
+
 -- Why an event was answered so: the sector that it refuses is spent at its end, and those that it served weren't before, nor is the last
--- one at its end; a drive that is lost was current, and another one is left; works of maintenance were done, or an array can't do one; how
+-- one at its end; a drive that is lost was current, and another one is left; a drive that isn't replaced has its reason, and nothing is
+-- called; works of maintenance were done, or an array can't do one; how
 -- the pool stands is said of the book at the event's end.
 abbrev pub HasCause : Ground → Moment → Moment → Event → Type 0
 HasCause g p q (answered line) =
@@ -65,16 +72,17 @@ HasCause g p q (spent line sector) =
     × ((s : ℕ) → Touches (sectors_in g.linear) line s → s < sector → spent_by g.linear p.book s ≡ false)
 HasCause g p q (lost place) = (is_current p.book.state place ≡ true) × (is_current q.book.state place ≡ false)
 HasCause g p q (last place) = (is_current p.book.state place ≡ true) × (has_other p.book.state place ≡ false)
+HasCause g p q (declined place name why) = (why ≡ decline_of p.book.state place) × (q ≡ p)
 HasCause g p q (stepped count left) = HasSteps g p q count left
 HasCause g p q (stuck count array) = IsStuck g.linear q.book array
 HasCause g p q (shown text) = text ≡ status_text g.linear q.book
 
 -- Marks alone come to the pool's state, each of a drive whose disk's faults rose or that the script lost.
-pub record MarksFor (g : Ground) (p q : Moment) (event : Event) : Type 0 where
+pub record MarksFor (p q : Moment) (event : Event) : Type 0 where
   pub after : IsAfter p.book.state q.book.state
   pub cause :
       (place : ℕ) → is_current p.book.state place ≡ true → is_current q.book.state place ≡ false
-      → Rose (p.faults (disk_of g.slices (log_slice place))) (q.faults (disk_of g.slices (log_slice place))) ⊎ (event ≡ lost place)
+      → Rose (p.faults (disk_of p.slices (log_slice place))) (q.faults (disk_of p.slices (log_slice place))) ⊎ (event ≡ lost place)
 
 -- What so many calls do to a pool's book: its numbers rise by a bounded number for each, arrays lose the members on drives that are marked
 -- meanwhile, and no row is left to resync that wasn't; and at their end just those members are missing.
@@ -83,12 +91,13 @@ pub record KeepsStanding (calls : ℕ) (p q : Moment) : Type 0 where
   pub keeps : KeepsBook p.book q.book
   pub seated : HasMarkedSeats q.book
 
--- An event: what a stop inside it leaves means the array before it or after it, and one at its end the array after it. The clock is told
--- where stops are.
+-- An event: the slices of drives stay where they lie, and what a stop inside it leaves means the array before it or after it, and one at its
+-- end the array after it. The clock is told where stops are.
 pub record Happens (Traced : Type 0) (stops : ℕ → Image → Type 0) (g : Ground) (p q : Moment) (a : FlatArray) (event : Event) : Type 0 where
   pub later : Traced → p.clock ≤ q.clock
   pub cause : HasCause g p q event
-  pub marks : MarksFor g p q event
+  pub slices : q.slices ≡ p.slices
+  pub marks : MarksFor p q event
   pub stands : KeepsStanding (calls_in (line_of event)) p q
   pub during :
       Traced → (k : ℕ) (i : Image) → p.clock < k → k ≤ q.clock → stops k i
@@ -108,7 +117,7 @@ pub record Performs (x y : View) (event : Event) (text : List ℕ) : Type 0 wher
   pub passes : Passes x y
   pub raises : Raises (calls_in (line_of event)) x y
   pub cause : HasCause (ground_of x) (moment_of x) (moment_of y) event
-  pub marks : MarksFor (ground_of x) (moment_of x) (moment_of y) event
+  pub marks : MarksFor (moment_of x) (moment_of y) event
   pub text_is : (a : FlatArray) → Holds x a → text ≡ text_of a event
   pub holds : (a : FlatArray) → Holds x a → Holds y (becomes a event)
   pub leaves : x.bay.traced → (a : FlatArray) → Holds x a → Leaves x.bay y.bay (λ i. Means y a i ⊎ Means y (becomes a event) i)

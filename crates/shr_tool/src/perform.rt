@@ -3,10 +3,12 @@
 ghost use Rattle.std.specs.Prelude.{◌≡◌, ◌+◌, ◌≤◌, ◌<◌, replicate, Ok, OnOk, IfErr, Result};
 ghost use Rattle.shr_script.specs.declared.Command.TheVariants.{Read, Write, Fill, Flush, Lose, Step};
 ghost use Rattle.flat_array.specs.Reply.{fault_word, spent_line};
-ghost use Rattle.pool.specs.View.{bay_in, view, volume};
+ghost use Rattle.pool.specs.View.{bay_in, book, view, volume};
 ghost use Rattle.pool.specs.Volume.{size_of};
 ghost use Rattle.shr_tool.specs.Events.{stuck_line};
+ghost use Rattle.shr_script.specs.Reply.{refused_line};
 ghost use Rattle.shr_tool.specs.Serving.{Answers};
+ghost use Rattle.shr_tool.specs.Timeline.{decline_of};
 ghost use Rattle.shr_tool.specs.Filling.{Fills};
 
 use crate::showing::show;
@@ -77,6 +79,7 @@ fn perform<R: Bay>(pool: &mut Pool<R>, command: &Command, text: &mut ReplyText) 
         } => return perform_fill(pool, *sector, *count, *byte, text),
         Command::Step { count } => return perform_step(pool, *count, text),
         Command::Lose { place } => perform_lose(pool, *place, text),
+        Command::Replace { place, .. } => decline(pool, *place, text),
         Command::Flush => perform_flush(pool, text),
         Command::Size => size_reply(text, pool.size()),
         Command::Status => show(pool, text),
@@ -199,6 +202,19 @@ fn perform_lose<R: Bay>(pool: &mut Pool<R>, place: u64, text: &mut ReplyText)
         Ok(()) => line_reply(text, b"ok"),
         Err(LoseFault::NoSuchDrive) => refused_reply(text, b"no-such-drive"),
         Err(LoseFault::LastDrive) => refused_reply(text, b"last-drive"),
+    }
+}
+
+// `replace D NAME`, which isn't built: says why the drive isn't replaced.
+fn decline<R: Bay>(pool: &Pool<R>, place: u64, text: &mut ReplyText)
+    requires { (volume (view R.seen pool.now)).fit }
+    ensures { text.new.items ≡ refused_line (decline_of (book (view R.seen pool.now)).state place) }
+{
+    let drives = pool.state().drives.as_slice().len();
+    if place < drives as u64 {
+        refused_reply(text, b"unbuilt");
+    } else {
+        refused_reply(text, b"no-such-drive");
     }
 }
 

@@ -84,7 +84,19 @@ fn each_line_has_its_reply(rt: HostRuntime) -> Result<(), Fail> {
         ("fill 0 128 00\nfill 1 128 00", "ok\nrefused range\n"),
         ("step", syntax),
         ("step 1\nstep 0 0", "left 0\nrefused syntax\n"),
-        ("add A\nreplace ", "refused unbuilt\nrefused unbuilt\n"),
+        ("add A\nadd ", "refused unbuilt\nrefused unbuilt\n"),
+        (
+            "replace\nreplace \nreplace 9\nreplace 9 \nreplace B 9\nreplace 9 B C",
+            "refused syntax\nrefused syntax\nrefused syntax\nrefused syntax\nrefused syntax\nrefused syntax\n",
+        ),
+        (
+            "replace 9 B\nreplace 18446744073709551615 B\nreplace 9 \u{a0}b\u{e9}",
+            "refused no-such-drive\nrefused no-such-drive\nrefused no-such-drive\n",
+        ),
+        (
+            "replace 9 a\tb\nreplace 9 \u{7f}\nreplace 9 \u{80}\nreplace 9 b\u{9f}",
+            "refused syntax\nrefused syntax\nrefused syntax\nrefused syntax\n",
+        ),
         (
             "lose 9\nlose\nlose 1 1\nstatus 1\nstatus \nstatuses",
             "refused no-such-drive\nrefused syntax\nrefused syntax\nrefused syntax\nrefused syntax\nrefused syntax\n",
@@ -117,10 +129,14 @@ fn long_lines_have_their_replies(rt: HostRuntime) -> Result<(), Fail> {
         ("write 00000000000000000003 ", b'f', 27 + 1024, "ok\n"),
         ("flush ", b' ', 1100, "refused syntax\n"),
         ("flush ", b' ', 1101, "refused syntax\n"),
-        ("replace ", b'x', 1100, "refused unbuilt\n"),
-        ("replace ", b'x', 1101, "refused unbuilt\n"),
-        ("replace ", b'x', 9000, "refused unbuilt\n"),
-        ("replace", b'x', 1102, "refused syntax\n"),
+        ("add ", b'x', 1100, "refused unbuilt\n"),
+        ("add ", b'x', 1101, "refused unbuilt\n"),
+        ("add ", b'x', 9000, "refused unbuilt\n"),
+        ("add", b'x', 1102, "refused syntax\n"),
+        ("replace 9 ", b'x', 10 + 255, "refused no-such-drive\n"),
+        ("replace 9 ", b'x', 10 + 256, "refused syntax\n"),
+        ("replace 9 ", b'x', 1101, "refused syntax\n"),
+        ("replace 9 ", 0xff, 12, "refused syntax\n"),
         ("status ", b'x', 1101, "refused syntax\n"),
         ("", b'q', 5000, "refused syntax\n"),
     ];
@@ -140,7 +156,7 @@ fn a_line_over_two_pieces_of_the_source_is_one_line(rt: HostRuntime) -> Result<(
     let alloc = rt.alloc();
     let pool = made(&rt, alloc, DISK_SECTORS)?;
     for first in 4070..4100 {
-        let mut script = long_line(alloc, "replace ", b'x', first)?;
+        let mut script = long_line(alloc, "add ", b'x', first)?;
         script.extend_from_slice(b"\nwrite 2 1234\r\nread 2\r\n")?;
         let put = check(&rt, alloc, &pool, &script)?;
         let want = b"refused unbuilt\nok\ndata 1234\n";

@@ -1,9 +1,10 @@
 -- The pool holds the bay's reference, and gives the bay back as it left it.
 use Rattle.std.proofs.Common.{◌≡◌, ◌∙◌, ap, sym, subst, refl, inl, inr}
+use Rattle.rack.specs.Joins.{stays_then}
 use Rattle.pool.specs.View.{bay_in, book, slices_shown, view}
 use Rattle.pool.proofs.Booked.{book_seated}
 use Rattle.shr_tool.specs.Opened.{NotOpened, OpenedOn}
-use Rattle.shr_tool.proofs.Through.{pool_through, refused_through, written_through, ground_in, held_by_meant, moment_in, opened_as, stops_mean, traced_through}
+use Rattle.shr_tool.proofs.Through.{marks_through, pool_through, refused_through, wanting_through, written_through, ground_in, held_by_meant, moment_in, opened_as, stops_mean, traced_through, runs_on}
 use Rattle.shr_tool.proofs.Told.{task_for}
 use Rattle.shr_tool.proofs.opening.open_attached.Goals as goal
 
@@ -34,11 +35,15 @@ returns-in-Ok-clause-outcome g c =
       clock = refl;
       faults = λ d. refl;
       seated = book_seated (book (view (λ r. seen r.now) pool)) (slices_shown (view (λ r. seen r.now) pool)) opens.fit.0.running.set opens.fit.0.heeded;
+      caused = marks_through seen _ runs (λ r. r.now) (λ r s ran. ran.1) _ (bay_in pool) _ opens.caused;
       meant = opened_as pool (λ r. seen r.now) _ opens.meant opens.marks;
       tables = opens.mended;
       agreed = opens.agreed;
       moments = λ a meant calm traced. stops_mean pool (λ r. seen r.now) _ a opens.meant meant calm traced;
       apart = does.passes.apart;
+      run_on = λ f sound quiet joined alone.
+          runs_on _ _ _ _ _ f sound (opened_as pool (λ r. seen r.now) _ opens.meant opens.marks f sound quiet)
+          (stays_then opens.drives.early.only.stays opens.drives.late.stays) does.passes.apart joined alone;
       outcome = λ a.
           task_for c.args.task c.do_on-status.result _ _ _ _ _ _ _ a _ _ _ _
           (λ meant. held_by_meant pool (λ r. seen r.now) _ a opens.meant meant)
@@ -70,4 +75,5 @@ returns-in-Err-clause-outcome g c =
       cause = refused_through seen _ runs (λ r. r.now) (λ r s ran. ran.1) _ back.rack back.why refuses.cause;
       unmoved = refuses.unmoved;
       still = refuses.still;
+      wanting = λ f sound quiet memory. wanting_through seen _ runs (λ r. r.now) (λ r s ran. ran.1) _ back.rack f (refuses.wanting f sound quiet memory);
     }))

@@ -3,10 +3,10 @@ use Rattle.std.proofs.Common.{rules, ◌++◌, codes, refl, sym, ◌∙◌, ap, 
 use Rattle.std.specs.Prelude.{decimal}
 use Rattle.shr_script.specs.declared.Command.TheVariants.{Size, Quit, Unbuilt}
 use Rattle.shr_script.specs.Reply.{as_line}
-use Rattle.shr_tool.specs.Events.Event.{answered, shown}
+use Rattle.shr_tool.specs.Events.Event.{answered, declined, shown}
 use Rattle.pool.proofs.Serving.{sound_in}
 use Rattle.shr_tool.proofs.Performing.{still_done}
-use Rattle.shr_tool.proofs.Shown.{show_done}
+use Rattle.shr_tool.proofs.Shown.{decline_done, show_done}
 use Rattle.shr_tool.proofs.perform.perform.Goals as goal
 
 pub returns-in-Size-clause-answers : goal.returns-in-Size-clause-answers
@@ -30,6 +30,17 @@ returns-in-Status-clause-answers g c =
       line_is = refl;
       answer_is = refl;
       performs = show_done _ _ c.requires (sound_in g.R.Rack.seen g.met.R.Rack.sound c.args.pool.now c.requires) c.show.ensures;
+    })
+
+pub returns-in-Replace-clause-answers : goal.returns-in-Replace-clause-answers
+returns-in-Replace-clause-answers g c =
+    rw c.in-Replace.is
+    (record {
+      event = declined _ _ _;
+      line_is = refl;
+      answer_is = refl;
+      performs =
+          decline_done _ _ _ _ c.requires (sound_in g.R.Rack.seen g.met.R.Rack.sound c.args.pool.now c.requires) c.decline.ensures;
     })
 
 pub returns-in-Quit-clause-answers : goal.returns-in-Quit-clause-answers
