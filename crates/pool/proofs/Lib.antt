@@ -5,6 +5,7 @@ pub mod Serving
 mod Rebuilding
 mod Reached
 mod Losing
+mod Planning
 mod Cleaning
 mod NewPools
 mod Working

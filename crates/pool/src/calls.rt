@@ -100,7 +100,7 @@ impl<R: Bay> Pool<R> {
     }
 
     /// Whether a place is in the list and isn't marked missing.
-    fn has_drive(&self, place: u32) -> bool
+    pub(crate) fn has_drive(&self, place: u32) -> bool
         ensures { result ≡ is_current (book (view R.seen self.now)).state place }
     {
         match self.state().drives.get(place as usize) {

@@ -15,6 +15,7 @@
 
 mod calls;
 mod making;
+mod replacing;
 mod standing;
 mod works;
 
@@ -25,6 +26,7 @@ pub use pool_format::{Birth, CreateFault};
 use rack::Rack;
 use raid_rack::RaidRack;
 pub use raid_rack::Stuck;
+pub use replacing::GrowFault;
 
 /// An opened pool.
 #[derive(Drop)]

@@ -23,7 +23,7 @@ impl<R: Bay> Pool<R> {
     }
 
     /// How far all arrays are, and the volume.
-    fn progress(&self) -> Progress
+    pub(crate) fn progress(&self) -> Progress
         requires fit { (volume (view R.seen self.now)).fit }
         requires listed { 0 < length (book (view R.seen self.now)).state.drives.items }
         ensures value { result ≡ progress_by (view R.seen self.now).linear (book (view R.seen self.now)) }

@@ -146,3 +146,16 @@ module _ (drive : List ℕ) (arrays : List View) (place sectors : ℕ) where
         let some = some_length n is in
         entry_inside (n + 1) raid_kind (first_in arrays n) (length_in arrays n) sectors (omega (arith, some)) (omega (arith, fits))));
   }
+
+-- the places that it has as current are of its list, each below 16
+pub listed_enlisted : (place units : ℕ) (s : State) (p : ℕ) → place < length s.drives.items → is_current (enlisted place units (Replace place) s) p ≡ true
+    → p < length s.drives.items
+listed_enlisted place units s p low is =
+    elim (cases_lt p (length s.drives.items)) [
+      | inl listed ↦ listed
+      | inr past ↦
+          let new : Drive = record { id = next_drive s; units = units; missing = false } in
+          let long = length_set s.drives.items place new in
+          absurd (both_ways false refl
+          (sym (ap (λ o. option_map_or (λ (d : Drive). not d.missing) o false) (slice_get_past (set s.drives.items place new) p (omega (arith, long, past)))) ∙ is))
+    ]

@@ -262,7 +262,7 @@ module _ (arrays : List View) (place sectors : ℕ) where
   laid_zero : (sectors_laid arrays place sectors 0 ≡ log_sectors) × (first_laid arrays 0 ≡ state_sector)
   laid_zero = (refl, refl)
 
-  laid_member : (n : ℕ) → (sectors_laid arrays place sectors (n + 1) ≡ (if joins arrays place sectors n then length_in arrays n else 0)) × (first_laid arrays (n + 1) ≡ first_in arrays n)
+  pub laid_member : (n : ℕ) → (sectors_laid arrays place sectors (n + 1) ≡ (if joins arrays place sectors n then length_in arrays n else 0)) × (first_laid arrays (n + 1) ≡ first_in arrays n)
   laid_member n =
       let other : (n + 1 == 0) ≡ false = ne_eqb (n + 1) 0 (λ same. omega (arith, same)) in
       let index : n + 1 - 1 ≡ n = omega arith in (

@@ -61,3 +61,6 @@ mod SettledWhole
 mod LayingDrive
 mod Enlisted
 mod Apart
+mod Seating
+mod Renewed
+mod Joining

@@ -38,7 +38,7 @@ use Rattle.raid_rack.proofs.Elements.{among_either, among_first, among_second, a
 
 -- ---- the superblocks of one array
 
-slot_facts : (u : View) (k : ℕ) (s : Slot) → IsArray u → slice_get (slots_of u) k ≡ Some s
+pub slot_facts : (u : View) (k : ℕ) (s : Slot) → IsArray u → slice_get (slots_of u) k ≡ Some s
     → (k < u.truth.raid_disks) × (s.place ≡ place_at u k) × (slice_get u.seats k ≡ Some s.seat)
 slot_facts u k s is_array is =
     let at = slot_at_position (place_by u.truth) 0 u.truth.raid_disks u.seats u.devices k s is_array.seats is_array.devices is in

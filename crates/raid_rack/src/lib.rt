@@ -59,10 +59,11 @@
 //! end of a plan (`ClosesPlan`) is a commit of the state's copies alone. A work is one of these three (`Does`), where it is due
 //! (`is_due`).
 //!
-//! **A new drive** at a place whose drive is missing gets the closed gate with number 0, its table, zeros in the place of a state, and
-//! slices for the log and for each array that it is a member of and reaches (`LaysDrive`, `SeatsDrive`). Calls on a disk that has no
-//! place are reads to the slices (`reads_apart` of proofs/Apart.antt). The state that has it is valid (proofs/Enlisted.antt). The commit
-//! that makes it one of the pool isn't there yet; what it is to do is defined (`Enlists`).
+//! **A new drive** at a place whose drive is missing ([`RaidRack::enlist`]) gets its table, zeros in the place of a state and the closed gate
+//! with number 0 (`LaysDrive`), and slices for the log and for each array that it is a member of and reaches (`SeatsDrive`). Calls on a
+//! disk that has no place are reads to the slices (`reads_apart` of proofs/Apart.antt). Then one commit on the drives that are left has the
+//! state with it, a copy for it too, and the superblocks, by which its members are to be rebuilt from their start. So it is one of the
+//! pool in no image before that commit, and in each after it; and since its members count nowhere yet, no value moves (`Enlists`).
 //!
 //! **What can't be had.** Where no disk refuses a call, calls in a row spend no sector (`live_still` of proofs/Live.antt), unless numbers
 //! are used up ([`RaidRack::is_used_up`]).
@@ -91,6 +92,7 @@ mod spent;
 mod works;
 
 pub use arrays::{LastDrive, RaidRack};
+pub use enlisting::EnlistFault;
 pub use losses::{add_copies, heed_all, newly_gone, note_gone, restart_rebuilds};
 pub use marks::{current_places, mark_missing};
 pub use works::Stuck;

@@ -1,0 +1,176 @@
+-- Where the drives of the pool weren't damaged and its arrays' members have superblocks, no drive of the pool that is found again is damaged or absent.
+use Rattle.std.proofs.Common.{◌≡◌, ℕ, zero, suc, ◌+◌, ◌<◌, ◌≤◌, Bool, true, false, ◌==◌, ◌&&◌, ◌||◌, not, bytes_eq, nat_lt, is_none, is_some, if◌then◌else◌, List, [], ◌∷◌, filter, find, length, count_by, Option, Some, None, option_map, inl, inr, refl, sym, ap, ap₂, subst, ◌∙◌, eqb-true, lt-ltb, arith}
+use Rattle.std.specs.List.{list_all, range_with_len}
+use Rattle.std.specs.Option.{option_and_then, option_map_or}
+use Rattle.std.proofs.lemmas.Bool.{both_ways, cases_Bool}
+use Rattle.std.proofs.lemmas.List.Sums.{length-filter}
+use Rattle.std.proofs.lemmas.Option.{none-some}
+use Rattle.rack.specs.Seen.{Image, Seen}
+use Rattle.slice_rack.specs.Slices.{Slices}
+use Rattle.gpt_table.specs.declared.Table.{Table}
+use Rattle.pool_state.specs.declared.contents.Copied.{Copied}
+use Rattle.pool_state.specs.declared.contents.State.{State}
+use Rattle.array_image.specs.Places.{log_slice}
+use Rattle.array_image.specs.Record.{gate_of, gate_sector, is_bad_gate, is_bad_log, is_there}
+use Rattle.array_image.specs.States.{current_places, is_current}
+use Rattle.array_image.specs.Supers.{super_in}
+use Rattle.commit_log.specs.View.{names}
+use Rattle.raid_rack.proofs.Added.{names_current}
+use Rattle.raid_rack.specs.Raid.{Raid}
+use Rattle.pool_image.specs.Alike.{drive_gate}
+use Rattle.pool_image.specs.Disks.{id_at}
+use Rattle.pool_image.specs.Drives.{Found, extent_of, slices_of}
+use Rattle.pool_image.specs.Meaning.{absent_count, damage_of, damage_on, damaged, first_damaged, has_log, has_slice, has_slice_of, has_supers, has_table, in_log, in_state, in_superblock, in_table, is_member, is_table, kind_of, super_at}
+use Rattle.pool_image.proofs.Rested.{gate_block}
+use Rattle.pool_model.proofs.Again.{same}
+use Rattle.pool_model.proofs.Copies.{IsKnown, c, copied_now, copy_now, current_before, log_reads, log_room, s, seat_there}
+use Rattle.pool_model.proofs.Extents.{lies_now, made_same, member_same}
+use Rattle.pool_model.proofs.Named.{id_same}
+use Rattle.pool_model.proofs.Rested.{log_same, logs, logs_whole, now}
+use Rattle.pool_model.proofs.Seats.{seats_now}
+
+-- ---- lists
+
+none_kept : (p keep : ℕ → Bool) (xs : List ℕ) → ((x : ℕ) → keep x ≡ true → p x ≡ false) → filter p (filter keep xs) ≡ []
+none_kept p keep [] each = refl
+none_kept p keep (x ∷ xs) each = of (keep x) refl (none_kept p keep xs each)
+  where
+    of : (b : Bool) → keep x ≡ b → filter p (filter keep xs) ≡ [] → filter p (if b then x ∷ filter keep xs else filter keep xs) ≡ []
+    of true is rest = ap (λ b. if b then x ∷ filter p (filter keep xs) else filter p (filter keep xs)) (each x is) ∙ rest
+    of false is rest = rest
+
+none_found : (p keep : ℕ → Bool) (xs : List ℕ) → ((x : ℕ) → keep x ≡ true → p x ≡ false) → find p (filter keep xs) ≡ None
+none_found p keep [] each = refl
+none_found p keep (x ∷ xs) each = of (keep x) refl (none_found p keep xs each)
+  where
+    of : (b : Bool) → keep x ≡ b → find p (filter keep xs) ≡ None → find p (if b then x ∷ filter keep xs else filter keep xs) ≡ None
+    of true is rest = ap (λ b. if b then Some x else find p (filter keep xs)) (each x is) ∙ rest
+    of false is rest = rest
+
+all_below : (p q : ℕ → Bool) (a m : ℕ) → ((n : ℕ) → n < a + m → p n ≡ q n) → list_all p (range_with_len a m) ≡ list_all q (range_with_len a m)
+all_below p q a zero same = refl
+all_below p q a (suc m) same = ap₂ (λ b rest. b && rest) (same a (omega arith)) (all_below p q (a + 1) m (λ n low. same n (omega (arith, low))))
+
+all_true : (a m : ℕ) → list_all (λ n. true) (range_with_len a m) ≡ true
+all_true a zero = refl
+all_true a (suc m) = all_true (a + 1) m
+
+-- what no element of a list has
+pub find_false : (P : ℕ → Bool) (xs : List ℕ) (p : ℕ) → find P xs ≡ None → names xs p ≡ true → P p ≡ false
+find_false P [] p none named = absurd (both_ways false refl named)
+find_false P (q ∷ qs) p none named = of (P q) refl none named (λ none named. find_false P qs p none named)
+  where
+    of : (b : Bool) → P q ≡ b → (if b then Some q else find P qs) ≡ None → ((q == p) || names qs p) ≡ true
+        → (find P qs ≡ None → names qs p ≡ true → P p ≡ false) → P p ≡ false
+    of true is none named later = absurd (none-some q (sym none))
+    of false is none named later = elim (cases_Bool (q == p)) [
+      | inl here ↦ subst (λ k. P k ≡ false) (eqb-true q p here) is
+      | inr other ↦ later none (sym (ap (λ b. b || names qs p) other) ∙ named)
+    ]
+
+pub or_left : (a b : Bool) → (a || b) ≡ false → a ≡ false
+or_left true b is = absurd (both_ways true is refl)
+or_left false b is = refl
+
+-- ---- the pool
+
+module _ (f : Found) (t : Slices) (v : Raid) (y : Seen) (i : Image) (known : IsKnown f t v y i) where
+  abbrev book : State
+  book = s f t v y i known
+
+  abbrev held : Image
+  held = c f t v y i known
+
+  abbrev g : Found
+  g = now f t v y i known
+
+  -- each current place has its drive
+  pub present_now : absent_count g ≡ 0
+  unfolding current_places
+  present_now =
+      sym (length-filter (λ p. is_none (g.seats p)) (current_places book))
+      ∙ ap length (none_kept (λ p. is_none (g.seats p)) (is_current book) (range_with_len 0 (length book.drives.items))
+      (λ p here. let one = seat_there f t v y i known p here in ap is_none (seats_now f t v y i known p here ∙ one.1)))
+
+  module _ (p d : ℕ) (here : is_current book p ≡ true) (seat : f.seats p ≡ Some d) where
+    -- ---- its table
+
+    slice_same : (table : Table) (k n : ℕ) → n < f.state.made → has_slice_of g k table (n + 1) ≡ has_slice_of f k table (n + 1)
+    slice_same table k n low =
+        let next : n + 1 ≡ suc n = omega arith in
+        ap (λ o. option_map_or (has_slice k table (n + 1 + 1) (kind_of (n + 1))) o false)
+        (ap (extent_of g) next ∙ lies_now f t v y i known n low ∙ sym (ap (extent_of f) next))
+
+    members_same : (table : Table) (k : ℕ)
+        → list_all (λ n. not (is_member g n p) || has_slice_of g k table (n + 1)) (range_with_len 0 book.made)
+        ≡ list_all (λ n. not (is_member f n p) || has_slice_of f k table (n + 1)) (range_with_len 0 f.state.made)
+    members_same table k =
+        ap (λ m. list_all (λ n. not (is_member g n p) || has_slice_of g k table (n + 1)) (range_with_len 0 m)) (made_same f t v y i known)
+        ∙ all_below (λ n. not (is_member g n p) || has_slice_of g k table (n + 1)) (λ n. not (is_member f n p) || has_slice_of f k table (n + 1)) 0 f.state.made
+        (λ n low. let less : n < f.state.made = omega (arith, low) in ap₂ (λ a b. not a || b) (member_same f t v y i known n less p) (slice_same table k n less))
+
+    is_table_same : (table : Table) (k : ℕ) → is_table g p k table ≡ is_table f p k table
+    unfolding extent_of
+    is_table_same table k =
+        ap₂ (λ a b. a && (has_slice_of f k table 0 && b))
+        (ap (λ o. option_map_or (bytes_eq table.disk_id.0) o false) (id_same f.state book known.served.after.same p)) (members_same table k)
+
+    table_now : has_table g p d ≡ has_table f p d
+    table_now = ap (λ o. option_map_or (is_table g p (f.disks.sectors d)) o false) (known.left.elsewhere.tables p d seat) ∙ of (f.identities d).table
+      where
+        of : (o : Option Table) → option_map_or (is_table g p (f.disks.sectors d)) o false ≡ option_map_or (is_table f p (f.disks.sectors d)) o false
+        of None = refl
+        of (Some table) = is_table_same table (f.disks.sectors d)
+
+    -- ---- its log
+
+    gate_same : slices_of g (log_slice p) gate_sector ≡ logs f t v y i known (log_slice p) gate_sector
+    gate_same =
+        gate_block g p
+        ∙ ap (λ o. option_map_or (λ e. if nat_lt drive_gate (f.disks.sectors e) then i e drive_gate else []) o []) (seats_now f t v y i known p here ∙ seat)
+        ∙ ap (λ (b : Bool). if b then i d drive_gate else []) (lt-ltb drive_gate (f.disks.sectors d) (let room = log_room f t v y i known p d seat in omega (arith, room)))
+        ∙ sym (log_same f t v y i known p gate_sector here ∙ log_reads f t v y i known p d seat gate_sector (omega arith))
+
+    log_now : has_log g p ≡ true
+    log_now =
+        let good : is_bad_log (current_places book) (logs f t v y i known) p ≡ false =
+        find_false (is_bad_log (current_places book) (logs f t v y i known)) (current_places book) p (logs_whole f t v y i known) (names_current book p ∙ here) in
+        let gate : is_bad_gate (slices_of g) p ≡ false =
+        ap (λ (block : List ℕ). is_there block && is_none (gate_of block)) gate_same ∙ or_left (is_bad_gate (logs f t v y i known) p) _ good in
+        ap₂ (λ a b. not a && not b) gate good
+
+    -- ---- its superblocks
+
+    module _ (supers : (n : ℕ) → n < f.state.made → is_member f n p ≡ true → is_some (super_in book held n p) ≡ true) where
+      supers_now : has_supers g p ≡ true
+      supers_now =
+          ap (λ m. list_all (λ n. not (is_member g n p) || is_some (super_at g n p)) (range_with_len 0 m)) (made_same f t v y i known)
+          ∙ all_below (λ n. not (is_member g n p) || is_some (super_at g n p)) (λ n. true) 0 f.state.made (λ n low. each n (omega (arith, low)))
+          ∙ all_true 0 f.state.made
+        where
+          each : (n : ℕ) → n < f.state.made → (not (is_member g n p) || is_some (super_at g n p)) ≡ true
+          each n less = elim (cases_Bool (is_member f n p)) [
+            | inr none ↦ ap (λ b. not b || is_some (super_at g n p)) (member_same f t v y i known n less p ∙ none)
+            | inl member ↦
+                ap₂ (λ b o. not b || o) (member_same f t v y i known n less p ∙ member)
+                (ap is_some (same f t v y i known n less p here) ∙ supers n less member)
+          ]
+
+      undamaged_now : has_table f p d ≡ true → damage_of g p ≡ None
+      unfolding damage_of
+      undamaged_now table =
+          ap (option_and_then (damage_on g p)) (seats_now f t v y i known p here ∙ seat)
+          ∙ ap (λ b. if not b then Some in_table else if is_none (g.identities d).copied then Some in_state else if not (has_log g p) then Some in_log else if not (has_supers g p) then Some in_superblock else None) (table_now ∙ table)
+          ∙ ap (λ (o : Option Copied). if is_none o then Some in_state else if not (has_log g p) then Some in_log else if not (has_supers g p) then Some in_superblock else None) (copied_now f t v y i known p d seat here)
+          ∙ ap₂ (λ l b. if not l then Some in_log else if not b then Some in_superblock else None) log_now supers_now
+
+  -- no drive is damaged
+  pub whole_now : ((p d : ℕ) → is_current f.state p ≡ true → f.seats p ≡ Some d → has_table f p d ≡ true)
+      → ((n p : ℕ) → n < f.state.made → is_current book p ≡ true → is_member f n p ≡ true → is_some (super_in book held n p) ≡ true) → first_damaged g ≡ None
+  unfolding current_places
+  whole_now tables supers =
+      ap (λ o. option_and_then (λ place. option_map (damaged place) (damage_of g place)) o)
+      (none_found (λ p. is_some (damage_of g p)) (is_current book) (range_with_len 0 (length book.drives.items))
+      (λ p here.
+      let one = seat_there f t v y i known p here in
+      ap is_some (undamaged_now p one.0 here one.1 (λ n less member. supers n p less here member) (tables p one.0 (current_before f t v y i known p here) one.1))))
