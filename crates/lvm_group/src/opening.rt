@@ -180,6 +180,7 @@ pub(crate) fn find_runs<R: Rack>(
     requires kept_room { 262144 ≤ length kept.old.bytes + kept.old.spare }
     ensures looks { OnlyReads (R.seen rack.old) (R.seen rack.new) }
     ensures kept { R.runs rack.old rack.new }
+    ensures unwritten { R.unwritten rack.old rack.new }
     ensures opens { IfOk result (λ opened. Finds pool.now.0 extent joined (R.seen rack.old) (R.seen rack.new)
         (record { extent = extent; arrays = joined; runs = opened.runs.items }) opened.seqno opened.even kept.new.bytes) }
     ensures room { IfOk result (λ opened. 262144 ≤ length into.new.bytes + into.new.spare) }

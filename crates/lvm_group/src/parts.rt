@@ -72,6 +72,7 @@ fn read_in_area<R: Rack>(
     requires room { 262144 ≤ length into.old.bytes + into.old.spare }
     ensures looks { OnlyReads (R.seen rack.old) (R.seen rack.new) }
     ensures runs { R.runs rack.old rack.new }
+    ensures unwritten { R.unwritten rack.old rack.new }
     ensures found { IfOk result (λ found. (now : Array) → IsNow (R.seen rack.old) array now
         → IsInArea (R.seen rack.old) (R.seen rack.new) array now area found.header found.group) }
     ensures said { IfOk result (λ found. IfSome found.group (IsTextOf into.new.bytes)) }
@@ -111,6 +112,7 @@ pub(crate) fn read_part<R: Rack>(
     requires room { 262144 ≤ length into.old.bytes + into.old.spare }
     ensures looks { OnlyReads (R.seen rack.old) (R.seen rack.new) }
     ensures runs { R.runs rack.old rack.new }
+    ensures unwritten { R.unwritten rack.old rack.new }
     ensures part { IfOk result (λ part. (now : Array) → IsNow (R.seen rack.old) array now
         → IsPart (R.seen rack.old) (R.seen rack.new) array now part) }
     ensures said { IfOk result (λ part. IfSome part.group (IsTextOf into.new.bytes)) }
@@ -190,6 +192,7 @@ pub(crate) fn read_parts<R: Rack>(
     requires kept_room { 262144 ≤ length kept.old.bytes + kept.old.spare }
     ensures looks { OnlyReads (R.seen rack.old) (R.seen rack.new) }
     ensures runs { R.runs rack.old rack.new }
+    ensures unwritten { R.unwritten rack.old rack.new }
     ensures count { IfOk result (λ parts. length parts.items ≡ joined) }
     ensures said { IfOk result (λ parts. IfSome (group_by parts.items) (IsTextOf kept.new.bytes)) }
     ensures room { IfOk result (λ parts. 262144 ≤ length into.new.bytes + into.new.spare) }

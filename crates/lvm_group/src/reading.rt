@@ -24,6 +24,7 @@ fn read_at<R: Rack>(rack: &mut R, array: u32, sector: u64) -> Option<[u8; 512]>
     requires array { array < (R.seen rack.old).disks }
     ensures looks { OnlyReads (R.seen rack.old) (R.seen rack.new) }
     ensures runs { R.runs rack.old rack.new }
+    ensures unwritten { R.unwritten rack.old rack.new }
     ensures value { (now : Array) → IsNow (R.seen rack.old) array now
         → IsRead (R.seen rack.old) (R.seen rack.new) array now sector (unwrap_or result []) }
     ensures whole { IfSome result (λ bytes. length bytes ≡ 512) }
@@ -51,6 +52,7 @@ pub(crate) fn read_label<R: Rack>(rack: &mut R, array: u32) -> Option<Label>
     requires array { array < (R.seen rack.old).disks }
     ensures looks { OnlyReads (R.seen rack.old) (R.seen rack.new) }
     ensures runs { R.runs rack.old rack.new }
+    ensures unwritten { R.unwritten rack.old rack.new }
     ensures value { (now : Array) → IsNow (R.seen rack.old) array now
         → (c : Array) × AreRead (R.seen rack.old) (R.seen rack.new) array now c × (result ≡ label_on c) }
 {
@@ -73,6 +75,7 @@ pub(crate) fn read_header<R: Rack>(rack: &mut R, array: u32, sector: u64) -> Opt
     requires array { array < (R.seen rack.old).disks }
     ensures looks { OnlyReads (R.seen rack.old) (R.seen rack.new) }
     ensures runs { R.runs rack.old rack.new }
+    ensures unwritten { R.unwritten rack.old rack.new }
     ensures value { (now : Array) → IsNow (R.seen rack.old) array now
         → (c : Array) × AreRead (R.seen rack.old) (R.seen rack.new) array now c × (result ≡ result_ok (header_of (c sector))) }
 {
@@ -91,6 +94,7 @@ fn read_row<R: Rack>(rack: &mut R, array: u32, from: u128, count: u64, into: &mu
     requires room { count ≤ into.old.spare }
     ensures looks { OnlyReads (R.seen rack.old) (R.seen rack.new) }
     ensures runs { R.runs rack.old rack.new }
+    ensures unwritten { R.unwritten rack.old rack.new }
     ensures bytes { IsTrue result → (now : Array) → IsNow (R.seen rack.old) array now
         → behind into.old.bytes (row_at (held_on (R.seen rack.old) array now) from count) ≡ Some into.new.bytes }
     ensures none { IsFalse result → (now : Array) → IsNow (R.seen rack.old) array now
@@ -132,6 +136,7 @@ fn read_text<R: Rack>(
     requires room { location.now.size ≤ length into.old.bytes + into.old.spare }
     ensures looks { OnlyReads (R.seen rack.old) (R.seen rack.new) }
     ensures runs { R.runs rack.old rack.new }
+    ensures unwritten { R.unwritten rack.old rack.new }
     ensures text { IsTrue result → (now : Array) → IsNow (R.seen rack.old) array now
         → text_at (held_on (R.seen rack.old) array now) area.now location.now ≡ Some into.new.bytes }
     ensures none { IsFalse result → (now : Array) → IsNow (R.seen rack.old) array now
@@ -187,6 +192,7 @@ pub(crate) fn read_group<R: Rack>(
     requires room { 262144 ≤ length into.old.bytes + into.old.spare }
     ensures looks { OnlyReads (R.seen rack.old) (R.seen rack.new) }
     ensures runs { R.runs rack.old rack.new }
+    ensures unwritten { R.unwritten rack.old rack.new }
     ensures group { IfOk result (λ found. (now : Array) → IsNow (R.seen rack.old) array now
         → (c : Array) × AreRead (R.seen rack.old) (R.seen rack.new) array now c × (found ≡ group_at c area.now location.now)) }
     ensures said { IfOk result (λ found. IfSome found (IsTextOf into.new.bytes)) }

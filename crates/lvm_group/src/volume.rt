@@ -76,6 +76,8 @@ impl<R: Rack> Rack for Volume<R> {
     // A read or a write is one call below, and a sync at most one for each array.
     ghost once = { λ old new. Several R.once (1 + (linear old).arrays) old.rack new.rack };
 
+    ghost unwritten = { λ old new. R.unwritten old.rack new.rack };
+
     ghost lenders = { λ volume. R.lenders volume.rack };
 
     fn disks(&self) -> u32 {
@@ -114,6 +116,10 @@ impl<R: Rack> Rack for Volume<R> {
     ghost runs_same = { λ volume. (R.runs_same volume.rack, frames_same R.seen volume) };
 
     ghost runs_then = { λ x y z one two. (R.runs_then x.rack y.rack z.rack one.0 two.0, frames_then R.seen x y z one.1 two.1) };
+
+    ghost unwritten_same = { λ volume. R.unwritten_same volume.rack };
+
+    ghost unwritten_then = { λ x y z. R.unwritten_then x.rack y.rack z.rack };
 
     ghost runs_lenders = { λ x y runs. R.runs_lenders x.rack y.rack runs.0 };
 }
@@ -252,6 +258,7 @@ impl<R: Rack> Volume<R> {
         ensures fit { IfOk result (λ volume. (volume_of (linear volume) (R.seen volume.rack)).fit) }
         ensures refused { IfErr result (λ back. IsUnopened pool.now.0 extent joined (R.seen rack) (R.seen back.rack) back.why) }
         ensures looked { IfErr result (λ back. OnlyReads (R.seen rack) (R.seen back.rack)) }
+        ensures unwritten { IfErr result (λ back. R.unwritten rack back.rack) }
         ensures kept { IfOk result (λ volume. R.runs rack volume.rack) }
         ensures returned { IfErr result (λ back. R.runs rack back.rack) }
     {

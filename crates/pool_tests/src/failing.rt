@@ -89,6 +89,8 @@ impl Rack for Failing {
 
     ghost once = { λ old new. Unit {0} };
 
+    ghost unwritten = { λ old new. Unit {0} };
+
     ghost lenders = { λ r. [] };
 
     fn disks(&self) -> u32 {
@@ -134,6 +136,10 @@ impl Rack for Failing {
     ghost runs_same = { λ r. tt };
 
     ghost runs_then = { λ x y z one two. tt };
+
+    ghost unwritten_same = { λ x. tt };
+
+    ghost unwritten_then = { λ x y z one two. tt };
 
     ghost runs_lenders = { λ x y runs. refl };
 }

@@ -71,6 +71,11 @@ pub record Adds (a b : Seen) (s t : Shelf) (name : List ℕ) (d : ℕ) : Type 0 
   pub unfaulted : b.faults d ≡ 0
   pub traced : a.traced → s.told → b.traced
   pub past : a.traced → (k : ℕ) (c : Image) → k ≤ a.clock → b.stops k c → a.stops k c
+  -- what a stop leaves on the old disks it still may leave, with contents of the new one beside it
+  pub kept :
+      a.traced → s.told → (k : ℕ) (c : Image) → k ≤ a.clock → a.stops k c
+      → (e : Image) × b.stops k e × ((d s : ℕ) → d < a.disks → e d s ≡ c d s)
+  pub steady : a.steady → b.steady
   pub waited : s.told → (w : Waiting) × (s.ready name ≡ Some w) × IsFrom a b d w
   pub names : t.names ≡ s.names ++ name ∷ []
   pub gone : t.ready name ≡ None
@@ -83,6 +88,7 @@ pub record IsSame (a b : Seen) (s t : Shelf) : Type 0 where
   pub clock : b.clock ≡ a.clock
   pub others : (e : ℕ) → SameDisk a b e
   pub traced : a.traced → b.traced
+  pub steady : a.steady → b.steady
   pub past : (k : ℕ) (c : Image) → b.stops k c → a.stops k c
   pub kept : (k : ℕ) (c : Image) → a.stops k c → b.stops k c
   pub names : t.names ≡ s.names

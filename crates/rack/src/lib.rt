@@ -88,6 +88,9 @@ pub trait Rack: Drop {
     /// numbers of its books rise.
     ghost once: { Self → Self → Type 0 };
 
+    /// What calls in a row that only read keep, beyond what all runs do: a rack of arrays says here that it has written none.
+    ghost unwritten: { Self → Self → Type 0 };
+
     /// The references through which the rack is reached: a caller that lent it gets it back.
     ghost lenders: { Self → List ℕ };
 
@@ -109,6 +112,7 @@ pub trait Rack: Drop {
         requires disk { disk < (seen self.old).disks }
         requires sector { sector < (seen self.old).sectors disk }
         ensures reads { Reads (seen self.old) (seen self.new) disk sector into.new result }
+        ensures unwritten { unwritten self.old self.new }
         ensures runs { runs self.old self.new }
         ensures once { once self.old self.new };
 
@@ -136,6 +140,11 @@ pub trait Rack: Drop {
     ghost runs_same: { (x : Self) → runs x x };
 
     ghost runs_then: { (x y z : Self) → runs x y → runs y z → runs x z };
+
+    /// So it is with calls that only read.
+    ghost unwritten_same: { (x : Self) → unwritten x x };
+
+    ghost unwritten_then: { (x y z : Self) → unwritten x y → unwritten y z → unwritten x z };
 
     /// They leave the lenders as they are.
     ghost runs_lenders: { (x y : Self) → runs x y → lenders y ≡ lenders x };

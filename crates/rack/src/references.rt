@@ -13,6 +13,8 @@ impl<R: Rack> Rack for &mut R {
 
     ghost once = { λ r s. R.once r.now s.now };
 
+    ghost unwritten = { λ r s. R.unwritten r.now s.now };
+
     ghost lenders = { λ r. r.ghost_name ∷ R.lenders r.now };
 
     fn disks(&self) -> u32 {
@@ -40,6 +42,10 @@ impl<R: Rack> Rack for &mut R {
     ghost runs_same = { λ r. (refl, R.runs_same r.now) };
 
     ghost runs_then = { λ r s t one two. (two.0 ∙ one.0, R.runs_then r.now s.now t.now one.1 two.1) };
+
+    ghost unwritten_same = { λ r. R.unwritten_same r.now };
+
+    ghost unwritten_then = { λ r s t. R.unwritten_then r.now s.now t.now };
 
     ghost runs_lenders = { λ r s runs. same_lenders runs.0 (R.runs_lenders r.now s.now runs.1) };
 }

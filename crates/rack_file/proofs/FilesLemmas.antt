@@ -187,6 +187,8 @@ attached disks new faults name named unfaulted none =
             unfaulted = ap faults_of (get-last disks new) ∙ unfaulted;
             traced = λ traced told. traced;
             past = λ traced k c until stops. stops;
+            kept = λ traced told k c until stops. absurd traced;
+            steady = λ steady. steady;
             waited = λ told. absurd told;
             names = names-push disks new ∙ ap (λ n. names_of disks ++ n ∷ []) named;
             gone = refl;
@@ -263,6 +265,7 @@ not_attached disks faults name none =
             clock = refl;
             others = λ e. record { sectors = refl; held = λ s. refl; faults = refl; told = λ told. told };
             traced = λ traced. traced;
+            steady = λ steady. steady;
             past = λ k c stops. stops;
             kept = λ k c stops. stops;
             names = refl;

@@ -116,6 +116,8 @@ where
 
     ghost once = { λ old new. Unit {0} };
 
+    ghost unwritten = { λ old new. Unit {0} };
+
     ghost lenders = { λ b. [] };
 
     fn disks(&self) -> u32 {
@@ -163,6 +165,10 @@ where
     ghost runs_same = { λ b. keeps_shelf_same (files_shelf b.disks.items b.faults) };
 
     ghost runs_then = { λ x y z. keeps_shelf_then (files_shelf x.disks.items x.faults) (files_shelf y.disks.items y.faults) (files_shelf z.disks.items z.faults) };
+
+    ghost unwritten_same = { λ x. tt };
+
+    ghost unwritten_then = { λ x y z one two. tt };
 
     ghost runs_lenders = { λ x y runs. refl };
 }

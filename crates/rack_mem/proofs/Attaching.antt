@@ -1,10 +1,11 @@
 -- Attaching a disk by its name.
-use Rattle.std.proofs.Common.{◌≡◌, ◌↔◌, ℕ, zero, suc, ◌+◌, ◌≤◌, ◌<◌, inl, inr, Bool, true, false, ◌||◌, cond, if◌then◌else◌, List, [], ◌∷◌, ◌++◌, length, map, Some, None, Result, Ok, Err, refl, sym, ap, subst, ◌∙◌, arith}
+use Rattle.std.proofs.Common.{◌≡◌, ◌↔◌, ℕ, zero, suc, ◌+◌, ◌≤◌, ◌<◌, ◌==◌, inl, inr, Bool, true, false, ◌||◌, cond, if◌then◌else◌, List, [], ◌∷◌, ◌++◌, length, map, Some, None, Result, Ok, Err, refl, sym, ap, subst, ◌∙◌, arith}
 use Rattle.std.specs.Prelude.{slice_get, All, position}
 use Rattle.std.specs.List.{list_any, position_from}
 use Rattle.std.specs.Option.{option_map, option_map_or}
 use Rattle.std.specs.Str.{bytes_eq}
 use Rattle.std.proofs.lemmas.Bool.{cases_lt}
+use Rattle.std.proofs.lemmas.Bool.Decides.{nat_tests}
 use Rattle.std.proofs.lemmas.List.{length_push, map-append}
 use Rattle.std.proofs.lemmas.List.Quantifiers.{position-Some}
 use Rattle.std.proofs.lemmas.List.Folds.{list_any-append}
@@ -14,8 +15,8 @@ use Rattle.std.proofs.lemmas.Option.{slice_get_cases, slice_get-get_or, slice_ge
 use Rattle.rack.specs.declared.AttachFault.{AttachFault}
 use Rattle.rack.specs.declared.AttachFault.TheVariants.{Failed, Twice, Memory as NoRoom}
 use Rattle.rack.specs.Values.{MayLeave, only}
-use Rattle.rack.specs.Seen.{Rose}
-use Rattle.rack.specs.Shelf.{Attaches, Adds, IsSame}
+use Rattle.rack.specs.Seen.{Image, Rose}
+use Rattle.rack.specs.Shelf.{Attaches, Adds, IsFrom, IsSame}
 use Rattle.rack_mem.specs.declared.DiskSpec.{DiskSpec}
 use Rattle.rack_mem.specs.declared.memory.Attached.{Attached}
 use Rattle.rack_mem.specs.History.{values_at, AreOn}
@@ -106,6 +107,7 @@ same_but_faults a faults = record {
   clock = refl;
   others = λ e. record { sectors = refl; held = λ s. refl; faults = refl; told = λ told. told };
   traced = λ traced. traced;
+  steady = λ steady. steady;
   past = λ k c stops. stops;
   kept = λ k c stops. stops;
   names = refl;
@@ -166,6 +168,18 @@ number_before xs x d within = ap (λ o. option_map_or (λ (disk : Attached). dis
 number_last : (xs : List Attached) (x : Attached) → number_of (xs ++ x ∷ []) (length xs) ≡ x.number
 number_last xs x = ap (λ o. option_map_or (λ (disk : Attached). disk.number) o 0) (slice_get-push xs x)
 
+-- contents, and beside them those of a disk that waits
+beside : Memory → (last number : ℕ) → Image → Image
+beside a last number c d s = if d == last then a.contents number s else c d s
+
+beside-old : (a : Memory) (last number : ℕ) (c : Image) (d s : ℕ) → d < last → beside a last number c d s ≡ c d s
+unfolding beside
+beside-old a last number c d s old = let other : (d == last) ≡ false = grind (arith, nat_tests) in rw other refl
+
+beside-last : (a : Memory) (last number : ℕ) (c : Image) (s : ℕ) → beside a last number c last s ≡ a.contents number s
+unfolding beside
+beside-last a last number c s = let same : (last == last) ≡ true = grind (arith, nat_tests) in rw same refl
+
 -- a disk is added under its name
 pub adds : (a : Memory) (x : Attached) (name : List ℕ) → AreOn a.calls (length a.attached)
     → first_named a.shelf name ≡ Some x.number → is_attached a.shelf a.attached name ≡ false → x.faults ≡ 0
@@ -178,6 +192,27 @@ adds a x name on found none unfaulted =
     let single : (s k : ℕ) → values_of (more a x) last s k ≡ only (a.contents x.number s) =
     λ s k. values_at-untouched a.calls last last s (a.contents (number_of (a.attached ++ x ∷ []) last) s) k on (omega arith)
     ∙ ap (λ n. only (a.contents n s)) numbered in
+    let from : IsFrom (seen_of a) (seen_of (more a x)) last (waiting a x.number) =
+    record {
+      sectors = ap (sectors_of a.shelf) numbered;
+      held = λ s within. single s (length a.calls);
+      told = tt;
+      shown = λ traced k c until left s within.
+          let here : MayLeave (values_of (more a x) last s k) (c last s) =
+          left last s (omega (arith, one_more)) (subst (λ n. s < sectors_of a.shelf n) (sym numbered) within) in
+          elim (subst (λ v. MayLeave v (c last s)) (single s k) here) [ inl now ↦ now | inr older ↦ absurd older ];
+      stops = λ traced k c until left shows e s within sector.
+          elim (cases_lt e last) [
+            | inl old ↦
+                subst (λ n. MayLeave (values_at a.calls e s (a.contents n s) k) (c e s)) (sym (number_before a.attached x e old))
+                (left e s old (subst (λ n. s < sectors_of a.shelf n) (number_before a.attached x e old) sector))
+            | inr new ↦
+                let is : last ≡ e = omega (arith, one_more) in
+                subst (λ f. s < sectors_of a.shelf (number_of (a.attached ++ x ∷ []) f) → MayLeave (values_of (more a x) f s k) (c f s)) is
+                (λ inside. subst (λ v. MayLeave v (c last s)) (sym (single s k)) (inl (shows s (subst (λ n. s < sectors_of a.shelf n) numbered inside))))
+                sector
+          ];
+    } in
     record {
       number = refl;
       disks = one_more;
@@ -193,29 +228,18 @@ adds a x name on found none unfaulted =
       past = λ traced k c until left e s within sector.
           subst (λ n. MayLeave (values_at a.calls e s (a.contents n s) k) (c e s)) (number_before a.attached x e within)
           (left e s (omega (arith, one_more)) (subst (λ n. s < sectors_of a.shelf n) (sym (number_before a.attached x e within)) sector));
+      kept = λ traced told k c until left. (
+        beside a last x.number c,
+        from.stops traced k (beside a last x.number c) until
+            (λ e s within sector. subst (λ v. MayLeave (values_of a e s k) v) (sym (beside-old a last x.number c e s within)) (left e s within sector))
+            (λ s within. beside-last a last x.number c s),
+        λ e s within. beside-old a last x.number c e s within,
+      );
+      steady = λ never. never;
       waited = λ told. (
         waiting a x.number,
         rw (none, found) refl,
-        record {
-          sectors = ap (sectors_of a.shelf) numbered;
-          held = λ s within. single s (length a.calls);
-          told = tt;
-          shown = λ traced k c until left s within.
-              let here : MayLeave (values_of (more a x) last s k) (c last s) =
-              left last s (omega (arith, one_more)) (subst (λ n. s < sectors_of a.shelf n) (sym numbered) within) in
-              elim (subst (λ v. MayLeave v (c last s)) (single s k) here) [ inl now ↦ now | inr older ↦ absurd older ];
-          stops = λ traced k c until left shows e s within sector.
-              elim (cases_lt e last) [
-                | inl old ↦
-                    subst (λ n. MayLeave (values_at a.calls e s (a.contents n s) k) (c e s)) (sym (number_before a.attached x e old))
-                    (left e s old (subst (λ n. s < sectors_of a.shelf n) (number_before a.attached x e old) sector))
-                | inr new ↦
-                    let is : last ≡ e = omega (arith, one_more) in
-                    subst (λ f. s < sectors_of a.shelf (number_of (a.attached ++ x ∷ []) f) → MayLeave (values_of (more a x) f s k) (c f s)) is
-                    (λ inside. subst (λ v. MayLeave v (c last s)) (sym (single s k)) (inl (shows s (subst (λ n. s < sectors_of a.shelf n) numbered inside))))
-                    sector
-              ];
-        },
+        from,
       );
       names = map-append (λ disk. name_of a.shelf disk.number) a.attached (x ∷ []) ∙ ap (λ n. names_of a.shelf a.attached ++ n ∷ []) named;
       gone = rw (list_any-append (λ disk. bytes_eq (name_of a.shelf disk.number) name) a.attached (x ∷ []), none, passes (name_of a.shelf x.number) name named) refl;

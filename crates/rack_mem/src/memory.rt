@@ -267,6 +267,8 @@ impl Rack for MemBay {
 
     ghost once = { λ old new. Unit {0} };
 
+    ghost unwritten = { λ old new. Unit {0} };
+
     ghost lenders = { λ bay. [] };
 
     fn disks(&self) -> u32 {
@@ -334,6 +336,10 @@ impl Rack for MemBay {
     ghost runs_same = { λ bay. keeps_shelf_same (shelf_of (memory bay)) };
 
     ghost runs_then = { λ x y z. keeps_shelf_then (shelf_of (memory x)) (shelf_of (memory y)) (shelf_of (memory z)) };
+
+    ghost unwritten_same = { λ x. tt };
+
+    ghost unwritten_then = { λ x y z one two. tt };
 
     ghost runs_lenders = { λ x y runs. refl };
 }

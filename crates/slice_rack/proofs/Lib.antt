@@ -3,3 +3,4 @@ pub mod Blank
 pub mod Tables
 pub mod Running
 pub mod Landed
+pub mod Attached

@@ -128,6 +128,8 @@ impl<R: Rack> Rack for SliceRack<R> {
 
     ghost once = { λ old new. Unit {0} };
 
+    ghost unwritten = { λ old new. Unit {0} };
+
     ghost lenders = { λ rack. R.lenders rack.rack };
 
     fn disks(&self) -> u32 {
@@ -173,6 +175,10 @@ impl<R: Rack> Rack for SliceRack<R> {
 
     ghost runs_then = { λ x y z one two. runs_join (tables x) (tables y) (tables z) (R.seen x.rack) (R.seen y.rack) (R.seen z.rack)
         (R.runs x.rack y.rack) (R.runs y.rack z.rack) (R.runs x.rack z.rack) one two (R.runs_then x.rack y.rack z.rack one.below two.below) };
+
+    ghost unwritten_same = { λ x. tt };
+
+    ghost unwritten_then = { λ x y z one two. tt };
 
     ghost runs_lenders = { λ x y runs. R.runs_lenders x.rack y.rack runs.below };
 }

@@ -16,6 +16,7 @@ unfolding highest
 loop-array-init g c = record {
   looks = looks_same (g.R.Rack.seen c.args.rack.now) c.requires.fit;
   runs = g.met.R.Rack.runs_same c.args.rack.now;
+  unwritten = g.met.R.Rack.unwritten_same c.args.rack.now;
   room = c.requires.room;
   kept_room = c.requires.kept_room;
   newest = ap (λ (parts : List Part). seqno_of (group_by parts)) (sym c.new-parts.ensures.items);
@@ -39,6 +40,7 @@ loop-array-preserved g c =
     record {
       looks = looks_then looks c.in_ok-part.ensures.looks;
       runs = g.met.R.Rack.runs_then _ _ _ c.loop-array.invariant.runs c.in_ok-part.ensures.runs;
+      unwritten = g.met.R.Rack.unwritten_then _ _ _ c.loop-array.invariant.unwritten c.in_ok-part.ensures.unwritten;
       room = c.keep_newer-newest.ensures.room;
       kept_room = c.keep_newer-newest.ensures.kept_room;
       newest = newest.0 ∙ ap seqno_of (sym more);

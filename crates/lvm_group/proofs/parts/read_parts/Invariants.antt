@@ -11,6 +11,7 @@ abbrev pub invariant-loop-array : goal.invariant-loop-array
 invariant-loop-array g l = record {
   looks : OnlyReads (g.R.Rack.seen l.fn.rack) (g.R.Rack.seen l.rack);
   runs : g.R.Rack.runs l.fn.rack l.rack;
+  unwritten : g.R.Rack.unwritten l.fn.rack l.rack;
   room : 262144 ≤ length l.into.bytes + l.into.spare;
   kept_room : 262144 ≤ length l.kept.bytes + l.kept.spare;
   newest : l.newest ≡ seqno_of (group_by l.parts.items);

@@ -39,6 +39,7 @@ loop-left-preserved g c =
     record {
       looks = looks_then c.loop-left.invariant.looks c.in-Some.ensures.looks;
       runs = g.met.R.Rack.runs_then _ _ _ c.loop-left.invariant.runs c.in-Some.ensures.runs;
+      unwritten = g.met.R.Rack.unwritten_then _ _ _ c.loop-left.invariant.unwritten c.in-Some.ensures.unwritten;
       starts = omega arith;
       ends = omega arith;
       inside = inside;

@@ -8,6 +8,7 @@ abbrev pub invariant-loop-left : goal.invariant-loop-left
 invariant-loop-left g l = record {
   looks : OnlyReads (g.R.Rack.seen l.fn.rack) (g.R.Rack.seen l.rack);
   runs : g.R.Rack.runs l.fn.rack l.rack;
+  unwritten : g.R.Rack.unwritten l.fn.rack l.rack;
   starts : l.fn.from ≤ l.at;
   ends : l.at + l.left ≡ l.fn.from + l.fn.count;
   inside : l.fn.from + l.fn.count ≤ 512 * (g.R.Rack.seen l.fn.rack).sectors l.fn.array;
