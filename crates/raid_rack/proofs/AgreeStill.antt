@@ -1,5 +1,5 @@
 -- Superblocks that agree do so still in arrays that aren't written, where no drive refuses a call.
-use Rattle.std.proofs.Common.{◌≡◌, ℕ, ◌+◌, ◌<◌, ◌≤◌, Bool, true, false, ◌==◌, ◌&&◌, not, if◌then◌else◌, [], map, length, is_some, Option, None, refl, sym, ap, ap₂, subst, ◌∙◌, inl, inr, eqb-true, eq-eqb, lt-ltb, le-ltb, arith}
+use Rattle.std.proofs.Common.{◌≡◌, ℕ, ◌+◌, ◌<◌, ◌≤◌, Bool, true, false, ◌==◌, ◌&&◌, not, if◌then◌else◌, [], map, length, is_some, Option, Some, None, refl, sym, ap, ap₂, subst, ◌∙◌, inl, inr, eqb-true, eq-eqb, lt-ltb, le-ltb, arith}
 use Rattle.std.proofs.lemmas.Bool.{cases_Bool, and_parts}
 use Rattle.std.proofs.lemmas.List.{length-map}
 use Rattle.std.specs.List.{range_with_len}
@@ -14,7 +14,7 @@ use Rattle.array_image.specs.Marks.{Marks}
 use Rattle.array_image.specs.Places.{member_slice, place_of, slice_of}
 use Rattle.array_image.specs.States.{is_current}
 use Rattle.array_image.specs.Supers.{truth_in}
-use Rattle.array_image.proofs.Frames.{Agree}
+use Rattle.array_image.proofs.Frames.{Agree, supers_same, truth_by_supers}
 use Rattle.array_image.proofs.Marked.{marked_super}
 use Rattle.array_model.proofs.Keeping.{logs_of}
 use Rattle.array_core.specs.Contents.{current_super}
@@ -127,14 +127,30 @@ module _ (p q : ℕ → Bool) (v w : Raid) (a b : Seen) (set : IsSet v a) (befor
           (spares none n d t unwritten own (record { disk = subst (λ k. d < k) (sym runs.disks) live.disk; sector = now.sector; is_told = live.is_told; unspent = now.unspent })).within
           (c d t) (picks.picks d t now)
 
-  pub agree_spared : ((r : Image) → IsLeft a r → SupersAgree v.state r n) → (r : Image) → IsLeft b r → SupersAgree w.state r n
-  agree_spared was r left =
+  -- what a stop leaves of its slices one left before it
+  left_before : (r : Image) → IsLeft b r → (e : Image) × IsLeft a e × Agree n r e
+  left_before r left =
       let c = left.0 in
       let e : Image = mixed c in
-      let picks = picks_mixed c left.1 in
-      let agree : Agree n r (replayed a.sectors e) = λ place u.
-      left.2 (member_slice place n) u ∙ closed_after c (logs_of c left.1) place u
-      ∙ sym (mixed_own c (member_slice place n) u (eq-eqb (slice_of (member_slice place n)) (n + 1) (slice_own place n few)))
-      ∙ sym (closed_before e (logs_of e picks) place u) in
-      agree_marks v.state w.state r n (marks_none p q v w a b before runs none)
-      (agree_by v.state r (replayed a.sectors e) n agree (was (replayed a.sectors e) (e, picks, λ d t. refl)))
+      let picks = picks_mixed c left.1 in (
+        replayed a.sectors e,
+        (e, picks, λ d t. refl),
+        λ place u.
+            left.2 (member_slice place n) u ∙ closed_after c (logs_of c left.1) place u
+            ∙ sym (mixed_own c (member_slice place n) u (eq-eqb (slice_of (member_slice place n)) (n + 1) (slice_own place n few)))
+            ∙ sym (closed_before e (logs_of e picks) place u),
+      )
+
+  pub agree_spared : ((r : Image) → IsLeft a r → SupersAgree v.state r n) → (r : Image) → IsLeft b r → SupersAgree w.state r n
+  agree_spared was r left =
+      let at = left_before r left in
+      agree_marks v.state w.state r n (marks_none p q v w a b before runs none) (agree_by v.state r at.0 n at.2 (was at.0 at.1))
+
+  -- nor does its truth change
+  pub truth_spared : (P : Super → Type 0) → ((r : Image) → IsLeft a r → (u : Super) → truth_in v.state r n ≡ Some u → P u)
+      → (r : Image) → IsLeft b r → (u : Super) → truth_in w.state r n ≡ Some u → P u
+  truth_spared P was r left u truth =
+      let at = left_before r left in
+      was at.0 at.1 u
+      (sym (truth_by_supers v.state r at.0 n (supers_same v.state r at.0 n at.2))
+      ∙ sym (truth_still v.state w.state r n (marks_none p q v w a b before runs none)) ∙ truth)

@@ -42,7 +42,7 @@ no_slot : Slot
 no_slot = record { place = 0; seat = Missing; device = record { 0 = [] } }
 
 -- there is one slot for each position
-slots_count : (u : View) → length u.seats ≡ u.truth.raid_disks → length u.devices ≡ u.truth.raid_disks → length (slots_of u) ≡ u.truth.raid_disks
+pub slots_count : (u : View) → length u.seats ≡ u.truth.raid_disks → length u.devices ≡ u.truth.raid_disks → length (slots_of u) ≡ u.truth.raid_disks
 slots_count u seats devices =
     let all = length-map (zip (places_by u.truth) (zip u.seats u.devices)) slot_with in
     let outer = length-zip (places_by u.truth) (zip u.seats u.devices) in

@@ -1,7 +1,7 @@
 -- Writes to a disk that has no place leave the slices alone: to them they are reads.
-use Rattle.std.proofs.Common.{◌≡◌, ◌≢◌, ◌⊎◌, ℕ, ◌+◌, ◌*◌, ◌<◌, List, Option, Some, None, refl, sym, ap, subst, ◌∙◌, inl, inr, unwrap_or, arith}
+use Rattle.std.proofs.Common.{◌≡◌, ◌≢◌, ℕ, ◌+◌, ◌*◌, ◌<◌, List, Option, Some, None, refl, sym, ap, subst, ◌∙◌, inl, inr, unwrap_or, arith}
 use Rattle.rack.specs.Values.{MayLeave}
-use Rattle.rack.specs.Seen.{Image, Seen, IsLive, IsPick, Stays}
+use Rattle.rack.specs.Seen.{Image, Seen, IsPick, Rose, Stays}
 use Rattle.rack.specs.Joins.{leaves_weaker, rose_since}
 use Rattle.rack.specs.Moments.{Leaves}
 use Rattle.rack.proofs.Writing.{only_then, only_weaker}
@@ -14,7 +14,7 @@ use Rattle.slice_rack.specs.Runs.{IsSliced, inside_still}
 use Rattle.slice_rack.proofs.Below.{stays_sliced}
 use Rattle.raid_rack.specs.declared.arrays.Arrays.{Arrays}
 use Rattle.raid_rack.specs.Book.{after_same}
-use Rattle.raid_rack.specs.Enlisting.{HasLost, IsNotWhole, IsWrittenBy}
+use Rattle.raid_rack.specs.Enlisting.{HasLost, IsNotWhole, IsRefused, IsWrittenBy}
 use Rattle.raid_rack.specs.Losing.{only_same}
 use Rattle.raid_rack.specs.Moves.{IsSet, Mends, Moves, RaisesBy}
 use Rattle.raid_rack.specs.NewDrive.{IsOfDrive}
@@ -27,7 +27,7 @@ use Rattle.raid_rack.proofs.Reading.{part_unread}
 use Rattle.raid_rack.proofs.Rows.{clear_same, rows_read}
 
 -- a slice with a sector is on the disk of its place
-seat_is : (t : Slices) (d s : ℕ) → IsOrderly t → s < sectors_of t d → seat_of t (place_of d) ≡ Some (disk_of t d)
+pub seat_is : (t : Slices) (d s : ℕ) → IsOrderly t → s < sectors_of t d → seat_of t (place_of d) ≡ Some (disk_of t d)
 seat_is t d s orderly within = of (seat_of t (place_of d)) refl
   where
     of : (o : Option ℕ) → seat_of t (place_of d) ≡ o → seat_of t (place_of d) ≡ Some (disk_of t d)
@@ -120,6 +120,17 @@ moves_quiet v a b set reads =
           });
       rows = λ n vals spent joined made goes covers amid rows. rows_read v v a b n set.lasting reads (clear_same (v.arrays n) (v.arrays n) refl) rows;
     }
+
+-- A disk without a place was written, and refused a call.
+pub refused_lay : (t : Slices) (disk : ℕ) (v : Raid) (a b : Seen) → IsOrderly t → ((p : ℕ) → seat_of t p ≢ Some disk) → IsSet v (slices_of t a)
+    → WritesOnly a b (IsOfDrive disk (a.sectors disk)) → Rose (a.faults disk) (b.faults disk) → IsRefused t disk v a b
+refused_lay t disk v a b orderly free set only gone = record {
+  only = only;
+  gone = gone;
+  moves =
+      moves_quiet v (slices_of t a) (slices_of t b) set
+      (reads_apart t a b disk (IsOfDrive disk (a.sectors disk)) orderly set.fit.1 only (λ d s u at. at.0) free);
+}
 
 -- A disk without a place was written, and then another drive was found gone: but for its mark all is as before.
 pub not_whole : (t : Slices) (disk : ℕ) (v w : Raid) (a m b : Seen) → IsOrderly t → ((p : ℕ) → seat_of t p ≢ Some disk) → IsSet v (slices_of t a)

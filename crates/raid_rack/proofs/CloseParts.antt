@@ -20,7 +20,7 @@ use Rattle.commit_log.specs.View.{LogView, names, next_number}
 use Rattle.commit_log.specs.Commits.{Commits}
 use Rattle.commit_log.specs.Kept.{AreLeft, LogKept, Brings as BringsState}
 use Rattle.commit_log.specs.Standing.{IsAlike}
-use Rattle.commit_log.proofs.Kept.{before_inside, brought_state, kept_decides, kept_ready, put_none, stands_of}
+use Rattle.commit_log.proofs.Kept.{before_inside, brings_to, brought_state, kept_decides, kept_ready, put_none, stands_of}
 use Rattle.commit_log.proofs.KeptAfter.{kept_after}
 use Rattle.array_model.specs.View.{View, may_vary, shape_of}
 use Rattle.array_model.specs.Says.{Holds, HoldsShape, Says}
@@ -145,7 +145,8 @@ module _ (v : Raid) (on gone : List ℕ) (l : LogView) (f : ℕ → View) (b c :
   marks_call : MarksCall v.state (closed v.state) (gone_in v) l on gone b c
   marks_call = record {
     commit = commit.call;
-    brings = brings;
+    takes = on;
+    brings = brings_to v.state (closed v.state) l.number (gone_in v) b l.added on brings;
     are_left = are_left;
     none = closing_data v on gone l f b c commit;
     ready = kept_ready v.state (closed v.state) (gone_in v) l on b someone.0 kept brings room.0 commit.set.lasting targets_live someone.1 (none_gone someone.0 someone.1);

@@ -121,12 +121,17 @@ seated_marked s lost n u x noted seated =
 abbrev pub raid_after : Raid → List ℕ → ℕ → (ℕ → View) → Raid
 raid_after v lost number f = record v { state = state_after v lost; number = number; arrays = f }
 
--- the commit, and who went in it noted in all arrays
-pub record IsCommit (v : Raid) (lost on gone : List ℕ) (l : LogView) (xs : List Target) (f : ℕ → View) (b c : Seen) : Type 0 where
+-- The commit, by the logs of some of the places that the state has which it brings, and who went in it noted in all arrays.
+pub record IsCommitBy (v : Raid) (lost on by gone : List ℕ) (l : LogView) (xs : List Target) (f : ℕ → View) (b c : Seen) : Type 0 where
   pub marking : IsMarking v lost on l xs b
-  pub call : CommitCall l on gone b c
+  pub call : CommitCall l by gone b c
+  pub fewer : (p : ℕ) → names by p ≡ true → names on p ≡ true
   pub arrays : (n : ℕ) → n < v.state.made → f n ≡ without gone (v.arrays n)
   pub sectors : (n : ℕ) → sectors_of (f n) ≡ sectors_of (v.arrays n)
+
+-- by the logs of all of them
+abbrev pub IsCommit : Raid → (lost on gone : List ℕ) → LogView → List Target → (ℕ → View) → Seen → Seen → Type 0
+IsCommit v lost on gone l xs f b c = IsCommitBy v lost on on gone l xs f b c
 
 pub next_later : (n : ℕ) → n ≤ next_number n
 next_later n = elim (cases_lt n (2 ^ 63 - 1)) [
@@ -134,7 +139,8 @@ next_later n = elim (cases_lt n (2 ^ 63 - 1)) [
   | inr last ↦ let is : next_number n ≡ n = ap (λ (b : Bool). if b then n + 1 else n) (le-ltb n (2 ^ 63 - 1) last) in omega (arith, is)
 ]
 
-module _ (v : Raid) (lost on gone : List ℕ) (l : LogView) (xs : List Target) (f : ℕ → View) (b c : Seen) (commit : IsCommit v lost on gone l xs f b c) where
+module _ (v : Raid) (lost on : List ℕ) {by : List ℕ} (gone : List ℕ) (l : LogView) (xs : List Target) (f : ℕ → View) (b c : Seen)
+    (commit : IsCommitBy v lost on by gone l xs f b c) where
   marking : IsMarking v lost on l xs b
   marking = commit.marking
 
@@ -145,7 +151,7 @@ module _ (v : Raid) (lost on gone : List ℕ) (l : LogView) (xs : List Target) (
   pub gone_current : (p : ℕ) → names gone p ≡ true → is_current (state_after v lost) p ≡ true
   gone_current p is =
       elim (commit.call.gone.called p is) [
-        | inl named ↦ sym (on_current v lost on l xs b commit.marking p) ∙ named
+        | inl named ↦ sym (on_current v lost on l xs b commit.marking p) ∙ commit.fewer p named
         | inr any ↦
             let at = any_among (λ t. place_of t.disk == p) l.added any in
             let here = eqb-true (place_of at.0.disk) p at.2 in
@@ -183,10 +189,10 @@ module _ (v : Raid) (lost on gone : List ℕ) (l : LogView) (xs : List Target) (
                 gone_now copy.place (omega (arith, at, disk)) (sym (on_current v lost on l xs b commit.marking copy.place) ∙ copy.named)
           ])
 
-      unnamed : names on (place_of d) ≡ false
+      unnamed : names by (place_of d) ≡ false
       unnamed =
-          elim (cases_Bool (names on (place_of d))) [
-            | inl is ↦ absurd (gone_now (place_of d) refl (sym (on_current v lost on l xs b commit.marking (place_of d)) ∙ is))
+          elim (cases_Bool (names by (place_of d))) [
+            | inl is ↦ absurd (gone_now (place_of d) refl (sym (on_current v lost on l xs b commit.marking (place_of d)) ∙ commit.fewer (place_of d) is))
             | inr not ↦ not
           ]
 

@@ -2,11 +2,10 @@
 use Rattle.std.proofs.Common.{◌≡◌, ◌≢◌, ◌⊎◌, ℕ, zero, suc, ◌+◌, ◌-◌, ◌*◌, ◌<◌, ◌≤◌, ◌^◌, ◌==◌, ◌&&◌, ◌||◌, not, nat_le, nat_lt, if◌then◌else◌, Bool, true, false, List, [], ◌∷◌, All, filter, length, map, set, slice_get, Option, Some, None, option_map, refl, sym, ap, subst, ◌∙◌, inl, inr, eq-eqb, le-leb, lt-ltb, arith}
 use Rattle.std.specs.List.{list_all, range_with_len}
 use Rattle.std.specs.Option.{option_map_or}
-use Rattle.std.proofs.lemmas.Bool.{and_from, and_parts, both_ways, cases_Bool, cases_eq, cases_lt, leb-true, ltb-true, ne_eqb}
+use Rattle.std.proofs.lemmas.Bool.{and_from, and_parts, both_ways, cases_Bool, cases_eq, cases_lt, ne_eqb}
 use Rattle.std.proofs.lemmas.List.Elements.{All-nil, All-cons}
 use Rattle.std.proofs.lemmas.Option.{slice_get-get_or, slice_get_past}
 use Rattle.gpt_table.specs.declared.Entry.{Entry}
-use Rattle.gpt_table.specs.declared.Table.{Table}
 use Rattle.gpt_table.specs.Format.{Ascends, IsWritable, is_inside}
 use Rattle.pool_state.specs.Valid.{is_valid, is_drive, is_extent, has_places, has_arrays, has_epoch, place_of as planned_place}
 use Rattle.pool_state.specs.declared.contents.Drive.{Drive}
@@ -17,14 +16,35 @@ use Rattle.array_image.specs.Places.{log_kind, log_sectors, raid_kind, state_sec
 use Rattle.array_image.specs.States.{is_current}
 use Rattle.array_model.specs.View.{View}
 use Rattle.raid_rack.specs.Enlisting.{enlisted, next_drive}
-use Rattle.raid_rack.specs.Missing.{raised}
+use Rattle.raid_rack.specs.Missing.{marked, marked_from, missing_if}
 use Rattle.raid_rack.specs.NewDrive.{drive_table, entry_of, first_in, joins, length_in, member_entry}
-use Rattle.raid_rack.proofs.Committed.{raised_range}
+use Rattle.raid_rack.proofs.Committed.{valid_marked}
 use Rattle.raid_rack.proofs.Each.{get_set_other, get_set_same}
 use Rattle.raid_rack.proofs.LayingDrive.{joins_fits}
 use Rattle.raid_rack.proofs.Steps.{length_set}
 
 -- ---- the state
+
+-- the state with the drive in its list, of the same epoch
+abbrev pub listed : (place units : ℕ) → Plan → State → State
+listed place units plan s = record (enlisted place units plan s) { epoch = s.epoch }
+
+marked_none : (n : ℕ) (ds : List Drive) → marked_from [] n ds ≡ ds
+unfolding marked_from
+marked_none n [] = refl
+marked_none n (d ∷ ds) = ap (λ (e : Drive). e ∷ marked_from [] (n + 1) ds) (same d) ∙ ap (λ es. d ∷ es) (marked_none (n + 1) ds)
+  where
+    or_false : (b : Bool) → (b || false) ≡ b
+    or_false true = refl
+    or_false false = refl
+
+    same : (d : Drive) → missing_if false d ≡ d
+    same d = ap (λ (b : Bool). record d { missing = b }) (or_false d.missing)
+
+pub enlisted_marked : (place units : ℕ) (plan : Plan) (s : State) → enlisted place units plan s ≡ marked [] (listed place units plan s)
+enlisted_marked place units plan s =
+    let new : Drive = record { id = next_drive s; units = units; missing = false } in
+    sym (ap (λ (ds : List Drive). record (enlisted place units plan s) { drives = record { items = ds } }) (marked_none 0 (set s.drives.items place new)))
 
 -- the place is current by it, and all others are as before
 pub current_enlisted : (place units : ℕ) (plan : Plan) (s : State) (p : ℕ) → place < length s.drives.items
@@ -54,30 +74,32 @@ drive_at (x ∷ ds) zero units all is =
     subst (λ k. (nat_le 1 k && nat_lt k (2 ^ 41)) ≡ true) (ap (λ o. option_map_or (λ n. n) o 0) is) (and_parts (is_drive x) (list_all is_drive ds) all).0
 drive_at (x ∷ ds) (suc i) units all is = drive_at ds i units (and_parts (is_drive x) (list_all is_drive ds) all).1 is
 
-pub valid_enlisted : (place units : ℕ) (s : State) (own : ℕ) → place < length s.drives.items
+pub valid_listed : (place units : ℕ) (s : State) (own : ℕ) → place < length s.drives.items
     → option_map (λ (d : Drive). d.units) (slice_get s.drives.items place) ≡ Some units → is_valid s own ≡ true
-    → is_valid (enlisted place units (Replace place) s) own ≡ true
-valid_enlisted place units s own low of is =
+    → is_valid (listed place units (Replace place) s) own ≡ true
+valid_listed place units s own low of is =
     let new : Drive = record { id = next_drive s; units = units; missing = false } in
     let one = and_parts (is_extent s.extent) (has_places s own && (has_arrays s && (list_all is_drive s.drives.items && has_epoch s))) is in
     let two = and_parts (has_places s own) (has_arrays s && (list_all is_drive s.drives.items && has_epoch s)) one.1 in
     let three = and_parts (has_arrays s) (list_all is_drive s.drives.items && has_epoch s) two.1 in
     let four = and_parts (list_all is_drive s.drives.items) (has_epoch s) three.1 in
-    let five = and_parts (nat_le 1 s.epoch) (nat_lt s.epoch (2 ^ 63)) four.1 in
     let places = and_parts (nat_le 2 (length s.drives.items) && nat_le (length s.drives.items) 16)
     (nat_lt own (length s.drives.items) && nat_lt (planned_place s.plan) (length s.drives.items)) two.0 in
-    let listed = and_parts (nat_lt own (length s.drives.items)) (nat_lt (planned_place s.plan) (length s.drives.items)) places.1 in
-    let range = raised_range s.epoch in
+    let own_listed = and_parts (nat_lt own (length s.drives.items)) (nat_lt (planned_place s.plan) (length s.drives.items)) places.1 in
     and_from (is_extent s.extent) _ one.0
     (and_from _ _
     (ap (λ k. (nat_le 2 k && nat_le k 16) && (nat_lt own k && nat_lt place k)) (length_set s.drives.items place new)
     ∙ and_from (nat_le 2 (length s.drives.items) && nat_le (length s.drives.items) 16) (nat_lt own (length s.drives.items) && nat_lt place (length s.drives.items)) places.0
-    (and_from (nat_lt own (length s.drives.items)) (nat_lt place (length s.drives.items)) listed.0 (lt-ltb place (length s.drives.items) low)))
-    (and_from (has_arrays s) _ three.0
-    (and_from _ _ (all_set s.drives.items place new four.0 (drive_at s.drives.items place units four.0 of))
-    (and_from (nat_le 1 (raised s.epoch)) (nat_lt (raised s.epoch) (2 ^ 63))
-    (le-leb 1 (raised s.epoch) (let first = leb-true 1 s.epoch five.0 in let up = range.0 in omega (arith, first, up)))
-    (lt-ltb (raised s.epoch) (2 ^ 63) (range.1 (ltb-true s.epoch (2 ^ 63) five.1)))))))
+    (and_from (nat_lt own (length s.drives.items)) (nat_lt place (length s.drives.items)) own_listed.0 (lt-ltb place (length s.drives.items) low)))
+    (and_from (has_arrays s) _ three.0 (and_from _ _ (all_set s.drives.items place new four.0 (drive_at s.drives.items place units four.0 of)) four.1)))
+
+-- so is the state of the next epoch
+pub valid_enlisted : (place units : ℕ) (s : State) (own : ℕ) → place < length s.drives.items
+    → option_map (λ (d : Drive). d.units) (slice_get s.drives.items place) ≡ Some units → is_valid s own ≡ true
+    → is_valid (enlisted place units (Replace place) s) own ≡ true
+valid_enlisted place units s own low of is =
+    ap (λ (z : State). is_valid z own) (enlisted_marked place units (Replace place) s)
+    ∙ valid_marked [] (listed place units (Replace place) s) own (valid_listed place units s own low of is)
 
 -- ---- its table can be written
 
@@ -146,3 +168,16 @@ module _ (drive : List ℕ) (arrays : List View) (place sectors : ℕ) where
         let some = some_length n is in
         entry_inside (n + 1) raid_kind (first_in arrays n) (length_in arrays n) sectors (omega (arith, some)) (omega (arith, fits))));
   }
+
+-- the places that it has as current are of its list, each below 16
+pub listed_enlisted : (place units : ℕ) (s : State) (p : ℕ) → place < length s.drives.items → is_current (enlisted place units (Replace place) s) p ≡ true
+    → p < length s.drives.items
+listed_enlisted place units s p low is =
+    elim (cases_lt p (length s.drives.items)) [
+      | inl listed ↦ listed
+      | inr past ↦
+          let new : Drive = record { id = next_drive s; units = units; missing = false } in
+          let long = length_set s.drives.items place new in
+          absurd (both_ways false refl
+          (sym (ap (λ o. option_map_or (λ (d : Drive). not d.missing) o false) (slice_get_past (set s.drives.items place new) p (omega (arith, long, past)))) ∙ is))
+    ]

@@ -38,14 +38,22 @@ use Rattle.raid_rack.specs.NewDrive.{AreLaid, IsOfDrive, KeepsOthers, LaysDrive,
 -- ---- calls
 
 -- the state's sector and the gate are none of a table
-off_table : (n s : ℕ) → 34 ≤ s → s + 33 < n → IsOfTable n s → ⊥
+pub off_table : (n s : ℕ) → 34 ≤ s → s + 33 < n → IsOfTable n s → ⊥
 off_table n s low high (inl mbr) = omega (arith, low, mbr)
 off_table n s low high (inr (inl (inl header))) = omega (arith, low, header)
 off_table n s low high (inr (inl (inr among))) = let last = among.1 in omega (arith, low, last)
 off_table n s low high (inr (inr (inl header))) = omega (arith, high, header)
 off_table n s low high (inr (inr (inr among))) = let first = among.0 in omega (arith, high, first)
 
-copy_agrees : (copy : TableCopy) (table : Table) (d e : Contents) → ((s : ℕ) → IsOfCopy copy table.sectors s → d s ≡ e s) → HoldsCopy copy table d → HoldsCopy copy table e
+-- they lie inside the disk
+pub in_disk : (n s : ℕ) → 10273 ≤ n → IsOfTable n s → s < n
+in_disk n s room (inl mbr) = omega (arith, room, mbr)
+in_disk n s room (inr (inl (inl header))) = omega (arith, room, header)
+in_disk n s room (inr (inl (inr among))) = let last = among.1 in omega (arith, room, last)
+in_disk n s room (inr (inr (inl header))) = omega (arith, room, header)
+in_disk n s room (inr (inr (inr among))) = let last = among.1 in omega (arith, room, last)
+
+pub copy_agrees : (copy : TableCopy) (table : Table) (d e : Contents) → ((s : ℕ) → IsOfCopy copy table.sectors s → d s ≡ e s) → HoldsCopy copy table d → HoldsCopy copy table e
 unfolding entries_bytes
 copy_agrees copy table d e same holds =
     let start = entries_sector copy table.sectors in
@@ -53,7 +61,7 @@ copy_agrees copy table d e same holds =
     subst (IsWritten copy table (e (header_sector copy table.sectors))) entries
     (subst (λ h. IsWritten copy table h (joined d start 32)) (same (header_sector copy table.sectors) (inl refl)) holds)
 
-of_copy : (copy : TableCopy) (n s : ℕ) → IsOfCopy copy n s → IsOfTable n s
+pub of_copy : (copy : TableCopy) (n s : ℕ) → IsOfCopy copy n s → IsOfTable n s
 of_copy Primary n s of = inr (inl of)
 of_copy Backup n s of = inr (inr of)
 
@@ -228,7 +236,7 @@ joining_next arrays place sectors i flags v low new before n =
     ]
 
 -- no array of a higher number
-none_joins : (arrays : List View) (place sectors n : ℕ) → length arrays ≤ n → joins arrays place sectors n ≡ false
+pub none_joins : (arrays : List View) (place sectors n : ℕ) → length arrays ≤ n → joins arrays place sectors n ≡ false
 none_joins arrays place sectors n past =
     ap (λ o. option_map_or (λ (u : View). is_some (seat_of u place) && nat_le (first_in arrays n + slice_length u + 33) sectors) o false) (slice_get_past arrays n past)
 
@@ -262,7 +270,7 @@ module _ (arrays : List View) (place sectors : ℕ) where
   laid_zero : (sectors_laid arrays place sectors 0 ≡ log_sectors) × (first_laid arrays 0 ≡ state_sector)
   laid_zero = (refl, refl)
 
-  laid_member : (n : ℕ) → (sectors_laid arrays place sectors (n + 1) ≡ (if joins arrays place sectors n then length_in arrays n else 0)) × (first_laid arrays (n + 1) ≡ first_in arrays n)
+  pub laid_member : (n : ℕ) → (sectors_laid arrays place sectors (n + 1) ≡ (if joins arrays place sectors n then length_in arrays n else 0)) × (first_laid arrays (n + 1) ≡ first_in arrays n)
   laid_member n =
       let other : (n + 1 == 0) ≡ false = ne_eqb (n + 1) 0 (λ same. omega (arith, same)) in
       let index : n + 1 - 1 ≡ n = omega arith in (

@@ -47,6 +47,8 @@ pub mod Serving
 pub mod Worked
 pub mod Reading
 pub mod Restated
+pub mod Staged
+mod MarkedRows
 pub mod Agreed
 pub mod Agreeing
 pub mod Sparing
@@ -59,5 +61,20 @@ pub mod Opening
 pub mod Founding
 mod SettledWhole
 mod LayingDrive
-mod Enlisted
-mod Apart
+pub mod Enlisted
+pub mod Apart
+pub mod Seating
+mod Others
+mod Renewed
+mod Joining
+mod Joined
+mod JoinCalls
+pub mod ReseatedLogs
+pub mod SaysStill
+pub mod Reseated
+mod Renewing
+mod Untouched
+mod Enrolled
+mod EnlistTold
+mod EnlistAll
+pub mod Vacated

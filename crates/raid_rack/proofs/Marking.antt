@@ -1,5 +1,5 @@
 -- A commit that marks losses: each array that stands gives its values at each moment of it, and stands after it by the new state.
-use Rattle.std.proofs.Common.{◌≡◌, ℕ, ◌+◌, ◌<◌, Bool, true, false, ◌||◌, List, [], Option, Some, None, unwrap_or, refl, sym, ap, ap₂, subst, ◌∙◌, inl, inr, arith}
+use Rattle.std.proofs.Common.{◌≡◌, ◌⊎◌, ℕ, ◌+◌, ◌<◌, Bool, true, false, ◌||◌, List, [], Option, Some, None, unwrap_or, refl, sym, ap, ap₂, subst, ◌∙◌, inl, inr, arith}
 use Rattle.rack.specs.Values.{Values, MayLeave}
 use Rattle.rack.specs.Seen.{Image, Seen, IsLive}
 use Rattle.rack.specs.Joins.{leaves_weaker}
@@ -21,14 +21,15 @@ use Rattle.array_image.proofs.Settled.{settled_value}
 use Rattle.commit_log.specs.View.{LogView, names, next_number}
 use Rattle.commit_log.specs.Standing.{IsReady, SomeoneDecides, IsLogPart, IsAlike}
 use Rattle.commit_log.specs.Commits.{Commits, CommitCall}
-use Rattle.commit_log.specs.Kept.{LogKept, AreLeft, gone_with, Brings}
-use Rattle.commit_log.proofs.Kept.{stands_of, before_inside, brought_state, put_none}
-use Rattle.commit_log.proofs.KeptAfter.{kept_after}
+use Rattle.commit_log.specs.Kept.{LogKept, AreLeft, gone_with, BringsTo}
+use Rattle.commit_log.proofs.Kept.{stands_of, before_inside, joined_state, put_none}
+use Rattle.commit_log.proofs.KeptAfter.{joined_after}
 use Rattle.array_model.specs.View.{View, shape_of, may_vary}
 use Rattle.array_model.specs.Says.{Says, IsOpen, HoldsShape, IsEarlier}
 use Rattle.array_model.proofs.Keeping.{live_on, inside_before, logs_of, KeepsData}
 use Rattle.array_model.proofs.Losses.{noted_holds, marked_holds}
 use Rattle.raid_rack.specs.Raid.{Raid, Stood, IsWritten}
+use Rattle.raid_rack.specs.Enlisting.{SaysBy}
 use Rattle.raid_rack.specs.Marking.{NoData, Restates, SaysBetween, Part}
 use Rattle.raid_rack.specs.Book.{IsAfter, after_same}
 use Rattle.raid_rack.specs.Laws.{stood_left}
@@ -89,7 +90,9 @@ put_says t noted marked view vals spent xs a n c few restates none picks settled
 -- what the commit needs of the pool, and what it is
 pub record MarksCall (s t : State) (gone : ℕ → Bool) (l : LogView) (on lost : List ℕ) (a b : Seen) : Type 0 where
   pub commit : CommitCall l on lost a b
-  pub brings : Brings s t l.added on
+  -- the places that get a copy: those of the commit, and those that join
+  pub takes : List ℕ
+  pub brings : BringsTo s t l.number gone a l.added on takes
   pub are_left : AreLeft s gone on
   pub none : NoData l.added
   pub ready : IsReady l on a
@@ -101,14 +104,15 @@ pub record MarksCall (s t : State) (gone : ℕ → Bool) (l : LogView) (on lost 
   pub now : is_current t place ≡ true
   pub stays : names lost place ≡ false
 
-marked_moment : (s t : State) (durable noted : Shape) (vary marked : Bool) (view : View) (vals : ℕ → Values) (spent gone : ℕ → Bool) (v : Raid) (l : LogView) (on lost : List ℕ) (a b : Seen) (n : ℕ) (c : Image)
-    → n < 16 → IsAfter s t
+-- By the old state it is as it was, by the new one as the targets restate it.
+pub commit_moment : (s t : State) (durable noted : Shape) (vary marked : Bool) (view : View) (vals : ℕ → Values) (spent gone : ℕ → Bool) (v : Raid) (l : LogView) (on lost : List ℕ) (a b : Seen) (n : ℕ) (c : Image)
+    → n < 16
     → MarksCall s t gone l on lost a b → Restates t noted marked view l.added a n → IsSettled noted n a.held
     → HoldsShape s n durable noted (v.arrays n).resync vary vals spent a
     → Stood s durable vals spent gone v a n
     → IsInside a.sectors c → Commits l.added a c
-    → SaysBetween s t n vals spent (replayed a.sectors c)
-marked_moment s t durable noted vary marked view vals spent gone v l on lost a b n c few book call restates settled holds stood inside commits =
+    → SaysBy s n vals spent (replayed a.sectors c) ⊎ SaysBy t n vals spent (replayed a.sectors c)
+commit_moment s t durable noted vary marked view vals spent gone v l on lost a b n c few call restates settled holds stood inside commits =
     let before = commits.before in
     let picks = before_inside l.added a c before inside commits.stands commits.either in
     let r : Image = replayed a.sectors c in
@@ -116,29 +120,26 @@ marked_moment s t durable noted vary marked view vals spent gone v l on lost a b
       | inl old ↦
           let e : Image = replayed a.sectors before in
           let left = stood_left s durable vals spent gone v a n before stood picks in
-          record {
-            state = s;
-            is_state = alike_state r e old ∙ left.0;
-            later = after_same s;
-            sooner = book;
-            shape = durable;
-            says = says_same s n durable vals spent r e (alike_agree n r e few old) left.1;
-          }
+          inl (record { is_state = alike_state r e old ∙ left.0; shape = durable; says = says_same s n durable vals spent r e (alike_agree n r e few old) left.1 })
       | inr new ↦
           let e : Image = put a.sectors l.added before in
-          record {
-            state = t;
+          inr (record {
             is_state =
                 alike_state r e new
-                ∙ brought_state s t gone on l.added a before call.place stood.log.logs stood.log.copies call.brings (stands_of before picks)
+                ∙ joined_state s t l.number gone on call.takes l.added a before call.place stood.log.logs stood.log.copies call.brings (stands_of before picks)
                 (stood.log.few call.place call.was) (stood.log.there call.place call.was call.left) call.was call.left call.now;
-            later = book;
-            sooner = after_same t;
             shape = noted;
             says = says_same t n noted vals spent r e (alike_agree n r e few new)
                 (put_says t noted marked view vals spent l.added a n before few restates call.none picks settled holds.open_left holds.current);
-          }
+          })
     ]
+
+-- what is said by a state, is said by one between two that it is
+pub says_first : (s t : State) (n : ℕ) (vals : ℕ → Values) (spent : ℕ → Bool) (r : Image) → IsAfter s t → SaysBy s n vals spent r → SaysBetween s t n vals spent r
+says_first s t n vals spent r book by = record { state = s; is_state = by.is_state; later = after_same s; sooner = book; shape = by.shape; says = by.says }
+
+pub says_last : (s t : State) (n : ℕ) (vals : ℕ → Values) (spent : ℕ → Bool) (r : Image) → IsAfter s t → SaysBy t n vals spent r → SaysBetween s t n vals spent r
+says_last s t n vals spent r book by = record { state = t; is_state = by.is_state; later = book; sooner = after_same t; shape = by.shape; says = by.says }
 
 -- ---- after it
 
@@ -226,8 +227,58 @@ earlier_same t u same =
       events = let e = ap (λ (f : Super). f.events) same in omega arith;
     }
 
--- The whole of it: an array that stands before a commit of marks, its members settled, gives its values at each moment and stands
--- after it, without those that went in it.
+-- An array that stands before such a commit, its members settled, stands after it by the new state, without those that went in it.
+pub marks_stood : (s t : State) (durable noted : Shape) (vary marked : Bool) (view : View) (vals : ℕ → Values) (spent gone : ℕ → Bool) (v w : Raid) (l : LogView) (on lost : List ℕ) (a b : Seen) (n : ℕ)
+    → n < 16 → l.number ≡ v.number → w.number ≡ next_number l.number → n < t.joined → t.joined < 17
+    → MarksCall s t gone l on lost a b → Restates t noted marked view l.added a n → IsSettled noted n a.held
+    → HoldsShape s n durable noted (v.arrays n).resync vary vals spent a
+    → NotesLost (w.arrays n) noted (v.arrays n).resync marked view lost n
+    → ((y : ℕ) → spent y ≡ false → value_by (lowered (names lost) noted) (current_in b.held) n y ≡ value_by noted (current_in b.held) n y)
+    → Stood s durable vals spent gone v a n → Stood t noted vals spent (gone_with gone lost) w b n
+marks_stood s t durable noted vary marked view vals spent gone v w l on lost a b n few number number_now joined arrays call restates settled holds notes same stood =
+    let u = w.arrays n in
+    record {
+      joined = joined;
+      few = arrays;
+      number = notes.number;
+      log = subst (λ k. LogKept t k (gone_with gone lost) b) (sym number_now)
+          (joined_after s t gone l on call.takes lost a b call.commit (subst (λ k. LogKept s k gone a) (sym number) stood.log) call.brings call.are_left call.ready call.decides);
+      written = notes.written;
+      someone = (call.place, call.now, ap₂ (λ (x : Bool) (y : Bool). x || y) call.left call.stays);
+      holds = record {
+        shape =
+            subst (λ k. HoldsShape t k noted (shape_of u) u.resync (may_vary u) vals spent b) (sym notes.number)
+            (subst (λ k. HoldsShape t n noted (shape_of u) k (may_vary u) vals spent b) (sym notes.resync_is)
+            (subst (λ (shape : Shape). HoldsShape t n noted shape (v.arrays n).resync (may_vary u) vals spent b) (sym notes.shape)
+            (noted_holds t n noted noted (v.arrays n).resync (may_vary u) vals spent spent b (names lost)
+            (shape_after s t durable noted (v.arrays n).resync vary marked (may_vary u) view vals spent gone l on lost a b n few call restates settled holds)
+            (λ y alive. alive) same)));
+        mark = λ is r left tr truth.
+            let at = restated_after s t noted marked view gone l on lost a b n r few call restates left in
+            let e : Image = put a.sectors l.added at.0 in
+            restates.dirty (notes.marked_is is) at.0 at.1 tr
+            (sym (truth_by_supers t r e n (supers_same t r e n at.2)) ∙ subst (λ k. truth_in t r k ≡ Some tr) notes.number truth);
+        truth = λ r left tr truth.
+            let at = restated_after s t noted marked view gone l on lost a b n r few call restates left in
+            let e : Image = put a.sectors l.added at.0 in
+            earlier_same tr u.truth
+            (restates.truth at.0 at.1 tr
+            (sym (truth_by_supers t r e n (supers_same t r e n at.2)) ∙ subst (λ k. truth_in t r k ≡ Some tr) notes.number truth)
+            ∙ sym (ap array_fields notes.truth));
+        alone = λ r left place current other.
+            let at = restated_after s t noted marked view gone l on lost a b n r few call restates left in
+            let e : Image = put a.sectors l.added at.0 in
+            subst (λ k. super_in t r k place ≡ None) (sym notes.number)
+            (supers_same t r e n at.2 place
+            ∙ subst (λ k. super_in t e k place ≡ None) notes.view_number
+            (restates.alone at.0 at.1 place current
+            (λ k small here. other k (subst (λ (q : Super). k < q.raid_disks) (sym notes.truth) small)
+            (ap (λ (q : Super). unwrap_or (place_with q.roles.items k) 16) notes.truth ∙ here))));
+        closed = λ none. subst (λ k. IsClosed k b) (sym notes.number) (closed_after s t gone l on lost a b n call (notes.went none));
+      };
+    }
+
+-- The whole of it: it gives its values at each moment too.
 pub marks_part : (s t : State) (durable noted : Shape) (vary marked : Bool) (view : View) (vals : ℕ → Values) (spent gone : ℕ → Bool) (v w : Raid) (l : LogView) (on lost : List ℕ) (a b : Seen) (n : ℕ)
     → n < 16 → IsAfter s t → l.number ≡ v.number → w.number ≡ next_number l.number → n < t.joined → t.joined < 17
     → MarksCall s t gone l on lost a b → Restates t noted marked view l.added a n → IsSettled noted n a.held
@@ -236,7 +287,6 @@ pub marks_part : (s t : State) (durable noted : Shape) (vary marked : Bool) (vie
     → ((y : ℕ) → spent y ≡ false → value_by (lowered (names lost) noted) (current_in b.held) n y ≡ value_by noted (current_in b.held) n y)
     → Part s t durable noted vals vals spent gone (gone_with gone lost) v w a b n
 marks_part s t durable noted vary marked view vals spent gone v w l on lost a b n few book number number_now joined arrays call restates settled holds notes same =
-    let u = w.arrays n in
     record {
       stays = call.commit.stays;
       book = book;
@@ -244,47 +294,10 @@ marks_part s t durable noted vary marked view vals spent gone v w l on lost a b 
           leaves_weaker (λ c. LogsInside a.sectors c → Commits l.added a c)
           (λ c. IsInside a.sectors c → Stood s durable vals spent gone v a n → SaysBetween s t n vals spent (replayed a.sectors c))
           (λ c commits inside stood.
-          marked_moment s t durable noted vary marked view vals spent gone v l on lost a b n c few book call restates settled holds stood inside (commits (λ place i out. inside (log_slice place) i out)))
+          elim (commit_moment s t durable noted vary marked view vals spent gone v l on lost a b n c few call restates settled holds stood inside (commits (λ place i out. inside (log_slice place) i out))) [
+            | inl old ↦ says_first s t n vals spent (replayed a.sectors c) book old
+            | inr new ↦ says_last s t n vals spent (replayed a.sectors c) book new
+          ])
           (call.commit.stops traced call.ready call.decides);
-      holds = λ stood.
-          record {
-            joined = joined;
-            few = arrays;
-            number = notes.number;
-            log = subst (λ k. LogKept t k (gone_with gone lost) b) (sym number_now)
-                (kept_after s t gone l on lost a b call.commit (subst (λ k. LogKept s k gone a) (sym number) stood.log) call.brings call.are_left call.ready call.decides);
-            written = notes.written;
-            someone = (call.place, call.now, ap₂ (λ (x : Bool) (y : Bool). x || y) call.left call.stays);
-            holds = record {
-              shape =
-                  subst (λ k. HoldsShape t k noted (shape_of u) u.resync (may_vary u) vals spent b) (sym notes.number)
-                  (subst (λ k. HoldsShape t n noted (shape_of u) k (may_vary u) vals spent b) (sym notes.resync_is)
-                  (subst (λ (shape : Shape). HoldsShape t n noted shape (v.arrays n).resync (may_vary u) vals spent b) (sym notes.shape)
-                  (noted_holds t n noted noted (v.arrays n).resync (may_vary u) vals spent spent b (names lost)
-                  (shape_after s t durable noted (v.arrays n).resync vary marked (may_vary u) view vals spent gone l on lost a b n few call restates settled holds)
-                  (λ y alive. alive) same)));
-              mark = λ is r left tr truth.
-                  let at = restated_after s t noted marked view gone l on lost a b n r few call restates left in
-                  let e : Image = put a.sectors l.added at.0 in
-                  restates.dirty (notes.marked_is is) at.0 at.1 tr
-                  (sym (truth_by_supers t r e n (supers_same t r e n at.2)) ∙ subst (λ k. truth_in t r k ≡ Some tr) notes.number truth);
-              truth = λ r left tr truth.
-                  let at = restated_after s t noted marked view gone l on lost a b n r few call restates left in
-                  let e : Image = put a.sectors l.added at.0 in
-                  earlier_same tr u.truth
-                  (restates.truth at.0 at.1 tr
-                  (sym (truth_by_supers t r e n (supers_same t r e n at.2)) ∙ subst (λ k. truth_in t r k ≡ Some tr) notes.number truth)
-                  ∙ sym (ap array_fields notes.truth));
-              alone = λ r left place current other.
-                  let at = restated_after s t noted marked view gone l on lost a b n r few call restates left in
-                  let e : Image = put a.sectors l.added at.0 in
-                  subst (λ k. super_in t r k place ≡ None) (sym notes.number)
-                  (supers_same t r e n at.2 place
-                  ∙ subst (λ k. super_in t e k place ≡ None) notes.view_number
-                  (restates.alone at.0 at.1 place current
-                  (λ k small here. other k (subst (λ (q : Super). k < q.raid_disks) (sym notes.truth) small)
-                  (ap (λ (q : Super). unwrap_or (place_with q.roles.items k) 16) notes.truth ∙ here))));
-              closed = λ none. subst (λ k. IsClosed k b) (sym notes.number) (closed_after s t gone l on lost a b n call (notes.went none));
-            };
-          };
+      holds = marks_stood s t durable noted vary marked view vals spent gone v w l on lost a b n few number number_now joined arrays call restates settled holds notes same;
     }

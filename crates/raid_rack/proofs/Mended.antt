@@ -59,7 +59,7 @@ each_get g xs ys n each low =
     ap (λ o. unwrap_or o no_array)
     (sym (slice_get-get_or ys n no_array (let same = each_length g xs ys each in omega (arith, low, same))) ∙ each n ∙ ap (option_map g) (slice_get-get_or xs n no_array low))
 
-get_past : (xs : List View) (n : ℕ) → length xs ≤ n → get_or xs n no_array ≡ no_array
+pub get_past : (xs : List View) (n : ℕ) → length xs ≤ n → get_or xs n no_array ≡ no_array
 get_past [] n past = refl
 get_past (x ∷ xs) zero past = absurd (omega (arith, past))
 get_past (x ∷ xs) (suc n) past = get_past xs n (omega (arith, past))
@@ -208,6 +208,7 @@ ends_turn a b c all log l t lost on gone x y z noted settles running t_is markin
     let commit : IsCommit v lost on gone l c.log.added f y z = record {
       marking = marking;
       call = call;
+      fewer = λ p named. named;
       arrays = λ n low. each_get (without gone) c.all.items all.items n each (let same = running.count in omega (arith, low, same));
       sectors = λ n. each_sectors (without gone) c.all.items all.items n (λ u. refl) each;
     } in

@@ -231,7 +231,7 @@ set_noted lost v f x set noting = record {
 }
 
 -- what is noted and heeded isn't the truth
-noted_clear : (lost : List ℕ) (u w : View) → w ≡ gone lost u → KeepsClear u w
+pub noted_clear : (lost : List ℕ) (u w : View) → w ≡ gone lost u → KeepsClear u w
 noted_clear lost u w same = record { resync = ap (λ (z : View). z.resync) same; young = ap (λ (z : View). z.young) same; settled = λ young is. ap is_settled same ∙ is }
 
 heeded_clear : (u w : View) → w ≡ heeded u → KeepsClear u w

@@ -94,32 +94,37 @@ left_now false c is = absurd (both_ways false refl is)
 place_of_slice : (place n : ℕ) → n < 16 → place_of (member_slice place n) ≡ place
 place_of_slice place n few = omega (arith, few)
 
--- no other current place has one
+-- with the targets written, a current place that isn't a member's has none, as it had none
+pub alone_on : (s t : State) (durable : Shape) (vals : ℕ → Values) (spent gone : ℕ → Bool) (v : Raid) (xs : List Target) (a : Seen) (n place : ℕ) (c : Image)
+    → n < 16 → Stood s durable vals spent gone v a n → Picks a c → is_current s place ≡ true → gone place ≡ false
+    → look xs (member_slice place n) super_sector ≡ None → ((e : Image) → super_in t e n place ≡ super_in s e n place)
+    → ((k : ℕ) → k < (v.arrays n).truth.raid_disks → place_at (v.arrays n) k ≡ place → ⊥)
+    → super_in t (put a.sectors xs c) n place ≡ None
+alone_on s t durable vals spent gone v xs a n place c few stood picks current left none same other =
+    let d = member_slice place n in
+    let as_left : put a.sectors xs c d super_sector ≡ replayed a.sectors c d super_sector =
+    put_none a.sectors xs c d super_sector none ∙ sym (stood.log.quiet c (stands_of c picks) d super_sector (ap gone (place_of_slice place n few) ∙ left)) in
+    super_of_sector t (put a.sectors xs c) (replayed a.sectors c) n place as_left ∙ same (replayed a.sectors c)
+    ∙ subst (λ k. super_in s (replayed a.sectors c) k place ≡ None) stood.number
+    (stood.holds.alone (replayed a.sectors c) (c, picks, λ e i. refl) place current other)
+
+-- so no other current place has one
 put_alone : (s t : State) (durable : Shape) (vals : ℕ → Values) (spent gone : ℕ → Bool) (v : Raid) (xs : List Target) (a : Seen) (n : ℕ) (c : Image)
     → IsStaged s t gone (v.arrays n) xs a n → Stood s durable vals spent gone v a n → Picks a c
     → HasNoOthers (v.arrays n) t (put a.sectors xs c)
 put_alone s t durable vals spent gone v xs a n c staged stood picks place current other =
     let now = left_now (is_current s place) (gone place) (sym (staged.marks.current place) ∙ current) in
-    let few = staged.few in
-    let d = member_slice place n in
-    let same : put a.sectors xs c d super_sector ≡ replayed a.sectors c d super_sector =
-    put_none a.sectors xs c d super_sector (staged.no_other place other)
-    ∙ sym (stood.log.quiet c (stands_of c picks) d super_sector (ap gone (place_of_slice place n few) ∙ now.1)) in
     subst (λ k. super_in t (put a.sectors xs c) k place ≡ None) (sym staged.number)
-    (super_of_sector t (put a.sectors xs c) (replayed a.sectors c) n place same
-    ∙ marked_super s t gone (replayed a.sectors c) n place staged.marks
-    ∙ subst (λ k. super_in s (replayed a.sectors c) k place ≡ None) staged.number
-    (stood.holds.alone (replayed a.sectors c) (c, picks, λ e i. refl) place now.0 other))
+    (alone_on s t durable vals spent gone v xs a n place c staged.few stood picks now.0 now.1 (staged.no_other place other)
+    (λ e. marked_super s t gone e n place staged.marks) other)
 
--- By the new state, with the targets written, contents restate the array.
-pub restates_staged : (s t : State) (durable : Shape) (vals : ℕ → Values) (spent gone : ℕ → Bool) (v : Raid) (xs : List Target) (a : Seen) (n : ℕ)
-    → IsStaged s t gone (v.arrays n) xs a n → Stood s durable vals spent gone v a n
-    → Restates t (shape_of (v.arrays n)) false (v.arrays n) xs a n
-restates_staged s t durable vals spent gone v xs a n staged stood =
-    let u = v.arrays n in
+-- By the new state, with the targets written, contents restate the array, where no other current place has a superblock of it.
+pub restates_by : (s t : State) (gone : ℕ → Bool) (u : View) (xs : List Target) (a : Seen) (n : ℕ)
+    → IsStaged s t gone u xs a n → ((c : Image) → Picks a c → HasNoOthers u t (put a.sectors xs c))
+    → IsOpen (shape_of u) n a → AreEven (shape_of u) n u.resync (current_in a.held)
+    → Restates t (shape_of u) false u xs a n
+restates_by s t gone u xs a n staged alone is_open even =
     let e : Image → Image = λ c. put a.sectors xs c in
-    let alone : (c : Image) → Picks a c → HasNoOthers u t (e c) =
-    λ c picks. put_alone s t durable vals spent gone v xs a n c staged stood picks in
     record {
       shape_is = λ c picks.
           subst (λ k. shape_in t (e c) k ≡ Some (shape_of u)) staged.number
@@ -130,10 +135,8 @@ restates_staged s t durable vals spent gone v xs a n staged stood =
           (staged_sound u t (e c) staged.seats staged.devices staged.placed staged.state staged.before staged.added staged.adds (has_supers s t gone u xs a n c staged)
           staged.member staged.low staged.left (alone_others u t (e c) staged.seats (alone c picks))
           (alone c picks) staged.rows staged.written
-          (even_counted (shape_of u) u.number u.resync (e c) (current_in a.held)
-          (subst (λ k. AgreeCounted (shape_of u) k (e c) (current_in a.held)) (sym staged.number)
-          (settled_counted (shape_of u) xs a n c staged.few staged.none (subst (λ k. IsOpen (shape_of u) k a) staged.number stood.holds.shape.open_left) staged.settled picks))
-          stood.holds.shape.even)
+          (subst (λ k. AreEven (shape_of u) k u.resync (e c)) (sym staged.number)
+          (even_counted (shape_of u) n u.resync (e c) (current_in a.held) (settled_counted (shape_of u) xs a n c staged.few staged.none is_open staged.settled picks) even))
           staged.unsynced w
           (subst (λ k. truth_in t (e c) k ≡ Some w) (sym staged.number) is));
       dirty = λ marked. absurd (both_ways false refl marked);
@@ -143,3 +146,13 @@ restates_staged s t durable vals spent gone v xs a n staged stood =
           (subst (λ k. truth_in t (e c) k ≡ Some w) (sym staged.number) is);
       alone = alone;
     }
+
+-- so they do for an array that stands before it
+pub restates_staged : (s t : State) (durable : Shape) (vals : ℕ → Values) (spent gone : ℕ → Bool) (v : Raid) (xs : List Target) (a : Seen) (n : ℕ)
+    → IsStaged s t gone (v.arrays n) xs a n → Stood s durable vals spent gone v a n
+    → Restates t (shape_of (v.arrays n)) false (v.arrays n) xs a n
+restates_staged s t durable vals spent gone v xs a n staged stood =
+    let u = v.arrays n in
+    restates_by s t gone u xs a n staged (λ c picks. put_alone s t durable vals spent gone v xs a n c staged stood picks)
+    (subst (λ k. IsOpen (shape_of u) k a) staged.number stood.holds.shape.open_left)
+    (subst (λ k. AreEven (shape_of u) k u.resync (current_in a.held)) staged.number stood.holds.shape.even)

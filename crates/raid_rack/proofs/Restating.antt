@@ -102,6 +102,7 @@ has_settled a c all log lost x y before number from running lost_is none each co
         number = one.number;
         raised = λ n low. let e = ap (λ (u : View). u.truth.events) (arrays n (now n low)) in let up = one.raised n low in omega (arith, e, up);
         rest = λ n low past. absurd (omega (arith, low, past, made));
+        left = λ n low less young. ap (λ (u : View). u.truth.resync_offset) (arrays n (now n low)) ∙ one.left n low low young;
         went = λ n p low is. absurd (both_ways (has_gone ((raid_by a).arrays n) p) (ap (λ ps. names ps p) (before n low)) is);
         staged = staged_heeded v f c.log.added arrays (subst (λ k. HasStaged v k c.log.added) (sym made) one.staged);
         settled = λ n vals spent less joined goes covers amid.
@@ -156,6 +157,7 @@ has_restated a d all log l t lost on gone x y z has t_is marking call each count
     let commit : IsCommit v lost on gone l d.log.added f y z = record {
       marking = marking;
       call = call;
+      fewer = λ p named. named;
       arrays = λ n low. each_get (without gone) d.all.items all.items n each (let same = has.running.count in omega (arith, low, same));
       sectors = λ n. each_sectors (without gone) d.all.items all.items n (λ u. refl) each;
     } in

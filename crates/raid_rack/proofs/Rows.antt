@@ -11,7 +11,7 @@ use Rattle.array_image.specs.States.{state_in}
 use Rattle.array_image.specs.Supers.{is_unclean}
 use Rattle.array_image.specs.SoundArray.{first_unsynced}
 use Rattle.array_image.proofs.Frames.{Agree, state_same, supers_same, truth_by_supers}
-use Rattle.array_model.specs.View.{View, IsArray, rows_of}
+use Rattle.array_model.specs.View.{View, IsArray, IsSameArray, rows_of}
 use Rattle.array_model.specs.Members.{IsSameButSeats}
 use Rattle.array_model.specs.ArrayCalls.{Turns}
 use Rattle.array_model.proofs.Keeping.{left_before, pick_before}
@@ -33,6 +33,13 @@ from_same row n r e states agree from s t state truth =
 pub left_old : (u : View) → u.young ≡ false → left_offset u ≡ (if nat_lt u.resync (rows_of u) then u.resync * 128 else 2 ^ 64 - 1)
 left_old u young =
     ap (λ (b : Bool). if b then (if is_unclean u.truth then u.truth.resync_offset else 2 ^ 64 - 1) else if nat_lt u.resync (rows_of u) then u.resync * 128 else 2 ^ 64 - 1) young
+
+-- an array that has lost members alone leaves what it left
+pub left_same : (u w : View) → IsSameArray u w → u.young ≡ false → left_offset w ≡ left_offset u
+left_same u w same young =
+    left_old w (same.young ∙ young)
+    ∙ (λ i. if nat_lt (same.resync i) (same.geometry.size i / 128) then same.resync i * 128 else 2 ^ 64 - 1)
+    ∙ sym (left_old u young)
 
 rows_by : (offset size resync : ℕ) → (offset < size → resync ≤ offset / 128) → (size ≤ offset → resync ≤ size / 128)
     → resync ≤ (if nat_lt offset size then offset / 128 else size / 128)
@@ -81,7 +88,7 @@ clear_settled u z same = record {
       eq-eqb (left_offset z) (left_offset (settled z)) (left_old z now ∙ sym (left_old (settled z) now));
 }
 
-rows_after : (v w : Raid) (a b : Seen) (n : ℕ) → KeepsClear (v.arrays n) (w.arrays n) → LeavesRows v a n
+pub rows_after : (v w : Raid) (a b : Seen) (n : ℕ) → KeepsClear (v.arrays n) (w.arrays n) → LeavesRows v a n
     → ((r : Image) → IsLeft b r → LeavesFrom (v.arrays n).resync n r) → LeavesRows w b n
 rows_after v w a b n clear rows images = record {
   settled = clear.settled rows.young rows.settled;

@@ -164,24 +164,24 @@ map_get f [] n = refl
 map_get f (x ∷ xs) zero = refl
 map_get f (x ∷ xs) (suc n) = map_get f xs n
 
--- seats of the same places, with some of them lost
-zip_lost : (f : ℕ → Bool) (place : ℕ → ℕ) (a m : ℕ) (seats : List Seat) (devices : List Id) (k : ℕ)
+-- seats that are changed by their places
+pub zip_seats : (change : ℕ → Seat → Seat) (place : ℕ → ℕ) (a m : ℕ) (seats : List Seat) (devices : List Id) (k : ℕ)
     → length seats ≡ m → length devices ≡ m
-    → slice_get (map (λ s. seat_unless f s.place s.seat) (map slot_with (zip (map place (range_with_len a m)) (zip seats devices)))) k
-    ≡ option_map (seat_unless f (place (a + k))) (slice_get seats k)
-zip_lost f place a zero [] devices k one two = refl
-zip_lost f place a zero (s ∷ seats) devices k one two = absurd (omega (arith, one))
-zip_lost f place a (suc m) [] devices k one two = absurd (omega (arith, one))
-zip_lost f place a (suc m) (s ∷ seats) [] k one two = absurd (omega (arith, two))
-zip_lost f place a (suc m) (s ∷ seats) (d ∷ devices) zero one two = ap (λ (p : ℕ). Some (seat_unless f (place p) s)) (let e : a ≡ a + 0 = omega arith in e)
-zip_lost f place a (suc m) (s ∷ seats) (d ∷ devices) (suc k) one two =
-    zip_lost f place (a + 1) m seats devices k (omega (arith, one)) (omega (arith, two))
-    ∙ ap (λ (p : ℕ). option_map (seat_unless f (place p)) (slice_get seats k)) (let e : a + 1 + k ≡ a + suc k = omega arith in e)
+    → slice_get (map (λ s. change s.place s.seat) (map slot_with (zip (map place (range_with_len a m)) (zip seats devices)))) k
+    ≡ option_map (change (place (a + k))) (slice_get seats k)
+zip_seats change place a zero [] devices k one two = refl
+zip_seats change place a zero (s ∷ seats) devices k one two = absurd (omega (arith, one))
+zip_seats change place a (suc m) [] devices k one two = absurd (omega (arith, one))
+zip_seats change place a (suc m) (s ∷ seats) [] k one two = absurd (omega (arith, two))
+zip_seats change place a (suc m) (s ∷ seats) (d ∷ devices) zero one two = ap (λ (p : ℕ). Some (change (place p) s)) (let e : a ≡ a + 0 = omega arith in e)
+zip_seats change place a (suc m) (s ∷ seats) (d ∷ devices) (suc k) one two =
+    zip_seats change place (a + 1) m seats devices k (omega (arith, one)) (omega (arith, two))
+    ∙ ap (λ (p : ℕ). option_map (change (place p)) (slice_get seats k)) (let e : a + 1 + k ≡ a + suc k = omega arith in e)
 
 -- the seats without the lost places
 pub gone_lost : (u : View) (lost : List ℕ) → IsArray u → AreLost u (gone lost u).seats (names lost)
 gone_lost u lost is_array k =
-    zip_lost (names lost) (place_by u.truth) 0 u.truth.raid_disks u.seats u.devices k is_array.seats is_array.devices
+    zip_seats (seat_unless (names lost)) (place_by u.truth) 0 u.truth.raid_disks u.seats u.devices k is_array.seats is_array.devices
     ∙ ap (λ (p : ℕ). option_map (seat_unless (names lost) (place_by u.truth p)) (slice_get u.seats k)) (let e : 0 + k ≡ k = omega arith in e)
 
 -- the array whose lost places are listed beside those that went

@@ -27,18 +27,20 @@ use Rattle.array_model.proofs.Noting.{final_is}
 use Rattle.array_core.specs.declared.slots.Slot.{Slot}
 use Rattle.array_core.specs.Slots.{slots_of, place_by}
 use Rattle.array_core.specs.Staging.{AddsSupersOf}
+use Rattle.array_core.specs.Superblocks.{left_offset}
 use Rattle.array_core.proofs.StagedTargets.{targets_apart}
 use Rattle.raid_rack.specs.Raid.{Raid}
-use Rattle.raid_rack.specs.Moves.{IsSet, IsSeated, IsAmid}
+use Rattle.raid_rack.specs.Moves.{IsSet, IsAmid}
 use Rattle.raid_rack.specs.Settling.{IsSuperOf, HasSupers, HasStaged, SettlesTo}
 use Rattle.raid_rack.proofs.Moving.{moves_same, moves_then}
 use Rattle.raid_rack.proofs.Noted.{with_arrays}
+use Rattle.raid_rack.proofs.Rows.{left_same}
 use Rattle.raid_rack.proofs.Calls.{ReadsOne, moves_read}
 use Rattle.raid_rack.proofs.Elements.{among_either, among_first, among_second, apart_append, slot_at_position, supers_from, supers_count}
 
 -- ---- the superblocks of one array
 
-slot_facts : (u : View) (k : ℕ) (s : Slot) → IsArray u → slice_get (slots_of u) k ≡ Some s
+pub slot_facts : (u : View) (k : ℕ) (s : Slot) → IsArray u → slice_get (slots_of u) k ≡ Some s
     → (k < u.truth.raid_disks) × (s.place ≡ place_at u k) × (slice_get u.seats k ≡ Some s.seat)
 slot_facts u k s is_array is =
     let at = slot_at_position (place_by u.truth) 0 u.truth.raid_disks u.seats u.devices k s is_array.seats is_array.devices is in
@@ -89,7 +91,7 @@ own_apart u before added adds is_array =
 
 -- ---- of the first arrays
 
-more_super : (v w : Raid) (k m : ℕ) (x : Target) → k ≤ m → ((n : ℕ) → n < k → w.arrays n ≡ v.arrays n) → IsSuperOf v k x → IsSuperOf w m x
+pub more_super : (v w : Raid) (k m : ℕ) (x : Target) → k ≤ m → ((n : ℕ) → n < k → w.arrays n ≡ v.arrays n) → IsSuperOf v k x → IsSuperOf w m x
 more_super v w k m x less same super =
     let is = sym (same super.array super.low) in
     record {
@@ -102,7 +104,7 @@ more_super v w k m x less same super =
       sector = super.sector;
     }
 
-more_supers : (u w : View) (xs ys : List Target) → w ≡ u → ((x : Target) → AmongTargets x xs → AmongTargets x ys) → HasSupers u xs → HasSupers w ys
+pub more_supers : (u w : View) (xs ys : List Target) → w ≡ u → ((x : Target) → AmongTargets x xs → AmongTargets x ys) → HasSupers u xs → HasSupers w ys
 more_supers u w xs ys same more has =
     subst (λ (z : View). HasSupers z ys) (sym same)
     (record { before = has.before; added = has.added; adds = has.adds; among = λ x among. more x (has.among x among); unmarked = has.unmarked })
@@ -179,6 +181,7 @@ settles_first v x set =
       number = refl;
       raised = λ n low. omega arith;
       rest = λ n low past. refl;
+      left = λ n low less young. absurd (omega (arith, less));
       went = λ n p low is. is;
       staged = record { only = λ y among. absurd among; apart = refl; each = λ n low. absurd (omega (arith, low)); few = omega arith };
       settled = λ n vals spent low joined goes covers amid. absurd (omega (arith, low));
@@ -188,8 +191,9 @@ pub settles_more : (v w : Raid) (f : ℕ → View) (a b c : Seen) (m : ℕ) (xs 
     → SettlesTo v w a b m xs → ReadsOne w f m b c
     → ((s : State) (durable : Shape) (vals : ℕ → Values) (spent : ℕ → Bool) → Covers (f m) spent → SyncsArray s (w.arrays m) (f m) spent b c durable vals)
     → AddsSupersOf (f m) xs ys → (f m).marked ≡ false → (f m).truth.events ≤ (w.arrays m).truth.events + 1
+    → (f m).truth.resync_offset ≡ left_offset (w.arrays m)
     → SettlesTo v (with_arrays w f) a c (m + 1) ys
-settles_more v w f a b c m xs ys few before call syncs adds unmarked raised =
+settles_more v w f a b c m xs ys few before call syncs adds unmarked raised left =
     let step = moves_read w f m b c before.moves.set call in
     record {
       moves = moves_then v w (with_arrays w f) a b c before.moves step;
@@ -209,6 +213,14 @@ settles_more v w f a b c m xs ys few before call syncs adds unmarked raised =
       rest = λ n low past.
           ap (λ (u : View). u.truth.events) (call.views.others n (λ same. omega (arith, same, past)))
           ∙ before.rest n low (omega (arith, past));
+      left = λ n low less young.
+          elim (cases_eq n m) [
+            | inl same ↦
+                subst (λ k. (f k).truth.resync_offset ≡ left_offset (w.arrays k)) (sym same) left
+                ∙ left_same (v.arrays n) (w.arrays n) (before.moves.arrays n low).same young
+            | inr other ↦
+                ap (λ (u : View). u.truth.resync_offset) (call.views.others n other) ∙ before.left n low (omega (arith, less, other)) young
+          ];
       went = λ n p low is.
           let had = before.went n p low is in
           elim (cases_eq n m) [

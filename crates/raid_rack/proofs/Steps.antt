@@ -14,6 +14,7 @@ use Rattle.array_model.specs.Members.{HasSlices}
 use Rattle.array_model.specs.ArrayCalls.{Covers, SyncsArray}
 use Rattle.array_core.specs.Settling.{Settles}
 use Rattle.array_core.specs.Staging.{AddsSupersOf}
+use Rattle.array_core.specs.Superblocks.{left_offset}
 use Rattle.raid_rack.specs.declared.arrays.Arrays.{Arrays}
 use Rattle.raid_rack.specs.Raid.{Raid}
 use Rattle.raid_rack.specs.Settling.{SettlesTo}
@@ -21,6 +22,7 @@ use Rattle.raid_rack.specs.RaidRack.{IsRunning, raid_by, no_array}
 use Rattle.raid_rack.proofs.Noted.{with_arrays}
 use Rattle.raid_rack.proofs.Calls.{reads_settled}
 use Rattle.raid_rack.proofs.Raises.{settles_raise}
+use Rattle.raid_rack.proofs.Seated.{view_with}
 use Rattle.raid_rack.proofs.Settling.{settles_more}
 
 -- ---- lists
@@ -83,4 +85,5 @@ settle_step a b all log x y z n old u running settles count low old_is all_is sy
     (settles_more (raid_by a) v f x y z n b.log.added log.added settles.moves.set.most settles call synced
     (subst (λ w. AddsSupersOf w b.log.added log.added) (sym own) adds)
     (ap (λ (w : View). w.marked) settled.truth)
-    (settles_raise (v.arrays n) (f n) y z settled))
+    (settles_raise (v.arrays n) (f n) y z settled)
+    (ap (λ (w : View). w.truth.resync_offset) settled.truth ∙ ap left_offset (view_with (v.arrays n) settled.synced settled.notes.same)))

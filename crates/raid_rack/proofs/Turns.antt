@@ -31,7 +31,7 @@ use Rattle.raid_rack.proofs.Noted.{gone_some, losing_spent}
 use Rattle.raid_rack.proofs.Elements.{look_lacks}
 use Rattle.raid_rack.proofs.Adding.{which, current_is}
 use Rattle.raid_rack.proofs.Committed.{IsCommit, commit_unwritten, raid_after, after_gone, after_new, gone_current, after_set, after_left, after_cause, after_further, after_marked, commit_losing, next_later}
-use Rattle.raid_rack.proofs.Carried.{commit_agrees, commit_part, commit_rows}
+use Rattle.raid_rack.proofs.Carried.{commit_agrees, commit_left, commit_part, commit_rows}
 use Rattle.raid_rack.specs.Rows.{rows_then}
 
 -- a second part that depends on what stood before the first
@@ -140,14 +140,20 @@ moves_commit u v lost on gone l xs f a b c settles commit =
 pub agrees_commit : (u v : Raid) (lost on gone : List ℕ) (l : LogView) (xs : List Target) (f : ℕ → View) (a b c : Seen)
     → SettlesTo u v a b v.state.made xs → IsCommit v lost on gone l xs f b c
     → MakesAgree u (raid_after v lost (next_number l.number) f) a c
-agrees_commit u v lost on gone l xs f a b c settles commit none n vals spent joined made goes covers amid =
+agrees_commit u v lost on gone l xs f a b c settles commit none n vals spent joined made goes covers amid r left =
     let one = settles.moves in
     let low : n < v.state.made = subst (λ k. n < k) (sym one.book.same.made) made in
     let mid_goes = over_still v (raid_after v lost (next_number l.number) f) (after_further v lost on gone l xs f b c commit) n low goes in
     let covered : Covers (v.arrays n) spent = λ y alive.
     losing_spent (v.arrays n) (f n) (names gone) (commit.marking.set.arrays n low).is_array (commit_losing v lost on gone l xs f b c commit n low) y (covers y alive) in
-    commit_agrees v lost on gone l xs f b c commit n vals spent (subst (λ k. n < k) (sym one.book.same.joined) joined) low goes covers
-    ((one.parts n vals spent joined made mid_goes covered).holds amid) (settles.settled n vals spent low joined mid_goes covered amid)
+    let ready : n < v.state.joined = subst (λ k. n < k) (sym one.book.same.joined) joined in
+    let stood = (one.parts n vals spent joined made mid_goes covered).holds amid in
+    let single = settles.settled n vals spent low joined mid_goes covered amid in
+    record {
+      agree = commit_agrees v lost on gone l xs f b c commit n vals spent ready low goes covers stood single r left;
+      left = λ t truth young.
+          commit_left v lost on gone l xs f b c commit n vals spent ready low goes covers stood single r left t truth ∙ settles.left n made low young;
+    }
 
 -- where no drive refused a call in it, whoever went is marked
 pub commit_marked : (v : Raid) (lost on gone : List ℕ) (l : LogView) (xs : List Target) (f : ℕ → View) (b c : Seen) → IsCommit v lost on gone l xs f b c

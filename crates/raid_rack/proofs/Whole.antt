@@ -62,6 +62,31 @@ amid_stood v x n vals spent heeded amid =
     subst (λ g. Stood v.state (shape_of (v.arrays n)) vals spent g v x n) (λ i p. heeded_gone v heeded p i)
     (subst (λ (shape : Shape). Stood v.state shape vals spent (gone_in v) v x n) (amid.marked (λ p current. heeded_gone v heeded p)) amid.stood)
 
+-- an array that stands between calls stands so with what its sectors hold
+pub stood_own : (v : Raid) (x : Seen) (n : ℕ) (vals : ℕ → Values) → IsHeeded v → IsSet v x → n < v.state.made
+    → Stood v.state (shape_of (v.arrays n)) vals (spent_of v n) (λ place. false) v x n
+    → Stood v.state (shape_of (v.arrays n)) (held_in v x n) (spent_of v n) (λ place. false) v x n
+stood_own v x n vals heeded set low stood =
+    let source = sourced (v.arrays n) (spent_of v n) x (set.arrays n low).is_array (heeded_whole v n heeded (set.marked n low))
+    (λ y alive. (live_parts v n y alive).1) stood.holds.shape.settled in
+    record {
+      joined = stood.joined;
+      few = stood.few;
+      number = stood.number;
+      log = stood.log;
+      someone = stood.someone;
+      written = stood.written;
+      holds = subst (λ k. Holds v.state (shape_of (v.arrays n)) (v.arrays n) (held_by (shape_of (v.arrays n)) x.held k) (spent_of v n) x) stood.number
+          (own_holds v.state (v.arrays n) vals (spent_of v n) x source stood.holds);
+    }
+
+-- and these are among the values with which it stands
+pub stood_keeps : (v : Raid) (x : Seen) (n y : ℕ) (vals : ℕ → Values) → Stood v.state (shape_of (v.arrays n)) vals (spent_of v n) (λ place. false) v x n
+    → spent_of v n y ≡ false → Keeps (vals y) (held_in v x n y)
+stood_keeps v x n y vals stood alive =
+    subst (λ k. Keeps (vals y) (held_by (shape_of (v.arrays n)) x.held k y)) stood.number
+    (own_keeps v.state (v.arrays n) vals (spent_of v n) x y stood.holds.shape alive)
+
 -- ---- a whole call
 
 -- what it does to the arrays that are ready for the volume, where the pool isn't at its end after it
@@ -90,21 +115,7 @@ module _ (v w : Raid) (a b : Seen) (vals : Held) (call : IsWholeCall v w a b val
   -- the same, with what its sectors hold
   own_stood : (n : ℕ) → IsTold v a n → is_over w n ≡ false
       → Stood w.state (shape_of (w.arrays n)) (held_in w b n) (spent_of w n) (λ place. false) w b n
-  own_stood n told goes =
-      let stood = after_stood n told goes in
-      let low = call.low n goes in
-      let source = sourced (w.arrays n) (spent_of w n) b (call.set.arrays n low).is_array (heeded_whole w n call.after (call.set.marked n low))
-      (λ y alive. (live_parts w n y alive).1) stood.holds.shape.settled in
-      record {
-        joined = stood.joined;
-        few = stood.few;
-        number = stood.number;
-        log = stood.log;
-        someone = stood.someone;
-        written = stood.written;
-        holds = subst (λ k. Holds w.state (shape_of (w.arrays n)) (w.arrays n) (held_by (shape_of (w.arrays n)) b.held k) (spent_of w n) b) stood.number
-            (own_holds w.state (w.arrays n) (vals n) (spent_of w n) b source stood.holds);
-      }
+  own_stood n told goes = stood_own w b n (vals n) call.after call.set (call.low n goes) (after_stood n told goes)
 
   pub raid_acts : RaidActs v w a b vals
   raid_acts =
@@ -130,10 +141,7 @@ module _ (v w : Raid) (a b : Seen) (vals : Held) (call : IsWholeCall v w a b val
                   (before_amid n told goes))
                   alive;
             };
-        held = λ n y told alive.
-            let stood = after_stood n told (live_parts w n y alive).0 in
-            subst (λ k. Keeps (vals n y) (held_by (shape_of (w.arrays n)) b.held k y)) stood.number
-            (own_keeps w.state (w.arrays n) (vals n) (spent_of w n) b y stood.holds.shape alive);
+        held = λ n y told alive. stood_keeps w b n y (vals n) (after_stood n told (live_parts w n y alive).0) alive;
       }
 
 -- a call that may write

@@ -25,7 +25,7 @@ use Rattle.raid_rack.specs.Book.{after_same}
 use Rattle.raid_rack.specs.Raid.{Raid, AreLive, gone_in, is_over, held_in, Stood}
 use Rattle.raid_rack.specs.Moves.{AreMarked, Brings, IsAmid, IsHeeded, IsSeated, IsSet, KeepsMarked, PartOf, written_at}
 use Rattle.raid_rack.proofs.Added.{names_current}
-use Rattle.raid_rack.proofs.Carried.{seat_marks}
+use Rattle.raid_rack.proofs.Staged.{seat_marks}
 use Rattle.raid_rack.proofs.Changed.{LosesOne, ViewsOne, called, part_if, marked_before, further, views_set, views_sectors, views_spent}
 use Rattle.raid_rack.proofs.Noted.{current_few, gone_from, gone_not}
 use Rattle.raid_rack.proofs.Over.{event_room, number_room, over_still, someone_left}

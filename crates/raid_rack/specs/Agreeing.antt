@@ -9,7 +9,9 @@ use Rattle.array_image.specs.Left.{IsLeft}
 use Rattle.array_image.specs.SoundArray.{array_fields}
 use Rattle.array_image.specs.States.{is_current}
 use Rattle.array_image.specs.Supers.{super_in, truth_in}
+use Rattle.array_core.specs.Superblocks.{left_offset}
 use Rattle.array_model.specs.ArrayCalls.{Covers}
+use Rattle.array_model.specs.View.{View}
 use Rattle.raid_rack.specs.Cleaning.{NoneFails}
 use Rattle.raid_rack.specs.Moves.{IsAmid}
 use Rattle.raid_rack.specs.Raid.{Raid, is_over}
@@ -24,10 +26,15 @@ pub record SupersAgree (s : State) (r : Image) (n : ℕ) : Type 0 where
       (k p : ℕ) → k < truth.raid_disks → place_with truth.roles.items k ≡ Some p → is_current s p ≡ true
       → is_some (super_in s r n p) ≡ true
 
--- A part of a call after which the superblocks of each array agree, durably: in whatever a stop leaves, once it is replayed. So it is
--- of the arrays that stood before it, where no drive refuses a call.
+-- They agree, and where the array isn't young they leave the rows to resync that are left in it, and no others.
+pub record AgreeLeaving (v : View) (s : State) (r : Image) (n : ℕ) : Type 0 where
+  pub agree : SupersAgree s r n
+  pub left : (u : Super) → truth_in s r n ≡ Some u → v.young ≡ false → u.resync_offset ≡ left_offset v
+
+-- A part of a call after which the superblocks of each array agree, durably: in whatever a stop leaves, once it is replayed. They leave the
+-- rows to resync that were left in the array. So it is of the arrays that stood before it, where no drive refuses a call.
 abbrev pub MakesAgree : Raid → Raid → Seen → Seen → Type 0
 MakesAgree v w a b =
     NoneFails a b
     → (n : ℕ) (vals : ℕ → Values) (spent : ℕ → Bool) → n < v.state.joined → n < v.state.made → is_over w n ≡ false
-    → Covers (w.arrays n) spent → IsAmid v a n vals spent → (r : Image) → IsLeft b r → SupersAgree w.state r n
+    → Covers (w.arrays n) spent → IsAmid v a n vals spent → (r : Image) → IsLeft b r → AgreeLeaving (v.arrays n) w.state r n

@@ -1,13 +1,14 @@
 -- A new drive is taken in at a place whose drive is missing: what a rack of arrays is after it, and what stops leave meanwhile.
-use Rattle.std.specs.Prelude.{◌≡◌, ◌≢◌, ◌⊎◌, ℕ, ◌+◌, ◌*◌, ◌<◌, ◌≤◌, ◌++◌, Bool, true, false, List, length, Option, Some, None, option_map, slice_set, if◌then◌else◌}
+use Rattle.std.specs.Prelude.{◌≡◌, ◌⊎◌, ℕ, ◌+◌, ◌<◌, ◌≤◌, Bool, true, false, List, length, Option, Some, option_map, slice_set, if◌then◌else◌}
 use Rattle.rack.specs.Values.{Values, IsSingle, Keeps, MayLeave}
 use Rattle.rack.specs.Seen.{Image, Seen, Rose, IsLive}
 use Rattle.rack.specs.Moments.{Leaves}
-use Rattle.rack.specs.Sequences.{OnlyReads, WritesOnly}
-use Rattle.rack.specs.Targets.{Target}
+use Rattle.rack.specs.Sequences.{MayBecome, OnlyReads, WritesOnly}
 use Rattle.shr_base.specs.declared.Id.{Id}
+use Rattle.gpt_table.specs.declared.Table.{Table}
 use Rattle.gpt_table.specs.declared.TableCopy.{TableCopy}
 use Rattle.gpt_table.specs.Disk.{HoldsCopy, now_on}
+use Rattle.gpt_table.specs.Format.{mbr_of}
 use Rattle.gpt_table.specs.Plans.{IsOfTable}
 use Rattle.slice_rack.specs.Slices.{Slices, sectors_of as sectors_sliced}
 use Rattle.slice_rack.specs.Sliced.{slices_of, sliced}
@@ -23,10 +24,7 @@ use Rattle.array_image.specs.Left.{IsInside}
 use Rattle.array_model.specs.ArrayCalls.{Covers}
 use Rattle.array_model.specs.View.{View, HasFault, sectors_of, shape_of, spent_in}
 use Rattle.array_model.specs.Says.{Says}
-use Rattle.array_model.specs.Stages.{AmongTargets}
-use Rattle.array_core.specs.Seats.{renewed, seat_of}
-use Rattle.array_model.specs.declared.Seat.TheVariants.{Missing, Rebuilding}
-use Rattle.array_core.specs.Staging.{AddsSupersOf}
+use Rattle.array_core.specs.Seats.{renewed}
 use Rattle.raid_rack.specs.Book.{IsAfter}
 use Rattle.raid_rack.specs.Losses.{has_other}
 use Rattle.raid_rack.specs.Marking.{SaysBetween}
@@ -34,6 +32,7 @@ use Rattle.raid_rack.specs.Missing.{raised}
 use Rattle.raid_rack.specs.Moves.{AreCaused, IsAmid, IsHeeded, KeepsArrays, Mends, Moves, RaisesBy}
 use Rattle.raid_rack.specs.NewDrive.{IsOfDrive, drive_table, first_gate, joins, length_in, no_state}
 use Rattle.raid_rack.specs.Raid.{Raid, IsTold, held_in, is_over, live_of, spent_of}
+use Rattle.raid_rack.specs.Rows.{KeepsRows, LeavesFrom, LeavesRows}
 
 -- ---- the book
 
@@ -68,7 +67,6 @@ pub record IsEnlisted (place units : ℕ) (plan : Plan) (joining : ℕ → Bool)
   pub heeded : IsHeeded w
   pub number : v.number ≤ w.number
   pub events : (n : ℕ) → n < v.state.made → (v.arrays n).truth.events ≤ (w.arrays n).truth.events
-  pub raises : RaisesBy 18 v w
   -- what is spent stays so
   pub spent : (n y : ℕ) → n < v.state.made → spent_in (w.arrays n) y ≡ false → spent_in (v.arrays n) y ≡ false
   pub still : (n : ℕ) → n < v.state.made → has_other w.state place ≡ true → is_over w n ≡ false → is_over v n ≡ false
@@ -81,46 +79,78 @@ pub record SaysBy (s : State) (n : ℕ) (vals : ℕ → Values) (spent : ℕ →
   pub shape : Shape
   pub says : Says s n shape vals spent r
 
--- Contents of the drives say it by the tables before, and by the state before; or by the tables after, and by the state before or one
--- that has the new drive.
-abbrev pub SaysByTables : (t u : Slices) → (s next last : State) → ℕ → (ℕ → Values) → (ℕ → Bool) → Image → Type 0
-SaysByTables t u s next last n vals spent c =
-    SaysBy s n vals spent (replayed (sectors_sliced t) (sliced t c))
-    ⊎ (SaysBy s n vals spent (replayed (sectors_sliced u) (sliced u c)) ⊎ SaysBetween next last n vals spent (replayed (sectors_sliced u) (sliced u c)))
+-- a disk holds a table
+abbrev pub HoldsTable : ℕ → Table → Image → Type 0
+HoldsTable disk table c = (copy : TableCopy) → HoldsCopy copy table (c disk)
 
--- Array n, which was told, where the new disk is told and a drive is left that the pool had: it is told after the call, with the values
--- that it had, and at each moment contents say these.
-pub record KeepsTold (t u : Slices) (place units : ℕ) (plan : Plan) (v w : Raid) (a b : Seen) (n : ℕ) : Type 0 where
+-- it holds what it held, or what is laid on it before it is one of the pool
+abbrev pub HoldsLaid : Seen → ℕ → Image → Type 0
+HoldsLaid a disk c = (s : ℕ) → s < a.sectors disk → MayBecome a (IsOfDrive disk (a.sectors disk)) disk s (c disk s)
+
+-- Before the disk is one of the pool, contents of the drives say array n by the tables before, and by the state before, and the disk is
+-- being laid. Where images left the array no rows to resync but its own, nor do these.
+pub record SaysLaying (t : Slices) (disk : ℕ) (v w : Raid) (a : Seen) (n : ℕ) (vals : ℕ → Values) (c : Image) : Type 0 where
+  pub laid : HoldsLaid a disk c
+  pub says : SaysBy v.state n vals (spent_of w n) (replayed (sectors_sliced t) (sliced t c))
+  pub rows : LeavesRows v (slices_of t a) n → LeavesFrom (v.arrays n).resync n (replayed (sectors_sliced t) (sliced t c))
+
+-- From then on they say it by the tables after, and by the state before or one that has the new drive, and the disk holds its table.
+pub record SaysJoining (t u : Slices) (disk : ℕ) (table : Table) (next : State) (v w : Raid) (a : Seen) (n : ℕ) (vals : ℕ → Values) (c : Image) : Type 0 where
+  pub holds : HoldsTable disk table c
+  pub says :
+      SaysBy v.state n vals (spent_of w n) (replayed (sectors_sliced u) (sliced u c))
+      ⊎ SaysBetween next w.state n vals (spent_of w n) (replayed (sectors_sliced u) (sliced u c))
+  pub rows : LeavesRows v (slices_of t a) n → LeavesFrom (v.arrays n).resync n (replayed (sectors_sliced u) (sliced u c))
+
+-- each sector of a disk can be called, and is told
+abbrev pub IsOpenDisk : Seen → ℕ → Type 0
+IsOpenDisk x disk = (s : ℕ) → s < x.sectors disk → IsLive x x disk s
+
+-- Array n, which was told, where the new disk is open and a drive is left that the pool had: it is told after the call, with the values
+-- that it had, and at each moment contents say these. `mid` is the time when the slices of the disk were added: the moment tells by which
+-- tables contents are said, so those of one moment are said by the same ones for all arrays.
+pub record KeepsTold (t u : Slices) (place disk units : ℕ) (plan : Plan) (table : Table) (v w : Raid) (a b : Seen) (mid n : ℕ) : Type 0 where
   pub told : IsTold w (slices_of u b) n
   pub keeps : (y : ℕ) → live_of w n y → Keeps (held_in v (slices_of t a) n y) (held_in w (slices_of u b) n y)
-  pub leaves :
-      a.traced
-      → is_over w n ≡ false
-      → Leaves a b (SaysByTables t u v.state (enlisted place units plan v.state) w.state n (held_in v (slices_of t a) n) (spent_of w n))
+  pub before :
+      a.traced → is_over w n ≡ false → (k : ℕ) (c : Image) → a.clock < k → k ≤ mid → b.stops k c
+      → SaysLaying t disk v w a n (held_in v (slices_of t a) n) c
+  pub after :
+      a.traced → is_over w n ≡ false → (k : ℕ) (c : Image) → mid < k → k ≤ b.clock → b.stops k c
+      → SaysJoining t u disk table (enlisted place units plan v.state) v w a n (held_in v (slices_of t a) n) c
+  pub rows : is_over w n ≡ false → LeavesRows v (slices_of t a) n → ((v.arrays n).resync ≤ (w.arrays n).resync) × LeavesRows w (slices_of u b) n
 
 -- a sector of the new disk's tables, its state or its gate, or one of a slice
 abbrev pub IsWrittenBy : Slices → (disk sectors : ℕ) → ℕ → ℕ → List ℕ → Type 0
 IsWrittenBy u disk sectors d s v = IsOfDrive disk sectors d s v ⊎ IsSliced u d s v
 
+-- the table of a pool's next drive
+abbrev pub new_table : State → List View → (place sectors : ℕ) → Table
+new_table s arrays place sectors = drive_table (next_drive s).0 arrays place sectors (length arrays)
+
 -- The drive is one of the pool: `t` and `u` are the tables before and after, `a` and `b` the drives, and `arrays` the arrays before.
 pub record Enlists (t u : Slices) (arrays : List View) (place disk units : ℕ) (plan : Plan) (v w : Raid) (a b : Seen) : Type 0 where
   pub is : IsEnlisted place units plan (joins arrays place (a.sectors disk)) v w (slices_of u a) (slices_of u b)
+  pub raises : RaisesBy 19 v w
   pub only : WritesOnly a b (IsWrittenBy u disk (a.sectors disk))
   -- the disk has its table, durably
-  pub copies :
-      ((s : ℕ) → IsOfTable (a.sectors disk) s → IsLive a b disk s) → (copy : TableCopy)
-      → HoldsCopy copy (drive_table (next_drive v.state).0 arrays place (a.sectors disk) (length arrays)) (now_on b disk)
+  pub mbr : IsLive a b disk 0 → now_on b disk 0 ≡ mbr_of (a.sectors disk)
+  pub copies : ((s : ℕ) → IsOfTable (a.sectors disk) s → IsLive a b disk s) → HoldsTable disk (new_table v.state arrays place (a.sectors disk)) (λ d. now_on b d)
   pub durable : (s : ℕ) → IsOfTable (a.sectors disk) s → IsLive a b disk s → IsSingle (b.held disk s)
+  -- the time when its slices were added, within the call
+  pub mid : ℕ
+  pub within : a.traced → (a.clock ≤ mid) × (mid ≤ b.clock)
   pub told :
-      (n : ℕ) → n < v.state.made → IsTold v (slices_of t a) n → a.told disk → has_other w.state place ≡ true
-      → KeepsTold t u place units plan v w a b n
+      (n : ℕ) → n < v.state.made → IsTold v (slices_of t a) n → IsOpenDisk a disk → has_other w.state place ≡ true
+      → KeepsTold t u place disk units plan (new_table v.state arrays place (a.sectors disk)) v w a b mid n
 
 -- ---- refusals
 
--- the new disk refused a call, and nothing else has changed than its tables, its state's sector and its gate
-pub record IsRefused (disk : ℕ) (a b : Seen) : Type 0 where
+-- The new disk refused a call, and nothing else has changed than its tables, its state's sector and its gate. To the arrays nothing happened.
+pub record IsRefused (t : Slices) (disk : ℕ) (v : Raid) (a b : Seen) : Type 0 where
   pub only : WritesOnly a b (IsOfDrive disk (a.sectors disk))
   pub gone : Rose (a.faults disk) (b.faults disk)
+  pub moves : Moves v v (slices_of t a) (slices_of t b)
 
 -- Another drive than the new one was found gone and is marked: the drive isn't taken in. But for the marks all is as before.
 pub record IsNotWhole (t : Slices) (disk : ℕ) (v w : Raid) (a b : Seen) : Type 0 where
@@ -171,6 +201,8 @@ pub record JoinsPart (place units : ℕ) (plan : Plan) (v w : Raid) (a b : Seen)
       → Leaves a b (λ c. IsInside a.sectors c
       → SaysBy v.state n vals spent (replayed a.sectors c) ⊎ SaysBetween (enlisted place units plan v.state) w.state n vals spent (replayed a.sectors c))
   pub holds : IsAmid w b n vals spent
+  -- nor do contents leave it rows to resync that they didn't
+  pub rows : LeavesRows v a n → KeepsRows v w a b n
 
 -- all arrays that stand and are settled, where a drive is left that the pool had
 abbrev pub JoinsEach : (place units : ℕ) → Plan → Raid → Raid → Seen → Seen → Type 0

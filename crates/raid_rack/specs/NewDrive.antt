@@ -1,7 +1,7 @@
 -- A new drive at a place: where its slices lie, its table, and what is written on it before it is one of the pool.
-use Rattle.std.specs.Prelude.{◌≡◌, ◌≢◌, ◌⊎◌, ℕ, ◌+◌, ◌-◌, ◌<◌, ◌==◌, ◌&&◌, nat_le, nat_lt, if◌then◌else◌, Bool, false, codes, List, [], ◌∷◌, filter, is_some, map, replicate, slice_get, take, sum_by, Some, Result, OnOk, IfErr}
+use Rattle.std.specs.Prelude.{◌≡◌, ◌≢◌, ◌⊎◌, ℕ, ◌+◌, ◌-◌, ◌<◌, ◌==◌, ◌&&◌, ◌||◌, not, nat_le, nat_lt, if◌then◌else◌, Bool, false, true, codes, List, [], ◌∷◌, filter, is_some, length, map, replicate, slice_get, take, sum_by, Some, Result, OnOk, IfErr}
 use Rattle.std.specs.Option.{option_map_or}
-use Rattle.std.specs.List.{range_with_len}
+use Rattle.std.specs.List.{list_all, range_with_len}
 use Rattle.byteorder.specs.Endian.{little_bytes}
 use Rattle.rack.specs.Values.{IsSingle, MayLeave}
 use Rattle.rack.specs.Seen.{Seen, IsLive, Rose}
@@ -36,6 +36,18 @@ first_in arrays n = arrays_first + sum_by slice_length (take n arrays)
 abbrev pub joins : List View → (place sectors n : ℕ) → Bool
 joins arrays place sectors n =
     option_map_or (λ u. is_some (seat_of u place) && nat_le (first_in arrays n + slice_length u + 33) sectors) (slice_get arrays n) false
+
+-- the disk reaches each array that the place is a member of
+abbrev pub ReachesAll : List View → (place sectors : ℕ) → Type 0
+ReachesAll arrays place sectors = (n : ℕ) (u : View) → slice_get arrays n ≡ Some u → is_some (seat_of u place) ≡ true → joins arrays place sectors n ≡ true
+
+-- a place is no member of array n, or the disk reaches it
+abbrev pub is_reached : List View → (place sectors n : ℕ) → Bool
+is_reached arrays place sectors n = option_map_or (λ u. not (is_some (seat_of u place))) (slice_get arrays n) true || joins arrays place sectors n
+
+-- a disk of so many sectors has room for the log slice and the table, and reaches each array that the place is a member of
+abbrev pub reaches_all : List View → (place sectors : ℕ) → Bool
+reaches_all arrays place sectors = nat_le 10273 sectors && list_all (is_reached arrays place sectors) (range_with_len 0 (length arrays))
 
 -- the length of the slice of array n
 abbrev pub length_in : List View → ℕ → ℕ

@@ -8,7 +8,7 @@ use Rattle.array_image.specs.States.{is_current}
 use Rattle.array_image.specs.Left.{IsInside, IsLeft}
 use Rattle.commit_log.specs.Kept.{LogKept}
 use Rattle.array_model.specs.Opened.{OpensOn}
-use Rattle.raid_rack.specs.Agreeing.{MakesAgree, SupersAgree}
+use Rattle.raid_rack.specs.Agreeing.{AgreeLeaving, MakesAgree}
 use Rattle.raid_rack.specs.Cleaning.{NoneFails}
 use Rattle.raid_rack.specs.Raid.{Raid, AreLive, gone_in, held_in, is_over, live_of, spent_of, IsTold}
 use Rattle.raid_rack.specs.Marking.{SaysBetween}
@@ -34,4 +34,4 @@ pub record OpenedRaid (v w : Raid) (a b : Seen) : Type 0 where
   -- and after superblocks were made to agree they do so
   pub agree :
       MakesAgree v w a b → NoneFails a b → (n : ℕ) → n < v.state.joined → is_over w n ≡ false
-      → (r : Image) → IsLeft b r → SupersAgree w.state r n
+      → (r : Image) → IsLeft b r → AgreeLeaving (v.arrays n) w.state r n

@@ -14,6 +14,7 @@ use Rattle.array_model.specs.ArrayCalls.{Covers}
 use Rattle.array_model.specs.Stages.{AmongTargets}
 use Rattle.array_core.specs.Seats.{gone as without}
 use Rattle.array_core.specs.Staging.{AddsSupersOf}
+use Rattle.array_core.specs.Superblocks.{left_offset}
 use Rattle.pool_state.specs.declared.contents.State.{State}
 use Rattle.array_image.specs.States.{is_current, current_places}
 use Rattle.commit_log.specs.View.{LogView, names}
@@ -56,6 +57,8 @@ pub record SettlesTo (v w : Raid) (a b : Seen) (k : ℕ) (xs : List Target) : Ty
   -- with one more event each
   pub raised : (n : ℕ) → n < v.state.made → (w.arrays n).truth.events ≤ (v.arrays n).truth.events + 1
   pub rest : (n : ℕ) → n < v.state.made → k ≤ n → (w.arrays n).truth.events ≡ (v.arrays n).truth.events
+  -- with the rows to resync that are left
+  pub left : (n : ℕ) → n < v.state.made → n < k → (v.arrays n).young ≡ false → (w.arrays n).truth.resync_offset ≡ left_offset (v.arrays n)
   pub went : (n p : ℕ) → n < v.state.made → has_gone (v.arrays n) p ≡ true → has_gone (w.arrays n) p ≡ true
   pub staged : HasStaged w k xs
   pub settled :

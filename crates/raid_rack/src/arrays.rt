@@ -167,6 +167,7 @@ impl<R: Rack> RaidRack<R> {
         ensures supers { (AreMarked (raid_in self.old) → ⊥) → MakesAgree (raid_in self.old) (raid_in self.new) (slices_seen R.seen self.old) (slices_seen R.seen self.new) }
         ensures fit { IsFit (arrays_in self.new) (slices_seen R.seen self.new) }
         ensures refused { (n : ℕ) → refused_in self.new n ≡ refused_in self.old n }
+        ensures written { (n : ℕ) → written_in self.new n ≡ written_in self.old n }
         ensures runs { SliceRuns R.seen R.runs (slices_in self.old) (slices_in self.new) }
     {
         self.arrays.mend(&mut self.slices);

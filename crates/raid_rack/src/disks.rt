@@ -1,6 +1,7 @@
 //! The arrays as disks of a rack.
 
-ghost use Rattle.std.specs.Prelude.{◌≡◌, ℕ, ◌<◌, ◌≤◌, true, false, OnOk, IfErr};
+ghost use Rattle.std.specs.Prelude.{◌≡◌, ℕ, ◌<◌, ◌≤◌, true, false, OnOk, IfErr, refl};
+ghost use Rattle.std.proofs.Common.{◌∙◌};
 ghost use Rattle.rack.specs.Seen.{Rose};
 ghost use Rattle.rack.specs.Calls.{Reads, Syncs, Writes};
 ghost use Rattle.raid_rack.specs.AllRuns.{AreRuns, IsOneCall, serves_same, serves_then, spares_same, spares_then};
@@ -24,6 +25,8 @@ impl<R: Rack> Rack for RaidRack<R> {
 
     ghost once = { λ old new. IsOneCall (raid_in old) (raid_in new) };
 
+    ghost unwritten = { λ old new. (n : ℕ) → written_in new n ≡ written_in old n };
+
     ghost lenders = { λ rack. R.lenders (below_of (slices_in rack)) };
 
     fn disks(&self) -> u32 {
@@ -41,7 +44,7 @@ impl<R: Rack> Rack for RaidRack<R> {
         ensures reads { Reads (raid_seen R.seen self.old) (raid_seen R.seen self.new) disk sector into.new result }
         ensures runs { AreRuns R.seen R.runs self.old self.new }
         ensures once { IsOneCall (raid_in self.old) (raid_in self.new) }
-        ensures written { (n : ℕ) → written_in self.new n ≡ written_in self.old n }
+        ensures unwritten { (n : ℕ) → written_in self.new n ≡ written_in self.old n }
     {
         self.arrays.read_array(&mut self.slices, disk, sector, into);
         self.answer(disk, sector)
@@ -97,6 +100,10 @@ impl<R: Rack> Rack for RaidRack<R> {
       spares_then (written_in x) (written_in y) (written_in z) (raid_in x) (raid_in y) (raid_in z) (slices_seen R.seen x) (slices_seen R.seen y) (slices_seen R.seen z)
           one.1 two.1 one.3 two.3,
     ) };
+
+    ghost unwritten_same = { λ rack n. refl };
+
+    ghost unwritten_then = { λ x y z one two n. two n ∙ one n };
 
     ghost runs_lenders = { λ x y runs. R.runs_lenders (below_of (slices_in x)) (below_of (slices_in y)) runs.0.below };
 }

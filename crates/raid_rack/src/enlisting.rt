@@ -1,21 +1,35 @@
-//! Parts of taking in a new drive at a place whose drive is missing: the arrays settled before it, its state, its members and the
-//! superblocks that say them. The call that does so isn't there yet.
+//! A new drive is taken in at a place whose drive is missing.
 
-ghost use Rattle.std.specs.Prelude.{◌≡◌, ◌<◌, ◌≤◌, ◌-◌, ◌^◌, ℕ, Some, true, false, [], length, slice_get, slice_set};
+ghost use Rattle.std.specs.Prelude.{◌≡◌, ◌≢◌, ◌<◌, ◌≤◌, ◌+◌, ◌-◌, ◌^◌, ℕ, All, Err, Some, OnOk, OnErr, true, false, [], length, slice_get, slice_set, option_map};
+ghost use Rattle.slice_rack.specs.SliceRack.{below_of, tables};
+ghost use Rattle.slice_rack.specs.Slices.{seat_of as disk_at};
+ghost use Rattle.array_image.specs.States.{is_current};
+ghost use Rattle.array_model.specs.View.{View};
 ghost use Rattle.array_model.specs.declared.Seat.TheVariants.{Missing};
 ghost use Rattle.array_core.specs.Seats.{seat_of};
 ghost use Rattle.raid_rack.specs.Moves.{IsHeeded, Mends, RaisesBy};
+ghost use Rattle.raid_rack.specs.NewDrive.{ReachesAll, SeatsDrive, joins};
 ghost use Rattle.raid_rack.specs.Settling.{HasStaged};
-ghost use Rattle.raid_rack.specs.RaidRack.{IsRunning, is_written, raid_by};
+ghost use Rattle.raid_rack.specs.RaidRack.{IsFit, IsRunning, arrays_in, arrays_of, is_written, raid_by, raid_in, refused_in, slices_in, slices_seen, written_in};
 ghost use Rattle.raid_rack.specs.Enlisting as spec;
 
-use crate::arrays::Arrays;
-use crate::losses::{heed_all, newly_gone};
-use crate::marks::raised;
+use crate::arrays::{Arrays, RaidRack};
+use crate::losses::{add_copies, heed_all, newly_gone, note_gone};
+use crate::marks::{current_places, raised};
+use crate::new_drive::{joining, lay_drive, seat_drive, table_of};
 use arrayvec::ArrayVec;
 use pool_state::{Drive, Plan, State};
-use rack::Rack;
+use rack::{Places, Rack};
 use shr_base::{Id, child_id};
+
+/// Why a drive isn't taken in.
+#[derive(Clone, Copy, Debug, PartialEq, Eq)]
+pub enum EnlistFault {
+    /// The new drive refused a call before it was one of the pool.
+    Gone,
+    /// Another drive than the one to be replaced was found gone, and is marked: the pool isn't whole but for one place.
+    NotWhole,
+}
 
 /// The id of the next new drive of a pool.
 fn next_drive(state: &State) -> Id
@@ -110,5 +124,107 @@ impl Arrays {
             array.rules();
             array.stage_own(&mut self.log);
         }
+    }
+
+    /// Makes a drive one of the pool, over slices that it has already: one commit on the drives that are left has the state with it,
+    /// a copy for it too, and the superblocks, by which its members are to be rebuilt from their start.
+    fn join<S: Rack>(&mut self, rack: &mut S, place: u32, units: u64, plan: Plan, sectors: u64)
+        requires running { IsRunning self.old (S.seen rack.old) }
+        requires heeded { IsHeeded (raid_by self.old) }
+        requires empty { self.old.log.added ≡ [] }
+        requires unmarked { (n : ℕ) → n < self.old.state.made → ((raid_by self.old).arrays n).marked ≡ false }
+        requires serial { self.old.state.serial < 2 ^ 32 - 1 }
+        requires listed { place < length self.old.state.drives.items }
+        requires missing { is_current self.old.state place ≡ false }
+        requires others { (p : ℕ) → p < length self.old.state.drives.items → p ≢ place → is_current self.old.state p ≡ true }
+        requires units { option_map (λ d. d.units) (slice_get self.old.state.drives.items place) ≡ Some units }
+        requires plan { plan ≡ Plan.Replace place }
+        requires slices { spec.HasNewSlices self.old.all.items place sectors (S.seen rack.old) }
+        requires reaches { ReachesAll self.old.all.items place sectors }
+        ensures joined { spec.IsEnlisted place units plan (joins self.old.all.items place sectors) (raid_by self.old) (raid_by self.new) (S.seen rack.old) (S.seen rack.new) }
+        ensures raises { RaisesBy 18 (raid_by self.old) (raid_by self.new) }
+        ensures fit { IsFit self.new (S.seen rack.new) }
+        ensures each { spec.JoinsEach place units plan (raid_by self.old) (raid_by self.new) (S.seen rack.old) (S.seen rack.new) }
+        ensures runs { S.runs rack.old rack.new }
+    {
+        let on = current_places(&self.state);
+        let joining = joining(self.all.as_slice(), place, sectors);
+        self.renew_members(place, &joining);
+        enlist_drive(&mut self.state, place, units, plan);
+        self.stage_all();
+        let current = current_places(&self.state);
+        add_copies(&self.state, &current, &mut self.log);
+        let went = self.log.commit(rack, &on);
+        note_gone(self.all.as_mut_slice(), &went);
+        self.mend(rack);
+    }
+}
+
+impl<R: Rack> RaidRack<R> {
+    /// Takes a new drive in, on a disk of the rack of drives, at a place whose drive is marked missing. The disk gets a partition table, and
+    /// slices for the log and for each array that the place is a member of, which it reaches; its members there are to be rebuilt
+    /// from their start. It is one of the pool by one commit on the drives that are left, which is durable when this returns: in what a
+    /// stop leaves before it the disk is none of the pool's. No value of an array moves.
+    ///
+    /// `units` are those of the drive that it replaces, and the disk has room for the log slice and the table.
+    ///
+    /// `Gone`: the disk refused a call before the commit; the pool is as it was, and of the disk its tables, its state's sector and its
+    /// gate may be written. `NotWhole`: another drive was found gone before it; that one is marked, and but for this the pool is as it
+    /// was. A drive that goes in the commit, also the new one, is marked when this returns.
+    pub fn enlist(
+        &mut self,
+        place: u32,
+        disk: u32,
+        units: u64,
+        plan: Plan,
+    ) -> Result<(), EnlistFault>
+        requires fit { IsFit (arrays_in self.old) (slices_seen R.seen self.old) }
+        requires listed { place < length (raid_in self.old).state.drives.items }
+        requires missing { is_current (raid_in self.old).state place ≡ false }
+        requires others { (p : ℕ) → p < length (raid_in self.old).state.drives.items → p ≢ place → is_current (raid_in self.old).state p ≡ true }
+        requires units { option_map (λ d. d.units) (slice_get (raid_in self.old).state.drives.items place) ≡ Some units }
+        requires plan { plan ≡ Plan.Replace place }
+        requires serial { (raid_in self.old).state.serial < 2 ^ 32 - 1 }
+        requires disk { disk < (R.seen (below_of (slices_in self.old))).disks }
+        requires free { (p : ℕ) → disk_at (tables (slices_in self.old)) p ≢ Some disk }
+        requires room { 10273 ≤ (R.seen (below_of (slices_in self.old))).sectors disk }
+        // So it does where the pool is sound and the disk has those units.
+        requires reaches { ReachesAll (arrays_of self.old) place ((R.seen (below_of (slices_in self.old))).sectors disk) }
+
+        // Where it is taken in, the tables have its disk and its slices beside those that they had.
+        ensures seats { OnOk result (SeatsDrive (arrays_of self.old) place disk ((R.seen (below_of (slices_in self.old))).sectors disk) (tables (slices_in self.old)) (tables (slices_in self.new))) }
+        ensures enlists { OnOk result (spec.Enlists (tables (slices_in self.old)) (tables (slices_in self.new)) (arrays_of self.old) place disk units plan
+            (raid_in self.old) (raid_in self.new) (R.seen (below_of (slices_in self.old))) (R.seen (below_of (slices_in self.new)))) }
+
+        // Where it isn't, the tables are as before.
+        ensures tables { OnErr result (tables (slices_in self.new) ≡ tables (slices_in self.old)) }
+        ensures gone { result ≡ Err EnlistFault.Gone → spec.IsRefused (tables (slices_in self.old)) disk (raid_in self.old) (R.seen (below_of (slices_in self.old))) (R.seen (below_of (slices_in self.new))) }
+        ensures kept { result ≡ Err EnlistFault.Gone → arrays_in self.new ≡ arrays_in self.old }
+        ensures not_whole { result ≡ Err EnlistFault.NotWhole → spec.IsNotWhole (tables (slices_in self.old)) disk (raid_in self.old) (raid_in self.new)
+            (R.seen (below_of (slices_in self.old))) (R.seen (below_of (slices_in self.new))) }
+        ensures fit { IsFit (arrays_in self.new) (slices_seen R.seen self.new) }
+        ensures refused { (n : ℕ) → refused_in self.new n ≡ refused_in self.old n }
+        ensures written { (n : ℕ) → written_in self.new n ≡ written_in self.old n }
+        ensures runs { R.runs (below_of (slices_in self.old)) (below_of (slices_in self.new)) }
+    {
+        let sectors = self.slices.below().sectors(disk);
+        let drive = next_drive(&self.arrays.state);
+        let table = table_of(drive, self.arrays.all.as_slice(), place, sectors);
+        if let Err(_) = lay_drive(self.slices.inner(), disk, &table) {
+            return Err(EnlistFault::Gone);
+        }
+        if !self.arrays.settle_whole(&mut self.slices) {
+            return Err(EnlistFault::NotWhole);
+        }
+        seat_drive(
+            &mut self.slices,
+            self.arrays.all.as_slice(),
+            place,
+            disk,
+            sectors,
+        );
+        self.arrays
+            .join(&mut self.slices, place, units, plan, sectors);
+        Ok(())
     }
 }

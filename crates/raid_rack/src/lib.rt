@@ -44,7 +44,7 @@
 //! is written, and no superblock that says so already.
 //!
 //! **Superblocks that agree.** A stop amid superblocks that are written one after the other leaves some of fewer events than the truth's. All superblocks are written anew by one commit (`restate`), and so they are by each commit that marks a place: then those of
-//! each array agree in every image, where no drive refuses a call (`MakesAgree`). Calls of the rack in which none does leave the slices of
+//! each array agree in every image and leave the rows to resync that are left in it, where no drive refuses a call (`MakesAgree`). Calls of the rack in which none does leave the slices of
 //! arrays that aren't written alone (`Spares`), so theirs go on to agree (`agree_spared` of proofs/AgreeStill.antt).
 //!
 //! **Rows to resync.** An array that isn't young and whose truth leaves just the rows that are left in it (`LeavesRows`) does so in
@@ -59,10 +59,18 @@
 //! end of a plan (`ClosesPlan`) is a commit of the state's copies alone. A work is one of these three (`Does`), where it is due
 //! (`is_due`).
 //!
-//! **A new drive** at a place whose drive is missing gets the closed gate with number 0, its table, zeros in the place of a state, and
-//! slices for the log and for each array that it is a member of and reaches (`LaysDrive`, `SeatsDrive`). Calls on a disk that has no
-//! place are reads to the slices (`reads_apart` of proofs/Apart.antt). The state that has it is valid (proofs/Enlisted.antt). The commit
-//! that makes it one of the pool isn't there yet; what it is to do is defined (`Enlists`).
+//! **A new drive** at a place whose drive is missing ([`RaidRack::enlist`]) gets its table, zeros in the place of a state and the closed gate
+//! with number 0 (`LaysDrive`), and slices for the log and for each array that it is a member of and reaches (`SeatsDrive`). Calls on a
+//! disk that has no place are reads to the slices (`reads_apart` of proofs/Apart.antt). Then one commit on the drives that are left has the
+//! state with it, a copy for it too, and the superblocks, by which its members are to be rebuilt from their start. So it is one of the
+//! pool in no image before that commit, and in each after it; and since its members count nowhere yet, no value moves (`Enlists`).
+//! The slices by the new tables differ from those by the old ones at the drive's place alone, which isn't current, so arrays stand over
+//! them as they did (`reseated_amid` of proofs/Reseated.antt). What a stop leaves is read by the old tables until the slices are added
+//! (`SaysLaying`), and from then on by the new ones, where the disk holds its table (`SaysJoining`). The moment alone tells which, so an
+//! image is read by the same tables for all arrays.
+//!
+//! **A disk that is given up** ([`RaidRack::vacate`]), where its drive is marked missing, takes the slices of its place with it. The
+//! arrays stand over the slices that are left as they did (`vacated_told`, `vacated_keeps`, `vacated_rows` of proofs/Vacated.antt).
 //!
 //! **What can't be had.** Where no disk refuses a call, calls in a row spend no sector (`live_still` of proofs/Live.antt), unless numbers
 //! are used up ([`RaidRack::is_used_up`]).
@@ -88,9 +96,11 @@ mod marks;
 mod mending;
 mod new_drive;
 mod spent;
+mod vacating;
 mod works;
 
 pub use arrays::{LastDrive, RaidRack};
+pub use enlisting::EnlistFault;
 pub use losses::{add_copies, heed_all, newly_gone, note_gone, restart_rebuilds};
 pub use marks::{current_places, mark_missing};
 pub use works::Stuck;

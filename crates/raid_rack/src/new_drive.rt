@@ -89,6 +89,33 @@ pub(crate) fn joining(arrays: &[Array], place: u32, sectors: u64) -> [bool; 16]
     joining
 }
 
+/// Whether a place is no member of an array, or a disk of so many sectors reaches it.
+fn is_reached(arrays: &[Array], place: u32, sectors: u64, number: usize) -> bool
+    requires few { length arrays.now ≤ 16 }
+    requires number { number < length arrays.now }
+    requires small { All (λ (u : View). u.truth.size < 2 ^ 48) arrays.now }
+    ensures { result ≡ spec.is_reached arrays.now place sectors number }
+{
+    arrays[number].seat(place).is_none() || joins(arrays, place, sectors, number)
+}
+
+/// Whether a disk of so many sectors has room for a drive's log slice and table, and reaches each array that the place is a member of.
+pub(crate) fn reaches_all(arrays: &[Array], place: u32, sectors: u64) -> bool
+    requires few { length arrays.now ≤ 16 }
+    requires small { All (λ (u : View). u.truth.size < 2 ^ 48) arrays.now }
+    ensures { result ≡ spec.reaches_all arrays.now place sectors }
+{
+    if sectors < ARRAYS_FIRST + BACKUP_SECTORS {
+        return false;
+    }
+    for number in 0..arrays.len() {
+        if !is_reached(arrays, place, sectors, number) {
+            return false;
+        }
+    }
+    true
+}
+
 /// The entry of a drive's slice.
 fn entry_of(drive: &Id, slice: u32, kind: Id, first: u64, sectors: u64) -> Entry
     requires slice { slice < 128 }

@@ -1,4 +1,4 @@
-use Rattle.std.proofs.Common.{◌≡◌, ◌+◌, ◌++◌, [], ◌∷◌, List, length, if◌then◌else◌, ap, ap₂, refl, sym, ◌∙◌, arith, length-append}
+use Rattle.std.proofs.Common.{◌≡◌, ◌++◌, [], ◌∷◌, List, length, if◌then◌else◌, ap, ap₂, refl, sym, ◌∙◌, arith, length-append}
 use Rattle.arrayvec.specs.ArrayVec.{ArrayVec}
 use Rattle.gpt_table.specs.declared.Entry.{Entry}
 use Rattle.raid_rack.specs.NewDrive as spec

@@ -1,4 +1,4 @@
-use Rattle.std.proofs.Common.{◌≡◌, ◌<◌, ℕ, length, ap, refl, sym, subst, ◌∙◌, arith}
+use Rattle.std.proofs.Common.{◌≡◌, ◌<◌, length, ap, refl, subst, ◌∙◌, arith}
 use Rattle.commit_log.specs.View.{LogView}
 use Rattle.array_core.specs.Staging.{AddsSupersOf}
 use Rattle.array_model.specs.View.{IsArray, View}

@@ -1,0 +1,72 @@
+-- A commit of marks leaves no row of an array to resync but those that are left in it.
+use Rattle.std.proofs.Common.{◌≡◌, ℕ, ◌<◌, ◌≤◌, Bool, false, List, Option, Some, unwrap_or, refl, sym, ap, subst, ◌∙◌, inl, inr, arith}
+use Rattle.rack.specs.Values.{Values}
+use Rattle.rack.specs.Seen.{Image, Seen}
+use Rattle.rack.specs.Joins.{leaves_weaker}
+use Rattle.rack.specs.Targets.{put}
+use Rattle.pool_state.specs.declared.contents.State.{State}
+use Rattle.array_image.specs.Places.{log_slice}
+use Rattle.array_image.specs.States.{state_in}
+use Rattle.array_image.specs.Supers.{truth_in}
+use Rattle.array_image.specs.SoundArray.{first_unsynced}
+use Rattle.array_image.proofs.Frames.{Agree, state_same, supers_same, truth_by_supers}
+use Rattle.array_image.specs.Arrays.{Shape, replayed}
+use Rattle.array_image.specs.Left.{IsInside, LogsInside, Picks}
+use Rattle.commit_log.specs.View.{LogView}
+use Rattle.commit_log.specs.Commits.{Commits}
+use Rattle.commit_log.specs.Kept.{gone_with}
+use Rattle.commit_log.proofs.Kept.{before_inside, joined_state, stands_of}
+use Rattle.array_model.specs.View.{View, IsArray}
+use Rattle.raid_rack.specs.Laws.{stood_left}
+use Rattle.raid_rack.specs.Marking.{Restates}
+use Rattle.raid_rack.specs.Raid.{Raid, Stood}
+use Rattle.raid_rack.specs.Rows.{KeepsRows, LeavesFrom, LeavesRows}
+use Rattle.raid_rack.proofs.Marking.{MarksCall, alike_agree, alike_state, restated_after}
+use Rattle.raid_rack.proofs.Rows.{KeepsClear, from_same, rows_after, settled_rows}
+
+module _ (s t : State) (durable noted : Shape) (view : View) (vals : ℕ → Values) (spent gone : ℕ → Bool) (v w : Raid) (l : LogView) (on lost : List ℕ) (a b : Seen) (n : ℕ)
+    (few : n < 16) (call : MarksCall s t gone l on lost a b) (restates : Restates t noted false view l.added a n)
+    (stood : Stood s durable vals spent gone v a n) (after : Stood t noted vals spent (gone_with gone lost) w b n)
+    (is_array : IsArray view) (clear : KeepsClear (v.arrays n) view) (clear_after : KeepsClear (v.arrays n) (w.arrays n)) (rows : LeavesRows v a n) where
+  -- contents that have the new state and the superblocks of the commit
+  put_rows : (before r : Image) → Picks a before → state_in r ≡ Some t → Agree n r (put a.sectors l.added before) → LeavesFrom (v.arrays n).resync n r
+  put_rows before r picks state_is agree own u state truth =
+      let e : Image = put a.sectors l.added before in
+      let same : own ≡ t = ap (λ (o : Option State). unwrap_or o own) (sym state ∙ state_is) in
+      let fields = restates.truth before picks u
+      (sym (truth_by_supers t r e n (supers_same t r e n agree)) ∙ subst (λ k. truth_in k r n ≡ Some u) same truth) in
+      subst (λ k. (v.arrays n).resync ≤ k) (sym (ap first_unsynced fields))
+      (subst (λ k. k ≤ first_unsynced view.truth) clear.resync (settled_rows view is_array (clear.young ∙ rows.young) (clear.settled rows.young rows.settled)))
+
+  moment : (c : Image) → IsInside a.sectors c → Commits l.added a c → LeavesFrom (v.arrays n).resync n (replayed a.sectors c)
+  moment c inside commits =
+      let before = commits.before in
+      let picks = before_inside l.added a c before inside commits.stands commits.either in
+      let r : Image = replayed a.sectors c in
+      elim commits.either [
+        | inl old ↦
+            let e : Image = replayed a.sectors before in
+            from_same (v.arrays n).resync n r e (alike_state r e old) (alike_agree n r e few old) (rows.images e (before, picks, λ d i. refl))
+        | inr new ↦
+            let e : Image = put a.sectors l.added before in
+            put_rows before r picks
+            (alike_state r e new
+            ∙ joined_state s t l.number gone on call.takes l.added a before call.place stood.log.logs stood.log.copies call.brings (stands_of before picks)
+            (stood.log.few call.place call.was) (stood.log.there call.place call.was call.left) call.was call.left call.now)
+            (alike_agree n r e few new)
+      ]
+
+  pub marks_rows : KeepsRows v w a b n
+  marks_rows = record {
+    later = let same = clear_after.resync in omega (arith, same);
+    leaves = λ traced.
+        leaves_weaker (λ c. LogsInside a.sectors c → Commits l.added a c) (λ c. IsInside a.sectors c → LeavesFrom (v.arrays n).resync n (replayed a.sectors c))
+        (λ c commits inside. moment c inside (commits (λ place i out. inside (log_slice place) i out)))
+        (call.commit.stops traced call.ready call.decides);
+    after =
+        rows_after v w a b n clear_after rows
+        (λ r left.
+        let at = restated_after s t noted false view gone l on lost a b n r few call restates left in
+        let read = stood_left t noted vals spent (gone_with gone lost) w b n left.0 after left.1 in
+        put_rows at.0 r at.1 (state_same r (replayed b.sectors left.0) (λ place. left.2 (log_slice place) 0) ∙ read.0) at.2);
+  }

@@ -1,0 +1,220 @@
+use Rattle.std.proofs.Common.{◌≡◌, ◌≤◌, ◌<◌, ◌^◌, All, List, Ok, false, length, ap, subst, sym, ◌∙◌, arith}
+use Rattle.pool_state.specs.declared.contents.State.{State}
+use Rattle.array_model.specs.View.{View}
+use Rattle.raid_rack.proofs.Seating.{all_small, new_slices, seats_set}
+use Rattle.rack.specs.Seen.{Rose, Stays}
+use Rattle.rack.specs.Sequences.{WritesOnly}
+use Rattle.gpt_table.specs.declared.Table.{Table}
+use Rattle.gpt_table.specs.Format.{IsWritable}
+use Rattle.slice_rack.specs.SliceRack.{below_of, tables}
+use Rattle.slice_rack.specs.Sliced.{slices_of}
+use Rattle.slice_rack.proofs.Below.{stays_sliced}
+use Rattle.array_image.specs.States.{is_current}
+use Rattle.slice_rack.specs.Runs.{IsSliced, inside_still}
+use Rattle.slice_rack.specs.Slices.{Slices}
+use Rattle.shr_base.specs.declared.Id.{Id}
+use Rattle.raid_rack.specs.Enlisting.{Enlists, HasLost, HasNewSlices, IsEnlisted, JoinsEach, SettlesWhole, next_drive}
+use Rattle.raid_rack.specs.Moves.{IsSet, Mends}
+use Rattle.raid_rack.specs.NewDrive.{IsOfDrive, LaysDrive, ReachesAll, SeatsDrive, drive_table, joins}
+use Rattle.raid_rack.specs.RaidRack.{IsFit, IsRunning, raid_by, slices_in}
+use Rattle.raid_rack.proofs.Apart.{fit_still, not_whole, refused_lay, running_still}
+use Rattle.raid_rack.proofs.Enlisted.{table_writable}
+use Rattle.raid_rack.proofs.Renewing.{reaches_same, same_members}
+use Rattle.raid_rack.proofs.EnlistAll.{enlists, seats}
+use Rattle.raid_rack.proofs.arrays.RaidRack.enlist.Goals as goal
+
+pub lay_drive-requires-clause-writable : goal.lay_drive-requires-clause-writable
+lay_drive-requires-clause-writable g c =
+    let few = c.requires.fit.running.set.most in
+    let count = c.requires.fit.running.count in
+    let same : length c.as_slice.result.now ≡ length c.args.self.now.arrays.all.items = ap length c.as_slice.ensures.value in
+    let room : 10273 ≤ (g.R.Rack.seen c.below.result.now).sectors c.args.disk = subst (λ r. 10273 ≤ (g.R.Rack.seen r).sectors c.args.disk) (sym c.below.ensures) c.requires.room in
+    let is = c.sectors-sectors.ensures.number in
+    subst IsWritable (sym c.table_of-table.ensures)
+    (table_writable c.next_drive-drive.result.0 c.as_slice.result.now c.args.place c.sectors-sectors.result (omega (arith, few, count, same)) (omega (arith, room, is)))
+
+pub returns-in-Err-clause-fit : goal.returns-in-Err-clause-fit
+returns-in-Err-clause-fit g c =
+    let stays = subst (λ r. Stays (g.R.Rack.seen r) (g.R.Rack.seen c.lay_drive.new.rack)) c.inner.ensures.value c.lay_drive.ensures.lays.only.stays in
+    fit_still _ _ _ (stays_sliced c.requires.fit.running.set.fit.1 stays) c.requires.fit
+
+pub returns-in-Err-clause-gone : goal.returns-in-Err-clause-gone
+returns-in-Err-clause-gone g c is =
+    let disk = c.args.disk in
+    let a = g.R.Rack.seen (below_of (slices_in c.args.self.now)) in
+    let b = g.R.Rack.seen c.lay_drive.new.rack in
+    let size : c.table_of-table.result.sectors ≡ a.sectors disk =
+    ap (λ (e : Table). e.sectors) c.table_of-table.ensures ∙ c.sectors-sectors.ensures.number ∙ ap (λ r. (g.R.Rack.seen r).sectors disk) c.below.ensures in
+    refused_lay (tables (slices_in c.args.self.now)) disk (raid_by c.args.self.now.arrays) a b c.args.self.now.slices.orderly c.requires.free c.requires.fit.running.set
+    (subst (λ n. WritesOnly a b (IsOfDrive disk n)) size
+    (subst (λ r. WritesOnly (g.R.Rack.seen r) b (IsOfDrive disk c.table_of-table.result.sectors)) c.inner.ensures.value c.lay_drive.ensures.lays.only))
+    (subst (λ r. Rose ((g.R.Rack.seen r).faults disk) (b.faults disk)) c.inner.ensures.value c.in-Err.ensures.lays.gone.1)
+
+pub settle_whole-requires-clause-running : goal.settle_whole-requires-clause-running
+settle_whole-requires-clause-running g c =
+    let stays = subst (λ r. Stays (g.R.Rack.seen r) (g.R.Rack.seen c.lay_drive.new.rack)) c.inner.ensures.value c.lay_drive.ensures.lays.only.stays in
+    running_still _ _ _ (stays_sliced c.requires.fit.running.set.fit.1 stays) c.requires.fit.running
+
+pub returns-then-not-settle_whole-clause-fit : goal.returns-then-not-settle_whole-clause-fit
+returns-then-not-settle_whole-clause-fit g c = record {
+  running = c.settle_whole.ensures.running;
+  heeded = (c.settle_whole.ensures.mends c.if-not-settle_whole.true).heeded;
+}
+
+pub returns-then-not-settle_whole-clause-runs : goal.returns-then-not-settle_whole-clause-runs
+returns-then-not-settle_whole-clause-runs g c =
+    g.met.R.Rack.runs_then _ _ _ (subst (λ r. g.R.Rack.runs r c.lay_drive.new.rack) c.inner.ensures.value c.lay_drive.ensures.runs) c.settle_whole.ensures.runs.below
+
+pub returns-then-not-settle_whole-clause-not_whole : goal.returns-then-not-settle_whole-clause-not_whole
+returns-then-not-settle_whole-clause-not_whole g c is =
+    let t = tables (slices_in c.args.self.now) in
+    let disk = c.args.disk in
+    let v = raid_by c.args.self.now.arrays in
+    let w = raid_by c.settle_whole.new.self in
+    let a = g.R.Rack.seen (below_of (slices_in c.args.self.now)) in
+    let m = g.R.Rack.seen c.lay_drive.new.rack in
+    let b = g.R.Rack.seen (below_of c.settle_whole.new.rack) in
+    let laid : WritesOnly a m (IsOfDrive disk c.table_of-table.result.sectors) =
+    subst (λ r. WritesOnly (g.R.Rack.seen r) m (IsOfDrive disk c.table_of-table.result.sectors)) c.inner.ensures.value c.lay_drive.ensures.lays.only in
+    let size : c.table_of-table.result.sectors ≡ a.sectors disk =
+    ap (λ (e : Table). e.sectors) c.table_of-table.ensures ∙ c.sectors-sectors.ensures.number ∙ ap (λ r. (g.R.Rack.seen r).sectors disk) c.below.ensures in
+    let same = c.settle_whole.ensures.runs.tables in
+    not_whole t disk v w a m b c.args.self.now.slices.orderly c.requires.free c.requires.fit.running.set (subst (λ n. WritesOnly a m (IsOfDrive disk n)) size laid)
+    c.settle_whole.ensures.runs.apart
+    (subst (λ u. Mends v w (slices_of t m) (slices_of u b)) same (c.settle_whole.ensures.mends c.if-not-settle_whole.true))
+    (subst (λ u. HasLost v w (slices_of t m) (slices_of u b)) same (c.settle_whole.ensures.lost c.if-not-settle_whole.true)) c.settle_whole.ensures.raises
+
+pub seat_drive-requires-clause-small : goal.seat_drive-requires-clause-small
+seat_drive-requires-clause-small g c =
+    subst (λ (vs : List View). All (λ (u : View). u.truth.size < 2 ^ 48) vs) (sym c.as_slice-2.ensures.value) (all_small c.settle_whole.new.self _ c.settle_whole.ensures.running)
+
+pub join-requires-clause-heeded : goal.join-requires-clause-heeded
+join-requires-clause-heeded g c = (c.settle_whole.ensures.whole c.if-not-settle_whole.false).heeded
+
+pub join-requires-clause-unmarked : goal.join-requires-clause-unmarked
+join-requires-clause-unmarked g c n low =
+    let whole = c.settle_whole.ensures.whole c.if-not-settle_whole.false in
+    whole.unmarked n (subst (λ (s : State). n < s.made) whole.same low)
+
+pub join-requires-clause-others : goal.join-requires-clause-others
+join-requires-clause-others g c p low away =
+    let whole = c.settle_whole.ensures.whole c.if-not-settle_whole.false in
+    ap (λ (s : State). is_current s p) whole.same ∙ c.requires.others p (subst (λ (s : State). p < length s.drives.items) whole.same low) away
+
+pub join-requires-clause-running : goal.join-requires-clause-running
+join-requires-clause-running g c =
+    let whole = c.settle_whole.ensures.whole c.if-not-settle_whole.false in
+    let running = c.settle_whole.ensures.running in
+    let u = tables c.seat_drive.new.slices in
+    let below = c.seat_drive.ensures.below in
+    let v = raid_by c.settle_whole.new.self in
+    let fit = subst (λ r. (slices_of u (g.R.Rack.seen r)).fit) below c.seat_drive.ensures.fit in
+    let missing : is_current c.settle_whole.new.self.state c.args.place ≡ false = ap (λ (s : State). is_current s c.args.place) whole.same ∙ c.requires.missing in
+    record {
+      count = running.count;
+      set =
+          subst (λ r. IsSet v (slices_of u (g.R.Rack.seen r))) (sym below)
+          (seats_set c.as_slice-2.result.now c.args.place c.args.disk c.sectors-sectors.result (tables c.settle_whole.new.rack) u (g.R.Rack.seen (below_of c.settle_whole.new.rack))
+          c.seat_drive.ensures.seats v fit missing running.set);
+    }
+
+pub join-requires-clause-slices : goal.join-requires-clause-slices
+join-requires-clause-slices g c =
+    subst (λ (vs : List View). HasNewSlices vs c.args.place c.sectors-sectors.result (slices_of (tables c.seat_drive.new.slices) (g.R.Rack.seen (below_of c.seat_drive.new.slices))))
+    c.as_slice-2.ensures.value
+    (new_slices c.as_slice-2.result.now c.args.place c.args.disk c.sectors-sectors.result (tables c.settle_whole.new.rack) (tables c.seat_drive.new.slices)
+    (g.R.Rack.seen (below_of c.seat_drive.new.slices)) c.seat_drive.ensures.seats)
+
+pub seat_drive-requires-clause-disk : goal.seat_drive-requires-clause-disk
+seat_drive-requires-clause-disk g c =
+    let one = subst (λ r. Stays (g.R.Rack.seen r) (g.R.Rack.seen c.lay_drive.new.rack)) c.inner.ensures.value c.lay_drive.ensures.lays.only.stays in
+    let two = (c.settle_whole.ensures.runs.apart one.fit (inside_still one c.requires.fit.running.set.fit.1)).stays in
+    subst (λ n. c.args.disk < n) (sym (two.disks ∙ one.disks)) c.requires.disk
+
+pub seat_drive-requires-clause-size : goal.seat_drive-requires-clause-size
+seat_drive-requires-clause-size g c =
+    let one = subst (λ r. Stays (g.R.Rack.seen r) (g.R.Rack.seen c.lay_drive.new.rack)) c.inner.ensures.value c.lay_drive.ensures.lays.only.stays in
+    let two = (c.settle_whole.ensures.runs.apart one.fit (inside_still one c.requires.fit.running.set.fit.1)).stays in
+    c.sectors-sectors.ensures.number ∙ ap (λ r. (g.R.Rack.seen r).sectors c.args.disk) c.below.ensures ∙ sym (two.sectors c.args.disk ∙ one.sectors c.args.disk)
+
+pub returns-clause-runs : goal.returns-clause-runs
+returns-clause-runs g c =
+    g.met.R.Rack.runs_then _ _ _
+    (g.met.R.Rack.runs_then _ _ _ (subst (λ r. g.R.Rack.runs r c.lay_drive.new.rack) c.inner.ensures.value c.lay_drive.ensures.runs) c.settle_whole.ensures.runs.below)
+    (subst (λ r. g.R.Rack.runs r (below_of c.join.new.rack)) c.seat_drive.ensures.below c.join.ensures.runs.below)
+
+pub join-requires-clause-reaches : goal.join-requires-clause-reaches
+join-requires-clause-reaches g c =
+    let whole = c.settle_whole.ensures.whole c.if-not-settle_whole.false in
+    let stays = subst (λ r. Stays (g.R.Rack.seen r) (g.R.Rack.seen c.lay_drive.new.rack)) c.inner.ensures.value c.lay_drive.ensures.lays.only.stays in
+    let running = running_still _ _ _ (stays_sliced c.requires.fit.running.set.fit.1 stays) c.requires.fit.running in
+    let size : c.sectors-sectors.result ≡ (g.R.Rack.seen (below_of (slices_in c.args.self.now))).sectors c.args.disk =
+    c.sectors-sectors.ensures.number ∙ ap (λ r. (g.R.Rack.seen r).sectors c.args.disk) c.below.ensures in
+    reaches_same c.args.self.now.arrays.all.items c.settle_whole.new.self.all.items
+    (same_members c.args.self.now.arrays c.settle_whole.new.self _ _ running c.settle_whole.ensures.running whole.same whole.moves.arrays)
+    c.args.place c.sectors-sectors.result
+    (subst (ReachesAll c.args.self.now.arrays.all.items c.args.place) (sym size) c.requires.reaches)
+
+pub returns-clause-seats : goal.returns-clause-seats
+returns-clause-seats g c =
+    let t = tables (slices_in c.args.self.now) in
+    let u = tables c.seat_drive.new.slices in
+    let v = raid_by c.args.self.now.arrays in
+    let q = c.settle_whole.new.self in
+    let a = g.R.Rack.seen (below_of (slices_in c.args.self.now)) in
+    let m = g.R.Rack.seen c.lay_drive.new.rack in
+    let y = g.R.Rack.seen (below_of c.seat_drive.new.slices) in
+    let b = g.R.Rack.seen (below_of c.join.new.rack) in
+    let seen : (x : Slices) → slices_of x (g.R.Rack.seen (below_of c.settle_whole.new.rack)) ≡ slices_of x y = λ x. ap (λ r. slices_of x (g.R.Rack.seen r)) (sym c.seat_drive.ensures.below) in
+    let size : c.sectors-sectors.result ≡ a.sectors c.args.disk = c.sectors-sectors.ensures.number ∙ ap (λ r. (g.R.Rack.seen r).sectors c.args.disk) c.below.ensures in
+    let settles : SettlesWhole v (raid_by q) (slices_of t m) (slices_of t y) =
+    subst (SettlesWhole v (raid_by q) (slices_of t m)) (ap (λ x. slices_of x (g.R.Rack.seen (below_of c.settle_whole.new.rack))) c.settle_whole.ensures.runs.tables ∙ seen t)
+    (c.settle_whole.ensures.whole c.if-not-settle_whole.false) in
+    let running : IsRunning q (slices_of t y) =
+    subst (IsRunning q) (ap (λ x. slices_of x (g.R.Rack.seen (below_of c.settle_whole.new.rack))) c.settle_whole.ensures.runs.tables ∙ seen t) c.settle_whole.ensures.running in
+    let laid : SeatsDrive q.all.items c.args.place c.args.disk c.sectors-sectors.result t u =
+    subst (λ vs. SeatsDrive vs c.args.place c.args.disk c.sectors-sectors.result t u) c.as_slice-2.ensures.value
+    (subst (λ x. SeatsDrive c.as_slice-2.result.now c.args.place c.args.disk c.sectors-sectors.result x u) c.settle_whole.ensures.runs.tables c.seat_drive.ensures.seats) in
+    subst (SeatsDrive c.args.self.now.arrays.all.items c.args.place c.args.disk (a.sectors c.args.disk) t) (sym c.join.ensures.runs.tables)
+    (seats c.args.self.now.arrays q c.join.new.self c.args.place c.args.disk c.args.units c.sectors-sectors.result c.args.plan t u a m y b size c.requires.fit running settles laid)
+
+pub returns-clause-enlists : goal.returns-clause-enlists
+returns-clause-enlists g c =
+    let t = tables (slices_in c.args.self.now) in
+    let u = tables c.seat_drive.new.slices in
+    let v = raid_by c.args.self.now.arrays in
+    let q = c.settle_whole.new.self in
+    let a = g.R.Rack.seen (below_of (slices_in c.args.self.now)) in
+    let m = g.R.Rack.seen c.lay_drive.new.rack in
+    let y = g.R.Rack.seen (below_of c.seat_drive.new.slices) in
+    let b = g.R.Rack.seen (below_of c.join.new.rack) in
+    let seen : (x : Slices) → slices_of x (g.R.Rack.seen (below_of c.settle_whole.new.rack)) ≡ slices_of x y = λ x. ap (λ r. slices_of x (g.R.Rack.seen r)) (sym c.seat_drive.ensures.below) in
+    let size : c.sectors-sectors.result ≡ a.sectors c.args.disk = c.sectors-sectors.ensures.number ∙ ap (λ r. (g.R.Rack.seen r).sectors c.args.disk) c.below.ensures in
+    let settles : SettlesWhole v (raid_by q) (slices_of t m) (slices_of t y) =
+    subst (SettlesWhole v (raid_by q) (slices_of t m)) (ap (λ x. slices_of x (g.R.Rack.seen (below_of c.settle_whole.new.rack))) c.settle_whole.ensures.runs.tables ∙ seen t)
+    (c.settle_whole.ensures.whole c.if-not-settle_whole.false) in
+    let running : IsRunning q (slices_of t y) =
+    subst (IsRunning q) (ap (λ x. slices_of x (g.R.Rack.seen (below_of c.settle_whole.new.rack))) c.settle_whole.ensures.runs.tables ∙ seen t) c.settle_whole.ensures.running in
+    let laid : SeatsDrive q.all.items c.args.place c.args.disk c.sectors-sectors.result t u =
+    subst (λ vs. SeatsDrive vs c.args.place c.args.disk c.sectors-sectors.result t u) c.as_slice-2.ensures.value
+    (subst (λ x. SeatsDrive c.as_slice-2.result.now c.args.place c.args.disk c.sectors-sectors.result x u) c.settle_whole.ensures.runs.tables c.seat_drive.ensures.seats) in
+    let r = c.args.self.now.arrays in
+    let z = c.join.new.self in
+    let lays = subst (λ x. LaysDrive (g.R.Rack.seen x) m c.args.disk c.table_of-table.result {X = Unit {0}} (Ok tt)) c.inner.ensures.value c.in_default.ensures.lays in
+    let inside = c.requires.fit.running.set.fit.1 in
+    let two : WritesOnly m y (IsSliced t) =
+    subst (λ x. WritesOnly m (g.R.Rack.seen x) (IsSliced t)) (sym c.seat_drive.ensures.below)
+    (c.settle_whole.ensures.runs.apart lays.only.stays.fit (inside_still lays.only.stays inside)) in
+    let three = c.join.ensures.runs.apart c.seat_drive.ensures.fit.0 c.seat_drive.ensures.fit.1 in
+    let joins_then = joins q.all.items c.args.place c.sectors-sectors.result in
+    subst (λ x. Enlists t x r.all.items c.args.place c.args.disk c.args.units c.args.plan v (raid_by z) a b) (sym c.join.ensures.runs.tables)
+    (enlists r q z c.args.place c.args.disk c.args.units c.sectors-sectors.result c.args.plan t u a m y b size c.requires.fit running settles laid
+    c.table_of-table.result c.args.self.now.slices.orderly c.seat_drive.new.slices.orderly c.requires.listed c.requires.missing c.requires.free c.requires.room
+    (c.table_of-table.ensures
+    ∙ ap (λ d. drive_table d c.as_slice.result.now c.args.place c.sectors-sectors.result (length c.as_slice.result.now)) (ap (λ (d : Id). d.0) c.next_drive-drive.ensures)
+    ∙ ap (λ vs. drive_table (next_drive r.state).0 vs c.args.place c.sectors-sectors.result (length vs)) c.as_slice.ensures.value)
+    lays two c.seat_drive.ensures.fit
+    (subst (λ x. IsEnlisted c.args.place c.args.units c.args.plan joins_then (raid_by q) (raid_by z) (slices_of u y) (slices_of x b)) c.join.ensures.runs.tables c.join.ensures.joined)
+    c.join.ensures.raises
+    (subst (λ x. JoinsEach c.args.place c.args.units c.args.plan (raid_by q) (raid_by z) (slices_of u y) (slices_of x b)) c.join.ensures.runs.tables c.join.ensures.each)
+    three (subst (λ x. IsFit z (slices_of x b)) c.join.ensures.runs.tables c.join.ensures.fit))
