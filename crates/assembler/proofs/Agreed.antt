@@ -36,8 +36,10 @@ module _ {R : Type 0} (seen : R → Seen) (runs : R → R → Type 0) (x y : Rai
     | inl still ↦ subst (λ (k : RaidRack R). (r : Image) → IsLeft (slices_seen seen k) r → SupersAgree (raid_in k).state r n) (sym still.0) (spared still.1 was)
     | inr makes ↦
         let later = opens.early.1.told n told in
-        makes (λ place fault. none place (fault.0, fault.1, rose_since (opens.early.1.faults fault.0) fault.2)) n (held_in (raid_in mid) (slices_seen seen mid) n)
+        λ r left.
+        (makes (λ place fault. none place (fault.0, fault.1, rose_since (opens.early.1.faults fault.0) fault.2)) n (held_in (raid_in mid) (slices_seen seen mid) n)
         (spent_of (raid_in y) n) later.joined (subst (λ k. n < k) (sym opens.early.1.book.same.made) made) goes
         (λ s alive. (live_parts (raid_in y) n s alive).1)
         (told_amid (raid_in mid) (slices_seen seen mid) n (spent_of (raid_in y) n) opens.fit.heeded later goes_on (λ s alive. opens.agrees.kept.2.spent n s alive))
+        r left).agree
   ]

@@ -45,7 +45,7 @@ unset (false ∷ flags) zero flag none at = ap (λ o. unwrap_or o false) (sym at
 unset (false ∷ flags) (suc n) flag none at = unset flags n flag none at
 
 -- where no number of a range passes, none of them does
-none_passes : (f : ℕ → Bool) (a k p : ℕ) → list_any f (range_with_len a k) ≡ false → a ≤ p → p < a + k → f p ≡ false
+pub none_passes : (f : ℕ → Bool) (a k p : ℕ) → list_any f (range_with_len a k) ≡ false → a ≤ p → p < a + k → f p ≡ false
 none_passes f a zero p none least most = absurd (omega (arith, least, most))
 none_passes f a (suc k) p none least most = by (f a) refl (λ later rest. none_passes f (a + 1) k p rest (omega (arith, later)) (omega (arith, most)))
   where

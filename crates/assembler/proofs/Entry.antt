@@ -1,13 +1,14 @@
 -- A pool that was brought to rest is the one that the disks held before.
-use Rattle.std.proofs.Common.{◌≡◌, ◌<◌, false, ◌∷◌, [], Option, Some, None, option_map, sym, ap, ap₂, subst, ◌∙◌}
+use Rattle.std.proofs.Common.{◌≡◌, ◌<◌, Bool, true, false, not, bytes_eq, ◌∷◌, [], Option, Some, None, option_map, refl, sym, ap, ap₂, subst, ◌∙◌, arith}
 use Rattle.std.specs.Option.{option_map_or}
 use Rattle.rack.specs.Seen.{Seen, Stays}
 use Rattle.rack.specs.Joins.{rose_before, rose_since}
 use Rattle.rack.specs.Sequences.{OnlyReads}
 use Rattle.slice_rack.specs.SliceRack.{below_of, tables}
+use Rattle.pool_state.specs.declared.contents.Copied.{Copied}
 use Rattle.pool_state.specs.declared.contents.State.{State}
 use Rattle.lvm_text.specs.declared.group.Group.{Group}
-use Rattle.pool_image.specs.Disks.{Disks, disks_of}
+use Rattle.pool_image.specs.Disks.{Disks, Identities, Identity, disks_of, identities_of}
 use Rattle.pool_image.specs.Drives.{Found, found}
 use Rattle.pool_image.specs.Meaning.{Refusal, arrays_held, has_other_pool, joined_arrays, meaning, refusal_of, refused_by, volume_by, volumes_of}
 use Rattle.pool_image.specs.Replay.{standing_by}
@@ -24,10 +25,13 @@ use Rattle.pool_rest.specs.Resting.{StandsNow}
 use Rattle.pool_rest.specs.SoundLogs.{HasSoundLogs, IsSettled}
 use Rattle.pool_rest.specs.Standing.{FindsAll, IsLasting, IsNewest, since}
 use Rattle.pool_model.specs.Pools.{IsSoundPool}
+use Rattle.pool_model.proofs.Found.{found_is}
+use Rattle.pool_model.proofs.Refused.{IsOnlyPool}
 use Rattle.assembler.specs.Holding.{IsFoundOn}
 use Rattle.assembler.specs.Sound.{HoldSound}
 use Rattle.assembler.specs.Volume.{IsVolumeOf}
-use Rattle.assembler.proofs.Finding.{some_same}
+use Rattle.assembler.proofs.Agreeing.{none_passes}
+use Rattle.assembler.proofs.Finding.{same as found_same, some_same}
 use Rattle.assembler.proofs.Meaning.{refusal_is}
 
 -- where no disk refused a call in all, none did in a part
@@ -148,3 +152,19 @@ module _ {R : Type 0} (seen : R → Seen) (a : Seen) (rest : AtRest R) (e : Foun
       means_then (disks_of a) (now_in a) (now_in x) (now_in y) means
       (subst (λ (k : Disks). MeansTheSame k (now_in x) (now_in y)) (sym disks_same)
       (reads_mean x y f reads rest_found.steady.told rest_found.steady.lasts rest_found.found_is))
+
+  -- each disk that says a pool says this one
+  pub only_pool : IsOnlyPool e
+  only_pool d copy low here =
+      let is = found_same x rest.scan.disks.items rest.state (tables rest.slices) rest.on.items rest.log rest.pending rest.damaged f rest_found in
+      let ids : Identities = identities_of (disks_of x) (now_in x) in
+      let said : (ids d).copied ≡ Some copy = ap (λ (j : Found). (j.identities d).copied) is ∙ ap (λ (k : Identity). k.copied) (pool_same.all d low) ∙ here in
+      let disk : d < x.disks = subst (λ (k : Disks). d < k.count) ((found_is (disks_of a) (now_in a) e sound.found_is).1 ∙ disks_same) low in
+      let other : State → Option Copied → Bool = λ s o. option_map_or (λ (k : Copied). not (bytes_eq k.state.pool.0 s.pool.0)) o false in
+      not_not (bytes_eq copy.state.pool.0 e.state.pool.0)
+      (sym (ap₂ other (ap (λ (j : Found). j.state) is ∙ pool_same.state) said)
+      ∙ none_passes (λ q. other rest.state (ids q).copied) 0 x.disks d rested.single (omega arith) (omega (arith, disk)))
+    where
+      not_not : (b : Bool) → not b ≡ false → b ≡ true
+      not_not true is = refl
+      not_not false is = sym is

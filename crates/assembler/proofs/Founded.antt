@@ -20,6 +20,7 @@ pub array_later : (f : Found) (n : ℕ) (t : Super) (u w : View) → IsArrayOf f
 array_later f n t u w of only = record {
   geometry = geometry_then t u.truth w.truth of.geometry only.same.geometry;
   rows = only.same.resync ∙ of.rows;
+  young = only.same.young ∙ of.young;
   members = λ k low. elim (only.seats k) [
     | inr lost ↦ inl lost
     | inl same ↦ elim (of.members k low) [ inl missing ↦ inl (same ∙ missing) | inr said ↦ inr (same ∙ said) ]
@@ -31,6 +32,7 @@ pub array_same : (f g : Found) (n : ℕ) (t : Super) (v : View) → ((p : ℕ) �
 array_same f g n t v same of = record {
   geometry = of.geometry;
   rows = of.rows;
+  young = of.young;
   members = λ k low. elim (of.members k low) [
     | inl missing ↦ inl missing
     | inr said ↦ inr (said ∙ ap (λ (o : Option Super). Some (option_map_or seat_by o Missing)) (same (place_by t k)))
@@ -54,5 +56,7 @@ array_founded f n t u before w places of joined truth is only said =
           ∙ (ap (λ (z : View). z.resync) of.view
           ∙ (ap (λ (b : Bool). if not b then of.truth.size / 128 else first_unsynced of.truth) (lt-ltb n f.state.joined joined)
           ∙ ap first_unsynced same)));
+      young =
+          only.same.young ∙ (ap (λ (z : View). z.young) is ∙ (ap (λ (z : View). z.young) of.view ∙ ap not (lt-ltb n f.state.joined joined)));
       members = λ k low. elim (only.seats k) [ inr lost ↦ inl lost | inl kept ↦ inr (kept ∙ said k low) ];
     }

@@ -1,5 +1,5 @@
 -- The rack of a pool's arrays holds what the pool's contents give.
-use Rattle.std.proofs.Common.{◌≡◌, ◌⊎◌, ℕ, ◌+◌, ◌<◌, ◌≤◌, Bool, true, false, ◌&&◌, ◌||◌, not, nat_lt, is_none, List, [], ◌∷◌, filter, slice_get, Some, None, inl, inr, refl, sym, ap, subst, ◌∙◌, eq-eqb, lt-ltb, arith}
+use Rattle.std.proofs.Common.{◌≡◌, ◌⊎◌, ℕ, ◌+◌, ◌^◌, ◌<◌, ◌≤◌, Bool, true, false, ◌&&◌, ◌||◌, not, nat_lt, is_none, List, [], ◌∷◌, filter, slice_get, Some, None, inl, inr, refl, sym, ap, subst, ◌∙◌, eq-eqb, lt-ltb, arith}
 use Rattle.std.specs.List.{list_any, range_with_len}
 use Rattle.std.proofs.lemmas.Bool.{both_ways, cases_Bool}
 use Rattle.rack.specs.Values.{MayLeave}
@@ -16,7 +16,8 @@ use Rattle.array_image.specs.Places.{data_sector, log_slice, member_slice}
 use Rattle.array_image.specs.States.{current_places, is_current}
 use Rattle.array_image.specs.Held.{IsSettled, held_by}
 use Rattle.array_image.specs.Left.{IsClosed, IsInside, IsLeft, reading}
-use Rattle.array_image.proofs.Frames.{Agree}
+use Rattle.array_image.specs.Supers.{is_unclean, truth_in}
+use Rattle.array_image.proofs.Frames.{Agree, supers_same, truth_by_supers}
 use Rattle.array_image.proofs.Sources.{held_single}
 use Rattle.commit_log.specs.View.{LogView, left_of}
 use Rattle.commit_log.specs.Opening.{Finds, ReplayCall}
@@ -35,10 +36,11 @@ use Rattle.pool_image.specs.Meaning.{super_at, truth_of}
 use Rattle.pool_check.specs.declared.Checked.{Checked}
 use Rattle.pool_check.specs.Checking.{IsChecked}
 use Rattle.pool_check.specs.Refusing.{is_well}
-use Rattle.raid_rack.specs.Agreeing.{MakesAgree, SupersAgree}
+use Rattle.raid_rack.specs.Agreeing.{AgreeLeaving, MakesAgree, SupersAgree}
 use Rattle.raid_rack.specs.Cleaning.{NoneFails}
 use Rattle.raid_rack.proofs.Agreed.{agree_by}
-use Rattle.raid_rack.specs.Raid.{Raid, gone_in, held_in, is_over, spent_of}
+use Rattle.raid_rack.specs.Losing.{arrays_same}
+use Rattle.raid_rack.specs.Raid.{IsTold, Raid, gone_in, held_in, is_over, spent_of}
 use Rattle.raid_rack.specs.Book.{IsAfter}
 use Rattle.raid_rack.specs.Marking.{SaysBetween}
 use Rattle.raid_rack.specs.Moves.{IsHeeded, KeepsArrays, Mends}
@@ -48,15 +50,19 @@ use Rattle.raid_rack.proofs.Noted.{gone_not, gone_some}
 use Rattle.raid_rack.proofs.Opening.{IsAtRest, opened_raid, opens_raid}
 use Rattle.raid_rack.proofs.Seated.{names_joined}
 use Rattle.assembler.specs.Members.{AreMembers}
+use Rattle.pool_model.specs.Left.{LeavesClean}
 use Rattle.pool_model.specs.Pools.{IsSoundPool}
 use Rattle.assembler.specs.Holding.{AreSteady, HoldPool, HoldsArrays, IsArrayOf, IsIdle, IsPoolOn, pool_values}
 use Rattle.assembler.proofs.Amid.{closing_leaves, says_only}
+use Rattle.assembler.proofs.Clean.{clean_left}
+use Rattle.assembler.proofs.Finding.{some_same}
 use Rattle.assembler.proofs.Founded.{array_founded}
 use Rattle.assembler.proofs.Arrays.{array_room, array_whole, array_read, array_values, opens_array, seats_read, sectors_are}
 use Rattle.assembler.proofs.Rest.{copies_agree, log_there, opened_now}
 use Rattle.assembler.proofs.Agreeing.{fresh_agrees, left_reads}
 use Rattle.assembler.proofs.Shows.{few_made, few_place, got, live as live_at, none_past}
 use Rattle.assembler.proofs.Still.{opens_still, rest_closed}
+use Rattle.assembler.proofs.Truthful.{truth_now}
 use Rattle.assembler.proofs.Whole.{whole_member}
 
 -- what a log finds goes by which places were asked, and not by their order
@@ -205,13 +211,13 @@ module _ (f : Found) (t : Slices) (x : Seen) (checked : Checked) (absent : List 
       (λ shutting. let slice = shutting.slice in absurd (omega (arith, slice, low)))
       (ap (λ xs. look xs (member_slice place n) s) idle)).current
 
-  -- where no superblock was stale and none is absent, they agree in whatever calls leave that only read
+  -- where no superblock was stale and none is absent, they agree in whatever calls leave that only read, and their truth is the pool's
   pub agree_still : (l : LogView) → number ≡ l.number → IsIdle f.state t x l → absent ≡ [] → list_any (λ flag. flag) checked.stale.items ≡ false
       → (b : Seen) → OpensRaid v b → Stays (slices_seen t x) b
       → ((n place s : ℕ) → n < 16 → IsLive (slices_seen t x) (slices_seen t x) (member_slice place n) s
       → (b.held (member_slice place n) s).current ≡ ((slices_seen t x).held (member_slice place n) s).current)
       → (w : Raid) (c : Seen) → OnlyReads b c → w.state ≡ f.state → IsHeeded w → OpenedRaid v w b c
-      → (n : ℕ) → n < f.state.joined → is_over w n ≡ false → (r : Image) → IsLeft c r → SupersAgree w.state r n
+      → (n : ℕ) → n < f.state.joined → is_over w n ≡ false → (r : Image) → IsLeft c r → SupersAgree w.state r n × LeavesClean f w.state n r
   agree_still l number_is log none fresh b opens stays kept w c reads same heeded marks n less goes r left =
       let a = slices_seen t x in
       let made = low_joined n less in
@@ -237,8 +243,15 @@ module _ (f : Found) (t : Slices) (x : Seen) (checked : Checked) (absent : List 
       (subst (λ j. MayLeave (b.held (member_slice place j) u) value) (sym (opens.numbers n less)) ((reads.keeps.held d u both).within value may))) before
       ∙ kept n place u few first)
       r left in
-      subst (λ (s : State). SupersAgree s r n) (sym same)
-      (agree_by f.state r (reading a) n agree (fresh_agrees f t x checked absent orderly m steady pool found.opened sound none fresh n made at.0 at.1))
+      let of = found.opened.each n at.0 at.1 in
+      subst (λ (s : State). SupersAgree s r n × LeavesClean f s n r) (sym same) (
+        agree_by f.state r (reading a) n agree (fresh_agrees f t x checked absent orderly m steady pool found.opened sound none fresh n made at.0 at.1),
+        λ before now truth clean is.
+            let here : truth_in f.state r n ≡ Some of.truth =
+            truth_by_supers f.state r (reading a) n (supers_same f.state r (reading a) n agree)
+            ∙ truth_now f t x checked absent orderly m steady pool found.opened n made of.truth of.truth_is (sound.own n of.truth made of.truth_is) in
+            ap is_unclean (some_same now before (sym is ∙ here ∙ sym of.truth_is ∙ truth)) ∙ clean,
+      )
     where
       opens_lasting : {b : Seen} → Stays (slices_seen t x) b → b.lasting
       opens_lasting stays = stays.lasting m.lasting
@@ -268,13 +281,15 @@ module _ (f : Found) (t : Slices) (x : Seen) (checked : Checked) (absent : List 
       → ((n : ℕ) → n < f.state.joined → (w : State) (spent : ℕ → Bool) → IsAfter f.state w → x.traced
       → Leaves (slices_seen t x) b (λ c. IsInside (sectors_of t) c → SaysBetween f.state w n (pool_values f n) spent (replayed (sectors_of t) c)))
       → (w : Raid) (c : Seen) → IsAfter f.state w.state → ((n : ℕ) → array_sectors_of (w.arrays n) ≡ array_sectors_of (arrays n))
-      → OpenedRaid v w b c → ((n : ℕ) → n < f.state.joined → is_over w n ≡ false → (r : Image) → IsLeft c r → SupersAgree w.state r n)
+      → OpenedRaid v w b c
+      → ((n : ℕ) → n < f.state.joined → is_over w n ≡ false → (r : Image) → IsLeft c r → SupersAgree w.state r n × LeavesClean f w.state n r)
       → ((n : ℕ) (z : Super) → n < f.state.joined → truth_of f n ≡ Some z → IsArrayOf f n z (w.arrays n))
       → HoldsArrays f w (slices_seen t x) c
   holds_marked b opens stays kept closing w c after sizes marks agree founds = record {
     after = after;
     arrays = founds;
-    agree = agree;
+    agree = λ n less goes r left. (agree n less goes r left).0;
+    clean = λ n less goes r left. (agree n less goes r left).1;
     told = marks.told;
     sectors = λ n less.
         let made = low_joined n less in
@@ -349,6 +364,20 @@ module _ (f : Found) (s : State) (t : Slices) (x : Seen) (checked : Checked) (ab
       some_truth : (a b : Super) → Some a ≡ Some b → a ≡ b
       some_truth a b same = cc
 
+  -- after a commit of superblocks they leave no row to resync where the pool's leave none
+  marked_clean : gone_now ≡ absent → (w : Raid) → KeepsArrays v w → (c : Seen) → (n : ℕ) → n < f.state.joined → IsTold w c n → is_over w n ≡ false → (r : Image) → IsLeft c r
+      → AgreeLeaving (before.arrays n) w.state r n → SupersAgree w.state r n × LeavesClean f w.state n r
+  marked_clean nobody w keeps c n less told goes r left at = (
+    at.agree,
+    clean_left f n before w c (λ z truth. founds nobody before (arrays_same v) n z less truth) (λ z truth. founds nobody w keeps n z less truth) small told goes r left at,
+  )
+    where
+      small : (z : Super) → truth_of f n ≡ Some z → z.size < 2 ^ 48
+      small z truth =
+          let one = got checked.arrays.items n (let count = m.founded.count in let most = ready in omega (arith, less, most, count)) in
+          let of = found.opened.each n one.0 one.1 in
+          subst (λ (k : Super). k.size < 2 ^ 48) (ap (λ (k : View). k.truth) of.view ∙ some_same of.truth z (sym of.truth_is ∙ truth)) (rules n one.0 one.1).small
+
   -- where a place is absent
   pub rack_still : gone_now ≡ absent → (w : Raid) (c : Seen) → Mends v w (slices_seen t x) c → MakesAgree v w (slices_seen t x) c → NoneFails (slices_seen t x) c
       → HoldsArrays f w (slices_seen t x) c
@@ -361,7 +390,10 @@ module _ (f : Found) (s : State) (t : Slices) (x : Seen) (checked : Checked) (ab
       (slices_seen t x) opens (stays_same (slices_seen t x) m.fit) (λ n place k low live. refl)
       (λ n less k spent after traced. leaves_same (slices_seen t x) (λ i. IsInside (sectors_of t) i → SaysBetween f.state k n (pool_values f n) spent (replayed (sectors_of t) i)))
       w c (subst (λ k. IsAfter k w.state) (state ∙ same) mends.moves.book) mends.moves.sectors marks
-      (marks.agree (subst (λ k. MakesAgree k w (slices_seen t x) c) before_is agree) quiet) (founds none w mends.moves.arrays)
+      (λ n less goes r left.
+      marked_clean none w mends.moves.arrays c n less (marks.told n less) goes r left
+      (marks.agree (subst (λ k. MakesAgree k w (slices_seen t x) c) before_is agree) quiet n less goes r left))
+      (founds none w mends.moves.arrays)
 
   -- where none is, and none goes
   pub rack_closed : absent ≡ [] → gone_now ≡ [] → (b : Seen) → ReplayCall l (current_places s) gone_now (slices_seen t x) b
@@ -382,7 +414,9 @@ module _ (f : Found) (s : State) (t : Slices) (x : Seen) (checked : Checked) (ab
       (says_closing f t x checked absent orderly m holds.steady pool found holds.sound rules v.arrays v.number now l log none number b call)
       w c (subst (λ k. IsAfter k w.state) (state ∙ same) mends.moves.book) mends.moves.sectors marks
       (elim either [
-        | inl made ↦ marks.agree (subst (λ k. MakesAgree k w b c) before_is made.0) made.1
+        | inl made ↦ λ n less goes r left.
+            marked_clean (nobody ∙ sym none) w mends.moves.arrays c n less (marks.told n less) goes r left
+            (marks.agree (subst (λ k. MakesAgree k w b c) before_is made.0) made.1 n less goes r left)
         | inr still ↦
             agree_still f t x checked absent orderly m holds.steady pool found holds.sound rules v.arrays v.number now l number log none still.2 b opens replay.stays kept w c
             still.0 (still.1 ∙ state ∙ same) mends.heeded marks

@@ -6,6 +6,7 @@ mod Apart
 mod Arrays
 mod Before
 mod Causes
+mod Clean
 mod Copied
 mod Drives
 mod Early

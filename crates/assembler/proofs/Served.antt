@@ -1,11 +1,18 @@
 -- Arrays that were made over the slices of a pool, and only read after that, serve it: they hold what the pool's do.
-use Rattle.std.proofs.Common.{◌≡◌, ℕ, ◌<◌, ◌≤◌, false, ◌&&◌, is_some, length, Some, sym, ap, subst, ◌∙◌, arith}
-use Rattle.rack.specs.Seen.{IsLive, Seen}
+use Rattle.std.proofs.Common.{◌≡◌, ℕ, ◌<◌, ◌≤◌, true, false, ◌&&◌, is_some, length, Option, Some, sym, ap, subst, ◌∙◌, arith}
+use Rattle.std.specs.Option.{option_map_or}
+use Rattle.arrayvec.specs.ArrayVec.{ArrayVec}
+use Rattle.rack.specs.Seen.{Image, IsLive, Seen}
 use Rattle.rack.specs.Sequences.{OnlyReads}
 use Rattle.slice_rack.specs.Slices.{Slices}
 use Rattle.pool_state.specs.declared.contents.State.{State}
 use Rattle.md_super.specs.declared.superblock.Super.{Super}
+use Rattle.array_image.specs.Arrays.{place_with}
+use Rattle.array_image.specs.Left.{IsLeft}
 use Rattle.array_image.specs.States.{is_current}
+use Rattle.array_image.specs.Supers.{is_named, is_unclean, super_in}
+use Rattle.array_core.specs.Model.{is_truth}
+use Rattle.array_core.proofs.Truths.{truth_facts}
 use Rattle.array_model.specs.View.{sectors_of as sectors_in, shape_of}
 use Rattle.pool_image.specs.Alike.{IsSamePool}
 use Rattle.pool_image.specs.Drives.{Found}
@@ -13,17 +20,23 @@ use Rattle.pool_image.specs.Meaning.{array_sectors, arrays_held, shape_of as sha
 use Rattle.pool_image.specs.Volumes.{Arrays}
 use Rattle.pool_image.proofs.Founds.{joined_same, super_same, truths_same}
 use Rattle.raid_rack.specs.declared.arrays.RaidRack.{RaidRack}
+use Rattle.raid_rack.specs.Agreeing.{SupersAgree}
 use Rattle.raid_rack.specs.AllRuns.{AreCalls}
 use Rattle.raid_rack.specs.Book.{IsAfter, after_then}
+use Rattle.raid_rack.specs.Cleaning.{NoneFails}
 use Rattle.raid_rack.specs.Laws.{live_parts}
 use Rattle.raid_rack.specs.Raid.{Raid, is_over}
-use Rattle.raid_rack.specs.RaidRack.{IsFit, arrays_in, raid_in, raid_seen, slices_seen}
-use Rattle.pool_model.specs.Left.{IsServed}
+use Rattle.raid_rack.specs.RaidRack.{IsFit, arrays_in, raid_in, raid_seen, slices_seen, written_in}
+use Rattle.raid_rack.proofs.AgreeStill.{agree_spared, truth_spared}
+use Rattle.pool_model.specs.Left.{IsServed, LeavesClean}
 use Rattle.pool_model.specs.Pools.{AreSlicesOf}
+use Rattle.pool_model.proofs.Refused.{HoldSupers}
 use Rattle.pool_model.proofs.Values.{HoldValues}
 use Rattle.assembler.specs.Holding.{HoldsArrays}
-use Rattle.assembler.specs.Volume.{AllLive}
+use Rattle.assembler.specs.Volume.{AllLive, AreStill}
+use Rattle.assembler.proofs.Clean.{earlier_told}
 use Rattle.assembler.proofs.Founded.{array_later, array_same}
+use Rattle.assembler.proofs.Roles.{named_position}
 use Rattle.assembler.proofs.Shapes.{shape_same}
 
 module _ {R : Type 0} (seen : R → Seen) (runs : R → R → Type 0) (e f : Found) (pool : IsSamePool e f) (a : Seen) (raid last : RaidRack R)
@@ -110,3 +123,44 @@ module _ {R : Type 0} (seen : R → Seen) (runs : R → R → Type 0) (e f : Fou
 
       held_same : (n x : ℕ) → arrays_held f n x ≡ arrays_held e n x
       held_same n x = ap (λ (k : Arrays). k.contents n x) (joined_same e f pool)
+
+  -- nor are their superblocks others, where no drive refused a call
+  module _ (before : IsFit (arrays_in raid) (slices_seen seen raid)) (still : AreStill seen raid last) (fresh : (n : ℕ) → written_in raid n ≡ false)
+      (none : NoneFails (slices_seen seen raid) y) where
+    module _ (n : ℕ) (low : n < f.state.joined) where
+      goes : is_over (raid_in raid) n ≡ false
+      goes = kept.1.still n (lasts n low)
+
+      agree : (r : Image) → IsLeft y r → SupersAgree v.state r n
+      agree =
+          agree_spared (written_in raid) (written_in last) (raid_in raid) v (slices_seen seen raid) y before.running.set before.heeded still.fit.heeded kept.1 still.spares none
+          n (made_low n low) (still.unwritten n ∙ fresh n) (holds.told n low) (lasts n low) (holds.agree n low goes)
+
+      clean : (r : Image) → IsLeft y r → LeavesClean f v.state n r
+      clean r left t u truth whole is =
+          truth_spared (written_in raid) (written_in last) (raid_in raid) v (slices_seen seen raid) y before.running.set before.heeded still.fit.heeded kept.1 still.spares none
+          n (made_low n low) (still.unwritten n ∙ fresh n) (holds.told n low) (lasts n low) (λ z. is_unclean z ≡ false)
+          (λ i there z at. holds.clean n low goes i there t z truth whole at) r left u is
+
+      there : (t : Super) → truth_of f n ≡ Some t → is_truth t ≡ true → (p : ℕ) (r : Image) → is_current v.state p ≡ true → is_named t p ≡ true → IsLeft y r
+          → is_some (super_in v.state r n p) ≡ true
+      there t truth usable p r current named left =
+          let facts = truth_facts t usable in
+          let at = named_position t p facts.positions facts.few named in
+          let agrees = agree r left in
+          let earlier = earlier_told v y n (kept.1.told n (holds.told n low)) (lasts n low) r left agrees.truth agrees.leads in
+          let of = array_later f n t ((raid_in raid).arrays n) (v.arrays n) (holds.arrays n t low truth) (kept.2.arrays n (made_low n low)) in
+          let disks : agrees.truth.raid_disks ≡ t.raid_disks = ap (λ (z : Super). z.raid_disks) earlier.fields ∙ of.geometry.disks in
+          let roles : agrees.truth.roles ≡ t.roles = ap (λ (z : Super). z.roles) earlier.fields ∙ of.geometry.roles in
+          agrees.there at.0 p (let below = at.1 in omega (arith, below, disks)) (ap (λ (k : ArrayVec ℕ). place_with k.items at.0) roles ∙ at.2) current
+
+    pub supers_kept : ((n : ℕ) (t : Super) → n < f.state.joined → truth_of f n ≡ Some t → is_truth t ≡ true)
+        → ((n : ℕ) → n < e.state.joined → (u : Super) × (truth_of e n ≡ Some u)) → HoldSupers e v y
+    supers_kept usable truths = record {
+      there = λ n p r low current member left.
+          let less = low_of n low in
+          let one = truths n low in
+          let truth = truths_same e f pool n ∙ one.1 in
+          there n less one.0 truth (usable n one.0 less truth) p r current (sym (ap (λ (o : Option Super). option_map_or (λ z. is_named z p) o false) one.1) ∙ member) left;
+      clean = λ n r low left t u truth whole is. clean n (low_of n low) r left t u (truths_same e f pool n ∙ truth) whole is;
+    }

@@ -7,7 +7,7 @@ use Rattle.arrayvec.specs.ArrayVec.{ArrayVec}
 use Rattle.rack.specs.Seen.{Seen}
 use Rattle.slice_rack.specs.Slices.{Slices, disk_of, first_of as slice_first, sectors_of}
 use Rattle.md_super.specs.declared.superblock.Super.{Super}
-use Rattle.array_image.specs.Arrays.{Member, Shape, final_layout, first_layout, member_by, member_in, place_with, shape_by}
+use Rattle.array_image.specs.Arrays.{Member, final_layout, first_layout, member_by, member_in, place_with, shape_by}
 use Rattle.array_image.specs.Places.{member_slice, place_of, super_sector}
 use Rattle.array_image.specs.States.{is_current}
 use Rattle.array_image.specs.Supers.{is_rebuilding, is_reshaping}

@@ -23,11 +23,11 @@ use Rattle.pool_image.proofs.Joined.{bad_same, group_same}
 use Rattle.pool_image.proofs.Parts.{held_in as shown_in}
 use Rattle.shr_base.specs.declared.Id.{Id}
 use Rattle.raid_rack.specs.declared.arrays.RaidRack.{RaidRack}
-use Rattle.raid_rack.specs.AllRuns.{AreCalls}
+use Rattle.raid_rack.specs.AllRuns.{AreCalls, Spares}
 use Rattle.raid_rack.specs.Book.{IsSameBook}
 use Rattle.raid_rack.specs.Raid.{held_in, is_used_up}
 use Rattle.raid_rack.proofs.Live.{runs_live, runs_unused}
-use Rattle.raid_rack.specs.RaidRack.{IsFit, arrays_in, raid_in, raid_seen, refused_in, slices_in, slices_seen}
+use Rattle.raid_rack.specs.RaidRack.{IsFit, arrays_in, raid_in, raid_seen, refused_in, slices_in, slices_seen, written_in}
 use Rattle.assembler.specs.declared.refusal.Refusal.{Refusal}
 use Rattle.assembler.specs.declared.refusal.Refusal.TheVariants.{BadVolume, Memory}
 use Rattle.assembler.specs.Holding.{HoldsArrays}
@@ -185,9 +185,9 @@ live_later seen runs x y kept before after quiet ready unused alive n s joined i
 pub unopened_cause : {R : Type 0} (seen : R → Seen) (x y : RaidRack R) (why : Refusal) (f : VolumeFault) → IsFit (arrays_in y) (slices_seen seen y)
     → why ≡ (if is_used_up (raid_in y) then Memory else by_volume f)
     → IsUnopened (raid_in x).state.pool.0 (raid_in x).state.extent (raid_in x).state.joined (raid_seen seen x) (raid_seen seen y) f
-    → OnlyReads (raid_seen seen x) (raid_seen seen y)
+    → OnlyReads (raid_seen seen x) (raid_seen seen y) → ((n : ℕ) → written_in y n ≡ written_in x n) → Spares (written_in y) (slices_seen seen x) (slices_seen seen y)
     → ((why ≡ Memory) × IsShort seen x y) ⊎ ((array : ℕ) × (why ≡ BadVolume array) × HasBadVolume seen x y array)
-unopened_cause seen x y why f fit is unopened reads = by (is_used_up (raid_in y)) refl
+unopened_cause seen x y why f fit is unopened reads unwritten spares = by (is_used_up (raid_in y)) refl
   where
     of : AreStill seen x y → (k : VolumeFault) → why ≡ by_volume k
         → IsUnopened (raid_in x).state.pool.0 (raid_in x).state.extent (raid_in x).state.joined (raid_seen seen x) (raid_seen seen y) k
@@ -198,4 +198,4 @@ unopened_cause seen x y why f fit is unopened reads = by (is_used_up (raid_in y)
     by : (b : Bool) → is_used_up (raid_in y) ≡ b → ((why ≡ Memory) × IsShort seen x y) ⊎ ((array : ℕ) × (why ≡ BadVolume array) × HasBadVolume seen x y array)
     by true used = inl (is ∙ ap (λ b. if b then Memory else by_volume f) used, inr used)
     by false unused =
-        of (record { reads = reads; fit = fit; unused = unused }) f (is ∙ ap (λ b. if b then Memory else by_volume f) unused) unopened
+        of (record { reads = reads; fit = fit; unwritten = unwritten; spares = spares; unused = unused }) f (is ∙ ap (λ b. if b then Memory else by_volume f) unused) unopened

@@ -20,6 +20,7 @@ use Rattle.pool_image.specs.Meaning.{array_sectors, arrays_held, super_at, truth
 use Rattle.pool_scan.specs.declared.Known.{Known}
 use Rattle.pool_scan.specs.Choosing.{AreOf}
 use Rattle.pool_scan.specs.Scanning.{AllTold, now_in}
+use Rattle.pool_model.specs.Left.{LeavesClean}
 use Rattle.pool_model.specs.Pools.{IsSoundPool}
 use Rattle.pool_rest.specs.Standing.{IsLasting}
 use Rattle.pool_rest.specs.Resting.{AreSectors, AreSingle, StandsNow}
@@ -89,6 +90,7 @@ pool_values f n y = only (arrays_held f n y)
 pub record IsArrayOf (f : Found) (n : ℕ) (t : Super) (v : View) : Type 0 where
   pub geometry : HasGeometry t v.truth
   pub rows : v.resync ≡ first_unsynced t
+  pub young : v.young ≡ false
   pub members :
       (k : ℕ) → k < t.raid_disks
       → (slice_get v.seats k ≡ Some Missing) ⊎ (slice_get v.seats k ≡ Some (option_map_or seat_by (super_at f n (place_by t k)) Missing))
@@ -110,3 +112,5 @@ pub record HoldsArrays (f : Found) (v : Raid) (a b : Seen) : Type 0 where
       → Leaves a b (λ c. IsInside a.sectors c → SaysBetween f.state v.state n (pool_values f n) (spent_of v n) (replayed a.sectors c))
   -- the superblocks of each agree, durably
   pub agree : (n : ℕ) → n < f.state.joined → is_over v n ≡ false → (r : Image) → IsLeft b r → SupersAgree v.state r n
+  -- and leave no row to resync where the pool's left none
+  pub clean : (n : ℕ) → n < f.state.joined → is_over v n ≡ false → (r : Image) → IsLeft b r → LeavesClean f v.state n r

@@ -93,8 +93,8 @@ HaveAgreed f s x = (n : ℕ) → n < f.state.joined → (r : Image) → IsLeft x
 
 -- Disks of a pool that was refused once its arrays were made: by slices of its drives what a stop left since x, or leaves now, holds the arrays that the
 -- pool had, and each drive has its partition table at every moment. Whatever the disks may be left with now holds a sound pool again, by a state to
--- which just the marks of drives that have no disk have come, and that pool has the same group, the same shapes of arrays, the same bad arrays and the same volumes. So it is
--- where all arrays are ready for the volume, and no superblock stands where a drive that is no member of an array would have its slice.
+-- which just the marks of drives that have no disk have come, and that pool has the same group, the same shapes of arrays, the same bad arrays and the same volumes; it is
+-- refused as the disks were before. So it is where all arrays are ready for the volume, and no superblock stands where a drive that is no member of an array would have its slice.
 pub record KeepsPool (x y : Seen) (f : Found) : Type 0 where
   pub slices : Slices
   pub are : AreSlicesOf f slices
@@ -104,6 +104,7 @@ pub record KeepsPool (x y : Seen) (f : Found) : Type 0 where
   pub after : IsAfter f.state state
   pub marks : (p : ℕ) → is_current state p ≡ (is_current f.state p && is_some (f.seats p))
   pub again : f.state.joined ≡ f.state.made → (i : Image) → IsPick y y y.held i → AreAlone f i → HoldSame f slices state i
+  pub refusal : f.state.joined ≡ f.state.made → (i : Image) → IsPick y y y.held i → AreAlone f i → refusal_of (disks_of y) i ≡ refusal_of (disks_of x) (now_in x)
 
 -- the meaning of these disks is refused so
 abbrev pub IsMeantRefusal : Seen → Refusal → Type 0

@@ -16,7 +16,7 @@ use Rattle.pool_image.specs.Volumes.{first_bad, linear_of}
 use Rattle.raid_rack.specs.declared.arrays.RaidRack.{RaidRack}
 use Rattle.array_model.specs.View.{sectors_of}
 use Rattle.raid_rack.specs.Raid.{Raid, is_used_up, live_of}
-use Rattle.raid_rack.specs.AllRuns.{AreCalls, AreRuns}
+use Rattle.raid_rack.specs.AllRuns.{AreCalls, AreRuns, Spares}
 use Rattle.raid_rack.specs.Agreeing.{MakesAgree}
 use Rattle.raid_rack.specs.RaidRack.{IsFit, KeepsRack, arrays_in, raid_in, raid_seen, slices_in, slices_seen, written_in}
 use Rattle.slice_rack.specs.SliceRack.{below_of}
@@ -41,10 +41,13 @@ pub record OpensVolume {R : Type 0} (seen : R → Seen) (runs : R → R → Type
   pub kept : AreCalls seen runs x y
   pub unused : is_used_up (raid_in y) ≡ false
 
--- Nothing was written on arrays, which were y then, and numbers aren't used up.
+-- Nothing was written on arrays, which were y then, and numbers aren't used up. Where no drive refused a call, the slices of those that hadn't
+-- been written hold what they held.
 pub record AreStill {R : Type 0} (seen : R → Seen) (x y : RaidRack R) : Type 0 where
   pub reads : OnlyReads (raid_seen seen x) (raid_seen seen y)
   pub fit : IsFit (arrays_in y) (slices_seen seen y)
+  pub unwritten : (n : ℕ) → written_in y n ≡ written_in x n
+  pub spares : Spares (written_in y) (slices_seen seen x) (slices_seen seen y)
   pub unused : is_used_up (raid_in y) ≡ false
 
 -- No memory could be had, and nothing was written; or numbers are used up.

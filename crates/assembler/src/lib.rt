@@ -20,7 +20,7 @@
 //! each disk that is left was read, and the logs are those of the pool's drives (`RefusesDrives`); or a bad array of those that the disks left make
 //! (`RefusesArrays`). How many drives are wanting is said, by what was read, of disks that tell nothing too. Sound disks that refuse no call mean what they meant after a
 //! refusal before the arrays are made; where an array's part of the volume group is bad, what a stop leaves holds the arrays that the pool had, each
-//! drive has its partition table, and in the end the disks hold a sound pool again, with the same group, shapes of arrays, bad arrays and volumes (`KeepsPool`).
+//! drive has its partition table, and in the end the disks hold a sound pool again, with the same group, shapes of arrays, bad arrays and volumes, and are refused as they were (`KeepsPool`).
 //! After want of memory it is one or the other, unless numbers are used up (`LeavesPool` of
 //! specs/Wanting.antt). Whoever goes, a drive is marked missing only where it had no disk, or that refused a call (`MarksDrives` of specs/Marking.antt).
 //!

@@ -172,7 +172,7 @@ pub fn assemble<R: Rack>(
     ensures unmoved { IfErr result (λ back. (f : Found) → HoldSound (R.seen rack) f → IsUnfaulted (R.seen rack) (R.seen back.rack)
         → is_early back.why ≡ true → MeansTheSame (disks_of (R.seen rack)) (now_in (R.seen rack)) (now_in (R.seen back.rack))) }
     // And where an array's part of the volume is bad, what a stop leaves holds the arrays that the pool had, each drive has its table, and in the
-    // end the disks hold a sound pool again, with the same group, bad arrays and volumes.
+    // end the disks hold a sound pool again, with the same group, bad arrays and volumes, which is refused as they were.
     ensures still { IfErr result (λ back. (f : Found) → HoldSound (R.seen rack) f → IsUnfaulted (R.seen rack) (R.seen back.rack)
         → (array : ℕ) → back.why ≡ BadVolume array → KeepsPool (R.seen rack) (R.seen back.rack) f) }
     // Where memory is wanting they mean what they meant, or hold the arrays that the pool had, unless numbers are used up.

@@ -13,7 +13,7 @@ ghost use Rattle.lvm_group.specs.Shown.{total};
 ghost use Rattle.raid_rack.specs.Agreeing.{MakesAgree};
 ghost use Rattle.raid_rack.specs.Book.{IsAfter};
 ghost use Rattle.raid_rack.specs.Moves.{AreMarked, Mends};
-ghost use Rattle.raid_rack.specs.RaidRack.{IsFit, IsRunning, SliceRuns, arrays_in, raid_in, raid_seen, refused_in, slices_in, slices_seen};
+ghost use Rattle.raid_rack.specs.RaidRack.{IsFit, IsRunning, SliceRuns, arrays_in, raid_in, raid_seen, refused_in, slices_in, slices_seen, written_in};
 ghost use Rattle.commit_log.specs.Opening.{ReplayCall};
 ghost use Rattle.pool_image.specs.Drives.{Found};
 ghost use Rattle.pool_scan.specs.Scanning.{IsUnfaulted};
@@ -88,6 +88,7 @@ fn mark_gone<R: Rack>(raid: &mut RaidRack<R>, is_stale: bool)
         → (slices_in raid.new ≡ slices_in raid.old) × ((raid_in raid.new).state ≡ (raid_in raid.old).state) }
     ensures fit { IsFit (arrays_in raid.new) (slices_seen R.seen raid.new) }
     ensures refused { (n : ℕ) → refused_in raid.new n ≡ refused_in raid.old n }
+    ensures written { (n : ℕ) → written_in raid.new n ≡ written_in raid.old n }
     ensures runs { SliceRuns R.seen R.runs (slices_in raid.old) (slices_in raid.new) }
 {
     raid.mark_gone();
@@ -109,6 +110,7 @@ pub(crate) fn make_rack<R: Rack>(members: Members<R>, seconds: u64) -> RaidRack<
     ensures only { WritesOnly (R.seen (below_of members.slices)) (R.seen (below_of (slices_in result)))
         (IsSlicedOrTable (R.seen (below_of members.slices)) (tables members.slices)) }
     ensures fresh { (n : ℕ) → refused_in result n ≡ 0 }
+    ensures unwritten { (n : ℕ) → written_in result n ≡ false }
     ensures made { (raid_in result).state.made ≡ members.state.made }
     ensures joined { (raid_in result).state.joined ≡ members.state.joined }
     ensures extent { (raid_in result).state.extent ≡ members.state.extent }

@@ -67,7 +67,7 @@ module _ (f : Found) (t : Slices) (v : Raid) (y : Seen) (i : Image) (known : IsK
     pub is_is : truth_in book held n ≡ Some is
     is_is = truth_there.1
 
-    earlier : IsEarlier is (v.arrays n).truth
+    pub earlier : IsEarlier is (v.arrays n).truth
     earlier =
         (stood f t v y i known n low).holds.truth held left is
         (subst (λ k. truth_in book held k ≡ Some is) (sym (stood f t v y i known n low).number) is_is)
@@ -75,7 +75,7 @@ module _ (f : Found) (t : Slices) (v : Raid) (y : Seen) (i : Image) (known : IsK
     geometry : HasGeometry was (v.arrays n).truth
     geometry = known.served.geometry n was low was_is
 
-    size_same : is.size ≡ was.size
+    pub size_same : is.size ≡ was.size
     size_same = ap (λ (z : Super). z.size) earlier.fields ∙ geometry.size
 
     pub named_same : (p : ℕ) → is_named is p ≡ is_named was p

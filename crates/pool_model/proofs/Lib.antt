@@ -9,3 +9,17 @@ pub mod Extents
 pub mod Again
 pub mod Undamaged
 pub mod Values
+pub mod Refused
+pub mod Skipped
+pub mod Lacking
+pub mod Spare
+pub mod Roles
+pub mod Standing
+pub mod Away
+pub mod Unrefused
+pub mod Members
+pub mod Without
+pub mod Absent
+pub mod Ended
+pub mod EndedWhole
+mod AbsentExamples

@@ -20,7 +20,7 @@ has_id id drive = bytes_eq drive.id.0 id
 
 -- ---- lists of drives with the same ids
 
-same_length : (ds es : List Drive) → map drive_of ds ≡ map drive_of es → length ds ≡ length es
+pub same_length : (ds es : List Drive) → map drive_of ds ≡ map drive_of es → length ds ≡ length es
 same_length [] [] same = refl
 same_length [] (e ∷ es) same = absurd (let no : [] ≡ (drive_of e ∷ map drive_of es) = same in cc)
 same_length (d ∷ ds) [] same = absurd (let no : (drive_of d ∷ map drive_of ds) ≡ [] = same in cc)

@@ -35,7 +35,7 @@ module _ (f : Found) (t : Slices) (v : Raid) (y : Seen) (i : Image) (known : IsK
   first_book = let first = first_epoch f known.is in let up = no_earlier f t v y i known in omega (arith, first, up)
 
   -- a current place's drive stands for it
-  stands_now : (p d : ℕ) → is_current book p ≡ true → f.seats p ≡ Some d → stands_for book (says d) ≡ Some p
+  pub stands_now : (p d : ℕ) → is_current book p ≡ true → f.seats p ≡ Some d → stands_for book (says d) ≡ Some p
   stands_now p d now seat =
       let copy = copy_now f t v y i known p d seat now in
       let named : IsNamed f.state (f.identities d) p = stands_named f.state (f.identities d) p (ahead_of f t v y i known p d seat).stands in

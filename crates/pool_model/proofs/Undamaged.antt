@@ -36,7 +36,7 @@ none_kept p keep (x ∷ xs) each = of (keep x) refl (none_kept p keep xs each)
     of true is rest = ap (λ b. if b then x ∷ filter p (filter keep xs) else filter p (filter keep xs)) (each x is) ∙ rest
     of false is rest = rest
 
-all_below : (p q : ℕ → Bool) (a m : ℕ) → ((n : ℕ) → n < a + m → p n ≡ q n) → list_all p (range_with_len a m) ≡ list_all q (range_with_len a m)
+pub all_below : (p q : ℕ → Bool) (a m : ℕ) → ((n : ℕ) → n < a + m → p n ≡ q n) → list_all p (range_with_len a m) ≡ list_all q (range_with_len a m)
 all_below p q a zero same = refl
 all_below p q a (suc m) same = ap₂ (λ b rest. b && rest) (same a (omega arith)) (all_below p q (a + 1) m (λ n low. same n (omega (arith, low))))
 

@@ -11,7 +11,7 @@ use Rattle.array_model.specs.View.{sectors_of as sectors_in, shape_of}
 use Rattle.raid_rack.specs.Raid.{Raid, held_in, live_of}
 use Rattle.pool_image.specs.Drives.{Found, slices_of}
 use Rattle.pool_image.specs.Meaning.{array_sectors, arrays_held, joined_arrays, shape_of as shape_found}
-use Rattle.pool_image.specs.Volumes.{Arrays}
+use Rattle.pool_image.specs.Volumes.{Arrays, first_bad}
 use Rattle.pool_image.proofs.Groups.{AreWholeArrays}
 use Rattle.pool_image.proofs.Joined.{AreAlike, bad_kept, group_kept, volumes_kept}
 use Rattle.pool_scan.proofs.Valid.{valid_arrays}
@@ -86,6 +86,12 @@ module _ (f : Found) (t : Slices) (v : Raid) (y : Seen) (i : Image) (known : IsK
   abbrev after : Arrays
   after = joined_arrays g
 
+  pub shape_same : (n : ℕ) → n < f.state.joined → shape_found g n ≡ shape_found f n
+  shape_same n low = shape_now n low ∙ sym (holds.shapes n low)
+
+  pub bad_same : first_bad after ≡ first_bad before
+  bad_same = bad_kept after before alike whole
+
   pub same_again : HoldSame f t book i
   unfolding known_again
   same_again = record {
@@ -93,9 +99,9 @@ module _ (f : Found) (t : Slices) (v : Raid) (y : Seen) (i : Image) (known : IsK
     sectors = sectors_now;
     values = λ n x low inside. values_now n low x inside;
     group = group_kept after before alike whole;
-    bad = bad_kept after before alike whole;
+    bad = bad_same;
     present = present_now f t v y i known;
     parts = λ p d here seat. sound_parts f t v y i known p d here seat;
-    shapes = λ n low. shape_now n low ∙ sym (holds.shapes n low);
+    shapes = shape_same;
     volumes = λ sound. volumes_kept after before alike whole all_valid.0 sound;
   }

@@ -12,7 +12,7 @@ use Rattle.array_image.specs.Arrays.{arrays_in, replayed}
 use Rattle.array_image.specs.Left.{Picks}
 use Rattle.array_image.specs.Places.{log_slice, member_slice, super_sector}
 use Rattle.array_image.specs.States.{is_current}
-use Rattle.array_image.specs.Supers.{super_of}
+use Rattle.array_image.specs.Supers.{is_unclean, super_of, truth_in}
 use Rattle.array_model.specs.View.{HasGeometry}
 use Rattle.pool_image.specs.Disks.{identities_of}
 use Rattle.pool_image.specs.Drives.{Found, extent_of, first_of, found}
@@ -92,6 +92,10 @@ pub record HasSoundParts (f g : Found) (p d : ℕ) : Type 0 where
   pub table : has_table g p d ≡ has_table f p d
   pub copy : is_some (g.identities d).copied ≡ true
   pub log : has_log g p ≡ true
+
+-- By this state the truth of an array in contents leaves no row to resync where that of the pool leaves none.
+abbrev pub LeavesClean : Found → State → ℕ → Image → Type 0
+LeavesClean f s n r = (t u : Super) → truth_of f n ≡ Some t → is_unclean t ≡ false → truth_in s r n ≡ Some u → is_unclean u ≡ false
 
 -- Such a pool, whose arrays hold what those of f do, where they are ready for the volume: so their group is the same, and the lowest bad array.
 -- Where none is bad they make the same volumes. No place is absent, and of each drive the table is as it was, and the copy and the log are sound.

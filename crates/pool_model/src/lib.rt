@@ -10,4 +10,7 @@
 //! (`left_again`; by contents of the slices, `opens_again`). Calls that write slices alone leave the rest of the disks as it was (`rest_later`).
 //! `proofs/Values.antt`: where no sector is spent and the arrays have the shapes of the pool's and hold what those did, their shapes, their group, the
 //! lowest bad array and the volumes are the same (`same_again`). `proofs/Named.antt`: which place a disk stands for goes by the ids of the drives (`seat_ahead`, `copy_names`).
+//! `proofs/Absent.antt`: any one drive of a whole pool may be absent, `IsWholePool` (`specs/Absent.antt`): the disks without its disk mean what all of
+//! them mean (`safe_in_absence`). `proofs/EndedWhole.antt`: so it is of all that disks may be left with by a pool that has ended whole, by its
+//! book and its slices, `EndsWhole` (`left_absent`).
 #![tactic(auto)]

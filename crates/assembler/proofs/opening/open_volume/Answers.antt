@@ -69,6 +69,6 @@ returns-in-Err-clause-refused g c =
           (c.give_back-in-Err.ensures.why ∙ c.unopened-why.ensures.why)
           (subst (λ (s : State). IsUnopened s.pool.0 s.extent s.joined (raid_seen seen c.args.raid) (raid_seen seen back.rack) back.why)
           c.state-state.ensures c.in-Err.ensures.refused)
-          c.in-Err.ensures.looked;
+          c.in-Err.ensures.looked c.in-Err.ensures.unwritten kept.3;
       kept = (kept.0, kept.1, kept.2);
     }

@@ -155,6 +155,9 @@ returns-clause-small g c =
 pub returns-clause-fresh : goal.returns-clause-fresh
 returns-clause-fresh g c n = c.mark_gone.ensures.refused n ∙ c.new-raid.ensures.refused n
 
+pub returns-clause-unwritten : goal.returns-clause-unwritten
+returns-clause-unwritten g c n = c.mark_gone.ensures.written n ∙ c.new-raid.ensures.written n
+
 pub returns-clause-mended : goal.returns-clause-mended
 returns-clause-mended g c quiet p disk seat =
     let m = c.args.members in

@@ -1,4 +1,4 @@
-use Rattle.std.proofs.Common.{inl, inr}
+use Rattle.std.proofs.Common.{◌∙◌, inl, inr}
 use Rattle.std.proofs.lemmas.Bool.{both_ways}
 use Rattle.slice_rack.specs.SliceRack.{below_of, tables}
 use Rattle.slice_rack.specs.Runs.{runs_join}
@@ -35,6 +35,9 @@ returns-then-is_stale-clause-runs g c =
     let two = c.restate.ensures.runs in
     runs_join (tables x) (tables y) (tables z) (seen (below_of x)) (seen (below_of y)) (seen (below_of z)) (runs (below_of x) (below_of y)) (runs (below_of y) (below_of z))
     (runs (below_of x) (below_of z)) one two (g.met.R.Rack.runs_then _ _ _ one.below two.below)
+
+pub returns-then-is_stale-clause-written : goal.returns-then-is_stale-clause-written
+returns-then-is_stale-clause-written g c n = c.restate.ensures.written n ∙ c.mark_gone.ensures.written n
 
 pub returns-else-is_stale-clause-supers : goal.returns-else-is_stale-clause-supers
 returns-else-is_stale-clause-supers g c why =

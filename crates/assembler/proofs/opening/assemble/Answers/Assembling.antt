@@ -14,10 +14,12 @@ use Rattle.slice_rack.specs.Runs.{IsSliced, inside_still}
 use Rattle.slice_rack.specs.Slices.{Slices, disk_of, seat_of}
 use Rattle.lvm_group.specs.Volume.{below_of as rack_in}
 use Rattle.pool_image.specs.Alike.{IsSamePool}
-use Rattle.pool_image.specs.Disks.{disks_of}
+use Rattle.md_super.specs.declared.superblock.Super.{Super}
+use Rattle.pool_image.specs.Disks.{Disks, disks_of}
 use Rattle.pool_image.specs.Drives.{Found}
-use Rattle.pool_image.specs.Meaning.{bad_volume, joined_arrays, refused_by}
+use Rattle.pool_image.specs.Meaning.{bad_volume, joined_arrays, refusal_of, refused_by, truth_of}
 use Rattle.pool_image.specs.Volumes.{first_bad}
+use Rattle.pool_image.proofs.Founds.{joined_same, refused_same}
 use Rattle.pool_scan.specs.declared.Known.{Known}
 use Rattle.pool_scan.specs.Choosing.{seat_by}
 use Rattle.pool_check.specs.Checking.{IsChecked}
@@ -28,7 +30,7 @@ use Rattle.array_model.specs.View.{HasFault}
 use Rattle.pool_scan.specs.Scanning.{IsUnfaulted, now_in}
 use Rattle.pool_scan.proofs.Valid.{valid_arrays}
 use Rattle.raid_rack.specs.Book.{IsAfter}
-use Rattle.raid_rack.specs.Raid.{is_used_up}
+use Rattle.raid_rack.specs.Raid.{Raid, is_used_up}
 use Rattle.raid_rack.proofs.Live.{runs_unused}
 use Rattle.assembler.specs.declared.refusal.Refusal.{Refusal}
 use Rattle.assembler.specs.declared.refusal.Refusal.TheVariants.{BadVolume, Memory}
@@ -39,7 +41,9 @@ use Rattle.assembler.specs.Members.{AreMembers}
 use Rattle.pool_model.specs.Left.{AreAlone, AreElsewhere, HoldSame, IsPickOff, IsServed}
 use Rattle.pool_model.specs.Pools.{AreSlicesOf}
 use Rattle.pool_model.proofs.Again.{left_known}
+use Rattle.pool_model.proofs.Copies.{IsKnown}
 use Rattle.pool_model.proofs.Found.{found_is, some_made}
+use Rattle.pool_model.proofs.Refused.{HoldSupers, refusal_now}
 use Rattle.pool_model.proofs.Values.{HoldValues, same_again}
 use Rattle.assembler.specs.Sound.{HoldSound, KeepsPool, MayStop}
 use Rattle.assembler.specs.Volume.{AllLive, AreStill}
@@ -50,12 +54,13 @@ use Rattle.assembler.proofs.Drives.{members_drives}
 use Rattle.assembler.proofs.Early.{early_leaves}
 use Rattle.assembler.proofs.Elsewhere.{elsewhere}
 use Rattle.assembler.proofs.Finding.{same as found_by_rest}
-use Rattle.assembler.proofs.Entry.{IsRested, quiet_first, quiet_last, pool_same, rest_found, rested_so}
+use Rattle.assembler.proofs.Clean.{usable_truth}
+use Rattle.assembler.proofs.Entry.{IsRested, only_pool, quiet_first, quiet_last, pool_same, refusal_entry, rest_found, rested_so}
 use Rattle.assembler.proofs.Leaving.{IsAsRead, refused_leaves}
 use Rattle.assembler.proofs.Marks.{marks_still}
 use Rattle.assembler.proofs.Meaning.{check_passes}
 use Rattle.assembler.proofs.Mended.{opening_keeps}
-use Rattle.assembler.proofs.Served.{shapes_kept, later, served, values_kept}
+use Rattle.assembler.proofs.Served.{shapes_kept, later, served, supers_kept, values_kept}
 use Rattle.assembler.proofs.Volumes.{live_later}
 use Rattle.assembler.proofs.Lies.{slices_lie, slices_same}
 use Rattle.assembler.proofs.opening.assemble.Given.{Over}
@@ -381,36 +386,87 @@ module _ (g : Over) (c : In-Err-open_volume g) where
           refused.kept.1 c.make_rack.ensures.fit.heeded still.fit.heeded nobody_went p
           ∙ marks_made g built made_quiet e sound p
 
-      -- whatever the disks may be left with holds the pool again
-      pub pool_again : e.state.joined ≡ e.state.made → (i : Image) → IsPick ended ended ended.held i → AreAlone e i
-          → HoldSame e (t g built) (raid_in c.in-Err-open_volume.ensures.refused.last).state i
-      pool_again all i pick alone =
-          let seen = g.R.Rack.seen in
-          let runs = g.R.Rack.runs in
-          let raid = c.make_rack.result in
-          let refused = c.in-Err-open_volume.ensures.refused in
-          let pool = same g built made_quiet e sound in
-          let has = arrays g built made_quiet e sound in
-          let there : tables (slices_in refused.last) ≡ t g built = refused.kept.0.tables ∙ c.make_rack.ensures.tables in
-          let v = raid_in refused.last in
-          let own : AreSlicesOf e (t g built) = slices_same e (f g built made_quiet e sound) pool (t g built) (lie g built made_quiet e sound) in
-          let serves : IsServed e (t g built) v (slices_of (t g built) ended) =
-          subst (λ u. IsServed e (t g built) v (slices_of u ended)) there
-          (served seen runs e (f g built made_quiet e sound) pool (slices_of (t g built) (y g built)) raid refused.last refused.kept has live_still (ready g built) (t g built) own all) in
-          let few = (some_made e (found_is (disks_of (a g built)) (now_in (a g built)) e sound.found_is).0).1 in
-          let shapes =
-          shapes_kept seen runs e (f g built made_quiet e sound) pool (slices_of (t g built) (y g built)) raid refused.last refused.kept has live_still (ready g built)
-          (t g built) own (omega (arith, few, all))
-          (λ n low. let truth = sound.sound.rules.arrays n (subst (λ k. n < k) all low) in (truth.0, truth.1)) still.fit marks_kept in
-          let values : HoldValues e v (slices_of (t g built) ended) =
-          subst (λ u. HoldValues e v (slices_of u ended)) there
-          (values_kept seen runs e (f g built made_quiet e sound) pool (slices_of (t g built) (y g built)) raid refused.last refused.kept has live_still (ready g built) still.reads shapes) in
-          let stays : Stays (y g built) ended = stays_then (yz g built) calls.stays in
-          let whole : Stays (a g built) ended = stays_then (ay g built) stays in
-          same_again e (t g built) v (slices_of (t g built) ended) i
-          (left_known e (t g built) ended v serves (inside_still stays (members g built made_quiet e sound).fit.1) (disks_of (a g built)) (now_in (a g built)) i sound.found_is
-          (disks_still (a g built) ended whole) sound.sound (off_slices g built made_quiet e sound ended own_calls i (λ d u live never. pick d u live)) alone pick)
-          values
+      -- ---- where all arrays are ready for the volume
+
+      abbrev v : Raid
+      v = raid_in c.in-Err-open_volume.ensures.refused.last
+
+      abbrev shown : Seen
+      shown = slices_of (t g built) ended
+
+      own_slices : AreSlicesOf e (t g built)
+      own_slices = slices_same e (f g built made_quiet e sound) (same g built made_quiet e sound) (t g built) (lie g built made_quiet e sound)
+
+      same_tables : tables (slices_in c.in-Err-open_volume.ensures.refused.last) ≡ t g built
+      same_tables = c.in-Err-open_volume.ensures.refused.kept.0.tables ∙ c.make_rack.ensures.tables
+
+      whole : Stays (a g built) ended
+      whole = stays_then (ay g built) (stays_then (yz g built) calls.stays)
+
+      module _ (all : e.state.joined ≡ e.state.made) where
+        truths : (n : ℕ) → n < e.state.joined → (u : Super) × (truth_of e n ≡ Some u)
+        truths n low = let truth = sound.sound.rules.arrays n (subst (λ k. n < k) all low) in (truth.0, truth.1)
+
+        serves : IsServed e (t g built) v shown
+        serves =
+            let refused = c.in-Err-open_volume.ensures.refused in
+            subst (λ u. IsServed e (t g built) v (slices_of u ended)) same_tables
+            (served g.R.Rack.seen g.R.Rack.runs e (f g built made_quiet e sound) (same g built made_quiet e sound) (slices_of (t g built) (y g built)) c.make_rack.result refused.last
+            refused.kept (arrays g built made_quiet e sound) live_still (ready g built) (t g built) own_slices all)
+
+        values : HoldValues e v shown
+        values =
+            let seen = g.R.Rack.seen in
+            let runs = g.R.Rack.runs in
+            let refused = c.in-Err-open_volume.ensures.refused in
+            let pool = same g built made_quiet e sound in
+            let has = arrays g built made_quiet e sound in
+            let few = (some_made e (found_is (disks_of (a g built)) (now_in (a g built)) e sound.found_is).0).1 in
+            let shapes =
+            shapes_kept seen runs e (f g built made_quiet e sound) pool (slices_of (t g built) (y g built)) c.make_rack.result refused.last refused.kept has live_still
+            (ready g built) (t g built) own_slices (omega (arith, few, all)) truths still.fit marks_kept in
+            subst (λ u. HoldValues e v (slices_of u ended)) same_tables
+            (values_kept seen runs e (f g built made_quiet e sound) pool (slices_of (t g built) (y g built)) c.make_rack.result refused.last refused.kept has live_still
+            (ready g built) still.reads shapes)
+
+        supers : HoldSupers e v shown
+        supers =
+            let m = c.in-Ok-check.members in
+            let refused = c.in-Err-open_volume.ensures.refused in
+            let least = (valid_arrays m.state 0 c.in-Ok-check.ensures.members.valid).3 in
+            let book = ap (λ (s : State). s.joined) (state g built made_quiet e sound) in
+            let made = ap (λ (s : State). s.made) (state g built made_quiet e sound) in
+            subst (λ u. HoldSupers e v (slices_of u ended)) same_tables
+            (supers_kept g.R.Rack.seen g.R.Rack.runs e (f g built made_quiet e sound) (same g built made_quiet e sound) (slices_of (t g built) (y g built)) c.make_rack.result
+            refused.last refused.kept (arrays g built made_quiet e sound) live_still (ready g built) c.make_rack.ensures.fit still c.make_rack.ensures.unwritten nobody_went
+            (λ n z low truth.
+            usable_truth (f g built made_quiet e sound) (t g built) (y g built) m.checked m.absent.items (members g built made_quiet e sound)
+            (checked g built made_quiet e sound).1.opened n z (omega (arith, low, least, book, made)) truth)
+            truths)
+
+        module _ (i : Image) (pick : IsPick ended ended ended.held i) (alone : AreAlone e i) where
+          known_left : IsKnown e (t g built) v shown i
+          known_left =
+              left_known e (t g built) ended v serves (inside_still (stays_then (yz g built) calls.stays) (members g built made_quiet e sound).fit.1) (disks_of (a g built))
+              (now_in (a g built)) i sound.found_is (disks_still (a g built) ended whole) sound.sound
+              (off_slices g built made_quiet e sound ended own_calls i (λ d u live never. pick d u live)) alone pick
+
+          -- whatever the disks may be left with holds the pool again
+          pub pool_again : HoldSame e (t g built) v.state i
+          pool_again = same_again e (t g built) v shown i known_left values
+
+          -- and is refused as they were before
+          pub refused_again : refusal_of (disks_of ended) i ≡ refusal_of (disks_of (a g built)) (now_in (a g built))
+          refused_again =
+              let pool = same g built made_quiet e sound in
+              let last = ap (λ k. option_map bad_volume (first_bad k)) (joined_same e (f g built made_quiet e sound) pool) in
+              let rest = rested g built made_quiet e sound in
+              ap (λ (k : Disks). refusal_of k i)
+              (sym ((found_is (disks_of (a g built)) (now_in (a g built)) e sound.found_is).1 ∙ disks_still (a g built) ended whole))
+              ∙ refusal_now e (t g built) v shown i known_left values supers all
+              (sym (refused_same e (f g built made_quiet e sound) pool) ∙ passes g built made_quiet e sound ∙ last) (only_pool g.R.Rack.seen (a g built) c.in-Ok.rest e sound rest)
+              marks_kept
+              ∙ sym (refusal_entry g.R.Rack.seen (a g built) c.in-Ok.rest e sound rest ∙ passes g built made_quiet e sound ∙ last)
 
       -- the arrays that the pool had are there at every moment
       pub pool_kept : KeepsPool (a g built) (g.R.Rack.seen c.in-Err-open_volume.back.rack) e
@@ -437,4 +493,5 @@ module _ (g : Over) (c : In-Err-open_volume g) where
             after = later seen runs e (f g built made_quiet e sound) pool (slices_of (t g built) (y g built)) raid refused.last refused.kept (arrays g built made_quiet e sound) live_still (ready g built);
             marks = marks_kept;
             again = pool_again;
+            refusal = refused_again;
           })

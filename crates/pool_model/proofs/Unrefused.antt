@@ -1,0 +1,220 @@
+-- What it says of contents that they aren't refused; and the disks of a whole pool without one are found by the same state.
+use Rattle.std.proofs.Common.{◌≡◌, ℕ, zero, suc, ◌+◌, ◌<◌, ◌≤◌, ◌||◌, Bool, true, false, not, bytes_eq, nat_lt, if◌then◌else◌, is_none, is_some, find, Option, Some, None, option_map, refl, sym, ap, ap₂, ◌∙◌, inl, inr, le-ltb, arith}
+use Rattle.std.specs.Option.{option_and_then, option_map_or, option_or}
+use Rattle.std.specs.List.{list_any, range_with_len}
+use Rattle.std.proofs.lemmas.Bool.{both_ways, cases_lt}
+use Rattle.std.proofs.lemmas.Option.{none-some}
+use Rattle.rack.specs.Seen.{Image}
+use Rattle.pool_state.specs.declared.contents.Copied.{Copied}
+use Rattle.pool_state.specs.declared.contents.State.{State}
+use Rattle.array_image.specs.States.{current_places, is_current}
+use Rattle.commit_log.specs.Kept.{IsNoLater}
+use Rattle.raid_rack.proofs.Added.{names_current}
+use Rattle.pool_image.specs.Disks.{Disks, identities_of, newest}
+use Rattle.pool_image.specs.Drives.{Found, found}
+use Rattle.pool_image.specs.Replay.{standing, standing_by}
+use Rattle.pool_image.specs.Meaning.{Part, Refusal, absent, absent_count, arrays_of, bad_volume, damage_of, damage_on, damaged, dirty_degraded, first_damaged, has_log, has_other_pool, has_supers, has_table, in_log, in_state, in_superblock, in_table, is_dirty_degraded, is_too_few, joined_arrays, no_pool, refusal_of, refused_at, refused_by, too_few, two_pools}
+use Rattle.pool_image.specs.Sound.{skip}
+use Rattle.pool_image.specs.Volumes.{first_bad}
+use Rattle.pool_image.proofs.Identities.{seat_inside}
+use Rattle.pool_model.specs.Absent.{IsWholePool}
+use Rattle.pool_model.proofs.Found.{latest, newest_latest}
+use Rattle.pool_model.proofs.Skipped.{back, back_inside, skip_inside}
+use Rattle.pool_model.proofs.Standing.{found_at, pool_at}
+use Rattle.pool_model.proofs.Undamaged.{find_false}
+use Rattle.pool_model.proofs.Away.{beside, disk_back, fewer, find_passes, idle_now, inside, is_found, none_found, other_disk, rest, seat_there}
+
+-- ---- a place without a damage
+
+pub record IsUndamaged (f : Found) (p d : ℕ) : Type 0 where
+  pub table : has_table f p d ≡ true
+  pub copy : is_some (f.identities d).copied ≡ true
+  pub log : has_log f p ≡ true
+  pub supers : has_supers f p ≡ true
+
+abbrev part_by : Bool → Bool → Bool → Bool → Option Part
+part_by table lacks log supers = if not table then Some in_table else if lacks then Some in_state else if not log then Some in_log else if not supers then Some in_superblock else None
+
+none_copied : (o : Option Copied) → is_none o ≡ false → is_some o ≡ true
+none_copied None is = absurd (both_ways true is refl)
+none_copied (Some copy) is = refl
+
+pub undamaged : (f : Found) (p d : ℕ) → f.seats p ≡ Some d → damage_of f p ≡ None → IsUndamaged f p d
+unfolding damage_of
+undamaged f p d seat none =
+    of (has_table f p d) refl (is_none (f.identities d).copied) refl (has_log f p) refl (has_supers f p) refl
+    (sym (ap (option_and_then (damage_on f p)) seat) ∙ none)
+  where
+    of : (a : Bool) → has_table f p d ≡ a → (b : Bool) → is_none (f.identities d).copied ≡ b → (l : Bool) → has_log f p ≡ l → (s : Bool) → has_supers f p ≡ s
+        → part_by a b l s ≡ None → IsUndamaged f p d
+    of true table false copy true log true supers at =
+        record { table = table; copy = none_copied (f.identities d).copied copy; log = log; supers = supers }
+    of true table false copy true log false supers at = absurd (none-some in_superblock (sym at))
+    of true table false copy false log s supers at = absurd (none-some in_log (sym at))
+    of true table true copy l log s supers at = absurd (none-some in_state (sym at))
+    of false table b copy l log s supers at = absurd (none-some in_table (sym at))
+
+some_copied : (o : Option Copied) → is_some o ≡ true → is_none o ≡ false
+some_copied None is = absurd (both_ways false refl is)
+some_copied (Some copy) is = refl
+
+pub no_damage : (f : Found) (p d : ℕ) → f.seats p ≡ Some d → IsUndamaged f p d → damage_of f p ≡ None
+unfolding damage_of
+no_damage f p d seat fine =
+    ap (option_and_then (damage_on f p)) seat
+    ∙ ap₂ (λ a b. part_by a b (has_log f p) (has_supers f p)) fine.table (some_copied (f.identities d).copied fine.copy)
+    ∙ ap₂ (λ l s. part_by true false l s) fine.log fine.supers
+
+-- no place is damaged, or the first one is
+damage_none : (o : Option Part) → is_some o ≡ false → o ≡ None
+damage_none None is = refl
+damage_none (Some part) is = absurd (both_ways true is refl)
+
+pub none_damaged : (f : Found) (p : ℕ) → first_damaged f ≡ None → is_current f.state p ≡ true → damage_of f p ≡ None
+none_damaged f p none counts = of (find (λ place. is_some (damage_of f place)) (current_places f.state)) refl none
+  where
+    lacks : (q : ℕ) (o : Option Part) → damage_of f q ≡ o → is_some o ≡ true → option_map (damaged q) o ≡ None → ⊥
+    lacks q None is some at = both_ways false refl some
+    lacks q (Some part) is some at = none-some (damaged q part) (sym at)
+
+    of : (o : Option ℕ) → find (λ place. is_some (damage_of f place)) (current_places f.state) ≡ o
+        → option_and_then (λ place. option_map (damaged place) (damage_of f place)) o ≡ None → damage_of f p ≡ None
+    of None is at = damage_none (damage_of f p) (find_false (λ place. is_some (damage_of f place)) (current_places f.state) p is (names_current f.state p ∙ counts))
+    of (Some q) is at =
+        let passes = (find_passes (λ place. is_some (damage_of f place)) (current_places f.state) q is).0 in
+        absurd (lacks q (damage_of f q) refl passes at)
+
+pub no_damages : (f : Found) → ((p : ℕ) → is_current f.state p ≡ true → damage_of f p ≡ None) → first_damaged f ≡ None
+no_damages f none =
+    ap (option_and_then (λ place. option_map (damaged place) (damage_of f place)))
+    (none_found (λ place. is_some (damage_of f place)) (current_places f.state)
+    (λ p among. ap is_some (none p (sym (names_current f.state p) ∙ among))))
+
+-- ---- no refusal
+
+pub unrefused : (f : Found) → refused_by f ≡ None → (first_damaged f ≡ None) × (first_bad (joined_arrays f) ≡ None)
+unfolding refused_by
+unrefused f none =
+    of (nat_lt 1 (absent_count f)) (first_damaged f) (option_map too_few (find (is_too_few f) (arrays_of f)))
+    (option_map dirty_degraded (find (is_dirty_degraded f) (arrays_of f))) (first_bad (joined_arrays f)) none
+  where
+    of : (b : Bool) (x y z : Option Refusal) (o : Option ℕ)
+        → (if b then Some (absent (absent_count f)) else option_or x (option_or y (option_or z (option_map bad_volume o)))) ≡ None → (x ≡ None) × (o ≡ None)
+    of true x y z o at = absurd (none-some (absent (absent_count f)) (sym at))
+    of false (Some x) y z o at = absurd (none-some x (sym at))
+    of false None (Some y) z o at = absurd (none-some y (sym at))
+    of false None None (Some z) o at = absurd (none-some z (sym at))
+    of false None None None (Some n) at = absurd (none-some (bad_volume n) (sym at))
+    of false None None None None at = (refl, refl)
+
+pub not_refused : (f : Found) → absent_count f ≤ 1 → first_damaged f ≡ None → find (is_too_few f) (arrays_of f) ≡ None
+    → find (is_dirty_degraded f) (arrays_of f) ≡ None → first_bad (joined_arrays f) ≡ None → refused_by f ≡ None
+unfolding refused_by
+not_refused f few undamaged enough clean good =
+    ap₂ (λ b x. if b then Some (absent (absent_count f)) else option_or x (option_or (option_map too_few (find (is_too_few f) (arrays_of f)))
+    (option_or (option_map dirty_degraded (find (is_dirty_degraded f) (arrays_of f))) (option_map bad_volume (first_bad (joined_arrays f)))))) (low few) undamaged
+    ∙ ap₂ (λ x y. option_or (option_map too_few x) (option_or (option_map dirty_degraded y) (option_map bad_volume (first_bad (joined_arrays f))))) enough clean
+    ∙ ap (option_map bad_volume) good
+  where
+    low : absent_count f ≤ 1 → nat_lt 1 (absent_count f) ≡ false
+    low few = le-ltb 1 (absent_count f) few
+
+pub stands_at : (disks : Disks) (c : Image) (s : State) → newest disks (identities_of disks c) ≡ Some s → standing disks c ≡ Some (standing_by disks c s)
+unfolding standing
+stands_at disks c s is = ap (option_map (standing_by disks c)) is
+
+pub none_any : (test : ℕ → Bool) (a m : ℕ) → ((k : ℕ) → k < a + m → test k ≡ false) → list_any test (range_with_len a m) ≡ false
+none_any test a zero none = refl
+none_any test a (suc m) none = ap₂ (λ x y. x || y) (none a (omega arith)) (none_any test (a + 1) m (λ k low. none k (omega (arith, low))))
+
+any_none : (test : ℕ → Bool) (a m k : ℕ) → list_any test (range_with_len a m) ≡ false → a ≤ k → k < a + m → test k ≡ false
+any_none test a zero k none least most = absurd (omega (arith, least, most))
+any_none test a (suc m) k none least most = elim (cases_lt a k) [
+  | inl more ↦ any_none test (a + 1) m k (second (test a) (list_any test (range_with_len (a + 1) m)) none) (omega (arith, more)) (omega (arith, most))
+  | inr here ↦ (let same : k ≡ a = omega (arith, least, here) in ap test same ∙ first (test a) (list_any test (range_with_len (a + 1) m)) none)
+]
+  where
+    first : (x y : Bool) → (x || y) ≡ false → x ≡ false
+    first true y is = absurd (both_ways true is refl)
+    first false y is = refl
+
+    second : (x y : Bool) → (x || y) ≡ false → y ≡ false
+    second true y is = absurd (both_ways true is refl)
+    second false y is = is
+
+module _ (disks : Disks) (c : Image) (s : State) (newest_is : newest disks (identities_of disks c) ≡ Some s)
+    (w : IsWholePool disks c (pool_at disks c s)) where
+  abbrev f : Found
+  f = pool_at disks c s
+
+  abbrev foreign : Disks → Image → ℕ → Bool
+  foreign h i d = option_map_or (λ copy. not (bytes_eq copy.state.pool.0 s.pool.0)) (identities_of h i d).copied false
+
+  -- no disk is of another pool, and the pool isn't refused
+  pub means_of : (has_other_pool disks f.before ≡ false) × (refused_by f ≡ None)
+  unfolding refusal_of
+  means_of =
+      of (has_other_pool disks f.before) refl
+      (sym (ap (λ o. option_map_or (refused_at disks c) o (Some no_pool)) (stands_at disks c s newest_is)) ∙ w.means)
+    where
+      of : (b : Bool) → has_other_pool disks f.before ≡ b → (if b then Some two_pools else option_map_or refused_by (found disks c) (Some no_pool)) ≡ None
+          → (has_other_pool disks f.before ≡ false) × (refused_by f ≡ None)
+      of true is at = absurd (none-some two_pools (sym at))
+      of false is at = (is, sym (ap (λ o. option_map_or refused_by o (Some no_pool)) w.is_found) ∙ at)
+
+  pub parts_of : (q e : ℕ) → is_current s q ≡ true → f.seats q ≡ Some e → IsUndamaged f q e
+  parts_of q e counts seat = undamaged f q e seat (none_damaged f q (unrefused f means_of.1).0 counts)
+
+  module _ (p d : ℕ) (seat : f.seats p ≡ Some d) where
+    abbrev less : Disks
+    less = fewer disks c s newest_is w p d seat
+
+    abbrev left : Image
+    left = rest disks c s newest_is w p d seat
+
+    -- another place's drive has a copy of the state
+    copy_beside : (e : ℕ) × (copy : Copied) × (e < less.count) × ((identities_of less left e).copied ≡ Some copy) × (copy.state ≡ s)
+    copy_beside =
+        let near = beside disks c s newest_is w p d seat in
+        let one = seat_there disks c s newest_is w _ near.1 in
+        let e = one.0 in
+        let is = disk_back disks c s newest_is w p d seat _ e near.0 one.1 in
+        let low = seat_inside s disks f.identities _ e one.1 in
+        of e (f.identities e).copied refl (parts_of _ e near.1 one.1).copy
+        (λ copy here. (
+          back d e,
+          copy,
+          back_inside d e disks.count (other_disk disks c s newest_is w p d seat _ e near.0 one.1) (inside disks c s newest_is w p d seat) low,
+          ap (λ k. (f.identities k).copied) is ∙ here,
+          w.sound.copies e copy low here (w.sound.epochs _ e copy one.1 here),
+        ))
+      where
+        of : {Goal : Type 0} (e : ℕ) (o : Option Copied) → (f.identities e).copied ≡ o → is_some o ≡ true → ((copy : Copied) → (f.identities e).copied ≡ Some copy → Goal) → Goal
+        of e None is some next = absurd (both_ways false refl some)
+        of e (Some copy) is some next = next copy is
+
+    pub newest_now : newest less (identities_of less left) ≡ Some s
+    newest_now =
+        let one = copy_beside in
+        newest_latest (λ k. (identities_of less left k).copied) less.count one.0 one.1 s one.2 one.3 one.4 each
+      where
+        each : (k : ℕ) (copy : Copied) → k < less.count → (identities_of less left k).copied ≡ Some copy → IsNoLater s copy
+        each k copy low here =
+            let within = skip_inside d k disks.count (inside disks c s newest_is w p d seat) low in
+            let most = latest f (is_found disks c s newest_is w) (skip d k) copy within here in
+            elim (cases_lt copy.state.epoch s.epoch) [
+              | inl lower ↦ inl lower
+              | inr from ↦ inr (w.sound.copies (skip d k) copy within here (omega (arith, most, from)))
+            ]
+
+    pub found_now : found less left ≡ Some (pool_at less left s)
+    found_now = found_at less left s newest_now (idle_now disks c s newest_is w p d seat)
+
+    pub one_pool : has_other_pool less (pool_at less left s).before ≡ false
+    one_pool =
+        none_any (foreign less left) 0 less.count
+        (λ k low. any_none (foreign disks c) 0 disks.count (skip d k) means_of.0 (omega arith)
+        (let within = skip_inside d k disks.count (inside disks c s newest_is w p d seat) (omega (arith, low)) in omega (arith, within)))
+
+    pub stands_now : standing less left ≡ Some (standing_by less left s)
+    stands_now = stands_at less left s newest_now
