@@ -33,17 +33,17 @@ use Rattle.pool.specs.Keeping.{HasMarkedSeats, KeepsArray, KeepsBook, Raises, mo
 
 -- ---- an array
 
-geometry_same : (u : ArrayView) → HasGeometry u.truth u.truth
+pub geometry_same : (u : ArrayView) → HasGeometry u.truth u.truth
 geometry_same u = record { set = refl; level = refl; size = refl; disks = refl; roles = refl; features = refl; position = refl }
 
-array_same : (s : State) (u : ArrayView) → KeepsArray s u u
+pub array_same : (s : State) (u : ArrayView) → KeepsArray s u u
 array_same s u = record { geometry = geometry_same u; young = refl; rows = omega arith; members = λ k low current. omega arith }
 
 -- the places of members go by the roles
-same_place : (u w : ArrayView) (k : ℕ) → HasGeometry u.truth w.truth → place_at w k ≡ place_at u k
+pub same_place : (u w : ArrayView) (k : ℕ) → HasGeometry u.truth w.truth → place_at w k ≡ place_at u k
 same_place u w k geometry = ap (λ (r : ArrayVec ℕ). unwrap_or (place_with r.items k) 16) geometry.roles
 
-array_then : (s t : State) (u v w : ArrayView) → ((p : ℕ) → is_current t p ≡ true → is_current s p ≡ true)
+pub array_then : (s t : State) (u v w : ArrayView) → ((p : ℕ) → is_current t p ≡ true → is_current s p ≡ true)
     → KeepsArray s u v → KeepsArray t v w → KeepsArray t u w
 array_then s t u v w fewer one two = record {
   geometry = geometry_then u.truth v.truth w.truth one.geometry two.geometry;
@@ -64,7 +64,7 @@ not_marked true false none is = absurd (let bad : Some true ≡ Some false = is 
 none_gone : (w : ArrayView) (p : ℕ) → w.went ≡ [] → has_gone w p ≡ false
 none_gone w p heeded = ap (λ ps. names ps p) heeded
 
-array_lost : (s : State) (n : ℕ) (u w : ArrayView) (y : Seen) → IsSeated s n w y → w.went ≡ [] → LosesOnly u w → KeepsArray s u w
+pub array_lost : (s : State) (n : ℕ) (u w : ArrayView) (y : Seen) → IsSeated s n w y → w.went ≡ [] → LosesOnly u w → KeepsArray s u w
 array_lost s n u w y seated heeded only = record {
   geometry = only.same.geometry;
   young = only.same.young;

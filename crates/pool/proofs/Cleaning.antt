@@ -2,6 +2,7 @@
 use Rattle.std.proofs.Common.{◌≡◌, ℕ, ◌<◌, refl, subst, lt-ltb, arith}
 use Rattle.rack.specs.Values.{IsSingle}
 use Rattle.rack.specs.Seen.{Rose, Seen}
+use Rattle.rack.specs.Shelf.{Shelf}
 use Rattle.slice_rack.specs.Slices.{Slices, disk_of}
 use Rattle.slice_rack.specs.SliceRack.{below_of, tables}
 use Rattle.array_image.proofs.Sources.{held_single}
@@ -27,7 +28,7 @@ use Rattle.raid_rack.proofs.Raises.{raises_more}
 use Rattle.pool.proofs.Booked.{book_lost}
 use Rattle.pool.proofs.Doing.{does_flush}
 use Rattle.pool.proofs.Reached.{reached_keeps, reached_stays, with_arrays}
-use Rattle.pool.proofs.Serving.{Laws, is_call}
+use Rattle.pool.proofs.Serving.{KeepNames, Laws, is_call}
 
 -- an array that was cleaned has one value in each sector that isn't spent
 cleaned_single : (a b : Arrays) (x y : Seen) (n s : ℕ) → IsFit a x → IsFit b y → StopsInside y → CleansAll (raid_by a) (raid_by b) x y
@@ -57,23 +58,23 @@ rows_left x y same images quiet =
     quiet (disk_of x.slices fault.0)
     (subst (λ (t : Slices). Rose (x.bay.faults (disk_of x.slices fault.0)) (y.bay.faults (disk_of t fault.0))) same fault.2))
 
-pub end_done : {R : Type 0} (seen : R → Seen) (runs : R → R → Type 0) (laws : Laws seen) (p : Pool R) (raid : RaidRack R) → (volume (view seen p)).fit
-    → IsCleaned seen runs (arrays_of p) raid → Ends (view seen p) (view seen (with_arrays p raid))
-end_done seen runs laws p raid fit cleaned =
-    let x = view seen p in
+pub end_done : {R : Type 0} (seen : R → Seen) (shelf : R → Shelf) (runs : R → R → Type 0) (laws : Laws seen) (names : KeepNames shelf runs) (p : Pool R) (raid : RaidRack R) → (volume (view seen shelf p)).fit
+    → IsCleaned seen runs (arrays_of p) raid → Ends (view seen shelf p) (view seen shelf (with_arrays p raid))
+end_done seen shelf runs laws names p raid fit cleaned =
+    let x = view seen shelf p in
     let q = with_arrays p raid in
-    let y = view seen q in
+    let y = view seen shelf q in
     let l = linear p.volume in
     let moves = cleaned.cleans.moves in
-    let stays = reached_stays seen p raid fit cleaned.keeps in
+    let stays = reached_stays seen shelf p raid fit cleaned.keeps in
     let keeps = book_lost (book x) (book y) (slices_shown y) stays.fit.0.running.set stays.fit.0.heeded moves.book.same.made moves.arrays in
-    let call = is_call seen runs laws 1 p q fit stays refl cleaned.ran moves.book (record { left = moves.left; cause = moves.cause }) keeps
+    let call = is_call seen shelf runs laws names 1 p q fit stays refl cleaned.ran moves.book (record { left = moves.left; cause = moves.cause }) keeps
     (raises_more 288 most_raised (book x) (book y) (omega arith) cleaned.raises) in
     record {
       passes = call.passes;
       raises = call.raises;
       marks = call.marks;
-      does = does_flush x y call.passes call.sound (reached_keeps seen p raid fit cleaned.keeps)
+      does = does_flush x y call.passes call.sound (reached_keeps seen shelf p raid fit cleaned.keeps)
           (λ s v live left.
           let below = live_below {l = l} {a = raid_seen seen (arrays_of p)} {b = raid_seen seen raid} p.volume.orderly stays.fit.1 live in
           cleaned_single x.arrays y.arrays (slices_shown x) (slices_shown y) (array_of l s) (sector_of l s) fit.0 stays.fit.0

@@ -45,14 +45,16 @@ pub live_at : (x y : View) (a : FlatArray) → Passes x y → Holds x a → (s :
 live_at x y a passes holds s low alive = record {
   disk = omega arith;
   sector = subst (λ n. s < n) (holds.size ∙ sym (passes.stays.sectors 0)) low;
-  is_told = holds.told;
+  is_told = holds.told s low (passes.stays.spent 0 s alive);
   unspent = alive;
 }
 
 pub becomes_of : (x y : View) (vals : Held) (during after : FlatArray → FlatArray) → Passes x y → Acts x y vals during after
     → (a : FlatArray) → Holds x a → Holds y (after a)
 becomes_of x y vals during after passes acts a holds = record {
-  told = passes.stays.told 0 holds.told;
+  told = λ s low alive. passes.stays.told 0 (holds.told s (subst (λ n. s < n) (acts.size_after a) low) (passes.stays.spent 0 s alive));
+  shelf = passes.shelf.told holds.shelf;
+  disks = λ d low. passes.apart.stays.told d (holds.disks d (subst (λ n. d < n) (passes.apart.stays.disks) low));
   size = acts.size_after a ∙ holds.size ∙ sym (passes.stays.sectors 0);
   values = λ s low alive.
       let inside : s < a.size = subst (λ n. s < n) (acts.size_after a) low in
@@ -79,7 +81,7 @@ does_of x y vals during after passes sound acts = record {
       let held = becomes_of x y vals during after passes acts a holds in
       (held.values s low alive).within (contents_in y.slices y.linear i s)
       ((sound (passes.stays.traced traced)).only_held (volume_in y i) (stopped_in y y.bay.clock i stopped) 0 s
-      (record { disk = omega arith; sector = subst (λ n. s < n) held.size low; is_told = held.told; unspent = alive }));
+      (record { disk = omega arith; sector = subst (λ n. s < n) held.size low; is_told = held.told s low alive; unspent = alive }));
 }
 
 -- ---- a call that brings no value

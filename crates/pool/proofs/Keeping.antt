@@ -5,6 +5,7 @@ use Rattle.std.proofs.lemmas.Bool.{both_ways, and_left, cases_Bool}
 use Rattle.rack.specs.Seen.{Rose, Stays}
 use Rattle.rack.specs.Joins.{rose_before, rose_since, stays_same, stays_then}
 use Rattle.rack.specs.Sequences.{WritesOnly}
+use Rattle.rack.specs.Shelf.{KeepsShelf, keeps_shelf_same, keeps_shelf_then}
 use Rattle.rack.proofs.Writing.{only_none, only_then}
 use Rattle.slice_rack.specs.Slices.{Slices, disk_of, seat_of}
 use Rattle.slice_rack.specs.Runs.{IsSliced, Runs}
@@ -31,6 +32,7 @@ passes_same x fit = record {
   marks = after_same (book x).state;
   book = book_same (book x);
   apart = only_none x.bay (IsSliced x.slices) fit.0.running.set.fit.0;
+  shelf = keeps_shelf_same x.shelf;
 }
 
 pub marks_same : (x : View) (lost : ℕ → Type 0) → MarksBut lost x x
@@ -38,14 +40,16 @@ marks_same x lost place was now = absurd (both_ways (is_current (book x).state p
 
 -- the volume stays, and calls in a row of its slices run below it
 pub passes_of : {own : Type 0} (x y : View) → (volume x).fit → Stays (volume x) (volume y) → y.linear ≡ x.linear
-    → Runs x.slices y.slices x.bay y.bay own → IsAfter (book x).state (book y).state → KeepsBook (book x) (book y) → Passes x y
-passes_of x y fit stays same runs marks keeps = record {
+    → Runs x.slices y.slices x.bay y.bay own → IsAfter (book x).state (book y).state → KeepsBook (book x) (book y)
+    → KeepsShelf x.shelf y.shelf → Passes x y
+passes_of x y fit stays same runs marks keeps shelf = record {
   stays = stays;
   linear = same;
   slices = runs.tables;
   marks = marks;
   book = keeps;
   apart = runs.apart fit.0.running.set.fit.0 fit.0.running.set.fit.1;
+  shelf = shelf;
 }
 
 -- a fault of a place's slices is one of its drive
@@ -77,6 +81,7 @@ passes_then x y z one two = record {
   marks = after_then (book x).state (book y).state (book z).state one.marks two.marks;
   book = book_then (book x) (book y) (book z) one.marks.same.made two.marks one.book two.book;
   apart = only_then (IsSliced x.slices) one.apart (subst (λ (t : Slices). WritesOnly y.bay z.bay (IsSliced t)) one.slices two.apart);
+  shelf = keeps_shelf_then x.shelf y.shelf z.shelf one.shelf two.shelf;
 }
 
 pub marks_then : (x y z : View) → Passes x y → Passes y z → Marks x y → Marks y z → Marks x z

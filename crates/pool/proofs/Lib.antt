@@ -2,9 +2,21 @@ pub mod Booked
 pub mod Keeping
 pub mod Doing
 pub mod Serving
+pub mod Continuing
 mod Rebuilding
 mod Reached
 mod Losing
+mod Planning
+mod Admitted
+mod Shown
+mod Carrying
+mod Later
+mod Attaching
+mod Composed
+mod Vacating
+mod Taken
+mod Enlisted
+mod Entered
 mod Cleaning
 mod NewPools
 mod Working

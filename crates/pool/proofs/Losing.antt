@@ -6,6 +6,8 @@ use Rattle.std.proofs.Common.{◌≡◌, ℕ, ◌<◌, ◌&&◌, ◌||◌, not, 
 use Rattle.std.proofs.lemmas.Bool.{both_ways, and_parts, and_from, cases_Bool, cases_eq, cases_lt}
 use Rattle.std.proofs.lemmas.Option.{slice_get_past}
 use Rattle.rack.specs.Seen.{Seen}
+use Rattle.rack.specs.Shelf.{Shelf}
+use Rattle.slice_rack.specs.SliceRack.{below_of}
 use Rattle.pool_state.specs.Valid.{has_arrays, has_epoch, has_places, is_drive, is_extent, is_valid}
 use Rattle.pool_state.specs.declared.contents.State.{State}
 use Rattle.array_image.specs.States.{is_current}
@@ -21,7 +23,7 @@ use Rattle.raid_rack.proofs.Noted.{IsNoting, current_few, gone_from, gone_some, 
 use Rattle.pool.specs.declared.Pool.{Pool}
 use Rattle.pool.specs.declared.calls.LoseFault.{LoseFault}
 use Rattle.pool.specs.declared.calls.LoseFault.TheVariants.{LastDrive, NoSuchDrive}
-use Rattle.pool.specs.View.{View, arrays_of, book, slices_shown, view, volume}
+use Rattle.pool.specs.View.{View, arrays_of, bay_in, book, slices_shown, view, volume}
 use Rattle.pool.specs.Keeping.{most_raised}
 use Rattle.pool.specs.Calls.{LosesDrive, MarksBut}
 use Rattle.raid_rack.proofs.Raises.{raises_more}
@@ -29,7 +31,7 @@ use Rattle.pool.proofs.Booked.{book_noted}
 use Rattle.pool.proofs.Keeping.{marks_same, not_left, passes_of, went}
 use Rattle.pool.proofs.Doing.{does_kept, does_none}
 use Rattle.pool.proofs.Reached.{reached_keeps, reached_stays, with_arrays}
-use Rattle.pool.proofs.Serving.{IsCall, Laws, sound_in}
+use Rattle.pool.proofs.Serving.{IsCall, KeepNames, Laws, sound_in}
 
 -- ---- its note in the arrays
 
@@ -116,16 +118,16 @@ same_fault e f same = cc
 missing_last : NoSuchDrive ≡ LastDrive → ⊥
 missing_last same = cc
 
-pub lose_done : {R : Type 0} (seen : R → Seen) (runs : R → R → Type 0) (laws : Laws seen) (p : Pool R) (raid : RaidRack R) (place : ℕ)
-    → (volume (view seen p)).fit → is_current (book (view seen p)).state place ≡ true → IsLost seen runs (arrays_of p) raid place
-    → LosesDrive (view seen p) (view seen (with_arrays p raid)) place {X = Unit {0}} (Ok tt)
-lose_done seen runs laws p raid place fit current lost =
-    let x = view seen p in
-    let y = view seen (with_arrays p raid) in
-    let stays = reached_stays seen p raid fit lost.keeps in
+pub lose_done : {R : Type 0} (seen : R → Seen) (shelf : R → Shelf) (runs : R → R → Type 0) (laws : Laws seen) (names : KeepNames shelf runs) (p : Pool R) (raid : RaidRack R) (place : ℕ)
+    → (volume (view seen shelf p)).fit → is_current (book (view seen shelf p)).state place ≡ true → IsLost seen runs (arrays_of p) raid place
+    → LosesDrive (view seen shelf p) (view seen shelf (with_arrays p raid)) place {X = Unit {0}} (Ok tt)
+lose_done seen shelf runs laws names p raid place fit current lost =
+    let x = view seen shelf p in
+    let y = view seen shelf (with_arrays p raid) in
+    let stays = reached_stays seen shelf p raid fit lost.keeps in
     let keeps = book_noted (book x) (book y) (slices_shown x) (slices_shown y) (place ∷ []) fit.0.running.set stays.fit.0.running.set
     stays.fit.0.heeded lost.mends.moves.book.same.made lost.mends.moves.arrays in
-    let passes = passes_of x y fit stays refl lost.ran lost.mends.moves.book keeps in
+    let passes = passes_of x y fit stays refl lost.ran lost.mends.moves.book keeps (names (bay_in p) (below_of (slices_in raid)) lost.ran.below) in
     record {
       passes = passes;
       raises = raises_more 17 most_raised (book x) (book y) (omega arith) lost.raises;
@@ -133,7 +135,7 @@ lose_done seen runs laws p raid place fit current lost =
       missing = (λ same. absurd (never_fault NoSuchDrive same), λ none. absurd (both_ways (is_current (book x).state place) none current));
       last = (λ same. absurd (never_fault LastDrive same), λ none. absurd (both_ways (has_other (book x).state place) none.1 lost.other));
       lost = lost.mends.marked place (noted_gone (book x) (slices_shown x) place fit.0.running.set fit.0.heeded current);
-      does = does_kept x y passes (sound_in seen laws (with_arrays p raid) stays.fit) (reached_keeps seen p raid fit lost.keeps);
+      does = does_kept x y passes (sound_in seen shelf laws (with_arrays p raid) stays.fit) (reached_keeps seen shelf p raid fit lost.keeps);
     }
 
 pub lose_missing : (x : View) (place : ℕ) → IsCall 1 x x → is_current (book x).state place ≡ false → LosesDrive x x place {X = Unit {0}} (Err NoSuchDrive)

@@ -5,6 +5,7 @@ use Rattle.std.proofs.lemmas.Bool.{both_ways}
 use Rattle.rack.specs.declared.Gone.{Gone}
 use Rattle.rack.specs.Seen.{Seen, Stays}
 use Rattle.rack.specs.Moments.{IsSound}
+use Rattle.rack.specs.Shelf.{KeepsShelf, Shelf}
 use Rattle.rack.specs.Calls.{Reads, Syncs, Writes}
 use Rattle.slice_rack.specs.SliceRack.{below_of, tables}
 use Rattle.slice_rack.specs.Laws as slices
@@ -34,9 +35,13 @@ use Rattle.pool.proofs.Doing.{does_flush, does_kept, does_none, does_refused, do
 abbrev pub Laws : {R : Type 0} → (R → Seen) → Type 0
 Laws {R} seen = (rack : R) → (seen rack).fit → (seen rack).traced → IsSound (seen rack)
 
-pub sound_in : {R : Type 0} (seen : R → Seen) (laws : Laws seen) (pool : Pool R) → (volume (view seen pool)).fit → (seen (bay_in pool)).traced
-    → IsSound (volume (view seen pool))
-sound_in seen laws pool fit traced =
+-- runs keep a bay's names
+abbrev pub KeepNames : {R : Type 0} → (R → Shelf) → (R → R → Type 0) → Type 0
+KeepNames {R} shelf runs = (r s : R) → runs r s → KeepsShelf (shelf r) (shelf s)
+
+pub sound_in : {R : Type 0} (seen : R → Seen) (shelf : R → Shelf) (laws : Laws seen) (pool : Pool R) → (volume (view seen shelf pool)).fit → (seen (bay_in pool)).traced
+    → IsSound (volume (view seen shelf pool))
+sound_in seen shelf laws pool fit traced =
     let raid = arrays_of pool in
     let rack = slices_in raid in
     let bay = seen (below_of rack) in
@@ -52,42 +57,45 @@ pub record IsCall (calls : ℕ) (x y : View) : Type 0 where
   pub marks : Marks x y
   pub sound : y.bay.traced → IsSound (volume y)
 
-pub is_call : {R : Type 0} (seen : R → Seen) (runs : R → R → Type 0) (laws : Laws seen) (calls : ℕ) (p q : Pool R) → (volume (view seen p)).fit
-    → Stays (volume (view seen p)) (volume (view seen q)) → linear q.volume ≡ linear p.volume
+pub is_call : {R : Type 0} (seen : R → Seen) (shelf : R → Shelf) (runs : R → R → Type 0) (laws : Laws seen) (names : KeepNames shelf runs) (calls : ℕ) (p q : Pool R)
+    → (volume (view seen shelf p)).fit
+    → Stays (volume (view seen shelf p)) (volume (view seen shelf q)) → linear q.volume ≡ linear p.volume
     → SliceRuns seen runs (slices_in (arrays_of p)) (slices_in (arrays_of q))
     → IsAfter (raid_in (arrays_of p)).state (raid_in (arrays_of q)).state
     → AreCaused (raid_in (arrays_of p)) (raid_in (arrays_of q)) (slices_seen seen (arrays_of p)) (slices_seen seen (arrays_of q))
-    → KeepsBook (raid_in (arrays_of p)) (raid_in (arrays_of q)) → Raises calls (view seen p) (view seen q)
-    → IsCall calls (view seen p) (view seen q)
-is_call seen runs laws calls p q fit stays same ran marks caused keeps raises = record {
-  passes = passes_of (view seen p) (view seen q) fit stays same ran marks keeps;
+    → KeepsBook (raid_in (arrays_of p)) (raid_in (arrays_of q)) → Raises calls (view seen shelf p) (view seen shelf q)
+    → IsCall calls (view seen shelf p) (view seen shelf q)
+is_call seen shelf runs laws names calls p q fit stays same ran marks caused keeps raises = record {
+  passes = passes_of (view seen shelf p) (view seen shelf q) fit stays same ran marks keeps
+      (names (bay_in p) (bay_in q) ran.below);
   raises = raises;
-  marks = marks_of (view seen p) (view seen q) fit ran.tables caused;
-  sound = sound_in seen laws q stays.fit;
+  marks = marks_of (view seen shelf p) (view seen shelf q) fit ran.tables caused;
+  sound = sound_in seen shelf laws q stays.fit;
 }
 
 -- a call of the volume
-pub volume_call : {R : Type 0} (seen : R → Seen) (runs : R → R → Type 0) (laws : Laws seen) (p q : Pool R) → (volume (view seen p)).fit
-    → Stays (volume (view seen p)) (volume (view seen q)) → linear q.volume ≡ linear p.volume → AreRuns seen runs (arrays_of p) (arrays_of q)
+pub volume_call : {R : Type 0} (seen : R → Seen) (shelf : R → Shelf) (runs : R → R → Type 0) (laws : Laws seen) (names : KeepNames shelf runs) (p q : Pool R)
+    → (volume (view seen shelf p)).fit
+    → Stays (volume (view seen shelf p)) (volume (view seen shelf q)) → linear q.volume ≡ linear p.volume → AreRuns seen runs (arrays_of p) (arrays_of q)
     → Several (λ a b. IsOneCall (raid_in a) (raid_in b)) (1 + (linear p.volume).arrays) (arrays_of p) (arrays_of q)
-    → IsCall 1 (view seen p) (view seen q)
-volume_call seen runs laws p q fit stays same ran several =
+    → IsCall 1 (view seen shelf p) (view seen shelf q)
+volume_call seen shelf runs laws names p q fit stays same ran several =
     let v = raid_in (arrays_of p) in
     let w = raid_in (arrays_of q) in
     let running = stays.fit.0 in
     let disks = fit.1.arrays in
     let most = fit.0.running.set.most in
-    is_call seen runs laws 1 p q fit stays same ran.0 ran.1.book ran.1.caused
+    is_call seen shelf runs laws names 1 p q fit stays same ran.0 ran.1.book ran.1.caused
     (book_lost v w (slices_seen seen (arrays_of q)) running.running.set running.heeded ran.1.book.same.made ran.2.arrays)
     (several_raise (1 + (linear p.volume).arrays) most_raised (arrays_of p) (arrays_of q) (omega (arith, disks, most)) several)
 
 -- no call
-pub no_call : {R : Type 0} (seen : R → Seen) (laws : Laws seen) (p : Pool R) → (volume (view seen p)).fit → IsCall 1 (view seen p) (view seen p)
-no_call seen laws p fit = record {
-  passes = passes_same (view seen p) fit;
+pub no_call : {R : Type 0} (seen : R → Seen) (shelf : R → Shelf) (laws : Laws seen) (p : Pool R) → (volume (view seen shelf p)).fit → IsCall 1 (view seen shelf p) (view seen shelf p)
+no_call seen shelf laws p fit = record {
+  passes = passes_same (view seen shelf p) fit;
   raises = raises_more 0 most_raised (raid_in (arrays_of p)) (raid_in (arrays_of p)) (omega arith) (raises_none (raid_in (arrays_of p)));
-  marks = marks_same (view seen p) (λ place. ⊥);
-  sound = sound_in seen laws p fit;
+  marks = marks_same (view seen shelf p) (λ place. ⊥);
+  sound = sound_in seen shelf laws p fit;
 }
 
 -- ---- faults of a sector
@@ -142,7 +150,7 @@ read_done x y sector into call low reads = record {
   marks = call.marks;
   fault = fault_none x y sector low reads.cause.served;
   value = λ a holds.
-      reads.value holds.told
+      reads.value (holds.told sector (subst (λ n. sector < n) (sym holds.size) low) (reads.stays.spent 0 sector reads.cause.served))
       ∙ (holds.values sector (subst (λ n. sector < n) (sym holds.size) low) (reads.stays.spent 0 sector reads.cause.served)).current;
   does = does_kept x y call.passes call.sound reads.keeps;
 }

@@ -4,6 +4,7 @@ use Rattle.std.proofs.Common.{◌≡◌, ℕ, ◌+◌, ◌/◌, ◌<◌, nat_lt,
 use Rattle.std.proofs.lemmas.Bool.{and_parts, both_ways, cases_Bool}
 use Rattle.rack.specs.Joins.{rose_before, rose_since}
 use Rattle.rack.specs.Seen.{Seen}
+use Rattle.rack.specs.Shelf.{Shelf}
 use Rattle.array_image.specs.States.{is_current}
 use Rattle.array_model.specs.View.{View as ArrayView, rows_of}
 use Rattle.std.specs.Option.{option_map_or}
@@ -30,7 +31,7 @@ use Rattle.pool.specs.Calls.{IsOneFewer, IsQuiet, Marks, Passes}
 use Rattle.pool.proofs.Booked.{book_same, book_worked}
 use Rattle.pool.proofs.Counted.{work_counted}
 use Rattle.pool.proofs.Reached.{with_arrays}
-use Rattle.pool.proofs.Serving.{Laws}
+use Rattle.pool.proofs.Serving.{KeepNames, Laws}
 use Rattle.pool.proofs.Working.{worked_call}
 
 -- ---- where no disk's faults rose
@@ -123,9 +124,9 @@ pub record SaysOf {R : Type 0} (seen : R → Seen) (work : Work) (r : Result (Un
   pub named : IfErr r (λ e. e.array ≡ array_of work)
 
 -- what it keeps of the book
-pub work_book : {R : Type 0} (seen : R → Seen) (p : Pool R) (new : RaidRack R) (work : Work) → (volume (view seen p)).fit → (r : Result (Unit {0}) Stuck)
+pub work_book : {R : Type 0} (seen : R → Seen) (shelf : R → Shelf) (p : Pool R) (new : RaidRack R) (work : Work) → (volume (view seen shelf p)).fit → (r : Result (Unit {0}) Stuck)
     → IsFit (arrays_in new) (slices_seen seen new) → SaysOf seen work r (arrays_of p) new → KeepsBook (raid_in (arrays_of p)) (raid_in new)
-work_book seen p new work fit r after says =
+work_book seen shelf p new work fit r after says =
     let v = raid_in (arrays_of p) in
     elim (cases_Bool (is_due v work)) [
       | inl due ↦
@@ -134,17 +135,17 @@ work_book seen p new work fit r after says =
       | inr idle ↦ subst (λ (k : RaidRack _). KeepsBook v (raid_in k)) (sym (says.idle idle).1) (book_same v)
     ]
 
-module _ {R : Type 0} (seen : R → Seen) (runs : R → R → Type 0) (laws : Laws seen) (p : Pool R) (new : RaidRack R) (work : Work)
-    (fit : (volume (view seen p)).fit) (first : slice_get (works_of (view seen p)) 0 ≡ Some work) where
+module _ {R : Type 0} (seen : R → Seen) (shelf : R → Shelf) (runs : R → R → Type 0) (laws : Laws seen) (names : KeepNames shelf runs) (p : Pool R) (new : RaidRack R) (work : Work)
+    (fit : (volume (view seen shelf p)).fit) (first : slice_get (works_of (view seen shelf p)) 0 ≡ Some work) where
   -- it is one less
   pub one_fewer : (r : Result (Unit {0}) Stuck) → IsWorked seen runs 1 p (with_arrays p new) → SaysOf seen work r (arrays_of p) new
-      → OnOk r (IsOneFewer (view seen p) (view seen (with_arrays p new)))
+      → OnOk r (IsOneFewer (view seen shelf p) (view seen shelf (with_arrays p new)))
   one_fewer (Err e) worked says = tt
   one_fewer (Ok u) worked says =
       λ quiet alone.
-      let x = view seen p in
-      let y = view seen (with_arrays p new) in
-      let call = worked_call seen runs laws 1 p (with_arrays p new) fit worked in
+      let x = view seen shelf p in
+      let y = view seen shelf (with_arrays p new) in
+      let call = worked_call seen shelf runs laws names 1 p (with_arrays p new) fit worked in
       elim (cases_Bool (is_due (book x) work)) [
         | inl due ↦
             let one = work_counted (linear p.volume) (book x) (book y) (slices_seen seen (arrays_of p)) (slices_seen seen new) work fit.0.running.set

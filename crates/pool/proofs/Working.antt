@@ -1,6 +1,7 @@
 -- Works of maintenance in a row, and what they are to the volume.
 use Rattle.std.proofs.Common.{◌≡◌, ℕ, ◌+◌, ◌*◌, refl, sym, subst, ◌∙◌, arith}
 use Rattle.rack.specs.Seen.{IsPick, Seen, Stays}
+use Rattle.rack.specs.Shelf.{Shelf}
 use Rattle.rack.specs.Calls.{KeepsAll}
 use Rattle.rack.specs.Joins.{keeps_all_then, stays_same, stays_then, keeps_same, leaves_same}
 use Rattle.slice_rack.specs.Runs.{runs_join, runs_none}
@@ -22,11 +23,11 @@ use Rattle.raid_rack.proofs.Raises.{raises_more, raises_none, raises_then}
 use Rattle.pool.proofs.Booked.{book_same, book_then}
 use Rattle.pool.proofs.Doing.{does_kept}
 use Rattle.pool.proofs.Reached.{with_arrays}
-use Rattle.pool.proofs.Serving.{IsCall, Laws, is_call}
+use Rattle.pool.proofs.Serving.{IsCall, KeepNames, Laws, is_call}
 
-module _ {R : Type 0} (seen : R → Seen) (runs : R → R → Type 0) where
+module _ {R : Type 0} (seen : R → Seen) (shelf : R → Shelf) (runs : R → R → Type 0) where
   -- no work
-  pub worked_none : ((r : R) → runs r r) → (p : Pool R) → (volume (view seen p)).fit → IsWorked seen runs 0 p p
+  pub worked_none : ((r : R) → runs r r) → (p : Pool R) → (volume (view seen shelf p)).fit → IsWorked seen runs 0 p p
   worked_none same p fit =
       let raid = arrays_of p in
       record {
@@ -89,28 +90,28 @@ module _ {R : Type 0} (seen : R → Seen) (runs : R → R → Type 0) where
       }
 
   -- the volume after them
-  worked_stays : (count : ℕ) (p q : Pool R) → (volume (view seen p)).fit → IsWorked seen runs count p q → Stays (volume (view seen p)) (volume (view seen q))
+  worked_stays : (count : ℕ) (p q : Pool R) → (volume (view seen shelf p)).fit → IsWorked seen runs count p q → Stays (volume (view seen shelf p)) (volume (view seen shelf q))
   worked_stays count p q fit worked =
-      subst (λ (l : Linear). Stays (volume (view seen p)) (volume_of l (raid_seen seen (arrays_of q)))) (sym worked.linear)
+      subst (λ (l : Linear). Stays (volume (view seen shelf p)) (volume_of l (raid_seen seen (arrays_of q)))) (sym worked.linear)
       (stays_volume {l = linear p.volume} {a = raid_seen seen (arrays_of p)} {b = raid_seen seen (arrays_of q)} fit.1 worked.keeps.stays)
 
-  worked_keeps : (count : ℕ) (p q : Pool R) → (volume (view seen p)).fit → IsWorked seen runs count p q → KeepsAll (volume (view seen p)) (volume (view seen q))
+  worked_keeps : (count : ℕ) (p q : Pool R) → (volume (view seen shelf p)).fit → IsWorked seen runs count p q → KeepsAll (volume (view seen shelf p)) (volume (view seen shelf q))
   worked_keeps count p q fit worked =
       let l = linear p.volume in
       let a = raid_seen seen (arrays_of p) in
       let b = raid_seen seen (arrays_of q) in
-      subst (λ (own : Linear). KeepsAll (volume (view seen p)) (volume_of own b)) (sym worked.linear)
+      subst (λ (own : Linear). KeepsAll (volume (view seen shelf p)) (volume_of own b)) (sym worked.linear)
       (keeps_volume {l = l} {a = a} {b = b} p.volume.orderly (stays_volume {l = l} {a = a} {b = b} fit.1 worked.keeps.stays).fit.1 worked.keeps.keeps)
 
-  pub worked_fit : (count : ℕ) (p q : Pool R) → (volume (view seen p)).fit → IsWorked seen runs count p q → (volume (view seen q)).fit
+  pub worked_fit : (count : ℕ) (p q : Pool R) → (volume (view seen shelf p)).fit → IsWorked seen runs count p q → (volume (view seen shelf q)).fit
   worked_fit count p q fit worked = (worked_stays count p q fit worked).fit
 
-  pub worked_call : (laws : Laws seen) (count : ℕ) (p q : Pool R) → (volume (view seen p)).fit → IsWorked seen runs count p q → IsCall count (view seen p) (view seen q)
-  worked_call laws count p q fit worked =
-      is_call seen runs laws count p q fit (worked_stays count p q fit worked) worked.linear worked.ran worked.book.book worked.book.caused worked.arrays worked.raises
+  pub worked_call : (laws : Laws seen) (names : KeepNames shelf runs) (count : ℕ) (p q : Pool R) → (volume (view seen shelf p)).fit → IsWorked seen runs count p q → IsCall count (view seen shelf p) (view seen shelf q)
+  worked_call laws names count p q fit worked =
+      is_call seen shelf runs laws names count p q fit (worked_stays count p q fit worked) worked.linear worked.ran worked.book.book worked.book.caused worked.arrays worked.raises
 
-  pub worked_does : (laws : Laws seen) (count : ℕ) (p q : Pool R) → (volume (view seen p)).fit → IsWorked seen runs count p q
-      → Does (view seen p) (view seen q) unchanged unchanged
-  worked_does laws count p q fit worked =
-      let call = worked_call laws count p q fit worked in
-      does_kept (view seen p) (view seen q) call.passes call.sound (worked_keeps count p q fit worked)
+  pub worked_does : (laws : Laws seen) (names : KeepNames shelf runs) (count : ℕ) (p q : Pool R) → (volume (view seen shelf p)).fit → IsWorked seen runs count p q
+      → Does (view seen shelf p) (view seen shelf q) unchanged unchanged
+  worked_does laws names count p q fit worked =
+      let call = worked_call laws names count p q fit worked in
+      does_kept (view seen shelf p) (view seen shelf q) call.passes call.sound (worked_keeps count p q fit worked)

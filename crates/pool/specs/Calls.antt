@@ -2,6 +2,7 @@
 use Rattle.std.specs.Prelude.{◌≡◌, ◌⊎◌, ◌↔◌, ℕ, ◌<◌, ◌≤◌, ◌+◌, min, true, false, List, Some, Result, Err, IfErr, IfOk, OnOk, OnErr}
 use Rattle.rack.specs.Seen.{Image, Rose, Stays}
 use Rattle.rack.specs.Sequences.{WritesOnly}
+use Rattle.rack.specs.Shelf.{KeepsShelf}
 use Rattle.flat_array.specs.Array.{FlatArray, written, flushed}
 use Rattle.md_super.specs.declared.superblock.Super.{Super}
 use Rattle.array_image.specs.Left.{IsLeft}
@@ -25,7 +26,7 @@ use Rattle.pool.specs.Works.{HasRowsAlone, IsStuck, left_of}
 use Rattle.pool.specs.Volume.{Does, Holds, is_spent, size_of, unchanged}
 
 -- What each call keeps: the volume stays where it is, marks alone come to the state, or the end of its plan, arrays lose whom these marks
--- name and nobody else, and of the bay's disks only sectors of slices are written.
+-- name and nobody else, of the bay's disks only sectors of slices are written, and its names stay.
 pub record Passes (x y : View) : Type 0 where
   pub stays : Stays (volume x) (volume y)
   pub linear : y.linear ≡ x.linear
@@ -33,6 +34,7 @@ pub record Passes (x y : View) : Type 0 where
   pub marks : IsAfter (book x).state (book y).state
   pub book : KeepsBook (book x) (book y)
   pub apart : WritesOnly x.bay y.bay (IsSliced x.slices)
+  pub shelf : KeepsShelf x.shelf y.shelf
 
 -- the faults of a place's drive rose
 abbrev pub DriveWent : View → View → ℕ → Type 0

@@ -1,6 +1,11 @@
 pub mod View
+pub mod Moment
 pub mod Volume
 pub mod Works
 pub mod Calls
+pub mod Replacing
+pub mod Continuing
+pub mod Replaced
+pub mod Taking
 pub mod Made
 pub mod Keeping

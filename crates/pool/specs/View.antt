@@ -1,6 +1,7 @@
 -- What a pool shows to contracts.
 use Rattle.std.specs.Prelude.{ℕ, Bool, List}
 use Rattle.rack.specs.Seen.{Image, Seen}
+use Rattle.rack.specs.Shelf.{Shelf}
 use Rattle.slice_rack.specs.Slices.{Slices, sectors_of}
 use Rattle.slice_rack.specs.Sliced.{sliced, slices_of}
 use Rattle.slice_rack.specs.SliceRack.{tables, below_of as rack_of}
@@ -17,6 +18,8 @@ use Rattle.pool.specs.declared.Pool.{Pool}
 pub record View : Type 1 where
   -- the disks of its bay
   pub bay : Seen
+  -- their names, and what waits
+  pub shelf : Shelf
   -- where the slices of its drives lie on them
   pub slices : Slices
   -- its arrays, with its state and the number of its log
@@ -57,11 +60,18 @@ abbrev pub bay_in : {R : Type 0} → Pool R → R
 bay_in pool = rack_of (slices_in (arrays_of pool))
 
 -- what it shows
-abbrev pub view : {R : Type 0} → (R → Seen) → Pool R → View
-view seen pool = record {
+abbrev pub view : {R : Type 0} → (R → Seen) → (R → Shelf) → Pool R → View
+view seen shelf pool = record {
   bay = seen (bay_in pool);
+  shelf = shelf (bay_in pool);
   slices = tables (slices_in (arrays_of pool));
   arrays = arrays_in (arrays_of pool);
   refused = refused_in (arrays_of pool);
   linear = linear_of pool.volume;
 }
+
+-- the same over another bay
+abbrev pub with_bay : {R : Type 0} → Pool R → R → Pool R
+with_bay pool bay =
+    let raid = arrays_of pool in
+    record { volume = record pool.volume { rack = record raid { slices = record (slices_in raid) { rack = bay } } } }

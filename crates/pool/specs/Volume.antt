@@ -14,9 +14,12 @@ is_spent x = spent_by x.linear (book x)
 abbrev pub size_of : View → ℕ
 size_of x = (volume x).sectors 0
 
--- the volume holds an array, of which older values may have been dropped
+-- The volume holds an array, of which older values may have been dropped. So the bay's disks and names are told.
 pub record Holds (x : View) (a : FlatArray) : Type 0 where
-  pub told : (volume x).told 0
+  -- where every sector is spent, nothing need be told of its arrays
+  pub told : (s : ℕ) → s < a.size → is_spent x s ≡ false → (volume x).told 0
+  pub shelf : x.shelf.told
+  pub disks : (d : ℕ) → d < x.bay.disks → x.bay.told d
   pub size : a.size ≡ size_of x
   pub values : (s : ℕ) → s < a.size → is_spent x s ≡ false → Keeps (a.values s) ((volume x).held 0 s)
 

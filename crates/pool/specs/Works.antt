@@ -1,5 +1,5 @@
 -- The works of maintenance that a pool has left, by its arrays and its volume.
-use Rattle.std.specs.Prelude.{◌≡◌, ℕ, ◌-◌, ◌/◌, ◌⊎◌, ◌||◌, not, ◌<◌, Bool, true, false, nat_lt, if◌then◌else◌, List, [], find, length, map, slice_get, Option, Some}
+use Rattle.std.specs.Prelude.{◌≡◌, ℕ, ◌-◌, ◌*◌, ◌/◌, ◌⊎◌, ◌||◌, not, ◌<◌, Bool, true, false, nat_lt, if◌then◌else◌, List, [], find, length, map, slice_get, Option, Some}
 use Rattle.std.specs.List.{range_with_len}
 use Rattle.std.specs.Option.{option_map_or}
 use Rattle.array_image.specs.SoundArray.{first_unsynced}
@@ -16,13 +16,14 @@ use Rattle.growth_plan.specs.Works.{works_left}
 use Rattle.lvm_group.specs.Runs.{Linear, extents_of}
 use Rattle.lvm_group.specs.Volume.{linear as linear_of}
 use Rattle.rack.specs.Seen.{Seen}
+use Rattle.raid_rack.specs.Moves.{RaisesBy}
 use Rattle.raid_rack.specs.Raid.{Raid, is_over}
 use Rattle.raid_rack.specs.RaidRack.{KeepsRack, SliceRuns, raid_in, raid_seen, slices_in, slices_seen, written_in}
 use Rattle.raid_rack.specs.Runs.{RaidRuns}
 use Rattle.raid_rack.specs.Works.{array_of, is_due, is_rebuilding_seat, is_stuck}
 use Rattle.pool.specs.declared.Pool.{Pool}
-use Rattle.pool.specs.Keeping.{KeepsBook, Raises}
-use Rattle.pool.specs.View.{View, arrays_of, book, view}
+use Rattle.pool.specs.Keeping.{KeepsBook, most_raised}
+use Rattle.pool.specs.View.{View, arrays_of, book}
 
 -- ---- how an array stands
 
@@ -128,4 +129,4 @@ pub record IsWorked {R : Type 0} (seen : R → Seen) (runs : R → R → Type 0)
       RaidRuns (written_in (arrays_of p)) (written_in (arrays_of q)) (raid_in (arrays_of p)) (raid_in (arrays_of q))
       (slices_seen seen (arrays_of p)) (slices_seen seen (arrays_of q))
   pub arrays : KeepsBook (raid_in (arrays_of p)) (raid_in (arrays_of q))
-  pub raises : Raises count (view seen p) (view seen q)
+  pub raises : RaisesBy (most_raised * count) (raid_in (arrays_of p)) (raid_in (arrays_of q))

@@ -38,8 +38,8 @@ pub enum LoseFault {
 impl<R: Bay> Pool<R> {
     /// The sectors of the volume.
     pub fn size(&self) -> u64
-        requires { (volume (view R.seen self.now)).fit }
-        ensures size { result ≡ size_of (view R.seen self.now) }
+        requires { (volume (view R.seen R.shelf self.now)).fit }
+        ensures size { result ≡ size_of (view R.seen R.shelf self.now) }
         ensures bounded { result < 2 ^ 52 }
     {
         self.volume.sectors(0)
@@ -47,7 +47,7 @@ impl<R: Bay> Pool<R> {
 
     /// The state of the pool, with the marks of the drives that are missing.
     pub fn state(&self) -> &State
-        ensures { result.now ≡ (book (view R.seen self.now)).state }
+        ensures { result.now ≡ (book (view R.seen R.shelf self.now)).state }
     {
         self.volume.below().state()
     }
@@ -61,8 +61,8 @@ impl<R: Bay> Pool<R> {
 
     /// Reads the current value of a sector of the volume.
     pub fn read(&mut self, sector: u64, into: &mut [u8; 512]) -> Result<(), SectorFault>
-        requires { (volume (view R.seen self.old)).fit }
-        ensures read { ReadsSector (view R.seen self.old) (view R.seen self.new) sector into.new result }
+        requires { (volume (view R.seen R.shelf self.old)).fit }
+        ensures read { ReadsSector (view R.seen R.shelf self.old) (view R.seen R.shelf self.new) sector into.new result }
         ensures runs { R.runs (bay_in self.old) (bay_in self.new) }
     {
         if sector >= self.size() {
@@ -76,8 +76,8 @@ impl<R: Bay> Pool<R> {
 
     /// Appends a value to those of a sector of the volume. It is durable once the volume has been flushed.
     pub fn write(&mut self, sector: u64, from: &[u8; 512]) -> Result<(), SectorFault>
-        requires { (volume (view R.seen self.old)).fit }
-        ensures written { WritesSector (view R.seen self.old) (view R.seen self.new) sector from.now result }
+        requires { (volume (view R.seen R.shelf self.old)).fit }
+        ensures written { WritesSector (view R.seen R.shelf self.old) (view R.seen R.shelf self.new) sector from.now result }
         ensures runs { R.runs (bay_in self.old) (bay_in self.new) }
     {
         if sector >= self.size() {
@@ -91,8 +91,8 @@ impl<R: Bay> Pool<R> {
 
     /// Makes the current values of all sectors durable: each drive that isn't missing is synced.
     pub fn flush(&mut self)
-        requires { (volume (view R.seen self.old)).fit }
-        ensures flushes { Flushes (view R.seen self.old) (view R.seen self.new) }
+        requires { (volume (view R.seen R.shelf self.old)).fit }
+        ensures flushes { Flushes (view R.seen R.shelf self.old) (view R.seen R.shelf self.new) }
         ensures runs { R.runs (bay_in self.old) (bay_in self.new) }
     {
         // Only a spent sector is refused, so a sync never is.
@@ -100,8 +100,8 @@ impl<R: Bay> Pool<R> {
     }
 
     /// Whether a place is in the list and isn't marked missing.
-    fn has_drive(&self, place: u32) -> bool
-        ensures { result ≡ is_current (book (view R.seen self.now)).state place }
+    pub(crate) fn has_drive(&self, place: u32) -> bool
+        ensures { result ≡ is_current (book (view R.seen R.shelf self.now)).state place }
     {
         match self.state().drives.get(place as usize) {
             Some(drive) => !drive.missing,
@@ -111,8 +111,8 @@ impl<R: Bay> Pool<R> {
 
     /// Loses the drive of a place: its mark is durable on the others when this returns. From then on it isn't written.
     pub fn lose(&mut self, place: u32) -> Result<(), LoseFault>
-        requires { (volume (view R.seen self.old)).fit }
-        ensures lost { LosesDrive (view R.seen self.old) (view R.seen self.new) place result }
+        requires { (volume (view R.seen R.shelf self.old)).fit }
+        ensures lost { LosesDrive (view R.seen R.shelf self.old) (view R.seen R.shelf self.new) place result }
         ensures kept { OnErr result (self.new ≡ self.old) }
         ensures runs { R.runs (bay_in self.old) (bay_in self.new) }
     {
@@ -128,8 +128,8 @@ impl<R: Bay> Pool<R> {
     /// Ends a run: all values are durable, and the superblocks of each array say that no row is left to resync, but for those that
     /// were left when the pool was opened.
     pub fn end(&mut self)
-        requires { (volume (view R.seen self.old)).fit }
-        ensures ended { Ends (view R.seen self.old) (view R.seen self.new) }
+        requires { (volume (view R.seen R.shelf self.old)).fit }
+        ensures ended { Ends (view R.seen R.shelf self.old) (view R.seen R.shelf self.new) }
         ensures runs { R.runs (bay_in self.old) (bay_in self.new) }
     {
         // Each array's members are synced before its superblocks are written, so no flush comes first.

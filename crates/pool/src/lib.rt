@@ -11,11 +11,18 @@
 //! stop may meet, in all sectors that aren't spent when the call returns (`Does` of specs/Volume.antt); it is refused exactly by its
 //! cause (specs/Calls.antt); each step of maintenance takes one work off those that are left (specs/Works.antt); drives are marked lost
 //! only where their faults rose, or the caller lost them (`Marks`); and of the bay's disks only sectors of slices are written (`Passes`).
+//!
+//! **A replaced drive.** [`Pool::replace`] attaches a disk and takes it in at a place whose drive is missing (`ReplacesDrive` of
+//! specs/Replaced.antt). The volume goes on with its values; each refusal has its cause, in a fixed order (specs/Replacing.antt); what a
+//! stop inside leaves is read without the new drive, or with it and its table. Runs of calls that attach disks too are joined by
+//! proofs/Continuing.antt (`Continues`, `KeepsOutside`).
 #![tactic(auto)]
 
 mod calls;
 mod making;
+mod replacing;
 mod standing;
+mod taking;
 mod works;
 
 pub use assembler::{Part, Refusal};
@@ -25,6 +32,7 @@ pub use pool_format::{Birth, CreateFault};
 use rack::Rack;
 use raid_rack::RaidRack;
 pub use raid_rack::Stuck;
+pub use replacing::GrowFault;
 
 /// An opened pool.
 #[derive(Drop)]

@@ -39,21 +39,21 @@ impl<R: Bay> Pool<R> {
     /// passed their checks, and after these gates that are open, copies of partition tables that differ, marks with superblocks, superblocks
     /// where one is stale, and texts of the volume, with superblocks again.
     pub fn open(alloc: Global, bay: R, seconds: u64) -> Result<Pool<R>, Back<R, Refusal>>
-        ensures fit { IfOk result (λ pool. (volume (view R.seen pool)).fit) }
+        ensures fit { IfOk result (λ pool. (volume (view R.seen R.shelf pool)).fit) }
         ensures runs { IfOk result (λ pool. R.runs bay (bay_in pool)) }
         ensures early { IfErr result (λ back. is_early back.why ≡ true → OnlyReads (R.seen bay) (R.seen back.rack) ⊎ WritesDrives (R.seen bay) (R.seen back.rack)) }
         ensures drives { IfOk result (λ pool. WritesPool R.seen R.runs bay (bay_in pool)) }
         ensures written { IfErr result (λ back. OnlyReads (R.seen bay) (R.seen back.rack) ⊎ (WritesDrives (R.seen bay) (R.seen back.rack) ⊎ WritesPool R.seen R.runs bay back.rack)) }
         ensures meant { IfOk result (λ pool. (f : Found) → HoldSound (R.seen bay) f → IsUnfaulted (R.seen bay) (R.seen (bay_in pool))
-            → IsMeantBy R.seen (R.seen bay) f (arrays_of pool) (view R.seen pool).linear) }
+            → IsMeantBy R.seen (R.seen bay) f (arrays_of pool) (view R.seen R.shelf pool).linear) }
         ensures marks { IfOk result (λ pool. (f : Found) → HoldSound (R.seen bay) f → IsUnfaulted (R.seen bay) (R.seen (bay_in pool))
-            → (p : ℕ) → is_current (book (view R.seen pool)).state p ≡ (is_current f.state p && is_some (f.seats p))) }
+            → (p : ℕ) → is_current (book (view R.seen R.shelf pool)).state p ≡ (is_current f.state p && is_some (f.seats p))) }
         // Whoever goes, drives are marked missing only where they had no disk, or that refused a call.
-        ensures caused { IfOk result (λ pool. MarksDrives R.seen R.runs bay (bay_in pool) (book (view R.seen pool)).state) }
+        ensures caused { IfOk result (λ pool. MarksDrives R.seen R.runs bay (bay_in pool) (book (view R.seen R.shelf pool)).state) }
         ensures mended { IfOk result (λ pool. (f : Found) → HoldSound (R.seen bay) f → IsUnfaulted (R.seen bay) (R.seen (bay_in pool))
             → (p d : ℕ) → f.seats p ≡ Some d → IsSettled (R.seen bay) (R.seen (bay_in pool)) d) }
         ensures agreed { IfOk result (λ pool. (f : Found) → HoldSound (R.seen bay) f → IsUnfaulted (R.seen bay) (R.seen (bay_in pool))
-            → HaveAgreed f (book (view R.seen pool)).state (slices_shown (view R.seen pool))) }
+            → HaveAgreed f (book (view R.seen R.shelf pool)).state (slices_shown (view R.seen R.shelf pool))) }
         ensures exact { IfErr result (λ back. (f : Found) → HoldSound (R.seen bay) f → IsUnfaulted (R.seen bay) (R.seen back.rack)
             → back.why ≢ Refusal.Memory → IsMeantRefusal (R.seen bay) back.why) }
         // Whatever the disks tell and whoever goes, a refusal has its cause in what was read of them.
@@ -85,8 +85,8 @@ impl<R: Bay> Pool<R> {
         ensures layout { (fault : PlanError) → IsRefusedFor (CreateFault.Layout fault) result ↔ IsUnplanned (units_on (R.seen bay) extent) fault }
         ensures unchanged { IfErr result (λ back. (fault : PlanError) → back.why ≡ CreateFault.Layout fault → back.rack ≡ bay) }
         ensures gone { IfErr result (λ back. (disk : ℕ) → back.why ≡ CreateFault.Gone disk → (disk < (R.seen bay).disks) × Rose ((R.seen bay).faults disk) ((R.seen back.rack).faults disk)) }
-        ensures fit { IfOk result (λ pool. (volume (view R.seen pool)).fit) }
-        ensures made { IfOk result (λ pool. IsSoundlyMade (R.seen bay) (R.seen (bay_in pool)) extent birth.now (arrays_in (arrays_of pool)) (view R.seen pool).linear) }
+        ensures fit { IfOk result (λ pool. (volume (view R.seen R.shelf pool)).fit) }
+        ensures made { IfOk result (λ pool. IsSoundlyMade (R.seen bay) (R.seen (bay_in pool)) extent birth.now (arrays_in (arrays_of pool)) (view R.seen R.shelf pool).linear) }
         ensures some { IfErr result (λ back. HasLayout back.why → IsSafelyRefused (R.seen bay) (R.seen back.rack) extent birth.now) }
         ensures runs { IfOk result (λ pool. R.runs bay (bay_in pool)) }
         ensures returned { IfErr result (λ back. R.runs bay back.rack) }

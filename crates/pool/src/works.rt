@@ -17,17 +17,17 @@ use raid_rack::Stuck;
 impl<R: Bay> Pool<R> {
     /// Whether the pool's list has a drive, as that of each state that was read.
     fn has_drives(&self) -> bool
-        ensures { result ≡ nat_lt 0 (length (book (view R.seen self.now)).state.drives.items) }
+        ensures { result ≡ nat_lt 0 (length (book (view R.seen R.shelf self.now)).state.drives.items) }
     {
         self.state().drives.len() > 0
     }
 
     /// How far all arrays are, and the volume.
-    fn progress(&self) -> Progress
-        requires fit { (volume (view R.seen self.now)).fit }
-        requires listed { 0 < length (book (view R.seen self.now)).state.drives.items }
-        ensures value { result ≡ progress_by (view R.seen self.now).linear (book (view R.seen self.now)) }
-        ensures book { IsBook (book (view R.seen self.now)).state result }
+    pub(crate) fn progress(&self) -> Progress
+        requires fit { (volume (view R.seen R.shelf self.now)).fit }
+        requires listed { 0 < length (book (view R.seen R.shelf self.now)).state.drives.items }
+        ensures value { result ≡ progress_by (view R.seen R.shelf self.now).linear (book (view R.seen R.shelf self.now)) }
+        ensures book { IsBook (book (view R.seen R.shelf self.now)).state result }
     {
         let extent = self.state().extent;
         let mut arrays = ArrayVec::new();
@@ -45,8 +45,8 @@ impl<R: Bay> Pool<R> {
 
     /// How many works of maintenance are left: rows to resync and to rebuild, and what is left of the plan.
     pub fn left(&self) -> u64
-        requires { (volume (view R.seen self.now)).fit }
-        ensures { result ≡ left_of (view R.seen self.now) }
+        requires { (volume (view R.seen R.shelf self.now)).fit }
+        ensures { result ≡ left_of (view R.seen R.shelf self.now) }
     {
         if self.has_drives() {
             left(self.state(), &self.progress())
@@ -57,8 +57,8 @@ impl<R: Bay> Pool<R> {
 
     /// The first of the works that are left.
     fn next_work(&self) -> Option<Work>
-        requires { (volume (view R.seen self.now)).fit }
-        ensures first { result ≡ slice_get (works_of (view R.seen self.now)) 0 }
+        requires { (volume (view R.seen R.shelf self.now)).fit }
+        ensures first { result ≡ slice_get (works_of (view R.seen R.shelf self.now)) 0 }
     {
         if self.has_drives() {
             next_work(self.state(), &self.progress())
@@ -69,10 +69,10 @@ impl<R: Bay> Pool<R> {
 
     /// Does the first of the works that are left, where one is.
     fn advance(&mut self) -> Result<(), Stuck>
-        requires { (volume (view R.seen self.old)).fit }
+        requires { (volume (view R.seen R.shelf self.old)).fit }
         ensures worked { IsWorked R.seen R.runs 1 self.old self.new }
-        ensures counted { OnOk result (IsOneFewer (view R.seen self.old) (view R.seen self.new)) }
-        ensures stuck { IfErr result (λ e. IsStuck (view R.seen self.new).linear (book (view R.seen self.new)) e.array) }
+        ensures counted { OnOk result (IsOneFewer (view R.seen R.shelf self.old) (view R.seen R.shelf self.new)) }
+        ensures stuck { IfErr result (λ e. IsStuck (view R.seen R.shelf self.new).linear (book (view R.seen R.shelf self.new)) e.array) }
     {
         match self.next_work() {
             Some(work) => self.volume.inner().work(&work),
@@ -84,8 +84,8 @@ impl<R: Bay> Pool<R> {
     /// moves. A drive that is lost meanwhile changes what is left, and the steps go on. They end where a work can't be done, which
     /// names its array; those before it are done.
     pub fn step(&mut self, count: u64) -> Result<u64, Stuck>
-        requires { (volume (view R.seen self.old)).fit }
-        ensures steps { Steps (view R.seen self.old) (view R.seen self.new) count result }
+        requires { (volume (view R.seen R.shelf self.old)).fit }
+        ensures steps { Steps (view R.seen R.shelf self.old) (view R.seen R.shelf self.new) count result }
         ensures runs { R.runs (bay_in self.old) (bay_in self.new) }
     {
         for _turn in 0..count.min(self.left()) {

@@ -12,25 +12,26 @@ work-requires g c = record { fit = subst (λ r. IsFit (arrays_in r) (slices_seen
 pub returns-in-Some : goal.returns-in-Some
 returns-in-Some g c =
     let seen = g.R.Rack.seen in
+    let shelf = g.R.Bay.shelf in
     let p = c.args.self.now in
     let new = c.work.new.self in
     let own = c.work.ensures in
-    let first : slice_get (works_of (view seen p)) 0 ≡ Some c.in-Some.work = sym c.in-Some.ensures.first in
+    let first : slice_get (works_of (view seen shelf p)) 0 ≡ Some c.in-Some.work = sym c.in-Some.ensures.first in
     let says : SaysOf seen c.in-Some.work c.work.result (arrays_of p) new =
     subst (λ old. SaysOf seen c.in-Some.work c.work.result old new) c.inner.ensures.value (record { idle = own.idle; does = own.does; named = own.named }) in
-    let worked = worked_by seen g.R.Rack.runs p _ new c.inner.ensures.value own.keeps own.runs own.book
-    (work_book seen p new c.in-Some.work c.requires c.work.result (subst (λ old. KeepsRack (raid_seen seen old) (raid_seen seen new)) c.inner.ensures.value own.keeps).stays.fit says) own.raises in
+    let worked = worked_by seen shelf g.R.Rack.runs p _ new c.inner.ensures.value own.keeps own.runs own.book
+    (work_book seen shelf p new c.in-Some.work c.requires c.work.result (subst (λ old. KeepsRack (raid_seen seen old) (raid_seen seen new)) c.inner.ensures.value own.keeps).stays.fit says) own.raises in
     record {
       worked = worked;
-      counted = one_fewer seen g.R.Rack.runs g.met.R.Rack.sound p new c.in-Some.work c.requires first c.work.result worked says;
-      stuck = is_stuck_at seen g.R.Rack.runs g.met.R.Rack.sound p new c.in-Some.work c.requires first c.work.result says;
+      counted = one_fewer seen shelf g.R.Rack.runs g.met.R.Rack.sound g.met.R.Bay.runs_shelf p new c.in-Some.work c.requires first c.work.result worked says;
+      stuck = is_stuck_at seen shelf g.R.Rack.runs g.met.R.Rack.sound g.met.R.Bay.runs_shelf p new c.in-Some.work c.requires first c.work.result says;
     }
 
 pub returns-in-None : goal.returns-in-None
 returns-in-None g c =
     let p = c.args.self.now in
     record {
-      worked = worked_more g.R.Rack.seen g.R.Rack.runs 1 p p (worked_none g.R.Rack.seen g.R.Rack.runs g.met.R.Rack.runs_same p c.requires);
-      counted = λ quiet alone. (alone, λ some. absurd (none_left (works_of (view g.R.Rack.seen p)) (sym c.in-None.ensures.first) some));
+      worked = worked_more g.R.Rack.seen g.R.Bay.shelf g.R.Rack.runs 1 p p (worked_none g.R.Rack.seen g.R.Bay.shelf g.R.Rack.runs g.met.R.Rack.runs_same p c.requires);
+      counted = λ quiet alone. (alone, λ some. absurd (none_left (works_of (view g.R.Rack.seen g.R.Bay.shelf p)) (sym c.in-None.ensures.first) some));
       stuck = tt;
     }

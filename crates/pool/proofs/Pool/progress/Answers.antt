@@ -19,13 +19,13 @@ use Rattle.pool.proofs.Pool.progress.Goals.{in-Some, in-None}
 
 pub array_now-requires-clause-extent : goal.array_now-requires-clause-extent
 array_now-requires-clause-extent g c =
-    let v = book (view g.R.Rack.seen c.args.self.now) in
+    let v = book (view g.R.Rack.seen g.R.Bay.shelf c.args.self.now) in
     subst (λ n. 0 < n) (sym (ap (λ s. s.extent) c.state.ensures)) (some_extent v.state 0 (c.requires.fit.0.running.set.valid 0 c.requires.listed))
 
 pub array_now-requires-clause-members : goal.array_now-requires-clause-members
 array_now-requires-clause-members g c =
     let p = c.args.self.now in
-    let v = book (view g.R.Rack.seen p) in
+    let v = book (view g.R.Rack.seen g.R.Bay.shelf p) in
     let n = c.loop-number.number in
     let made = ap (λ s. s.made) c.state-2.ensures in
     let test = c.loop-number-test.true in
@@ -39,7 +39,7 @@ array_now-requires-clause-members g c =
 pub push-requires : goal.push-requires
 push-requires g c =
     let p = c.args.self.now in
-    let v = book (view g.R.Rack.seen p) in
+    let v = book (view g.R.Rack.seen g.R.Bay.shelf p) in
     let made = ap (λ s. s.made) c.state-2.ensures in
     let test = c.loop-number-test.true in
     let most = c.requires.fit.0.running.set.most in
@@ -49,7 +49,7 @@ push-requires g c =
 pub loop-number-preserved : goal.loop-number-preserved
 loop-number-preserved g c =
     let p = c.args.self.now in
-    let v = book (view g.R.Rack.seen p) in
+    let v = book (view g.R.Rack.seen g.R.Bay.shelf p) in
     let n = c.loop-number.number in
     let now : ℕ → ArrayNow = λ k. array_now c.state.result.now.extent (v.arrays k) in
     elim c.match-array.branch [
@@ -70,7 +70,7 @@ loop-number-preserved g c =
 pub returns-clause-value : goal.returns-clause-value
 returns-clause-value g c =
     let p = c.args.self.now in
-    let v = book (view g.R.Rack.seen p) in
+    let v = book (view g.R.Rack.seen g.R.Bay.shelf p) in
     let make : List ArrayNow → ℕ → Progress = λ xs n. record { arrays = record { items = xs }; extents = n } in
     let made = ap (λ s. s.made) c.state-2.ensures in
     let test = c.loop-number-test.false in
@@ -84,7 +84,7 @@ returns-clause-value g c =
 pub returns-clause-book : goal.returns-clause-book
 returns-clause-book g c =
     let p = c.args.self.now in
-    let v = book (view g.R.Rack.seen p) in
+    let v = book (view g.R.Rack.seen g.R.Bay.shelf p) in
     let l = linear p.volume in
     subst (λ (q : Progress). IsBook v.state q) (sym (returns-clause-value g c))
     (is_book l v (slices_seen g.R.Rack.seen (arrays_of p)) c.requires.fit.0.running.set c.requires.listed

@@ -10,52 +10,54 @@ use Rattle.pool.proofs.Pool.step.Goals as goal
 
 pub loop-turn-init : goal.loop-turn-init
 loop-turn-init g c = record {
-  worked = worked_none g.R.Rack.seen g.R.Rack.runs g.met.R.Rack.runs_same c.args.self.now c.requires;
-  fewer = fewer_none (view g.R.Rack.seen c.args.self.now);
+  worked = worked_none g.R.Rack.seen g.R.Bay.shelf g.R.Rack.runs g.met.R.Rack.runs_same c.args.self.now c.requires;
+  fewer = fewer_none (view g.R.Rack.seen g.R.Bay.shelf c.args.self.now);
 }
 
 pub advance-requires : goal.advance-requires
-advance-requires g c = worked_fit g.R.Rack.seen g.R.Rack.runs c.loop-turn._turn c.args.self.now c.loop-turn.self c.requires c.loop-turn.invariant.worked
+advance-requires g c = worked_fit g.R.Rack.seen g.R.Bay.shelf g.R.Rack.runs c.loop-turn._turn c.args.self.now c.loop-turn.self c.requires c.loop-turn.invariant.worked
 
 pub loop-turn-preserved : goal.loop-turn-preserved
 loop-turn-preserved g c =
     let seen = g.R.Rack.seen in
+    let shelf = g.R.Bay.shelf in
     let p = c.args.self.now in
     let q = c.loop-turn.self in
     let r = c.advance.new.self in
-    let fit = worked_fit seen g.R.Rack.runs c.loop-turn._turn p q c.requires c.loop-turn.invariant.worked in
+    let fit = worked_fit seen shelf g.R.Rack.runs c.loop-turn._turn p q c.requires c.loop-turn.invariant.worked in
     let left = c.left.ensures in
     let end = c.min-turn-end.ensures in
     let test = c.loop-turn-test.true in
     record {
-      worked = worked_then seen g.R.Rack.runs g.met.R.Rack.runs_then c.loop-turn._turn p q r c.loop-turn.invariant.worked c.advance.ensures.worked;
-      fewer = fewer_then (view seen p) (view seen q) (view seen r) c.loop-turn._turn
-          (worked_call seen g.R.Rack.runs g.met.R.Rack.sound c.loop-turn._turn p q c.requires c.loop-turn.invariant.worked).passes
-          (worked_call seen g.R.Rack.runs g.met.R.Rack.sound 1 q r fit c.advance.ensures.worked).passes
+      worked = worked_then seen shelf g.R.Rack.runs g.met.R.Rack.runs_then c.loop-turn._turn p q r c.loop-turn.invariant.worked c.advance.ensures.worked;
+      fewer = fewer_then (view seen shelf p) (view seen shelf q) (view seen shelf r) c.loop-turn._turn
+          (worked_call seen shelf g.R.Rack.runs g.met.R.Rack.sound g.met.R.Bay.runs_shelf c.loop-turn._turn p q c.requires c.loop-turn.invariant.worked).passes
+          (worked_call seen shelf g.R.Rack.runs g.met.R.Rack.sound g.met.R.Bay.runs_shelf 1 q r fit c.advance.ensures.worked).passes
           (omega (arith, left, end, test)) c.loop-turn.invariant.fewer c.in_ok-advance.ensures.counted;
     }
 
 pub left-requires-2 : goal.left-requires-2
-left-requires-2 g c = worked_fit g.R.Rack.seen g.R.Rack.runs c.loop-turn._turn c.args.self.now c.loop-turn.self c.requires c.loop-turn.invariant.worked
+left-requires-2 g c = worked_fit g.R.Rack.seen g.R.Bay.shelf g.R.Rack.runs c.loop-turn._turn c.args.self.now c.loop-turn.self c.requires c.loop-turn.invariant.worked
 
 pub returns-in_err-advance : goal.returns-in_err-advance
 returns-in_err-advance g c =
     let seen = g.R.Rack.seen in
+    let shelf = g.R.Bay.shelf in
     let p = c.args.self.now in
     let q = c.advance.new.self in
     let turn = c.loop-turn._turn in
-    let all = worked_then seen g.R.Rack.runs g.met.R.Rack.runs_then turn p c.loop-turn.self q c.loop-turn.invariant.worked c.advance.ensures.worked in
-    let call = worked_call seen g.R.Rack.runs g.met.R.Rack.sound (turn + 1) p q c.requires all in
+    let all = worked_then seen shelf g.R.Rack.runs g.met.R.Rack.runs_then turn p c.loop-turn.self q c.loop-turn.invariant.worked c.advance.ensures.worked in
+    let call = worked_call seen shelf g.R.Rack.runs g.met.R.Rack.sound g.met.R.Bay.runs_shelf (turn + 1) p q c.requires all in
     let error = err_from_is_err_and c.from_residual.result c.from_residual.ensures.1 in
     record {
       steps = record {
         passes = call.passes;
-        raises = raises_fewer (turn + 1) c.args.count (view seen p) (view seen q) (let end = c.min-turn-end.ensures in let test = c.loop-turn-test.true in omega (arith, end, test)) call.raises;
+        raises = raises_fewer (turn + 1) c.args.count (view seen shelf p) (view seen shelf q) (let end = c.min-turn-end.ensures in let test = c.loop-turn-test.true in omega (arith, end, test)) call.raises;
         marks = call.marks;
-        does = worked_does seen g.R.Rack.runs g.met.R.Rack.sound (turn + 1) p q c.requires all;
+        does = worked_does seen shelf g.R.Rack.runs g.met.R.Rack.sound g.met.R.Bay.runs_shelf (turn + 1) p q c.requires all;
         left = rw error.1 tt;
         progress = rw error.1 tt;
-        stuck = rw error.1 (subst (λ (e : Stuck). IsStuck (view seen q).linear (book (view seen q)) e.array) (sym error.2) c.in_err-advance.ensures.stuck);
+        stuck = rw error.1 (subst (λ (e : Stuck). IsStuck (view seen shelf q).linear (book (view seen shelf q)) e.array) (sym error.2) c.in_err-advance.ensures.stuck);
       };
       runs = all.ran.below;
     }
@@ -63,20 +65,21 @@ returns-in_err-advance g c =
 pub returns : goal.returns
 returns g c =
     let seen = g.R.Rack.seen in
+    let shelf = g.R.Bay.shelf in
     let p = c.args.self.now in
     let q = c.loop-turn.self in
     let turn = c.loop-turn._turn in
     let all = c.loop-turn.invariant.worked in
-    let call = worked_call seen g.R.Rack.runs g.met.R.Rack.sound turn p q c.requires all in
+    let call = worked_call seen shelf g.R.Rack.runs g.met.R.Rack.sound g.met.R.Bay.runs_shelf turn p q c.requires all in
     let left = c.left.ensures in
     let end = c.min-turn-end.ensures in
     let test = c.loop-turn-test.false in
     record {
       steps = record {
         passes = call.passes;
-        raises = raises_fewer turn c.args.count (view seen p) (view seen q) (let auto = c.loop-turn.auto in omega (arith, end, auto)) call.raises;
+        raises = raises_fewer turn c.args.count (view seen shelf p) (view seen shelf q) (let auto = c.loop-turn.auto in omega (arith, end, auto)) call.raises;
         marks = call.marks;
-        does = worked_does seen g.R.Rack.runs g.met.R.Rack.sound turn p q c.requires all;
+        does = worked_does seen shelf g.R.Rack.runs g.met.R.Rack.sound g.met.R.Bay.runs_shelf turn p q c.requires all;
         left = c.left-2.ensures;
         progress = λ quiet alone. let fewer = c.loop-turn.invariant.fewer quiet alone in (fewer.0, let most = fewer.1 in let auto = c.loop-turn.auto in omega (arith, most, left, end, test, auto));
         stuck = tt;

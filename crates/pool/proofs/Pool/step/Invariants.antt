@@ -6,5 +6,5 @@ use Rattle.pool.proofs.Pool.step.Given as goal
 abbrev pub invariant-loop-turn : goal.invariant-loop-turn
 invariant-loop-turn g l = record {
   worked : IsWorked g.R.Rack.seen g.R.Rack.runs l._turn l.fn.self l.self;
-  fewer : IsFewerBy (view g.R.Rack.seen l.fn.self) (view g.R.Rack.seen l.self) l._turn;
+  fewer : IsFewerBy (view g.R.Rack.seen g.R.Bay.shelf l.fn.self) (view g.R.Rack.seen g.R.Bay.shelf l.self) l._turn;
 }

@@ -1,0 +1,405 @@
+-- A replacing, by what its parts say.
+use Rattle.std.specs.Prelude.{Result, Ok, Err, IfErr, OnOk}
+use Rattle.std.specs.Bool.{then_some}
+use Rattle.std.specs.Option.{option_or}
+use Rattle.std.proofs.Common.{◌≡◌, ◌≢◌, ◌⊎◌, ℕ, ◌<◌, ◌≤◌, not, if◌then◌else◌, Bool, true, false, List, [], ◌∷◌, length, slice_get, Option, Some, None, option_map, refl, sym, ap, subst, ◌∙◌, inl, inr, arith, lt-ltb, le-ltb}
+use Rattle.std.proofs.lemmas.Bool.{both_ways, cases_lt}
+use Rattle.rack.specs.Joins.{keeps_same}
+use Rattle.rack.specs.Values.{Keeps, MayLeave}
+use Rattle.rack.specs.Moments.{IsSound}
+use Rattle.rack.specs.Seen.{Rose, Seen}
+use Rattle.rack.specs.Shelf.{Shelf}
+use Rattle.flat_array.specs.Array.{FlatArray}
+use Rattle.array_image.specs.States.{is_current}
+use Rattle.growth_plan.specs.Admission.{first_refusal, replace_refusals}
+use Rattle.growth_plan.specs.declared.AdmitFault.{AdmitFault}
+use Rattle.growth_plan.specs.declared.AdmitFault.TheVariants.{Size as OfSize, Smaller as OfSmaller, TooManyDrives as OfDrives, TooManyLayers as OfLayers}
+use Rattle.lvm_group.specs.Runs.{Linear}
+use Rattle.raid_rack.specs.Book.{IsAfter, after_same}
+use Rattle.raid_rack.specs.Losing.{arrays_same}
+use Rattle.raid_rack.specs.Moves.{KeepsArrays}
+use Rattle.raid_rack.specs.Raid.{Raid}
+use Rattle.shr_base.specs.Units.{units_of}
+use Rattle.pool.specs.declared.replacing.GrowFault.{GrowFault}
+use Rattle.pool.specs.declared.replacing.GrowFault.TheVariants.{NoSuchDrive, Attach, Twice, Memory, Gone, PlanPending, NotWhole, NotResynced, Unbuilt, TooManySegments}
+use Rattle.pool.specs.Continuing.{KeepsDisk}
+use Rattle.pool.specs.Moment.{IsNamed, moment_of}
+use Rattle.pool.specs.Replaced.{DriveWentSince, HasMarked, HasTable, IsAnswer, IsDeclined, IsLookedAt, IsOfDrive, IsReplaced, LeavesNew, MeansWith, MeansWithout, ReplacesDrive, faults_before}
+use Rattle.pool.specs.Replacing.{fault_of, first_cause, has_other_missing, has_resync, has_same, is_planned, lacks_segments, refusal_of, standing_refusals}
+use Rattle.pool.specs.Taking.{AttachesDisk, NoDisk, ReplacesBy}
+use Rattle.array_image.specs.Places.{log_slice}
+use Rattle.slice_rack.specs.Slices.{disk_of, seat_of}
+use Rattle.pool.specs.View.{View, book, volume}
+use Rattle.pool.specs.Volume.{Holds}
+use Rattle.pool.specs.Works.{arrays_now}
+use Rattle.pool.proofs.Booked.{book_same, raises_still}
+use Rattle.pool.proofs.Carrying.{carries_same, carries_then, ends_of, holds_of}
+use Rattle.pool.proofs.Continuing.{continues_same, continues_then, outside_fewer, outside_then}
+use Rattle.pool.proofs.Later.{later}
+
+-- ---- refusals
+
+abbrev Answer : Type 0
+Answer = Result (Unit {0}) GrowFault
+
+same_fault : (e f : GrowFault) → ◌≡◌ {A = Answer} (Err e) (Err f) → e ≡ f
+same_fault e f same = cc
+
+same_of : (e f : GrowFault) → ◌≡◌ {A = Result ℕ GrowFault} (Err e) (Err f) → e ≡ f
+same_of e f same = cc
+
+never_fault : (e : GrowFault) → ◌≡◌ {A = Answer} (Ok tt) (Err e) → ⊥
+never_fault e same = cc
+
+-- a refusal that is looked for once a disk is there
+pub record IsLate (f : GrowFault) : Type 0 where
+  pub listed : f ≢ NoSuchDrive
+  pub attached : f ≢ Attach
+  pub had : f ≢ Memory
+  pub other : f ≢ Twice
+
+late_planned : IsLate PlanPending × (PlanPending ≢ Gone)
+late_planned = (record { listed = λ same. cc; attached = λ same. cc; had = λ same. cc; other = λ same. cc }, λ same. cc)
+
+late_whole : IsLate NotWhole × (NotWhole ≢ Gone)
+late_whole = (record { listed = λ same. cc; attached = λ same. cc; had = λ same. cc; other = λ same. cc }, λ same. cc)
+
+late_unbuilt : IsLate Unbuilt × (Unbuilt ≢ Gone)
+late_unbuilt = (record { listed = λ same. cc; attached = λ same. cc; had = λ same. cc; other = λ same. cc }, λ same. cc)
+
+late_resynced : IsLate NotResynced × (NotResynced ≢ Gone)
+late_resynced = (record { listed = λ same. cc; attached = λ same. cc; had = λ same. cc; other = λ same. cc }, λ same. cc)
+
+late_gone : IsLate Gone
+late_gone = record { listed = λ same. cc; attached = λ same. cc; had = λ same. cc; other = λ same. cc }
+
+late_segments : IsLate TooManySegments × (TooManySegments ≢ Gone)
+late_segments = (record { listed = λ same. cc; attached = λ same. cc; had = λ same. cc; other = λ same. cc }, λ same. cc)
+
+late_plan : (fault : AdmitFault) → IsLate (fault_of fault) × (fault_of fault ≢ Gone)
+late_plan OfSize = (record { listed = λ same. cc; attached = λ same. cc; had = λ same. cc; other = λ same. cc }, λ same. cc)
+late_plan OfSmaller = (record { listed = λ same. cc; attached = λ same. cc; had = λ same. cc; other = λ same. cc }, λ same. cc)
+late_plan OfDrives = (record { listed = λ same. cc; attached = λ same. cc; had = λ same. cc; other = λ same. cc }, λ same. cc)
+late_plan OfLayers = (record { listed = λ same. cc; attached = λ same. cc; had = λ same. cc; other = λ same. cc }, λ same. cc)
+
+abbrev AreLate : Option GrowFault → Type 0
+AreLate o = (f : GrowFault) → o ≡ Some f → IsLate f × (f ≢ Gone)
+
+late_none : AreLate None
+late_none f is = absurd (let bad : None ≡ Some f = is in cc bad)
+
+late_some : (e : GrowFault) → IsLate e × (e ≢ Gone) → AreLate (Some e)
+late_some e late f is = let same : e ≡ f = cc is in subst (λ g. IsLate g × (g ≢ Gone)) same late
+
+late_cause : (e : GrowFault) (cause : Bool) (rest : List (GrowFault × Bool)) → IsLate e × (e ≢ Gone) → AreLate (first_cause rest) → AreLate (first_cause ((e, cause) ∷ rest))
+late_cause e true rest late others = late_some e late
+late_cause e false rest late others = others
+
+late_or : (a b : Option GrowFault) → AreLate a → AreLate b → AreLate (option_or a b)
+late_or None b one two = two
+late_or (Some e) b one two = one
+
+late_map : (o : Option AdmitFault) → AreLate (option_map fault_of o)
+late_map None = late_none
+late_map (Some fault) = late_some (fault_of fault) (late_plan fault)
+
+late_if : (b : Bool) → AreLate (then_some b TooManySegments)
+late_if true = late_some TooManySegments late_segments
+late_if false = late_none
+
+standing_late : (a b c d e : Bool) → AreLate (first_cause ((PlanPending, a) ∷ (NotWhole, b) ∷ (Unbuilt, c) ∷ (NotResynced, d) ∷ (Unbuilt, e) ∷ []))
+standing_late a b c d e =
+    late_cause PlanPending a ((NotWhole, b) ∷ (Unbuilt, c) ∷ (NotResynced, d) ∷ (Unbuilt, e) ∷ []) late_planned
+    (late_cause NotWhole b ((Unbuilt, c) ∷ (NotResynced, d) ∷ (Unbuilt, e) ∷ []) late_whole
+    (late_cause Unbuilt c ((NotResynced, d) ∷ (Unbuilt, e) ∷ []) late_unbuilt
+    (late_cause NotResynced d ((Unbuilt, e) ∷ []) late_resynced (late_cause Unbuilt e [] late_unbuilt late_none))))
+
+refusal_late : (l : Linear) (v : Raid) (place sectors : ℕ) → AreLate (refusal_of l v place sectors)
+refusal_late l v place sectors =
+    let plan = first_refusal (replace_refusals v.state (arrays_now v) place (units_of sectors v.state.extent)) in
+    let room = then_some (lacks_segments l v place) TooManySegments in
+    late_or (first_cause (standing_refusals v place sectors)) (option_or (option_map fault_of plan) room)
+    (standing_late (is_planned v.state.plan) (has_other_missing v.state place) (is_current v.state place) (has_resync (arrays_now v)) (not (has_same v place sectors)))
+    (late_or (option_map fault_of plan) room (late_map plan) (late_if (lacks_segments l v place)))
+
+-- so is each answer
+pub answer_late : (l : Linear) (v : Raid) (place sectors : ℕ) (r : Answer) → IsAnswer (refusal_of l v place sectors) r → (f : GrowFault) → r ≡ Err f → IsLate f
+answer_late l v place sectors r answer f is = of (refusal_of l v place sectors) (refusal_late l v place sectors) answer
+  where
+    of : (o : Option GrowFault) → AreLate o → IsAnswer o r → IsLate f
+    of (Some e) late same = (late f (ap Some (same_fault e f (sym same ∙ is)))).0
+    of None late (inl served) = absurd (never_fault f (sym served ∙ is))
+    of None late (inr (inl gone)) = subst IsLate (same_fault Gone f (sym gone ∙ is)) late_gone
+    of None late (inr (inr whole)) = subst IsLate (same_fault NotWhole f (sym whole ∙ is)) late_whole.0
+
+-- nothing is called
+still_disk : (Told : Type 0) (a b : Seen) (d : ℕ) → ((k : ℕ) → b.held d k ≡ a.held d k) → b.clock ≡ a.clock → KeepsDisk Told a b d
+still_disk Told a b d held clock = record {
+  held = λ k within told. subst (λ h. Keeps (a.held d k) h) (sym (held k)) (keeps_same (a.held d k));
+  stops = λ told traced k i since until stopped. absurd (omega (arith, since, until, clock));
+}
+
+-- ---- the place isn't in the list
+
+-- nothing was called
+declined_none : (x y : View) (place : ℕ) (fault : GrowFault) → book y ≡ book x → y.slices ≡ x.slices → y.bay.clock ≡ x.bay.clock
+    → IsDeclined (moment_of x) (moment_of y) place fault
+declined_none x y place fault same slices clock = record {
+  marks = subst (λ (v : Raid). IsAfter (book x).state v.state) (sym same) (after_same (book x).state);
+  plan = ap (λ (v : Raid). v.state.plan) same;
+  arrays = subst (λ (v : Raid). KeepsArrays (book x) v) (sym same) (arrays_same (book x));
+  cause = λ k was now. absurd (both_ways (is_current (book x).state k) (subst (λ (v : Raid). is_current v.state k ≡ false) same now) was);
+  slices = inl slices;
+  unmarked = λ is. same;
+  quiet = λ other none. (same, slices, clock);
+}
+
+pub replaced_unlisted : (x : View) (place : ℕ) (name : List ℕ) → (volume x).fit → (x.bay.traced → IsSound (volume x))
+    → length (book x).state.drives.items ≤ place → ReplacesDrive x x place name (Err NoSuchDrive)
+replaced_unlisted x place name fit sound past = record {
+  continues = continues_same x fit;
+  raises = raises_still 1 x;
+  keeps = book_same (book x);
+  outside = record {
+    slices = λ d s v is. inl is;
+    held = λ d s out. keeps_same (x.bay.held d s);
+    stops = λ told traced k i since until stopped. absurd (omega (arith, since, until));
+  };
+  retired = λ d seat unnamed. still_disk x.shelf.told x.bay x.bay d (λ k. refl) refl;
+  cause = record {
+    missing = (λ same. past, λ same. refl);
+    attach = λ same. absurd (let e : NoSuchDrive ≡ Attach = same_fault NoSuchDrive Attach same in cc e);
+    used = λ d named. (λ same. let e : NoSuchDrive ≡ Attach = same_fault NoSuchDrive Attach same in cc e, λ same. let e : NoSuchDrive ≡ Memory = same_fault NoSuchDrive Memory same in cc e);
+    twice = (λ same. absurd (let e : NoSuchDrive ≡ Twice = same_fault NoSuchDrive Twice same in cc e), λ at. absurd (let low = at.0 in omega (arith, low, past)));
+    named = λ at. absurd (let low = at.listed in omega (arith, low, past));
+    answer = λ at. absurd (let low = at.listed in omega (arith, low, past));
+    gone = λ same. absurd (let e : NoSuchDrive ≡ Gone = same_fault NoSuchDrive Gone same in cc e);
+    not_whole = λ same. absurd (let e : NoSuchDrive ≡ NotWhole = same_fault NoSuchDrive NotWhole same in cc e);
+  };
+  declined = declined_none x x place NoSuchDrive refl refl refl;
+  replaced = tt;
+  table = tt;
+  moments = tt;
+  holds = λ a holds. holds;
+  leaves = λ traced a holds k i since until stopped. absurd (omega (arith, since, until));
+  ends = λ traced a holds i stopped. ends_of x (sound traced) a holds i stopped;
+}
+
+-- a refusal by how the pool stands
+pub nothing_done : (x : View) (place disk : ℕ) (e : GrowFault) → (volume x).fit → refusal_of x.linear (book x) place (x.bay.sectors disk) ≡ Some e
+    → ReplacesBy x x place disk (Err e)
+nothing_done x place disk e fit is = record {
+  continues = continues_same x fit;
+  carries = carries_same x;
+  raises = raises_still 1 x;
+  keeps = book_same (book x);
+  outside = record {
+    slices = λ d s v is. inl is;
+    held = λ d s out. keeps_same (x.bay.held d s);
+    stops = λ told traced k i since until stopped. absurd (omega (arith, since, until));
+  };
+  retired = λ d seat other. still_disk x.shelf.told x.bay x.bay d (λ k. refl) refl;
+  names = refl;
+  answer = subst (λ o. IsAnswer o (Err e)) (sym is) refl;
+  gone = λ same. absurd ((refusal_late x.linear (book x) place (x.bay.sectors disk) e is).1 (same_fault e Gone same));
+  not_whole = λ same. inl (is ∙ ap Some (same_fault e NotWhole same));
+  declined = declined_none x x place e refl refl refl;
+  replaced = tt;
+  table = tt;
+  moments = tt;
+  leaves = λ traced a holds k i since until stopped. absurd (omega (arith, since, until));
+}
+
+-- ---- a disk is attached, or none
+
+module _ (x : View) (b : Seen) (s : Shelf) (place : ℕ) (name : List ℕ) (listed : place < length (book x).state.drives.items) (fit : (volume x).fit) where
+  abbrev m : View
+  m = later x b s x.slices x.arrays
+
+  -- none is
+  pub replaced_unattached : (e : GrowFault) → AttachesDisk x m name (Err e) → (b.traced → IsSound (volume m)) → ReplacesDrive x m place name (Err e)
+  replaced_unattached e at sound = record {
+    continues = at.continues;
+    raises = raises_still 1 x;
+    keeps = book_same (book x);
+    outside = outside_fewer x.slices x.slices NoDisk (IsNamed (moment_of m) name) x.shelf.told x.bay b (λ d none. absurd none) at.outside;
+    retired = λ d seat unnamed. still_disk x.shelf.told x.bay b d (at.held d (fit.0.running.set.fit.1.seats place d seat)) at.clock;
+    cause = record {
+      missing = (λ same. absurd (not_listed (same_fault e NoSuchDrive same) at.err), λ past. absurd (omega (arith, listed, past)));
+      attach = λ same. at.attach (ap Err (same_fault e Attach same));
+      used = λ d named. (
+        λ same. (at.used d named).0 (ap Err (same_fault e Attach same)),
+        λ same. (at.used d named).1 (ap Err (same_fault e Memory same)),
+      );
+      twice = (λ same. (listed, at.twice.0 (ap Err (same_fault e Twice same))), λ of. ap Err (same_of e Twice (at.twice.1 of.1)));
+      named = λ look. absurd (looked look at.err);
+      answer = λ look. absurd (looked look at.err);
+      gone = λ same. absurd (not_gone (same_fault e Gone same) at.err);
+      not_whole = λ same. absurd (not_whole (same_fault e NotWhole same) at.err);
+    };
+    declined = declined_none x m place e refl refl at.clock;
+    replaced = tt;
+    table = tt;
+    moments = tt;
+    holds = holds_of x m at.continues at.carries;
+    leaves = λ traced a holds k i since until stopped. let clock = at.clock in absurd (omega (arith, since, until, clock));
+    ends = λ traced a holds i stopped. ends_of m (sound (at.continues.traced holds.shelf traced)) a (holds_of x m at.continues at.carries a holds) i stopped;
+  }
+    where
+      Early : Type 0
+      Early = (e ≡ Attach) ⊎ ((e ≡ Memory) ⊎ (e ≡ Twice))
+
+      not_listed : e ≡ NoSuchDrive → Early → ⊥
+      not_listed is (inl one) = let same : NoSuchDrive ≡ Attach = sym is ∙ one in cc same
+      not_listed is (inr (inl one)) = let same : NoSuchDrive ≡ Memory = sym is ∙ one in cc same
+      not_listed is (inr (inr one)) = let same : NoSuchDrive ≡ Twice = sym is ∙ one in cc same
+
+      not_gone : e ≡ Gone → Early → ⊥
+      not_gone is (inl one) = let same : Gone ≡ Attach = sym is ∙ one in cc same
+      not_gone is (inr (inl one)) = let same : Gone ≡ Memory = sym is ∙ one in cc same
+      not_gone is (inr (inr one)) = let same : Gone ≡ Twice = sym is ∙ one in cc same
+
+      not_whole : e ≡ NotWhole → Early → ⊥
+      not_whole is (inl one) = let same : NotWhole ≡ Attach = sym is ∙ one in cc same
+      not_whole is (inr (inl one)) = let same : NotWhole ≡ Memory = sym is ∙ one in cc same
+      not_whole is (inr (inr one)) = let same : NotWhole ≡ Twice = sym is ∙ one in cc same
+
+      looked : IsLookedAt (moment_of x) place (Err e) → Early → ⊥
+      looked look (inl one) = look.attached (ap Err one)
+      looked look (inr (inl one)) = look.had (ap Err one)
+      looked look (inr (inr one)) = look.other (ap Err one)
+
+  -- a disk is, and takes the place of the drive
+  module _ (disk : ℕ) (at : AttachesDisk x m name (Ok disk)) where
+    before_same : (d : ℕ) → faults_before (moment_of m) d ≡ faults_before (moment_of x) d
+    before_same d =
+        elim (cases_lt d b.disks) [
+          | inl low ↦ ap (λ t. if t then b.faults d else 0) (lt-ltb d b.disks low) ∙ at.faults d low
+          | inr past ↦
+              let more = at.continues.disks in
+              let old : x.bay.disks ≤ d = omega (arith, past, more) in
+              ap (λ t. if t then b.faults d else 0) (le-ltb d b.disks past) ∙ sym (ap (λ t. if t then x.bay.faults d else 0) (le-ltb d x.bay.disks old))
+        ]
+
+    went_since : (y : View) (k : ℕ) → DriveWentSince (moment_of m) (moment_of y) k → DriveWentSince (moment_of x) (moment_of y) k
+    went_since y k rose =
+        let d = disk_of y.slices (log_slice k) in
+        subst (λ n. Rose n (y.bay.faults d)) (before_same d) rose
+
+    pub replaced_by : (y : View) (r : Answer) → ReplacesBy m y place disk r → (y.bay.traced → IsSound (volume y)) → ReplacesDrive x y place name r
+    replaced_by y r by sound =
+        let go = continues_then x m y at.continues by.continues in
+        let carries = carries_then x m y at.continues at.carries by.carries in
+        let here : IsNamed (moment_of y) name disk = ap (λ names. slice_get names disk) by.names ∙ at.ok.0 in
+        let size : y.bay.sectors disk ≡ b.sectors disk = by.continues.sectors disk at.ok.1 in
+        record {
+          continues = go;
+          raises = by.raises;
+          keeps = by.keeps;
+          outside = outside_fewer x.slices y.slices (λ d. NoDisk d ⊎ (d ≡ disk)) (IsNamed (moment_of y) name) x.shelf.told x.bay y.bay (λ d is. named_at y here d is)
+              (outside_then x m y NoDisk (λ d. d ≡ disk) at.continues by.continues at.outside by.outside);
+          retired = λ d seat unnamed.
+              let keeps = by.retired d seat (λ is. unnamed (named_at y here d (inr is))) in
+              let old = fit.0.running.set.fit.1.seats place d seat in
+              let size_d : b.sectors d ≡ x.bay.sectors d = at.continues.sectors d old in
+              record {
+                held = λ k within told.
+                    subst (λ h. Keeps h (y.bay.held d k)) (at.held d old k)
+                    (keeps.held k (subst (λ n. k < n) (sym size_d) within) (at.continues.tells d old told));
+                stops = λ told traced k i since until stopped q within tells.
+                    subst (λ h. MayLeave h (i d q)) (at.held d old q)
+                    (keeps.stops (at.continues.told told) (at.continues.traced told traced) k i (let clock = at.clock in omega (arith, since, clock)) until stopped q
+                    (subst (λ n. q < n) (sym size_d) within) (at.continues.tells d old tells));
+              };
+          cause = record {
+            missing = (λ same. absurd ((late by NoSuchDrive same).listed refl), λ past. absurd (omega (arith, listed, past)));
+            attach = λ same. absurd ((late by Attach same).attached refl);
+            used = λ d named. (λ same. (late by Attach same).attached refl, λ same. (late by Memory same).had refl);
+            twice = (λ same. absurd ((late by Twice same).other refl), λ of. absurd (not_drive of.1));
+            named = λ look. (disk, here);
+            answer = λ look d named.
+                subst (λ e. IsAnswer (refusal_of x.linear (book x) place (y.bay.sectors e)) r) (sym (only y by d named))
+                (subst (λ n. IsAnswer (refusal_of x.linear (book x) place n) r) (sym size) by.answer);
+            gone = λ same d named.
+                subst (λ e. Rose (faults_before (moment_of x) e) (y.bay.faults e)) (sym (only y by d named))
+                (subst (λ n. Rose n (y.bay.faults disk)) (at.faults disk at.ok.1) (by.gone same));
+            not_whole = λ same d named.
+                subst (λ e. (refusal_of x.linear (book x) place (y.bay.sectors e) ≡ Some NotWhole) ⊎ HasMarked (moment_of x) (moment_of y)) (sym (only y by d named))
+                (subst (λ n. (refusal_of x.linear (book x) place n ≡ Some NotWhole) ⊎ HasMarked (moment_of x) (moment_of y)) (sym size) (by.not_whole same));
+          };
+          declined = declined_since y r by.declined;
+          replaced = replaced_since y r (only y by) by.replaced;
+          table = table_since y r (only y by) by.table;
+          moments = moments_since y r (only y by) by.moments;
+          holds = holds_of x y go carries;
+          leaves = λ traced a holds k i since until stopped.
+              by.leaves (at.continues.traced holds.shelf traced) a (holds_of x m at.continues at.carries a holds) k i
+              (let clock = at.clock in omega (arith, since, clock)) until stopped;
+          ends = λ traced a holds i stopped. ends_of y (sound (go.traced holds.shelf traced)) a (holds_of x y go carries a holds) i stopped;
+        }
+      where
+        named_at : (y : View) → IsNamed (moment_of y) name disk → (d : ℕ) → NoDisk d ⊎ (d ≡ disk) → IsNamed (moment_of y) name d
+        named_at y here d (inl none) = absurd none
+        named_at y here d (inr is) = subst (λ e. IsNamed (moment_of y) name e) (sym is) here
+
+        late : ReplacesBy m y place disk r → (f : GrowFault) → r ≡ Err f → IsLate f
+        late by = answer_late x.linear (book x) place (b.sectors disk) r by.answer
+
+        only : (y : View) → ReplacesBy m y place disk r → (d : ℕ) → IsNamed (moment_of y) name d → d ≡ disk
+        only y by d named = at.one d disk (ap (λ names. slice_get names d) (sym by.names) ∙ named) at.ok.0
+
+        not_drive : IsOfDrive (moment_of x) name → ⊥
+        not_drive of =
+            let same : of.0 ≡ disk = at.one of.0 disk (at.continues.names of.0 name of.2) at.ok.0 in
+            at.ok.2 (of.1, subst (λ e. seat_of x.slices of.1 ≡ Some e) same of.3, of.4)
+
+        declined_since : (y : View) (r : Answer) → IfErr r (IsDeclined (moment_of m) (moment_of y) place) → IfErr r (IsDeclined (moment_of x) (moment_of y) place)
+        declined_since y (Ok u) declined = tt
+        declined_since y (Err e) declined = record {
+          marks = declined.marks;
+          plan = declined.plan;
+          arrays = declined.arrays;
+          cause = λ k was now. went_since y k (declined.cause k was now);
+          slices = declined.slices;
+          unmarked = declined.unmarked;
+          quiet = λ other none. let still = declined.quiet other none in (still.0, still.1, still.2 ∙ at.clock);
+        }
+
+        replaced_since : (y : View) (r : Answer) → ((d : ℕ) → IsNamed (moment_of y) name d → d ≡ disk) → OnOk r (IsReplaced (moment_of m) (moment_of y) place disk)
+            → OnOk r ((d : ℕ) → IsNamed (moment_of y) name d → IsReplaced (moment_of x) (moment_of y) place d)
+        replaced_since y (Err e) same replaced = tt
+        replaced_since y (Ok u) same replaced =
+            λ d named.
+            subst (IsReplaced (moment_of x) (moment_of y) place) (sym (same d named))
+            (record {
+              units = replaced.units;
+              units_is = replaced.units_is;
+              enough = replaced.enough;
+              missing = replaced.missing;
+              marks = replaced.marks;
+              plan = replaced.plan;
+              cause = λ k was now. went_since y k (replaced.cause k was now);
+              seats = replaced.seats;
+              arrays = replaced.arrays;
+            })
+
+        table_since : (y : View) (r : Answer) → ((d : ℕ) → IsNamed (moment_of y) name d → d ≡ disk) → OnOk r (HasTable m y place disk)
+            → OnOk r ((d : ℕ) → IsNamed (moment_of y) name d → HasTable x y place d)
+        table_since y (Err e) same table = tt
+        table_since y (Ok u) same table =
+            λ d named.
+            subst (HasTable x y place) (sym (same d named))
+            (record {
+              copies = λ names all. table.copies (at.continues.told names) (at.continues.known names all);
+              durable = λ names all. table.durable (at.continues.told names) (at.continues.known names all);
+            })
+
+        moments_since : (y : View) (r : Answer) → ((d : ℕ) → IsNamed (moment_of y) name d → d ≡ disk)
+            → OnOk r (b.traced → (a : FlatArray) → Holds m a → LeavesNew m y (λ i. MeansWithout m y place a i ⊎ MeansWith m y place disk a i))
+            → OnOk r ((d : ℕ) → IsNamed (moment_of y) name d → x.bay.traced → (a : FlatArray) → Holds x a → LeavesNew x y (λ i. MeansWithout x y place a i ⊎ MeansWith x y place d a i))
+        moments_since y (Err e) same moments = tt
+        moments_since y (Ok u) same moments =
+            λ d named traced a holds k i since until stopped.
+            subst (λ e. MeansWithout x y place a i ⊎ MeansWith x y place e a i) (sym (same d named))
+            (moments (at.continues.traced holds.shelf traced) a (holds_of x m at.continues at.carries a holds) k i
+            (let clock = at.clock in omega (arith, since, clock)) until stopped)

@@ -1,0 +1,58 @@
+use Rattle.std.proofs.Common.{◌<◌, length, sym, ap, subst, arith}
+use Rattle.std.specs.Prelude.{Ok, Err}
+use Rattle.pool.specs.Replaced.{ReplacesDrive}
+use Rattle.pool.specs.Taking.{AttachesDisk, ReplacesBy}
+use Rattle.pool.specs.View.{bay_in, book, view, with_bay}
+use Rattle.pool.proofs.Composed.{replaced_by, replaced_unattached, replaced_unlisted}
+use Rattle.pool.proofs.Serving.{sound_in}
+use Rattle.pool.proofs.Pool.replace.Goals as goal
+
+pub returns-then-place-len-clause-replaced : goal.returns-then-place-len-clause-replaced
+returns-then-place-len-clause-replaced g c =
+    let p = c.args.self.now in
+    let x = view g.R.Rack.seen g.R.Bay.shelf p in
+    let past = c.if-place-len.true in
+    replaced_unlisted x c.args.place c.args.name.now c.requires (sound_in g.R.Rack.seen g.R.Bay.shelf g.met.R.Rack.sound p c.requires)
+    (let many = c.len.ensures.value in let state = ap (λ s. length s.drives.items) c.state.ensures in omega (arith, past, many, state))
+
+pub returns-in-Err-clause-replaced : goal.returns-in-Err-clause-replaced
+returns-in-Err-clause-replaced g c =
+    let seen = g.R.Rack.seen in
+    let shelf = g.R.Bay.shelf in
+    let p = c.args.self.now in
+    let q = c.disk_of.new.self in
+    let x = view seen shelf p in
+    let fault = c.in-Err.fault in
+    let low = c.if-place-len.false in
+    let listed : c.args.place < length (book x).state.drives.items =
+    (let many = c.len.ensures.value in let state = ap (λ s. length s.drives.items) c.state.ensures in omega (arith, low, many, state)) in
+    let at = subst (λ r. AttachesDisk x (view seen shelf r) c.args.name.now (Err fault)) c.disk_of.ensures.rest c.in-Err.ensures.attaches in
+    subst (λ r. ReplacesDrive x (view seen shelf r) c.args.place c.args.name.now (Err fault)) (sym c.disk_of.ensures.rest)
+    (replaced_unattached x (seen (bay_in q)) (shelf (bay_in q)) c.args.place c.args.name.now listed c.requires fault at
+    (sound_in seen shelf g.met.R.Rack.sound (with_bay p (bay_in q)) at.continues.fit))
+
+pub returns-in-Ok-clause-replaced : goal.returns-in-Ok-clause-replaced
+returns-in-Ok-clause-replaced g c =
+    let seen = g.R.Rack.seen in
+    let shelf = g.R.Bay.shelf in
+    let p = c.args.self.now in
+    let q = c.disk_of.new.self in
+    let r = c.replace_by.new.self in
+    let x = view seen shelf p in
+    let y = view seen shelf r in
+    let disk = c.in-Ok.disk in
+    let low = c.if-place-len.false in
+    let listed : c.args.place < length (book x).state.drives.items =
+    (let many = c.len.ensures.value in let state = ap (λ s. length s.drives.items) c.state.ensures in omega (arith, low, many, state)) in
+    let at = subst (λ k. AttachesDisk x (view seen shelf k) c.args.name.now (Ok disk)) c.disk_of.ensures.rest c.in-Ok.ensures.attaches in
+    let by = subst (λ k. ReplacesBy (view seen shelf k) y c.args.place disk c.replace_by.result) c.disk_of.ensures.rest c.replace_by.ensures.replaces in
+    replaced_by x (seen (bay_in q)) (shelf (bay_in q)) c.args.place c.args.name.now listed c.requires disk at y c.replace_by.result by
+    (sound_in seen shelf g.met.R.Rack.sound r by.continues.fit)
+
+pub returns-in-Ok-clause-unlisted : goal.returns-in-Ok-clause-unlisted
+returns-in-Ok-clause-unlisted g c is =
+    let low = c.if-place-len.false in
+    let many = c.len.ensures.value in
+    let state = ap (λ s. length s.drives.items) c.state.ensures in
+    let past = (returns-in-Ok-clause-replaced g c).cause.missing.0 is in
+    absurd (omega (arith, low, many, state, past))

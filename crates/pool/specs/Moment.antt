@@ -1,0 +1,39 @@
+-- How a pool stands at a moment: the part of what it shows of which later moments are told.
+use Rattle.std.specs.Prelude.{◌≡◌, ℕ, List, map, slice_get, Some}
+use Rattle.std.specs.List.{range_with_len}
+use Rattle.array_model.specs.View.{View as ArrayView}
+use Rattle.slice_rack.specs.Slices.{Slices}
+use Rattle.raid_rack.specs.Raid.{Raid}
+use Rattle.pool.specs.View.{View, book}
+
+-- The clock, the disks of the bay with their counts of faults and their names, the bay's own count of faults, the pool's state and arrays,
+-- and where the slices of its drives lie.
+pub record Moment : Type 0 where
+  pub clock : ℕ
+  pub disks : ℕ
+  pub sectors : ℕ → ℕ
+  pub faults : ℕ → ℕ
+  pub names : List (List ℕ)
+  pub unattached : ℕ
+  pub book : Raid
+  pub slices : Slices
+
+abbrev pub moment_of : View → Moment
+moment_of x = record {
+  clock = x.bay.clock;
+  disks = x.bay.disks;
+  sectors = x.bay.sectors;
+  faults = x.bay.faults;
+  names = x.shelf.names;
+  unattached = x.shelf.faults;
+  book = book x;
+  slices = x.slices;
+}
+
+-- the disk of a name
+abbrev pub IsNamed : Moment → List ℕ → ℕ → Type 0
+IsNamed p name d = slice_get p.names d ≡ Some name
+
+-- the arrays of a book, by number
+abbrev pub views_of : Raid → List ArrayView
+views_of v = map v.arrays (range_with_len 0 v.state.made)

@@ -1,0 +1,157 @@
+-- The drive of a place is replaced by the disk of a name: why it is refused, and what the pool is after it.
+use Rattle.std.specs.Prelude.{◌≡◌, ◌≢◌, ◌⊎◌, ◌↔◌, ℕ, ◌<◌, ◌≤◌, Bool, true, false, List, length, slice_get, Option, Some, None, option_map, Result, Ok, Err, IfErr, OnOk, nat_lt, if◌then◌else◌}
+use Rattle.std.specs.Option.{option_map_or}
+use Rattle.rack.specs.Values.{IsSingle}
+use Rattle.rack.specs.Seen.{Image, Rose}
+use Rattle.flat_array.specs.Array.{FlatArray}
+use Rattle.gpt_table.specs.declared.Table.{Table}
+use Rattle.gpt_table.specs.declared.TableCopy.{TableCopy}
+use Rattle.gpt_table.specs.Disk.{HoldsCopy, now_on}
+use Rattle.gpt_table.specs.Plans.{IsOfTable}
+use Rattle.array_image.specs.Places.{log_slice}
+use Rattle.array_image.specs.States.{is_current}
+use Rattle.pool_state.specs.declared.contents.Plan.TheVariants.{Replace}
+use Rattle.pool_state.specs.declared.contents.Drive.{Drive}
+use Rattle.pool_state.specs.declared.contents.State.{State}
+use Rattle.slice_rack.specs.Slices.{Slices, disk_of, seat_of}
+use Rattle.slice_rack.specs.Changes.{Seats}
+use Rattle.raid_rack.specs.Book.{IsAfter}
+use Rattle.raid_rack.specs.Enlisting.{HoldsTable, enlisted, next_drive, with_drive}
+use Rattle.raid_rack.specs.Moves.{KeepsArrays}
+use Rattle.raid_rack.specs.NewDrive.{SeatsDrive, drive_table, joins}
+use Rattle.shr_base.specs.Units.{units_of}
+use Rattle.pool.specs.declared.replacing.GrowFault.{GrowFault}
+use Rattle.pool.specs.declared.replacing.GrowFault.TheVariants.{NoSuchDrive, Attach, Twice, Memory, NotWhole, Gone}
+use Rattle.lvm_group.specs.Runs.{Linear}
+use Rattle.pool.specs.Continuing.{Continues, KeepsDisk, KeepsOutside}
+use Rattle.pool.specs.Keeping.{KeepsBook, Raises}
+use Rattle.pool.specs.Moment.{IsNamed, Moment, moment_of, views_of}
+use Rattle.pool.specs.Replacing.{refusal_of}
+use Rattle.pool.specs.View.{View, book, contents_in}
+use Rattle.pool.specs.Volume.{Holds, Means, PicksLive, is_spent}
+
+-- ---- refusals, by how the pool stands before and after
+
+-- a place of the list whose drive is marked missing
+abbrev pub is_vacant : State → ℕ → Bool
+is_vacant s k = option_map_or (λ (d : Drive). d.missing) (slice_get s.drives.items k) false
+
+-- the name is that of a disk whose place isn't missing
+abbrev pub IsOfDrive : Moment → List ℕ → Type 0
+IsOfDrive p name = (d : ℕ) × (k : ℕ) × IsNamed p name d × (seat_of p.slices k ≡ Some d) × (is_vacant p.book.state k ≡ false)
+
+-- a disk's count of faults before a call: none where it wasn't attached
+abbrev pub faults_before : Moment → ℕ → ℕ
+faults_before p d = if nat_lt d p.disks then p.faults d else 0
+
+-- it was looked at why the drive may not be replaced: the place is in the list, and the name has a disk that isn't a current drive's
+pub record IsLookedAt (p : Moment) (place : ℕ) (result : Result (Unit {0}) GrowFault) : Type 0 where
+  pub listed : place < length p.book.state.drives.items
+  pub attached : result ≢ Err Attach
+  pub had : result ≢ Err Memory
+  pub other : result ≢ Err Twice
+
+-- by what the book says of a disk: the first refusal, or none of these
+abbrev pub IsAnswer : Option GrowFault → Result (Unit {0}) GrowFault → Type 0
+IsAnswer (Some fault) result = result ≡ Err fault
+IsAnswer None result = (result ≡ Ok tt) ⊎ ((result ≡ Err Gone) ⊎ (result ≡ Err NotWhole))
+
+-- a drive that was current is marked missing
+abbrev pub HasMarked : Moment → Moment → Type 0
+HasMarked p q = (k : ℕ) × (is_current p.book.state k ≡ true) × (is_current q.book.state k ≡ false)
+
+-- Each refusal has its cause, in the order in which they are looked for.
+pub record HasGrowCause (l : Linear) (p q : Moment) (place : ℕ) (name : List ℕ) (result : Result (Unit {0}) GrowFault) : Type 0 where
+  pub missing : (result ≡ Err NoSuchDrive) ↔ (length p.book.state.drives.items ≤ place)
+  pub attach : result ≡ Err Attach → Rose p.unattached q.unattached
+  -- a name that is attached is used
+  pub used : (d : ℕ) → IsNamed p name d → (result ≢ Err Attach) × (result ≢ Err Memory)
+  pub twice : (result ≡ Err Twice) ↔ ((place < length p.book.state.drives.items) × IsOfDrive p name)
+  pub named : IsLookedAt p place result → (d : ℕ) × IsNamed q name d
+  pub answer : IsLookedAt p place result → (d : ℕ) → IsNamed q name d → IsAnswer (refusal_of l p.book place (q.sectors d)) result
+  pub gone : result ≡ Err Gone → (d : ℕ) → IsNamed q name d → Rose (faults_before p d) (q.faults d)
+  pub not_whole :
+      result ≡ Err NotWhole → (d : ℕ) → IsNamed q name d → (refusal_of l p.book place (q.sectors d) ≡ Some NotWhole) ⊎ HasMarked p q
+
+-- ---- what is read of contents
+
+-- contents mean an array by the slices of these tables, in the sectors that aren't spent at the call's end
+abbrev pub MeansBy : Slices → View → FlatArray → Image → Type 0
+MeansBy t y a i = PicksLive (is_spent y) a (contents_in t y.linear i)
+
+-- by the slices of a pool in which a place, whose drive is missing, has no disk
+abbrev pub MeansWithout : View → View → ℕ → FlatArray → Image → Type 0
+MeansWithout x y place a i = (t : Slices) × Seats x.slices t place None × MeansBy t y a i
+
+-- each stop since has left contents with this property
+abbrev pub LeavesNew : View → View → (Image → Type 0) → Type 0
+LeavesNew x y P = (k : ℕ) (i : Image) → x.bay.clock < k → k ≤ y.bay.clock → y.bay.stops k i → P i
+
+-- ---- the call
+
+-- the faults of a place's drive rose, by where its slices lie afterwards
+abbrev pub DriveWentSince : Moment → Moment → ℕ → Type 0
+DriveWentSince p q k = Rose (faults_before p (disk_of q.slices (log_slice k))) (q.faults (disk_of q.slices (log_slice k)))
+
+-- The drive isn't replaced. Marks alone come to the book, each of a drive that refused a call. Where the new disk itself refused one, nobody
+-- is marked; and where nobody is marked and it refused none, nothing is called. The place has the disk that it had, or none.
+pub record IsDeclined (p q : Moment) (place : ℕ) (fault : GrowFault) : Type 0 where
+  pub marks : IsAfter p.book.state q.book.state
+  pub plan : q.book.state.plan ≡ p.book.state.plan
+  pub arrays : KeepsArrays p.book q.book
+  pub cause : (k : ℕ) → is_current p.book.state k ≡ true → is_current q.book.state k ≡ false → DriveWentSince p q k
+  pub slices : (q.slices ≡ p.slices) ⊎ Seats p.slices q.slices place None
+  pub unmarked : fault ≡ Gone → q.book ≡ p.book
+  pub quiet : fault ≢ Gone → (HasMarked p q → ⊥) → (q.book ≡ p.book) × (q.slices ≡ p.slices) × (q.clock ≡ p.clock)
+
+-- The drive is replaced by this disk: one of so many units is in the list, its place has the disk, and it is current but where it refused a
+-- call since.
+pub record IsReplaced (p q : Moment) (place disk : ℕ) : Type 0 where
+  pub units : ℕ
+  pub units_is : option_map (λ d. d.units) (slice_get p.book.state.drives.items place) ≡ Some units
+  pub enough : units_of (q.sectors disk) p.book.state.extent ≡ units
+  pub missing : is_current p.book.state place ≡ false
+  pub marks : IsAfter (enlisted place units (Replace place) p.book.state) q.book.state
+  pub plan : q.book.state.plan ≡ Replace place
+  pub cause :
+      (k : ℕ) → is_current (enlisted place units (Replace place) p.book.state) k ≡ true → is_current q.book.state k ≡ false → DriveWentSince p q k
+  pub seats : SeatsDrive (views_of p.book) place disk (q.sectors disk) p.slices q.slices
+  -- its members are to be rebuilt from their start, and all others are as they were
+  pub arrays : KeepsArrays (with_drive place units (Replace place) (joins (views_of p.book) place (q.sectors disk)) p.book) q.book
+
+-- the table of the new drive
+abbrev pub table_for : View → View → (place disk : ℕ) → Table
+table_for x y place disk = drive_table (next_drive (book x).state).0 (views_of (book x)) place (y.bay.sectors disk) (book x).state.made
+
+-- Contents mean an array by the slices of the pool with the new drive, which has its table in them.
+abbrev pub MeansWith : View → View → (place disk : ℕ) → FlatArray → Image → Type 0
+MeansWith x y place disk a i = Means y a i × ((s : ℕ) → s < a.size → is_spent y s ≡ false → HoldsTable disk (table_for x y place disk) i)
+
+-- Where the disks are told, the new one has its table, durably.
+pub record HasTable (x y : View) (place disk : ℕ) : Type 0 where
+  pub copies :
+      x.shelf.told → ((d : ℕ) → d < x.bay.disks → x.bay.told d) → (copy : TableCopy)
+      → HoldsCopy copy (table_for x y place disk) (now_on y.bay disk)
+  pub durable :
+      x.shelf.told → ((d : ℕ) → d < x.bay.disks → x.bay.told d) → (s : ℕ) → IsOfTable (y.bay.sectors disk) s → IsSingle (y.bay.held disk s)
+
+-- The drive of a place is replaced by the disk of a name, which is attached where it isn't yet. No value moves. `name` is the one disk
+-- that is written outside the slices of drives.
+pub record ReplacesDrive (x y : View) (place : ℕ) (name : List ℕ) (result : Result (Unit {0}) GrowFault) : Type 0 where
+  pub continues : Continues x y
+  pub raises : Raises 1 x y
+  pub keeps : KeepsBook (book x) (book y)
+  pub outside : KeepsOutside x.slices y.slices (IsNamed (moment_of y) name) x.shelf.told x.bay y.bay
+  -- the disk that the place had isn't written, unless it is that of the name
+  pub retired : (d : ℕ) → seat_of x.slices place ≡ Some d → (IsNamed (moment_of y) name d → ⊥) → KeepsDisk x.shelf.told x.bay y.bay d
+  pub cause : HasGrowCause x.linear (moment_of x) (moment_of y) place name result
+  pub declined : IfErr result (IsDeclined (moment_of x) (moment_of y) place)
+  pub replaced : OnOk result ((d : ℕ) → IsNamed (moment_of y) name d → IsReplaced (moment_of x) (moment_of y) place d)
+  pub table : OnOk result ((d : ℕ) → IsNamed (moment_of y) name d → HasTable x y place d)
+  pub holds : (a : FlatArray) → Holds x a → Holds y a
+  pub leaves : x.bay.traced → (a : FlatArray) → Holds x a → LeavesNew x y (λ i. MeansWithout x y place a i ⊎ Means y a i)
+  -- where it is replaced, stops leave it without the drive, or with it and its table
+  pub moments :
+      OnOk result ((d : ℕ) → IsNamed (moment_of y) name d → x.bay.traced → (a : FlatArray) → Holds x a
+      → LeavesNew x y (λ i. MeansWithout x y place a i ⊎ MeansWith x y place d a i))
+  pub ends : x.bay.traced → (a : FlatArray) → Holds x a → (i : Image) → y.bay.stops y.bay.clock i → Means y a i

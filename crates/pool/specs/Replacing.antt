@@ -1,0 +1,85 @@
+-- Why the drive of a place isn't replaced by a disk of so many sectors, by a pool's book.
+use Rattle.std.specs.Prelude.{ℕ, ◌+◌, ◌==◌, ◌&&◌, ◌||◌, not, nat_lt, Bool, true, false, List, [], ◌∷◌, drop, find, slice_get, take, Option, option_map}
+use Rattle.std.specs.Bool.{then_some}
+use Rattle.std.specs.List.{list_any}
+use Rattle.std.specs.Option.{option_map_or, option_or}
+use Rattle.shr_base.specs.Units.{units_of}
+use Rattle.array_image.specs.States.{is_current}
+use Rattle.growth_plan.specs.Admission.{first_refusal, replace_refusals}
+use Rattle.growth_plan.specs.Target.{targets}
+use Rattle.growth_plan.specs.declared.AdmitFault.{AdmitFault}
+use Rattle.growth_plan.specs.declared.AdmitFault.TheVariants.{Size as OfSize, Smaller as OfSmaller, TooManyDrives as OfDrives, TooManyLayers as OfLayers}
+use Rattle.growth_plan.specs.declared.ArrayNow.{ArrayNow}
+use Rattle.lvm_group.specs.Growth.{fits}
+use Rattle.lvm_group.specs.Runs.{Linear}
+use Rattle.pool_state.specs.declared.contents.Drive.{Drive}
+use Rattle.pool_state.specs.declared.contents.Plan.{Plan}
+use Rattle.pool_state.specs.declared.contents.Plan.TheVariants.{Nothing, Add, Replace}
+use Rattle.pool_state.specs.declared.contents.State.{State}
+use Rattle.raid_rack.specs.NewDrive.{reaches_all}
+use Rattle.raid_rack.specs.Raid.{Raid}
+use Rattle.pool.specs.declared.replacing.GrowFault.{GrowFault}
+use Rattle.pool.specs.declared.replacing.GrowFault.TheVariants.{PlanPending, NotWhole, NotResynced, Unbuilt, Size, Smaller, TooManyDrives, TooManyLayers, TooManySegments}
+use Rattle.pool.specs.Moment.{views_of}
+use Rattle.pool.specs.Works.{arrays_now}
+
+-- a plan is being carried out
+abbrev pub is_planned : Plan → Bool
+is_planned Nothing = false
+is_planned (Add place) = true
+is_planned (Replace place) = true
+
+-- another drive than that of this place is marked missing
+abbrev pub has_other_missing : State → ℕ → Bool
+has_other_missing s place =
+    list_any (λ (d : Drive). d.missing) (take place s.drives.items) || list_any (λ (d : Drive). d.missing) (drop (place + 1) s.drives.items)
+
+-- an array has rows to resync
+abbrev pub has_resync : List ArrayNow → Bool
+has_resync arrays = list_any (λ array. nat_lt 0 array.resync) arrays
+
+-- the drive of a place has so many units
+abbrev pub has_units : State → ℕ → ℕ → Bool
+has_units s place units = option_map_or (λ d. d.units == units) (slice_get s.drives.items place) false
+
+-- the drive of a place has the units of the disk, and the disk reaches
+abbrev pub has_same : Raid → (place sectors : ℕ) → Bool
+has_same v place sectors = has_units v.state place (units_of sectors v.state.extent) && reaches_all (views_of v) place sectors
+
+-- Each refusal by how the pool stands and by the sectors of the new disk, with its cause, in the order in which they are looked for. `Unbuilt`
+-- stands for what isn't built: a drive that isn't missing is replaced; the new disk has other units; or it doesn't reach an array of the place,
+-- which no sound pool meets.
+abbrev pub standing_refusals : Raid → (place sectors : ℕ) → List (GrowFault × Bool)
+standing_refusals v place sectors =
+    (PlanPending, is_planned v.state.plan)
+    ∷ (NotWhole, has_other_missing v.state place)
+    ∷ (Unbuilt, is_current v.state place)
+    ∷ (NotResynced, has_resync (arrays_now v))
+    ∷ (Unbuilt, not (has_same v place sectors))
+    ∷ []
+
+-- the first one whose cause holds
+abbrev pub first_cause : List (GrowFault × Bool) → Option GrowFault
+first_cause refusals = option_map (λ refusal. refusal.0) (find (λ refusal. refusal.1) refusals)
+
+-- a refusal of the plan
+abbrev pub fault_of : AdmitFault → GrowFault
+fault_of OfSize = Size
+fault_of OfSmaller = Smaller
+fault_of OfDrives = TooManyDrives
+fault_of OfLayers = TooManyLayers
+
+-- a state with another plan
+abbrev pub planning : Plan → State → State
+planning plan s = record s { plan = plan }
+
+-- the volume doesn't fit over what the arrays offer at the plan's end
+abbrev pub lacks_segments : Linear → Raid → ℕ → Bool
+lacks_segments l v place = not (fits l.runs (targets (planning (Replace place) v.state) (arrays_now v)))
+
+-- the first refusal of all
+abbrev pub refusal_of : Linear → Raid → (place sectors : ℕ) → Option GrowFault
+refusal_of l v place sectors =
+    option_or (first_cause (standing_refusals v place sectors))
+    (option_or (option_map fault_of (first_refusal (replace_refusals v.state (arrays_now v) place (units_of sectors v.state.extent))))
+    (then_some (lacks_segments l v place) TooManySegments))

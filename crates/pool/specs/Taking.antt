@@ -1,0 +1,72 @@
+-- The parts of a replacing: a disk is attached, and then takes the place of a drive.
+use Rattle.std.specs.Prelude.{◌≡◌, ◌≢◌, ◌⊎◌, ◌↔◌, ℕ, ◌<◌, false, List, Some, Result, Err, IfErr, IfOk, OnOk}
+use Rattle.rack.specs.Values.{Keeps}
+use Rattle.rack.specs.Seen.{Rose}
+use Rattle.flat_array.specs.Array.{FlatArray}
+use Rattle.slice_rack.specs.Slices.{seat_of}
+use Rattle.pool.specs.declared.replacing.GrowFault.{GrowFault}
+use Rattle.pool.specs.declared.replacing.GrowFault.TheVariants.{Attach, Twice, Memory, NotWhole, Gone}
+use Rattle.pool.specs.Continuing.{Continues, KeepsDisk, KeepsOutside}
+use Rattle.pool.specs.Keeping.{KeepsBook, Raises}
+use Rattle.pool.specs.Moment.{IsNamed, Moment, moment_of}
+use Rattle.pool.specs.Replaced.{HasMarked, HasTable, IsAnswer, IsDeclined, IsOfDrive, IsReplaced, LeavesNew, MeansWith, MeansWithout, faults_before, is_vacant}
+use Rattle.pool.specs.Replacing.{refusal_of}
+use Rattle.pool.specs.View.{View, book, volume}
+use Rattle.pool.specs.Volume.{Holds, Means, is_spent, size_of}
+
+-- the disks are told
+abbrev pub AreTold : View → Type 0
+AreTold x = (d : ℕ) → d < x.bay.disks → x.bay.told d
+
+-- What the volume tells goes on: a sector that isn't spent afterwards wasn't before, and keeps its values.
+pub record Carries (x y : View) : Type 0 where
+  pub spent : (s : ℕ) → is_spent y s ≡ false → is_spent x s ≡ false
+  pub told : x.shelf.told → AreTold x → (s : ℕ) → s < size_of x → is_spent y s ≡ false → (volume x).told 0 → (volume y).told 0
+  pub keeps :
+      x.shelf.told → AreTold x → (s : ℕ) → s < size_of x → is_spent y s ≡ false → (volume x).told 0
+      → Keeps ((volume x).held 0 s) ((volume y).held 0 s)
+
+-- a disk is that of a place that isn't missing
+abbrev pub IsOfPlace : Moment → ℕ → Type 0
+IsOfPlace p d = (k : ℕ) × (seat_of p.slices k ≡ Some d) × (is_vacant p.book.state k ≡ false)
+
+-- no disk
+abbrev pub NoDisk : ℕ → Type 0
+NoDisk d = ⊥
+
+-- The disk of a name, attached where it wasn't: it isn't a current drive's.
+pub record AttachesDisk (x y : View) (name : List ℕ) (result : Result ℕ GrowFault) : Type 0 where
+  pub continues : Continues x y
+  pub carries : Carries x y
+  pub outside : KeepsOutside x.slices y.slices NoDisk x.shelf.told x.bay y.bay
+  pub clock : y.bay.clock ≡ x.bay.clock
+  pub held : (d : ℕ) → d < x.bay.disks → (s : ℕ) → y.bay.held d s ≡ x.bay.held d s
+  pub faults : (d : ℕ) → d < y.bay.disks → y.bay.faults d ≡ faults_before (moment_of x) d
+  pub ok : IfOk result (λ d. IsNamed (moment_of y) name d × (d < y.bay.disks) × (IsOfPlace (moment_of x) d → ⊥))
+  pub one : (d e : ℕ) → IsNamed (moment_of y) name d → IsNamed (moment_of y) name e → d ≡ e
+  pub err : IfErr result (λ e. (e ≡ Attach) ⊎ ((e ≡ Memory) ⊎ (e ≡ Twice)))
+  pub attach : result ≡ Err Attach → Rose x.shelf.faults y.shelf.faults
+  pub used : (d : ℕ) → IsNamed (moment_of x) name d → (result ≢ Err Attach) × (result ≢ Err Memory)
+  pub twice : (result ≡ Err Twice) ↔ IsOfDrive (moment_of x) name
+
+-- A disk, which isn't a current drive's, takes the place of a drive.
+pub record ReplacesBy (x y : View) (place disk : ℕ) (result : Result (Unit {0}) GrowFault) : Type 0 where
+  pub continues : Continues x y
+  pub carries : Carries x y
+  pub raises : Raises 1 x y
+  pub keeps : KeepsBook (book x) (book y)
+  pub outside : KeepsOutside x.slices y.slices (λ d. d ≡ disk) x.shelf.told x.bay y.bay
+  -- the disk that the place had isn't written any more
+  pub retired : (d : ℕ) → seat_of x.slices place ≡ Some d → d ≢ disk → KeepsDisk x.shelf.told x.bay y.bay d
+  pub names : y.shelf.names ≡ x.shelf.names
+  pub answer : IsAnswer (refusal_of x.linear (book x) place (x.bay.sectors disk)) result
+  pub gone : result ≡ Err Gone → Rose (x.bay.faults disk) (y.bay.faults disk)
+  pub not_whole :
+      result ≡ Err NotWhole → (refusal_of x.linear (book x) place (x.bay.sectors disk) ≡ Some NotWhole) ⊎ HasMarked (moment_of x) (moment_of y)
+  pub declined : IfErr result (IsDeclined (moment_of x) (moment_of y) place)
+  pub replaced : OnOk result (IsReplaced (moment_of x) (moment_of y) place disk)
+  pub table : OnOk result (HasTable x y place disk)
+  pub leaves :
+      x.bay.traced → (a : FlatArray) → Holds x a → LeavesNew x y (λ i. MeansWithout x y place a i ⊎ Means y a i)
+  pub moments :
+      OnOk result (x.bay.traced → (a : FlatArray) → Holds x a → LeavesNew x y (λ i. MeansWithout x y place a i ⊎ MeansWith x y place disk a i))

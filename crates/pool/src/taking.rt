@@ -1,0 +1,143 @@
+//! The drive of a place is replaced by the disk of a name.
+
+ghost use Rattle.std.specs.Prelude.{◌≡◌, ◌≢◌, ◌<◌, ◌≤◌, ◌^◌, ℕ, Some, None, Err, OnOk, OnErr, true, false, length, slice_get, option_map};
+ghost use Rattle.rack.specs.Shelf.{Attaches};
+ghost use Rattle.array_image.specs.States.{is_current};
+ghost use Rattle.slice_rack.specs.Slices.{seat_of};
+ghost use Rattle.pool.specs.Moment.{moment_of};
+ghost use Rattle.pool.specs.Replaced.{ReplacesDrive, is_vacant};
+ghost use Rattle.pool.specs.Replacing.{refusal_of};
+ghost use Rattle.pool.specs.Taking.{AttachesDisk, IsOfPlace, ReplacesBy};
+ghost use Rattle.pool.specs.View.{bay_in, book, view, volume, with_bay};
+
+use crate::{GrowFault, Pool};
+use pool_state::Plan;
+use rack::{AttachFault, Bay, Rack};
+use raid_rack::EnlistFault;
+
+impl<R: Bay> Pool<R> {
+    /// Whether a place is in the list and marked missing.
+    fn is_vacant(&self, place: u32) -> bool
+        ensures { result ≡ is_vacant (book (view R.seen R.shelf self.now)).state place }
+    {
+        match self.state().drives.get(place as usize) {
+            Some(drive) => drive.missing,
+            None => false,
+        }
+    }
+
+    /// Whether a disk is that of a place that isn't missing.
+    fn is_of_drive(&self, disk: u32) -> bool
+        ensures found { result ≡ true → IsOfPlace (moment_of (view R.seen R.shelf self.now)) disk }
+        ensures none { result ≡ false → IsOfPlace (moment_of (view R.seen R.shelf self.now)) disk → ⊥ }
+    {
+        match self.volume.below().below().seated(disk) {
+            Some(place) => !self.is_vacant(place),
+            None => false,
+        }
+    }
+
+    /// Attaches the disk of a name to the bay.
+    fn attach(&mut self, name: &str) -> Result<u32, AttachFault>
+        ensures attaches { Attaches (R.seen (bay_in self.old)) (R.seen (bay_in self.new)) (R.shelf (bay_in self.old)) (R.shelf (bay_in self.new)) name.now result }
+        ensures rest { self.new ≡ with_bay self.old (bay_in self.new) }
+        ensures lenders { R.lenders (bay_in self.new) ≡ R.lenders (bay_in self.old) }
+    {
+        self.volume.inner().slices().inner().attach(name)
+    }
+
+    /// The disk of a name, which is attached where it isn't yet, and isn't that of a current drive.
+    fn disk_of(&mut self, name: &str) -> Result<u32, GrowFault>
+        requires { (volume (view R.seen R.shelf self.old)).fit }
+        ensures attaches { AttachesDisk (view R.seen R.shelf self.old) (view R.seen R.shelf self.new) name.now result }
+        ensures rest { self.new ≡ with_bay self.old (bay_in self.new) }
+        ensures lenders { R.lenders (bay_in self.new) ≡ R.lenders (bay_in self.old) }
+    {
+        match self.attach(name) {
+            Ok(disk) => Ok(disk),
+            Err(AttachFault::Failed) => Err(GrowFault::Attach),
+            Err(AttachFault::Memory) => Err(GrowFault::Memory),
+            Err(AttachFault::Twice { disk }) => {
+                if self.is_of_drive(disk) {
+                    Err(GrowFault::Twice)
+                } else {
+                    Ok(disk)
+                }
+            }
+        }
+    }
+
+    /// The units of the drive of a place.
+    fn units_of(&self, place: u32) -> u64
+        requires { place < length (book (view R.seen R.shelf self.now)).state.drives.items }
+        ensures { option_map (λ d. d.units) (slice_get (book (view R.seen R.shelf self.now)).state.drives.items place) ≡ Some result }
+    {
+        self.state().drives[place as usize].units
+    }
+
+    /// The number of the next new drive.
+    fn serial(&self) -> u32
+        ensures { result ≡ (book (view R.seen R.shelf self.now)).state.serial }
+    {
+        self.state().serial
+    }
+
+    /// Puts a disk in the place of a drive, where nothing that was looked at is against it.
+    fn take_in(&mut self, place: u32, disk: u32) -> Result<(), GrowFault>
+        requires fit { (volume (view R.seen R.shelf self.old)).fit }
+        requires listed { place < length (book (view R.seen R.shelf self.old)).state.drives.items }
+        requires disk { disk < (R.seen (bay_in self.old)).disks }
+        requires other { IsOfPlace (moment_of (view R.seen R.shelf self.old)) disk → ⊥ }
+        requires admitted { refusal_of (view R.seen R.shelf self.old).linear (book (view R.seen R.shelf self.old)) place ((R.seen (bay_in self.old)).sectors disk) ≡ None }
+        ensures replaces { ReplacesBy (view R.seen R.shelf self.old) (view R.seen R.shelf self.new) place disk result }
+        ensures lenders { R.lenders (bay_in self.new) ≡ R.lenders (bay_in self.old) }
+    {
+        // It isn't at its end, since a drive is admitted.
+        let _ = self.serial();
+        let units = self.units_of(place);
+        let raid = self.volume.inner();
+        raid.vacate(place);
+        match raid.enlist(place, disk, units, Plan::Replace { place }) {
+            Ok(()) => Ok(()),
+            Err(EnlistFault::Gone) => Err(GrowFault::Gone),
+            Err(EnlistFault::NotWhole) => Err(GrowFault::NotWhole),
+        }
+    }
+
+    /// Replaces the drive of a place by a disk of the bay, which isn't that of a current drive.
+    fn replace_by(&mut self, place: u32, disk: u32) -> Result<(), GrowFault>
+        requires fit { (volume (view R.seen R.shelf self.old)).fit }
+        requires listed { place < length (book (view R.seen R.shelf self.old)).state.drives.items }
+        requires disk { disk < (R.seen (bay_in self.old)).disks }
+        requires other { IsOfPlace (moment_of (view R.seen R.shelf self.old)) disk → ⊥ }
+        ensures replaces { ReplacesBy (view R.seen R.shelf self.old) (view R.seen R.shelf self.new) place disk result }
+        ensures lenders { R.lenders (bay_in self.new) ≡ R.lenders (bay_in self.old) }
+    {
+        let sectors = self.volume.below().below().below().sectors(disk);
+        match self.admits(place, sectors) {
+            Ok(()) => self.take_in(place, disk),
+            Err(fault) => Err(fault),
+        }
+    }
+
+    /// Replaces the drive of a place, which is missing, by the disk of a name, which is attached where it isn't yet. The disk gets a
+    /// partition table, and slices for the log and for the arrays of the place; its members there are to be rebuilt from their start. No
+    /// value of the volume moves.
+    ///
+    /// The refusals are looked for in the order of [`GrowFault`]. Nothing is written before `Gone` or `NotWhole` of a drive that was
+    /// found gone.
+    pub fn replace(&mut self, place: u32, name: &str) -> Result<(), GrowFault>
+        requires { (volume (view R.seen R.shelf self.old)).fit }
+        ensures replaced { ReplacesDrive (view R.seen R.shelf self.old) (view R.seen R.shelf self.new) place name.now result }
+        ensures unlisted { result ≡ Err GrowFault.NoSuchDrive → self.new ≡ self.old }
+        ensures lenders { R.lenders (bay_in self.new) ≡ R.lenders (bay_in self.old) }
+    {
+        if place as usize >= self.state().drives.len() {
+            return Err(GrowFault::NoSuchDrive);
+        }
+        match self.disk_of(name) {
+            Ok(disk) => self.replace_by(place, disk),
+            Err(fault) => Err(fault),
+        }
+    }
+}
