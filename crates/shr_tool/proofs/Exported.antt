@@ -20,10 +20,11 @@ use Rattle.shr_tool.specs.declared.exporting.ExportFault.TheVariants.{Spent as A
 use Rattle.shr_tool.specs.Events.{array_by}
 use Rattle.shr_tool.specs.Events.Event.{spent}
 use Rattle.shr_tool.specs.Exporting.{ExportOutcome, Puts, bytes_at, bytes_of, export_status, read_of, reads_of}
-use Rattle.shr_tool.specs.Serving.{Ran}
-use Rattle.shr_tool.specs.Timeline.{ground_of, moment_of}
+use Rattle.shr_tool.specs.Serving.{IsServing, Ran}
+use Rattle.pool.specs.Moment.{moment_of}
+use Rattle.shr_tool.specs.Timeline.{ground_of}
 use Rattle.shr_tool.proofs.Finishing.{lasts_of}
-use Rattle.shr_tool.proofs.History.{ran_more}
+use Rattle.shr_tool.proofs.History.{IsUnspent, ran_more}
 use Rattle.shr_tool.proofs.Performing.{read_done, read_spent}
 
 -- reads change nothing
@@ -46,12 +47,13 @@ bytes_more a sector =
 pub ran_read :
     (x y z : View) (sector : ℕ) (into : List ℕ) (r : Result (Unit {0}) SectorFault)
     → r ≡ Ok tt
+    → IsUnspent z
     → Ran x y (reads_of sector)
     → ReadsSector y z sector into r
     → Ran x z (reads_of (sector + 1))
-ran_read x y z sector into r is ran reads =
+ran_read x y z sector into r is unspent ran reads =
     subst (λ events. Ran x z events) (sym (reads_more sector))
-    (ran_more x y z (reads_of sector) (read_of sector) (data_line into) ran (read_done y z sector into (data_line into) r is refl reads))
+    (ran_more x y z (reads_of sector) (read_of sector) (data_line into) unspent ran (read_done y z sector into (data_line into) r is refl reads))
 
 -- and gave its current bytes
 pub value_read :
@@ -95,39 +97,42 @@ prefix_more a sector into out out' out'' value before adds =
 pub ran_spent :
     (x y z : View) (sector : ℕ) (into : List ℕ) (r : Result (Unit {0}) SectorFault)
     → r ≡ Err IsSpent
+    → IsUnspent z
     → Ran x y (reads_of sector)
     → ReadsSector y z sector into r
     → Ran x z (reads_of sector ++ spent (Ok (Read sector)) sector ∷ [])
-ran_spent x y z sector into r is ran reads =
-    ran_more x y z (reads_of sector) (spent (Ok (Read sector)) sector) (spent_line sector) ran
+ran_spent x y z sector into r is unspent ran reads =
+    ran_more x y z (reads_of sector) (spent (Ok (Read sector)) sector) (spent_line sector) unspent ran
     (read_spent y z sector into (spent_line sector) r is refl reads)
 
 -- an export, once the pool was ended
 export_of :
     {X : Type 0} (r : Result X ExportFault) (x m y : View) (a : FlatArray) (out out' : List ℕ)
+    → IsUnspent y
     → Puts x m r out out'
     → Ends m y
-    → ExportOutcome (export_status r) (Holds x a) x.bay.traced y.bay (ground_of x) (moment_of x) a out out'
-export_of {X} (Ok done) x m y a out out' puts ends = record { put = puts.1 a; lasts = lasts_of x m y a _ puts.0 ends }
-export_of {X} (Err AtSpent) x m y a out out' puts ends = record {
+    → ExportOutcome (export_status r) (IsServing x a) x.bay.traced x.bay y.bay (ground_of x) (moment_of x) a out out'
+export_of {X} (Ok done) x m y a out out' unspent puts ends = record { put = λ serving. puts.1 a serving.0; lasts = lasts_of x m y a _ unspent puts.0 ends }
+export_of {X} (Err AtSpent) x m y a out out' unspent puts ends = record {
   sector = puts.0;
   inside = puts.1;
-  put = puts.3 a;
-  lasts = lasts_of x m y a _ puts.2 ends;
+  put = λ serving. puts.3 a serving.0;
+  lasts = lasts_of x m y a _ unspent puts.2 ends;
 }
-export_of {X} (Err AtSink) x m y a out out' puts ends = record {
+export_of {X} (Err AtSink) x m y a out out' unspent puts ends = record {
   sector = puts.0;
   inside = puts.1;
-  put = puts.3 a;
-  lasts = lasts_of x m y a _ puts.2 ends;
+  put = λ serving. puts.3 a serving.0;
+  lasts = lasts_of x m y a _ unspent puts.2 ends;
 }
 
 pub export_outcome :
     {X : Type 0} (r : Result X ExportFault) (status : Status) (x m y : View) (a : FlatArray) (out out' : List ℕ)
     → status ≡ export_status r
+    → IsUnspent y
     → Puts x m r out out'
     → Ends m y
-    → ExportOutcome status (Holds x a) x.bay.traced y.bay (ground_of x) (moment_of x) a out out'
-export_outcome {X} r status x m y a out out' is puts ends =
-    subst (λ s. ExportOutcome s (Holds x a) x.bay.traced y.bay (ground_of x) (moment_of x) a out out') (sym is)
-    (export_of r x m y a out out' puts ends)
+    → ExportOutcome status (IsServing x a) x.bay.traced x.bay y.bay (ground_of x) (moment_of x) a out out'
+export_outcome {X} r status x m y a out out' is unspent puts ends =
+    subst (λ s. ExportOutcome s (IsServing x a) x.bay.traced x.bay y.bay (ground_of x) (moment_of x) a out out') (sym is)
+    (export_of r x m y a out out' unspent puts ends)

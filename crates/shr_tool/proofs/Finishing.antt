@@ -1,5 +1,5 @@
 -- How a script came out, from why it stopped and how the pool was ended.
-use Rattle.std.proofs.Common.{◌≡◌, ℕ, ◌<◌, Bool, true, false, List, [], ◌∷◌, ◌++◌, refl, sym, ◌∙◌, ap, subst, inl, inr, arith}
+use Rattle.std.proofs.Common.{◌≡◌, ◌⊎◌, ℕ, ◌<◌, true, false, List, [], ◌∷◌, ◌++◌, refl, sym, ◌∙◌, ap, subst, inl, inr, arith}
 use Rattle.rack.specs.Seen.{Image, IsPick}
 use Rattle.slice_rack.specs.Sliced.{slices_of}
 use Rattle.pool_image.specs.Disks.{disks_of}
@@ -11,30 +11,70 @@ use Rattle.raid_rack.specs.Book.{after_then}
 use Rattle.raid_rack.specs.Losing.{geometry_then}
 use Rattle.raid_rack.specs.Raid.{IsTold, is_over}
 use Rattle.flat_array.specs.Array.{FlatArray, flushed}
-use Rattle.pool.specs.View.{View, book}
+use Rattle.lvm_group.specs.Runs.{Linear}
+use Rattle.pool.specs.Continuing.{Continues, KeepsOutside}
+use Rattle.pool.specs.View.{View, book, spent_by}
 use Rattle.pool.specs.Volume.{Holds}
 use Rattle.pool.specs.Calls.{Ends, Passes}
+use Rattle.shr_tool.specs.declared.perform.Answer.{Answer}
+use Rattle.shr_tool.specs.declared.perform.Answer.TheVariants.{Given, Spent as Refuses, Memory as Wants}
 use Rattle.shr_tool.specs.declared.serve.Stop.{Stop}
 use Rattle.shr_tool.specs.declared.serve.Stop.TheVariants.{Quit as AtQuit, Input, SourceFault, Limit as AtLimit, SinkFault}
 use Rattle.shr_tool.specs.declared.status.Status.{Status}
 use Rattle.shr_tool.specs.declared.status.Status.TheVariants.{Limit}
-use Rattle.shr_tool.specs.Events.{Event, array_by}
-use Rattle.shr_tool.specs.Timeline.{ground_of, moment_of}
-use Rattle.shr_tool.specs.Serving.{HasStopCause, Ran, Serves, StopsAtEnd}
-use Rattle.shr_tool.specs.Outcome.{DoneOutcome, EndsAt, HasStatusCause, IsRunOn, Lasts, LeavesItsRows, Outcome, status_by}
-use Rattle.shr_tool.proofs.History.{means_at, ran_before, standing}
+use Rattle.shr_tool.specs.Events.{AnyTakes, Event, any_takes, array_by}
+use Rattle.pool.specs.Moment.{moment_of}
+use Rattle.shr_tool.specs.Timeline.{Timeline, ground_of}
+use Rattle.shr_tool.specs.Serving.{HasStopCause, IsServing, Ran, Serves, StopsAtEnd}
+use Rattle.shr_tool.specs.Outcome.{DoneOutcome, EndsAt, HasStatusCause, IsRunOn, IsServed, Lasts, LeavesItsRows, Outcome, status_by}
+use Rattle.shr_tool.proofs.History.{IsUnspent, ran_before, slices_kept, standing}
+use Rattle.shr_tool.proofs.Joined.{means_at}
+use Rattle.shr_tool.proofs.Told.{outside_told, timeline_for}
+use Rattle.pool.proofs.Continuing.{continues_of, continues_then, outside_fewer, outside_of, outside_then}
 use Rattle.pool.proofs.Keeping.{passes_then}
+
+-- each of the volume's arrays is told after calls, where no drive was to be replaced or a sector of the volume can be had
+told_after :
+    (x y : View) (a b : FlatArray) (events : List Event)
+    → Continues x y
+    → (any_takes events ≡ false → Passes x y)
+    → IsServing x a
+    → Holds y b
+    → IsServed (ground_of x) (moment_of y) events
+    → (n : ℕ) → n < x.linear.arrays → IsTold (book y) (slices_of y.slices y.bay) n
+told_after x y a b events continues passes serving holds (inl none) n inside =
+    (passes none).stays.told 0 serving.1 n (subst (λ (l : Linear). n < l.arrays) (sym continues.linear) inside)
+told_after x y a b events continues passes serving holds (inr some) n inside =
+    let same = continues.linear in
+    holds.told some.0 (subst (λ k. some.0 < k) (sym (holds.size ∙ continues.size)) some.1)
+    (subst (λ (l : Linear). spent_by l (book y) some.0 ≡ false) (sym same) some.2) n
+    (subst (λ (l : Linear). n < l.arrays) (sym same) inside)
+
+-- what can be had after the end of a pool could be had before it
+served_before :
+    (x m y : View) (events : List Event) → Continues x m → Passes m y → IsServed (ground_of x) (moment_of y) events → IsServed (ground_of x) (moment_of m) events
+served_before x m y events continues passes (inl none) = inl none
+served_before x m y events continues passes (inr some) =
+    inr (
+      some.0,
+      some.1,
+      subst (λ (l : Linear). spent_by l (book m) some.0 ≡ false) continues.linear
+          (passes.stays.spent 0 some.0
+          (subst (λ (l : Linear). spent_by l (book y) some.0 ≡ false) (sym (passes.linear ∙ continues.linear)) some.2)),
+    )
 
 -- the end of a pool leaves the rows that were left
 rows_at :
     (x m y : View) (a : FlatArray) (events : List Event)
     → Ran x m events
     → Ends m y
-    → Holds x a
+    → IsServing x a
+    → IsServed (ground_of x) (moment_of y) events
     → LeavesItsRows y.bay (ground_of x) (moment_of m) (moment_of y)
-rows_at x m y a events ran ends holds none n inside over settled r left t truth =
+rows_at x m y a events ran ends serving served none n inside over settled r left t truth =
     ends.rows none n
-    ((ran.holds a holds).told n (subst (λ l. n < l.arrays) (sym ran.passes.linear) inside))
+    (told_after x m a (array_by a events) events ran.continues ran.passes serving (ran.holds a serving.0)
+    (served_before x m y events ran.continues ends.passes served) n inside)
     over settled r left t truth
 
 -- as an event after the script's
@@ -42,25 +82,25 @@ ends_at :
     (x m y : View) (a : FlatArray) (events : List Event)
     → Ran x m events
     → Ends m y
-    → EndsAt (Holds x a) x.bay.traced y.bay (ground_of x) (moment_of m) (moment_of y) (array_by a events)
+    → EndsAt (IsServing x a) x.bay.traced y.bay (ground_of x) (moment_of m) (moment_of y) (array_by a events)
 ends_at x m y a events ran ends =
     let b = array_by a events in
-    let passes = passes_then x m y ran.passes ends.passes in
+    let linear = ends.passes.linear ∙ ran.continues.linear in
+    let traced_then : IsServing x a → x.bay.traced → m.bay.traced = λ serving traced. ran.continues.traced serving.0.shelf traced in
     record {
-      later = λ traced. (ends.passes.apart.stops (ran.passes.stays.traced traced)).later;
-      slices = ends.passes.slices;
+      later = λ serving traced. (ends.passes.apart.stops (traced_then serving traced)).later;
+      slices = slices_kept m y ends.passes;
       after = ends.passes.marks;
       cause =
           λ place was now. elim (ends.marks place was now) [ inl rose ↦ rose | inr never ↦ absurd never ];
-      stands = standing m y 1 ends.passes ends.raises;
+      stands = standing m y 1 ends.passes.stays.fit ends.passes.book ends.raises;
       during =
-          λ holds traced k i since until stops.
-          means_at x y b i passes
-          ((ends.does.leaves (ran.passes.stays.traced traced) b (ran.holds a holds)).new k i since until stops);
+          λ serving traced k i since until stops.
+          means_at x y b i linear
+          ((ends.does.leaves (traced_then serving traced) b (ran.holds a serving.0)).new k i since until stops);
       ended =
-          λ holds traced i stops.
-          means_at x y (flushed b) i passes (ends.does.ends (ran.passes.stays.traced traced) b (ran.holds a holds) i stops);
-      rows = λ holds. rows_at x m y a events ran ends holds;
+          λ serving traced i stops.
+          means_at x y (flushed b) i linear (ends.does.ends (traced_then serving traced) b (ran.holds a serving.0) i stops);
     }
 
 -- each of the volume's arrays is told
@@ -68,11 +108,14 @@ told_at :
     (x m y : View) (a : FlatArray) (events : List Event)
     → Ran x m events
     → Ends m y
-    → Holds x a
+    → IsServing x a
+    → IsServed (ground_of x) (moment_of y) events
     → (n : ℕ) → n < x.linear.arrays → IsTold (book y) (slices_of y.slices y.bay) n
-told_at x m y a events ran ends holds n inside =
-    let passes = passes_then x m y ran.passes ends.passes in
-    (ends.does.becomes (array_by a events) (ran.holds a holds)).told n (subst (λ l. n < l.arrays) (sym passes.linear) inside)
+told_at x m y a events ran ends serving served n inside =
+    told_after x y a (flushed (array_by a events)) events
+    (continues_then x m y ran.continues (continues_of m y ends.passes))
+    (λ none. passes_then x m y (ran.passes none) ends.passes)
+    serving (ends.does.becomes (array_by a events) (ran.holds a serving.0)) served n inside
 
 -- and what the disks may be left with holds a sound pool again
 again_at :
@@ -99,116 +142,157 @@ again_at x y a f passes on told goes i pick =
     passes.stays.fit.0.running.set.fit.1
     (disks_of y.bay) on.before i on.found_is refl on.sound (subst (λ s. HoldRest f s y.bay) (sym passes.slices) on.rest) pick
 
+-- the events as they happened, told where the pool serves the array
+timeline_told :
+    (x m y : View) (a : FlatArray) (events : List Event)
+    → Ran x m events
+    → Continues m y
+    → Timeline (x.bay.traced × IsServing x a) y.bay.stops (ground_of x) (moment_of x) a events (moment_of m)
+timeline_told x m y a events ran continues =
+    timeline_for (x.bay.traced × Holds x a) (x.bay.traced × IsServing x a) y.bay.stops (ground_of x) (moment_of x) a events (moment_of m)
+    (λ is. (is.0, is.1.0)) (ran_before x m y events a ran continues)
+
+-- outside the slices those disks alone are written that a line named
+outside_at :
+    (x m y : View) (a : FlatArray) (events : List Event)
+    → IsUnspent y
+    → Ran x m events
+    → Passes m y
+    → KeepsOutside x.slices y.slices (AnyTakes y.shelf.names events) (IsServing x a) x.bay y.bay
+outside_at x m y a events unspent ran passes =
+    let names = passes.shelf.names in
+    outside_told x.slices y.slices (AnyTakes y.shelf.names events) x.shelf.told (IsServing x a) x.bay y.bay (λ serving. serving.0.shelf)
+    (outside_fewer x.slices y.slices (λ d. AnyTakes m.shelf.names events d ⊎ ⊥) (AnyTakes y.shelf.names events) x.shelf.told x.bay y.bay
+    (λ d takes. elim takes [ inl before ↦ subst (λ n. AnyTakes n events d) (sym names) before | inr never ↦ absurd never ])
+    (outside_then x m y (AnyTakes m.shelf.names events) (λ d. ⊥) ran.continues (continues_of m y passes) ran.outside
+    (outside_of m y (λ d. ⊥) passes unspent)))
+
 -- the events of a script, and the end of the pool
 pub lasts_of :
     (x m y : View) (a : FlatArray) (events : List Event)
+    → IsUnspent y
     → Ran x m events
     → Ends m y
-    → Lasts (Holds x a) x.bay.traced y.bay (ground_of x) (moment_of x) a events
-lasts_of x m y a events ran ends =
-    let passes = passes_then x m y ran.passes ends.passes in
+    → Lasts (IsServing x a) x.bay.traced x.bay y.bay (ground_of x) (moment_of x) a events
+lasts_of x m y a events unspent ran ends =
+    let passes : any_takes events ≡ false → Passes x y = λ none. passes_then x m y (ran.passes none) ends.passes in
     record {
       last = moment_of m;
-      timeline = ran_before x m y events a ran ends.passes;
+      timeline = timeline_told x m y a events ran (continues_of m y ends.passes);
       final = moment_of y;
       clock = refl;
       faults = λ d. refl;
+      disks = refl;
+      sectors = λ d. refl;
       ends = ends_at x m y a events ran ends;
+      outside = outside_at x m y a events unspent ran ends.passes;
+      apart = λ none. (passes none).apart;
       told = told_at x m y a events ran ends;
-      again = λ holds f on goes i pick. again_at x y a f passes on (told_at x m y a events ran ends holds) goes i pick;
+      rows = rows_at x m y a events ran ends;
+      again = λ serving none f on goes i pick.
+          again_at x y a f (passes none) on (told_at x m y a events ran ends serving (inl none)) goes i pick;
     }
 
 -- all lines were answered
 done_outcome :
-    (x m y : View) (a : FlatArray) (text out out' : List ℕ) (refused : Bool)
-    → StopsAtEnd x m text out out' refused
+    (x m y : View) (a : FlatArray) (text out out' : List ℕ) (worst : Answer)
+    → StopsAtEnd x m text out out' worst
+    → IsUnspent y
     → Ends m y
-    → DoneOutcome refused (Holds x a) x.bay.traced y.bay (ground_of x) (moment_of x) a text out out'
-done_outcome x m y a text out out' refused stops ends = record {
+    → DoneOutcome worst (IsServing x a) x.bay.traced x.bay y.bay (ground_of x) (moment_of x) a text out out'
+done_outcome x m y a text out out' worst stops unspent ends = record {
   events = stops.events;
   script = stops.script;
-  spent = stops.spent;
-  put = stops.answered.put a;
-  lasts = lasts_of x m y a stops.events stops.answered.ran ends;
+  worst_is = stops.worst_is;
+  put = λ serving. stops.answered.put a serving.0;
+  lasts = lasts_of x m y a stops.events unspent stops.answered.ran ends;
 }
 
 -- by why the script stopped
 outcome_of :
-    (stop : Stop) (refused : Bool) (x m y : View) (a : FlatArray) (text rest out out' : List ℕ)
-    → Serves stop x m text rest out out' refused
+    (stop : Stop) (worst : Answer) (x m y : View) (a : FlatArray) (text rest out out' : List ℕ)
+    → Serves stop x m text rest out out' worst
+    → IsUnspent y
     → Ends m y
-    → Outcome (status_by stop refused) (Holds x a) x.bay.traced y.bay (ground_of x) (moment_of x) a text rest out out'
-outcome_of AtQuit true x m y a text rest out out' stops ends = done_outcome x m y a text out out' true stops ends
-outcome_of AtQuit false x m y a text rest out out' stops ends = done_outcome x m y a text out out' false stops ends
-outcome_of Input true x m y a text rest out out' stops ends = done_outcome x m y a text out out' true stops.0 ends
-outcome_of Input false x m y a text rest out out' stops ends = done_outcome x m y a text out out' false stops.0 ends
-outcome_of SourceFault refused x m y a text rest out out' stops ends = record {
+    → Outcome (status_by stop worst) (IsServing x a) x.bay.traced x.bay y.bay (ground_of x) (moment_of x) a text rest out out'
+outcome_of AtQuit Refuses x m y a text rest out out' stops unspent ends = done_outcome x m y a text out out' Refuses stops unspent ends
+outcome_of AtQuit Given x m y a text rest out out' stops unspent ends = done_outcome x m y a text out out' Given stops unspent ends
+outcome_of AtQuit Wants x m y a text rest out out' stops unspent ends = done_outcome x m y a text out out' Wants stops unspent ends
+outcome_of Input Refuses x m y a text rest out out' stops unspent ends = done_outcome x m y a text out out' Refuses stops.0 unspent ends
+outcome_of Input Given x m y a text rest out out' stops unspent ends = done_outcome x m y a text out out' Given stops.0 unspent ends
+outcome_of Input Wants x m y a text rest out out' stops unspent ends = done_outcome x m y a text out out' Wants stops.0 unspent ends
+outcome_of SourceFault worst x m y a text rest out out' stops unspent ends = record {
   taken = stops.taken;
   text_is = stops.text_is;
   events = stops.events;
   script = stops.script;
-  put = stops.answered.put a;
-  lasts = lasts_of x m y a stops.events stops.answered.ran ends;
+  put = λ serving. stops.answered.put a serving.0;
+  lasts = lasts_of x m y a stops.events unspent stops.answered.ran ends;
 }
-outcome_of AtLimit refused x m y a text rest out out' stops ends = record {
+outcome_of AtLimit worst x m y a text rest out out' stops unspent ends = record {
   longer = stops.longer;
   events = stops.events;
   script = stops.script;
-  put = stops.answered.put a;
-  lasts = lasts_of x m y a stops.events stops.answered.ran ends;
+  put = λ serving. stops.answered.put a serving.0;
+  lasts = lasts_of x m y a stops.events unspent stops.answered.ran ends;
 }
-outcome_of SinkFault refused x m y a text rest out out' stops ends = record {
+outcome_of SinkFault worst x m y a text rest out out' stops unspent ends = record {
   before = stops.before;
   last = stops.last;
   more = stops.more;
   script = stops.script;
-  put = stops.put a;
-  lasts = lasts_of x m y a (stops.before ++ stops.last ∷ []) stops.ran ends;
+  put = λ serving. stops.put a serving.0;
+  lasts = lasts_of x m y a (stops.before ++ stops.last ∷ []) unspent stops.ran ends;
 }
 
 pub outcome_by :
-    (stop : Stop) (refused : Bool) (status : Status) (x m y : View) (a : FlatArray) (text rest out out' : List ℕ)
-    → status ≡ status_by stop refused
-    → Serves stop x m text rest out out' refused
+    (stop : Stop) (worst : Answer) (status : Status) (x m y : View) (a : FlatArray) (text rest out out' : List ℕ)
+    → status ≡ status_by stop worst
+    → Serves stop x m text rest out out' worst
+    → IsUnspent y
     → Ends m y
-    → Outcome status (Holds x a) x.bay.traced y.bay (ground_of x) (moment_of x) a text rest out out'
-outcome_by stop refused status x m y a text rest out out' is stops ends =
-    subst (λ s. Outcome s (Holds x a) x.bay.traced y.bay (ground_of x) (moment_of x) a text rest out out') (sym is)
-    (outcome_of stop refused x m y a text rest out out' stops ends)
+    → Outcome status (IsServing x a) x.bay.traced x.bay y.bay (ground_of x) (moment_of x) a text rest out out'
+outcome_by stop worst status x m y a text rest out out' is stops unspent ends =
+    subst (λ s. Outcome s (IsServing x a) x.bay.traced x.bay y.bay (ground_of x) (moment_of x) a text rest out out') (sym is)
+    (outcome_of stop worst x m y a text rest out out' stops unspent ends)
 
 -- ---- the status
 
 cause_of :
-    (stop : Stop) (refused : Bool) (source source' sink sink' : ℕ)
+    (stop : Stop) (worst : Answer) (source source' sink sink' : ℕ)
     → HasStopCause stop source source' sink sink'
-    → HasStatusCause (status_by stop refused) source source' sink sink'
-cause_of AtQuit true source source' sink sink' cause = tt
-cause_of AtQuit false source source' sink sink' cause = tt
-cause_of Input true source source' sink sink' cause = tt
-cause_of Input false source source' sink sink' cause = tt
-cause_of SourceFault refused source source' sink sink' cause = cause
-cause_of AtLimit refused source source' sink sink' cause = tt
-cause_of SinkFault refused source source' sink sink' cause = cause
+    → HasStatusCause (status_by stop worst) source source' sink sink'
+cause_of AtQuit Refuses source source' sink sink' cause = tt
+cause_of AtQuit Given source source' sink sink' cause = tt
+cause_of AtQuit Wants source source' sink sink' cause = tt
+cause_of Input Refuses source source' sink sink' cause = tt
+cause_of Input Given source source' sink sink' cause = tt
+cause_of Input Wants source source' sink sink' cause = tt
+cause_of SourceFault worst source source' sink sink' cause = cause
+cause_of AtLimit worst source source' sink sink' cause = tt
+cause_of SinkFault worst source source' sink sink' cause = cause
 
 pub status_cause :
-    (stop : Stop) (refused : Bool) (status : Status) (source source' sink sink' : ℕ)
-    → status ≡ status_by stop refused
+    (stop : Stop) (worst : Answer) (status : Status) (source source' sink sink' : ℕ)
+    → status ≡ status_by stop worst
     → HasStopCause stop source source' sink sink'
     → HasStatusCause status source source' sink sink'
-status_cause stop refused status source source' sink sink' is cause =
-    subst (λ s. HasStatusCause s source source' sink sink') (sym is) (cause_of stop refused source source' sink sink' cause)
+status_cause stop worst status source source' sink sink' is cause =
+    subst (λ s. HasStatusCause s source source' sink sink') (sym is) (cause_of stop worst source source' sink sink' cause)
 
-pub status_limit : (stop : Stop) (refused : Bool) (status : Status) → status ≡ status_by stop refused → stop ≡ AtLimit → status ≡ Limit
-status_limit stop refused status is at = is ∙ ap (λ s. status_by s refused) at
+pub status_limit : (stop : Stop) (worst : Answer) (status : Status) → status ≡ status_by stop worst → stop ≡ AtLimit → status ≡ Limit
+status_limit stop worst status is at = is ∙ ap (λ s. status_by s worst) at
 
-limit_of : (stop : Stop) (refused : Bool) → status_by stop refused ≡ Limit → stop ≡ AtLimit
-limit_of AtQuit true is = absurd (let wrong = is in cc)
-limit_of AtQuit false is = absurd (let wrong = is in cc)
-limit_of Input true is = absurd (let wrong = is in cc)
-limit_of Input false is = absurd (let wrong = is in cc)
-limit_of SourceFault refused is = absurd (let wrong = is in cc)
-limit_of AtLimit refused is = refl
-limit_of SinkFault refused is = absurd (let wrong = is in cc)
+limit_of : (stop : Stop) (worst : Answer) → status_by stop worst ≡ Limit → stop ≡ AtLimit
+limit_of AtQuit Refuses is = absurd (let wrong = is in cc)
+limit_of AtQuit Given is = absurd (let wrong = is in cc)
+limit_of AtQuit Wants is = absurd (let wrong = is in cc)
+limit_of Input Refuses is = absurd (let wrong = is in cc)
+limit_of Input Given is = absurd (let wrong = is in cc)
+limit_of Input Wants is = absurd (let wrong = is in cc)
+limit_of SourceFault worst is = absurd (let wrong = is in cc)
+limit_of AtLimit worst is = refl
+limit_of SinkFault worst is = absurd (let wrong = is in cc)
 
-pub limit_status : (stop : Stop) (refused : Bool) (status : Status) → status ≡ status_by stop refused → status ≡ Limit → stop ≡ AtLimit
-limit_status stop refused status is at = limit_of stop refused (sym is ∙ at)
+pub limit_status : (stop : Stop) (worst : Answer) (status : Status) → status ≡ status_by stop worst → status ≡ Limit → stop ≡ AtLimit
+limit_status stop worst status is at = limit_of stop worst (sym is ∙ at)

@@ -1,19 +1,25 @@
 -- What a script's answering has done so far, and what one line more does.
-use Rattle.std.proofs.Common.{◌≡◌, ℕ, ◌≤◌, Bool, true, false, ◌||◌, List, [], ◌∷◌, ◌++◌, length, append_assoc, refl, sym, ◌∙◌, ap, subst, inl, inr, arith}
+use Rattle.std.proofs.Common.{◌≡◌, ◌⊎◌, ℕ, ◌≤◌, true, false, List, [], ◌∷◌, ◌++◌, length, append_assoc, refl, sym, ◌∙◌, ap, subst, inl, inr, arith}
+use Rattle.std.proofs.lemmas.Bool.{cases_Bool}
 use Rattle.std.proofs.lemmas.List.{append-nil}
 use Rattle.rack.specs.Seen.{Image}
 use Rattle.shr_script.specs.Line.{Line}
 use Rattle.flat_array.specs.Array.{FlatArray}
 use Rattle.shr_script.specs.Script.{script_of, cut_script_of}
 use Rattle.pool.specs.View.{View, book, slices_shown, volume}
-use Rattle.pool.specs.Volume.{Holds, Means}
+use Rattle.pool.specs.Volume.{Holds}
 use Rattle.pool.specs.Calls.{Passes}
-use Rattle.pool.specs.Keeping.{Raises}
+use Rattle.pool.specs.Keeping.{KeepsBook, Raises}
+use Rattle.pool.specs.Continuing.{Continues, KeepsOutside}
 use Rattle.shr_tool.specs.declared.perform.Answer.{Answer}
-use Rattle.shr_tool.specs.Events.{Event, any_spent, array_by, becomes, calls_in, is_spent, line_of, lines_of, text_of, texts}
-use Rattle.shr_tool.specs.Timeline.{Ground, KeepsStanding, Moment, Happens, MeansAt, Performs, Timeline, ground_of, moment_of}
+use Rattle.shr_tool.specs.declared.perform.Answer.TheVariants.{Given, Memory, Spent}
+use Rattle.shr_tool.specs.Events.{AnyTakes, Event, Takes, answer_of, any_takes, array_by, becomes, calls_in, line_of, lines_of, takes_disk, text_of, texts, worse, worst_of}
+use Rattle.pool.specs.Moment.{Moment, moment_of}
+use Rattle.shr_tool.specs.Timeline.{Ground, KeepsDisks, KeepsSlices, KeepsStanding, Happens, Performs, Timeline, ground_of}
 use Rattle.shr_tool.specs.Serving.{Answered, Ran, Replies}
-use Rattle.shr_tool.proofs.Joined.{ground_same}
+use Rattle.pool.proofs.Continuing.{continues_of, continues_same, continues_then, outside_fewer, outside_of, outside_then}
+use Rattle.shr_tool.proofs.Joined.{ground_same, means_at}
+use Rattle.shr_tool.proofs.Taking.{any_takes_before, any_takes_last, none_takes}
 use Rattle.pool.proofs.Booked.{book_seated}
 use Rattle.pool.proofs.Keeping.{passes_same, passes_then}
 
@@ -39,20 +45,26 @@ pub lines_of-snoc : (events : List Event) (event : Event) → lines_of (events +
 lines_of-snoc [] event = refl
 lines_of-snoc (first ∷ events) event = ap (λ lines. line_of first ∷ lines) (lines_of-snoc events event)
 
--- whether one refused a sector
-pub or_false : (b : Bool) → (b || false) ≡ b
-or_false true = refl
-or_false false = refl
+-- the worst of the answers
+pub worse_given : (a : Answer) → worse a Given ≡ a
+worse_given Given = refl
+worse_given Spent = refl
+worse_given Memory = refl
 
-or_assoc : (a b c : Bool) → (a || (b || c)) ≡ ((a || b) || c)
-or_assoc true b c = refl
-or_assoc false b c = refl
+worse_assoc : (a b c : Answer) → worse a (worse b c) ≡ worse (worse a b) c
+worse_assoc Given b c = refl
+worse_assoc Spent Given c = refl
+worse_assoc Spent Spent Given = refl
+worse_assoc Spent Spent Spent = refl
+worse_assoc Spent Spent Memory = refl
+worse_assoc Spent Memory c = refl
+worse_assoc Memory b c = refl
 
-pub any_spent-snoc : (events : List Event) (event : Event) → any_spent (events ++ event ∷ []) ≡ (any_spent events || is_spent event)
-any_spent-snoc [] event = or_false (is_spent event)
-any_spent-snoc (first ∷ events) event =
-    ap (λ b. is_spent first || b) (any_spent-snoc events event)
-    ∙ or_assoc (is_spent first) (any_spent events) (is_spent event)
+pub worst_of-snoc : (events : List Event) (event : Event) → worst_of (events ++ event ∷ []) ≡ worse (worst_of events) (answer_of event)
+worst_of-snoc [] event = worse_given (answer_of event)
+worst_of-snoc (first ∷ events) event =
+    ap (λ b. worse (answer_of first) b) (worst_of-snoc events event)
+    ∙ worse_assoc (answer_of first) (worst_of events) (answer_of event)
 
 -- ---- timelines
 
@@ -86,6 +98,7 @@ timeline_kept Traced old new g limit past p a (event ∷ events) q within line =
       record {
         later = happens.later;
         cause = happens.cause;
+        disks = happens.disks;
         slices = happens.slices;
         marks = happens.marks;
         stands = happens.stands;
@@ -111,91 +124,130 @@ timeline_more Traced stops g p a (first ∷ events) mid event q line happens =
 
 -- ---- what a pool did
 
--- what means an array by what a pool shows means it where its volume lay before
-pub means_at :
-    (x y : View) (a : FlatArray) (i : Image) → Passes x y → Means y a i → MeansAt (ground_of x) (moment_of y) a i
-means_at x y a i passes means = subst (λ g. MeansAt g (moment_of y) a i) (ground_same x y passes) means
-
 -- what so many calls do to the book
-pub standing : (x y : View) (calls : ℕ) → Passes x y → Raises calls x y → KeepsStanding calls (moment_of x) (moment_of y)
-standing x y calls passes raises =
-    let fit = passes.stays.fit.0 in
-    record { raises = raises; keeps = passes.book; seated = book_seated (book y) (slices_shown y) fit.running.set fit.heeded }
+pub standing : (x y : View) (calls : ℕ) → (volume y).fit → KeepsBook (book x) (book y) → Raises calls x y
+    → KeepsStanding calls (moment_of x) (moment_of y)
+standing x y calls fit keeps raises =
+    record { raises = raises; keeps = keeps; seated = book_seated (book y) (slices_shown y) fit.0.running.set fit.0.heeded }
+
+-- what they do to the bay
+disks_kept : (x y : View) → Continues x y → KeepsDisks (moment_of x) (moment_of y)
+disks_kept x y continues = record {
+  disks = continues.disks;
+  sectors = continues.sectors;
+  faults = continues.faults;
+  names = continues.names;
+}
+
+pub slices_kept : (x y : View) → Passes x y → KeepsSlices (moment_of x) (moment_of y)
+slices_kept x y passes = record { slices = passes.slices; names = passes.shelf.names }
 
 -- a line that was done is an event
 performed :
     (x y z : View) (event : Event) (text : List ℕ) (Traced : Type 0) (a : FlatArray)
-    → Passes x y
+    → Continues x y
     → Performs y z event text
     → (Traced → y.bay.traced)
     → (Traced → Holds y a)
     → Happens Traced z.bay.stops (ground_of x) (moment_of y) (moment_of z) a event
-performed x y z event text Traced a passes performs traced holds =
-    subst (λ g. Happens Traced z.bay.stops g (moment_of y) (moment_of z) a event) (ground_same x y passes)
+performed x y z event text Traced a continues performs traced holds =
+    subst (λ g. Happens Traced z.bay.stops g (moment_of y) (moment_of z) a event) (ground_same x y continues.linear)
     (record {
-      later = λ told. (performs.leaves (traced told) a (holds told)).later;
+      later = λ told. performs.continues.later (holds told).shelf (traced told);
       cause = performs.cause;
-      slices = performs.passes.slices;
+      disks = disks_kept y z performs.continues;
+      slices = λ none. slices_kept y z (performs.passes none);
       marks = performs.marks;
-      stands = standing y z (calls_in (line_of event)) performs.passes performs.raises;
+      stands = standing y z (calls_in (line_of event)) performs.continues.fit performs.keeps performs.raises;
       during =
           λ told k i since until stops.
-          elim ((performs.leaves (traced told) a (holds told)).new k i since until stops) [
-            | inl before ↦ inl (means_at y z a i performs.passes before)
-            | inr after ↦ inr (means_at y z (becomes a event) i performs.passes after)
+          elim (performs.leaves (traced told) a (holds told) k i since until stops) [
+            | inl before ↦ inl before
+            | inr after ↦ inr (means_at y z (becomes a event) i performs.continues.linear after)
           ];
       ended =
           λ told i stops.
-          means_at y z (becomes a event) i performs.passes (performs.ends (traced told) a (holds told) i stops);
+          means_at y z (becomes a event) i performs.continues.linear (performs.ends (traced told) a (holds told) i stops);
     })
 
 -- what was done before, seen after calls more
 pub ran_before :
     (x y z : View) (events : List Event) (a : FlatArray)
     → Ran x y events
-    → Passes y z
+    → Continues y z
     → Timeline (x.bay.traced × Holds x a) z.bay.stops (ground_of x) (moment_of x) a events (moment_of y)
-ran_before x y z events a ran passes =
+ran_before x y z events a ran continues =
     timeline_kept (x.bay.traced × Holds x a) y.bay.stops z.bay.stops (ground_of x) y.bay.clock
-    (λ told. (passes.apart.stops (ran.passes.stays.traced told.0)).past)
+    (λ told. continues.past (ran.continues.told told.1.shelf) (ran.continues.traced told.1.shelf told.0))
     (moment_of x) a events (moment_of y)
     (omega arith)
     (ran.timeline a)
 
+-- no sector of a bay's disks is spent
+abbrev pub IsUnspent : View → Type 0
+IsUnspent x = (d s : ℕ) → x.bay.spent d s ≡ false
+
 -- nothing is done yet
-pub ran_none : (x : View) → (volume x).fit → Ran x x []
-ran_none x fit = record { passes = passes_same x fit; holds = λ a holds. holds; timeline = λ a. refl }
+pub ran_none : (x : View) → (volume x).fit → IsUnspent x → Ran x x []
+ran_none x fit unspent = record {
+  continues = continues_same x fit;
+  passes = λ none. passes_same x fit;
+  outside = outside_of x x (AnyTakes x.shelf.names []) (passes_same x fit) unspent;
+  holds = λ a holds. holds;
+  timeline = λ a. refl;
+}
+
+outside_by : (x y : View) (event : Event) (text : List ℕ) → IsUnspent y → Performs x y event text
+    → KeepsOutside x.slices y.slices (Takes y.shelf.names event) x.shelf.told x.bay y.bay
+outside_by x y event text unspent performs =
+    elim (cases_Bool (takes_disk event)) [
+      | inl takes ↦ performs.outside takes
+      | inr none ↦ outside_of x y (Takes y.shelf.names event) (performs.passes none) unspent
+    ]
 
 -- one event more
 pub ran_more :
     (x y z : View) (events : List Event) (event : Event) (text : List ℕ)
+    → IsUnspent z
     → Ran x y events
     → Performs y z event text
     → Ran x z (events ++ event ∷ [])
-ran_more x y z events event text ran performs = record {
-  passes = passes_then x y z ran.passes performs.passes;
+ran_more x y z events event text unspent ran performs = record {
+  continues = continues_then x y z ran.continues performs.continues;
+  passes = λ none. let parts = none_takes events event none in passes_then x y z (ran.passes parts.0) (performs.passes parts.1);
+  outside =
+      outside_fewer x.slices z.slices (λ d. AnyTakes y.shelf.names events d ⊎ Takes z.shelf.names event d) (AnyTakes z.shelf.names (events ++ event ∷ []))
+      x.shelf.told x.bay z.bay
+      (λ d takes.
+      elim takes [
+        | inl before ↦ any_takes_before y.shelf.names z.shelf.names performs.continues.names events event d before
+        | inr now ↦ any_takes_last z.shelf.names events event d now
+      ])
+      (outside_then x y z (AnyTakes y.shelf.names events) (Takes z.shelf.names event) ran.continues performs.continues ran.outside
+      (outside_by y z event text unspent performs));
   holds =
       λ a holds.
       subst (λ b. Holds z b) (sym (array_by-snoc a events event)) (performs.holds (array_by a events) (ran.holds a holds));
   timeline =
       λ a.
       timeline_more (x.bay.traced × Holds x a) z.bay.stops (ground_of x) (moment_of x) a events (moment_of y) event (moment_of z)
-      (ran_before x y z events a ran performs.passes)
-      (performed x y z event text (x.bay.traced × Holds x a) (array_by a events) ran.passes performs
-      (λ told. ran.passes.stays.traced told.0)
+      (ran_before x y z events a ran performs.continues)
+      (performed x y z event text (x.bay.traced × Holds x a) (array_by a events) ran.continues performs
+      (λ told. ran.continues.traced told.1.shelf told.0)
       (λ told. ran.holds a told.1));
 }
 
 -- one line more is answered
 pub answered_more :
     (x y z : View) (events : List Event) (line : Line) (answer : Answer) (out out' out'' : List ℕ)
+    → IsUnspent z
     → Answered x y events out out'
     → (more : Replies y z line answer out' out'')
     → Answered x z (events ++ more.answers.event ∷ []) out out''
-answered_more x y z events line answer out out' out'' answered more =
+answered_more x y z events line answer out out' out'' unspent answered more =
     let event = more.answers.event in
     record {
-      ran = ran_more x y z events event more.text answered.ran more.answers.performs;
+      ran = ran_more x y z events event more.text unspent answered.ran more.answers.performs;
       put =
           λ a holds.
           let told = more.answers.performs.text_is (array_by a events) (answered.ran.holds a holds) in
@@ -208,35 +260,36 @@ answered_more x y z events line answer out out' out'' answered more =
 
 -- ---- what was read and answered of a script
 
--- of a text these lines have been answered, of which some were refused for a spent sector or none, and this is left
-pub record History (x y : View) (text rest : List ℕ) (count : ℕ) (out out' : List ℕ) (is_refused : Bool) : Type 0 where
+-- of a text these lines have been answered, this is the worst of the answers, and this is left
+pub record History (x y : View) (text rest : List ℕ) (count : ℕ) (out out' : List ℕ) (worst : Answer) : Type 0 where
   pub done : List ℕ
   pub text_is : text ≡ done ++ rest
   pub counted : count ≡ length done
   pub events : List Event
-  pub spent : any_spent events ≡ is_refused
+  pub worst_is : worst_of events ≡ worst
   pub script : (more : List ℕ) → script_of (done ++ more) ≡ lines_of events ++ script_of more
   pub cut : (more : List ℕ) → cut_script_of (done ++ more) ≡ lines_of events ++ cut_script_of more
   pub answered : Answered x y events out out'
 
 -- nothing is answered yet
-pub answered_none : (x : View) (out : List ℕ) → (volume x).fit → Answered x x [] out out
-answered_none x out fit = record { ran = ran_none x fit; put = λ a holds. sym (append-nil out) }
+pub answered_none : (x : View) (out : List ℕ) → (volume x).fit → IsUnspent x → Answered x x [] out out
+answered_none x out fit unspent = record { ran = ran_none x fit unspent; put = λ a holds. sym (append-nil out) }
 
 -- nothing has been read
 pub history_none :
     (x : View) (text rest : List ℕ) (count : ℕ) (out : List ℕ)
     → (volume x).fit
+    → IsUnspent x
     → rest ≡ text
     → count ≡ 0
-    → History x x text rest count out out false
-history_none x text rest count out fit same zero = record {
+    → History x x text rest count out out Given
+history_none x text rest count out fit unspent same zero = record {
   done = [];
   text_is = sym same;
   counted = zero;
   events = [];
-  spent = refl;
+  worst_is = refl;
   script = λ more. refl;
   cut = λ more. refl;
-  answered = answered_none x out fit;
+  answered = answered_none x out fit unspent;
 }

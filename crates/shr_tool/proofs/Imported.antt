@@ -10,17 +10,18 @@ use Rattle.flat_array.specs.Reply.{spent_line}
 use Rattle.pool.specs.declared.calls.SectorFault.{SectorFault}
 use Rattle.pool.specs.declared.calls.SectorFault.TheVariants.{Spent as IsSpent}
 use Rattle.pool.specs.View.{View}
-use Rattle.pool.specs.Volume.{Holds, size_of}
+use Rattle.pool.specs.Volume.{size_of}
 use Rattle.pool.specs.Calls.{Ends, WritesSector}
 use Rattle.shr_tool.specs.declared.status.Status.{Status}
 use Rattle.shr_tool.specs.declared.importing.ImportFault.{ImportFault}
 use Rattle.shr_tool.specs.declared.importing.ImportFault.TheVariants.{Source, Long, Spent as AtSpent}
 use Rattle.shr_tool.specs.Events.Event.{spent}
 use Rattle.shr_tool.specs.Importing.{ImportOutcome, Imports, SaysWritten, TakesSector, filled_up, piece_of, write_of, writes_of}
-use Rattle.shr_tool.specs.Serving.{Ran}
-use Rattle.shr_tool.specs.Timeline.{ground_of, moment_of}
+use Rattle.shr_tool.specs.Serving.{IsServing, Ran}
+use Rattle.pool.specs.Moment.{moment_of}
+use Rattle.shr_tool.specs.Timeline.{ground_of}
 use Rattle.shr_tool.proofs.Finishing.{lasts_of}
-use Rattle.shr_tool.proofs.History.{ran_more}
+use Rattle.shr_tool.proofs.History.{IsUnspent, ran_more}
 use Rattle.shr_tool.proofs.Performing.{write_done, write_spent}
 
 -- The pieces for the first so many sectors of a text were written, and this is left of it.
@@ -68,13 +69,14 @@ writes_more text sector = map-range_with_len_more (write_of text) 0 sector secto
 ran_write :
     (x y z : View) (text piece : List ℕ) (sector : ℕ) (r : Result (Unit {0}) SectorFault)
     → r ≡ Ok tt
+    → IsUnspent z
     → piece ≡ piece_of text sector
     → Ran x y (writes_of text sector)
     → WritesSector y z sector piece r
     → Ran x z (writes_of text (sector + 1))
-ran_write x y z text piece sector r is same ran writes =
+ran_write x y z text piece sector r is unspent same ran writes =
     subst (λ events. Ran x z events) (sym (writes_more text sector))
-    (ran_more x y z (writes_of text sector) (write_of text sector) (as_line (codes "ok")) ran
+    (ran_more x y z (writes_of text sector) (write_of text sector) (as_line (codes "ok")) unspent ran
     (write_done y z sector (piece_of text sector) (as_line (codes "ok")) r is refl
     (subst (λ v. WritesSector y z sector v r) same writes)))
 
@@ -82,13 +84,14 @@ ran_write x y z text piece sector r is same ran writes =
 pub written_more :
     (x y z : View) (text before rest piece : List ℕ) (sector count : ℕ) (r : Result (Unit {0}) SectorFault)
     → r ≡ Ok tt
+    → IsUnspent z
     → HasWritten x y text before sector
     → HasTaken text rest piece sector count
     → 512 ≤ count
     → WritesSector y z sector piece r
     → HasWritten x z text rest (sector + 1)
-written_more x y z text before rest piece sector count r is has took full writes = record {
-  ran = ran_write x y z text piece sector r is took.piece_is has.ran writes;
+written_more x y z text before rest piece sector count r is unspent has took full writes = record {
+  ran = ran_write x y z text piece sector r is unspent took.piece_is has.ran writes;
   rest_is = took.rest_is;
   some = let some = has.some in let counted = took.count_is in omega arith;
 }
@@ -138,6 +141,7 @@ ended_before x y text before rest piece sector count bytes has took inside none 
 pub ended_in :
     (x y z : View) (text before rest piece : List ℕ) (sector count bytes : ℕ) (r : Result (Unit {0}) SectorFault)
     → r ≡ Ok tt
+    → IsUnspent z
     → HasWritten x y text before sector
     → HasTaken text rest piece sector count
     → sector < size_of x
@@ -146,11 +150,11 @@ pub ended_in :
     → WritesSector y z sector piece r
     → bytes ≡ sector * 512 + count
     → Imports x z text rest (Ok bytes)
-ended_in x y z text before rest piece sector count bytes r done has took inside some_count few writes is =
+ended_in x y z text before rest piece sector count bytes r done unspent has took inside some_count few writes is =
     let some = has.some in
     let counted = took.count_is in
     let left = left_count text rest (512 * (sector + 1)) took.rest_is in
-    all_written x z text rest (sector + 1) bytes (ran_write x y z text piece sector r done took.piece_is has.ran writes)
+    all_written x z text rest (sector + 1) bytes (ran_write x y z text piece sector r done unspent took.piece_is has.ran writes)
     (nil_from_length rest (omega arith)) (omega arith) (omega arith) (omega arith) (omega arith)
 
 -- the input ends with the volume
@@ -250,13 +254,14 @@ failed_behind x y text before rest sectors has whole same =
 pub spent_at :
     (x y z : View) (text before rest piece : List ℕ) (sector count : ℕ) (r : Result (Unit {0}) SectorFault)
     → r ≡ Err IsSpent
+    → IsUnspent z
     → HasWritten x y text before sector
     → HasTaken text rest piece sector count
     → sector < size_of x
     → 0 < count
     → WritesSector y z sector piece r
     → Imports x z text rest (Err (AtSpent sector))
-spent_at x y z text before rest piece sector count r is has took inside some_count writes =
+spent_at x y z text before rest piece sector count r is unspent has took inside some_count writes =
     let some = has.some in
     let counted = took.count_is in
     let left = left_count text rest (512 * (sector + 1)) took.rest_is in
@@ -266,7 +271,7 @@ spent_at x y z text before rest piece sector count r is has took inside some_cou
       writes = record { inside = inside; some = omega arith; events_are = refl };
       most = omega arith;
       ran =
-          ran_more x y z (writes_of text sector) refused (spent_line sector) has.ran
+          ran_more x y z (writes_of text sector) refused (spent_line sector) unspent has.ran
           (write_spent y z sector (piece_of text sector) (spent_line sector) r is refl
           (subst (λ v. WritesSector y z sector v r) took.piece_is writes));
     }
@@ -274,15 +279,16 @@ spent_at x y z text before rest piece sector count r is has took inside some_cou
 -- an import, once the pool was ended
 pub import_outcome :
     (x m y : View) (a : FlatArray) (text rest out out' : List ℕ) (result : Result ℕ ImportFault) (status : Status)
+    → IsUnspent y
     → Imports x m text rest result
     → Ends m y
     → SaysWritten result out out' status
-    → ImportOutcome status (Holds x a) x.bay.traced y.bay (ground_of x) (moment_of x) a text rest out out'
-import_outcome x m y a text rest out out' result status imports ends says = record {
+    → ImportOutcome status (IsServing x a) x.bay.traced x.bay y.bay (ground_of x) (moment_of x) a text rest out out'
+import_outcome x m y a text rest out out' result status unspent imports ends says = record {
   result = result;
   events = imports.events;
   writes = imports.writes;
   most = imports.most;
-  lasts = lasts_of x m y a imports.events imports.ran ends;
+  lasts = lasts_of x m y a imports.events unspent imports.ran ends;
   says = says;
 }

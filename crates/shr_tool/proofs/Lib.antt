@@ -13,8 +13,10 @@ mod Meanings
 mod Performing
 mod Pieces
 mod Putting
+mod Replacing
 mod Shown
 mod Stepped
 mod Stopping
+mod Taking
 mod Through
 mod Told

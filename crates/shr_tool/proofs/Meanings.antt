@@ -1,6 +1,8 @@
 -- What calls of a pool in a row do to the array that its volume holds.
 use Rattle.std.proofs.Common.{◌≡◌, ◌<◌, ◌^◌, sym, subst, arith}
 use Rattle.rack.specs.Seen.{Image, Seen}
+use Rattle.rack.specs.Shelf.{Shelf}
+use Rattle.rack.specs.Shelf.{Shelf}
 use Rattle.rack.specs.Moments.{Leaves}
 use Rattle.rack.specs.Joins.{leaves_then, leaves_weaker}
 use Rattle.rack.specs.Values.{MayLeave}
@@ -16,8 +18,8 @@ use Rattle.pool.specs.Volume.{Does, Holds, Means, size_of}
 use Rattle.pool.specs.Calls.{Passes}
 
 -- a volume has fewer sectors than a number of 52 bits says
-pub size_small : {R : Type 0} (seen : R → Seen) (pool : Pool R) → (volume (view seen pool)).fit → size_of (view seen pool) < 2 ^ 52
-size_small seen pool fit =
+pub size_small : {R : Type 0} (seen : R → Seen) (shelf : R → Shelf) (pool : Pool R) → (volume (view seen shelf pool)).fit → size_of (view seen shelf pool) < 2 ^ 52
+size_small seen shelf pool fit =
     let most = no_more_sectors (linear pool.volume) (raid_seen seen (arrays_of pool)) pool.volume.orderly fit.1 in
     let small = fit.1.small in
     omega arith

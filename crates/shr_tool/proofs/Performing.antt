@@ -7,7 +7,7 @@ use Rattle.std.proofs.lemmas.Bool.Decides.{nat_tests}
 use Rattle.std.proofs.lemmas.Option.{slice_get_past}
 use Rattle.std.proofs.Math.Nat.{le-min, min-eq_left}
 use Rattle.rack.specs.Moments.{IsSound}
-use Rattle.rack.specs.Joins.{leaves_weaker}
+use Rattle.rack.specs.Seen.{Image}
 use Rattle.shr_script.specs.Line.{Line}
 use Rattle.shr_script.specs.declared.Command.TheVariants.{Read, Write, Fill, Flush, Lose}
 use Rattle.shr_script.specs.Reply.{data_line, as_line, refused_line}
@@ -24,12 +24,15 @@ use Rattle.pool.specs.Volume.{Does, Holds, Means, is_spent, size_of, unchanged}
 use Rattle.pool.specs.Keeping.{Raises}
 use Rattle.pool.specs.Calls.{Flushes, LosesDrive, Marks, Passes, ReadsSector, WritesSector}
 use Rattle.shr_tool.specs.declared.perform.SpentAt.{SpentAt}
-use Rattle.shr_tool.specs.Events.{Event, IsOfArray, Touches, TouchesLast, becomes, calls_in, line_of, text_of}
-use Rattle.shr_tool.specs.Events.Event.{answered, spent, lost, last}
-use Rattle.shr_tool.specs.Timeline.{HasCause, MarksFor, Performs, ground_of, moment_of}
+use Rattle.shr_tool.specs.Events.{Event, IsOfArray, Touches, TouchesLast, becomes, calls_in, line_of, takes_disk, text_of}
+use Rattle.shr_tool.specs.Events.Event.{answered, spent, lost, last, replaced, declined, stepped, stuck, shown}
+use Rattle.pool.specs.Moment.{moment_of}
+use Rattle.shr_tool.specs.Timeline.{HasCause, MarksFor, MeansBefore, Performs, ground_of}
 use Rattle.shr_tool.specs.Filling.{Fills, FillsSome}
 use Rattle.pool.proofs.Booked.{raises_still}
+use Rattle.pool.proofs.Continuing.{continues_of}
 use Rattle.pool.proofs.Doing.{does_none}
+use Rattle.shr_tool.proofs.Joined.{means_at}
 use Rattle.pool.proofs.Keeping.{marks_same, passes_same}
 
 -- ---- any line
@@ -45,9 +48,24 @@ marks_for x y event passes marks = record {
   cause = λ place was now. elim (marks place was now) [ inl rose ↦ inl rose | inr none ↦ absurd none ];
 }
 
+-- contents mean an array as before an event that takes no disk
+means_before :
+    (x y : View) (event : Event) (a : FlatArray) (i : Image) → takes_disk event ≡ false → Passes x y → Means y a i
+    → MeansBefore (ground_of x) (moment_of x) (moment_of y) event a i
+means_before x y (answered line) a i none passes means = means_at x y a i passes.linear means
+means_before x y (spent line sector) a i none passes means = means_at x y a i passes.linear means
+means_before x y (lost place) a i none passes means = means_at x y a i passes.linear means
+means_before x y (last place) a i none passes means = means_at x y a i passes.linear means
+means_before x y (replaced place name) a i none passes means = absurd (both_ways true none refl)
+means_before x y (declined place name fault) a i none passes means = inr (means_at x y a i passes.linear means)
+means_before x y (stepped count left) a i none passes means = means_at x y a i passes.linear means
+means_before x y (stuck count array) a i none passes means = means_at x y a i passes.linear means
+means_before x y (shown text) a i none passes means = means_at x y a i passes.linear means
+
 -- A call answers a line by what it does: stops inside it leave the array before the line or after it.
 pub performs_by :
     (x y : View) (event : Event) (text : List ℕ) (during now : FlatArray → FlatArray)
+    → takes_disk event ≡ false
     → Passes x y
     → Raises (calls_in (line_of event)) x y
     → Cause x y event
@@ -57,21 +75,22 @@ pub performs_by :
     → ((a : FlatArray) → Holds x a → (during a ≡ a) ⊎ (during a ≡ becomes a event))
     → Does x y during now
     → Performs x y event text
-performs_by x y event text during now passes raises cause marks text_is same one_of does = record {
-  passes = passes;
+performs_by x y event text during now none passes raises cause marks text_is same one_of does = record {
+  continues = continues_of x y passes;
+  passes = λ _. passes;
+  outside = λ takes. absurd (both_ways (takes_disk event) none takes);
   raises = raises;
+  keeps = passes.book;
   cause = cause;
-  marks = marks;
+  marks = λ _. marks;
   text_is = text_is;
   holds = λ a holds. subst (λ b. Holds y b) (same a holds) (does.becomes a holds);
-  leaves = λ traced a holds.
-      leaves_weaker (Means y (during a)) (λ i. Means y a i ⊎ Means y (becomes a event) i)
-      (λ i means.
+  leaves = λ traced a holds k i since until stopped.
+      let means = (does.leaves traced a holds).new k i since until stopped in
       elim (one_of a holds) [
-        | inl before ↦ inl (subst (λ b. Means y b i) before means)
+        | inl before ↦ inl (means_before x y event a i none passes (subst (λ b. Means y b i) before means))
         | inr after ↦ inr (subst (λ b. Means y b i) after means)
-      ])
-      (does.leaves traced a holds);
+      ];
   ends = λ traced a holds i stopped. subst (λ b. Means y b i) (same a holds) (does.ends traced a holds i stopped);
 }
 
@@ -120,7 +139,7 @@ pub still_done :
     → ((a : FlatArray) → Holds x a → text ≡ reply a line)
     → Performs x x (answered line) text
 still_done x line text fit sound none never other apart same is =
-    performs_by x x (answered line) text unchanged unchanged (passes_same x fit) (raises_still (calls_in line) x) (touches_none x x line none never other apart)
+    performs_by x x (answered line) text unchanged unchanged refl (passes_same x fit) (raises_still (calls_in line) x) (touches_none x x line none never other apart)
     (marks_for x x (answered line) (passes_same x fit) (marks_same x (λ place. ⊥)))
     is same (λ a holds. inl refl) (does_none x (passes_same x fit) sound)
 
@@ -156,7 +175,7 @@ pub read_done :
 read_done x y sector into text r is_ok is reads_r =
     let reads : ReadsSector x y sector into {X = Unit {0}} (Ok tt) = subst (λ q. ReadsSector x y sector into q) is_ok reads_r in
     let served = reads.fault.served in
-    performs_by x y (answered (Ok (Read sector))) text unchanged unchanged reads.passes reads.raises
+    performs_by x y (answered (Ok (Read sector))) text unchanged unchanged refl reads.passes reads.raises
     (touches_one x y (Ok (Read sector)) sector reads.passes served.1 (λ s touches. touches.0) (λ s touches. touches.0) (λ place loses. cc) tt)
     (marks_for x y _ reads.passes reads.marks)
     (λ a holds. rw (inside_array x a sector holds served.0) (is ∙ ap data_line (reads.value a holds)))
@@ -172,7 +191,7 @@ pub read_outside :
     → Performs x y (answered (Ok (Read sector))) text
 read_outside x y sector into text r refused is reads =
     let past = reads.fault.range.0 refused in
-    performs_by x y (answered (Ok (Read sector))) text unchanged unchanged reads.passes reads.raises
+    performs_by x y (answered (Ok (Read sector))) text unchanged unchanged refl reads.passes reads.raises
     (touches_none x y (Ok (Read sector)) (λ s touches. let inside = touches.1 in omega arith)
     (λ s touches. let inside = touches.1 in omega arith) (λ place loses. cc) tt)
     (marks_for x y _ reads.passes reads.marks)
@@ -189,7 +208,7 @@ pub read_spent :
     → Performs x y (spent (Ok (Read sector)) sector) text
 read_spent x y sector into text r refused is reads =
     let gone = reads.fault.refused refused in
-    performs_by x y (spent (Ok (Read sector)) sector) text unchanged unchanged reads.passes reads.raises (
+    performs_by x y (spent (Ok (Read sector)) sector) text unchanged unchanged refl reads.passes reads.raises (
       (refl, gone.0),
       spent_at x y sector true reads.passes gone.1,
       λ s touches before. absurd (let same = touches.0 in omega arith),
@@ -213,7 +232,7 @@ write_done x y sector v text r is_ok is writes_r =
     let served = writes.fault.served in
     let same : (a : FlatArray) → Holds x a → written a sector v ≡ after a (Ok (Write sector v)) =
     λ a holds. rw (inside_array x a sector holds served.0) refl in
-    performs_by x y (answered (Ok (Write sector v))) text (λ a. written a sector v) (λ a. written a sector v) writes.passes writes.raises
+    performs_by x y (answered (Ok (Write sector v))) text (λ a. written a sector v) (λ a. written a sector v) refl writes.passes writes.raises
     (touches_one x y (Ok (Write sector v)) sector writes.passes served.1 (λ s touches. touches.0) (λ s touches. touches.0) (λ place loses. cc) tt)
     (marks_for x y _ writes.passes writes.marks)
     (λ a holds. rw (inside_array x a sector holds served.0) is)
@@ -230,7 +249,7 @@ pub write_outside :
 write_outside x y sector v text r refused is writes_r =
     let writes : WritesSector x y sector v {X = Unit {0}} (Err Range) = subst (λ q. WritesSector x y sector v q) refused writes_r in
     let past = writes.fault.range.0 refl in
-    performs_by x y (answered (Ok (Write sector v))) text unchanged unchanged writes.passes writes.raises
+    performs_by x y (answered (Ok (Write sector v))) text unchanged unchanged refl writes.passes writes.raises
     (touches_none x y (Ok (Write sector v)) (λ s touches. let inside = touches.1 in omega arith)
     (λ s touches. let inside = touches.1 in omega arith) (λ place loses. cc) tt)
     (marks_for x y _ writes.passes writes.marks)
@@ -248,7 +267,7 @@ pub write_spent :
 write_spent x y sector v text r refused is writes_r =
     let writes : WritesSector x y sector v {X = Unit {0}} (Err Spent) = subst (λ q. WritesSector x y sector v q) refused writes_r in
     let gone = writes.fault.refused refl in
-    performs_by x y (spent (Ok (Write sector v)) sector) text unchanged unchanged writes.passes writes.raises (
+    performs_by x y (spent (Ok (Write sector v)) sector) text unchanged unchanged refl writes.passes writes.raises (
       (refl, gone.0),
       spent_at x y sector true writes.passes gone.1,
       λ s touches before. absurd (let same = touches.0 in omega arith),
@@ -279,7 +298,7 @@ fill_done x y sector count byte text r inside is_ok is fills_r =
     λ a holds. rw (all_inside x a (sector + count) holds inside) refl in
     performs_by x y (answered (Ok (Fill sector count byte))) text (λ a. filled a sector count (uniform_sector byte))
     (λ a. filled a sector count (uniform_sector byte))
-    fills.passes fills.raises (
+    refl fills.passes fills.raises (
       λ s touches. fills.done.0.unspent s touches.0 touches.1,
       λ s touches. spent_at x y s false fills.passes (fills.done.1 s touches.0 touches.1),
       λ place loses. absurd (let other : ⊥ = cc in other),
@@ -307,7 +326,7 @@ fill_spent x y sector count byte text r at inside refused is fills_r =
     performs_by x y (spent (Ok (Fill sector count byte)) at.sector) text
     (λ a. filled a sector (at.sector - sector) (uniform_sector byte))
     (λ a. filled a sector (at.sector - sector) (uniform_sector byte))
-    fills.passes fills.raises (
+    refl fills.passes fills.raises (
       (from, before, inside),
       spent_at x y at.sector true fills.passes fills.refused.2,
       λ s touches early. some.unspent s touches.0 (omega arith),
@@ -340,7 +359,7 @@ fill_outside x sector count byte text fit sound past is =
 pub flush_done :
     (x y : View) (text : List ℕ) → text ≡ as_line (codes "ok") → Flushes x y → Performs x y (answered (Ok Flush)) text
 flush_done x y text is flushes =
-    performs_by x y (answered (Ok Flush)) text unchanged flushed flushes.passes flushes.raises
+    performs_by x y (answered (Ok Flush)) text unchanged flushed refl flushes.passes flushes.raises
     (touches_none x y (Ok Flush) (λ s touches. touches) (λ s touches. touches) (λ place loses. cc) tt)
     (marks_for x y _ flushes.passes flushes.marks)
     (λ a holds. is)
@@ -400,7 +419,7 @@ lose_done x y at place text r fit cut is_ok is loses_r =
       | inr missing ↦ absurd (let other = loses.missing.1 missing in cc)
     ] in
     let same : at ≡ place = cut_current x at place fit cut current in
-    performs_by x y (lost place) text unchanged unchanged loses.passes loses.raises (
+    performs_by x y (lost place) text unchanged unchanged refl loses.passes loses.raises (
       subst (λ p. is_current (book x).state p ≡ true) same current,
       subst (λ p. is_current (book y).state p ≡ false) same loses.lost,
     )
@@ -438,7 +457,7 @@ pub lose_missing :
     → Performs x y (answered (Ok (Lose place))) text
 lose_missing x y at place text r fit cut refused same is loses =
     let missing = loses.missing.0 refused in
-    performs_by x y (answered (Ok (Lose place))) text unchanged unchanged loses.passes loses.raises (
+    performs_by x y (answered (Ok (Lose place))) text unchanged unchanged refl loses.passes loses.raises (
       λ s touches. absurd touches,
       λ s touches. absurd touches,
       λ p line.
@@ -464,7 +483,7 @@ pub lose_last :
 lose_last x y at place text r fit cut refused same is loses =
     let cause = loses.last.0 refused in
     let this : at ≡ place = cut_current x at place fit cut cause.0 in
-    performs_by x y (last place) text unchanged unchanged loses.passes loses.raises (
+    performs_by x y (last place) text unchanged unchanged refl loses.passes loses.raises (
       subst (λ p. is_current (book x).state p ≡ true) this cause.0,
       subst (λ p. has_other (book x).state p ≡ false) this cause.1,
     )

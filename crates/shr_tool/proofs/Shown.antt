@@ -1,4 +1,4 @@
--- How the pool stands is said of its book, or why a drive isn't replaced, and nothing is called.
+-- How the pool stands is said of its book, and nothing is called.
 use Rattle.std.specs.List.{range_with_len}
 use Rattle.std.specs.Prelude.{flat_map}
 use Rattle.std.proofs.Common.{◌≡◌, ℕ, zero, suc, ◌+◌, List, [], ◌∷◌, ◌++◌, append_assoc, refl, sym, ap, ◌∙◌, inl, arith}
@@ -9,10 +9,9 @@ use Rattle.pool.specs.Volume.{unchanged}
 use Rattle.pool.proofs.Booked.{raises_still}
 use Rattle.pool.proofs.Doing.{does_none}
 use Rattle.pool.proofs.Keeping.{marks_same, passes_same}
-use Rattle.shr_script.specs.Reply.{refused_line}
-use Rattle.shr_tool.specs.Events.Event.{declined, shown}
+use Rattle.shr_tool.specs.Events.Event.{shown}
 use Rattle.shr_tool.specs.StatusText.{status_text}
-use Rattle.shr_tool.specs.Timeline.{Performs, decline_of}
+use Rattle.shr_tool.specs.Timeline.{Performs}
 use Rattle.shr_tool.proofs.Performing.{marks_for, performs_by}
 
 pub show_done :
@@ -22,24 +21,9 @@ pub show_done :
     → text ≡ status_text x.linear (book x)
     → Performs x x (shown text) text
 show_done x text fit sound is =
-    performs_by x x (shown text) text unchanged unchanged (passes_same x fit) (raises_still 1 x) is
+    performs_by x x (shown text) text unchanged unchanged refl (passes_same x fit) (raises_still 1 x) is
     (marks_for x x (shown text) (passes_same x fit) (marks_same x (λ place. ⊥)))
     (λ a holds. refl)
-    (λ a holds. refl)
-    (λ a holds. inl refl)
-    (does_none x (passes_same x fit) sound)
-
-pub decline_done :
-    (x : View) (place : ℕ) (name text : List ℕ)
-    → (volume x).fit
-    → (x.bay.traced → IsSound (volume x))
-    → text ≡ refused_line (decline_of (book x).state place)
-    → Performs x x (declined place name (decline_of (book x).state place)) text
-decline_done x place name text fit sound is =
-    let event = declined place name (decline_of (book x).state place) in
-    performs_by x x event text unchanged unchanged (passes_same x fit) (raises_still 1 x) (refl, refl)
-    (marks_for x x event (passes_same x fit) (marks_same x (λ place. ⊥)))
-    (λ a holds. is)
     (λ a holds. refl)
     (λ a holds. inl refl)
     (does_none x (passes_same x fit) sound)

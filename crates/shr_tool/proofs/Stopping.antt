@@ -1,5 +1,5 @@
 -- A line that is answered, and why a script stops.
-use Rattle.std.proofs.Common.{◌≡◌, ℕ, ◌<◌, ◌≤◌, ◌^◌, ◌||◌, Bool, false, List, [], ◌∷◌, ◌++◌, length, take, Option, Some, None, Ok, Err, append_assoc, length-append, refl, sym, ◌∙◌, ap, subst, arith}
+use Rattle.std.proofs.Common.{◌≡◌, ℕ, ◌<◌, ◌≤◌, ◌^◌, List, [], ◌∷◌, ◌++◌, length, take, Option, Some, None, Ok, Err, append_assoc, length-append, refl, sym, ◌∙◌, ap, subst, arith}
 use Rattle.std.proofs.lemmas.List.{append-nil}
 use Rattle.std.proofs.Math.Seq.{take-append_seam}
 use Rattle.pool.specs.View.{View}
@@ -9,11 +9,12 @@ use Rattle.shr_script.specs.Script.{without_return, script_of, cut_script_of}
 use Rattle.shr_script.specs.Reading.{ReadsPart, ReadsLine, ReadsRest, ReadsMost}
 use Rattle.shr_script.specs.ScriptLaws.{prepend, script_of-line, script_of-last, cut_script_of-line, cut_script_of-last}
 use Rattle.shr_tool.specs.declared.perform.Answer.{Answer}
+use Rattle.shr_tool.specs.declared.perform.Answer.TheVariants.{Given}
 use Rattle.shr_tool.specs.declared.serve.Stop.{Stop}
 use Rattle.shr_tool.specs.declared.serve.Stop.TheVariants.{Quit as AtQuit, Input, SourceFault, Limit, SinkFault}
-use Rattle.shr_tool.specs.Events.{Event, any_spent, array_by, is_spent, line_of, lines_of, texts}
-use Rattle.shr_tool.specs.Serving.{Answered, IsReplied, LastAnswers, LineAnswers, Serves, StopsAtEnd, StopsAtLimit, StopsAtSource, refuses}
-use Rattle.shr_tool.proofs.History.{History, any_spent-snoc, answered_more, lines_of-snoc, or_false, ran_more}
+use Rattle.shr_tool.specs.Events.{Event, answer_of, array_by, line_of, lines_of, texts, worse, worst_of}
+use Rattle.shr_tool.specs.Serving.{Answered, IsReplied, LastAnswers, LineAnswers, Serves, StopsAtEnd, StopsAtLimit, StopsAtSource}
+use Rattle.shr_tool.proofs.History.{History, IsUnspent, answered_more, lines_of-snoc, ran_more, worse_given, worst_of-snoc}
 
 -- a line with a reply stands before those after it
 prepend-replied : (line : Line) (tail : List Line) → IsReplied line → prepend (Some line) tail ≡ line ∷ tail
@@ -42,14 +43,14 @@ lines_over events event line tail is replied =
     ∙ (sym (append_assoc (lines_of events) (line_of event ∷ []) tail)
     ∙ ap (λ lines. lines ++ tail) (sym (lines_of-snoc events event))))
 
--- whether a sector was refused, with one event more
-spent_over :
-    (events : List Event) (event : Event) (answer : Answer) (before : Bool)
-    → any_spent events ≡ before
-    → is_spent event ≡ refuses answer
-    → any_spent (events ++ event ∷ []) ≡ (before || refuses answer)
-spent_over events event answer before old new =
-    any_spent-snoc events event ∙ (ap (λ b. b || is_spent event) old ∙ ap (λ b. before || b) new)
+-- the worst of the answers, with one event more
+worst_over :
+    (events : List Event) (event : Event) (answer before : Answer)
+    → worst_of events ≡ before
+    → answer_of event ≡ answer
+    → worst_of (events ++ event ∷ []) ≡ worse before answer
+worst_over events event answer before old new =
+    worst_of-snoc events event ∙ (ap (λ b. worse b (answer_of event)) old ∙ ap (worse before) new)
 
 -- nothing was called and nothing put
 answered_still :
@@ -63,26 +64,26 @@ answered_still shown p q x events out out' out'' answered same put =
     (subst (λ b. Answered x (shown b) events out out') (sym same) answered)
 
 -- an empty line refuses nothing
-spent_still :
-    (events : List Event) (answer : Answer) (before : Bool)
-    → any_spent events ≡ before
-    → refuses answer ≡ false
-    → any_spent events ≡ (before || refuses answer)
-spent_still events answer before old none = old ∙ (sym (or_false before) ∙ ap (λ b. before || b) (sym none))
+worst_still :
+    (events : List Event) (answer before : Answer)
+    → worst_of events ≡ before
+    → answer ≡ Given
+    → worst_of events ≡ worse before answer
+worst_still events answer before old none = old ∙ (sym (worse_given before) ∙ ap (worse before) (sym none))
 
 -- ---- a script that goes on
 
 -- a line that ended has been read over
 history_next :
-    (x y z : View) (text rest rest' line : List ℕ) (count to : ℕ) (out out' out'' : List ℕ) (before now : Bool)
+    (x y z : View) (text rest rest' line : List ℕ) (count to : ℕ) (out out' out'' : List ℕ) (before now : Answer)
     (h : History x y text rest count out out' before)
     (r : ReadsLine rest rest' line count to)
     (events : List Event)
     → ((tail : List Line) → lines_of h.events ++ prepend (line_in (without_return r.part.bytes)) tail ≡ lines_of events ++ tail)
-    → any_spent events ≡ now
+    → worst_of events ≡ now
     → Answered x z events out out''
     → History x z text rest' to out out'' now
-history_next x y z text rest rest' line count to out out' out'' before now h r events moves spent answered =
+history_next x y z text rest rest' line count to out out' out'' before now h r events moves worst_is answered =
     let bytes = r.part.bytes in
     let seam : (more : List ℕ) → (h.done ++ (bytes ++ 10 ∷ [])) ++ more ≡ h.done ++ (bytes ++ 10 ∷ more) =
     λ more.
@@ -97,7 +98,7 @@ history_next x y z text rest rest' line count to out out' out'' before now h r e
           let last = r.count in
           simp length-append (omega arith);
       events = events;
-      spent = spent;
+      worst_is = worst_is;
       script =
           λ more.
           ap script_of (seam more)
@@ -113,27 +114,27 @@ history_next x y z text rest rest' line count to out out' out'' before now h r e
 
 -- a line was answered
 pub line_answered :
-    {P : Type 0} (shown : P → View) (p q : P) (x : View) (text rest rest' line : List ℕ) (count to : ℕ)
-    (out out' out'' : List ℕ) (before now : Bool) (answer : Answer) (said : Option Line)
+    {P : Type 0} (shown : P → View) (unspent : (r : P) → IsUnspent (shown r)) (p q : P) (x : View) (text rest rest' line : List ℕ) (count to : ℕ)
+    (out out' out'' : List ℕ) (before now : Answer) (answer : Answer) (said : Option Line)
     → (h : History x (shown p) text rest count out out' before)
     → (r : ReadsLine rest rest' line count to)
     → said ≡ line_in (without_return r.part.bytes)
-    → now ≡ (before || refuses answer)
+    → now ≡ worse before answer
     → LineAnswers shown (Ok answer) said p q out' out''
     → History x (shown q) text rest' to out out'' now
-line_answered shown p q x text rest rest' line count to out out' out'' before now answer None h r is refused answers =
+line_answered shown unspent p q x text rest rest' line count to out out' out'' before now answer None h r is worse_is answers =
     history_next x (shown p) (shown q) text rest rest' line count to out out' out'' before now h r h.events
     (λ tail. ap (λ l. lines_of h.events ++ prepend l tail) (sym is))
-    (spent_still h.events answer before h.spent (ap refuses answers.0) ∙ sym refused)
+    (worst_still h.events answer before h.worst_is answers.0 ∙ sym worse_is)
     (answered_still shown p q x h.events out out' out'' h.answered answers.1 answers.2)
-line_answered shown p q x text rest rest' line count to out out' out'' before now answer (Some l) h r is refused answers =
+line_answered shown unspent p q x text rest rest' line count to out out' out'' before now answer (Some l) h r is worse_is answers =
     let event = answers.answers.event in
     history_next x (shown p) (shown q) text rest rest' line count to out out' out'' before now h r (h.events ++ event ∷ [])
     (λ tail.
     ap (λ d. lines_of h.events ++ prepend d tail) (sym is)
     ∙ lines_over h.events event l tail answers.answers.line_is answers.replied)
-    (spent_over h.events event answer before h.spent answers.answers.answer_is ∙ sym refused)
-    (answered_more x (shown p) (shown q) h.events l answer out out' out'' h.answered answers)
+    (worst_over h.events event answer before h.worst_is answers.answers.answer_is ∙ sym worse_is)
+    (answered_more x (shown p) (shown q) h.events l answer out out' out'' (unspent q) h.answered answers)
 
 -- ---- a script that stops
 
@@ -147,23 +148,23 @@ quit_script lines whole tail said script is = script ∙ (ap (λ l. lines ++ pre
 
 -- at a line that was answered
 pub line_stopped :
-    {P : Type 0} (shown : P → View) (p q : P) (x : View) (text rest : List ℕ) (out out' out'' : List ℕ) (refused : Bool)
+    {P : Type 0} (shown : P → View) (unspent : (r : P) → IsUnspent (shown r)) (p q : P) (x : View) (text rest : List ℕ) (out out' out'' : List ℕ) (worst : Answer)
     (events : List Event) (tail : List Line) (said : Option Line) (stop : Stop)
     → Answered x (shown p) events out out'
     → script_of text ≡ lines_of events ++ prepend said tail
-    → any_spent events ≡ refused
+    → worst_of events ≡ worst
     → LineAnswers shown (Err stop) said p q out' out''
-    → Serves stop x (shown q) text rest out out'' refused
-line_stopped shown p q x text rest out out' out'' refused events tail said AtQuit answered script spent answers = record {
+    → Serves stop x (shown q) text rest out out'' worst
+line_stopped shown unspent p q x text rest out out' out'' worst events tail said AtQuit answered script worst_is answers = record {
   events = events;
   script = quit_script (lines_of events) (script_of text) tail said script answers.0;
-  spent = spent;
+  worst_is = worst_is;
   answered = answered_still shown p q x events out out' out'' answered answers.1 answers.2;
 }
-line_stopped shown p q x text rest out out' out'' refused events tail said Input answered script spent answers = absurd answers
-line_stopped shown p q x text rest out out' out'' refused events tail said SourceFault answered script spent answers = absurd answers
-line_stopped shown p q x text rest out out' out'' refused events tail said Limit answered script spent answers = absurd answers
-line_stopped shown p q x text rest out out' out'' refused events tail said SinkFault answered script spent answers =
+line_stopped shown unspent p q x text rest out out' out'' worst events tail said Input answered script worst_is answers = absurd answers
+line_stopped shown unspent p q x text rest out out' out'' worst events tail said SourceFault answered script worst_is answers = absurd answers
+line_stopped shown unspent p q x text rest out out' out'' worst events tail said Limit answered script worst_is answers = absurd answers
+line_stopped shown unspent p q x text rest out out' out'' worst events tail said SinkFault answered script worst_is answers =
     let l = answers.0 in
     let refuses = answers.2 in
     let event = refuses.answers.event in
@@ -175,7 +176,7 @@ line_stopped shown p q x text rest out out' out'' refused events tail said SinkF
           script
           ∙ (ap (λ d. lines_of events ++ prepend d tail) answers.1
           ∙ lines_over events event l tail refuses.answers.line_is refuses.replied);
-      ran = ran_more x (shown p) (shown q) events event refuses.text answered.ran refuses.answers.performs;
+      ran = ran_more x (shown p) (shown q) events event refuses.text (unspent q) answered.ran refuses.answers.performs;
       put =
           λ a holds.
           let told = refuses.answers.performs.text_is (array_by a events) (answered.ran.holds a holds) in
@@ -191,61 +192,61 @@ line_stopped shown p q x text rest out out' out'' refused events tail said SinkF
 
 -- the last line was answered
 last_replied :
-    {P : Type 0} (shown : P → View) (p q : P) (x : View) (text : List ℕ) (out out' out'' : List ℕ) (before now : Bool)
+    {P : Type 0} (shown : P → View) (unspent : (r : P) → IsUnspent (shown r)) (p q : P) (x : View) (text : List ℕ) (out out' out'' : List ℕ) (before now : Answer)
     (answer : Answer) (events : List Event) (said : Option Line)
     → Answered x (shown p) events out out'
     → script_of text ≡ lines_of events ++ prepend said []
-    → any_spent events ≡ before
-    → now ≡ (before || refuses answer)
+    → worst_of events ≡ before
+    → now ≡ worse before answer
     → LineAnswers shown (Ok answer) said p q out' out''
     → StopsAtEnd x (shown q) text out out'' now
-last_replied shown p q x text out out' out'' before now answer events None answered script spent refused answers = record {
+last_replied shown unspent p q x text out out' out'' before now answer events None answered script worst_is worse_is answers = record {
   events = events;
   script = script ∙ append-nil (lines_of events);
-  spent = spent_still events answer before spent (ap refuses answers.0) ∙ sym refused;
+  worst_is = worst_still events answer before worst_is answers.0 ∙ sym worse_is;
   answered = answered_still shown p q x events out out' out'' answered answers.1 answers.2;
 }
-last_replied shown p q x text out out' out'' before now answer events (Some l) answered script spent refused answers =
+last_replied shown unspent p q x text out out' out'' before now answer events (Some l) answered script worst_is worse_is answers =
     let event = answers.answers.event in
     record {
       events = events ++ event ∷ [];
       script =
           script
           ∙ (lines_over events event l [] answers.answers.line_is answers.replied ∙ append-nil (lines_of (events ++ event ∷ [])));
-      spent = spent_over events event answer before spent answers.answers.answer_is ∙ sym refused;
-      answered = answered_more x (shown p) (shown q) events l answer out out' out'' answered answers;
+      worst_is = worst_over events event answer before worst_is answers.answers.answer_is ∙ sym worse_is;
+      answered = answered_more x (shown p) (shown q) events l answer out out' out'' (unspent q) answered answers;
     }
 
 pub last_answered :
-    {P : Type 0} (shown : P → View) (p q : P) (x : View) (text rest : List ℕ) (out out' out'' : List ℕ) (before now : Bool)
+    {P : Type 0} (shown : P → View) (unspent : (r : P) → IsUnspent (shown r)) (p q : P) (x : View) (text rest : List ℕ) (out out' out'' : List ℕ) (before now : Answer)
     (events : List Event) (said : Option Line) (stop : Stop)
     → Answered x (shown p) events out out'
     → script_of text ≡ lines_of events ++ prepend said []
-    → any_spent events ≡ before
+    → worst_of events ≡ before
     → length text ≤ 2 ^ 32
     → LastAnswers shown before now stop said p q out' out''
     → Serves stop x (shown q) text rest out out'' now
-last_answered shown p q x text rest out out' out'' before now events said AtQuit answered script spent short answers =
-    line_stopped shown p q x text rest out out' out'' now events [] said AtQuit answered script (spent ∙ sym answers.0) answers.1
-last_answered shown p q x text rest out out' out'' before now events said Input answered script spent short answers =
-    (last_replied shown p q x text out out' out'' before now answers.0 events said answered script spent answers.1 answers.2, short)
-last_answered shown p q x text rest out out' out'' before now events said SourceFault answered script spent short answers =
+last_answered shown unspent p q x text rest out out' out'' before now events said AtQuit answered script worst_is short answers =
+    line_stopped shown unspent p q x text rest out out' out'' now events [] said AtQuit answered script (worst_is ∙ sym answers.0) answers.1
+last_answered shown unspent p q x text rest out out' out'' before now events said Input answered script worst_is short answers =
+    (last_replied shown unspent p q x text out out' out'' before now answers.0 events said answered script worst_is answers.1 answers.2, short)
+last_answered shown unspent p q x text rest out out' out'' before now events said SourceFault answered script worst_is short answers =
     absurd answers
-last_answered shown p q x text rest out out' out'' before now events said Limit answered script spent short answers = absurd answers
-last_answered shown p q x text rest out out' out'' before now events said SinkFault answered script spent short answers =
-    line_stopped shown p q x text rest out out' out'' before events [] said SinkFault answered script spent answers
+last_answered shown unspent p q x text rest out out' out'' before now events said Limit answered script worst_is short answers = absurd answers
+last_answered shown unspent p q x text rest out out' out'' before now events said SinkFault answered script worst_is short answers =
+    line_stopped shown unspent p q x text rest out out' out'' before events [] said SinkFault answered script worst_is answers
 
 -- ---- the text
 
 -- what a line that ended says of the script
 pub line_script :
-    (x y : View) (text rest rest' line : List ℕ) (count to : ℕ) (out out' : List ℕ) (refused : Bool)
-    (h : History x y text rest count out out' refused)
+    (x y : View) (text rest rest' line : List ℕ) (count to : ℕ) (out out' : List ℕ) (worst : Answer)
+    (h : History x y text rest count out out' worst)
     (r : ReadsLine rest rest' line count to)
     (said : Option Line)
     → said ≡ line_in (without_return r.part.bytes)
     → script_of text ≡ lines_of h.events ++ prepend said (script_of rest')
-line_script x y text rest rest' line count to out out' refused h r said is =
+line_script x y text rest rest' line count to out out' worst h r said is =
     ap script_of (h.text_is ∙ ap (λ xs. h.done ++ xs) r.part.text)
     ∙ (h.script (r.part.bytes ++ 10 ∷ rest')
     ∙ (ap (λ lines. lines_of h.events ++ lines) (script_of-line r.part.bytes rest' r.part.no_feed)
@@ -253,13 +254,13 @@ line_script x y text rest rest' line count to out out' refused h r said is =
 
 -- what the last line says of it
 pub last_script :
-    (x y : View) (text rest rest' line : List ℕ) (count to : ℕ) (out out' : List ℕ) (refused : Bool)
-    (h : History x y text rest count out out' refused)
+    (x y : View) (text rest rest' line : List ℕ) (count to : ℕ) (out out' : List ℕ) (worst : Answer)
+    (h : History x y text rest count out out' worst)
     (r : ReadsRest rest rest' line count to)
     (said : Option Line)
     → said ≡ line_in (without_return r.part.bytes)
     → script_of text ≡ lines_of h.events ++ prepend said []
-last_script x y text rest rest' line count to out out' refused h r said is =
+last_script x y text rest rest' line count to out out' worst h r said is =
     let bytes = r.part.bytes in
     let whole : rest ≡ bytes = r.part.text ∙ (ap (λ xs. bytes ++ xs) r.none ∙ append-nil bytes) in
     ap script_of (h.text_is ∙ ap (λ xs. h.done ++ xs) whole)
@@ -269,24 +270,24 @@ last_script x y text rest rest' line count to out out' refused h r said is =
 
 -- and of the length of the text
 pub last_length :
-    (x y : View) (text rest rest' line : List ℕ) (count to : ℕ) (out out' : List ℕ) (refused : Bool)
-    (h : History x y text rest count out out' refused)
+    (x y : View) (text rest rest' line : List ℕ) (count to : ℕ) (out out' : List ℕ) (worst : Answer)
+    (h : History x y text rest count out out' worst)
     (r : ReadsRest rest rest' line count to)
     → to ≤ 2 ^ 32
     → length text ≤ 2 ^ 32
-last_length x y text rest rest' line count to out out' refused h r most =
+last_length x y text rest rest' line count to out out' worst h r most =
     let counted = h.counted in
     let read = r.part.count in
     rw h.text_is (rw r.part.text (rw r.none (simp length-append (omega arith))))
 
 -- the source failed
 pub source_stopped :
-    (x y : View) (text rest rest' left line : List ℕ) (count to : ℕ) (out out' : List ℕ) (refused : Bool)
-    → History x y text rest count out out' refused
+    (x y : View) (text rest rest' left line : List ℕ) (count to : ℕ) (out out' : List ℕ) (worst : Answer)
+    → History x y text rest count out out' worst
     → ReadsPart rest rest' line count to
     → rest' ≡ left
     → StopsAtSource x y text left out out'
-source_stopped x y text rest rest' left line count to out out' refused h r emptied = record {
+source_stopped x y text rest rest' left line count to out out' worst h r emptied = record {
   taken = h.done ++ r.bytes;
   text_is =
       h.text_is
@@ -306,11 +307,11 @@ some_left (x ∷ xs) some = omega arith
 
 -- the limit was reached
 pub limit_stopped :
-    (x y : View) (text rest rest' line : List ℕ) (count to : ℕ) (out out' : List ℕ) (refused : Bool)
-    → History x y text rest count out out' refused
+    (x y : View) (text rest rest' line : List ℕ) (count to : ℕ) (out out' : List ℕ) (worst : Answer)
+    → History x y text rest count out out' worst
     → ReadsMost (2 ^ 32) rest rest' line count to
     → StopsAtLimit x y text out out'
-limit_stopped x y text rest rest' line count to out out' refused h r =
+limit_stopped x y text rest rest' line count to out out' worst h r =
     let bytes = r.part.bytes in
     let whole : text ≡ (h.done ++ bytes) ++ rest' =
     h.text_is ∙ (ap (λ xs. h.done ++ xs) r.part.text ∙ sym (append_assoc h.done bytes rest')) in
@@ -335,7 +336,7 @@ limit_stopped x y text rest rest' line count to out out' refused h r =
 
 -- the same cause
 pub serves_as :
-    (x y : View) (text rest out out' : List ℕ) (cause stop : Stop) (now before : Bool)
+    (x y : View) (text rest out out' : List ℕ) (cause stop : Stop) (now before : Answer)
     → cause ≡ stop
     → now ≡ before
     → Serves stop x y text rest out out' before

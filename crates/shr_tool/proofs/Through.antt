@@ -1,6 +1,7 @@
 -- A pool holds a reference to its bay: what is done through it is done to the bay.
 use Rattle.std.proofs.Common.{◌≡◌, ◌⊎◌, ◌↔◌, ◌&&◌, is_some, ℕ, ◌<◌, List, [], ◌∷◌, Option, Some, None, refl, sym, subst, ◌∙◌, ap, inl, inr, arith}
 use Rattle.rack.specs.Seen.{Image, Seen, Rose, Stays}
+use Rattle.rack.specs.Shelf.{Shelf}
 use Rattle.rack.specs.Values.{Values, MayLeave, Keeps, only}
 use Rattle.rack.specs.Joins.{leaves_weaker, stays_then}
 use Rattle.rack.specs.Moments.{Leaves}
@@ -39,7 +40,9 @@ use Rattle.pool.specs.Volume.{Holds}
 use Rattle.shr_tool.specs.Made.{HasFaultCause}
 use Rattle.shr_tool.specs.Opened.{IsMeant, IsOpenedAs}
 use Rattle.shr_tool.specs.Outcome.{IsRunOn}
-use Rattle.shr_tool.specs.Timeline.{Ground, MeansAt, Moment, ground_of, moment_of}
+use Rattle.pool.specs.Moment.{Moment, moment_of}
+use Rattle.shr_tool.specs.Serving.{IsServing}
+use Rattle.shr_tool.specs.Timeline.{Ground, MeansAt, ground_of}
 
 -- a bay that is reached through references is written as they are
 pub pool_through :
@@ -149,32 +152,39 @@ first_of other (Some (v ∷ more)) = v
 
 -- the volume that is opened holds the array that the disks meant
 pub held_by_meant :
-    {R : Type 0} (pool : Pool R) (shown : R → Seen) (x : Seen) (a : FlatArray)
-    → ((f : Found) → HoldSound x f → IsUnfaulted x (view shown pool).bay → IsMeantBy shown x f (arrays_of pool) (view shown pool).linear)
-    → IsMeant x (view shown pool).bay a
-    → Holds (view shown pool) a
+    {R : Type 0} (pool : Pool R) (shown : R → Seen) (shelf : R → Shelf) (x : Seen) (a : FlatArray)
+    → ((f : Found) → HoldSound x f → IsUnfaulted x (view shown shelf pool).bay → IsMeantBy shown x f (arrays_of pool) (view shown shelf pool).linear)
+    → Stays x (view shown shelf pool).bay
+    → (view shown shelf pool).shelf.told
+    → IsMeant x (view shown shelf pool).bay a
+    → IsServing (view shown shelf pool) a
 unfolding first_of
-held_by_meant pool shown x a opens meant =
-    let v = view shown pool in
+held_by_meant pool shown shelf x a opens stays names meant =
+    let v = view shown shelf pool in
     let by = opens meant.pool meant.sound meant.unfaulted in
     let same : by.volume ≡ meant.volume = ap (first_of meant.volume) (sym by.meant ∙ meant.meant) in
     let joined : v.linear.arrays ≡ meant.pool.state.joined = ap (λ (l : Linear). l.arrays) by.lies.linear in
-    subst (λ b. Holds v b) (ap (λ (w : Volume). fresh w.sectors w.contents) same ∙ sym meant.array)
-    (record {
-      told = λ n low. by.told n (subst (λ k. n < k) joined low);
-      size = sym by.holds.sectors;
-      values = λ s inside alive. keeps_only (by.volume.contents s) ((volume v).held 0 s) (λ u leaves. by.holds.contents s u inside alive leaves);
-    })
+    let told : (volume v).told 0 = λ n low. by.told n (subst (λ k. n < k) joined low) in (
+      subst (λ b. Holds v b) (ap (λ (w : Volume). fresh w.sectors w.contents) same ∙ sym meant.array)
+          (record {
+            told = λ s low alive. told;
+            shelf = names;
+            disks = λ d low. stays.told d (meant.sound.steady.told d (subst (λ k. d < k) stays.disks low));
+            size = sym by.holds.sectors;
+            values = λ s inside alive. keeps_only (by.volume.contents s) ((volume v).held 0 s) (λ u leaves. by.holds.contents s u inside alive leaves);
+          }),
+      told,
+    )
 
 -- and so does what a stop inside the opening leaves
 pub stops_mean :
-    {R : Type 0} (pool : Pool R) (shown : R → Seen) (x : Seen) (a : FlatArray)
-    → ((f : Found) → HoldSound x f → IsUnfaulted x (view shown pool).bay → IsMeantBy shown x f (arrays_of pool) (view shown pool).linear)
-    → (meant : IsMeant x (view shown pool).bay a) → MayStop x meant.pool → x.traced
-    → Leaves x (view shown pool).bay (MeansAt (ground_of (view shown pool)) (moment_of (view shown pool)) a)
+    {R : Type 0} (pool : Pool R) (shown : R → Seen) (shelf : R → Shelf) (x : Seen) (a : FlatArray)
+    → ((f : Found) → HoldSound x f → IsUnfaulted x (view shown shelf pool).bay → IsMeantBy shown x f (arrays_of pool) (view shown shelf pool).linear)
+    → (meant : IsMeant x (view shown shelf pool).bay a) → MayStop x meant.pool → x.traced
+    → Leaves x (view shown shelf pool).bay (MeansAt (ground_of (view shown shelf pool)) (moment_of (view shown shelf pool)) a)
 unfolding first_of
-stops_mean pool shown x a opens meant calm traced =
-    let v = view shown pool in
+stops_mean pool shown shelf x a opens meant calm traced =
+    let v = view shown shelf pool in
     let by = opens meant.pool meant.sound meant.unfaulted in
     let same : by.volume ≡ meant.volume = ap (first_of meant.volume) (sym by.meant ∙ meant.meant) in
     subst (λ b. Leaves x v.bay (MeansAt (ground_of v) (moment_of v) b)) (ap (λ (w : Volume). fresh w.sectors w.contents) same ∙ sym meant.array)
@@ -184,12 +194,12 @@ stops_mean pool shown x a opens meant calm traced =
 
 -- and it is opened as they had it
 pub opened_as :
-    {R : Type 0} (pool : Pool R) (shown : R → Seen) (x : Seen)
-    → ((f : Found) → HoldSound x f → IsUnfaulted x (view shown pool).bay → IsMeantBy shown x f (arrays_of pool) (view shown pool).linear)
-    → ((f : Found) → HoldSound x f → IsUnfaulted x (view shown pool).bay → (p : ℕ) → is_current (book (view shown pool)).state p ≡ (is_current f.state p && is_some (f.seats p)))
-    → (f : Found) → HoldSound x f → IsUnfaulted x (view shown pool).bay
-    → IsOpenedAs f (view shown pool).bay (ground_of (view shown pool)) (moment_of (view shown pool))
-opened_as pool shown x opens marks f sound unfaulted =
+    {R : Type 0} (pool : Pool R) (shown : R → Seen) (shelf : R → Shelf) (x : Seen)
+    → ((f : Found) → HoldSound x f → IsUnfaulted x (view shown shelf pool).bay → IsMeantBy shown x f (arrays_of pool) (view shown shelf pool).linear)
+    → ((f : Found) → HoldSound x f → IsUnfaulted x (view shown shelf pool).bay → (p : ℕ) → is_current (book (view shown shelf pool)).state p ≡ (is_current f.state p && is_some (f.seats p)))
+    → (f : Found) → HoldSound x f → IsUnfaulted x (view shown shelf pool).bay
+    → IsOpenedAs f (view shown shelf pool).bay (ground_of (view shown shelf pool)) (moment_of (view shown shelf pool))
+opened_as pool shown shelf x opens marks f sound unfaulted =
     let by = opens f sound unfaulted in
     record { lies = by.lies; slices = by.slices; after = by.after; told = by.told; arrays = by.arrays; live = by.live; elsewhere = by.elsewhere; marks = marks f sound unfaulted }
 
@@ -221,12 +231,12 @@ pub traced_through : {R : Type 0} (shown : R → Seen) (runs : R → R → Type 
 traced_through shown runs r s writes traced = writes.late.stays.traced (writes.early.only.stays.traced traced)
 
 -- where the volume of a pool lies, on a bay that is reached through a reference
-abbrev pub ground_in : {R B : Type 0} → (B → Seen) → Pool R → (R → B) → Ground
-ground_in shown pool to = ground_of (view (λ r. shown (to r)) pool)
+abbrev pub ground_in : {R B : Type 0} → (B → Seen) → (B → Shelf) → Pool R → (R → B) → Ground
+ground_in shown shelf pool to = ground_of (view (λ r. shown (to r)) (λ r. shelf (to r)) pool)
 
 -- and the moment when it stands so
-abbrev pub moment_in : {R B : Type 0} → (B → Seen) → Pool R → (R → B) → Moment
-moment_in shown pool to = moment_of (view (λ r. shown (to r)) pool)
+abbrev pub moment_in : {R B : Type 0} → (B → Seen) → (B → Shelf) → Pool R → (R → B) → Moment
+moment_in shown shelf pool to = moment_of (view (λ r. shown (to r)) (λ r. shelf (to r)) pool)
 
 -- why no pool was made on a bay that is reached through a reference
 pub fault_through :

@@ -6,12 +6,19 @@ use Rattle.shr_tool.specs.declared.opening.Task.{Task}
 use Rattle.shr_tool.specs.declared.opening.Task.TheVariants.{Serve, Import, Export, Show}
 use Rattle.shr_tool.specs.declared.status.Status.{Status}
 use Rattle.shr_tool.specs.declared.status.Status.TheVariants.{Done, Words, Limit, Source, Sink, Refused, Memory, Spent}
-use Rattle.shr_tool.specs.Events.{Event, becomes}
+use Rattle.pool.specs.Continuing.{KeepsOutside}
+use Rattle.slice_rack.specs.Slices.{Slices}
+use Rattle.shr_tool.specs.Events.{AnyTakes, Event, becomes}
 use Rattle.shr_tool.specs.Exporting.{ExportOutcome}
 use Rattle.shr_tool.specs.Importing.{ImportOutcome}
 use Rattle.shr_tool.specs.Outcome.{EndsAt, Lasts, Outcome}
 use Rattle.shr_tool.specs.Tasks.{TaskOutcome}
-use Rattle.shr_tool.specs.Timeline.{Ground, Moment, Happens, Timeline}
+use Rattle.pool.specs.Moment.{Moment}
+use Rattle.shr_tool.specs.Timeline.{Ground, Happens, Timeline}
+
+pub outside_told :
+    (t u : Slices) (named : ℕ → Type 0) (T U : Type 0) (a b : Seen) → (U → T) → KeepsOutside t u named T a b → KeepsOutside t u named U a b
+outside_told t u named T U a b for keeps = record { slices = keeps.slices; held = keeps.held; stops = λ is. keeps.stops (for is) }
 
 happens_for :
     (P Q : Type 0) (stops : ℕ → Image → Type 0) (g : Ground) (p q : Moment) (a : FlatArray) (event : Event)
@@ -19,6 +26,7 @@ happens_for :
 happens_for P Q stops g p q a event for happens = record {
   later = λ traced. happens.later (for traced);
   cause = happens.cause;
+  disks = happens.disks;
   slices = happens.slices;
   marks = happens.marks;
   stands = happens.stands;
@@ -26,7 +34,7 @@ happens_for P Q stops g p q a event for happens = record {
   ended = λ traced. happens.ended (for traced);
 }
 
-timeline_for :
+pub timeline_for :
     (P Q : Type 0) (stops : ℕ → Image → Type 0) (g : Ground) (p : Moment) (a : FlatArray) (events : List Event) (q : Moment)
     → (Q → P) → Timeline P stops g p a events q → Timeline Q stops g p a events q
 timeline_for P Q stops g p a [] q for line = line
@@ -40,119 +48,129 @@ ends_for :
     (T U S R : Type 0) (y : Seen) (g : Ground) (p q : Moment) (a : FlatArray)
     → (U → T) → (R → S) → EndsAt T S y g p q a → EndsAt U R y g p q a
 ends_for T U S R y g p q a told traced ends = record {
-  later = λ so. ends.later (traced so);
+  later = λ is so. ends.later (told is) (traced so);
   slices = ends.slices;
   after = ends.after;
   cause = ends.cause;
   stands = ends.stands;
   during = λ is so. ends.during (told is) (traced so);
   ended = λ is so. ends.ended (told is) (traced so);
-  rows = λ is. ends.rows (told is);
 }
 
 lasts_for :
-    (T U S R : Type 0) (y : Seen) (g : Ground) (from : Moment) (a : FlatArray) (events : List Event)
-    → (U → T) → (R → S) → Lasts T S y g from a events → Lasts U R y g from a events
-lasts_for T U S R y g from a events told traced lasts = record {
+    (T U S R : Type 0) (x y : Seen) (g : Ground) (from : Moment) (a : FlatArray) (events : List Event)
+    → (U → T) → (R → S) → Lasts T S x y g from a events → Lasts U R x y g from a events
+lasts_for T U S R x y g from a events told traced lasts = record {
   last = lasts.last;
   timeline = timeline_for (S × T) (R × U) y.stops g from a events lasts.last (λ is. (traced is.0, told is.1)) lasts.timeline;
   final = lasts.final;
   clock = lasts.clock;
   faults = lasts.faults;
+  disks = lasts.disks;
+  sectors = lasts.sectors;
   ends = ends_for T U S R y g lasts.last lasts.final _ told traced lasts.ends;
+  outside = outside_told from.slices lasts.final.slices (AnyTakes lasts.final.names events) T U x y told lasts.outside;
+  apart = lasts.apart;
   told = λ is. lasts.told (told is);
+  rows = λ is. lasts.rows (told is);
   again = λ is. lasts.again (told is);
 }
 
 -- the same run, told where the array is told
 outcome_for :
-    (status : Status) (T U S R : Type 0) (y : Seen) (g : Ground) (from : Moment) (a : FlatArray) (text rest out out' : List ℕ)
-    → (U → T) → (R → S) → Outcome status T S y g from a text rest out out' → Outcome status U R y g from a text rest out out'
-outcome_for Done T U S R y g from a text rest out out' told traced o = record {
+    (status : Status) (T U S R : Type 0) (x y : Seen) (g : Ground) (from : Moment) (a : FlatArray) (text rest out out' : List ℕ)
+    → (U → T) → (R → S) → Outcome status T S x y g from a text rest out out' → Outcome status U R x y g from a text rest out out'
+outcome_for Done T U S R x y g from a text rest out out' told traced o = record {
   events = o.events;
   script = o.script;
-  spent = o.spent;
+  worst_is = o.worst_is;
   put = λ is. o.put (told is);
-  lasts = lasts_for T U S R y g from a o.events told traced o.lasts;
+  lasts = lasts_for T U S R x y g from a o.events told traced o.lasts;
 }
-outcome_for Words T U S R y g from a text rest out out' told traced o = absurd o
-outcome_for Limit T U S R y g from a text rest out out' told traced o = record {
+outcome_for Words T U S R x y g from a text rest out out' told traced o = absurd o
+outcome_for Limit T U S R x y g from a text rest out out' told traced o = record {
   longer = o.longer;
   events = o.events;
   script = o.script;
   put = λ is. o.put (told is);
-  lasts = lasts_for T U S R y g from a o.events told traced o.lasts;
+  lasts = lasts_for T U S R x y g from a o.events told traced o.lasts;
 }
-outcome_for Source T U S R y g from a text rest out out' told traced o = record {
+outcome_for Source T U S R x y g from a text rest out out' told traced o = record {
   taken = o.taken;
   text_is = o.text_is;
   events = o.events;
   script = o.script;
   put = λ is. o.put (told is);
-  lasts = lasts_for T U S R y g from a o.events told traced o.lasts;
+  lasts = lasts_for T U S R x y g from a o.events told traced o.lasts;
 }
-outcome_for Sink T U S R y g from a text rest out out' told traced o = record {
+outcome_for Sink T U S R x y g from a text rest out out' told traced o = record {
   before = o.before;
   last = o.last;
   more = o.more;
   script = o.script;
   put = λ is. o.put (told is);
-  lasts = lasts_for T U S R y g from a _ told traced o.lasts;
+  lasts = lasts_for T U S R x y g from a _ told traced o.lasts;
 }
-outcome_for Refused T U S R y g from a text rest out out' told traced o = absurd o
-outcome_for Memory T U S R y g from a text rest out out' told traced o = absurd o
-outcome_for Spent T U S R y g from a text rest out out' told traced o = record {
+outcome_for Refused T U S R x y g from a text rest out out' told traced o = absurd o
+outcome_for Memory T U S R x y g from a text rest out out' told traced o = record {
   events = o.events;
   script = o.script;
-  spent = o.spent;
+  worst_is = o.worst_is;
   put = λ is. o.put (told is);
-  lasts = lasts_for T U S R y g from a o.events told traced o.lasts;
+  lasts = lasts_for T U S R x y g from a o.events told traced o.lasts;
+}
+outcome_for Spent T U S R x y g from a text rest out out' told traced o = record {
+  events = o.events;
+  script = o.script;
+  worst_is = o.worst_is;
+  put = λ is. o.put (told is);
+  lasts = lasts_for T U S R x y g from a o.events told traced o.lasts;
 }
 
 export_for :
-    (status : Status) (T U S R : Type 0) (y : Seen) (g : Ground) (from : Moment) (a : FlatArray) (out out' : List ℕ)
-    → (U → T) → (R → S) → ExportOutcome status T S y g from a out out' → ExportOutcome status U R y g from a out out'
-export_for Done T U S R y g from a out out' told traced o =
-    record { put = λ is. o.put (told is); lasts = lasts_for T U S R y g from a _ told traced o.lasts }
-export_for Words T U S R y g from a out out' told traced o = absurd o
-export_for Limit T U S R y g from a out out' told traced o = absurd o
-export_for Source T U S R y g from a out out' told traced o = absurd o
-export_for Sink T U S R y g from a out out' told traced o = record {
+    (status : Status) (T U S R : Type 0) (x y : Seen) (g : Ground) (from : Moment) (a : FlatArray) (out out' : List ℕ)
+    → (U → T) → (R → S) → ExportOutcome status T S x y g from a out out' → ExportOutcome status U R x y g from a out out'
+export_for Done T U S R x y g from a out out' told traced o =
+    record { put = λ is. o.put (told is); lasts = lasts_for T U S R x y g from a _ told traced o.lasts }
+export_for Words T U S R x y g from a out out' told traced o = absurd o
+export_for Limit T U S R x y g from a out out' told traced o = absurd o
+export_for Source T U S R x y g from a out out' told traced o = absurd o
+export_for Sink T U S R x y g from a out out' told traced o = record {
   sector = o.sector;
   inside = o.inside;
   put = λ is. o.put (told is);
-  lasts = lasts_for T U S R y g from a _ told traced o.lasts;
+  lasts = lasts_for T U S R x y g from a _ told traced o.lasts;
 }
-export_for Refused T U S R y g from a out out' told traced o = absurd o
-export_for Memory T U S R y g from a out out' told traced o = absurd o
-export_for Spent T U S R y g from a out out' told traced o = record {
+export_for Refused T U S R x y g from a out out' told traced o = absurd o
+export_for Memory T U S R x y g from a out out' told traced o = absurd o
+export_for Spent T U S R x y g from a out out' told traced o = record {
   sector = o.sector;
   inside = o.inside;
   put = λ is. o.put (told is);
-  lasts = lasts_for T U S R y g from a _ told traced o.lasts;
+  lasts = lasts_for T U S R x y g from a _ told traced o.lasts;
 }
 
 import_for :
-    (status : Status) (T U S R : Type 0) (y : Seen) (g : Ground) (from : Moment) (a : FlatArray) (text rest out out' : List ℕ)
-    → (U → T) → (R → S) → ImportOutcome status T S y g from a text rest out out' → ImportOutcome status U R y g from a text rest out out'
-import_for status T U S R y g from a text rest out out' told traced o = record {
+    (status : Status) (T U S R : Type 0) (x y : Seen) (g : Ground) (from : Moment) (a : FlatArray) (text rest out out' : List ℕ)
+    → (U → T) → (R → S) → ImportOutcome status T S x y g from a text rest out out' → ImportOutcome status U R x y g from a text rest out out'
+import_for status T U S R x y g from a text rest out out' told traced o = record {
   result = o.result;
   events = o.events;
   writes = o.writes;
   most = o.most;
-  lasts = lasts_for T U S R y g from a o.events told traced o.lasts;
+  lasts = lasts_for T U S R x y g from a o.events told traced o.lasts;
   says = o.says;
 }
 
 -- the same task, told where the array is told
 pub task_for :
-    (task : Task) (status : Status) (T U S R : Type 0) (y : Seen) (g : Ground) (from : Moment) (a : FlatArray) (text rest out out' : List ℕ)
-    → (U → T) → (R → S) → TaskOutcome task status T S y g from a text rest out out' → TaskOutcome task status U R y g from a text rest out out'
-task_for Serve status T U S R y g from a text rest out out' told traced o =
-    outcome_for status T U S R y g from a text rest out out' told traced o
-task_for Import status T U S R y g from a text rest out out' told traced o =
-    import_for status T U S R y g from a text rest out out' told traced o
-task_for Export status T U S R y g from a text rest out out' told traced o =
-    export_for status T U S R y g from a out out' told traced o
-task_for Show status T U S R y g from a text rest out out' told traced o =
-    outcome_for status T U S R y g from a (codes "status") [] out out' told traced o
+    (task : Task) (status : Status) (T U S R : Type 0) (x y : Seen) (g : Ground) (from : Moment) (a : FlatArray) (text rest out out' : List ℕ)
+    → (U → T) → (R → S) → TaskOutcome task status T S x y g from a text rest out out' → TaskOutcome task status U R x y g from a text rest out out'
+task_for Serve status T U S R x y g from a text rest out out' told traced o =
+    outcome_for status T U S R x y g from a text rest out out' told traced o
+task_for Import status T U S R x y g from a text rest out out' told traced o =
+    import_for status T U S R x y g from a text rest out out' told traced o
+task_for Export status T U S R x y g from a text rest out out' told traced o =
+    export_for status T U S R x y g from a out out' told traced o
+task_for Show status T U S R x y g from a text rest out out' told traced o =
+    outcome_for status T U S R x y g from a (codes "status") [] out out' told traced o

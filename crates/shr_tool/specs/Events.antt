@@ -1,9 +1,13 @@
 -- What a line of a script does on a pool: as a flat array of sectors has it, or what lost drives make of it.
-use Rattle.std.specs.Prelude.{◌≡◌, ℕ, ◌+◌, ◌<◌, ◌≤◌, ◌||◌, Bool, true, false, List, [], ◌∷◌, ◌++◌, codes, decimal, Ok, Err}
+use Rattle.std.specs.Prelude.{◌≡◌, ◌⊎◌, ℕ, ◌+◌, ◌<◌, ◌≤◌, ◌||◌, Bool, true, false, slice_get, Some, List, [], ◌∷◌, ◌++◌, codes, decimal, Ok, Err}
 use Rattle.shr_script.specs.declared.Command.TheVariants.{Read, Write, Fill, Flush, Size, Lose, Replace, Step, Status, Quit, Unbuilt}
 use Rattle.shr_script.specs.Line.{Line}
 use Rattle.shr_script.specs.Reply.{as_line, left_line, refused_line}
 use Rattle.flat_array.specs.Array.{FlatArray}
+use Rattle.pool.specs.declared.replacing.GrowFault.{GrowFault}
+use Rattle.pool.specs.declared.replacing.GrowFault.TheVariants.{NoSuchDrive, Attach, Twice, Memory as NoMemory, PlanPending, NotWhole, NotResynced, Unbuilt as NotBuilt, Size as OfSize, Smaller, TooManyDrives, TooManyLayers, TooManySegments, Gone}
+use Rattle.shr_tool.specs.declared.perform.Answer.{Answer}
+use Rattle.shr_tool.specs.declared.perform.Answer.TheVariants.{Given, Spent, Memory}
 use Rattle.flat_array.specs.Reply.{after, after_spent, reply, spent_line}
 
 pub data Event : Type 0 where
@@ -15,8 +19,10 @@ pub data Event : Type 0 where
   lost : ℕ → Event
   -- it wasn't, being the last one
   last : ℕ → Event
-  -- the drive of a place wasn't replaced by the image of a name, and this says why
-  declined : ℕ → List ℕ → List ℕ → Event
+  -- the drive of a place was replaced by the image of a name
+  replaced : ℕ → List ℕ → Event
+  -- it wasn't, and this says why
+  declined : ℕ → List ℕ → GrowFault → Event
   -- so many works of maintenance were asked for, and after them so many are left
   stepped : ℕ → ℕ → Event
   -- they ended at one that this array can't do
@@ -30,7 +36,8 @@ line_of (answered line) = line
 line_of (spent line sector) = line
 line_of (lost place) = Ok (Lose place)
 line_of (last place) = Ok (Lose place)
-line_of (declined place name why) = Ok (Replace place name)
+line_of (replaced place name) = Ok (Replace place name)
+line_of (declined place name fault) = Ok (Replace place name)
 line_of (stepped count left) = Ok (Step count)
 line_of (stuck count array) = Ok (Step count)
 line_of (shown text) = Ok Status
@@ -54,13 +61,31 @@ calls_in (Err fault) = 1
 abbrev pub stuck_line : ℕ → List ℕ
 stuck_line array = refused_line (codes "stuck " ++ decimal array)
 
+-- the word of a fault where a drive isn't replaced
+abbrev pub grow_word : GrowFault → List ℕ
+grow_word NoSuchDrive = codes "no-such-drive"
+grow_word Attach = codes "attach"
+grow_word Twice = codes "twice"
+grow_word NoMemory = codes "memory"
+grow_word PlanPending = codes "plan-pending"
+grow_word NotWhole = codes "not-whole"
+grow_word NotResynced = codes "not-resynced"
+grow_word NotBuilt = codes "unbuilt"
+grow_word OfSize = codes "size"
+grow_word Smaller = codes "smaller"
+grow_word TooManyDrives = codes "too-many-drives"
+grow_word TooManyLayers = codes "too-many-layers"
+grow_word TooManySegments = codes "too-many-segments"
+grow_word Gone = codes "drive-gone"
+
 -- its reply
 abbrev pub text_of : FlatArray → Event → List ℕ
 text_of a (answered line) = reply a line
 text_of a (spent line sector) = spent_line sector
 text_of a (lost place) = as_line (codes "ok")
 text_of a (last place) = refused_line (codes "last-drive")
-text_of a (declined place name why) = refused_line why
+text_of a (replaced place name) = as_line (codes "ok")
+text_of a (declined place name fault) = refused_line (grow_word fault)
 text_of a (stepped count left) = left_line left
 text_of a (stuck count array) = stuck_line array
 text_of a (shown text) = text
@@ -71,7 +96,8 @@ becomes a (answered line) = after a line
 becomes a (spent line sector) = after_spent a line sector
 becomes a (lost place) = a
 becomes a (last place) = a
-becomes a (declined place name why) = a
+becomes a (replaced place name) = a
+becomes a (declined place name fault) = a
 becomes a (stepped count left) = a
 becomes a (stuck count array) = a
 becomes a (shown text) = a
@@ -90,20 +116,97 @@ abbrev pub lines_of : List Event → List Line
 lines_of [] = []
 lines_of (event ∷ events) = line_of event ∷ lines_of events
 
--- whether a sector was refused, or a work of maintenance
-abbrev pub is_spent : Event → Bool
-is_spent (answered line) = false
-is_spent (spent line sector) = true
-is_spent (lost place) = false
-is_spent (last place) = false
-is_spent (declined place name why) = false
-is_spent (stepped count left) = false
-is_spent (stuck count array) = true
-is_spent (shown text) = false
+-- what the status has to say of a drive that isn't replaced
+abbrev pub answer_by : GrowFault → Answer
+answer_by NoSuchDrive = Given
+answer_by Attach = Given
+answer_by Twice = Given
+answer_by NoMemory = Memory
+answer_by PlanPending = Given
+answer_by NotWhole = Given
+answer_by NotResynced = Given
+answer_by NotBuilt = Given
+answer_by OfSize = Given
+answer_by Smaller = Given
+answer_by TooManyDrives = Given
+answer_by TooManyLayers = Given
+answer_by TooManySegments = Given
+answer_by Gone = Given
 
-abbrev pub any_spent : List Event → Bool
-any_spent [] = false
-any_spent (event ∷ events) = is_spent event || any_spent events
+-- what the status has to say of an event
+abbrev pub answer_of : Event → Answer
+answer_of (answered line) = Given
+answer_of (spent line sector) = Spent
+answer_of (lost place) = Given
+answer_of (last place) = Given
+answer_of (replaced place name) = Given
+answer_of (declined place name fault) = answer_by fault
+answer_of (stepped count left) = Given
+answer_of (stuck count array) = Spent
+answer_of (shown text) = Given
+
+-- the worse of two answers: want of memory before a refused sector or work
+abbrev pub worse : Answer → Answer → Answer
+worse Given other = other
+worse Spent Given = Spent
+worse Spent Spent = Spent
+worse Spent Memory = Memory
+worse Memory other = Memory
+
+-- the worst of all
+abbrev pub worst_of : List Event → Answer
+worst_of [] = Given
+worst_of (event ∷ events) = worse (answer_of event) (worst_of events)
+
+-- a drive of the list was to be replaced
+abbrev pub looks_at : GrowFault → Bool
+looks_at NoSuchDrive = false
+looks_at Attach = true
+looks_at Twice = true
+looks_at NoMemory = true
+looks_at PlanPending = true
+looks_at NotWhole = true
+looks_at NotResynced = true
+looks_at NotBuilt = true
+looks_at OfSize = true
+looks_at Smaller = true
+looks_at TooManyDrives = true
+looks_at TooManyLayers = true
+looks_at TooManySegments = true
+looks_at Gone = true
+
+-- a disk may be attached, or slices be taken from a place: a drive of the list was to be replaced
+abbrev pub takes_disk : Event → Bool
+takes_disk (answered line) = false
+takes_disk (spent line sector) = false
+takes_disk (lost place) = false
+takes_disk (last place) = false
+takes_disk (replaced place name) = true
+takes_disk (declined place name fault) = looks_at fault
+takes_disk (stepped count left) = false
+takes_disk (stuck count array) = false
+takes_disk (shown text) = false
+
+abbrev pub any_takes : List Event → Bool
+any_takes [] = false
+any_takes (event ∷ events) = takes_disk event || any_takes events
+
+-- by these names of disks, an event took this one, or tried to
+abbrev pub Takes : List (List ℕ) → Event → ℕ → Type 0
+Takes names (answered line) d = ⊥
+Takes names (spent line sector) d = ⊥
+Takes names (lost place) d = ⊥
+Takes names (last place) d = ⊥
+Takes names (replaced place name) d = slice_get names d ≡ Some name
+Takes names (declined place name fault) d = slice_get names d ≡ Some name
+Takes names (stepped count left) d = ⊥
+Takes names (stuck count array) d = ⊥
+Takes names (shown text) d = ⊥
+
+-- one of these did
+abbrev pub AnyTakes : List (List ℕ) → List Event → ℕ → Type 0
+AnyTakes names [] d = ⊥
+AnyTakes names (event ∷ events) d = Takes names event d ⊎ AnyTakes names events d
 
 -- a line that is answered as a flat array answers it, and not by the drives, the works that are left or how the pool stands
 abbrev pub IsOfArray : Line → Type 0

@@ -33,16 +33,18 @@ use Rattle.pool.specs.Keeping.{HasMarkedSeats}
 use Rattle.shr_script.specs.Reply.{refused_line}
 use Rattle.shr_tool.specs.declared.opening.Task.{Task}
 use Rattle.shr_tool.specs.declared.status.Status.{Status}
-use Rattle.shr_tool.specs.Outcome.{IsRunOn}
+use Rattle.rack.specs.Shelf.{Shelf}
+use Rattle.shr_tool.specs.Outcome.{IsRunOn, KeepsNames}
 use Rattle.shr_tool.specs.Refusing.{refusal_words, refusal_status}
 use Rattle.shr_tool.specs.Saying.{Says}
 use Rattle.shr_tool.specs.Tasks.{TaskOutcome}
-use Rattle.shr_tool.specs.Timeline.{Ground, MeansAt, Moment}
+use Rattle.pool.specs.Moment.{Moment}
+use Rattle.shr_tool.specs.Timeline.{Ground, MeansAt}
 
 -- The pool of attached disks can't be opened, and why has its cause in what was read of them. Until its drives have passed their checks nothing is
 -- written but the pending record, on drives of the pool; disks that hold a sound pool, and refuse no call, are refused as they mean, and
--- mean afterwards what they meant, or, where an array's part of the volume group is bad, hold the arrays that they held. After want of memory they do
--- one of these, unless numbers are used up.
+-- mean afterwards what they meant, or, where an array's part of the volume group is bad, hold the arrays that they held and are refused as they were. After
+-- want of memory they do one of these, unless numbers are used up.
 pub record NotOpened {R : Type 0} (seen : R → Seen) (runs : R → R → Type 0) (bay after : R) (out out' : List ℕ) (status : Status) : Type 0 where
   pub why : Refusal
   pub says : Says (refusal_status why) (refused_line (refusal_words why)) out out' status
@@ -85,15 +87,20 @@ pub record IsMeant (x opened : Seen) (a : FlatArray) : Type 0 where
   pub array : a ≡ fresh volume.sectors volume.contents
 
 -- The pool of attached disks was opened, the task done on it, and the pool ended. `opened` is the bay after the opening.
-pub record OpenedOn {R : Type 0} (seen : R → Seen) (runs : R → R → Type 0) (bay after : R) (task : Task) (text rest out out' : List ℕ) (status : Status) : Type 0 where
+pub record OpenedOn {R : Type 0} (seen : R → Seen) (shelf : R → Shelf) (runs : R → R → Type 0) (bay after : R) (task : Task) (text rest out out' : List ℕ) (status : Status) : Type 0 where
   pub opened : R
-  pub kept : runs bay opened × runs opened after
+  pub kept : runs bay opened
+  pub names : KeepsNames (shelf opened) (shelf after)
   -- in the opening drives alone are written: in their log slices, in the arrays' part, and in their partition tables
   pub drives : WritesPool seen runs bay opened
   pub ground : Ground
   pub from : Moment
   pub clock : from.clock ≡ (seen opened).clock
   pub faults : (d : ℕ) → from.faults d ≡ (seen opened).faults d
+  pub disks : from.disks ≡ (seen opened).disks
+  pub sectors : (d : ℕ) → from.sectors d ≡ (seen opened).sectors d
+  pub named : from.names ≡ (shelf opened).names
+  pub unattached : from.unattached ≡ (shelf opened).faults
   -- just those members of its arrays are missing whose drives are marked
   pub seated : HasMarkedSeats from.book
   -- and in the opening drives are marked only where they have no disk, or that refused a call
@@ -110,19 +117,19 @@ pub record OpenedOn {R : Type 0} (seen : R → Seen) (runs : R → R → Type 0)
   pub moments :
       (a : FlatArray) → (meant : IsMeant (seen bay) (seen opened) a) → MayStop (seen bay) meant.pool → (seen bay).traced
       → Leaves (seen bay) (seen opened) (MeansAt ground from a)
-  -- from then on, sectors of slices alone
-  pub apart : WritesOnly (seen opened) (seen after) (IsSliced from.slices)
-  -- So the run is one on that pool, where all its arrays are ready for the volume and no superblock stands on a drive that is no member of an
+  -- Where from then on sectors of slices alone are written, the run is one on that pool, where all its arrays are ready for the volume and no superblock stands on a drive that is no member of an
   -- array, where its slice would be.
   pub run_on :
       (f : Found) → HoldSound (seen bay) f → IsUnfaulted (seen bay) (seen opened) → f.state.joined ≡ f.state.made
-      → ((i : Image) → IsPickOff from.slices (seen opened) i → AreAlone f i) → IsRunOn f ground from (seen after)
-  -- the task, from the volume that the disks meant
+      → ((i : Image) → IsPickOff from.slices (seen opened) i → AreAlone f i) → WritesOnly (seen opened) (seen after) (IsSliced from.slices)
+      → IsRunOn f ground from (seen after)
+  -- the task, from the volume that the disks meant, where the names of the bay are told
   pub outcome :
       (a : FlatArray)
-      → TaskOutcome task status (IsMeant (seen bay) (seen opened) a) (seen bay).traced (seen after) ground from a text rest out out'
+      → TaskOutcome task status (IsMeant (seen bay) (seen opened) a × (shelf bay).told) (seen bay).traced (seen opened) (seen after) ground from a
+      text rest out out'
 
 -- how it came out
-abbrev pub OpenOutcome : {R : Type 0} → (R → Seen) → (R → R → Type 0) → R → R → Task → List ℕ → List ℕ → List ℕ → List ℕ → Status → Type 0
-OpenOutcome seen runs bay after task text rest out out' status =
-    NotOpened seen runs bay after out out' status ⊎ OpenedOn seen runs bay after task text rest out out' status
+abbrev pub OpenOutcome : {R : Type 0} → (R → Seen) → (R → Shelf) → (R → R → Type 0) → R → R → Task → List ℕ → List ℕ → List ℕ → List ℕ → Status → Type 0
+OpenOutcome seen shelf runs bay after task text rest out out' status =
+    NotOpened seen runs bay after out out' status ⊎ OpenedOn seen shelf runs bay after task text rest out out' status

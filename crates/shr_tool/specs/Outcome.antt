@@ -1,5 +1,5 @@
 -- How a script on a pool came out, by the status that is answered.
-use Rattle.std.specs.Prelude.{◌≡◌, ℕ, ◌<◌, ◌≤◌, ◌^◌, Bool, true, false, List, [], ◌∷◌, ◌++◌, length, take, Some}
+use Rattle.std.specs.Prelude.{◌≡◌, ◌⊎◌, slice_get, ℕ, ◌<◌, ◌≤◌, ◌^◌, true, false, List, [], ◌∷◌, ◌++◌, length, take, Some}
 use Rattle.rack.specs.Seen.{Image, IsPick, Seen, Rose}
 use Rattle.io_ends.specs.Sink.{AddsPrefix}
 use Rattle.md_super.specs.declared.superblock.Super.{Super}
@@ -25,8 +25,17 @@ use Rattle.shr_tool.specs.declared.status.Status.{Status}
 use Rattle.shr_tool.specs.declared.status.Status.TheVariants.{Done, Words, Limit, Source, Sink, Refused, Memory, Spent}
 use Rattle.shr_tool.specs.declared.serve.Stop.{Stop}
 use Rattle.shr_tool.specs.declared.serve.Stop.TheVariants.{Quit as AtQuit, Input, SourceFault, Limit as AtLimit, SinkFault}
-use Rattle.shr_tool.specs.Events.{Event, any_spent, array_by, lines_of, text_of, texts}
-use Rattle.shr_tool.specs.Timeline.{Ground, KeepsStanding, Moment, MeansAt, Timeline}
+use Rattle.shr_tool.specs.declared.perform.Answer.{Answer}
+use Rattle.shr_tool.specs.declared.perform.Answer.TheVariants.{Given, Spent as Refuses, Memory as Wants}
+use Rattle.shr_tool.specs.Events.{AnyTakes, Event, any_takes, array_by, lines_of, text_of, texts, worst_of}
+use Rattle.pool.specs.Moment.{Moment}
+use Rattle.pool.specs.Continuing.{KeepsOutside}
+use Rattle.pool.specs.View.{spent_by}
+use Rattle.lvm_group.specs.Runs.{sectors_in}
+use Rattle.rack.specs.Sequences.{WritesOnly}
+use Rattle.rack.specs.Shelf.{Shelf}
+use Rattle.slice_rack.specs.Runs.{IsSliced}
+use Rattle.shr_tool.specs.Timeline.{Ground, KeepsSlices, KeepsStanding, MeansAt, Timeline}
 
 -- no disk's faults rose since they were counted so
 abbrev pub NoneRose : (ℕ → ℕ) → (ℕ → ℕ) → Type 0
@@ -41,11 +50,19 @@ LeavesItsRows y g p q =
     → (r : Image) → IsLeft (slices_of q.slices y) r → (t : Super) → truth_in q.book.state r n ≡ Some t
     → t.resync_offset ≡ left_offset (p.book.arrays n)
 
--- The end of a pool: the slices of its drives stay where they lie, marks alone come to its book, each of a drive whose disk's faults rose, what
+-- the disks that a bay had are still there under their names
+abbrev pub KeepsNames : Shelf → Shelf → Type 0
+KeepsNames s t = (d : ℕ) (name : List ℕ) → slice_get s.names d ≡ Some name → slice_get t.names d ≡ Some name
+
+-- no drive was to be replaced, or a sector of the volume can be had
+abbrev pub IsServed : Ground → Moment → List Event → Type 0
+IsServed g q events = (any_takes events ≡ false) ⊎ ((s : ℕ) × (s < sectors_in g.linear) × (spent_by g.linear q.book s ≡ false))
+
+-- The end of a pool: no disk is attached, the slices of its drives stay where they lie, marks alone come to its book, each of a drive whose disk's faults rose, what
 -- a stop inside it leaves means the array, and then its current values alone. The clock is told where stops are.
 pub record EndsAt (Told : Type 0) (Traced : Type 0) (y : Seen) (g : Ground) (p q : Moment) (a : FlatArray) : Type 0 where
-  pub later : Traced → p.clock ≤ q.clock
-  pub slices : q.slices ≡ p.slices
+  pub later : Told → Traced → p.clock ≤ q.clock
+  pub slices : KeepsSlices p q
   pub after : IsAfter p.book.state q.book.state
   pub cause :
       (place : ℕ) → is_current p.book.state place ≡ true → is_current q.book.state place ≡ false
@@ -53,7 +70,6 @@ pub record EndsAt (Told : Type 0) (Traced : Type 0) (y : Seen) (g : Ground) (p q
   pub stands : KeepsStanding 1 p q
   pub during : Told → Traced → (k : ℕ) (i : Image) → p.clock < k → k ≤ q.clock → y.stops k i → MeansAt g q a i
   pub ended : Told → Traced → (i : Image) → y.stops q.clock i → MeansAt g q (flushed a) i
-  pub rows : Told → LeavesItsRows y g p q
 
 -- The pool of a run, which its disks had before it: a sound one, whose drives have the run's slices. Its arrays are the volume's, with the
 -- members and the sizes of its superblocks, and outside the slices its disks, y, are as it has them.
@@ -68,66 +84,72 @@ pub record IsRunOn (f : Found) (g : Ground) (from : Moment) (y : Seen) : Type 0 
   pub geometry : (n : ℕ) (t : Super) → n < f.state.made → truth_of f n ≡ Some t → HasGeometry t (from.book.arrays n).truth
   pub rest : HoldRest f from.slices y
 
--- Events of a script from a moment on, and the end of the pool: the disks show it afterwards, and where the pool told its volume to hold
--- an array, each of the volume's arrays is told by the last book. Then all that the disks may be left with holds a sound pool again, by the
--- last book's state, unless an array is over.
-pub record Lasts (Told Traced : Type 0) (y : Seen) (g : Ground) (from : Moment) (a : FlatArray) (events : List Event) : Type 0 where
+-- Events of a script from a moment on, when the disks showed x, and the end of the pool: the disks show it afterwards, and where the pool
+-- told its volume to hold an array, each of the volume's arrays is told by the last book. Outside the slices of drives no disk is written
+-- but one that a line named to replace a drive. Where none did, sectors of slices alone are written, and all that the disks may be left
+-- with holds a sound pool again, by the last book's state, unless an array is over.
+pub record Lasts (Told Traced : Type 0) (x y : Seen) (g : Ground) (from : Moment) (a : FlatArray) (events : List Event) : Type 0 where
   pub last : Moment
   pub timeline : Timeline (Traced × Told) y.stops g from a events last
   pub final : Moment
   pub clock : final.clock ≡ y.clock
   pub faults : (d : ℕ) → final.faults d ≡ y.faults d
+  pub disks : final.disks ≡ y.disks
+  pub sectors : (d : ℕ) → final.sectors d ≡ y.sectors d
   pub ends : EndsAt Told Traced y g last final (array_by a events)
-  pub told : Told → (n : ℕ) → n < g.linear.arrays → IsTold final.book (slices_of final.slices y) n
+  pub outside : KeepsOutside from.slices final.slices (AnyTakes final.names events) Told x y
+  pub apart : any_takes events ≡ false → WritesOnly x y (IsSliced from.slices)
+  pub told : Told → IsServed g final events → (n : ℕ) → n < g.linear.arrays → IsTold final.book (slices_of final.slices y) n
+  pub rows : Told → IsServed g final events → LeavesItsRows y g last final
   pub again :
-      Told → (f : Found) → IsRunOn f g from y → ((n : ℕ) → n < f.state.made → is_over final.book n ≡ false)
+      Told → any_takes events ≡ false → (f : Found) → IsRunOn f g from y → ((n : ℕ) → n < f.state.made → is_over final.book n ≡ false)
       → (i : Image) → IsPick y y y.held i → HoldAgain f final.slices final.book.state i
 
--- all lines of the text were answered, and the pool was ended; sectors were refused as spent, or none
-pub record DoneOutcome (is_refused : Bool) (Told Traced : Type 0) (y : Seen) (g : Ground) (from : Moment) (a : FlatArray) (text out out' : List ℕ) : Type 0 where
+-- all lines of the text were answered, and the pool was ended; this is the worst of the answers
+pub record DoneOutcome (worst : Answer) (Told Traced : Type 0) (x y : Seen) (g : Ground) (from : Moment) (a : FlatArray) (text out out' : List ℕ) : Type 0 where
   pub events : List Event
   pub script : script_of text ≡ lines_of events
-  pub spent : any_spent events ≡ is_refused
+  pub worst_is : worst_of events ≡ worst
   pub put : Told → out' ≡ out ++ texts a events
-  pub lasts : Lasts Told Traced y g from a events
+  pub lasts : Lasts Told Traced x y g from a events
 
 -- a script's limit was reached with more to come
-pub record LimitOutcome (Told Traced : Type 0) (y : Seen) (g : Ground) (from : Moment) (a : FlatArray) (text out out' : List ℕ) : Type 0 where
+pub record LimitOutcome (Told Traced : Type 0) (x y : Seen) (g : Ground) (from : Moment) (a : FlatArray) (text out out' : List ℕ) : Type 0 where
   pub longer : 2 ^ 32 < length text
   pub events : List Event
   pub script : cut_script_of (take (2 ^ 32) text) ≡ lines_of events
   pub put : Told → out' ≡ out ++ texts a events
-  pub lasts : Lasts Told Traced y g from a events
+  pub lasts : Lasts Told Traced x y g from a events
 
 -- the source failed after these bytes
-pub record SourceOutcome (Told Traced : Type 0) (y : Seen) (g : Ground) (from : Moment) (a : FlatArray) (text rest out out' : List ℕ) : Type 0 where
+pub record SourceOutcome (Told Traced : Type 0) (x y : Seen) (g : Ground) (from : Moment) (a : FlatArray) (text rest out out' : List ℕ) : Type 0 where
   pub taken : List ℕ
   pub text_is : text ≡ taken ++ rest
   pub events : List Event
   pub script : cut_script_of taken ≡ lines_of events
   pub put : Told → out' ≡ out ++ texts a events
-  pub lasts : Lasts Told Traced y g from a events
+  pub lasts : Lasts Told Traced x y g from a events
 
 -- the sink refused the reply to the last line that was begun
-pub record SinkOutcome (Told Traced : Type 0) (y : Seen) (g : Ground) (from : Moment) (a : FlatArray) (text out out' : List ℕ) : Type 0 where
+pub record SinkOutcome (Told Traced : Type 0) (x y : Seen) (g : Ground) (from : Moment) (a : FlatArray) (text out out' : List ℕ) : Type 0 where
   pub before : List Event
   pub last : Event
   pub more : List Line
   pub script : script_of text ≡ lines_of (before ++ last ∷ []) ++ more
   pub put : Told → AddsPrefix (out ++ texts a before) out' (text_of (array_by a before) last)
-  pub lasts : Lasts Told Traced y g from a (before ++ last ∷ [])
+  pub lasts : Lasts Told Traced x y g from a (before ++ last ∷ [])
 
 -- How a script came out on a pool that held an array, where that was told. `from` is the moment when it began, `y` what the disks show
 -- in the end.
-abbrev pub Outcome : Status → Type 0 → Type 0 → Seen → Ground → Moment → FlatArray → List ℕ → List ℕ → List ℕ → List ℕ → Type 0
-Outcome Done Told Traced y g from a text rest out out' = DoneOutcome false Told Traced y g from a text out out'
-Outcome Words Told Traced y g from a text rest out out' = ⊥
-Outcome Limit Told Traced y g from a text rest out out' = LimitOutcome Told Traced y g from a text out out'
-Outcome Source Told Traced y g from a text rest out out' = SourceOutcome Told Traced y g from a text rest out out'
-Outcome Sink Told Traced y g from a text rest out out' = SinkOutcome Told Traced y g from a text out out'
-Outcome Refused Told Traced y g from a text rest out out' = ⊥
-Outcome Memory Told Traced y g from a text rest out out' = ⊥
-Outcome Spent Told Traced y g from a text rest out out' = DoneOutcome true Told Traced y g from a text out out'
+abbrev pub Outcome : Status → Type 0 → Type 0 → Seen → Seen → Ground → Moment → FlatArray → List ℕ → List ℕ → List ℕ → List ℕ → Type 0
+Outcome Done Told Traced x y g from a text rest out out' = DoneOutcome Given Told Traced x y g from a text out out'
+Outcome Words Told Traced x y g from a text rest out out' = ⊥
+Outcome Limit Told Traced x y g from a text rest out out' = LimitOutcome Told Traced x y g from a text out out'
+Outcome Source Told Traced x y g from a text rest out out' = SourceOutcome Told Traced x y g from a text rest out out'
+Outcome Sink Told Traced x y g from a text rest out out' = SinkOutcome Told Traced x y g from a text out out'
+Outcome Refused Told Traced x y g from a text rest out out' = ⊥
+Outcome Memory Told Traced x y g from a text rest out out' = DoneOutcome Wants Told Traced x y g from a text out out'
+Outcome Spent Told Traced x y g from a text rest out out' = DoneOutcome Refuses Told Traced x y g from a text out out'
 
 -- a fault is answered only where its count rose, and words are refused before anything is done
 abbrev pub HasStatusCause : Status → ℕ → ℕ → ℕ → ℕ → Type 0
@@ -141,11 +163,13 @@ HasStatusCause Memory source source' sink sink' = Unit {0}
 HasStatusCause Spent source source' sink sink' = Unit {0}
 
 -- the status of a script that stopped so, on a pool that was ended
-abbrev pub status_by : Stop → Bool → Status
-status_by AtQuit true = Spent
-status_by AtQuit false = Done
-status_by Input true = Spent
-status_by Input false = Done
-status_by SourceFault is_refused = Source
-status_by AtLimit is_refused = Limit
-status_by SinkFault is_refused = Sink
+abbrev pub status_by : Stop → Answer → Status
+status_by AtQuit Given = Done
+status_by AtQuit Refuses = Spent
+status_by AtQuit Wants = Memory
+status_by Input Given = Done
+status_by Input Refuses = Spent
+status_by Input Wants = Memory
+status_by SourceFault worst = Source
+status_by AtLimit worst = Limit
+status_by SinkFault worst = Sink

@@ -44,7 +44,7 @@ pub data PoolOutcome {B : Type 0} (seen : B → Seen) (shelf : B → Shelf) (run
   -- to read the words, before anything was called
   no_memory : after ≡ bay → Says Memory (refused_line (codes "memory")) out out' status → PoolOutcome seen shelf runs bay after task names text rest out out' status
   on_disks :
-      OnDisks seen shelf bay names (λ attached. OpenOutcome seen runs attached after task text rest out out' status)
+      OnDisks seen shelf bay names (λ attached. OpenOutcome seen shelf runs attached after task text rest out out' status)
       → PoolOutcome seen shelf runs bay after task names text rest out out' status
 
 -- how `create` came out

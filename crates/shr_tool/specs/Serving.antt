@@ -1,5 +1,5 @@
 -- A script that is answered on a pool: what was answered, and why it stopped.
-use Rattle.std.specs.Prelude.{◌≡◌, ℕ, ◌<◌, ◌≤◌, ◌^◌, ◌||◌, Bool, true, false, List, [], ◌∷◌, ◌++◌, length, take, Option, Some, None, Result, Ok, Err}
+use Rattle.std.specs.Prelude.{◌≡◌, false, ℕ, ◌<◌, ◌≤◌, ◌^◌, List, [], ◌∷◌, ◌++◌, length, take, Option, Some, None, Result, Ok, Err}
 use Rattle.rack.specs.Seen.{Rose}
 use Rattle.io_ends.specs.Sink.{AddsPrefix}
 use Rattle.shr_script.specs.Line.{Line}
@@ -7,14 +7,20 @@ use Rattle.shr_script.specs.declared.Command.TheVariants.{Read, Write, Fill, Flu
 use Rattle.flat_array.specs.Array.{FlatArray}
 use Rattle.shr_script.specs.Script.{script_of, cut_script_of}
 use Rattle.pool.specs.Calls.{Passes}
-use Rattle.pool.specs.View.{View}
+use Rattle.pool.specs.Continuing.{Continues, KeepsOutside}
+use Rattle.pool.specs.View.{View, volume}
 use Rattle.pool.specs.Volume.{Holds}
 use Rattle.shr_tool.specs.declared.perform.Answer.{Answer}
-use Rattle.shr_tool.specs.declared.perform.Answer.TheVariants.{Given, Spent}
+use Rattle.shr_tool.specs.declared.perform.Answer.TheVariants.{Given}
 use Rattle.shr_tool.specs.declared.serve.Stop.{Stop}
 use Rattle.shr_tool.specs.declared.serve.Stop.TheVariants.{Quit as AtQuit, Input, SourceFault, Limit, SinkFault}
-use Rattle.shr_tool.specs.Events.{Event, any_spent, array_by, is_spent, line_of, lines_of, text_of, texts}
-use Rattle.shr_tool.specs.Timeline.{Timeline, Performs, ground_of, moment_of}
+use Rattle.shr_tool.specs.Events.{AnyTakes, Event, answer_of, any_takes, array_by, line_of, lines_of, text_of, texts, worse, worst_of}
+use Rattle.pool.specs.Moment.{moment_of}
+use Rattle.shr_tool.specs.Timeline.{Timeline, Performs, ground_of}
+
+-- the volume is told to hold an array, be there a sector that can be had or none
+abbrev pub IsServing : View → FlatArray → Type 0
+IsServing x a = Holds x a × (volume x).told 0
 
 -- a line that isn't `quit`
 abbrev pub IsReplied : Line → Type 0
@@ -31,16 +37,11 @@ IsReplied (Ok Quit) = ⊥
 IsReplied (Ok Unbuilt) = Unit {0}
 IsReplied (Err fault) = Unit {0}
 
--- whether an answer refuses a spent sector
-abbrev pub refuses : Answer → Bool
-refuses Given = false
-refuses Spent = true
-
 -- A line was done on the pool, with this reply.
 pub record Answers (x y : View) (line : Line) (answer : Answer) (text : List ℕ) : Type 0 where
   pub event : Event
   pub line_is : line_of event ≡ line
-  pub answer_is : is_spent event ≡ refuses answer
+  pub answer_is : answer_of event ≡ answer
   pub performs : Performs x y event text
 
 -- a line was answered, and its reply put
@@ -72,7 +73,9 @@ LineAnswers shown (Err SinkFault) line p q out out' =
 -- Events were done in a row: what the pool keeps, the array that it holds, and the events at their moments. What stops leave is told of
 -- an array that the pool held.
 pub record Ran (x y : View) (events : List Event) : Type 0 where
-  pub passes : Passes x y
+  pub continues : Continues x y
+  pub passes : any_takes events ≡ false → Passes x y
+  pub outside : KeepsOutside x.slices y.slices (AnyTakes y.shelf.names events) x.shelf.told x.bay y.bay
   pub holds : (a : FlatArray) → Holds x a → Holds y (array_by a events)
   pub timeline : (a : FlatArray) → Timeline (x.bay.traced × Holds x a) y.bay.stops (ground_of x) (moment_of x) a events (moment_of y)
 
@@ -90,11 +93,11 @@ pub record StopsAtSink (x y : View) (text out out' : List ℕ) : Type 0 where
   pub ran : Ran x y (before ++ last ∷ [])
   pub put : (a : FlatArray) → Holds x a → AddsPrefix (out ++ texts a before) out' (text_of (array_by a before) last)
 
--- all lines of the text were answered, of which some were refused for a spent sector or none
-pub record StopsAtEnd (x y : View) (text out out' : List ℕ) (is_refused : Bool) : Type 0 where
+-- all lines of the text were answered, and this is the worst of the answers
+pub record StopsAtEnd (x y : View) (text out out' : List ℕ) (worst : Answer) : Type 0 where
   pub events : List Event
   pub script : script_of text ≡ lines_of events
-  pub spent : any_spent events ≡ is_refused
+  pub worst_is : worst_of events ≡ worst
   pub answered : Answered x y events out out'
 
 -- the source failed: the bytes before were taken, and the lines that ended in them answered
@@ -113,18 +116,18 @@ pub record StopsAtLimit (x y : View) (text out out' : List ℕ) : Type 0 where
   pub answered : Answered x y events out out'
 
 -- how a script was answered, by why it stopped
-abbrev pub Serves : Stop → View → View → List ℕ → List ℕ → List ℕ → List ℕ → Bool → Type 0
-Serves AtQuit x y text rest out out' is_refused = StopsAtEnd x y text out out' is_refused
-Serves Input x y text rest out out' is_refused = StopsAtEnd x y text out out' is_refused × (length text ≤ 2 ^ 32)
-Serves SourceFault x y text rest out out' is_refused = StopsAtSource x y text rest out out'
-Serves Limit x y text rest out out' is_refused = StopsAtLimit x y text out out'
-Serves SinkFault x y text rest out out' is_refused = StopsAtSink x y text out out'
+abbrev pub Serves : Stop → View → View → List ℕ → List ℕ → List ℕ → List ℕ → Answer → Type 0
+Serves AtQuit x y text rest out out' worst = StopsAtEnd x y text out out' worst
+Serves Input x y text rest out out' worst = StopsAtEnd x y text out out' worst × (length text ≤ 2 ^ 32)
+Serves SourceFault x y text rest out out' worst = StopsAtSource x y text rest out out'
+Serves Limit x y text rest out out' worst = StopsAtLimit x y text out out'
+Serves SinkFault x y text rest out out' worst = StopsAtSink x y text out out'
 
--- The last line was answered, by why the script stopped; `before` and `now`: whether a line was refused for a spent sector.
-abbrev pub LastAnswers : {P : Type 0} → (P → View) → Bool → Bool → Stop → Option Line → P → P → List ℕ → List ℕ → Type 0
+-- The last line was answered, by why the script stopped; `before` and `now`: the worst answer.
+abbrev pub LastAnswers : {P : Type 0} → (P → View) → Answer → Answer → Stop → Option Line → P → P → List ℕ → List ℕ → Type 0
 LastAnswers shown before now AtQuit line p q out out' = (now ≡ before) × LineAnswers shown (Err AtQuit) line p q out out'
 LastAnswers shown before now Input line p q out out' =
-    (answer : Answer) × (now ≡ (before || refuses answer)) × LineAnswers shown (Ok answer) line p q out out'
+    (answer : Answer) × (now ≡ worse before answer) × LineAnswers shown (Ok answer) line p q out out'
 LastAnswers shown before now SourceFault line p q out out' = ⊥
 LastAnswers shown before now Limit line p q out out' = ⊥
 LastAnswers shown before now SinkFault line p q out out' = LineAnswers shown (Err SinkFault) line p q out out'

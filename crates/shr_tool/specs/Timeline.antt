@@ -1,11 +1,11 @@
 -- A run as a list of events at moments that never fall.
-use Rattle.std.specs.Prelude.{◌≡◌, ◌⊎◌, ℕ, ◌+◌, ◌*◌, ◌<◌, ◌≤◌, nat_lt, min, if◌then◌else◌, true, false, List, [], ◌∷◌, length, codes, Ok}
+use Rattle.std.specs.Prelude.{◌≡◌, ◌⊎◌, ℕ, ◌+◌, ◌*◌, ◌<◌, ◌≤◌, min, true, false, List, [], ◌∷◌, None, Ok, Err}
 use Rattle.rack.specs.Seen.{Image, Rose}
-use Rattle.rack.specs.Moments.{Leaves}
 use Rattle.shr_script.specs.declared.Command.TheVariants.{Lose}
 use Rattle.flat_array.specs.Array.{FlatArray}
 use Rattle.array_image.specs.Places.{log_slice}
 use Rattle.array_image.specs.States.{is_current}
+use Rattle.slice_rack.specs.Changes.{Seats}
 use Rattle.slice_rack.specs.Slices.{Slices, disk_of}
 use Rattle.lvm_group.specs.Runs.{Linear, sectors_in}
 use Rattle.raid_rack.specs.Book.{IsAfter}
@@ -14,28 +14,19 @@ use Rattle.raid_rack.specs.Losses.{has_other}
 use Rattle.raid_rack.specs.Raid.{Raid}
 use Rattle.pool.specs.Calls.{Passes}
 use Rattle.pool.specs.Keeping.{HasMarkedSeats, KeepsBook, Raises, most_raised}
+use Rattle.pool.specs.Moment.{IsNamed, Moment, moment_of}
+use Rattle.pool.specs.Continuing.{Continues, KeepsOutside}
+use Rattle.pool.specs.Replaced.{HasGrowCause, IsDeclined, IsReplaced, LeavesNew}
 use Rattle.pool.specs.View.{View, book, contents_in, spent_by}
 use Rattle.pool.specs.Works.{HasRowsAlone, IsStuck, left_by}
-use Rattle.pool_state.specs.declared.contents.State.{State}
 use Rattle.pool.specs.Volume.{Holds, Means, PicksLive}
-use Rattle.shr_tool.specs.Events.{Event, IsOfArray, Touches, TouchesLast, becomes, calls_in, line_of, text_of}
+use Rattle.shr_tool.specs.Events.{Event, IsOfArray, Takes, Touches, TouchesLast, becomes, calls_in, line_of, takes_disk, text_of}
 use Rattle.shr_tool.specs.StatusText.{status_text}
-use Rattle.shr_tool.specs.Events.Event.{answered, spent, lost, last, declined, stepped, stuck, shown}
-
--- What is known between two events: the clock, the disks' counts of faults, the pool's state and arrays, and where the slices of its drives
--- lie on the disks of its bay.
-pub record Moment : Type 0 where
-  pub clock : ℕ
-  pub faults : ℕ → ℕ
-  pub book : Raid
-  pub slices : Slices
+use Rattle.shr_tool.specs.Events.Event.{answered, spent, lost, last, replaced, declined, stepped, stuck, shown}
 
 -- where a pool's volume lies on its arrays
 pub record Ground : Type 0 where
   pub linear : Linear
-
-abbrev pub moment_of : View → Moment
-moment_of x = record { clock = x.bay.clock; faults = x.bay.faults; book = book x; slices = x.slices }
 
 abbrev pub ground_of : View → Ground
 ground_of x = record { linear = x.linear }
@@ -52,14 +43,9 @@ pub record HasSteps (g : Ground) (p q : Moment) (count left : ℕ) : Type 0 wher
       ((d : ℕ) → Rose (p.faults d) (q.faults d) → ⊥) → HasRowsAlone p.book
       → HasRowsAlone q.book × (left + min count (left_by g.linear p.book) ≡ left_by g.linear p.book)
 
--- why the drive of a place isn't replaced: none has it, or that isn't built
-abbrev pub decline_of : State → ℕ → List ℕ
-decline_of s place = if nat_lt place (length s.drives.items) then codes "unbuilt" else codes "no-such-drive"
-
 -- Why an event was answered so: the sector that it refuses is spent at its end, and those that it served weren't before, nor is the last
--- one at its end; a drive that is lost was current, and another one is left; a drive that isn't replaced has its reason, and nothing is
--- called; works of maintenance were done, or an array can't do one; how
--- the pool stands is said of the book at the event's end.
+-- one at its end; a drive that is lost was current, and another one is left; a drive is replaced, or isn't for a reason; works of
+-- maintenance were done, or an array can't do one; how the pool stands is said of the book at the event's end.
 abbrev pub HasCause : Ground → Moment → Moment → Event → Type 0
 HasCause g p q (answered line) =
     ((s : ℕ) → Touches (sectors_in g.linear) line s → spent_by g.linear p.book s ≡ false)
@@ -72,7 +58,9 @@ HasCause g p q (spent line sector) =
     × ((s : ℕ) → Touches (sectors_in g.linear) line s → s < sector → spent_by g.linear p.book s ≡ false)
 HasCause g p q (lost place) = (is_current p.book.state place ≡ true) × (is_current q.book.state place ≡ false)
 HasCause g p q (last place) = (is_current p.book.state place ≡ true) × (has_other p.book.state place ≡ false)
-HasCause g p q (declined place name why) = (why ≡ decline_of p.book.state place) × (q ≡ p)
+HasCause g p q (replaced place name) =
+    HasGrowCause g.linear p q place name (Ok tt) × ((d : ℕ) → IsNamed q name d → IsReplaced p q place d)
+HasCause g p q (declined place name fault) = HasGrowCause g.linear p q place name (Err fault) × IsDeclined p q place fault
 HasCause g p q (stepped count left) = HasSteps g p q count left
 HasCause g p q (stuck count array) = IsStuck g.linear q.book array
 HasCause g p q (shown text) = text ≡ status_text g.linear q.book
@@ -91,17 +79,48 @@ pub record KeepsStanding (calls : ℕ) (p q : Moment) : Type 0 where
   pub keeps : KeepsBook p.book q.book
   pub seated : HasMarkedSeats q.book
 
--- An event: the slices of drives stay where they lie, and what a stop inside it leaves means the array before it or after it, and one at its
--- end the array after it. The clock is told where stops are.
+-- the bay has the disks that it had, under their names, and their counts of faults never fall
+pub record KeepsDisks (p q : Moment) : Type 0 where
+  pub disks : p.disks ≤ q.disks
+  pub sectors : (d : ℕ) → d < p.disks → q.sectors d ≡ p.sectors d
+  pub faults : (d : ℕ) → d < p.disks → p.faults d ≤ q.faults d
+  pub names : (d : ℕ) (name : List ℕ) → IsNamed p name d → IsNamed q name d
+
+-- no disk is attached, and the slices of drives stay where they lie
+pub record KeepsSlices (p q : Moment) : Type 0 where
+  pub slices : q.slices ≡ p.slices
+  pub names : q.names ≡ p.names
+
+-- contents mean an array by the slices of a pool in which a place, whose drive is missing, has no disk
+abbrev pub MeansWithout : Ground → Moment → Moment → ℕ → FlatArray → Image → Type 0
+MeansWithout g p q place a disks =
+    (t : Slices) × Seats p.slices t place None × PicksLive (spent_by g.linear q.book) a (contents_in t g.linear disks)
+
+-- contents mean an array as before an event: where a drive is to be replaced, without the place's disk
+abbrev pub MeansBefore : Ground → Moment → Moment → Event → FlatArray → Image → Type 0
+MeansBefore g p q (answered line) a disks = MeansAt g q a disks
+MeansBefore g p q (spent line sector) a disks = MeansAt g q a disks
+MeansBefore g p q (lost place) a disks = MeansAt g q a disks
+MeansBefore g p q (last place) a disks = MeansAt g q a disks
+MeansBefore g p q (replaced place name) a disks = MeansWithout g p q place a disks
+MeansBefore g p q (declined place name fault) a disks = MeansWithout g p q place a disks ⊎ MeansAt g q a disks
+MeansBefore g p q (stepped count left) a disks = MeansAt g q a disks
+MeansBefore g p q (stuck count array) a disks = MeansAt g q a disks
+MeansBefore g p q (shown text) a disks = MeansAt g q a disks
+
+-- An event: what a stop inside it leaves means the array before it or after it, and one at its end the array after it. But where a drive
+-- is to be replaced, the slices of drives stay where they lie, no disk is attached, and marks alone come to the state. The clock is told
+-- where stops are.
 pub record Happens (Traced : Type 0) (stops : ℕ → Image → Type 0) (g : Ground) (p q : Moment) (a : FlatArray) (event : Event) : Type 0 where
   pub later : Traced → p.clock ≤ q.clock
   pub cause : HasCause g p q event
-  pub slices : q.slices ≡ p.slices
-  pub marks : MarksFor p q event
+  pub disks : KeepsDisks p q
+  pub slices : takes_disk event ≡ false → KeepsSlices p q
+  pub marks : takes_disk event ≡ false → MarksFor p q event
   pub stands : KeepsStanding (calls_in (line_of event)) p q
   pub during :
       Traced → (k : ℕ) (i : Image) → p.clock < k → k ≤ q.clock → stops k i
-      → MeansAt g q a i ⊎ MeansAt g q (becomes a event) i
+      → MeansBefore g p q event a i ⊎ MeansAt g q (becomes a event) i
   pub ended : Traced → (i : Image) → stops q.clock i → MeansAt g q (becomes a event) i
 
 -- events in a row, from one moment to another
@@ -114,11 +133,16 @@ Timeline Traced stops g p a (event ∷ events) q =
 
 -- A line was answered on a pool by this text.
 pub record Performs (x y : View) (event : Event) (text : List ℕ) : Type 0 where
-  pub passes : Passes x y
+  pub continues : Continues x y
+  pub passes : takes_disk event ≡ false → Passes x y
+  pub outside : takes_disk event ≡ true → KeepsOutside x.slices y.slices (Takes y.shelf.names event) x.shelf.told x.bay y.bay
   pub raises : Raises (calls_in (line_of event)) x y
+  pub keeps : KeepsBook (book x) (book y)
   pub cause : HasCause (ground_of x) (moment_of x) (moment_of y) event
-  pub marks : MarksFor (moment_of x) (moment_of y) event
+  pub marks : takes_disk event ≡ false → MarksFor (moment_of x) (moment_of y) event
   pub text_is : (a : FlatArray) → Holds x a → text ≡ text_of a event
   pub holds : (a : FlatArray) → Holds x a → Holds y (becomes a event)
-  pub leaves : x.bay.traced → (a : FlatArray) → Holds x a → Leaves x.bay y.bay (λ i. Means y a i ⊎ Means y (becomes a event) i)
+  pub leaves :
+      x.bay.traced → (a : FlatArray) → Holds x a
+      → LeavesNew x y (λ i. MeansBefore (ground_of x) (moment_of x) (moment_of y) event a i ⊎ Means y (becomes a event) i)
   pub ends : x.bay.traced → (a : FlatArray) → Holds x a → (i : Image) → y.bay.stops y.bay.clock i → Means y (becomes a event) i

@@ -4,10 +4,11 @@ ghost use Rattle.std.specs.Prelude.{◌≡◌, ◌≢◌, ◌≤◌};
 ghost use Rattle.flat_array.specs.Array.{FlatArray};
 ghost use Rattle.pool.specs.Calls.{Passes};
 ghost use Rattle.pool.specs.View.{bay_in, view, volume};
-ghost use Rattle.pool.specs.Volume.{Holds};
+ghost use Rattle.shr_tool.specs.Serving.{IsServing};
 ghost use Rattle.shr_tool.specs.Exporting.{ExportOutcome, HasExportCause, Puts, export_status};
 ghost use Rattle.shr_tool.specs.Outcome.{HasStatusCause};
-ghost use Rattle.shr_tool.specs.Timeline.{ground_of, moment_of};
+ghost use Rattle.shr_tool.specs.Timeline.{ground_of};
+ghost use Rattle.pool.specs.Moment.{moment_of};
 
 use crate::status::Status;
 use io_ends::Sink;
@@ -25,15 +26,15 @@ pub enum ExportFault {
 
 /// Puts the bytes of the volume, and ends the pool.
 pub fn export_pool<R: Bay, O: Sink>(pool: &mut Pool<R>, out: &mut O) -> Status
-    requires { (volume (view R.seen pool.old)).fit }
-    ensures passes { Passes (view R.seen pool.old) (view R.seen pool.new) }
+    requires { (volume (view R.seen R.shelf pool.old)).fit }
+    ensures passes { Passes (view R.seen R.shelf pool.old) (view R.seen R.shelf pool.new) }
     ensures runs { R.runs (bay_in pool.old) (bay_in pool.new) }
     ensures sink { O.faults out.old ≤ O.faults out.new }
     ensures cause { HasStatusCause result 0 0 (O.faults out.old) (O.faults out.new) }
     ensures other { result ≢ Status.Limit }
     ensures outcome { O.told out.old → (a : FlatArray)
-        → ExportOutcome result (Holds (view R.seen pool.old) a) (R.seen (bay_in pool.old)).traced (R.seen (bay_in pool.new))
-        (ground_of (view R.seen pool.old)) (moment_of (view R.seen pool.old)) a (O.taken out.old) (O.taken out.new) }
+        → ExportOutcome result (IsServing (view R.seen R.shelf pool.old) a) (R.seen (bay_in pool.old)).traced (R.seen (bay_in pool.old)) (R.seen (bay_in pool.new))
+        (ground_of (view R.seen R.shelf pool.old)) (moment_of (view R.seen R.shelf pool.old)) a (O.taken out.old) (O.taken out.new) }
 {
     let put = put_sectors(pool, out);
     pool.end();
@@ -53,12 +54,12 @@ fn status_of(put: Result<(), ExportFault>) -> Status
 
 // Puts the bytes of each sector, up to the first that is refused.
 fn put_sectors<R: Bay, O: Sink>(pool: &mut Pool<R>, out: &mut O) -> Result<(), ExportFault>
-    requires { (volume (view R.seen pool.old)).fit }
-    ensures passes { Passes (view R.seen pool.old) (view R.seen pool.new) }
+    requires { (volume (view R.seen R.shelf pool.old)).fit }
+    ensures passes { Passes (view R.seen R.shelf pool.old) (view R.seen R.shelf pool.new) }
     ensures runs { R.runs (bay_in pool.old) (bay_in pool.new) }
     ensures sink { O.faults out.old ≤ O.faults out.new }
     ensures cause { HasExportCause result (O.faults out.old) (O.faults out.new) }
-    ensures puts { O.told out.old → Puts (view R.seen pool.old) (view R.seen pool.new) result (O.taken out.old) (O.taken out.new) }
+    ensures puts { O.told out.old → Puts (view R.seen R.shelf pool.old) (view R.seen R.shelf pool.new) result (O.taken out.old) (O.taken out.new) }
 {
     let mut bytes = [0; 512];
     let size = pool.size();

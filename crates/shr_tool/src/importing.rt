@@ -5,10 +5,12 @@ ghost use Rattle.rack.specs.Seen.{Rose};
 ghost use Rattle.flat_array.specs.Array.{FlatArray};
 ghost use Rattle.pool.specs.Calls.{Passes};
 ghost use Rattle.pool.specs.View.{bay_in, view, volume};
-ghost use Rattle.pool.specs.Volume.{Holds, size_of};
+ghost use Rattle.pool.specs.Volume.{size_of};
+ghost use Rattle.shr_tool.specs.Serving.{IsServing};
 ghost use Rattle.shr_tool.specs.Importing.{HasImportCause, ImportOutcome, Imports, SaysWritten, TakesSector, filled_up};
 ghost use Rattle.shr_tool.specs.Outcome.{HasStatusCause};
-ghost use Rattle.shr_tool.specs.Timeline.{ground_of, moment_of};
+ghost use Rattle.shr_tool.specs.Timeline.{ground_of};
+ghost use Rattle.pool.specs.Moment.{moment_of};
 
 use crate::saying::{refuse, refuse_spent, say_number};
 use crate::status::Status;
@@ -36,16 +38,16 @@ pub fn import_pool<R: Bay, I: Source, O: Sink>(
     input: &mut I,
     out: &mut O,
 ) -> Status
-    requires { (volume (view R.seen pool.old)).fit }
-    ensures passes { Passes (view R.seen pool.old) (view R.seen pool.new) }
+    requires { (volume (view R.seen R.shelf pool.old)).fit }
+    ensures passes { Passes (view R.seen R.shelf pool.old) (view R.seen R.shelf pool.new) }
     ensures runs { R.runs (bay_in pool.old) (bay_in pool.new) }
     ensures source { I.faults input.old ≤ I.faults input.new }
     ensures sink { O.faults out.old ≤ O.faults out.new }
     ensures cause { HasStatusCause result (I.faults input.old) (I.faults input.new) (O.faults out.old) (O.faults out.new) }
     ensures other { result ≢ Status.Limit }
     ensures outcome { I.told input.old → O.told out.old → (a : FlatArray)
-        → ImportOutcome result (Holds (view R.seen pool.old) a) (R.seen (bay_in pool.old)).traced (R.seen (bay_in pool.new))
-        (ground_of (view R.seen pool.old)) (moment_of (view R.seen pool.old)) a
+        → ImportOutcome result (IsServing (view R.seen R.shelf pool.old) a) (R.seen (bay_in pool.old)).traced (R.seen (bay_in pool.old)) (R.seen (bay_in pool.new))
+        (ground_of (view R.seen R.shelf pool.old)) (moment_of (view R.seen R.shelf pool.old)) a
         (I.left input.old) (I.left input.new) (O.taken out.old) (O.taken out.new) }
 {
     let written = write_pieces(pool, input);
@@ -70,13 +72,13 @@ fn say_written<O: Sink>(written: Result<u64, ImportFault>, out: &mut O) -> Statu
 
 // Writes each piece of the input to its sector, and answers the number of the input's bytes.
 fn write_pieces<R: Bay, I: Source>(pool: &mut Pool<R>, input: &mut I) -> Result<u64, ImportFault>
-    requires { (volume (view R.seen pool.old)).fit }
-    ensures passes { Passes (view R.seen pool.old) (view R.seen pool.new) }
-    ensures ended { (volume (view R.seen pool.new)).fit }
+    requires { (volume (view R.seen R.shelf pool.old)).fit }
+    ensures passes { Passes (view R.seen R.shelf pool.old) (view R.seen R.shelf pool.new) }
+    ensures ended { (volume (view R.seen R.shelf pool.new)).fit }
     ensures runs { R.runs (bay_in pool.old) (bay_in pool.new) }
     ensures source { I.faults input.old ≤ I.faults input.new }
     ensures cause { HasImportCause result (I.faults input.old) (I.faults input.new) }
-    ensures imports { I.told input.old → Imports (view R.seen pool.old) (view R.seen pool.new) (I.left input.old) (I.left input.new) result }
+    ensures imports { I.told input.old → Imports (view R.seen R.shelf pool.old) (view R.seen R.shelf pool.new) (I.left input.old) (I.left input.new) result }
 {
     let size = pool.size();
     let mut piece = [0; SECTOR];

@@ -2,15 +2,16 @@
 
 ghost use Rattle.std.specs.Prelude.{◌≡◌, ◌≢◌, ◌≤◌, ◌^◌, false, map, string_bytes};
 ghost use Rattle.flat_array.specs.Array.{FlatArray};
-ghost use Rattle.pool.specs.Calls.{Passes};
+ghost use Rattle.pool.specs.Continuing.{Continues};
 ghost use Rattle.pool.specs.View.{bay_in, view, volume};
-ghost use Rattle.pool.specs.Volume.{Holds};
+ghost use Rattle.shr_tool.specs.Serving.{IsServing};
 ghost use Rattle.shr_tool.specs.Limits.{KeepsLimit};
 ghost use Rattle.shr_tool.specs.Outcome.{HasStatusCause};
 ghost use Rattle.shr_tool.specs.Opened.{OpenOutcome};
 ghost use Rattle.shr_tool.specs.Run.{PoolOutcome};
 ghost use Rattle.shr_tool.specs.Tasks.{NeedsInput, TaskOutcome, takes_input};
-ghost use Rattle.shr_tool.specs.Timeline.{ground_of, moment_of};
+ghost use Rattle.shr_tool.specs.Timeline.{ground_of};
+ghost use Rattle.pool.specs.Moment.{moment_of};
 
 use crate::attaching::{attach_all, refuse_name};
 use crate::exporting::export_pool;
@@ -79,7 +80,7 @@ pub(crate) fn open_attached<B: Bay, I: Source, O: Sink>(
     ensures other { task ≢ Task.Serve → result ≢ Status.Limit }
     ensures unread { takes_input task ≡ false → input.new ≡ input.old }
     ensures outcome { NeedsInput task (I.told input.old) → O.told out.old
-        → OpenOutcome B.seen B.runs bay.old bay.new task
+        → OpenOutcome B.seen B.shelf B.runs bay.old bay.new task
         (I.left input.old) (I.left input.new) (O.taken out.old) (O.taken out.new) result }
 {
     match Pool::open(alloc, bay, seconds) {
@@ -99,9 +100,9 @@ fn do_on<R: Bay, I: Source, O: Sink>(
     input: &mut I,
     out: &mut O,
 ) -> Status
-    requires { (volume (view R.seen pool.old)).fit }
-    ensures passes { Passes (view R.seen pool.old) (view R.seen pool.new) }
-    ensures runs { R.runs (bay_in pool.old) (bay_in pool.new) }
+    requires { (volume (view R.seen R.shelf pool.old)).fit }
+    ensures continues { Continues (view R.seen R.shelf pool.old) (view R.seen R.shelf pool.new) }
+    ensures lenders { R.lenders (bay_in pool.new) ≡ R.lenders (bay_in pool.old) }
     ensures source { I.faults input.old ≤ I.faults input.new }
     ensures sink { O.faults out.old ≤ O.faults out.new }
     ensures cause { HasStatusCause result (I.faults input.old) (I.faults input.new) (O.faults out.old) (O.faults out.new) }
@@ -109,8 +110,8 @@ fn do_on<R: Bay, I: Source, O: Sink>(
     ensures other { task ≢ Task.Serve → result ≢ Status.Limit }
     ensures unread { takes_input task ≡ false → input.new ≡ input.old }
     ensures outcome { NeedsInput task (I.told input.old) → O.told out.old → (a : FlatArray)
-        → TaskOutcome task result (Holds (view R.seen pool.old) a) (R.seen (bay_in pool.old)).traced (R.seen (bay_in pool.new))
-        (ground_of (view R.seen pool.old)) (moment_of (view R.seen pool.old)) a
+        → TaskOutcome task result (IsServing (view R.seen R.shelf pool.old) a) (R.seen (bay_in pool.old)).traced (R.seen (bay_in pool.old)) (R.seen (bay_in pool.new))
+        (ground_of (view R.seen R.shelf pool.old)) (moment_of (view R.seen R.shelf pool.old)) a
         (I.left input.old) (I.left input.new) (O.taken out.old) (O.taken out.new) }
 {
     match task {

@@ -1,22 +1,21 @@
 //! A line of a script, answered on a pool.
 
 ghost use Rattle.std.specs.Prelude.{◌≡◌, ◌+◌, ◌≤◌, ◌<◌, replicate, Ok, OnOk, IfErr, Result};
-ghost use Rattle.shr_script.specs.declared.Command.TheVariants.{Read, Write, Fill, Flush, Lose, Step};
+ghost use Rattle.shr_script.specs.declared.Command.TheVariants.{Read, Write, Fill, Flush, Lose, Replace, Step};
 ghost use Rattle.flat_array.specs.Reply.{fault_word, spent_line};
-ghost use Rattle.pool.specs.View.{bay_in, book, view, volume};
+ghost use Rattle.pool.specs.View.{bay_in, view, volume};
 ghost use Rattle.pool.specs.Volume.{size_of};
-ghost use Rattle.shr_tool.specs.Events.{stuck_line};
+ghost use Rattle.shr_tool.specs.Events.{answer_by, grow_word, stuck_line};
 ghost use Rattle.shr_script.specs.Reply.{refused_line};
 ghost use Rattle.shr_tool.specs.Serving.{Answers};
-ghost use Rattle.shr_tool.specs.Timeline.{decline_of};
 ghost use Rattle.shr_tool.specs.Filling.{Fills};
 
 use crate::showing::show;
-use pool::{LoseFault, Pool, SectorFault};
+use pool::{GrowFault, LoseFault, Pool, SectorFault};
 use rack::{Bay, Rack};
 use shr_script::{
-    Command, LineFault, ReplyText, data_reply, left_reply, line_reply, refused_number_reply,
-    refused_reply, size_reply,
+    Command, ImageName, LineFault, ReplyText, data_reply, left_reply, line_reply,
+    refused_number_reply, refused_reply, size_reply,
 };
 
 /// How a line was answered.
@@ -26,6 +25,8 @@ pub enum Answer {
     Given,
     /// A sector was refused, since too many of its copies are lost, or a work of maintenance.
     Spent,
+    /// There was no memory for what it asks.
+    Memory,
 }
 
 /// The first sector of a row of writes that was refused, since too many of its copies are lost.
@@ -40,9 +41,9 @@ pub fn answer_in<R: Bay>(
     line: &Result<Command, LineFault>,
     text: &mut ReplyText,
 ) -> Answer
-    requires { (volume (view R.seen pool.old)).fit }
-    ensures answers { Answers (view R.seen pool.old) (view R.seen pool.new) line.now result text.new.items }
-    ensures runs { R.runs (bay_in pool.old) (bay_in pool.new) }
+    requires { (volume (view R.seen R.shelf pool.old)).fit }
+    ensures answers { Answers (view R.seen R.shelf pool.old) (view R.seen R.shelf pool.new) line.now result text.new.items }
+    ensures lenders { R.lenders (bay_in pool.new) ≡ R.lenders (bay_in pool.old) }
 {
     match line {
         Ok(command) => perform(pool, command, text),
@@ -65,9 +66,9 @@ fn word_of(fault: LineFault) -> &'static [u8]
 
 // Does a command and sets its reply.
 fn perform<R: Bay>(pool: &mut Pool<R>, command: &Command, text: &mut ReplyText) -> Answer
-    requires { (volume (view R.seen pool.old)).fit }
-    ensures answers { Answers (view R.seen pool.old) (view R.seen pool.new) (Ok command.now) result text.new.items }
-    ensures runs { R.runs (bay_in pool.old) (bay_in pool.new) }
+    requires { (volume (view R.seen R.shelf pool.old)).fit }
+    ensures answers { Answers (view R.seen R.shelf pool.old) (view R.seen R.shelf pool.new) (Ok command.now) result text.new.items }
+    ensures lenders { R.lenders (bay_in pool.new) ≡ R.lenders (bay_in pool.old) }
 {
     match command {
         Command::Read { sector } => return perform_read(pool, *sector, text),
@@ -78,8 +79,8 @@ fn perform<R: Bay>(pool: &mut Pool<R>, command: &Command, text: &mut ReplyText) 
             byte,
         } => return perform_fill(pool, *sector, *count, *byte, text),
         Command::Step { count } => return perform_step(pool, *count, text),
+        Command::Replace { place, name } => return perform_replace(pool, *place, name, text),
         Command::Lose { place } => perform_lose(pool, *place, text),
-        Command::Replace { place, .. } => decline(pool, *place, text),
         Command::Flush => perform_flush(pool, text),
         Command::Size => size_reply(text, pool.size()),
         Command::Status => show(pool, text),
@@ -100,8 +101,8 @@ fn spent_reply(text: &mut ReplyText, sector: u64) -> Answer
 
 // `read S`
 fn perform_read<R: Bay>(pool: &mut Pool<R>, sector: u64, text: &mut ReplyText) -> Answer
-    requires { (volume (view R.seen pool.old)).fit }
-    ensures answers { Answers (view R.seen pool.old) (view R.seen pool.new) (Ok (Read sector)) result text.new.items }
+    requires { (volume (view R.seen R.shelf pool.old)).fit }
+    ensures answers { Answers (view R.seen R.shelf pool.old) (view R.seen R.shelf pool.new) (Ok (Read sector)) result text.new.items }
     ensures runs { R.runs (bay_in pool.old) (bay_in pool.new) }
 {
     let mut bytes = [0; 512];
@@ -120,8 +121,8 @@ fn perform_write<R: Bay>(
     bytes: &[u8; 512],
     text: &mut ReplyText,
 ) -> Answer
-    requires { (volume (view R.seen pool.old)).fit }
-    ensures answers { Answers (view R.seen pool.old) (view R.seen pool.new) (Ok (Write sector bytes.now)) result text.new.items }
+    requires { (volume (view R.seen R.shelf pool.old)).fit }
+    ensures answers { Answers (view R.seen R.shelf pool.old) (view R.seen R.shelf pool.new) (Ok (Write sector bytes.now)) result text.new.items }
     ensures runs { R.runs (bay_in pool.old) (bay_in pool.new) }
 {
     match pool.write(sector, bytes) {
@@ -140,8 +141,8 @@ fn perform_fill<R: Bay>(
     byte: u8,
     text: &mut ReplyText,
 ) -> Answer
-    requires { (volume (view R.seen pool.old)).fit }
-    ensures answers { Answers (view R.seen pool.old) (view R.seen pool.new) (Ok (Fill sector count byte)) result text.new.items }
+    requires { (volume (view R.seen R.shelf pool.old)).fit }
+    ensures answers { Answers (view R.seen R.shelf pool.old) (view R.seen R.shelf pool.new) (Ok (Fill sector count byte)) result text.new.items }
     ensures runs { R.runs (bay_in pool.old) (bay_in pool.new) }
 {
     let size = pool.size();
@@ -165,9 +166,9 @@ fn fill_sectors<R: Bay>(
     count: u64,
     bytes: &[u8; 512],
 ) -> Result<(), SpentAt>
-    requires fit { (volume (view R.seen pool.old)).fit }
-    requires inside { sector + count ≤ size_of (view R.seen pool.old) }
-    ensures fills { Fills (view R.seen pool.old) (view R.seen pool.new) sector count bytes.now result }
+    requires fit { (volume (view R.seen R.shelf pool.old)).fit }
+    requires inside { sector + count ≤ size_of (view R.seen R.shelf pool.old) }
+    ensures fills { Fills (view R.seen R.shelf pool.old) (view R.seen R.shelf pool.new) sector count bytes.now result }
     ensures runs { R.runs (bay_in pool.old) (bay_in pool.new) }
 {
     for at in sector..sector + count {
@@ -182,8 +183,8 @@ fn fill_sectors<R: Bay>(
 
 // `flush`
 fn perform_flush<R: Bay>(pool: &mut Pool<R>, text: &mut ReplyText)
-    requires { (volume (view R.seen pool.old)).fit }
-    ensures answers { Answers (view R.seen pool.old) (view R.seen pool.new) (Ok Flush) Answer.Given text.new.items }
+    requires { (volume (view R.seen R.shelf pool.old)).fit }
+    ensures answers { Answers (view R.seen R.shelf pool.old) (view R.seen R.shelf pool.new) (Ok Flush) Answer.Given text.new.items }
     ensures runs { R.runs (bay_in pool.old) (bay_in pool.new) }
 {
     pool.flush();
@@ -192,8 +193,8 @@ fn perform_flush<R: Bay>(pool: &mut Pool<R>, text: &mut ReplyText)
 
 // `lose D`
 fn perform_lose<R: Bay>(pool: &mut Pool<R>, place: u64, text: &mut ReplyText)
-    requires { (volume (view R.seen pool.old)).fit }
-    ensures answers { Answers (view R.seen pool.old) (view R.seen pool.new) (Ok (Lose place)) Answer.Given text.new.items }
+    requires { (volume (view R.seen R.shelf pool.old)).fit }
+    ensures answers { Answers (view R.seen R.shelf pool.old) (view R.seen R.shelf pool.new) (Ok (Lose place)) Answer.Given text.new.items }
     ensures runs { R.runs (bay_in pool.old) (bay_in pool.new) }
 {
     // No place is greater than the last number of 32 bits.
@@ -205,16 +206,59 @@ fn perform_lose<R: Bay>(pool: &mut Pool<R>, place: u64, text: &mut ReplyText)
     }
 }
 
-// `replace D NAME`, which isn't built: says why the drive isn't replaced.
-fn decline<R: Bay>(pool: &Pool<R>, place: u64, text: &mut ReplyText)
-    requires { (volume (view R.seen pool.now)).fit }
-    ensures { text.new.items ≡ refused_line (decline_of (book (view R.seen pool.now)).state place) }
+// `replace D NAME`
+fn perform_replace<R: Bay>(
+    pool: &mut Pool<R>,
+    place: u64,
+    name: &ImageName,
+    text: &mut ReplyText,
+) -> Answer
+    requires { (volume (view R.seen R.shelf pool.old)).fit }
+    ensures answers { Answers (view R.seen R.shelf pool.old) (view R.seen R.shelf pool.new) (Ok (Replace place name.now)) result text.new.items }
+    ensures lenders { R.lenders (bay_in pool.new) ≡ R.lenders (bay_in pool.old) }
 {
-    let drives = pool.state().drives.as_slice().len();
-    if place < drives as u64 {
-        refused_reply(text, b"unbuilt");
-    } else {
-        refused_reply(text, b"no-such-drive");
+    // No place is greater than the last number of 32 bits.
+    let place = place.min(u64::from(u32::MAX)) as u32;
+    match pool.replace(place, name.as_str()) {
+        Ok(()) => {
+            line_reply(text, b"ok");
+            Answer::Given
+        }
+        Err(fault) => decline_reply(text, fault),
+    }
+}
+
+// `refused W`, where W is the word of why a drive isn't replaced.
+fn decline_reply(text: &mut ReplyText, fault: GrowFault) -> Answer
+    ensures text { text.new.items ≡ refused_line (grow_word fault) }
+    ensures answer { result ≡ answer_by fault }
+{
+    refused_reply(text, word_of_fault(fault));
+    match fault {
+        GrowFault::Memory => Answer::Memory,
+        _ => Answer::Given,
+    }
+}
+
+// The word of why a drive isn't replaced.
+fn word_of_fault(fault: GrowFault) -> &'static [u8]
+    ensures { result.now ≡ grow_word fault }
+{
+    match fault {
+        GrowFault::NoSuchDrive => b"no-such-drive",
+        GrowFault::Attach => b"attach",
+        GrowFault::Twice => b"twice",
+        GrowFault::Memory => b"memory",
+        GrowFault::PlanPending => b"plan-pending",
+        GrowFault::NotWhole => b"not-whole",
+        GrowFault::NotResynced => b"not-resynced",
+        GrowFault::Unbuilt => b"unbuilt",
+        GrowFault::Size => b"size",
+        GrowFault::Smaller => b"smaller",
+        GrowFault::TooManyDrives => b"too-many-drives",
+        GrowFault::TooManyLayers => b"too-many-layers",
+        GrowFault::TooManySegments => b"too-many-segments",
+        GrowFault::Gone => b"drive-gone",
     }
 }
 
@@ -229,8 +273,8 @@ fn stuck_reply(text: &mut ReplyText, array: u32) -> Answer
 
 // `step N`
 fn perform_step<R: Bay>(pool: &mut Pool<R>, count: u64, text: &mut ReplyText) -> Answer
-    requires { (volume (view R.seen pool.old)).fit }
-    ensures answers { Answers (view R.seen pool.old) (view R.seen pool.new) (Ok (Step count)) result text.new.items }
+    requires { (volume (view R.seen R.shelf pool.old)).fit }
+    ensures answers { Answers (view R.seen R.shelf pool.old) (view R.seen R.shelf pool.new) (Ok (Step count)) result text.new.items }
     ensures runs { R.runs (bay_in pool.old) (bay_in pool.new) }
 {
     match pool.step(count) {

@@ -3,14 +3,15 @@
 mod finish;
 mod once;
 
-ghost use Rattle.std.specs.Prelude.{◌≡◌, ◌≢◌, ◌<◌, ◌≤◌, ◌^◌, ◌||◌, Some, Ok, IsOk, IfErr};
+ghost use Rattle.std.specs.Prelude.{◌≡◌, ◌≢◌, ◌<◌, ◌≤◌, ◌^◌, Some, Ok, IsOk, IfErr};
 ghost use Rattle.shr_script.specs.declared.Command.TheVariants.{Quit};
 ghost use Rattle.shr_script.specs.Line.{line_of};
 ghost use Rattle.shr_script.specs.Script.{without_return as line_without_return};
-ghost use Rattle.pool.specs.Calls.{Passes};
+ghost use Rattle.pool.specs.Continuing.{Continues};
 ghost use Rattle.pool.specs.View.{bay_in, view, volume};
 ghost use Rattle.shr_tool.specs.Limits.{KeepsLimit};
-ghost use Rattle.shr_tool.specs.Serving.{IsReplied, LineAnswers, Serves, HasStopCause, LastAnswers, refuses};
+ghost use Rattle.shr_tool.specs.Events as spec;
+ghost use Rattle.shr_tool.specs.Serving.{IsReplied, LineAnswers, Serves, HasStopCause, LastAnswers};
 
 use crate::perform::{Answer, answer_in};
 pub use finish::serve_pool;
@@ -42,8 +43,8 @@ pub enum Stop {
 pub struct Stopped {
     /// Why no further.
     pub cause: Stop,
-    /// Whether a sector was refused, since too many of its copies are lost.
-    pub refused: bool,
+    /// The worst of the answers.
+    pub worst: Answer,
 }
 
 /// Answers the lines of the input until one of the causes in [`Stop`].
@@ -52,71 +53,75 @@ pub fn answer_script<R: Bay, I: Source, O: Sink>(
     input: &mut I,
     out: &mut O,
 ) -> Stopped
-    requires { (volume (view R.seen pool.old)).fit }
-    ensures passes { Passes (view R.seen pool.old) (view R.seen pool.new) }
-    ensures runs { R.runs (bay_in pool.old) (bay_in pool.new) }
+    requires { (volume (view R.seen R.shelf pool.old)).fit }
+    ensures continues { Continues (view R.seen R.shelf pool.old) (view R.seen R.shelf pool.new) }
+    ensures lenders { R.lenders (bay_in pool.new) ≡ R.lenders (bay_in pool.old) }
     ensures source { I.faults input.old ≤ I.faults input.new }
     ensures sink { O.faults out.old ≤ O.faults out.new }
     ensures cause { HasStopCause result.cause (I.faults input.old) (I.faults input.new) (O.faults out.old) (O.faults out.new) }
     ensures told { O.told out.old → O.told out.new }
     ensures limit { I.told input.old → KeepsLimit (result.cause ≡ Stop.Limit) (2 ^ 32) (I.left input.old) (I.left input.new) }
-    ensures serves { I.told input.old → O.told out.old → Serves result.cause (view R.seen pool.old) (view R.seen pool.new) (I.left input.old) (I.left input.new) (O.taken out.old) (O.taken out.new) result.refused }
+    ensures serves { I.told input.old → O.told out.old → Serves result.cause (view R.seen R.shelf pool.old) (view R.seen R.shelf pool.new) (I.left input.old) (I.left input.new) (O.taken out.old) (O.taken out.new) result.worst }
 {
     let mut reader = LineReader::new();
     let mut text = ReplyText::new();
-    let mut refused = false;
+    let mut worst = Answer::Given;
     'lines: loop {
         match reader.next(input, SCRIPT_LIMIT) {
-            Ended::Fault => return stop_at(Stop::SourceFault, refused),
-            Ended::Limit => return stop_at(Stop::Limit, refused),
-            Ended::Input => return answer_last(pool, reader.line(), refused, &mut text, out),
+            Ended::Fault => return stop_at(Stop::SourceFault, worst),
+            Ended::Limit => return stop_at(Stop::Limit, worst),
+            Ended::Input => return answer_last(pool, reader.line(), worst, &mut text, out),
             Ended::LineFeed => {}
         }
         match answer_line(pool, reader.line(), &mut text, out) {
-            Ok(answer) => refused |= is_spent(answer),
-            Err(cause) => return stop_at(cause, refused),
+            Ok(answer) => worst = worse(worst, answer),
+            Err(cause) => return stop_at(cause, worst),
         }
     }
 }
 
-// Whether an answer refuses a spent sector.
-fn is_spent(answer: Answer) -> bool
-    ensures { result ≡ refuses answer }
+// The worse of two answers.
+fn worse(one: Answer, other: Answer) -> Answer
+    ensures { result ≡ spec.worse one other }
 {
-    match answer {
-        Answer::Given => false,
-        Answer::Spent => true,
+    match one {
+        Answer::Given => other,
+        Answer::Spent => match other {
+            Answer::Given | Answer::Spent => Answer::Spent,
+            Answer::Memory => Answer::Memory,
+        },
+        Answer::Memory => Answer::Memory,
     }
 }
 
 // A script that stopped.
-fn stop_at(cause: Stop, refused: bool) -> Stopped
+fn stop_at(cause: Stop, worst: Answer) -> Stopped
     ensures cause { result.cause ≡ cause }
-    ensures refused { result.refused ≡ refused }
+    ensures worst { result.worst ≡ worst }
 {
-    Stopped { cause, refused }
+    Stopped { cause, worst }
 }
 
-// Answers the last line of the input. `refused`: whether a line before it was refused for a spent sector.
+// Answers the last line of the input. `worst` is the worst of the answers before it.
 fn answer_last<R: Bay, O: Sink>(
     pool: &mut Pool<R>,
     line: &[u8],
-    refused: bool,
+    worst: Answer,
     text: &mut ReplyText,
     out: &mut O,
 ) -> Stopped
-    requires { (volume (view R.seen pool.old)).fit }
-    ensures passes { Passes (view R.seen pool.old) (view R.seen pool.new) }
-    ensures runs { R.runs (bay_in pool.old) (bay_in pool.new) }
+    requires { (volume (view R.seen R.shelf pool.old)).fit }
+    ensures continues { Continues (view R.seen R.shelf pool.old) (view R.seen R.shelf pool.new) }
+    ensures lenders { R.lenders (bay_in pool.new) ≡ R.lenders (bay_in pool.old) }
     ensures sink { O.faults out.old ≤ O.faults out.new }
     ensures cause { HasStopCause result.cause 0 0 (O.faults out.old) (O.faults out.new) }
     ensures told { O.told out.old → O.told out.new }
     ensures other { result.cause ≢ Stop.Limit }
-    ensures answers { O.told out.old → LastAnswers (view R.seen) refused result.refused result.cause (line_of (line_without_return line.now)) pool.old pool.new (O.taken out.old) (O.taken out.new) }
+    ensures answers { O.told out.old → LastAnswers (view R.seen R.shelf) worst result.worst result.cause (line_of (line_without_return line.now)) pool.old pool.new (O.taken out.old) (O.taken out.new) }
 {
     match answer_line(pool, line, text, out) {
-        Ok(answer) => stop_at(Stop::Input, refused | is_spent(answer)),
-        Err(cause) => stop_at(cause, refused),
+        Ok(answer) => stop_at(Stop::Input, worse(worst, answer)),
+        Err(cause) => stop_at(cause, worst),
     }
 }
 
@@ -127,15 +132,15 @@ fn answer_line<R: Bay, O: Sink>(
     text: &mut ReplyText,
     out: &mut O,
 ) -> Result<Answer, Stop>
-    requires { (volume (view R.seen pool.old)).fit }
-    ensures passes { Passes (view R.seen pool.old) (view R.seen pool.new) }
-    ensures runs { R.runs (bay_in pool.old) (bay_in pool.new) }
+    requires { (volume (view R.seen R.shelf pool.old)).fit }
+    ensures continues { Continues (view R.seen R.shelf pool.old) (view R.seen R.shelf pool.new) }
+    ensures lenders { R.lenders (bay_in pool.new) ≡ R.lenders (bay_in pool.old) }
     ensures sink { O.faults out.old ≤ O.faults out.new }
     ensures cause { IfErr result (λ stop. HasStopCause stop 0 0 (O.faults out.old) (O.faults out.new)) }
     ensures told { O.told out.old → O.told out.new }
     ensures goes_on { IsOk result → line_of (line_without_return line.now) ≢ Some (Ok Quit) }
     ensures other { IfErr result (λ stop. stop ≢ Stop.Limit) }
-    ensures answers { O.told out.old → LineAnswers (view R.seen) result (line_of (line_without_return line.now)) pool.old pool.new (O.taken out.old) (O.taken out.new) }
+    ensures answers { O.told out.old → LineAnswers (view R.seen R.shelf) result (line_of (line_without_return line.now)) pool.old pool.new (O.taken out.old) (O.taken out.new) }
 {
     match next_line(without_return(line)).transpose() {
         None => Ok(Answer::Given),
@@ -151,15 +156,15 @@ fn answer<R: Bay, O: Sink>(
     text: &mut ReplyText,
     out: &mut O,
 ) -> Result<Answer, Stop>
-    requires fit { (volume (view R.seen pool.old)).fit }
+    requires fit { (volume (view R.seen R.shelf pool.old)).fit }
     requires replied { IsReplied said.now }
-    ensures passes { Passes (view R.seen pool.old) (view R.seen pool.new) }
-    ensures runs { R.runs (bay_in pool.old) (bay_in pool.new) }
+    ensures continues { Continues (view R.seen R.shelf pool.old) (view R.seen R.shelf pool.new) }
+    ensures lenders { R.lenders (bay_in pool.new) ≡ R.lenders (bay_in pool.old) }
     ensures sink { O.faults out.old ≤ O.faults out.new }
     ensures cause { IfErr result (λ stop. HasStopCause stop 0 0 (O.faults out.old) (O.faults out.new)) }
     ensures told { O.told out.old → O.told out.new }
     ensures other { IfErr result (λ stop. stop ≢ Stop.Limit) }
-    ensures answers { O.told out.old → LineAnswers (view R.seen) result (Some said.now) pool.old pool.new (O.taken out.old) (O.taken out.new) }
+    ensures answers { O.told out.old → LineAnswers (view R.seen R.shelf) result (Some said.now) pool.old pool.new (O.taken out.old) (O.taken out.new) }
 {
     let answer = answer_in(pool, said, text);
     match out.put(text.as_slice()) {

@@ -15,8 +15,8 @@ use shr_script::{ReplyText, add, add_field};
 
 /// Sets the text to how the pool stands: its state, its drives and arrays, its plan, its sectors and the works that are left.
 pub fn show<R: Bay>(pool: &Pool<R>, text: &mut ReplyText)
-    requires { (volume (view R.seen pool.now)).fit }
-    ensures { text.new.items ≡ status_text (view R.seen pool.now).linear (book (view R.seen pool.now)) }
+    requires { (volume (view R.seen R.shelf pool.now)).fit }
+    ensures { text.new.items ≡ status_text (view R.seen R.shelf pool.now).linear (book (view R.seen R.shelf pool.now)) }
 {
     let state = pool.state();
     text.clear();
@@ -78,9 +78,9 @@ fn word_of(missing: bool) -> &'static [u8]
 
 // Adds a line for each array.
 fn add_arrays<R: Bay>(text: &mut ReplyText, pool: &Pool<R>)
-    requires fit { (volume (view R.seen pool.now)).fit }
+    requires fit { (volume (view R.seen R.shelf pool.now)).fit }
     requires room { array_vec_len text.old + 2400 ≤ 4096 }
-    ensures items { text.new.items ≡ text.old.items ++ array_lines (book (view R.seen pool.now)) }
+    ensures items { text.new.items ≡ text.old.items ++ array_lines (book (view R.seen R.shelf pool.now)) }
     ensures len { array_vec_len text.new ≤ array_vec_len text.old + 2400 }
 {
     for number in 0..pool.state().made {

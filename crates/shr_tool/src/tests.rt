@@ -9,6 +9,7 @@ mod limits;
 mod losses;
 mod order;
 mod pools;
+mod replacing;
 mod scripts;
 mod showing;
 mod stops;

@@ -68,9 +68,9 @@ fn a_lost_drive_stays_lost(rt: HostRuntime) -> Result<(), Fail> {
     let mut bay = made_of_three(&rt, alloc)?;
     served_three(&rt, alloc, &mut bay, b"lose 1\nwrite 0 61\nwrite 128 62\n")?;
     let mut next = now_of(&rt, alloc, &bay)?;
-    let script = b"lose 1\nread 0\nread 128\nreplace 1 B\nreplace 3 B\nlose 0\nread 0\n";
+    let script = b"lose 1\nread 0\nread 128\nreplace 3 B\nlose 0\nread 0\n";
     let want =
-        b"refused no-such-drive\ndata 61\ndata 62\nrefused unbuilt\nrefused no-such-drive\nok\nrefused spent 0\n".as_slice();
+        b"refused no-such-drive\ndata 61\ndata 62\nrefused no-such-drive\nok\nrefused spent 0\n".as_slice();
     let ran = serve_on(&rt, alloc, &mut next, &["A", "B", "C"], script)?;
     assert_eq!(rt; ran.put.as_slice(), want);
     assert_eq!(rt; ran.status, 8);

@@ -27,6 +27,8 @@ impl<'a, R: Rack> Rack for CountingBay<'a, R> {
 
     ghost once = { λ old new. R.once old.bay new.bay };
 
+    ghost unwritten = { λ old new. R.unwritten old.bay new.bay };
+
     ghost lenders = { λ counting. R.lenders counting.bay };
 
     fn disks(&self) -> u32 {
@@ -60,6 +62,10 @@ impl<'a, R: Rack> Rack for CountingBay<'a, R> {
     ghost runs_same = { λ counting. R.runs_same counting.bay };
 
     ghost runs_then = { λ x y z one two. R.runs_then x.bay y.bay z.bay one two };
+
+    ghost unwritten_same = { λ counting. R.unwritten_same counting.bay };
+
+    ghost unwritten_then = { λ x y z. R.unwritten_then x.bay y.bay z.bay };
 
     ghost runs_lenders = { λ x y runs. R.runs_lenders x.bay y.bay runs };
 }

@@ -1,5 +1,5 @@
 -- What was put, once the pool was ended.
-use Rattle.pool.specs.View.{view}
+use Rattle.pool.specs.View.{bay_in, view}
 use Rattle.shr_tool.proofs.Exported.{export_outcome}
 use Rattle.pool.proofs.Keeping.{passes_then}
 use Rattle.shr_tool.proofs.exporting.export_pool.Goals as goal
@@ -13,6 +13,7 @@ returns-clause-runs g c = g.met.R.Rack.runs_then _ _ _ c.put_sectors-put.ensures
 pub returns-clause-outcome : goal.returns-clause-outcome
 returns-clause-outcome g c =
     λ sink a.
-    export_outcome c.put_sectors-put.result c.status_of.result _ _ (view g.R.Rack.seen c.end.new.self) a _ _ c.status_of.ensures
+    export_outcome c.put_sectors-put.result c.status_of.result _ _ (view g.R.Rack.seen g.R.Bay.shelf c.end.new.self) a _ _ c.status_of.ensures
+    (g.met.R.Bay.unspent (bay_in c.end.new.self))
     (c.put_sectors-put.ensures.puts sink)
     c.end.ensures.ended

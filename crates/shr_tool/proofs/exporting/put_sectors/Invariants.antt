@@ -2,6 +2,7 @@
 use Rattle.std.proofs.Common.{◌≡◌, ◌≤◌, ◌++◌}
 use Rattle.flat_array.specs.Array.{FlatArray}
 use Rattle.pool.specs.View.{bay_in, view}
+use Rattle.pool.specs.Calls.{Passes}
 use Rattle.pool.specs.Volume.{Holds}
 use Rattle.shr_tool.specs.Exporting.{bytes_of, reads_of}
 use Rattle.shr_tool.specs.Serving.{Ran}
@@ -9,11 +10,12 @@ use Rattle.shr_tool.proofs.exporting.put_sectors.Given as goal
 
 abbrev pub invariant-loop-sector : goal.invariant-loop-sector
 invariant-loop-sector g l =
-    let shown = view g.R.Rack.seen in
+    let shown = view g.R.Rack.seen g.R.Bay.shelf in
     let taken = g.O.Sink.taken in
     record {
       until : l.sector ≤ l.size;
       runs : g.R.Rack.runs (bay_in l.fn.pool) (bay_in l.pool);
+      passes : Passes (shown l.fn.pool) (shown l.pool);
       ran : Ran (shown l.fn.pool) (shown l.pool) (reads_of l.sector);
       sink : g.O.Sink.faults l.fn.out ≤ g.O.Sink.faults l.out;
       told : g.O.Sink.told l.fn.out → g.O.Sink.told l.out;

@@ -1,5 +1,5 @@
 -- What was written, once the pool was ended.
-use Rattle.pool.specs.View.{view}
+use Rattle.pool.specs.View.{bay_in, view}
 use Rattle.shr_tool.proofs.Imported.{import_outcome}
 use Rattle.pool.proofs.Keeping.{passes_then}
 use Rattle.shr_tool.proofs.importing.import_pool.Goals as goal
@@ -13,7 +13,8 @@ returns-clause-runs g c = g.met.R.Rack.runs_then _ _ _ c.write_pieces-written.en
 pub returns-clause-outcome : goal.returns-clause-outcome
 returns-clause-outcome g c =
     λ source sink a.
-    import_outcome _ _ (view g.R.Rack.seen c.end.new.self) a _ _ _ _ c.write_pieces-written.result c.say_written.result
+    import_outcome _ _ (view g.R.Rack.seen g.R.Bay.shelf c.end.new.self) a _ _ _ _ c.write_pieces-written.result c.say_written.result
+    (g.met.R.Bay.unspent (bay_in c.end.new.self))
     (c.write_pieces-written.ensures.imports source)
     c.end.ensures.ended
     (c.say_written.ensures.says sink)

@@ -1,5 +1,6 @@
 -- Each piece is taken and written, up to the end of the input or of the volume.
 use Rattle.std.proofs.Common.{◌≡◌, ◌*◌, ◌<◌, Err, refl, sym, ◌∙◌, ap, subst, arith}
+use Rattle.pool.specs.View.{bay_in}
 use Rattle.shr_tool.proofs.Imported.{ended_before, ended_in, ended_with, failed_behind, failed_in, goes_on, has_taken, spent_at, written_more}
 use Rattle.pool.proofs.Keeping.{passes_then}
 use Rattle.shr_tool.proofs.importing.write_pieces.Goals as goal
@@ -36,7 +37,7 @@ returns-in-Err-Spent-clause-imports g c =
     let before = c.loop-sector.invariant in
     let has = before.written source in
     let took = has_taken _ _ _ _ _ _ _ c.in-Ok.is has.rest_is (c.take_sector.ensures.taken (before.told source)) in
-    spent_at _ _ _ _ _ _ _ _ _ _ (c.in-Err-Spent.is ∙ ap Err c.in-Err-Spent.field-0-is) has took
+    spent_at _ _ _ _ _ _ _ _ _ _ (c.in-Err-Spent.is ∙ ap Err c.in-Err-Spent.field-0-is) (g.met.R.Bay.unspent (bay_in c.write.new.self)) has took
     (subst (λ n. c.loop-sector.sector < n) c.size-size.ensures.size c.loop-sector-test.true)
     (let some = c.if-count-eq0.false in omega arith)
     c.write.ensures.written
@@ -53,7 +54,7 @@ returns-then-count-lt-SECTOR-clause-imports g c =
     let before = c.loop-sector.invariant in
     let has = before.written source in
     let took = has_taken _ _ _ _ _ _ _ c.in-Ok.is has.rest_is (c.take_sector.ensures.taken (before.told source)) in
-    ended_in _ _ _ _ _ _ _ _ _ _ _ c.in-Ok-write.is has took
+    ended_in _ _ _ _ _ _ _ _ _ _ _ c.in-Ok-write.is (g.met.R.Bay.unspent (bay_in c.write.new.self)) has took
     (subst (λ n. c.loop-sector.sector < n) c.size-size.ensures.size c.loop-sector-test.true)
     (let some = c.if-count-eq0.false in omega arith)
     c.if-count-lt-SECTOR.true
@@ -74,7 +75,7 @@ loop-sector-preserved g c =
           λ source.
           let has = before.written source in
           let took = has_taken _ _ _ _ _ _ _ c.in-Ok.is has.rest_is (c.take_sector.ensures.taken (before.told source)) in
-          written_more _ _ _ _ _ _ _ _ _ _ c.in-Ok-write.is has took c.if-count-lt-SECTOR.false c.write.ensures.written;
+          written_more _ _ _ _ _ _ _ _ _ _ c.in-Ok-write.is (g.met.R.Bay.unspent (bay_in c.write.new.self)) has took c.if-count-lt-SECTOR.false c.write.ensures.written;
     }
 
 pub returns-in-Ok-eq0-clause-imports : goal.returns-in-Ok-eq0-clause-imports

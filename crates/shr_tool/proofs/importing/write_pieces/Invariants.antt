@@ -7,7 +7,7 @@ use Rattle.shr_tool.proofs.importing.write_pieces.Given as goal
 
 abbrev pub invariant-loop-sector : goal.invariant-loop-sector
 invariant-loop-sector g l =
-    let shown = view g.R.Rack.seen in
+    let shown = view g.R.Rack.seen g.R.Bay.shelf in
     let left = g.I.Source.left in
     record {
       until : l.sector ≤ l.size;

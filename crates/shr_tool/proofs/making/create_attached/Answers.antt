@@ -26,7 +26,7 @@ returns-in-Ok-clause-outcome g c =
     (record {
       kept = makes.runs.1;
       arrays = arrays_in (arrays_of pool);
-      volume = (ground_in seen pool (λ r. r.now)).linear;
+      volume = (ground_in seen g.B.Bay.shelf pool (λ r. r.now)).linear;
       is_made = makes.made;
       says =
           subst (λ n. Says Done (created_line n) (taken c.args.out.now) (taken c.say_number.new.out) c.say_number.result)

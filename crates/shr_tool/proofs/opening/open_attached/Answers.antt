@@ -1,5 +1,5 @@
 -- The pool holds the bay's reference, and gives the bay back as it left it.
-use Rattle.std.proofs.Common.{◌≡◌, ◌∙◌, ap, sym, subst, refl, inl, inr}
+use Rattle.std.proofs.Common.{◌≡◌, ℕ, List, ◌∷◌, ◌∙◌, ap, sym, subst, refl, inl, inr}
 use Rattle.rack.specs.Joins.{stays_then}
 use Rattle.pool.specs.View.{bay_in, book, slices_shown, view}
 use Rattle.pool.proofs.Booked.{book_seated}
@@ -8,9 +8,13 @@ use Rattle.shr_tool.proofs.Through.{marks_through, pool_through, refused_through
 use Rattle.shr_tool.proofs.Told.{task_for}
 use Rattle.shr_tool.proofs.opening.open_attached.Goals as goal
 
+same_head : {a b : ℕ} {p q : List ℕ} → a ∷ p ≡ b ∷ q → a ≡ b
+same_head same = cc
+
 pub returns-in-Ok-clause-outcome : goal.returns-in-Ok-clause-outcome
 returns-in-Ok-clause-outcome g c =
     let seen = g.B.Rack.seen in
+    let shelf = g.B.Bay.shelf in
     let runs = g.B.Rack.runs in
     let left = g.I.Source.left in
     let taken = g.O.Sink.taken in
@@ -20,33 +24,38 @@ returns-in-Ok-clause-outcome g c =
     let does = c.do_on-status.ensures in
     let inner = c.into_inner-bay.ensures in
     let back : c.bay-1.given.0 ≡ (bay_in last).now =
-    c.bay-1.given.1 (sym (ap (λ b. b.ghost_name) inner ∙ does.runs.0 ∙ opens.runs.0)) ∙ ap (λ b. b.now) inner in
+    c.bay-1.given.1 (sym (ap (λ b. b.ghost_name) inner ∙ same_head does.lenders ∙ opens.runs.0)) ∙ ap (λ b. b.now) inner in
     λ source sink.
     inr
     (subst
-    (λ b. OpenedOn seen runs c.args.bay.now b c.args.task (left c.args.input.now) (left c.do_on-status.new.input) (taken c.args.out.now) (taken c.do_on-status.new.out) c.do_on-status.result)
+    (λ b. OpenedOn seen shelf runs c.args.bay.now b c.args.task (left c.args.input.now) (left c.do_on-status.new.input) (taken c.args.out.now) (taken c.do_on-status.new.out) c.do_on-status.result)
     (sym back)
     (record {
       opened = (bay_in pool).now;
-      kept = (opens.runs.1, does.runs.1);
+      kept = opens.runs.1;
+      names = does.continues.names;
       drives = pool_through seen _ runs (λ r. r.now) (λ r s ran. ran.1) _ (bay_in pool) opens.drives;
-      ground = ground_in seen pool (λ r. r.now);
-      from = moment_in seen pool (λ r. r.now);
+      ground = ground_in seen shelf pool (λ r. r.now);
+      from = moment_in seen shelf pool (λ r. r.now);
       clock = refl;
       faults = λ d. refl;
-      seated = book_seated (book (view (λ r. seen r.now) pool)) (slices_shown (view (λ r. seen r.now) pool)) opens.fit.0.running.set opens.fit.0.heeded;
+      disks = refl;
+      sectors = λ d. refl;
+      named = refl;
+      unattached = refl;
+      seated = book_seated (book (view (λ r. seen r.now) (λ r. shelf r.now) pool)) (slices_shown (view (λ r. seen r.now) (λ r. shelf r.now) pool)) opens.fit.0.running.set opens.fit.0.heeded;
       caused = marks_through seen _ runs (λ r. r.now) (λ r s ran. ran.1) _ (bay_in pool) _ opens.caused;
-      meant = opened_as pool (λ r. seen r.now) _ opens.meant opens.marks;
+      meant = opened_as pool (λ r. seen r.now) (λ r. shelf r.now) _ opens.meant opens.marks;
       tables = opens.mended;
       agreed = opens.agreed;
-      moments = λ a meant calm traced. stops_mean pool (λ r. seen r.now) _ a opens.meant meant calm traced;
-      apart = does.passes.apart;
-      run_on = λ f sound quiet joined alone.
-          runs_on _ _ _ _ _ f sound (opened_as pool (λ r. seen r.now) _ opens.meant opens.marks f sound quiet)
-          (stays_then opens.drives.early.only.stays opens.drives.late.stays) does.passes.apart joined alone;
+      moments = λ a meant calm traced. stops_mean pool (λ r. seen r.now) (λ r. shelf r.now) _ a opens.meant meant calm traced;
+      run_on = λ f sound quiet joined alone only.
+          runs_on _ _ _ _ _ f sound (opened_as pool (λ r. seen r.now) (λ r. shelf r.now) _ opens.meant opens.marks f sound quiet)
+          (stays_then opens.drives.early.only.stays opens.drives.late.stays) only joined alone;
       outcome = λ a.
-          task_for c.args.task c.do_on-status.result _ _ _ _ _ _ _ a _ _ _ _
-          (λ meant. held_by_meant pool (λ r. seen r.now) _ a opens.meant meant)
+          task_for c.args.task c.do_on-status.result _ _ _ _ _ _ _ _ a _ _ _ _
+          (λ meant. held_by_meant pool (λ r. seen r.now) (λ r. shelf r.now) _ a opens.meant
+          (stays_then opens.drives.early.only.stays opens.drives.late.stays) ((g.met.B.Bay.runs_shelf _ _ opens.runs.1).told meant.1) meant.0)
           (λ traced. traced_through _ _ _ _ opens.drives traced)
           (does.outcome source sink a);
     }))
@@ -54,6 +63,7 @@ returns-in-Ok-clause-outcome g c =
 pub returns-in-Err-clause-outcome : goal.returns-in-Err-clause-outcome
 returns-in-Err-clause-outcome g c =
     let seen = g.B.Rack.seen in
+    let shelf = g.B.Bay.shelf in
     let runs = g.B.Rack.runs in
     let taken = g.O.Sink.taken in
     let back = c.in-Err.back in

@@ -8,7 +8,7 @@ use Rattle.shr_tool.proofs.perform.fill_sectors.Goals as goal
 
 pub overflow_add-at-end : goal.overflow_add-at-end
 overflow_add-at-end g c =
-    let small = size_small g.R.Rack.seen c.args.pool.now c.requires.fit in
+    let small = size_small g.R.Rack.seen g.R.Bay.shelf c.args.pool.now c.requires.fit in
     let inside = c.requires.inside in
     omega arith
 
@@ -19,8 +19,8 @@ loop-at-init g c =
       from = omega arith;
       until = omega arith;
       runs = g.met.R.Rack.runs_same (bay_in pool);
-      filled = filled_start (view g.R.Rack.seen pool) c.args.sector c.args.bytes.now c.requires.fit
-          (sound_in g.R.Rack.seen g.met.R.Rack.sound pool c.requires.fit);
+      filled = filled_start (view g.R.Rack.seen g.R.Bay.shelf pool) c.args.sector c.args.bytes.now c.requires.fit
+          (sound_in g.R.Rack.seen g.R.Bay.shelf g.met.R.Rack.sound pool c.requires.fit);
     }
 
 pub loop-at-preserved : goal.loop-at-preserved

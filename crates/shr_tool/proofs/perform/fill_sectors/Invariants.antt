@@ -6,7 +6,7 @@ use Rattle.shr_tool.proofs.perform.fill_sectors.Given as goal
 
 abbrev pub invariant-loop-at : goal.invariant-loop-at
 invariant-loop-at g l =
-    let shown = view g.R.Rack.seen in
+    let shown = view g.R.Rack.seen g.R.Bay.shelf in
     record {
       from : l.sector ≤ l.at;
       until : l.at ≤ l.sector + l.count;

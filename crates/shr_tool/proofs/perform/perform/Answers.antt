@@ -3,10 +3,10 @@ use Rattle.std.proofs.Common.{rules, ◌++◌, codes, refl, sym, ◌∙◌, ap, 
 use Rattle.std.specs.Prelude.{decimal}
 use Rattle.shr_script.specs.declared.Command.TheVariants.{Size, Quit, Unbuilt}
 use Rattle.shr_script.specs.Reply.{as_line}
-use Rattle.shr_tool.specs.Events.Event.{answered, declined, shown}
+use Rattle.shr_tool.specs.Events.Event.{answered, shown}
 use Rattle.pool.proofs.Serving.{sound_in}
 use Rattle.shr_tool.proofs.Performing.{still_done}
-use Rattle.shr_tool.proofs.Shown.{decline_done, show_done}
+use Rattle.shr_tool.proofs.Shown.{show_done}
 use Rattle.shr_tool.proofs.perform.perform.Goals as goal
 
 pub returns-in-Size-clause-answers : goal.returns-in-Size-clause-answers
@@ -17,7 +17,7 @@ returns-in-Size-clause-answers g c =
       line_is = refl;
       answer_is = refl;
       performs =
-          still_done _ (Ok Size) _ c.requires (sound_in g.R.Rack.seen g.met.R.Rack.sound c.args.pool.now c.requires)
+          still_done _ (Ok Size) _ c.requires (sound_in g.R.Rack.seen g.R.Bay.shelf g.met.R.Rack.sound c.args.pool.now c.requires)
           (λ s touches. touches) (λ s touches. touches) (λ place loses. cc) tt (λ a holds. refl)
           (λ a holds. c.size_reply.ensures ∙ ap (λ n. as_line (codes "size " ++ decimal n)) (c.size.ensures.size ∙ sym holds.size));
     })
@@ -29,18 +29,7 @@ returns-in-Status-clause-answers g c =
       event = shown _;
       line_is = refl;
       answer_is = refl;
-      performs = show_done _ _ c.requires (sound_in g.R.Rack.seen g.met.R.Rack.sound c.args.pool.now c.requires) c.show.ensures;
-    })
-
-pub returns-in-Replace-clause-answers : goal.returns-in-Replace-clause-answers
-returns-in-Replace-clause-answers g c =
-    rw c.in-Replace.is
-    (record {
-      event = declined _ _ _;
-      line_is = refl;
-      answer_is = refl;
-      performs =
-          decline_done _ _ _ _ c.requires (sound_in g.R.Rack.seen g.met.R.Rack.sound c.args.pool.now c.requires) c.decline.ensures;
+      performs = show_done _ _ c.requires (sound_in g.R.Rack.seen g.R.Bay.shelf g.met.R.Rack.sound c.args.pool.now c.requires) c.show.ensures;
     })
 
 pub returns-in-Quit-clause-answers : goal.returns-in-Quit-clause-answers
@@ -51,7 +40,7 @@ returns-in-Quit-clause-answers g c =
       line_is = refl;
       answer_is = refl;
       performs =
-          still_done _ (Ok Quit) _ c.requires (sound_in g.R.Rack.seen g.met.R.Rack.sound c.args.pool.now c.requires)
+          still_done _ (Ok Quit) _ c.requires (sound_in g.R.Rack.seen g.R.Bay.shelf g.met.R.Rack.sound c.args.pool.now c.requires)
           (λ s touches. touches) (λ s touches. touches) (λ place loses. cc) tt (λ a holds. refl)
           (λ a holds. search rules);
     })
@@ -64,7 +53,7 @@ returns-in-Unbuilt-clause-answers g c =
       line_is = refl;
       answer_is = refl;
       performs =
-          still_done _ (Ok Unbuilt) _ c.requires (sound_in g.R.Rack.seen g.met.R.Rack.sound c.args.pool.now c.requires)
+          still_done _ (Ok Unbuilt) _ c.requires (sound_in g.R.Rack.seen g.R.Bay.shelf g.met.R.Rack.sound c.args.pool.now c.requires)
           (λ s touches. touches) (λ s touches. touches) (λ place loses. cc) tt (λ a holds. refl)
           (λ a holds. c.refused_reply.ensures);
     })

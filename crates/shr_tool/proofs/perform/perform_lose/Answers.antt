@@ -18,7 +18,7 @@ returns-in-Ok-clause-answers g c =
 pub returns-in-Err-NoSuchDrive-clause-answers : goal.returns-in-Err-NoSuchDrive-clause-answers
 returns-in-Err-NoSuchDrive-clause-answers g c =
     let refused = c.in-Err-NoSuchDrive.is ∙ ap Err c.in-Err-NoSuchDrive.field-0-is in
-    let same = ap (λ pool. book (view g.R.Rack.seen pool)) (kept_by _ _ refused c.lose.ensures.kept) in
+    let same = ap (λ pool. book (view g.R.Rack.seen g.R.Bay.shelf pool)) (kept_by _ _ refused c.lose.ensures.kept) in
     record {
       event = answered (Ok (Lose c.args.place));
       line_is = refl;
@@ -29,7 +29,7 @@ returns-in-Err-NoSuchDrive-clause-answers g c =
 pub returns-in-Err-LastDrive-clause-answers : goal.returns-in-Err-LastDrive-clause-answers
 returns-in-Err-LastDrive-clause-answers g c =
     let refused = c.in-Err-LastDrive.is ∙ ap Err c.in-Err-LastDrive.field-0-is in
-    let same = ap (λ pool. book (view g.R.Rack.seen pool)) (kept_by _ _ refused c.lose.ensures.kept) in
+    let same = ap (λ pool. book (view g.R.Rack.seen g.R.Bay.shelf pool)) (kept_by _ _ refused c.lose.ensures.kept) in
     record {
       event = last c.args.place;
       line_is = refl;

@@ -2,7 +2,6 @@
 use Rattle.std.proofs.Common.{refl, sym, ◌∙◌, ap, Err, Ok}
 use Rattle.shr_script.specs.declared.Command.TheVariants.{Read}
 use Rattle.shr_tool.specs.Events.Event.{answered, spent}
-use Rattle.shr_tool.specs.Serving.{refuses}
 use Rattle.shr_tool.proofs.Performing.{read_done, read_outside, read_spent}
 use Rattle.shr_tool.proofs.perform.perform_read.Goals as goal
 
@@ -30,7 +29,7 @@ returns-in-Err-Spent-clause-answers g c =
     record {
       event = spent (Ok (Read c.args.sector)) c.args.sector;
       line_is = refl;
-      answer_is = sym (ap refuses c.spent_reply.ensures.answer);
+      answer_is = sym c.spent_reply.ensures.answer;
       performs =
           read_spent _ _ _ _ _ _ (c.in-Err-Spent.is ∙ ap Err c.in-Err-Spent.field-0-is) c.spent_reply.ensures.text c.read.ensures.read;
     }

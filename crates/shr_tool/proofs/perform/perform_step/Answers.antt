@@ -1,7 +1,6 @@
 -- Works of maintenance are an event.
 use Rattle.std.proofs.Common.{refl, sym, ap}
 use Rattle.shr_tool.specs.Events.Event.{stepped, stuck}
-use Rattle.shr_tool.specs.Serving.{refuses}
 use Rattle.shr_tool.proofs.Stepped.{step_done, step_stuck}
 use Rattle.shr_tool.proofs.perform.perform_step.Goals as goal
 
@@ -19,6 +18,6 @@ returns-in-Err-clause-answers g c =
     record {
       event = stuck c.args.count c.in-Err.stuck.array;
       line_is = refl;
-      answer_is = sym (ap refuses c.stuck_reply.ensures.answer);
+      answer_is = sym c.stuck_reply.ensures.answer;
       performs = step_stuck _ _ _ _ _ _ c.in-Err.is c.stuck_reply.ensures.text c.step.ensures.steps;
     }

@@ -1,10 +1,10 @@
 -- Each line adds its event to those answered.
-use Rattle.std.proofs.Common.{◌≡◌, ◌||◌, ◌++◌, ◌^◌, refl, ◌∙◌, ap, arith}
+use Rattle.std.proofs.Common.{◌≡◌, ◌++◌, ◌^◌, refl, ◌∙◌, ap, arith}
 use Rattle.shr_script.specs.Line.{line_of}
 use Rattle.shr_script.specs.Script.{without_return}
 use Rattle.shr_script.specs.LongLines.{line_of-kept}
 use Rattle.pool.specs.View.{bay_in, view}
-use Rattle.pool.proofs.Keeping.{passes_same, passes_then}
+use Rattle.pool.proofs.Continuing.{continues_same, continues_then}
 use Rattle.shr_tool.proofs.History.{history_none}
 use Rattle.shr_tool.proofs.Limits.{passed_none, passed_line, part_within, line_within, most_over}
 use Rattle.shr_tool.proofs.Stopping.{line_answered, line_stopped, last_answered, line_script, last_script, last_length, limit_stopped, no_limit, serves_as, source_stopped}
@@ -14,8 +14,8 @@ pub lines-init : goal.lines-init
 lines-init g c =
     let left = g.I.Source.left c.args.input.now in
     record {
-      runs = g.met.R.Rack.runs_same (bay_in c.args.pool.now);
-      passes = passes_same _ c.requires;
+      lenders = refl;
+      continues = continues_same _ c.requires;
       source = omega arith;
       sink = omega arith;
       source_told = λ told. told;
@@ -26,13 +26,13 @@ lines-init g c =
           passed_none _ _ _ (ap (λ xs. xs ++ left) c.new-reader.ensures.pending) c.new-reader.ensures.consumed;
       history =
           λ source sink.
-          history_none _ _ _ _ _ c.requires (ap (λ xs. xs ++ left) c.new-reader.ensures.pending) c.new-reader.ensures.consumed;
+          history_none _ _ _ _ _ c.requires (g.met.R.Bay.unspent (bay_in c.args.pool.now)) (ap (λ xs. xs ++ left) c.new-reader.ensures.pending) c.new-reader.ensures.consumed;
     }
 
 pub returns-in-Fault-clause-serves : goal.returns-in-Fault-clause-serves
 returns-in-Fault-clause-serves g c =
     λ source sink.
-    serves_as _ _ _ _ _ _ _ _ _ _ c.stop_at.ensures.cause c.stop_at.ensures.refused
+    serves_as _ _ _ _ _ _ _ _ _ _ c.stop_at.ensures.cause c.stop_at.ensures.worst
     (source_stopped _ _ _ _ _ _ _ _ _ _ _ _
     (c.lines.invariant.history source sink)
     (c.in-Fault.ensures.read (c.lines.invariant.source_told source))
@@ -41,7 +41,7 @@ returns-in-Fault-clause-serves g c =
 pub returns-in-Limit-clause-serves : goal.returns-in-Limit-clause-serves
 returns-in-Limit-clause-serves g c =
     λ source sink.
-    serves_as _ _ _ _ _ _ _ _ _ _ c.stop_at-in-Limit.ensures.cause c.stop_at-in-Limit.ensures.refused
+    serves_as _ _ _ _ _ _ _ _ _ _ c.stop_at-in-Limit.ensures.cause c.stop_at-in-Limit.ensures.worst
     (limit_stopped _ _ _ _ _ _ _ _ _ _ _
     (c.lines.invariant.history source sink)
     (c.in-Limit.ensures.read (c.lines.invariant.source_told source)))
@@ -53,9 +53,9 @@ returns-in-Input-clause-serves g c =
     let r = c.in-Input.ensures.read (c.lines.invariant.source_told source) in
     let is : line_of (without_return c.line.result.now) ≡ line_of (without_return r.part.bytes) =
     ap (λ xs. line_of (without_return xs)) (c.line.ensures ∙ r.part.kept) ∙ line_of-kept r.part.bytes in
-    last_answered (view g.R.Rack.seen) _ _ _ _ _ _ _ _ _ _ h.events _ _ h.answered
+    last_answered (view g.R.Rack.seen g.R.Bay.shelf) (λ r d s. g.met.R.Bay.unspent (bay_in r) d s) _ _ _ _ _ _ _ _ _ _ h.events _ _ h.answered
     (last_script _ _ _ _ _ _ _ _ _ _ _ h r _ is)
-    h.spent
+    h.worst_is
     (last_length _ _ _ _ _ _ _ _ _ _ _ h r (let within = c.next.ensures.within (λ same. cc) in omega arith))
     (c.answer_last.ensures.answers (c.lines.invariant.sink_told sink))
 
@@ -63,8 +63,8 @@ pub lines-preserved : goal.lines-preserved
 lines-preserved g c =
     let before = c.lines.invariant in
     record {
-      runs = g.met.R.Rack.runs_then _ _ _ before.runs c.answer_line.ensures.runs;
-      passes = passes_then _ _ _ before.passes c.answer_line.ensures.passes;
+      lenders = c.answer_line.ensures.lenders ∙ before.lenders;
+      continues = continues_then _ _ _ before.continues c.answer_line.ensures.continues;
       source = let old = before.source in let now = c.next.ensures.faults in omega arith;
       sink = let old = before.sink in let now = c.answer_line.ensures.sink in omega arith;
       source_told = λ told. c.next.ensures.told (before.source_told told);
@@ -84,8 +84,8 @@ lines-preserved g c =
           let is : line_of (without_return c.line-in-lines.result.now) ≡ line_of (without_return r.part.bytes) =
           ap (λ xs. line_of (without_return xs)) (c.line-in-lines.ensures ∙ r.part.kept)
           ∙ line_of-kept r.part.bytes in
-          line_answered (view g.R.Rack.seen) _ _ _ _ _ _ _ _ _ _ _ _ _ _ _ _ h r is
-          (ap (λ b. c.lines.refused || b) c.is_spent-refused.ensures)
+          line_answered (view g.R.Rack.seen g.R.Bay.shelf) (λ r d s. g.met.R.Bay.unspent (bay_in r) d s) _ _ _ _ _ _ _ _ _ _ _ _ _ _ _ _ h r is
+          c.worse-worst.ensures
           (c.in-Ok.ensures.answers (before.sink_told sink));
     }
 
@@ -97,17 +97,17 @@ returns-in-Err-clause-serves g c =
     let is : line_of (without_return c.line-in-lines.result.now) ≡ line_of (without_return r.part.bytes) =
     ap (λ xs. line_of (without_return xs)) (c.line-in-lines.ensures ∙ r.part.kept)
     ∙ line_of-kept r.part.bytes in
-    serves_as _ _ _ _ _ _ _ _ _ _ c.stop_at-in-Err.ensures.cause c.stop_at-in-Err.ensures.refused
-    (line_stopped (view g.R.Rack.seen) _ _ _ _ _ _ _ _ _ h.events _ _ c.in-Err.cause h.answered
+    serves_as _ _ _ _ _ _ _ _ _ _ c.stop_at-in-Err.ensures.cause c.stop_at-in-Err.ensures.worst
+    (line_stopped (view g.R.Rack.seen g.R.Bay.shelf) (λ r d s. g.met.R.Bay.unspent (bay_in r) d s) _ _ _ _ _ _ _ _ _ h.events _ _ c.in-Err.cause h.answered
     (line_script _ _ _ _ _ _ _ _ _ _ _ h r _ is)
-    h.spent
+    h.worst_is
     (c.in-Err.ensures.answers (c.lines.invariant.sink_told sink)))
 
-pub returns-in-Input-clause-passes : goal.returns-in-Input-clause-passes
-returns-in-Input-clause-passes g c = passes_then _ _ _ c.lines.invariant.passes c.answer_last.ensures.passes
+pub returns-in-Input-clause-continues : goal.returns-in-Input-clause-continues
+returns-in-Input-clause-continues g c = continues_then _ _ _ c.lines.invariant.continues c.answer_last.ensures.continues
 
-pub returns-in-Err-clause-passes : goal.returns-in-Err-clause-passes
-returns-in-Err-clause-passes g c = passes_then _ _ _ c.lines.invariant.passes c.answer_line.ensures.passes
+pub returns-in-Err-clause-continues : goal.returns-in-Err-clause-continues
+returns-in-Err-clause-continues g c = continues_then _ _ _ c.lines.invariant.continues c.answer_line.ensures.continues
 
 pub returns-in-Fault-clause-limit : goal.returns-in-Fault-clause-limit
 returns-in-Fault-clause-limit g c =

@@ -1,7 +1,7 @@
 -- The lines so far are answered; at most the rest of a script's limit is left.
-use Rattle.std.proofs.Common.{◌-◌, ◌^◌, ◌≤◌, ◌++◌}
+use Rattle.std.proofs.Common.{◌≡◌, ◌-◌, ◌^◌, ◌≤◌, ◌++◌}
 use Rattle.pool.specs.View.{bay_in, view}
-use Rattle.pool.specs.Calls.{Passes}
+use Rattle.pool.specs.Continuing.{Continues}
 use Rattle.shr_script.specs.Pieces.{pending, taken_by}
 use Rattle.shr_tool.proofs.History.{History}
 use Rattle.shr_tool.proofs.Limits.{Passed}
@@ -9,12 +9,12 @@ use Rattle.shr_tool.proofs.serve.answer_script.Given as goal
 
 abbrev pub invariant-lines : goal.invariant-lines
 invariant-lines g l =
-    let shown = view g.R.Rack.seen in
+    let shown = view g.R.Rack.seen g.R.Bay.shelf in
     let left = g.I.Source.left in
     let taken = g.O.Sink.taken in
     record {
-      runs : g.R.Rack.runs (bay_in l.fn.pool) (bay_in l.pool);
-      passes : Passes (shown l.fn.pool) (shown l.pool);
+      lenders : g.R.Rack.lenders (bay_in l.pool) ≡ g.R.Rack.lenders (bay_in l.fn.pool);
+      continues : Continues (shown l.fn.pool) (shown l.pool);
       source : g.I.Source.faults l.fn.input ≤ g.I.Source.faults l.input;
       sink : g.O.Sink.faults l.fn.out ≤ g.O.Sink.faults l.out;
       source_told : g.I.Source.told l.fn.input → g.I.Source.told l.input;
@@ -26,7 +26,7 @@ invariant-lines g l =
       history :
           g.I.Source.told l.fn.input
           → g.O.Sink.told l.fn.out
-          → History (shown l.fn.pool) (shown l.pool) (left l.fn.input) (pending l.reader ++ left l.input) l.reader.consumed (taken l.fn.out) (taken l.out) l.refused;
+          → History (shown l.fn.pool) (shown l.pool) (left l.fn.input) (pending l.reader ++ left l.input) l.reader.consumed (taken l.fn.out) (taken l.out) l.worst;
     }
 
 abbrev pub decreases-lines : goal.decreases-lines

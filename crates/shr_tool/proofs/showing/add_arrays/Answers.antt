@@ -15,7 +15,7 @@ use Rattle.shr_tool.proofs.showing.add_arrays.Goals.{in-Some, in-None}
 pub loop-number-preserved : goal.loop-number-preserved
 loop-number-preserved g c =
     let p = c.args.pool.now in
-    let b = book (view g.R.Rack.seen p) in
+    let b = book (view g.R.Rack.seen g.R.Bay.shelf p) in
     let n = c.loop-number.number in
     let old = c.args.text.now.items in
     let line : ℕ → List ℕ = λ k. array_line k (b.arrays k) in

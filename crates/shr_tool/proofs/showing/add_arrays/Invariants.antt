@@ -9,6 +9,6 @@ use Rattle.shr_tool.proofs.showing.add_arrays.Given as goal
 
 abbrev pub invariant-loop-number : goal.invariant-loop-number
 invariant-loop-number g l = record {
-  items : l.text.items ≡ l.fn.text.items ++ flat_map (λ n. array_line n ((book (view g.R.Rack.seen l.pool)).arrays n)) (range_with_len 0 l.number);
+  items : l.text.items ≡ l.fn.text.items ++ flat_map (λ n. array_line n ((book (view g.R.Rack.seen g.R.Bay.shelf l.pool)).arrays n)) (range_with_len 0 l.number);
   len : array_vec_len l.text ≤ array_vec_len l.fn.text + 150 * l.number;
 }

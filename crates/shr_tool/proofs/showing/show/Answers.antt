@@ -11,7 +11,7 @@ use Rattle.shr_tool.proofs.showing.show.Goals as goal
 
 pub returns : goal.returns
 returns g c =
-    let x = view g.R.Rack.seen c.args.pool.now in
+    let x = view g.R.Rack.seen g.R.Bay.shelf c.args.pool.now in
     let b = book x in
     let same = c.state-state.ensures in
     text_whole (pool_line b.state) (drive_lines 0 b.state.drives.items) (array_lines b) (plan_words b.state.plan)

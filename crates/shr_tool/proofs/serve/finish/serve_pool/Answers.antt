@@ -1,16 +1,16 @@
 -- How a script came out, by why it stopped.
-use Rattle.std.proofs.Common.{◌^◌}
-use Rattle.pool.specs.View.{view}
+use Rattle.pool.specs.View.{bay_in, view}
 use Rattle.shr_tool.proofs.Finishing.{limit_status, outcome_by, status_cause, status_limit}
-use Rattle.pool.proofs.Keeping.{passes_then}
+use Rattle.std.proofs.Common.{◌∙◌, ◌^◌}
+use Rattle.pool.proofs.Continuing.{continues_of, continues_then}
 use Rattle.shr_tool.proofs.Limits.{keeps_limit}
 use Rattle.shr_tool.proofs.serve.finish.serve_pool.Goals as goal
 
-pub returns-clause-passes : goal.returns-clause-passes
-returns-clause-passes g c = passes_then _ _ _ c.answer_script-stopped.ensures.passes c.end.ensures.ended.passes
+pub returns-clause-continues : goal.returns-clause-continues
+returns-clause-continues g c = continues_then _ _ _ c.answer_script-stopped.ensures.continues (continues_of _ _ c.end.ensures.ended.passes)
 
-pub returns-clause-runs : goal.returns-clause-runs
-returns-clause-runs g c = g.met.R.Rack.runs_then _ _ _ c.answer_script-stopped.ensures.runs c.end.ensures.runs
+pub returns-clause-lenders : goal.returns-clause-lenders
+returns-clause-lenders g c = g.met.R.Rack.runs_lenders _ _ c.end.ensures.runs ∙ c.answer_script-stopped.ensures.lenders
 
 pub returns-clause-cause : goal.returns-clause-cause
 returns-clause-cause g c = status_cause _ _ _ _ _ _ _ c.status_of.ensures c.answer_script-stopped.ensures.cause
@@ -26,6 +26,7 @@ returns-clause-limit g c =
 pub returns-clause-outcome : goal.returns-clause-outcome
 returns-clause-outcome g c =
     λ source sink a.
-    outcome_by _ _ _ _ _ (view g.R.Rack.seen c.end.new.self) a _ _ _ _ c.status_of.ensures
+    outcome_by _ _ _ _ _ (view g.R.Rack.seen g.R.Bay.shelf c.end.new.self) a _ _ _ _ c.status_of.ensures
     (c.answer_script-stopped.ensures.serves source sink)
+    (g.met.R.Bay.unspent (bay_in c.end.new.self))
     c.end.ensures.ended

@@ -1,6 +1,6 @@
 -- The script is one line, without a line feed.
 use Rattle.std.proofs.Common.{[], codes, refl, lit≤}
-use Rattle.pool.specs.View.{view}
+use Rattle.pool.specs.View.{bay_in, view}
 use Rattle.shr_tool.proofs.History.{answered_none}
 use Rattle.shr_tool.proofs.Stopping.{last_answered}
 use Rattle.shr_tool.proofs.serve.once.answer_status.Goals as goal
@@ -8,8 +8,8 @@ use Rattle.shr_tool.proofs.serve.once.answer_status.Goals as goal
 pub returns-clause-serves : goal.returns-clause-serves
 returns-clause-serves g c =
     λ sink.
-    let shown = view g.R.Rack.seen in
+    let shown = view g.R.Rack.seen g.R.Bay.shelf in
     let p = c.args.pool.now in
     let out = g.O.Sink.taken c.args.out.now in
-    last_answered shown p c.answer_last.new.pool (shown p) (codes "status") [] out out (g.O.Sink.taken c.answer_last.new.out) _ _ [] _ _
-    (answered_none (shown p) out c.requires) refl refl (lit≤ tt) (c.answer_last.ensures.answers sink)
+    last_answered shown (λ r d s. g.met.R.Bay.unspent (bay_in r) d s) p c.answer_last.new.pool (shown p) (codes "status") [] out out (g.O.Sink.taken c.answer_last.new.out) _ _ [] _ _
+    (answered_none (shown p) out c.requires (g.met.R.Bay.unspent (bay_in p))) refl refl (lit≤ tt) (c.answer_last.ensures.answers sink)
