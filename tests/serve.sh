@@ -42,7 +42,8 @@ serve 'the last sector and the one past it' 0 'read 127\nread 128\nwrite 128 61\
   'data -\nrefused range\nrefused range\nrefused range\n'
 serve 'wrong lines' 0 'read\nread 0 \nread  0\nread -1\nread x\nread 18446744073709551616\nREAD 0\nquit now\nflush 1\nnone\n read 0\nwrite 0\nwrite 0 6\nwrite 0 6g\n' \
   "$(times 14 x | sed 's/x/refused syntax\\n/g')"
-serve 'lines that are not built yet' 0 'add x\nreplace 0 x\nreplace 2 x\n' 'refused unbuilt\nrefused unbuilt\nrefused no-such-drive\n'
+serve 'lines that are not built yet' 0 'add x\n' 'refused unbuilt\n'
+serve 'drives that are not replaced' 0 'replace 2 x\nreplace 0 x\n' 'refused no-such-drive\nrefused attach\n'
 serve 'wrong lines of drives that are replaced' 0 'replace\nreplace 0\nreplace 0 \nreplace x 0\nreplace 0 x y\nreplace 0 a\tb\n' \
   "$(times 6 x | sed 's/x/refused syntax\\n/g')"
 serve 'wrong lines of how the pool stands' 0 'status 0\nstatus \nstatuses\n' \

@@ -1,0 +1,84 @@
+#!/usr/bin/env bash
+# The MB a second of the rebuilding of a member of a RAID-5 over three images, by `replace` and `step`, beside a C program that makes the same
+# calls on files like them: for each row of 64 KiB the reads of the other two members, the record of 227 sectors on the three logs, a sync, the
+# gates, a sync, the row with three superblocks, a sync, and the gates with a sync. No call reads or writes more than a sector.
+set -euo pipefail
+
+top=$(cd "$(dirname "$(readlink -f "${BASH_SOURCE[0]}")")/.." && pwd)
+mebibytes=${1:-64}
+folder=$(mktemp -d)
+trap 'rm -rf "$folder"' EXIT
+cd "$folder"
+
+# Of each image 77824 sectors are no extents.
+size=$((77824 * 512 + mebibytes * 1048576))
+truncate -s "$size" first second third
+"$top/roskubel" create 128 first second third </dev/null >made
+head -c $((512 * $(cut -d ' ' -f 2 made))) /dev/urandom | "$top/roskubel" import first second third >/dev/null
+rm second
+truncate -s "$size" new
+rows=$(printf 'replace 1 new\nstep 0\n' | "$top/roskubel" serve first third | sed -n 's/^left //p')
+rows=$((rows - 1))
+
+cat >same.c <<'C'
+#include <fcntl.h>
+#include <stdio.h>
+#include <stdlib.h>
+#include <unistd.h>
+
+#define EXPECT(call) do { if (!(call)) { perror(#call); exit(1); } } while (0)
+
+static int disks[3];
+
+static void put(int disk, off_t sector, const unsigned char *bytes) {
+  EXPECT(pwrite(disks[disk], bytes, 512, sector * 512) == 512);
+}
+
+static void sync_all(void) {
+  for (int disk = 0; disk < 3; disk++) EXPECT(fdatasync(disks[disk]) == 0);
+}
+
+static void put_all(off_t sector, const unsigned char *bytes) {
+  for (int disk = 0; disk < 3; disk++) put(disk, sector, bytes);
+}
+
+int main(int count, char **words) {
+  static unsigned char row[128][512], other[512], zeros[512];
+  long rows = atol(words[1]);
+  for (int disk = 0; disk < 3; disk++) EXPECT((disks[disk] = open(words[2 + disk], O_RDWR)) >= 0);
+  for (long at = 0; at < rows; at++) {
+    for (int chunk = 0; chunk < 128; chunk++) {
+      off_t sector = 12288 + at * 128 + chunk;
+      EXPECT(pread(disks[0], row[chunk], 512, sector * 512) == 512);
+      EXPECT(pread(disks[1], other, 512, sector * 512) == 512);
+      for (int byte = 0; byte < 512; byte++) row[chunk][byte] ^= other[byte];
+    }
+    for (int sector = 0; sector < 227; sector++) put_all(2050 + sector, row[sector % 128]);
+    sync_all();
+    put_all(2049, zeros);
+    sync_all();
+    put_all(10248, zeros);
+    for (int chunk = 0; chunk < 128; chunk++) put(2, 12288 + at * 128 + chunk, row[chunk]);
+    sync_all();
+    put_all(2049, zeros);
+    sync_all();
+  }
+}
+C
+gcc -O2 -o same same.c
+truncate -s "$size" one two three
+sync
+
+seconds() {
+  local from=$EPOCHREALTIME
+  "$@" >/dev/null
+  awk -v from="$from" -v to="$EPOCHREALTIME" 'BEGIN { print to - from }'
+}
+
+ours() { printf 'step 1000000\n' | "$top/roskubel" serve first new third; }
+mine=$(seconds ours)
+theirs=$(seconds ./same "$rows" one two three)
+awk -v rows="$rows" -v ours="$mine" -v theirs="$theirs" 'BEGIN {
+  size = rows * 65536 / 1e6
+  printf "%d rows: rebuilt %.1f MB/s, C %.1f MB/s, ratio %.2f\n", rows, size / ours, size / theirs, theirs / ours
+}'
