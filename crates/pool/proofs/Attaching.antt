@@ -215,6 +215,9 @@ module _ (x : View) (b : Seen) (s : Shelf) (name : List ℕ) (raw : Result ℕ A
       faults = same_faults;
       ok = ok;
       one = one_still;
+      there = λ d named. let low = slice_get_within s.names d name named in let count = now.numbered in omega (arith, low, count);
+      came = λ d past low. let equal = same.disks in absurd (omega (arith, past, low, equal));
+      old = λ d low named. ap (λ names. slice_get names d) (sym same.names) ∙ named;
       err = err;
       attach = λ is. attaches.failed (failed is);
       used = λ d named.
@@ -246,6 +249,13 @@ module _ (x : View) (b : Seen) (s : Shelf) (name : List ℕ) (raw : Result ℕ A
       λ of. let old = inside.seats of.0 number of.1 in let at = adds.number in omega (arith, old, at),
     );
     one = λ d e first second. last d first ∙ sym (last e second);
+    there = λ d named. let low = slice_get_within s.names d name named in let count = now.numbered in omega (arith, low, count);
+    came = λ d past low.
+        let more = adds.disks in
+        let at = adds.number in
+        let same : number ≡ d = omega (arith, past, low, more, at) in
+        subst (λ e. slice_get s.names e ≡ Some name) same own;
+    old = λ d low named. let at = last d named in let new = adds.number in absurd (omega (arith, low, at, new));
     err = tt;
     attach = λ same. absurd (never_fault Attach number same);
     used = λ d named. absurd (none d named);

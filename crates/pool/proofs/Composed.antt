@@ -165,7 +165,7 @@ replaced_unlisted x place name fit sound past = record {
     held = λ d s out. keeps_same (x.bay.held d s);
     stops = λ told traced k i since until stopped. absurd (omega (arith, since, until));
   };
-  retired = λ d seat unnamed. still_disk x.shelf.told x.bay x.bay d (λ k. refl) refl;
+  changes = λ low. absurd (omega (arith, low, past));
   cause = record {
     missing = (λ same. past, λ same. refl);
     attach = λ same. absurd (let e : NoSuchDrive ≡ Attach = same_fault NoSuchDrive Attach same in cc e);
@@ -200,6 +200,9 @@ nothing_done x place disk e fit is = record {
   };
   retired = λ d seat other. still_disk x.shelf.told x.bay x.bay d (λ k. refl) refl;
   names = refl;
+  bare = λ d seat other. inl refl;
+  disks = refl;
+  admitted = inl refl;
   answer = subst (λ o. IsAnswer o (Err e)) (sym is) refl;
   gone = λ same. absurd ((refusal_late x.linear (book x) place (x.bay.sectors disk) e is).1 (same_fault e Gone same));
   not_whole = λ same. inl (is ∙ ap Some (same_fault e NotWhole same));
@@ -223,7 +226,16 @@ module _ (x : View) (b : Seen) (s : Shelf) (place : ℕ) (name : List ℕ) (list
     raises = raises_still 1 x;
     keeps = book_same (book x);
     outside = outside_fewer x.slices x.slices NoDisk (IsNamed (moment_of m) name) x.shelf.told x.bay b (λ d none. absurd none) at.outside;
-    retired = λ d seat unnamed. still_disk x.shelf.told x.bay b d (at.held d (fit.0.running.set.fit.1.seats place d seat)) at.clock;
+    changes = λ low. record {
+      there = at.there;
+      one = at.one;
+      came = at.came;
+      old = at.old;
+      bare = λ d seat unnamed. inl refl;
+      retired = λ d seat unnamed. still_disk x.shelf.told x.bay b d (at.held d (fit.0.running.set.fit.1.seats place d seat)) at.clock;
+      admitted = inl refl;
+      spent = at.carries.spent;
+    };
     cause = record {
       missing = (λ same. absurd (not_listed (same_fault e NoSuchDrive same) at.err), λ past. absurd (omega (arith, listed, past)));
       attach = λ same. at.attach (ap Err (same_fault e Attach same));
@@ -298,19 +310,33 @@ module _ (x : View) (b : Seen) (s : Shelf) (place : ℕ) (name : List ℕ) (list
           keeps = by.keeps;
           outside = outside_fewer x.slices y.slices (λ d. NoDisk d ⊎ (d ≡ disk)) (IsNamed (moment_of y) name) x.shelf.told x.bay y.bay (λ d is. named_at y here d is)
               (outside_then x m y NoDisk (λ d. d ≡ disk) at.continues by.continues at.outside by.outside);
-          retired = λ d seat unnamed.
-              let keeps = by.retired d seat (λ is. unnamed (named_at y here d (inr is))) in
-              let old = fit.0.running.set.fit.1.seats place d seat in
-              let size_d : b.sectors d ≡ x.bay.sectors d = at.continues.sectors d old in
-              record {
-                held = λ k within told.
-                    subst (λ h. Keeps h (y.bay.held d k)) (at.held d old k)
-                    (keeps.held k (subst (λ n. k < n) (sym size_d) within) (at.continues.tells d old told));
-                stops = λ told traced k i since until stopped q within tells.
-                    subst (λ h. MayLeave h (i d q)) (at.held d old q)
-                    (keeps.stops (at.continues.told told) (at.continues.traced told traced) k i (let clock = at.clock in omega (arith, since, clock)) until stopped q
-                    (subst (λ n. q < n) (sym size_d) within) (at.continues.tells d old tells));
-              };
+          changes = λ low. record {
+            there = λ d named. let old = at.there d (named_before y by d named) in let more = by.continues.disks in omega (arith, old, more);
+            one = λ d e first second. at.one d e (named_before y by d first) (named_before y by e second);
+            came = λ d past inside.
+                let equal = by.disks in
+                ap (λ names. slice_get names d) by.names ∙ at.came d past (omega (arith, inside, equal));
+            retired = λ d seat unnamed.
+                let keeps = by.retired d seat (λ is. unnamed (named_at y here d (inr is))) in
+                let old = fit.0.running.set.fit.1.seats place d seat in
+                let size_d : b.sectors d ≡ x.bay.sectors d = at.continues.sectors d old in
+                record {
+                  held = λ k within told.
+                      subst (λ h. Keeps h (y.bay.held d k)) (at.held d old k)
+                      (keeps.held k (subst (λ n. k < n) (sym size_d) within) (at.continues.tells d old told));
+                  stops = λ told traced k i since until stopped q within tells.
+                      subst (λ h. MayLeave h (i d q)) (at.held d old q)
+                      (keeps.stops (at.continues.told told) (at.continues.traced told traced) k i (let clock = at.clock in omega (arith, since, clock)) until stopped q
+                      (subst (λ n. q < n) (sym size_d) within) (at.continues.tells d old tells));
+                };
+            old = λ d low named. at.old d low (named_before y by d named);
+            bare = λ d seat unnamed. by.bare d seat (λ is. unnamed (named_at y here d (inr is)));
+            admitted = elim by.admitted [
+              | inl same ↦ inl same
+              | inr none ↦ inr (disk, here, ap (refusal_of x.linear (book x) place) size ∙ none)
+            ];
+            spent = λ s alive. carries.spent s alive;
+          };
           cause = record {
             missing = (λ same. absurd ((late by NoSuchDrive same).listed refl), λ past. absurd (omega (arith, listed, past)));
             attach = λ same. absurd ((late by Attach same).attached refl);
@@ -341,6 +367,9 @@ module _ (x : View) (b : Seen) (s : Shelf) (place : ℕ) (name : List ℕ) (list
         named_at : (y : View) → IsNamed (moment_of y) name disk → (d : ℕ) → NoDisk d ⊎ (d ≡ disk) → IsNamed (moment_of y) name d
         named_at y here d (inl none) = absurd none
         named_at y here d (inr is) = subst (λ e. IsNamed (moment_of y) name e) (sym is) here
+
+        named_before : (y : View) → ReplacesBy m y place disk r → (d : ℕ) → IsNamed (moment_of y) name d → IsNamed (moment_of m) name d
+        named_before y by d named = ap (λ names. slice_get names d) (sym by.names) ∙ named
 
         late : ReplacesBy m y place disk r → (f : GrowFault) → r ≡ Err f → IsLate f
         late by = answer_late x.linear (book x) place (b.sectors disk) r by.answer

@@ -79,6 +79,22 @@ module _ (x : View) (b : Seen) (s : Shelf) (place disk : ℕ) (t : Slices) (line
       (outside_writes t u (λ d. d ≡ disk) x.shelf.told x.bay b may only now.unspent writes slices))
 
   -- the disk that the place had has no slice any more
+  bare_mid : (d : ℕ) → seat_of x.slices place ≡ Some d → (k : ℕ) (v : List ℕ) → IsSliced t d k v → ⊥
+  bare_mid d seat k v is =
+      elim (cases_eq (place_of is.slice) place) [
+        | inl same ↦ let empty_slice = vacated.cleared is.slice same in let within = is.within in omega (arith, empty_slice, within)
+        | inr away ↦
+            let on = seat_is t is.slice is.at orderly is.within in
+            let was : seat_of x.slices (place_of is.slice) ≡ Some d =
+            sym (ap (λ (c : Bool). if c then None else seat_of x.slices (place_of is.slice)) (ne_eqb (place_of is.slice) place away)) ∙ sym (vacated.seats (place_of is.slice))
+            ∙ on ∙ ap Some (sym is.disk_is) in
+            away (ordered.one_place (place_of is.slice) place d was seat)
+      ]
+
+  pub bare_by : (u : Slices) (new : ℕ) → ((d k : ℕ) (v : List ℕ) → IsSliced u d k v → IsSliced t d k v ⊎ (d ≡ new))
+      → (d : ℕ) → seat_of x.slices place ≡ Some d → d ≢ new → (k : ℕ) (v : List ℕ) → IsSliced u d k v → ⊥
+  bare_by u new slices d seat other k v is = elim (slices d k v is) [ inl was ↦ bare_mid d seat k v was | inr same ↦ other same ]
+
   pub retired_by : (u : Slices) (may : ℕ → ℕ → List ℕ → Type 0) → WritesOnly x.bay b may
       → ((d k : ℕ) (v : List ℕ) → may d k v → IsSliced t d k v ⊎ (d ≡ disk)) → ((d k : ℕ) (v : List ℕ) → IsSliced u d k v → IsSliced t d k v ⊎ (d ≡ disk))
       → (d : ℕ) → seat_of x.slices place ≡ Some d → d ≢ disk → KeepsDisk x.shelf.told x.bay b d
@@ -89,20 +105,8 @@ module _ (x : View) (b : Seen) (s : Shelf) (place disk : ℕ) (t : Slices) (line
         stops = λ told traced k i since until stopped q within tells. keeps.stops told traced k i since until stopped d q (out q within tells);
       }
     where
-      none : (k : ℕ) (v : List ℕ) → IsSliced t d k v → ⊥
-      none k v is =
-          elim (cases_eq (place_of is.slice) place) [
-            | inl same ↦ let empty_slice = vacated.cleared is.slice same in let within = is.within in omega (arith, empty_slice, within)
-            | inr away ↦
-                let on = seat_is t is.slice is.at orderly is.within in
-                let was : seat_of x.slices (place_of is.slice) ≡ Some d =
-                sym (ap (λ (c : Bool). if c then None else seat_of x.slices (place_of is.slice)) (ne_eqb (place_of is.slice) place away)) ∙ sym (vacated.seats (place_of is.slice))
-                ∙ on ∙ ap Some (sym is.disk_is) in
-                away (ordered.one_place (place_of is.slice) place d was seat)
-          ]
-
       out : (k : ℕ) → k < x.bay.sectors d → x.bay.told d → IsOutside t (λ e. e ≡ disk) x.bay d k
-      out k within told = record { disk = fit.0.running.set.fit.1.seats place d seat; sector = within; is_told = told; unnamed = other; unsliced = none k }
+      out k within told = record { disk = fit.0.running.set.fit.1.seats place d seat; sector = within; is_told = told; unnamed = other; unsliced = bare_mid d seat k }
 
   -- ---- it refused a call
 
@@ -122,6 +126,9 @@ module _ (x : View) (b : Seen) (s : Shelf) (place disk : ℕ) (t : Slices) (line
         outside = outside_of_it t x.arrays may only fit_now (λ d k v at. inr at.0) (λ d k v is. inl is);
         retired = retired_by t may only (λ d k v at. inr at.0) (λ d k v is. inl is);
         names = names.names;
+        bare = λ d seat other. inr (bare_by t disk (λ e k v is. inl is) d seat other);
+        disks = only.stays.disks;
+        admitted = inr admits;
         answer = subst (λ o. IsAnswer o (Err Gone)) (sym admits) (inr (inl refl));
         gone = λ same. rose;
         not_whole = λ same. absurd (let e : Gone ≡ NotWhole = cc same in cc e);
@@ -161,6 +168,9 @@ module _ (x : View) (b : Seen) (s : Shelf) (place disk : ℕ) (t : Slices) (line
         outside = outside_of_it t z may only fit_now (λ d k v at. elim at [ inl own ↦ inr own.0 | inr sliced ↦ inl sliced ]) (λ d k v is. inl is);
         retired = retired_by t may only (λ d k v at. elim at [ inl own ↦ inr own.0 | inr sliced ↦ inl sliced ]) (λ d k v is. inl is);
         names = names.names;
+        bare = λ d seat other. inr (bare_by t disk (λ e k v is. inl is) d seat other);
+        disks = only.stays.disks;
+        admitted = inr admits;
         answer = subst (λ o. IsAnswer o (Err NotWhole)) (sym admits) (inr (inr refl));
         gone = λ same. absurd (let e : NotWhole ≡ Gone = cc same in cc e);
         not_whole = λ same. inr (lost.0, lost.1, lost.2);

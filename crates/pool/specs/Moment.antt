@@ -1,17 +1,19 @@
 -- How a pool stands at a moment: the part of what it shows of which later moments are told.
 use Rattle.std.specs.Prelude.{◌≡◌, ℕ, List, map, slice_get, Some}
 use Rattle.std.specs.List.{range_with_len}
+use Rattle.rack.specs.Seen.{Held}
 use Rattle.array_model.specs.View.{View as ArrayView}
 use Rattle.slice_rack.specs.Slices.{Slices}
 use Rattle.raid_rack.specs.Raid.{Raid}
 use Rattle.pool.specs.View.{View, book}
 
--- The clock, the disks of the bay with their counts of faults and their names, the bay's own count of faults, the pool's state and arrays,
--- and where the slices of its drives lie.
+-- The clock, the disks of the bay with what they hold, their counts of faults and their names, the bay's own count of faults, the pool's state
+-- and arrays, and where the slices of its drives lie.
 pub record Moment : Type 0 where
   pub clock : ℕ
   pub disks : ℕ
   pub sectors : ℕ → ℕ
+  pub held : Held
   pub faults : ℕ → ℕ
   pub names : List (List ℕ)
   pub unattached : ℕ
@@ -23,6 +25,7 @@ moment_of x = record {
   clock = x.bay.clock;
   disks = x.bay.disks;
   sectors = x.bay.sectors;
+  held = x.bay.held;
   faults = x.bay.faults;
   names = x.shelf.names;
   unattached = x.shelf.faults;

@@ -15,6 +15,7 @@ use Rattle.pool_state.specs.declared.contents.Drive.{Drive}
 use Rattle.pool_state.specs.declared.contents.State.{State}
 use Rattle.slice_rack.specs.Slices.{Slices, disk_of, seat_of}
 use Rattle.slice_rack.specs.Changes.{Seats}
+use Rattle.slice_rack.specs.Runs.{IsSliced}
 use Rattle.raid_rack.specs.Book.{IsAfter}
 use Rattle.raid_rack.specs.Enlisting.{HoldsTable, enlisted, next_drive, with_drive}
 use Rattle.raid_rack.specs.Moves.{KeepsArrays}
@@ -135,6 +136,22 @@ pub record HasTable (x y : View) (place disk : ℕ) : Type 0 where
   pub durable :
       x.shelf.told → ((d : ℕ) → d < x.bay.disks → x.bay.told d) → (s : ℕ) → IsOfTable (y.bay.sectors disk) s → IsSingle (y.bay.held disk s)
 
+-- What a line that names a disk does to the pool's drives: the name is of one disk, no other one comes, the disk that the place had isn't
+-- written unless it is the named one, and slices move only where nothing was against it. A sector that isn't spent wasn't before.
+pub record ChangesDrive (x y : View) (place : ℕ) (name : List ℕ) : Type 0 where
+  pub there : (d : ℕ) → IsNamed (moment_of y) name d → d < y.bay.disks
+  pub one : (d e : ℕ) → IsNamed (moment_of y) name d → IsNamed (moment_of y) name e → d ≡ e
+  pub came : (d : ℕ) → x.bay.disks ≤ d → d < y.bay.disks → IsNamed (moment_of y) name d
+  pub old : (d : ℕ) → d < x.bay.disks → IsNamed (moment_of y) name d → IsNamed (moment_of x) name d
+  pub retired : (d : ℕ) → seat_of x.slices place ≡ Some d → (IsNamed (moment_of y) name d → ⊥) → KeepsDisk x.shelf.told x.bay y.bay d
+  pub admitted :
+      (y.slices ≡ x.slices) ⊎ ((d : ℕ) × IsNamed (moment_of y) name d × (refusal_of x.linear (book x) place (y.bay.sectors d) ≡ None))
+  -- where slices moved none is left on the disk that the place had, unless it is the named one
+  pub bare :
+      (d : ℕ) → seat_of x.slices place ≡ Some d → (IsNamed (moment_of y) name d → ⊥)
+      → (y.slices ≡ x.slices) ⊎ ((s : ℕ) (v : List ℕ) → IsSliced y.slices d s v → ⊥)
+  pub spent : (s : ℕ) → is_spent y s ≡ false → is_spent x s ≡ false
+
 -- The drive of a place is replaced by the disk of a name, which is attached where it isn't yet. No value moves. `name` is the one disk
 -- that is written outside the slices of drives.
 pub record ReplacesDrive (x y : View) (place : ℕ) (name : List ℕ) (result : Result (Unit {0}) GrowFault) : Type 0 where
@@ -142,8 +159,7 @@ pub record ReplacesDrive (x y : View) (place : ℕ) (name : List ℕ) (result : 
   pub raises : Raises 1 x y
   pub keeps : KeepsBook (book x) (book y)
   pub outside : KeepsOutside x.slices y.slices (IsNamed (moment_of y) name) x.shelf.told x.bay y.bay
-  -- the disk that the place had isn't written, unless it is that of the name
-  pub retired : (d : ℕ) → seat_of x.slices place ≡ Some d → (IsNamed (moment_of y) name d → ⊥) → KeepsDisk x.shelf.told x.bay y.bay d
+  pub changes : place < length (book x).state.drives.items → ChangesDrive x y place name
   pub cause : HasGrowCause x.linear (moment_of x) (moment_of y) place name result
   pub declined : IfErr result (IsDeclined (moment_of x) (moment_of y) place)
   pub replaced : OnOk result ((d : ℕ) → IsNamed (moment_of y) name d → IsReplaced (moment_of x) (moment_of y) place d)

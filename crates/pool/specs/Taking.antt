@@ -1,8 +1,9 @@
 -- The parts of a replacing: a disk is attached, and then takes the place of a drive.
-use Rattle.std.specs.Prelude.{◌≡◌, ◌≢◌, ◌⊎◌, ◌↔◌, ℕ, ◌<◌, false, List, Some, Result, Err, IfErr, IfOk, OnOk}
+use Rattle.std.specs.Prelude.{◌≡◌, ◌≢◌, ◌⊎◌, ◌↔◌, ℕ, ◌<◌, ◌≤◌, false, List, Some, None, Result, Err, IfErr, IfOk, OnOk}
 use Rattle.rack.specs.Values.{Keeps}
 use Rattle.rack.specs.Seen.{Rose}
 use Rattle.flat_array.specs.Array.{FlatArray}
+use Rattle.slice_rack.specs.Runs.{IsSliced}
 use Rattle.slice_rack.specs.Slices.{seat_of}
 use Rattle.pool.specs.declared.replacing.GrowFault.{GrowFault}
 use Rattle.pool.specs.declared.replacing.GrowFault.TheVariants.{Attach, Twice, Memory, NotWhole, Gone}
@@ -44,6 +45,9 @@ pub record AttachesDisk (x y : View) (name : List ℕ) (result : Result ℕ Grow
   pub faults : (d : ℕ) → d < y.bay.disks → y.bay.faults d ≡ faults_before (moment_of x) d
   pub ok : IfOk result (λ d. IsNamed (moment_of y) name d × (d < y.bay.disks) × (IsOfPlace (moment_of x) d → ⊥))
   pub one : (d e : ℕ) → IsNamed (moment_of y) name d → IsNamed (moment_of y) name e → d ≡ e
+  pub there : (d : ℕ) → IsNamed (moment_of y) name d → d < y.bay.disks
+  pub came : (d : ℕ) → x.bay.disks ≤ d → d < y.bay.disks → IsNamed (moment_of y) name d
+  pub old : (d : ℕ) → d < x.bay.disks → IsNamed (moment_of y) name d → IsNamed (moment_of x) name d
   pub err : IfErr result (λ e. (e ≡ Attach) ⊎ ((e ≡ Memory) ⊎ (e ≡ Twice)))
   pub attach : result ≡ Err Attach → Rose x.shelf.faults y.shelf.faults
   pub used : (d : ℕ) → IsNamed (moment_of x) name d → (result ≢ Err Attach) × (result ≢ Err Memory)
@@ -58,8 +62,12 @@ pub record ReplacesBy (x y : View) (place disk : ℕ) (result : Result (Unit {0}
   pub outside : KeepsOutside x.slices y.slices (λ d. d ≡ disk) x.shelf.told x.bay y.bay
   -- the disk that the place had isn't written any more
   pub retired : (d : ℕ) → seat_of x.slices place ≡ Some d → d ≢ disk → KeepsDisk x.shelf.told x.bay y.bay d
+  pub bare : (d : ℕ) → seat_of x.slices place ≡ Some d → d ≢ disk → (y.slices ≡ x.slices) ⊎ ((s : ℕ) (v : List ℕ) → IsSliced y.slices d s v → ⊥)
   pub names : y.shelf.names ≡ x.shelf.names
+  pub disks : y.bay.disks ≡ x.bay.disks
   pub answer : IsAnswer (refusal_of x.linear (book x) place (x.bay.sectors disk)) result
+  -- the tables stay but where nothing is against it
+  pub admitted : (y.slices ≡ x.slices) ⊎ (refusal_of x.linear (book x) place (x.bay.sectors disk) ≡ None)
   pub gone : result ≡ Err Gone → Rose (x.bay.faults disk) (y.bay.faults disk)
   pub not_whole :
       result ≡ Err NotWhole → (refusal_of x.linear (book x) place (x.bay.sectors disk) ≡ Some NotWhole) ⊎ HasMarked (moment_of x) (moment_of y)

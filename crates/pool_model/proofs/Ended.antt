@@ -10,6 +10,7 @@ use Rattle.rack.specs.Seen.{Image, Seen}
 use Rattle.slice_rack.specs.Slices.{Slices}
 use Rattle.md_super.specs.declared.superblock.Super.{Super}
 use Rattle.pool_state.specs.declared.contents.State.{State}
+use Rattle.pool_state.specs.Valid.{is_valid}
 use Rattle.array_image.specs.Arrays.{Member, Shape, member_by, member_in, place_with, shape_by}
 use Rattle.array_image.specs.Places.{log_slice, super_sector}
 use Rattle.array_image.specs.Record.{gate_of, gate_sector}
@@ -17,7 +18,7 @@ use Rattle.array_image.specs.SoundArray.{array_fields, first_unsynced}
 use Rattle.array_image.specs.States.{is_current}
 use Rattle.array_image.specs.Supers.{is_named, is_rebuilding, is_unclean, named_places, super_in, truth_in}
 use Rattle.array_core.proofs.Opened.{current_below, current_is, super_truth, truth_leads}
-use Rattle.array_core.proofs.Rules.{get_map, get_range}
+use Rattle.array_core.proofs.Rules.{get_map, get_range, placed}
 use Rattle.array_core.proofs.Truths.{Truth, truth_facts}
 use Rattle.array_model.specs.declared.Seat.{Seat}
 use Rattle.array_model.specs.View.{View, is_whole_seat, member_on, rows_of as rows_in, shape_of}
@@ -33,7 +34,6 @@ use Rattle.pool_model.proofs.Copies.{IsKnown, c, kept, log_many, low_place, othe
 use Rattle.pool_model.proofs.Away.{all_there, none_found}
 use Rattle.pool_model.proofs.Current.{shape_current}
 use Rattle.pool_model.proofs.Extents.{earlier, is, is_is, left, lies_in, made_same, reads_nothing, room, says, size_same, truth_is}
-use Rattle.pool_model.proofs.Found.{valid}
 use Rattle.pool_model.proofs.Layers.{nothing_super}
 use Rattle.pool_model.proofs.Named.{same_length, stands_same}
 use Rattle.pool_model.proofs.Rested.{log_same, now}
@@ -125,7 +125,7 @@ module _ (f : Found) (t : Slices) (v : Raid) (y : Seen) (i : Image) (known : IsK
 
   -- ---- one array
 
-  module _ (small : (d : ℕ) → d < f.disks.count → f.disks.sectors d < 2 ^ 48) (n : ℕ) (low : n < f.state.made) where
+  module _ (small : (d : ℕ) → d < f.disks.count → f.disks.sectors d < 2 ^ 48) (good : (own : ℕ) × (is_valid f.state own ≡ true)) (n : ℕ) (low : n < f.state.made) where
     abbrev pub its : View
     its = v.arrays n
 
@@ -142,8 +142,8 @@ module _ (f : Found) (t : Slices) (v : Raid) (y : Seen) (i : Image) (known : IsK
         let one = seat_there f t v y i known leads.at at.0 in
         elim (cases_Bool (is_member f n leads.at)) [
           | inl member ↦
-              let fits = room f t v y i known n low leads.at one.0 one.1 member in
-              let lies = (lies_in f t v y i known n low leads.at one.0 one.1 member).1 in
+              let fits = room f t v y i known n low leads.at one.0 one.1 at.0 member in
+              let lies = (lies_in f t v y i known n low leads.at one.0 one.1 at.0 member).1 in
               let size = size_same f t v y i known n low in
               let most = small one.0 (ahead_of f t v y i known leads.at one.0 one.1).low in
               omega (arith, fits, lies, size, most)
@@ -156,7 +156,6 @@ module _ (f : Found) (t : Slices) (v : Raid) (y : Seen) (i : Image) (known : IsK
     facts =
         let leads = truth_leads book held n w w_is in
         let at = current_is book held n leads.at w leads.here in
-        let good = valid f known.is in
         let fit = valid_fit f.state good.0 good.1 in
         truth_facts w
         (super_truth book held n leads.at fit.chunks w at.1 (known.served.after.same.extent ∙ fit.extent)
@@ -208,7 +207,7 @@ module _ (f : Found) (t : Slices) (v : Raid) (y : Seen) (i : Image) (known : IsK
         by true current (Some own) has is = of own current has (is_rebuilding own) refl is
 
     had_named : (q : ℕ) → is_named w q ≡ true → IsHad q
-    had_named q named = let one = named_position w q facts.positions facts.few named in had one.0 q one.1 one.2
+    had_named q named = let one = named_position w q 16 facts.positions (λ k less. let one = placed w k facts.positions less in (one.0, one.1)) facts.few named in had one.0 q one.1 one.2
 
     -- ---- nothing is left to do
 

@@ -62,6 +62,7 @@ replace_done x y at place name text r fit cut is_ok is done_r =
       continues = done.continues;
       passes = λ none. absurd (both_ways true none refl);
       outside = λ takes. done.outside;
+      changes = λ takes. done.changes (subst (λ p. p < length (book x).state.drives.items) (cut_listed x at place fit cut low) low);
       raises = done.raises;
       keeps = done.keeps;
       cause = (done.cause, done.replaced);
@@ -172,6 +173,7 @@ decline_done x y at place name text r fault fit sound cut refused is still done_
             continues = done.continues;
             passes = λ none. absurd (both_ways (looks_at fault) none looks);
             outside = λ takes. done.outside;
+            changes = λ takes. done.changes (subst (λ p. p < length (book x).state.drives.items) (cut_listed x at place fit cut low) low);
             raises = done.raises;
             keeps = done.keeps;
             cause = (done.cause, done.declined);

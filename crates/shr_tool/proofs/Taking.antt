@@ -28,7 +28,7 @@ pub any_takes_last : (names : List (List ℕ)) (events : List Event) (event : Ev
 any_takes_last names [] event d takes = inl takes
 any_takes_last names (first ∷ events) event d takes = inr (any_takes_last names events event d takes)
 
-or_parts : (a b : Bool) → (a || b) ≡ false → (a ≡ false) × (b ≡ false)
+pub or_parts : (a b : Bool) → (a || b) ≡ false → (a ≡ false) × (b ≡ false)
 or_parts false b none = (refl, none)
 or_parts true b none = absurd (both_ways true none refl)
 

@@ -99,6 +99,7 @@ pub record OpenedOn {R : Type 0} (seen : R → Seen) (shelf : R → Shelf) (runs
   pub faults : (d : ℕ) → from.faults d ≡ (seen opened).faults d
   pub disks : from.disks ≡ (seen opened).disks
   pub sectors : (d : ℕ) → from.sectors d ≡ (seen opened).sectors d
+  pub held : (d s : ℕ) → from.held d s ≡ (seen opened).held d s
   pub named : from.names ≡ (shelf opened).names
   pub unattached : from.unattached ≡ (shelf opened).faults
   -- just those members of its arrays are missing whose drives are marked
@@ -117,12 +118,11 @@ pub record OpenedOn {R : Type 0} (seen : R → Seen) (shelf : R → Shelf) (runs
   pub moments :
       (a : FlatArray) → (meant : IsMeant (seen bay) (seen opened) a) → MayStop (seen bay) meant.pool → (seen bay).traced
       → Leaves (seen bay) (seen opened) (MeansAt ground from a)
-  -- Where from then on sectors of slices alone are written, the run is one on that pool, where all its arrays are ready for the volume and no superblock stands on a drive that is no member of an
+  -- The run is one on that pool, where all its arrays are ready for the volume and no superblock stands on a drive that is no member of an
   -- array, where its slice would be.
   pub run_on :
       (f : Found) → HoldSound (seen bay) f → IsUnfaulted (seen bay) (seen opened) → f.state.joined ≡ f.state.made
-      → ((i : Image) → IsPickOff from.slices (seen opened) i → AreAlone f i) → WritesOnly (seen opened) (seen after) (IsSliced from.slices)
-      → IsRunOn f ground from (seen after)
+      → ((i : Image) → IsPickOff from.slices (seen opened) i → AreAlone f i) → IsRunOn f ground from (seen opened)
   -- the task, from the volume that the disks meant, where the names of the bay are told
   pub outcome :
       (a : FlatArray)
