@@ -10,14 +10,14 @@ use Rattle.slice_rack.specs.Slices.{Slices, IsOrderly, seat_of}
 use Rattle.pool_state.specs.declared.contents.State.{State}
 use Rattle.array_image.specs.States.{current_places}
 use Rattle.commit_log.specs.View.{names}
-use Rattle.pool_check.specs.Drives.{Loses, seats_by}
-use Rattle.pool_check.specs.Settling.{AreDistinct, IsSettled, IsTableSector, KeepsTable}
+use Rattle.pool_check.specs.Drives.{Loses, flag_by, seats_by}
+use Rattle.pool_check.specs.Settling.{AreDistinct, IsSettled, IsTableSector, IsTrueOf, KeepsTable}
 use Rattle.assembler.specs.Mending.{MendsTables}
 
 module _ (t : Slices) (x : Seen) (orderly : IsOrderly t) (fit : (slices_of t x).fit) (gone : List ℕ) (first left : List (Option ℕ))
     (are : (p : ℕ) → seats_by first p ≡ seat_of t p)
     (each : (p : ℕ) → p < 16 → seats_by left p ≡ (if names gone p then None else seats_by first p))
-    (beyond : (p : ℕ) → 16 ≤ p → seats_by left p ≡ seats_by first p) where
+    (beyond : (p : ℕ) → 16 ≤ p → seats_by left p ≡ seats_by first p) (agreed : List Bool) where
   -- a place has gone, or has the disk of its slices
   either : (p : ℕ) → (seats_by left p ≡ seat_of t p) ⊎ ((seats_by left p ≡ None) × (names gone p ≡ true))
   either p = elim (cases_lt p 16) [
@@ -40,8 +40,8 @@ module _ (t : Slices) (x : Seen) (orderly : IsOrderly t) (fit : (slices_of t x).
   left_distinct p q d low high one two = orderly.one_place p q d (kept p d one) (kept q d two)
 
   pub mends_so : (y : Seen) (now : List (Option ℕ)) → WritesOnly x y (IsTableSector x (seats_by left) 16) → Loses x y (seats_by left) (seats_by now)
-      → ((d : ℕ) → KeepsTable x y d) → ((p d : ℕ) → p < 16 → seats_by now p ≡ Some d → IsSettled x y d)
-      → (s : State) (places : List ℕ) → places ≡ filter (λ p. is_none (seats_by now p)) (current_places s) → MendsTables x y s (seat_of t) gone places
+      → ((d : ℕ) → KeepsTable x y d) → ((p d : ℕ) → p < 16 → seats_by now p ≡ Some d → IsTrueOf x d (flag_by agreed p) → IsSettled x y d)
+      → (s : State) (places : List ℕ) → places ≡ filter (λ p. is_none (seats_by now p)) (current_places s) → MendsTables x y s (seat_of t) agreed gone places
   mends_so y now only loses tables settled s places listed = record {
     only = only_weaker (IsTableSector x (seats_by left) 16) (IsTableSector x (seat_of t) 16)
         (λ d u v is. record { place = is.place; below = is.below; seat = kept is.place d is.seat; at_end = is.at_end }) only;

@@ -17,8 +17,8 @@ use Rattle.pool_image.specs.Disks.{Seats}
 use Rattle.pool_scan.specs.Scanning.{IsUnfaulted}
 use Rattle.pool_scan.proofs.Valid.{valid_places}
 use Rattle.pool_check.specs.declared.Checked.{Checked}
-use Rattle.pool_check.specs.Drives.{Goes}
-use Rattle.pool_check.specs.Settling.{IsSettled, KeepsTable}
+use Rattle.pool_check.specs.Drives.{Goes, flag_by}
+use Rattle.pool_check.specs.Settling.{IsSettled, IsTrueOf, KeepsTable}
 use Rattle.raid_rack.specs.Moves.{IsHeeded}
 use Rattle.raid_rack.specs.Raid.{Raid, gone_in}
 use Rattle.raid_rack.specs.Runs.{RaidRuns}
@@ -87,9 +87,9 @@ gone_absent went absent nobody same p is = by_list absent
 module _ (s : State) (t u w k : Slices) (y b d z : Seen) (went places : List ℕ) (checked : Checked) (absent : List ℕ) (orderly : IsOrderly t)
     (m : AreMembers s t y checked absent) (l : LogView) (one two : Type 0) (closing : Runs t u y b one)
     (replay : absent ≡ [] → ReplayCall l (current_places s) went (slices_of t y) (slices_of u b))
-    (still : (absent ≡ [] → ⊥) → went ≡ absent) (mends : MendsTables b d s (seat_of u) went places) (tables : w ≡ u) (marking : Runs w k d z two) where
-  pub mended : IsMended s t y b d went places
-  mended = mended_so s t u y b d went places one m.fit closing mends
+    (still : (absent ≡ [] → ⊥) → went ≡ absent) (mends : MendsTables b d s (seat_of u) checked.agreed went places) (tables : w ≡ u) (marking : Runs w k d z two) where
+  pub mended : IsMended s t y b d checked.agreed went places
+  mended = mended_so s t u y b d checked.agreed went places one m.fit closing mends
 
   pub marked : WritesOnly d z (IsSliced t)
   marked = marking_so s t y b d went places checked absent orderly m mended w k z two (tables ∙ closing.tables) marking
@@ -164,9 +164,9 @@ module _ (s : State) (t u w k : Slices) (y b d z : Seen) (went places : List ℕ
         subst (λ lost. ReplayCall l (current_places s) lost (slices_of t y) (slices_of t b)) (nobody none ∙ sym none ∙ sym same)
         (subst (λ j. ReplayCall l (current_places s) went (slices_of t y) (slices_of j b)) closing.tables (replay none))
 
-    -- and each drive's table is settled
-    pub settled : (p disk : ℕ) → seat_of t p ≡ Some disk → IsSettled y z disk
-    settled p disk seat =
+    -- and each drive's table is settled, where its flag is true of it
+    pub settled : (p disk : ℕ) → seat_of t p ≡ Some disk → IsTrueOf y disk (flag_by checked.agreed p) → IsSettled y z disk
+    settled p disk seat says =
         rack_settled s t y b d went places checked absent orderly m mended z marked p disk
         (current_few s p (valid_places s 0 m.valid).1 (m.current p disk seat)) seat
-        (left_same s t y checked absent orderly m b d went places mended.mends parts.mending (gone_absent went absent nobody still) p ∙ seat)
+        (left_same s t y checked absent orderly m b d went places mended.mends parts.mending (gone_absent went absent nobody still) p ∙ seat) says

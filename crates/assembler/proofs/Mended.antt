@@ -1,5 +1,5 @@
 -- The copies of partition tables are made to agree: the slices of the drives stay as they are, and tables that agree do so after writes to slices.
-use Rattle.std.proofs.Common.{◌≡◌, ◌⊎◌, ℕ, ◌+◌, ◌<◌, ◌≤◌, ◌==◌, true, false, ◌&&◌, is_none, List, filter, Option, Some, None, inl, inr, refl, sym, ap, subst, ◌∙◌, eqb-true, arith}
+use Rattle.std.proofs.Common.{◌≡◌, ◌⊎◌, ℕ, ◌+◌, ◌<◌, ◌≤◌, ◌==◌, Bool, true, false, ◌&&◌, is_none, List, filter, Option, Some, None, inl, inr, refl, sym, ap, subst, ◌∙◌, eqb-true, arith}
 use Rattle.std.proofs.lemmas.Bool.{and_from, and_parts, both_ways, cases_Bool}
 use Rattle.std.proofs.lemmas.Map.Views.{any-filter_same}
 use Rattle.rack.specs.Values.{Keeps, MayLeave}
@@ -25,8 +25,10 @@ use Rattle.pool_scan.specs.declared.Known.{Known}
 use Rattle.pool_scan.proofs.Valid.{valid_places}
 use Rattle.pool_rest.specs.Resting.{IsOfDrive}
 use Rattle.pool_check.specs.declared.Checked.{Checked}
-use Rattle.pool_check.specs.Settling.{IsSettled, IsTableSector, KeepsTable}
-use Rattle.pool_check.proofs.Settled.{keeps_after, keeps_before, settled_by, settled_since, table_end}
+use Rattle.pool_check.specs.Drives.{flag_by}
+use Rattle.pool_check.specs.Settling.{IsSettled, IsTableSector, IsTrueOf, KeepsTable}
+use Rattle.pool_check.proofs.Settled.{keeps_after, keeps_before, settled_by, settled_since, settled_told, true_since}
+use Rattle.pool_check.proofs.TableSectors.{table_end}
 use Rattle.raid_rack.specs.Agreeing.{MakesAgree}
 use Rattle.raid_rack.proofs.Agreeing.{agree_then}
 use Rattle.raid_rack.specs.Raid.{Raid}
@@ -134,7 +136,7 @@ module _ (s : State) (t : Slices) (a : Seen) (checked : Checked) (absent : List 
 
   -- ---- places that are left
 
-  module _ (x y : Seen) (gone now : List ℕ) (mends : MendsTables x y s (seat_of t) gone now) where
+  module _ (x y : Seen) (gone now : List ℕ) (mends : MendsTables x y s (seat_of t) checked.agreed gone now) where
     -- the places that are left out
     pub left_named : (p : ℕ) → names now p ≡ (is_none (mends.left p) && is_current s p)
     left_named p =
@@ -173,17 +175,17 @@ module _ (s : State) (t : Slices) (a : Seen) (checked : Checked) (absent : List 
 -- ---- in the making of a rack of arrays: gates are closed, tables are made to agree, and then losses are marked
 
 -- the slices lie as before, and gates and tables were written
-pub record IsMended (s : State) (t : Slices) (a b c : Seen) (gone now : List ℕ) : Type 0 where
+pub record IsMended (s : State) (t : Slices) (a b c : Seen) (agreed : List Bool) (gone now : List ℕ) : Type 0 where
   pub closing : WritesOnly a b (IsSliced t)
-  pub mends : MendsTables b c s (seat_of t) gone now
+  pub mends : MendsTables b c s (seat_of t) agreed gone now
 
-pub mended_so : (s : State) (t u : Slices) (a b c : Seen) (gone now : List ℕ) (own : Type 0) → (slices_of t a).fit → Runs t u a b own
-    → MendsTables b c s (seat_of u) gone now → IsMended s t a b c gone now
-mended_so s t u a b c gone now own fit runs mends =
-    record { closing = runs.apart fit.0 fit.1; mends = subst (λ k. MendsTables b c s (seat_of k) gone now) runs.tables mends }
+pub mended_so : (s : State) (t u : Slices) (a b c : Seen) (agreed : List Bool) (gone now : List ℕ) (own : Type 0) → (slices_of t a).fit → Runs t u a b own
+    → MendsTables b c s (seat_of u) agreed gone now → IsMended s t a b c agreed gone now
+mended_so s t u a b c agreed gone now own fit runs mends =
+    record { closing = runs.apart fit.0 fit.1; mends = subst (λ k. MendsTables b c s (seat_of k) agreed gone now) runs.tables mends }
 
 module _ (s : State) (t : Slices) (a b c : Seen) (gone now : List ℕ) (checked : Checked) (absent : List ℕ) (orderly : IsOrderly t)
-    (m : AreMembers s t a checked absent) (is : IsMended s t a b c gone now) where
+    (m : AreMembers s t a checked absent) (is : IsMended s t a b c checked.agreed gone now) where
   pub mended_stays : Stays a c
   mended_stays = stays_then is.closing.stays is.mends.only.stays
 
@@ -214,11 +216,14 @@ module _ (s : State) (t : Slices) (a b c : Seen) (gone now : List ℕ) (checked 
         })) is.mends.only)
         (only_weaker (IsSliced t) (IsSlicedOrTable a t) (λ d u v at. inl at) marking))
 
-    pub rack_settled : (p d : ℕ) → p < 16 → seat_of t p ≡ Some d → is.mends.left p ≡ Some d → IsSettled a e d
-    rack_settled p d few seat left =
+    pub rack_settled : (p d : ℕ) → p < 16 → seat_of t p ≡ Some d → is.mends.left p ≡ Some d → IsTrueOf a d (flag_by checked.agreed p) → IsSettled a e d
+    rack_settled p d few seat left says =
+        let untouched = slices_keep s t a checked absent orderly m b p d (a.sectors d) is.closing few seat refl in
+        settled_told a e d
+        (λ told.
         settled_by mended_stays d marking.stays (slices_keep s t c checked absent orderly mended_members e p d (a.sectors d) marking few seat (mended_stays.sectors d))
-        (settled_since is.closing.stays d is.mends.only.stays (slices_keep s t a checked absent orderly m b p d (a.sectors d) is.closing few seat refl)
-        (is.closing.stays.sectors d) (is.mends.settled p d few left))
+        (settled_since is.closing.stays d is.mends.only.stays untouched (is.closing.stays.sectors d)
+        (is.mends.settled p d few left (true_since a b d (flag_by checked.agreed p) is.closing.stays told untouched says))))
 
     pub rack_keeps : (p d : ℕ) → p < 16 → seat_of t p ≡ Some d → KeepsTable a e d
     rack_keeps p d few seat =

@@ -11,6 +11,7 @@ ghost use Rattle.array_image.specs.States.{current_places};
 ghost use Rattle.pool_check.specs.Checking.{IsChecked};
 ghost use Rattle.pool_check.specs.Drives.{AreCopied, AreDrivesOf, Drives, Loses, found_with, seats_by};
 ghost use Rattle.pool_check.specs.Refusing.{absent_among, is_well};
+ghost use Rattle.pool_check.specs.Settling.{AreCompared};
 ghost use Rattle.pool_image.specs.Drives.{Found};
 ghost use Rattle.commit_log.specs.View.{names};
 ghost use Rattle.pool_scan.specs.Choosing.{seat_by};
@@ -123,6 +124,7 @@ pub(crate) fn check<R: Rack>(rest: AtRest<R>) -> Result<Members<R>, Back<R, Refu
     // Whatever the disks tell, the arrays are those of the pool that the disks left make, and no log is damaged.
     ensures are { IfOk result (λ m. (o : Drives) → AreDrivesOf (R.seen (below_of rest.slices)) (seat_of (tables m.slices)) o
         → AreCopied rest.scan.disks.items (seat_of (tables m.slices)) o → IsChecked (is_well None) (found_with rest.state (seat_of (tables m.slices)) o) m.checked) }
+    ensures compared { IfOk result (λ m. AreCompared (R.seen (below_of rest.slices)) (seat_of (tables m.slices)) m.checked.agreed) }
     ensures loses { IfOk result (λ m. Loses (R.seen (below_of rest.slices)) (R.seen (below_of m.slices)) (seats_left rest.scan.disks.items rest.state rest.gone.items) (seat_of (tables m.slices))) }
     ensures few { IfOk result (λ m. absent_among rest.state (seat_of (tables m.slices)) ≤ 1) }
     ensures whole { OnOk result (rest.damaged ≡ None) }

@@ -9,7 +9,7 @@ ghost use Rattle.pool_check.specs.Drives.{seats_by};
 ghost use Rattle.assembler.specs.Mending.{MendsTables};
 
 use crate::checks::absent_of;
-use pool_check::{Seats, settle_tables};
+use pool_check::{Flags, Seats, settle_tables};
 use pool_state::State;
 use rack::{Places, Rack};
 use slice_rack::SliceRack;
@@ -41,24 +41,25 @@ fn leave_out(seats: &mut Seats, gone: &Places)
     }
 }
 
-/// Makes both copies of the partition table of each drive agree, but of those that have gone. Answers the current places that have no
-/// disk, have gone, or whose disk went meanwhile.
+/// Makes both copies of the partition table of each drive agree, but of those that have gone; the flags say where they do already.
+/// Answers the current places that have no disk, have gone, or whose disk went meanwhile.
 ///
 /// At each moment each disk has the table that it had.
 pub(crate) fn mend_tables<R: Rack>(
     slices: &mut SliceRack<R>,
     state: &State,
     seats: Seats,
+    agreed: &Flags,
     gone: &Places,
 ) -> Places
     requires fit { (slices_of (tables slices.old) (R.seen (below_of slices.old))).fit }
     requires seats { (p : ℕ) → seats_by seats p ≡ seat_of (tables slices.old) p }
     ensures tables { tables slices.new ≡ tables slices.old }
-    ensures mends { MendsTables (R.seen (below_of slices.old)) (R.seen (below_of slices.new)) state.now (seat_of (tables slices.old)) gone.now.items result.items }
+    ensures mends { MendsTables (R.seen (below_of slices.old)) (R.seen (below_of slices.new)) state.now (seat_of (tables slices.old)) agreed.now gone.now.items result.items }
     ensures runs { R.runs (below_of slices.old) (below_of slices.new) }
 {
     let mut seats = seats;
     leave_out(&mut seats, gone);
-    settle_tables(slices.inner(), &mut seats);
+    settle_tables(slices.inner(), &mut seats, agreed);
     absent_of(state, &seats)
 }

@@ -18,8 +18,8 @@ ghost use Rattle.commit_log.specs.Opening.{ReplayCall};
 ghost use Rattle.pool_image.specs.Drives.{Found};
 ghost use Rattle.pool_scan.specs.Scanning.{IsUnfaulted};
 ghost use Rattle.pool_check.specs.Checking.{IsChecked};
-ghost use Rattle.pool_check.specs.Drives.{seats_by};
-ghost use Rattle.pool_check.specs.Settling.{IsSettled, KeepsTable};
+ghost use Rattle.pool_check.specs.Drives.{flag_by, seats_by};
+ghost use Rattle.pool_check.specs.Settling.{IsSettled, IsTrueOf, KeepsTable};
 ghost use Rattle.pool_check.specs.Refusing.{is_well};
 ghost use Rattle.assembler.specs.Holding.{HoldPool, HoldsArrays};
 ghost use Rattle.assembler.specs.Marking.{AreMarkedFor};
@@ -123,10 +123,12 @@ pub(crate) fn make_rack<R: Rack>(members: Members<R>, seconds: u64) -> RaidRack<
         → MarksAbsent members.state members.absent.items (raid_in result) }
     // Whoever goes, a drive is marked missing only where it had no disk or that refused a call.
     ensures caused { AreMarkedFor (R.seen (below_of members.slices)) (R.seen (below_of (slices_in result))) (seat_of (tables members.slices)) members.state (raid_in result).state }
-    // Whatever goes, each drive has its table at every moment. Where no disk refuses a call both copies of it agree in the end, durably.
+    // Whatever goes, each drive has its table at every moment. Where no disk refuses a call both copies of it agree in the end, durably, if the
+    // check has said so of those only that agreed.
     ensures keeps { (p d : ℕ) → seat_of (tables members.slices) p ≡ Some d → KeepsTable (R.seen (below_of members.slices)) (R.seen (below_of (slices_in result))) d }
     ensures mended { IsUnfaulted (R.seen (below_of members.slices)) (R.seen (below_of (slices_in result)))
-        → (p d : ℕ) → seat_of (tables members.slices) p ≡ Some d → IsSettled (R.seen (below_of members.slices)) (R.seen (below_of (slices_in result))) d }
+        → (p d : ℕ) → seat_of (tables members.slices) p ≡ Some d → IsTrueOf (R.seen (below_of members.slices)) d (flag_by members.checked.agreed p)
+        → IsSettled (R.seen (below_of members.slices)) (R.seen (below_of (slices_in result))) d }
     // And where the disks are told and hold a sound pool at rest, in which the check found no fault, the arrays hold what the pool's
     // contents give.
     ensures holds { (f : Found) → HoldPool members.state (tables members.slices) (R.seen (below_of members.slices)) members.log f
@@ -146,7 +148,7 @@ pub(crate) fn make_rack<R: Rack>(members: Members<R>, seconds: u64) -> RaidRack<
     rules(arrays.as_slice());
     restart_rebuilds(arrays.as_mut_slice());
     let gone = close_gates(&mut slices, &mut log, &state, absent);
-    let left_out = mend_tables(&mut slices, &state, seats, &gone);
+    let left_out = mend_tables(&mut slices, &state, seats, &checked.agreed, &gone);
     note_gone(arrays.as_mut_slice(), &left_out);
     let mut raid = RaidRack::new(slices, state, arrays, log, seconds);
     mark_gone(&mut raid, has_stale(checked.stale.as_slice()));

@@ -9,6 +9,7 @@ use Rattle.gpt_table.specs.declared.TableCopy.{TableCopy}
 use Rattle.gpt_table.specs.declared.TableCopy.TheVariants.{Primary, Backup}
 use Rattle.gpt_table.specs.Format.{header_sector, entries_sector, table_of}
 use Rattle.gpt_table.specs.Disk.{Contents, IsAmong, IsOfCopy, entries_bytes, now_on, table_at, first_table, first_of}
+use Rattle.gpt_table.specs.Changes.{IsOfCopies}
 use Rattle.rack.specs.Sequences.{OnlyReads}
 use Rattle.gpt_table.specs.Calls.{Looks}
 use Rattle.rack.proofs.Reading.{only_reads_start, only_reads_then, only_reads_join, value_then, unspent_before, same_after}
@@ -93,12 +94,14 @@ entries_on_disk Backup sectors room = omega arith
 pub copies_read : {a b c : Seen} (disk sectors : ℕ) (primary backup : Option Table) → disk < a.disks → sectors ≡ a.sectors disk → 67 ≤ sectors →
     Looks a b disk (IsOfCopy Primary sectors) {X = Option Table} (λ t. t ≡ table_at Primary sectors (now_on a disk)) (Ok primary) →
     Looks b c disk (IsOfCopy Backup sectors) {X = Option Table} (λ t. t ≡ table_at Backup sectors (now_on b disk)) (Ok backup) →
-    Looks a c disk (λ sector. ⊥) {X = Copies}
+    Looks a c disk (IsOfCopies sectors) {X = Copies}
     (λ found. (found.primary ≡ table_at Primary sectors (now_on a disk)) × (found.backup ≡ table_at Backup sectors (now_on a disk)))
     (Ok (record { primary = primary; backup = backup }))
 copies_read {a} {b} {c} disk sectors primary backup has size room first second = record {
   only = only_reads_join first.only second.only;
-  served = λ sector none. absurd none;
+  served = λ sector of.
+      ⊎_elim (λ (one : IsOfCopy Primary sectors sector). first.served sector one)
+      (λ (two : IsOfCopy Backup sectors sector). first.only.stays.spent disk sector (second.served sector two)) of;
   value = λ told. (
     first.value told,
     second.value (first.only.stays.told disk told)

@@ -1,11 +1,13 @@
 -- The table of a disk, whatever its spent sectors hold.
-use Rattle.std.proofs.Common.{◌≡◌, ℕ, ◌<◌, ◌≤◌, Option, Some, Ok, false, ap, ◌∙◌, sym, subst}
+use Rattle.std.proofs.Common.{◌≡◌, ◌↔◌, ℕ, ◌<◌, ◌≤◌, Bool, Option, Some, option_map, Ok, true, false, ap, ◌∙◌, sym, subst, inl, inr}
 use Rattle.rack.specs.Seen.{Seen}
+use Rattle.gpt_table.specs.declared.settling.Copies.{Copies}
 use Rattle.gpt_table.specs.declared.Table.{Table}
 use Rattle.gpt_table.specs.declared.TableCopy.{TableCopy}
 use Rattle.gpt_table.specs.declared.TableCopy.TheVariants.{Primary, Backup}
-use Rattle.gpt_table.specs.Disk.{Contents, IsOfCopy, now_on, table_at, first_table, first_of, AgreesUnspent}
+use Rattle.gpt_table.specs.Disk.{Contents, IsOfCopy, now_on, table_at, first_table, first_of, AgreesUnspent, CopiesAgree, SaySame}
 use Rattle.gpt_table.specs.Calls.{Looks}
+use Rattle.gpt_table.specs.Changes.{IsOfCopies, the_table}
 use Rattle.gpt_table.proofs.Joined.{table_at_agrees}
 use Rattle.gpt_table.proofs.Copies.{copy_is_on_disk}
 
@@ -44,3 +46,33 @@ copies_agree {a} {b} disk sectors primary backup size room first second contents
     copy_agrees a disk sectors Backup contents size room agrees (λ s of. first.only.stays.spent disk s (second.served s of)) in
     ap (λ (p : Option Table). first_of p (table_at Backup sectors contents)) one
     ∙ ap (first_of (table_at Primary sectors now)) two
+
+-- what both copies say
+pub both_say : {a b : Seen} (disk sectors : ℕ) (found : Copies) → sectors ≡ a.sectors disk → 67 ≤ sectors →
+    Looks a b disk (IsOfCopies sectors) {X = Copies}
+    (λ copies. (copies.primary ≡ table_at Primary sectors (now_on a disk)) × (copies.backup ≡ table_at Backup sectors (now_on a disk))) (Ok found) →
+    a.told disk → (contents : Contents) → AgreesUnspent a disk contents →
+    (found.primary ≡ table_at Primary (a.sectors disk) contents) × (found.backup ≡ table_at Backup (a.sectors disk) contents)
+both_say {a} disk sectors found size room looks told contents agrees =
+    let value = looks.value told in
+    subst (λ (n : ℕ). (found.primary ≡ table_at Primary n contents) × (found.backup ≡ table_at Backup n contents)) size (
+      value.0 ∙ sym (copy_agrees a disk sectors Primary contents size room agrees (λ s of. looks.served s (inl of))),
+      value.1 ∙ sym (copy_agrees a disk sectors Backup contents size room agrees (λ s of. looks.served s (inr of))),
+    )
+
+-- the table of the first valid one of them is the disk's
+pub first_said : (sectors : ℕ) (contents : Contents) (found : Copies) →
+    (found.primary ≡ table_at Primary sectors contents) × (found.backup ≡ table_at Backup sectors contents) →
+    the_table sectors contents ≡ option_map (λ seen. seen.table) (first_of found.primary found.backup)
+first_said sectors contents found say =
+    ap (λ (p : Option Table). option_map (λ seen. seen.table) (first_of p (table_at Backup sectors contents))) (sym say.0)
+    ∙ ap (λ (q : Option Table). option_map (λ seen. seen.table) (first_of found.primary q)) (sym say.1)
+
+-- and both agree where the disk's copies do
+pub agree_said : (sectors : ℕ) (contents : Contents) (found : Copies) (agree : Bool) →
+    (found.primary ≡ table_at Primary sectors contents) × (found.backup ≡ table_at Backup sectors contents) →
+    ((agree ≡ true) ↔ SaySame found.primary found.backup) → (agree ≡ true) ↔ CopiesAgree sectors contents
+agree_said sectors contents found agree say same = (
+  λ here. let both = same.0 here in (both.0, sym say.0 ∙ both.1, sym say.1 ∙ both.2),
+  λ both. same.1 (both.0, say.0 ∙ both.1, say.1 ∙ both.2),
+)

@@ -52,6 +52,14 @@ first_of None backup = option_map (λ table. record { table = table; copy = Back
 abbrev pub first_table : ℕ → Contents → Option SeenTable
 first_table sectors disk = first_of (table_at Primary sectors disk) (table_at Backup sectors disk)
 
+-- two copies are valid, and say the same table
+abbrev pub SaySame : Option Table → Option Table → Type 0
+SaySame primary backup = (table : Table) × (primary ≡ Some table) × (backup ≡ Some table)
+
+-- both copies of a disk do
+abbrev pub CopiesAgree : ℕ → Contents → Type 0
+CopiesAgree sectors disk = SaySame (table_at Primary sectors disk) (table_at Backup sectors disk)
+
 -- contents that agree with a disk's in each sector that isn't spent, as those before reads do
 abbrev pub AgreesUnspent : Seen → ℕ → Contents → Type 0
 AgreesUnspent rack disk contents =

@@ -6,7 +6,8 @@
 //! attributes and names are read over.
 //!
 //! The contract for the layer above, over any [`rack::Rack`]: [`read_table`] gives the table of the
-//! first valid copy and writes nothing; [`write_whole`] leaves two durable copies that say the given
+//! first valid copy and writes nothing; [`compare_copies`] does so too, and says whether both copies
+//! agree; [`write_whole`] leaves two durable copies that say the given
 //! table, and at no moment writes another sector; [`change_entry`] puts one entry into both copies,
 //! and at every moment the table is the old one or the new one; [`settle_table`] makes both copies say
 //! what the first valid one says, and at every moment the table is the same (specs/Changes.antt).
@@ -27,7 +28,7 @@ mod writing;
 use arrayvec::ArrayVec;
 pub use changing::change_entry;
 pub use reading::read_table;
-pub use settling::settle_table;
+pub use settling::{compare_copies, settle_table};
 use shr_base::Id;
 pub use writing::write_whole;
 
@@ -100,6 +101,15 @@ pub struct Seen {
     pub table: Table,
     /// The copy.
     pub copy: TableCopy,
+}
+
+/// What both copies of a table say.
+#[derive(Debug, PartialEq, Eq, Drop)]
+pub struct Compared {
+    /// The table of the first valid copy, the primary before the backup.
+    pub table: Table,
+    /// Both copies are valid and say the same.
+    pub agree: bool,
 }
 
 /// Why a disk shows no table.

@@ -7,9 +7,8 @@ use std::alloc::Global;
 use std::process::Abort;
 use std::test::Fail;
 
-/// How many calls such an opening makes, by the pool. Most of them read tables: both copies of each drive's, which are compared, and the
-/// first one once more, when the drive is checked.
-const CALLS: [u64; 3] = [278, 390, 611];
+/// How many calls such an opening makes, by the pool. Most of them read tables: both copies of each drive's, which are compared.
+const CALLS: [u64; 3] = [212, 291, 446];
 
 /// Opens a pool that was ended cleanly. Answers how many calls that took.
 fn open_quietly(rt: &impl Abort, alloc: Global, plan: &Plan) -> Result<u64, Fail> {

@@ -1,12 +1,13 @@
 -- The disk of a name is attached, or the attaching refused: nothing was called.
-use Rattle.std.proofs.Common.{◌≡◌, ◌⊎◌, ◌↔◌, ℕ, zero, suc, ◌+◌, ◌<◌, ◌≤◌, ◌^◌, if◌then◌else◌, false, List, [], ◌∷◌, ◌++◌, length, slice_get, Some, refl, sym, ap, subst, ◌∙◌, inl, inr, arith, lt-ltb, le-ltb}
+use Rattle.std.proofs.Common.{◌≡◌, ◌⊎◌, ◌↔◌, ℕ, zero, suc, ◌+◌, ◌<◌, ◌≤◌, ◌^◌, bytes_eq, if◌then◌else◌, false, List, [], ◌∷◌, ◌++◌, length, slice_get, Some, None, refl, sym, ap, subst, ◌∙◌, inl, inr, arith, lt-ltb, le-ltb}
 use Rattle.std.specs.Prelude.{Result, Ok, Err, IfErr, IfOk}
-use Rattle.std.proofs.lemmas.Bool.{cases_lt}
+use Rattle.std.proofs.lemmas.Bool.{both_ways, cases_Bool, cases_lt}
 use Rattle.std.proofs.lemmas.Option.{slice_get_within}
+use Rattle.std.proofs.lemmas.Slice.Eq.{bytes_eq-Decides}
 use Rattle.rack.specs.declared.AttachFault.{AttachFault}
 use Rattle.rack.specs.declared.AttachFault.TheVariants.{Failed, Twice as TwiceAt, Memory as NoMemory}
 use Rattle.rack.specs.Joins.{keeps_same}
-use Rattle.rack.specs.Values.{Keeps}
+use Rattle.rack.specs.Values.{Keeps, Values, only}
 use Rattle.rack.specs.Seen.{Seen}
 use Rattle.rack.specs.Shelf.{Adds, Attaches, IsSame, Shelf}
 use Rattle.slice_rack.specs.Slices.{IsOrderly, disk_of, first_of, place_of, sectors_of}
@@ -17,14 +18,18 @@ use Rattle.raid_rack.specs.RaidRack.{IsFit}
 use Rattle.raid_rack.proofs.Apart.{seat_is}
 use Rattle.pool.specs.declared.replacing.GrowFault.{GrowFault}
 use Rattle.pool.specs.declared.replacing.GrowFault.TheVariants.{Attach, Twice, Memory}
-use Rattle.pool.specs.Continuing.{Continues, KeepsOutside}
-use Rattle.pool.specs.Moment.{IsNamed, moment_of}
+use Rattle.pool.specs.Continuing.{Continues, KeepsOutside, NoDisk}
+use Rattle.pool.specs.Moment.{IsImage, IsNamed, moment_of}
 use Rattle.pool.specs.Replaced.{IsOfDrive, faults_before}
-use Rattle.pool.specs.Taking.{AreTold, AttachesDisk, Carries, IsOfPlace, NoDisk}
-use Rattle.pool.specs.View.{View, volume}
+use Rattle.pool.specs.Taking.{AreTold, AttachesDisk, Carries, IsOfPlace}
+use Rattle.pool.specs.View.{View, book, slices_shown, volume}
 use Rattle.pool.specs.Volume.{is_spent}
 use Rattle.pool.proofs.Carrying.{carries_kept}
 use Rattle.pool.proofs.Later.{disks_fit, inside_later, later, only_read, some_disk}
+use Rattle.rack.specs.Sequences.{OnlyReads}
+use Rattle.array_model.specs.Members.{slice_on}
+use Rattle.raid_rack.specs.Truths.{KeepsTruths}
+use Rattle.raid_rack.proofs.Truths.{truths_reads}
 
 -- what a bay promises of its disks
 pub record IsBay (b : Seen) (s : Shelf) : Type 0 where
@@ -93,6 +98,12 @@ module _ (x : View) (b : Seen) (s : Shelf) (name : List ℕ) (raw : Result ℕ A
               subst (λ e. b.told e) same waited.told
         ]
 
+    -- its name is the last one
+    pub named : slice_get s.names number ≡ Some name
+    named =
+        ap (λ names. slice_get names number) adds.names
+        ∙ subst (λ k. slice_get (x.shelf.names ++ name ∷ []) k ≡ Some name) (was.numbered ∙ sym adds.number) (got_new x.shelf.names name)
+
     pub added_continues : Continues x m
     added_continues = record {
       fit = (added_arrays, inside_later x b s x.slices x.arrays fit refl (λ n. refl));
@@ -102,6 +113,16 @@ module _ (x : View) (b : Seen) (s : Shelf) (name : List ℕ) (raw : Result ℕ A
       sectors = λ d low. (adds.others d low).sectors;
       faults = λ d low. let same = (adds.others d low).faults in omega (arith, same);
       names = λ d own is. ap (λ names. slice_get names d) adds.names ∙ got_old x.shelf.names name d (slice_get_within x.shelf.names d own is) ∙ is;
+      waits = λ n.
+          elim (cases_Bool (bytes_eq n name)) [
+            | inl is ↦
+                (let same = (bytes_eq-Decides n name).0 is in
+                inr (
+                  subst (λ k. s.ready k ≡ None) (sym same) adds.gone,
+                  (number, (let at = adds.number in omega (arith, at)), subst (λ k. slice_get s.names number ≡ Some k) (sym same) named),
+                ))
+            | inr other ↦ inl (adds.ready n (λ same. both_ways (bytes_eq n name) other ((bytes_eq-Decides n name).1 same)))
+          ];
       unattached = attaches.faults;
       told = adds.told;
       tells = λ d low told. (adds.others d low).told told;
@@ -118,13 +139,24 @@ module _ (x : View) (b : Seen) (s : Shelf) (name : List ℕ) (raw : Result ℕ A
       spent = λ k alive. alive;
       told = λ names all k low alive told. (kept names k alive).told names all k low alive told;
       keeps = λ names all k low alive told. (kept names k alive).keeps names all k low alive told;
+      made = refl;
+      truths = truths_kept;
     }
       where
+        reads : x.shelf.told → 0 < x.bay.disks → OnlyReads (slices_of x.slices x.bay) (slices_of x.slices b)
+        reads names some = attached_reads x.slices x.bay b x.shelf s name number adds names some inside now.fit now.lasting was.unspent now.unspent now.small
+
+        truths_kept : x.shelf.told → AreTold x → KeepsTruths (book x) (book m) (slices_shown x) (slices_shown m)
+        truths_kept names all n low held k within there =
+            let d = slice_on ((book x).arrays n) k in
+            let long = (held k within there).live.sector in
+            let disk = old_disk d (omega (arith, long)) in
+            truths_reads (book x) (slices_of x.slices x.bay) (slices_of x.slices b) fit.0.running.set (reads names (omega (arith, disk))) n low held k within there
+
         kept : x.shelf.told → (k : ℕ) → is_spent m k ≡ false → Carries x m
         kept names k alive =
-            let both = only_read x b s linear fit added_arrays
-            (attached_reads x.slices x.bay b x.shelf s name number adds names (some_disk x k orderly fit alive) inside now.fit now.lasting was.unspent now.unspent now.small) in
-            carries_kept x m both.0 both.1
+            let both = only_read x b s linear fit added_arrays (reads names (some_disk x k orderly fit alive)) in
+            carries_kept x m both.0 both.1 refl truths_kept
 
     pub added_outside : KeepsOutside x.slices x.slices NoDisk x.shelf.told x.bay b
     added_outside = record {
@@ -169,6 +201,7 @@ module _ (x : View) (b : Seen) (s : Shelf) (name : List ℕ) (raw : Result ℕ A
       sectors = λ d low. (same.others d).sectors;
       faults = λ d low. let equal = (same.others d).faults in omega (arith, equal);
       names = λ d own is. ap (λ names. slice_get names d) same.names ∙ is;
+      waits = λ n. inl (same.ready n);
       unattached = attaches.faults;
       told = same.told;
       tells = λ d low told. (same.others d).told told;
@@ -182,8 +215,9 @@ module _ (x : View) (b : Seen) (s : Shelf) (name : List ℕ) (raw : Result ℕ A
 
     pub same_carries : Carries x m
     same_carries =
-        let both = only_read x b s linear fit same_arrays (unattached_reads x.slices x.bay b x.shelf s same inside now.fit now.lasting was.unspent now.unspent) in
-        carries_kept x m both.0 both.1
+        let reads = unattached_reads x.slices x.bay b x.shelf s same inside now.fit now.lasting was.unspent now.unspent in
+        let both = only_read x b s linear fit same_arrays reads in
+        carries_kept x m both.0 both.1 refl (λ names all. truths_reads (book x) (slices_of x.slices x.bay) (slices_of x.slices b) fit.0.running.set reads)
 
     pub same_outside : KeepsOutside x.slices x.slices NoDisk x.shelf.told x.bay b
     same_outside = record {
@@ -214,7 +248,24 @@ module _ (x : View) (b : Seen) (s : Shelf) (name : List ℕ) (raw : Result ℕ A
       held = λ d low k. (same.others d).held k;
       faults = same_faults;
       ok = ok;
-      one = one_still;
+      names = record {
+        one = one_still;
+        there = λ d named. let low = slice_get_within s.names d name named in let count = now.numbered in omega (arith, low, count);
+        came = λ d past low. let equal = same.disks in absurd (omega (arith, past, low, equal));
+        old = λ d low named. ap (λ names. slice_get names d) (sym same.names) ∙ named;
+        others = λ d n is. inl (ap (λ names. slice_get names d) (sym same.names) ∙ is);
+      };
+      image = λ told d named. (
+        x.bay.held d,
+        inl (
+          d,
+          (let low = slice_get_within s.names d name named in let count = now.numbered in let equal = same.disks in omega (arith, low, count, equal)),
+          ap (λ names. slice_get names d) (sym same.names) ∙ named,
+          (same.others d).sectors,
+          refl,
+        ),
+        λ k within. (same.others d).held k,
+      );
       err = err;
       attach = λ is. attaches.failed (failed is);
       used = λ d named.
@@ -245,7 +296,22 @@ module _ (x : View) (b : Seen) (s : Shelf) (name : List ℕ) (raw : Result ℕ A
       let more = adds.disks in let at = adds.number in omega (arith, more, at),
       λ of. let old = inside.seats of.0 number of.1 in let at = adds.number in omega (arith, old, at),
     );
-    one = λ d e first second. last d first ∙ sym (last e second);
+    names = record {
+      one = λ d e first second. last d first ∙ sym (last e second);
+      there = λ d named. let low = slice_get_within s.names d name named in let count = now.numbered in omega (arith, low, count);
+      came = λ d past low.
+          let more = adds.disks in
+          let at = adds.number in
+          let same : number ≡ d = omega (arith, past, low, more, at) in
+          subst (λ e. slice_get s.names e ≡ Some name) same own;
+      old = λ d low named. let at = last d named in let new = adds.number in absurd (omega (arith, low, at, new));
+      others = λ d n is.
+          elim (cases_lt d (length x.shelf.names)) [
+            | inl low ↦ inl (sym (got_old x.shelf.names name d low) ∙ ap (λ names. slice_get names d) (sym adds.names) ∙ is)
+            | inr past ↦ inr (same_name n name (sym is ∙ ap (slice_get s.names) (end_of d n past is) ∙ own))
+          ];
+    };
+    image = λ told d named. subst (λ (e : ℕ). HasImage e) (sym (last d named)) (waited told);
     err = tt;
     attach = λ same. absurd (never_fault Attach number same);
     used = λ d named. absurd (none d named);
@@ -262,16 +328,38 @@ module _ (x : View) (b : Seen) (s : Shelf) (name : List ℕ) (raw : Result ℕ A
       long = was.numbered ∙ sym adds.number
 
       own : slice_get s.names number ≡ Some name
-      own = ap (λ names. slice_get names number) adds.names ∙ subst (λ k. slice_get (x.shelf.names ++ name ∷ []) k ≡ Some name) long (got_new x.shelf.names name)
+      own = named number adds
+
+      HasImage : ℕ → Type 0
+      HasImage d = (held : ℕ → Values) × IsImage (moment_of x) name (b.sectors d) held × ((k : ℕ) → k < b.sectors d → b.held d k ≡ held k)
+
+      -- it has what waited
+      waited : x.shelf.told → HasImage number
+      waited told =
+          let one = adds.waited told in
+          let w = one.0 in
+          let from = one.2 in (
+            λ k. only (w.contents k),
+            inr (none, (w, one.1, from.sectors, refl)),
+            λ k within. from.held k (subst (λ n. k < n) from.sectors within),
+          )
+
+      same_name : (a b : List ℕ) → Some a ≡ Some b → a ≡ b
+      same_name a b same = cc
+
+      end_of : (d : ℕ) (n : List ℕ) → length x.shelf.names ≤ d → slice_get s.names d ≡ Some n → d ≡ number
+      end_of d n past is =
+          let inside_now = slice_get_within s.names d n is in
+          let more : length s.names ≡ b.disks = now.numbered in
+          let disks = adds.disks in
+          let count = was.numbered in
+          omega (arith, inside_now, more, disks, past, long, count)
 
       last : (d : ℕ) → slice_get s.names d ≡ Some name → d ≡ number
       last d named =
-          let inside_now = slice_get_within s.names d name named in
-          let more : length s.names ≡ b.disks = now.numbered in
-          let disks = adds.disks in
           elim (cases_lt d (length x.shelf.names)) [
             | inl old ↦
                 absurd
                 (none d (sym (got_old x.shelf.names name d old) ∙ ap (λ names. slice_get names d) (sym adds.names) ∙ named))
-            | inr new ↦ let count = was.numbered in omega (arith, inside_now, more, disks, new, long, count)
+            | inr new ↦ end_of d name new named
           ]

@@ -5,7 +5,7 @@ use Rattle.std.specs.Option.{option_or}
 use Rattle.std.proofs.Common.{◌≡◌, ◌≢◌, ◌⊎◌, ℕ, ◌<◌, ◌≤◌, not, if◌then◌else◌, Bool, true, false, List, [], ◌∷◌, length, slice_get, Option, Some, None, option_map, refl, sym, ap, subst, ◌∙◌, inl, inr, arith, lt-ltb, le-ltb}
 use Rattle.std.proofs.lemmas.Bool.{both_ways, cases_lt}
 use Rattle.rack.specs.Joins.{keeps_same}
-use Rattle.rack.specs.Values.{Keeps, MayLeave}
+use Rattle.rack.specs.Values.{Keeps, MayLeave, Values}
 use Rattle.rack.specs.Moments.{IsSound}
 use Rattle.rack.specs.Seen.{Rose, Seen}
 use Rattle.rack.specs.Shelf.{Shelf}
@@ -18,16 +18,18 @@ use Rattle.lvm_group.specs.Runs.{Linear}
 use Rattle.raid_rack.specs.Book.{IsAfter, after_same}
 use Rattle.raid_rack.specs.Losing.{arrays_same}
 use Rattle.raid_rack.specs.Moves.{KeepsArrays}
+use Rattle.raid_rack.specs.NewDrive.{IsOfDrive as IsLaid}
 use Rattle.raid_rack.specs.Raid.{Raid}
 use Rattle.shr_base.specs.Units.{units_of}
 use Rattle.pool.specs.declared.replacing.GrowFault.{GrowFault}
 use Rattle.pool.specs.declared.replacing.GrowFault.TheVariants.{NoSuchDrive, Attach, Twice, Memory, Gone, PlanPending, NotWhole, NotResynced, Unbuilt, TooManySegments}
-use Rattle.pool.specs.Continuing.{KeepsDisk}
-use Rattle.pool.specs.Moment.{IsNamed, moment_of}
-use Rattle.pool.specs.Replaced.{DriveWentSince, HasMarked, HasTable, IsAnswer, IsDeclined, IsLookedAt, IsOfDrive, IsReplaced, LeavesNew, MeansWith, MeansWithout, ReplacesDrive, faults_before}
+use Rattle.pool.specs.Continuing.{KeepsDisk, NoDisk}
+use Rattle.pool.specs.Moment.{IsImage, IsNamed, moment_of}
+use Rattle.pool.specs.Replaced.{DriveWentSince, HasMarked, HasTable, IsAnswer, IsDeclined, IsLaidOn, IsLookedAt, IsOfDrive, IsReplaced, LeavesNew, MeansWith, MeansWithout, ReplacesDrive, faults_before}
 use Rattle.pool.specs.Replacing.{fault_of, first_cause, has_other_missing, has_resync, has_same, is_planned, lacks_segments, refusal_of, standing_refusals}
-use Rattle.pool.specs.Taking.{AttachesDisk, NoDisk, ReplacesBy}
+use Rattle.pool.specs.Taking.{AreTold, AttachesDisk, ReplacesBy}
 use Rattle.array_image.specs.Places.{log_slice}
+use Rattle.slice_rack.specs.Runs.{IsSliced}
 use Rattle.slice_rack.specs.Slices.{disk_of, seat_of}
 use Rattle.pool.specs.View.{View, book, volume}
 use Rattle.pool.specs.Volume.{Holds}
@@ -165,7 +167,7 @@ replaced_unlisted x place name fit sound past = record {
     held = λ d s out. keeps_same (x.bay.held d s);
     stops = λ told traced k i since until stopped. absurd (omega (arith, since, until));
   };
-  retired = λ d seat unnamed. still_disk x.shelf.told x.bay x.bay d (λ k. refl) refl;
+  changes = λ low. absurd (omega (arith, low, past));
   cause = record {
     missing = (λ same. past, λ same. refl);
     attach = λ same. absurd (let e : NoSuchDrive ≡ Attach = same_fault NoSuchDrive Attach same in cc e);
@@ -181,6 +183,7 @@ replaced_unlisted x place name fit sound past = record {
   table = tt;
   moments = tt;
   holds = λ a holds. holds;
+  truths = λ names all n low held. held;
   leaves = λ traced a holds k i since until stopped. absurd (omega (arith, since, until));
   ends = λ traced a holds i stopped. ends_of x (sound traced) a holds i stopped;
 }
@@ -199,7 +202,11 @@ nothing_done x place disk e fit is = record {
     stops = λ told traced k i since until stopped. absurd (omega (arith, since, until));
   };
   retired = λ d seat other. still_disk x.shelf.told x.bay x.bay d (λ k. refl) refl;
+  laid = λ low all k v within unsliced left. inl left;
   names = refl;
+  bare = λ d seat other. inl refl;
+  disks = refl;
+  admitted = inl refl;
   answer = subst (λ o. IsAnswer o (Err e)) (sym is) refl;
   gone = λ same. absurd ((refusal_late x.linear (book x) place (x.bay.sectors disk) e is).1 (same_fault e Gone same));
   not_whole = λ same. inl (is ∙ ap Some (same_fault e NotWhole same));
@@ -223,7 +230,17 @@ module _ (x : View) (b : Seen) (s : Shelf) (place : ℕ) (name : List ℕ) (list
     raises = raises_still 1 x;
     keeps = book_same (book x);
     outside = outside_fewer x.slices x.slices NoDisk (IsNamed (moment_of m) name) x.shelf.told x.bay b (λ d none. absurd none) at.outside;
-    retired = λ d seat unnamed. still_disk x.shelf.told x.bay b d (at.held d (fit.0.running.set.fit.1.seats place d seat)) at.clock;
+    changes = λ low. record {
+      names = at.names;
+      bare = λ d seat unnamed. inl refl;
+      retired = λ d seat unnamed. still_disk x.shelf.told x.bay b d (at.held d (fit.0.running.set.fit.1.seats place d seat)) at.clock;
+      admitted = inl refl;
+      current = λ of. at.outside;
+      image = λ told all d named.
+          let one = at.image told d named in
+          (one.0, one.1, λ k v within unsliced left. inl (subst (λ h. MayLeave h v) (one.2 k within) left));
+      spent = at.carries.spent;
+    };
     cause = record {
       missing = (λ same. absurd (not_listed (same_fault e NoSuchDrive same) at.err), λ past. absurd (omega (arith, listed, past)));
       attach = λ same. at.attach (ap Err (same_fault e Attach same));
@@ -242,6 +259,7 @@ module _ (x : View) (b : Seen) (s : Shelf) (place : ℕ) (name : List ℕ) (list
     table = tt;
     moments = tt;
     holds = holds_of x m at.continues at.carries;
+    truths = at.carries.truths;
     leaves = λ traced a holds k i since until stopped. let clock = at.clock in absurd (omega (arith, since, until, clock));
     ends = λ traced a holds i stopped. ends_of m (sound (at.continues.traced holds.shelf traced)) a (holds_of x m at.continues at.carries a holds) i stopped;
   }
@@ -298,19 +316,38 @@ module _ (x : View) (b : Seen) (s : Shelf) (place : ℕ) (name : List ℕ) (list
           keeps = by.keeps;
           outside = outside_fewer x.slices y.slices (λ d. NoDisk d ⊎ (d ≡ disk)) (IsNamed (moment_of y) name) x.shelf.told x.bay y.bay (λ d is. named_at y here d is)
               (outside_then x m y NoDisk (λ d. d ≡ disk) at.continues by.continues at.outside by.outside);
-          retired = λ d seat unnamed.
-              let keeps = by.retired d seat (λ is. unnamed (named_at y here d (inr is))) in
-              let old = fit.0.running.set.fit.1.seats place d seat in
-              let size_d : b.sectors d ≡ x.bay.sectors d = at.continues.sectors d old in
-              record {
-                held = λ k within told.
-                    subst (λ h. Keeps h (y.bay.held d k)) (at.held d old k)
-                    (keeps.held k (subst (λ n. k < n) (sym size_d) within) (at.continues.tells d old told));
-                stops = λ told traced k i since until stopped q within tells.
-                    subst (λ h. MayLeave h (i d q)) (at.held d old q)
-                    (keeps.stops (at.continues.told told) (at.continues.traced told traced) k i (let clock = at.clock in omega (arith, since, clock)) until stopped q
-                    (subst (λ n. q < n) (sym size_d) within) (at.continues.tells d old tells));
-              };
+          changes = λ low. record {
+            names = record {
+              there = λ d named. let old = at.names.there d (named_before y by d named) in let more = by.continues.disks in omega (arith, old, more);
+              one = λ d e first second. at.names.one d e (named_before y by d first) (named_before y by e second);
+              came = λ d past inside.
+                  let equal = by.disks in
+                  ap (λ names. slice_get names d) by.names ∙ at.names.came d past (omega (arith, inside, equal));
+              old = λ d low named. at.names.old d low (named_before y by d named);
+              others = λ d n is. at.names.others d n (ap (λ names. slice_get names d) (sym by.names) ∙ is);
+            };
+            retired = λ d seat unnamed.
+                let keeps = by.retired d seat (λ is. unnamed (named_at y here d (inr is))) in
+                let old = fit.0.running.set.fit.1.seats place d seat in
+                let size_d : b.sectors d ≡ x.bay.sectors d = at.continues.sectors d old in
+                record {
+                  held = λ k within told.
+                      subst (λ h. Keeps h (y.bay.held d k)) (at.held d old k)
+                      (keeps.held k (subst (λ n. k < n) (sym size_d) within) (at.continues.tells d old told));
+                  stops = λ told traced k i since until stopped q within tells.
+                      subst (λ h. MayLeave h (i d q)) (at.held d old q)
+                      (keeps.stops (at.continues.told told) (at.continues.traced told traced) k i (let clock = at.clock in omega (arith, since, clock)) until stopped q
+                      (subst (λ n. q < n) (sym size_d) within) (at.continues.tells d old tells));
+                };
+            bare = λ d seat unnamed. by.bare d seat (λ is. unnamed (named_at y here d (inr is)));
+            admitted = elim by.admitted [
+              | inl same ↦ inl same
+              | inr none ↦ inr (disk, here, ap (refusal_of x.linear (book x) place) size ∙ none)
+            ];
+            current = λ of. absurd (not_drive of);
+            image = λ told all d named. subst (λ e. IsKept y e) (sym (only y by d named)) (kept y by told all);
+            spent = λ s alive. carries.spent s alive;
+          };
           cause = record {
             missing = (λ same. absurd ((late by NoSuchDrive same).listed refl), λ past. absurd (omega (arith, listed, past)));
             attach = λ same. absurd ((late by Attach same).attached refl);
@@ -332,6 +369,7 @@ module _ (x : View) (b : Seen) (s : Shelf) (place : ℕ) (name : List ℕ) (list
           table = table_since y r (only y by) by.table;
           moments = moments_since y r (only y by) by.moments;
           holds = holds_of x y go carries;
+          truths = carries.truths;
           leaves = λ traced a holds k i since until stopped.
               by.leaves (at.continues.traced holds.shelf traced) a (holds_of x m at.continues at.carries a holds) k i
               (let clock = at.clock in omega (arith, since, clock)) until stopped;
@@ -342,16 +380,45 @@ module _ (x : View) (b : Seen) (s : Shelf) (place : ℕ) (name : List ℕ) (list
         named_at y here d (inl none) = absurd none
         named_at y here d (inr is) = subst (λ e. IsNamed (moment_of y) name e) (sym is) here
 
+        named_before : (y : View) → ReplacesBy m y place disk r → (d : ℕ) → IsNamed (moment_of y) name d → IsNamed (moment_of m) name d
+        named_before y by d named = ap (λ names. slice_get names d) (sym by.names) ∙ named
+
         late : ReplacesBy m y place disk r → (f : GrowFault) → r ≡ Err f → IsLate f
         late by = answer_late x.linear (book x) place (b.sectors disk) r by.answer
 
         only : (y : View) → ReplacesBy m y place disk r → (d : ℕ) → IsNamed (moment_of y) name d → d ≡ disk
-        only y by d named = at.one d disk (ap (λ names. slice_get names d) (sym by.names) ∙ named) at.ok.0
+        only y by d named = at.names.one d disk (ap (λ names. slice_get names d) (sym by.names) ∙ named) at.ok.0
 
         not_drive : IsOfDrive (moment_of x) name → ⊥
         not_drive of =
-            let same : of.0 ≡ disk = at.one of.0 disk (at.continues.names of.0 name of.2) at.ok.0 in
+            let same : of.0 ≡ disk = at.names.one of.0 disk (at.continues.names of.0 name of.2) at.ok.0 in
             at.ok.2 (of.1, subst (λ e. seat_of x.slices of.1 ≡ Some e) same of.3, of.4)
+
+        -- what the disk may be left with
+        IsKept : View → ℕ → Type 0
+        IsKept y d =
+            (held : ℕ → Values)
+            × IsImage (moment_of x) name (y.bay.sectors d) held
+            × ((k : ℕ) (v : List ℕ) → k < y.bay.sectors d → ((u : List ℕ) → IsSliced y.slices d k u → ⊥) → MayLeave (y.bay.held d k) v
+            → MayLeave (held k) v ⊎ IsLaidOn x.linear (moment_of x) place name (y.bay.sectors d) d k v)
+
+        kept : (y : View) → ReplacesBy m y place disk r → x.shelf.told → AreTold x → IsKept y disk
+        kept y by told all =
+            let one = at.image told disk at.ok.0 in
+            let size : y.bay.sectors disk ≡ b.sectors disk = by.continues.sectors disk at.ok.1 in (
+              one.0,
+              subst (λ n. IsImage (moment_of x) name n one.0) (sym size) one.1,
+              λ k v within unsliced left.
+                  let inside : k < b.sectors disk = subst (λ n. k < n) size within in
+                  elim (by.laid at.ok.1 (at.continues.known told all) k v inside unsliced left) [
+                    | inl before ↦ inl (subst (λ h. MayLeave h v) (one.2 k inside) before)
+                    | inr new ↦ inr (record {
+                      admitted = ap (refusal_of x.linear (book x) place) size ∙ new.0;
+                      other = not_drive;
+                      value = subst (λ n. IsLaid disk n disk k v) (sym size) new.1;
+                    })
+                  ],
+            )
 
         declined_since : (y : View) (r : Answer) → IfErr r (IsDeclined (moment_of m) (moment_of y) place) → IfErr r (IsDeclined (moment_of x) (moment_of y) place)
         declined_since y (Ok u) declined = tt

@@ -20,6 +20,7 @@ continues_same x fit = record {
   sectors = λ d low. refl;
   faults = λ d low. omega arith;
   names = λ d name is. is;
+  waits = λ name. inl refl;
   unattached = omega arith;
   told = λ told. told;
   tells = λ d low told. told;
@@ -43,6 +44,7 @@ continues_of x y passes =
       sectors = λ d low. bay.sectors d;
       faults = λ d low. bay.faults d;
       names = λ d name is. ap (λ names. slice_get names d) passes.shelf.names ∙ is;
+      waits = λ name. inl (passes.shelf.ready name);
       unattached = let same = passes.shelf.faults in omega (arith, same);
       told = passes.shelf.told;
       tells = λ d low told. bay.told d told;
@@ -66,6 +68,14 @@ continues_then x y z one two =
       sectors = λ d low. two.sectors d (omega (arith, low, more)) ∙ one.sectors d low;
       faults = λ d low. let first = one.faults d low in let second = two.faults d (omega (arith, low, more)) in omega (arith, first, second);
       names = λ d name is. two.names d name (one.names d name is);
+      waits = λ name.
+          elim (two.waits name) [
+            | inl still ↦ elim (one.waits name) [
+              | inl same ↦ inl (still ∙ same)
+              | inr taken ↦ inr (still ∙ taken.0, (taken.1.0, taken.1.1, two.names taken.1.0 name taken.1.2))
+            ]
+            | inr taken ↦ inr (taken.0, (taken.1.0, (let past = taken.1.1 in omega (arith, past, more)), taken.1.2))
+          ];
       unattached = let first = one.unattached in let second = two.unattached in omega (arith, first, second);
       told = λ told. two.told (one.told told);
       tells = λ d low told. two.tells d (omega (arith, low, more)) (one.tells d low told);

@@ -55,7 +55,7 @@ use Rattle.pool.proofs.Enlisted.{all_spent, book_enlisted}
 use Rattle.pool.proofs.Keeping.{not_left, went}
 use Rattle.pool.proofs.Later.{inside_later, later}
 use Rattle.pool.proofs.Shown.{views_are}
-use Rattle.pool.proofs.Taken.{goes_on, low_disk, mid_carries, mid_fit, mid_goes, outside_of_it, retired_by}
+use Rattle.pool.proofs.Taken.{bare_by, goes_on, laid_by, low_disk, mid_carries, mid_fit, mid_goes, outside_of_it, retired_by}
 
 -- the sectors of a table lie on its disk
 of_table : (sectors k : ℕ) → 10273 ≤ sectors → IsOfTable sectors k → k < sectors
@@ -140,6 +140,8 @@ module _ (x : View) (b : Seen) (s : Shelf) (place disk units : ℕ) (t u : Slice
         let n = array_of x.linear k in
         let below = array_inside k inside in
         (tells all k alive n (low_array n below) told below).keeps (sector_of x.linear k) alive;
+    made = made;
+    truths = λ names all. enlists.truths (opened all);
   }
 
   -- ---- its table
@@ -300,7 +302,11 @@ module _ (x : View) (b : Seen) (s : Shelf) (place disk units : ℕ) (t u : Slice
         retired =
             retired_by x b s place disk t linear fit missing vacated empty now names ordered orderly admits u may enlists.only
             (λ d k a at. elim at [ inl own ↦ inr own.0 | inr is ↦ new_sliced d k a is ]) new_sliced;
+        laid = laid_by x b s place disk t linear fit missing vacated empty now names ordered orderly admits u enlists.only;
         names = names.names;
+        bare = λ d seat other. inr (bare_by x b s place disk t linear fit missing vacated empty now names ordered orderly admits u disk new_sliced d seat other);
+        disks = enlists.only.stays.disks;
+        admitted = inr admits;
         answer = subst (λ o. IsAnswer o (Ok tt)) (sym admits) (inl refl);
         gone = λ same. absurd (let e : ◌≡◌ {A = Result (Unit {0}) GrowFault} (Ok tt) (Err Gone) = same in cc e);
         not_whole = λ same. absurd (let e : ◌≡◌ {A = Result (Unit {0}) GrowFault} (Ok tt) (Err NotWhole) = same in cc e);

@@ -7,7 +7,7 @@ mod Rebuilding
 mod Reached
 mod Losing
 mod Planning
-mod Admitted
+pub mod Admitted
 mod Shown
 mod Carrying
 mod Later

@@ -2,9 +2,11 @@
 use Rattle.std.specs.Prelude.{Err}
 use Rattle.std.proofs.Common.{◌≡◌, ◌≢◌, ◌⊎◌, ℕ, ◌<◌, Bool, true, false, List, Some, None, if◌then◌else◌, refl, sym, ap, subst, ◌∙◌, inl, inr, arith, lt-ltb}
 use Rattle.std.proofs.lemmas.Bool.{both_ways, cases_eq, ne_eqb}
-use Rattle.rack.specs.Seen.{Rose, Seen}
+use Rattle.rack.specs.Seen.{IsLive, Rose, Seen}
 use Rattle.rack.specs.Sequences.{WritesOnly}
+use Rattle.rack.specs.Values.{MayLeave}
 use Rattle.rack.specs.Shelf.{KeepsShelf, Shelf}
+use Rattle.rack.proofs.Writing.{only_weaker}
 use Rattle.slice_rack.specs.Changes.{Seats}
 use Rattle.slice_rack.specs.Runs.{IsSliced}
 use Rattle.slice_rack.specs.Slices.{IsOrderly, Slices, disk_of, place_of, seat_of}
@@ -25,11 +27,11 @@ use Rattle.raid_rack.proofs.Apart.{reads_apart, seat_is}
 use Rattle.raid_rack.proofs.Raises.{raises_more}
 use Rattle.raid_rack.proofs.Whole.{heeded_left}
 use Rattle.pool.specs.declared.replacing.GrowFault.TheVariants.{Gone, NotWhole}
-use Rattle.pool.specs.Continuing.{Continues, IsOutside, KeepsDisk, KeepsOutside}
+use Rattle.pool.specs.Continuing.{Continues, IsOutside, KeepsDisk, KeepsOutside, NoDisk}
 use Rattle.pool.specs.Keeping.{most_raised}
 use Rattle.pool.specs.Replaced.{IsAnswer}
 use Rattle.pool.specs.Replacing.{refusal_of}
-use Rattle.pool.specs.Taking.{Carries, NoDisk, ReplacesBy}
+use Rattle.pool.specs.Taking.{AreTold, Carries, ReplacesBy}
 use Rattle.pool.specs.View.{View, book, volume}
 use Rattle.pool.proofs.Attaching.{IsBay}
 use Rattle.pool.proofs.Booked.{book_lost, book_same, raises_still}
@@ -38,6 +40,8 @@ use Rattle.pool.proofs.Continuing.{continues_then, outside_fewer, outside_then, 
 use Rattle.pool.proofs.Keeping.{not_left, went}
 use Rattle.pool.proofs.Later.{inside_later, later, moved, only_read}
 use Rattle.pool.proofs.Vacating.{bay_continues, without_carries, without_continues, without_fit, without_outside}
+use Rattle.raid_rack.specs.Truths.{KeepsTruths}
+use Rattle.raid_rack.proofs.Truths.{truths_reads}
 
 -- the drive of a place that is left is one of the bay's disks
 pub low_disk : (v : Raid) (t : Slices) (a : Seen) (p : ℕ) → IsOrderly t → IsSet v (slices_of t a) → is_left v p ≡ true → disk_of t (log_slice p) < a.disks
@@ -79,6 +83,22 @@ module _ (x : View) (b : Seen) (s : Shelf) (place disk : ℕ) (t : Slices) (line
       (outside_writes t u (λ d. d ≡ disk) x.shelf.told x.bay b may only now.unspent writes slices))
 
   -- the disk that the place had has no slice any more
+  bare_mid : (d : ℕ) → seat_of x.slices place ≡ Some d → (k : ℕ) (v : List ℕ) → IsSliced t d k v → ⊥
+  bare_mid d seat k v is =
+      elim (cases_eq (place_of is.slice) place) [
+        | inl same ↦ let empty_slice = vacated.cleared is.slice same in let within = is.within in omega (arith, empty_slice, within)
+        | inr away ↦
+            let on = seat_is t is.slice is.at orderly is.within in
+            let was : seat_of x.slices (place_of is.slice) ≡ Some d =
+            sym (ap (λ (c : Bool). if c then None else seat_of x.slices (place_of is.slice)) (ne_eqb (place_of is.slice) place away)) ∙ sym (vacated.seats (place_of is.slice))
+            ∙ on ∙ ap Some (sym is.disk_is) in
+            away (ordered.one_place (place_of is.slice) place d was seat)
+      ]
+
+  pub bare_by : (u : Slices) (new : ℕ) → ((d k : ℕ) (v : List ℕ) → IsSliced u d k v → IsSliced t d k v ⊎ (d ≡ new))
+      → (d : ℕ) → seat_of x.slices place ≡ Some d → d ≢ new → (k : ℕ) (v : List ℕ) → IsSliced u d k v → ⊥
+  bare_by u new slices d seat other k v is = elim (slices d k v is) [ inl was ↦ bare_mid d seat k v was | inr same ↦ other same ]
+
   pub retired_by : (u : Slices) (may : ℕ → ℕ → List ℕ → Type 0) → WritesOnly x.bay b may
       → ((d k : ℕ) (v : List ℕ) → may d k v → IsSliced t d k v ⊎ (d ≡ disk)) → ((d k : ℕ) (v : List ℕ) → IsSliced u d k v → IsSliced t d k v ⊎ (d ≡ disk))
       → (d : ℕ) → seat_of x.slices place ≡ Some d → d ≢ disk → KeepsDisk x.shelf.told x.bay b d
@@ -89,20 +109,30 @@ module _ (x : View) (b : Seen) (s : Shelf) (place disk : ℕ) (t : Slices) (line
         stops = λ told traced k i since until stopped q within tells. keeps.stops told traced k i since until stopped d q (out q within tells);
       }
     where
-      none : (k : ℕ) (v : List ℕ) → IsSliced t d k v → ⊥
-      none k v is =
-          elim (cases_eq (place_of is.slice) place) [
-            | inl same ↦ let empty_slice = vacated.cleared is.slice same in let within = is.within in omega (arith, empty_slice, within)
-            | inr away ↦
-                let on = seat_is t is.slice is.at orderly is.within in
-                let was : seat_of x.slices (place_of is.slice) ≡ Some d =
-                sym (ap (λ (c : Bool). if c then None else seat_of x.slices (place_of is.slice)) (ne_eqb (place_of is.slice) place away)) ∙ sym (vacated.seats (place_of is.slice))
-                ∙ on ∙ ap Some (sym is.disk_is) in
-                away (ordered.one_place (place_of is.slice) place d was seat)
-          ]
-
       out : (k : ℕ) → k < x.bay.sectors d → x.bay.told d → IsOutside t (λ e. e ≡ disk) x.bay d k
-      out k within told = record { disk = fit.0.running.set.fit.1.seats place d seat; sector = within; is_told = told; unnamed = other; unsliced = none k }
+      out k within told = record { disk = fit.0.running.set.fit.1.seats place d seat; sector = within; is_told = told; unnamed = other; unsliced = bare_mid d seat k }
+
+  -- what is left on the disk outside the slices
+  pub laid_by : (u : Slices) → WritesOnly x.bay b (IsWrittenBy u disk (x.bay.sectors disk)) → disk < x.bay.disks → AreTold x
+      → (k : ℕ) (v : List ℕ) → k < x.bay.sectors disk → ((w : List ℕ) → IsSliced u disk k w → ⊥) → MayLeave (b.held disk k) v
+      → MayLeave (x.bay.held disk k) v
+      ⊎ ((refusal_of x.linear (book x) place (x.bay.sectors disk) ≡ None) × IsOfDrive disk (x.bay.sectors disk) disk k v)
+  laid_by u only low all k v within unsliced left =
+      elim (only.within disk k v live left) [
+        | inl before ↦ inl before
+        | inr written ↦ elim written [
+          | inl own ↦ inr (admits, own)
+          | inr sliced ↦ absurd (unsliced v sliced)
+        ]
+      ]
+    where
+      live : IsLive x.bay b disk k
+      live = record {
+        disk = subst (λ n. disk < n) (sym only.stays.disks) low;
+        sector = subst (λ n. k < n) (sym (only.stays.sectors disk)) within;
+        is_told = all disk low;
+        unspent = now.unspent disk k;
+      }
 
   -- ---- it refused a call
 
@@ -116,12 +146,16 @@ module _ (x : View) (b : Seen) (s : Shelf) (place disk : ℕ) (t : Slices) (line
       let fit_now : (volume y).fit = (after, inside_later x b s t x.arrays fit refl (λ n. refl)) in
       record {
         continues = goes_on t x.arrays may only fit_now;
-        carries = carries_then x mid y mid_goes mid_carries (carries_kept mid y both.0 both.1);
+        carries = carries_then x mid y mid_goes mid_carries (carries_kept mid y both.0 both.1 refl (λ names all. truths_reads (book x) (slices_of t x.bay) (slices_of t b) empty.running.set reads));
         raises = raises_still 1 x;
         keeps = book_same (book x);
         outside = outside_of_it t x.arrays may only fit_now (λ d k v at. inr at.0) (λ d k v is. inl is);
         retired = retired_by t may only (λ d k v at. inr at.0) (λ d k v is. inl is);
+        laid = laid_by t (only_weaker may (IsWrittenBy t disk (x.bay.sectors disk)) (λ d k v own. inl own) only);
         names = names.names;
+        bare = λ d seat other. inr (bare_by t disk (λ e k v is. inl is) d seat other);
+        disks = only.stays.disks;
+        admitted = inr admits;
         answer = subst (λ o. IsAnswer o (Err Gone)) (sym admits) (inr (inl refl));
         gone = λ same. rose;
         not_whole = λ same. absurd (let e : Gone ≡ NotWhole = cc same in cc e);
@@ -144,10 +178,10 @@ module _ (x : View) (b : Seen) (s : Shelf) (place disk : ℕ) (t : Slices) (line
   -- ---- another drive was found gone
 
   pub taken_lost : (z : Arrays) → WritesOnly x.bay b (IsWrittenBy t disk (x.bay.sectors disk)) → Mends (book x) (raid_by z) (slices_of t x.bay) (slices_of t b)
-      → RaisesBy 18 (book x) (raid_by z)
+      → RaisesBy 18 (book x) (raid_by z) → KeepsTruths (book x) (raid_by z) (slices_of t x.bay) (slices_of t b)
       → (p : ℕ) × (is_current (book x).state p ≡ true) × (is_current (raid_by z).state p ≡ false) × HasFault (slices_of t x.bay) (slices_of t b) p
       → IsFit z (slices_of t b) → ReplacesBy x (later x b s t z) place disk (Err NotWhole)
-  taken_lost z only mends raises lost after =
+  taken_lost z only mends raises truths lost after =
       let y = later x b s t z in
       let may : ℕ → ℕ → List ℕ → Type 0 = IsWrittenBy t disk (x.bay.sectors disk) in
       let moves = mends.moves in
@@ -155,12 +189,16 @@ module _ (x : View) (b : Seen) (s : Shelf) (place disk : ℕ) (t : Slices) (line
       let fit_now : (volume y).fit = (after, inside_later x b s t z fit moves.book.same.made moves.sectors) in
       record {
         continues = goes_on t z may only fit_now;
-        carries = carries_then x mid y mid_goes mid_carries (carries_kept mid y both.0 both.1);
+        carries = carries_then x mid y mid_goes mid_carries (carries_kept mid y both.0 both.1 moves.book.same.made (λ names all. truths));
         raises = raises_more 18 most_raised (book x) (raid_by z) (omega arith) raises;
         keeps = book_lost (book x) (raid_by z) (slices_of t b) after.running.set after.heeded moves.book.same.made moves.arrays;
         outside = outside_of_it t z may only fit_now (λ d k v at. elim at [ inl own ↦ inr own.0 | inr sliced ↦ inl sliced ]) (λ d k v is. inl is);
         retired = retired_by t may only (λ d k v at. elim at [ inl own ↦ inr own.0 | inr sliced ↦ inl sliced ]) (λ d k v is. inl is);
+        laid = laid_by t only;
         names = names.names;
+        bare = λ d seat other. inr (bare_by t disk (λ e k v is. inl is) d seat other);
+        disks = only.stays.disks;
+        admitted = inr admits;
         answer = subst (λ o. IsAnswer o (Err NotWhole)) (sym admits) (inr (inr refl));
         gone = λ same. absurd (let e : NotWhole ≡ Gone = cc same in cc e);
         not_whole = λ same. inr (lost.0, lost.1, lost.2);

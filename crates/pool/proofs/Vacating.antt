@@ -13,7 +13,7 @@ use Rattle.lvm_group.specs.Laws.{array_below}
 use Rattle.lvm_group.specs.Runs.{IsOrderly as IsOrderlyVolume, array_of, sector_of, sectors_in}
 use Rattle.raid_rack.specs.Raid.{raid_of}
 use Rattle.raid_rack.specs.RaidRack.{IsFit}
-use Rattle.raid_rack.proofs.Vacated.{disk_left, vacated_keeps, vacated_told}
+use Rattle.raid_rack.proofs.Vacated.{disk_left, vacated_keeps, vacated_told, vacated_truths}
 use Rattle.pool.specs.Continuing.{Continues, KeepsOutside}
 use Rattle.pool.specs.Taking.{Carries}
 use Rattle.pool.specs.View.{View, book, slices_shown, volume}
@@ -36,6 +36,7 @@ module _ (x : View) (place : ℕ) (t : Slices) (linear : IsOrderlyVolume x.linea
     sectors = λ d low. refl;
     faults = λ d low. omega arith;
     names = λ d name is. is;
+    waits = λ name. inl refl;
     unattached = omega arith;
     told = λ told. told;
     tells = λ d low told. told;
@@ -60,6 +61,8 @@ module _ (x : View) (place : ℕ) (t : Slices) (linear : IsOrderlyVolume x.linea
         let below = array_below x.linear (raid_of (IsFit x.arrays (slices_shown x)) x.refused (book x) (slices_shown x)) k linear fit.1 low in
         vacated_keeps place x.slices t x.bay vacated (book x) fit.0.heeded missing fit.0.running.set after.running.set.fit n (low_array n below) (told n below)
         (sector_of x.linear k) alive;
+    made = refl;
+    truths = λ names all. vacated_truths place x.slices t x.bay vacated (book x) fit.0.heeded missing fit.0.running.set;
   }
 
   -- a sector of a slice was one
@@ -96,6 +99,7 @@ bay_continues x y may only names fit same =
       sectors = λ d low. bay.sectors d;
       faults = λ d low. bay.faults d;
       names = λ d name is. ap (λ names. slice_get names d) names.names ∙ is;
+      waits = λ name. inl (names.ready name);
       unattached = let equal = names.faults in omega (arith, equal);
       told = names.told;
       tells = λ d low told. bay.told d told;

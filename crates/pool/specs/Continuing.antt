@@ -1,5 +1,5 @@
 -- What calls of a pool in a row keep, also such as attach disks and take drives in.
-use Rattle.std.specs.Prelude.{◌≡◌, ◌⊎◌, ℕ, ◌<◌, ◌≤◌, false, List, slice_get, Some}
+use Rattle.std.specs.Prelude.{◌≡◌, ◌⊎◌, ℕ, ◌<◌, ◌≤◌, false, List, slice_get, Some, None}
 use Rattle.rack.specs.Values.{Keeps, MayLeave}
 use Rattle.rack.specs.Seen.{Image, Seen}
 use Rattle.slice_rack.specs.Runs.{IsSliced}
@@ -7,7 +7,8 @@ use Rattle.slice_rack.specs.Slices.{Slices}
 use Rattle.pool.specs.View.{View, volume}
 use Rattle.pool.specs.Volume.{size_of}
 
--- The volume lies where it lay; the disks that there were are still there, with their names, and what stops left of them before is as it was.
+-- The volume lies where it lay; the disks that there were are still there, with their names, and what stops left of them before is as it was. What
+-- waits stays, but for what was attached.
 pub record Continues (x y : View) : Type 0 where
   pub fit : (volume y).fit
   pub linear : y.linear ≡ x.linear
@@ -16,6 +17,10 @@ pub record Continues (x y : View) : Type 0 where
   pub sectors : (d : ℕ) → d < x.bay.disks → y.bay.sectors d ≡ x.bay.sectors d
   pub faults : (d : ℕ) → d < x.bay.disks → x.bay.faults d ≤ y.bay.faults d
   pub names : (d : ℕ) (name : List ℕ) → slice_get x.shelf.names d ≡ Some name → slice_get y.shelf.names d ≡ Some name
+  pub waits :
+      (name : List ℕ)
+      → (y.shelf.ready name ≡ x.shelf.ready name)
+      ⊎ ((y.shelf.ready name ≡ None) × ((d : ℕ) × (x.bay.disks ≤ d) × (slice_get y.shelf.names d ≡ Some name)))
   pub unattached : x.shelf.faults ≤ y.shelf.faults
   pub told : x.shelf.told → y.shelf.told
   pub tells : (d : ℕ) → d < x.bay.disks → x.bay.told d → y.bay.told d
@@ -43,6 +48,10 @@ pub record KeepsOutside (t u : Slices) (named : ℕ → Type 0) (Told : Type 0) 
   pub stops :
       Told → a.traced → (k : ℕ) (i : Image) → a.clock < k → k ≤ b.clock → b.stops k i
       → (d s : ℕ) → IsOutside t named a d s → MayLeave (a.held d s) (i d s)
+
+-- no disk
+abbrev pub NoDisk : ℕ → Type 0
+NoDisk d = ⊥
 
 -- a disk is written nowhere
 pub record KeepsDisk (Told : Type 0) (a b : Seen) (d : ℕ) : Type 0 where

@@ -1,19 +1,24 @@
 -- How a pool stands at a moment: the part of what it shows of which later moments are told.
-use Rattle.std.specs.Prelude.{◌≡◌, ℕ, List, map, slice_get, Some}
+use Rattle.std.specs.Prelude.{◌≡◌, ◌⊎◌, ℕ, ◌<◌, List, map, slice_get, Option, Some}
 use Rattle.std.specs.List.{range_with_len}
+use Rattle.rack.specs.Seen.{Held}
+use Rattle.rack.specs.Shelf.{Waiting}
+use Rattle.rack.specs.Values.{Values, only}
 use Rattle.array_model.specs.View.{View as ArrayView}
 use Rattle.slice_rack.specs.Slices.{Slices}
 use Rattle.raid_rack.specs.Raid.{Raid}
 use Rattle.pool.specs.View.{View, book}
 
--- The clock, the disks of the bay with their counts of faults and their names, the bay's own count of faults, the pool's state and arrays,
--- and where the slices of its drives lie.
+-- The clock, the disks of the bay with what they hold, their counts of faults and their names, what waits to be attached, the bay's own count of
+-- faults, the pool's state and arrays, and where the slices of its drives lie.
 pub record Moment : Type 0 where
   pub clock : ℕ
   pub disks : ℕ
   pub sectors : ℕ → ℕ
+  pub held : Held
   pub faults : ℕ → ℕ
   pub names : List (List ℕ)
+  pub ready : List ℕ → Option Waiting
   pub unattached : ℕ
   pub book : Raid
   pub slices : Slices
@@ -23,8 +28,10 @@ moment_of x = record {
   clock = x.bay.clock;
   disks = x.bay.disks;
   sectors = x.bay.sectors;
+  held = x.bay.held;
   faults = x.bay.faults;
   names = x.shelf.names;
+  ready = x.shelf.ready;
   unattached = x.shelf.faults;
   book = book x;
   slices = x.slices;
@@ -33,6 +40,14 @@ moment_of x = record {
 -- the disk of a name
 abbrev pub IsNamed : Moment → List ℕ → ℕ → Type 0
 IsNamed p name d = slice_get p.names d ≡ Some name
+
+-- The image of a name: how many sectors it has, and the values of each. It is what the disk of the name holds, and where no disk has the name, what
+-- waits under it.
+abbrev pub IsImage : Moment → List ℕ → ℕ → (ℕ → Values) → Type 0
+IsImage p name sectors held =
+    ((d : ℕ) × (d < p.disks) × IsNamed p name d × (sectors ≡ p.sectors d) × (held ≡ p.held d))
+    ⊎ (((d : ℕ) → IsNamed p name d → ⊥)
+    × ((w : Waiting) × (p.ready name ≡ Some w) × (sectors ≡ w.sectors) × (held ≡ (λ s. only (w.contents s)))))
 
 -- the arrays of a book, by number
 abbrev pub views_of : Raid → List ArrayView

@@ -1,7 +1,7 @@
 -- The drive of a place is replaced by the disk of a name: why it is refused, and what the pool is after it.
 use Rattle.std.specs.Prelude.{◌≡◌, ◌≢◌, ◌⊎◌, ◌↔◌, ℕ, ◌<◌, ◌≤◌, Bool, true, false, List, length, slice_get, Option, Some, None, option_map, Result, Ok, Err, IfErr, OnOk, nat_lt, if◌then◌else◌}
 use Rattle.std.specs.Option.{option_map_or}
-use Rattle.rack.specs.Values.{IsSingle}
+use Rattle.rack.specs.Values.{IsSingle, Keeps, MayLeave, Values}
 use Rattle.rack.specs.Seen.{Image, Rose}
 use Rattle.flat_array.specs.Array.{FlatArray}
 use Rattle.gpt_table.specs.declared.Table.{Table}
@@ -15,19 +15,21 @@ use Rattle.pool_state.specs.declared.contents.Drive.{Drive}
 use Rattle.pool_state.specs.declared.contents.State.{State}
 use Rattle.slice_rack.specs.Slices.{Slices, disk_of, seat_of}
 use Rattle.slice_rack.specs.Changes.{Seats}
+use Rattle.slice_rack.specs.Runs.{IsSliced}
 use Rattle.raid_rack.specs.Book.{IsAfter}
 use Rattle.raid_rack.specs.Enlisting.{HoldsTable, enlisted, next_drive, with_drive}
 use Rattle.raid_rack.specs.Moves.{KeepsArrays}
-use Rattle.raid_rack.specs.NewDrive.{SeatsDrive, drive_table, joins}
+use Rattle.raid_rack.specs.NewDrive.{IsOfDrive as IsLaid, SeatsDrive, drive_table, joins}
+use Rattle.raid_rack.specs.Truths.{KeepsTruths}
 use Rattle.shr_base.specs.Units.{units_of}
 use Rattle.pool.specs.declared.replacing.GrowFault.{GrowFault}
 use Rattle.pool.specs.declared.replacing.GrowFault.TheVariants.{NoSuchDrive, Attach, Twice, Memory, NotWhole, Gone}
 use Rattle.lvm_group.specs.Runs.{Linear}
-use Rattle.pool.specs.Continuing.{Continues, KeepsDisk, KeepsOutside}
+use Rattle.pool.specs.Continuing.{Continues, KeepsDisk, KeepsOutside, NoDisk}
 use Rattle.pool.specs.Keeping.{KeepsBook, Raises}
-use Rattle.pool.specs.Moment.{IsNamed, Moment, moment_of, views_of}
+use Rattle.pool.specs.Moment.{IsImage, IsNamed, Moment, moment_of, views_of}
 use Rattle.pool.specs.Replacing.{refusal_of}
-use Rattle.pool.specs.View.{View, book, contents_in}
+use Rattle.pool.specs.View.{View, book, contents_in, slices_shown}
 use Rattle.pool.specs.Volume.{Holds, Means, PicksLive, is_spent}
 
 -- ---- refusals, by how the pool stands before and after
@@ -135,6 +137,58 @@ pub record HasTable (x y : View) (place disk : ℕ) : Type 0 where
   pub durable :
       x.shelf.told → ((d : ℕ) → d < x.bay.disks → x.bay.told d) → (s : ℕ) → IsOfTable (y.bay.sectors disk) s → IsSingle (y.bay.held disk s)
 
+-- A value that is laid in a sector of a new drive: zeros for the state, the first gate, or a sector of the tables. Nothing is against taking the
+-- disk in, whose name is that of no drive.
+pub record IsLaidOn (l : Linear) (p : Moment) (place : ℕ) (name : List ℕ) (sectors d s : ℕ) (v : List ℕ) : Type 0 where
+  pub admitted : refusal_of l p.book place sectors ≡ None
+  pub other : IsOfDrive p name → ⊥
+  pub value : IsLaid d sectors d s v
+
+-- Outside the slices the disk of a name may be left with what its image held, and with what is laid on a new drive.
+abbrev pub KeepsImage : Linear → Moment → Moment → ℕ → List ℕ → Type 0
+KeepsImage l p q place name =
+    (d : ℕ) → IsNamed q name d
+    → (held : ℕ → Values)
+    × IsImage p name (q.sectors d) held
+    × ((s : ℕ) (v : List ℕ) → s < q.sectors d → ((u : List ℕ) → IsSliced q.slices d s u → ⊥) → MayLeave (q.held d s) v
+    → MayLeave (held s) v ⊎ IsLaidOn l p place name (q.sectors d) d s v)
+
+-- the disk that a place had isn't written, unless it is that of the name
+abbrev pub KeepsFormer : Moment → Moment → ℕ → List ℕ → Type 0
+KeepsFormer p q place name =
+    (d s : ℕ) → seat_of p.slices place ≡ Some d → (IsNamed q name d → ⊥) → s < p.sectors d → Keeps (p.held d s) (q.held d s)
+
+-- The name is of one disk afterwards: no other disk comes, and none gets a name.
+pub record NamesDisk (p q : Moment) (name : List ℕ) : Type 0 where
+  pub there : (d : ℕ) → IsNamed q name d → d < q.disks
+  pub one : (d e : ℕ) → IsNamed q name d → IsNamed q name e → d ≡ e
+  pub came : (d : ℕ) → p.disks ≤ d → d < q.disks → IsNamed q name d
+  pub old : (d : ℕ) → d < p.disks → IsNamed q name d → IsNamed p name d
+  pub others : (d : ℕ) (n : List ℕ) → IsNamed q n d → IsNamed p n d ⊎ (n ≡ name)
+
+-- What a line that names an image leaves of the disks: that of the name holds what the image held, or what is laid on a new drive, and the disk that the
+-- place had isn't written.
+pub record TakesImage (l : Linear) (p q : Moment) (place : ℕ) (name : List ℕ) : Type 0 where
+  pub names : NamesDisk p q name
+  pub image : KeepsImage l p q place name
+  pub former : KeepsFormer p q place name
+
+-- What a line that names a disk does to the pool's drives: the name is of one disk, no other one comes, the disk that the place had isn't
+-- written unless it is the named one, and slices move only where nothing was against it. A sector that isn't spent wasn't before.
+pub record ChangesDrive (x y : View) (place : ℕ) (name : List ℕ) : Type 0 where
+  pub names : NamesDisk (moment_of x) (moment_of y) name
+  pub retired : (d : ℕ) → seat_of x.slices place ≡ Some d → (IsNamed (moment_of y) name d → ⊥) → KeepsDisk x.shelf.told x.bay y.bay d
+  pub admitted :
+      (y.slices ≡ x.slices) ⊎ ((d : ℕ) × IsNamed (moment_of y) name d × (refusal_of x.linear (book x) place (y.bay.sectors d) ≡ None))
+  -- where slices moved none is left on the disk that the place had, unless it is the named one
+  pub bare :
+      (d : ℕ) → seat_of x.slices place ≡ Some d → (IsNamed (moment_of y) name d → ⊥)
+      → (y.slices ≡ x.slices) ⊎ ((s : ℕ) (v : List ℕ) → IsSliced y.slices d s v → ⊥)
+  -- a drive's own disk isn't written
+  pub current : IsOfDrive (moment_of x) name → KeepsOutside x.slices y.slices NoDisk x.shelf.told x.bay y.bay
+  pub image : x.shelf.told → ((d : ℕ) → d < x.bay.disks → x.bay.told d) → KeepsImage x.linear (moment_of x) (moment_of y) place name
+  pub spent : (s : ℕ) → is_spent y s ≡ false → is_spent x s ≡ false
+
 -- The drive of a place is replaced by the disk of a name, which is attached where it isn't yet. No value moves. `name` is the one disk
 -- that is written outside the slices of drives.
 pub record ReplacesDrive (x y : View) (place : ℕ) (name : List ℕ) (result : Result (Unit {0}) GrowFault) : Type 0 where
@@ -142,13 +196,14 @@ pub record ReplacesDrive (x y : View) (place : ℕ) (name : List ℕ) (result : 
   pub raises : Raises 1 x y
   pub keeps : KeepsBook (book x) (book y)
   pub outside : KeepsOutside x.slices y.slices (IsNamed (moment_of y) name) x.shelf.told x.bay y.bay
-  -- the disk that the place had isn't written, unless it is that of the name
-  pub retired : (d : ℕ) → seat_of x.slices place ≡ Some d → (IsNamed (moment_of y) name d → ⊥) → KeepsDisk x.shelf.told x.bay y.bay d
+  pub changes : place < length (book x).state.drives.items → ChangesDrive x y place name
   pub cause : HasGrowCause x.linear (moment_of x) (moment_of y) place name result
   pub declined : IfErr result (IsDeclined (moment_of x) (moment_of y) place)
   pub replaced : OnOk result ((d : ℕ) → IsNamed (moment_of y) name d → IsReplaced (moment_of x) (moment_of y) place d)
   pub table : OnOk result ((d : ℕ) → IsNamed (moment_of y) name d → HasTable x y place d)
   pub holds : (a : FlatArray) → Holds x a → Holds y a
+  -- where the disks are told, superblocks that said an array's truth do so after it, and so do those of the new members
+  pub truths : x.shelf.told → ((d : ℕ) → d < x.bay.disks → x.bay.told d) → KeepsTruths (book x) (book y) (slices_shown x) (slices_shown y)
   pub leaves : x.bay.traced → (a : FlatArray) → Holds x a → LeavesNew x y (λ i. MeansWithout x y place a i ⊎ Means y a i)
   -- where it is replaced, stops leave it without the drive, or with it and its table
   pub moments :

@@ -1,17 +1,20 @@
 -- The parts of a replacing: a disk is attached, and then takes the place of a drive.
-use Rattle.std.specs.Prelude.{◌≡◌, ◌≢◌, ◌⊎◌, ◌↔◌, ℕ, ◌<◌, false, List, Some, Result, Err, IfErr, IfOk, OnOk}
-use Rattle.rack.specs.Values.{Keeps}
+use Rattle.std.specs.Prelude.{◌≡◌, ◌≢◌, ◌⊎◌, ◌↔◌, ℕ, ◌<◌, false, List, Some, None, Result, Err, IfErr, IfOk, OnOk}
+use Rattle.rack.specs.Values.{Keeps, MayLeave, Values}
 use Rattle.rack.specs.Seen.{Rose}
 use Rattle.flat_array.specs.Array.{FlatArray}
+use Rattle.slice_rack.specs.Runs.{IsSliced}
 use Rattle.slice_rack.specs.Slices.{seat_of}
+use Rattle.raid_rack.specs.Truths.{KeepsTruths}
 use Rattle.pool.specs.declared.replacing.GrowFault.{GrowFault}
 use Rattle.pool.specs.declared.replacing.GrowFault.TheVariants.{Attach, Twice, Memory, NotWhole, Gone}
-use Rattle.pool.specs.Continuing.{Continues, KeepsDisk, KeepsOutside}
+use Rattle.raid_rack.specs.NewDrive.{IsOfDrive as IsLaid}
+use Rattle.pool.specs.Continuing.{Continues, KeepsDisk, KeepsOutside, NoDisk}
 use Rattle.pool.specs.Keeping.{KeepsBook, Raises}
-use Rattle.pool.specs.Moment.{IsNamed, Moment, moment_of}
-use Rattle.pool.specs.Replaced.{HasMarked, HasTable, IsAnswer, IsDeclined, IsOfDrive, IsReplaced, LeavesNew, MeansWith, MeansWithout, faults_before, is_vacant}
+use Rattle.pool.specs.Moment.{IsImage, IsNamed, Moment, moment_of}
+use Rattle.pool.specs.Replaced.{HasMarked, HasTable, IsAnswer, IsDeclined, IsOfDrive, IsReplaced, LeavesNew, MeansWith, MeansWithout, NamesDisk, faults_before, is_vacant}
 use Rattle.pool.specs.Replacing.{refusal_of}
-use Rattle.pool.specs.View.{View, book, volume}
+use Rattle.pool.specs.View.{View, book, slices_shown, volume}
 use Rattle.pool.specs.Volume.{Holds, Means, is_spent, size_of}
 
 -- the disks are told
@@ -25,14 +28,13 @@ pub record Carries (x y : View) : Type 0 where
   pub keeps :
       x.shelf.told → AreTold x → (s : ℕ) → s < size_of x → is_spent y s ≡ false → (volume x).told 0
       → Keeps ((volume x).held 0 s) ((volume y).held 0 s)
+  -- superblocks that said an array's truth do so
+  pub made : (book y).state.made ≡ (book x).state.made
+  pub truths : x.shelf.told → AreTold x → KeepsTruths (book x) (book y) (slices_shown x) (slices_shown y)
 
 -- a disk is that of a place that isn't missing
 abbrev pub IsOfPlace : Moment → ℕ → Type 0
 IsOfPlace p d = (k : ℕ) × (seat_of p.slices k ≡ Some d) × (is_vacant p.book.state k ≡ false)
-
--- no disk
-abbrev pub NoDisk : ℕ → Type 0
-NoDisk d = ⊥
 
 -- The disk of a name, attached where it wasn't: it isn't a current drive's.
 pub record AttachesDisk (x y : View) (name : List ℕ) (result : Result ℕ GrowFault) : Type 0 where
@@ -43,7 +45,11 @@ pub record AttachesDisk (x y : View) (name : List ℕ) (result : Result ℕ Grow
   pub held : (d : ℕ) → d < x.bay.disks → (s : ℕ) → y.bay.held d s ≡ x.bay.held d s
   pub faults : (d : ℕ) → d < y.bay.disks → y.bay.faults d ≡ faults_before (moment_of x) d
   pub ok : IfOk result (λ d. IsNamed (moment_of y) name d × (d < y.bay.disks) × (IsOfPlace (moment_of x) d → ⊥))
-  pub one : (d e : ℕ) → IsNamed (moment_of y) name d → IsNamed (moment_of y) name e → d ≡ e
+  pub names : NamesDisk (moment_of x) (moment_of y) name
+  -- it holds what the name's image held
+  pub image :
+      x.shelf.told → (d : ℕ) → IsNamed (moment_of y) name d
+      → (held : ℕ → Values) × IsImage (moment_of x) name (y.bay.sectors d) held × ((s : ℕ) → s < y.bay.sectors d → y.bay.held d s ≡ held s)
   pub err : IfErr result (λ e. (e ≡ Attach) ⊎ ((e ≡ Memory) ⊎ (e ≡ Twice)))
   pub attach : result ≡ Err Attach → Rose x.shelf.faults y.shelf.faults
   pub used : (d : ℕ) → IsNamed (moment_of x) name d → (result ≢ Err Attach) × (result ≢ Err Memory)
@@ -58,8 +64,18 @@ pub record ReplacesBy (x y : View) (place disk : ℕ) (result : Result (Unit {0}
   pub outside : KeepsOutside x.slices y.slices (λ d. d ≡ disk) x.shelf.told x.bay y.bay
   -- the disk that the place had isn't written any more
   pub retired : (d : ℕ) → seat_of x.slices place ≡ Some d → d ≢ disk → KeepsDisk x.shelf.told x.bay y.bay d
+  pub bare : (d : ℕ) → seat_of x.slices place ≡ Some d → d ≢ disk → (y.slices ≡ x.slices) ⊎ ((s : ℕ) (v : List ℕ) → IsSliced y.slices d s v → ⊥)
+  -- outside the slices it may be left with what it held, or with what is laid on a new drive
+  pub laid :
+      disk < x.bay.disks → AreTold x → (s : ℕ) (v : List ℕ) → s < x.bay.sectors disk → ((u : List ℕ) → IsSliced y.slices disk s u → ⊥)
+      → MayLeave (y.bay.held disk s) v
+      → MayLeave (x.bay.held disk s) v
+      ⊎ ((refusal_of x.linear (book x) place (x.bay.sectors disk) ≡ None) × IsLaid disk (x.bay.sectors disk) disk s v)
   pub names : y.shelf.names ≡ x.shelf.names
+  pub disks : y.bay.disks ≡ x.bay.disks
   pub answer : IsAnswer (refusal_of x.linear (book x) place (x.bay.sectors disk)) result
+  -- the tables stay but where nothing is against it
+  pub admitted : (y.slices ≡ x.slices) ⊎ (refusal_of x.linear (book x) place (x.bay.sectors disk) ≡ None)
   pub gone : result ≡ Err Gone → Rose (x.bay.faults disk) (y.bay.faults disk)
   pub not_whole :
       result ≡ Err NotWhole → (refusal_of x.linear (book x) place (x.bay.sectors disk) ≡ Some NotWhole) ⊎ HasMarked (moment_of x) (moment_of y)

@@ -17,4 +17,6 @@ pub mod Shown
 pub mod Valid
 pub mod Wells
 pub mod Founded
+pub mod TableSectors
 pub mod Settled
+pub mod Compared

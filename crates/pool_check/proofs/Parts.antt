@@ -15,7 +15,7 @@ use Rattle.array_image.specs.Places.{log_kind, raid_kind}
 use Rattle.pool_image.specs.Disks.{Seats, id_at}
 use Rattle.pool_image.specs.Replay.{Extent as ImageExtent}
 use Rattle.pool_image.specs.Drives.{Found, end_of, extent_of}
-use Rattle.pool_image.specs.Meaning.{Part, arrays_of, damaged, has_entry, has_slice, has_slice_of, has_supers, has_table, in_log, in_state, in_superblock, is_member, is_table, kind_of, super_at}
+use Rattle.pool_image.specs.Meaning.{Part, arrays_of, damaged, has_entry, has_slice, has_slice_of, has_supers, has_table, in_log, in_state, in_superblock, in_table, is_member, is_table, kind_of, super_at}
 use Rattle.pool_check.specs.declared.Extent.{Extent}
 use Rattle.pool_check.specs.declared.Layer.{Layer}
 use Rattle.pool_check.specs.declared.Sight.{Sight}
@@ -180,6 +180,13 @@ module _ (x : Seen) (s : State) (seats : Seats) (o : Drives) (layers : List Laye
           ≡ (if is_none c then Some in_state else if not (well place) then Some in_log else if not (has_supers f place) then Some in_superblock else None)
       by None = refl
       by (Some copy) = refl
+
+  -- the first part that isn't valid, by what was read of its table
+  pub damage_is : (well : ℕ → Bool) (known : List Known) (has : Bool) → AreCopied known seats o → has ≡ has_table f place d
+      → (if not has then Some in_table else part_behind (is_some (copied_at known d)) (well place) (list_all (is_sound_on place) layers))
+      ≡ damage_by well f place d
+  damage_is well known has copied is =
+      ap₂ (λ b rest. if not b then Some in_table else rest) is (behind_is well known copied)
 
 -- ---- the lowest place
 

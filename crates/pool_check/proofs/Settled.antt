@@ -1,6 +1,6 @@
 -- Tables of disks are settled one after the other.
-use Rattle.std.proofs.Common.{◌≡◌, ◌≢◌, ◌⊎◌, ℕ, ◌+◌, ◌-◌, ◌<◌, ◌≤◌, List, [], Result, Ok, Err, Option, Some, None, option_map, inl, inr, refl, sym, ap, ap₂, subst, ◌∙◌, arith}
-use Rattle.std.proofs.lemmas.Bool.{cases_eq, cases_lt}
+use Rattle.std.proofs.Common.{◌≡◌, ◌≢◌, ◌⊎◌, ℕ, ◌+◌, ◌<◌, ◌≤◌, Bool, true, List, [], Result, Ok, Err, Option, Some, None, option_map, inl, inr, refl, sym, ap, ap₂, subst, ◌∙◌, arith}
+use Rattle.std.proofs.lemmas.Bool.{cases_eq}
 use Rattle.std.proofs.lemmas.Option.{none-some}
 use Rattle.rack.specs.Values.{IsSingle, Keeps}
 use Rattle.rack.specs.Seen.{Image, IsLive, IsPick, Rose, Seen, Stays}
@@ -15,63 +15,16 @@ use Rattle.gpt_table.specs.declared.TableFault.TheVariants.{NoTable, Gone}
 use Rattle.gpt_table.specs.declared.TableCopy.{TableCopy}
 use Rattle.gpt_table.specs.declared.TableCopy.TheVariants.{Primary, Backup}
 use Rattle.gpt_table.specs.Changes.{AreSingle, BothLive, BothSay, Changes, IsElsewhere, IsKeptOrWritten, IsLeftover, IsOfCopies, IsPickOf, SettlesTable, the_table}
-use Rattle.gpt_table.specs.Disk.{Contents, IsOfCopy, first_of, first_table, now_on}
-use Rattle.gpt_table.specs.Format.{entries_sector, header_sector}
+use Rattle.gpt_table.specs.Disk.{Contents, CopiesAgree, first_of, first_table, now_on, table_at}
+use Rattle.gpt_table.proofs.Changed.{changes_read, live_both}
 use Rattle.gpt_table.proofs.Joined.{table_at_agrees}
+use Rattle.gpt_table.proofs.Tables.{first_says}
 use Rattle.pool_image.specs.Disks.{Seats}
-use Rattle.pool_check.specs.Drives.{Goes}
-use Rattle.pool_check.specs.Settling.{AreDistinct, AreSettled, IsLeftOn, IsSettled, IsTableSector, KeepsTable, SettlesDisk, SettlesPlace}
+use Rattle.pool_check.specs.Drives.{Goes, flag_by}
+use Rattle.pool_check.specs.Settling.{AreDistinct, AreSettled, IsAgreement, IsLeftOn, IsSettled, IsTableSector, IsTrueOf, KeepsTable, SettlesDisk, SettlesPlace}
 use Rattle.pool_check.proofs.AfterReads.{goes_early}
+use Rattle.pool_check.proofs.TableSectors.{live_of, of_one, place_of_sector, table_end}
 use Rattle.pool_check.proofs.Losing.{IsWithout, without_here, without_other}
-
--- ---- sectors of a table
-
--- a sector is a header, or one of the entries behind a sector, or neither
-among : (header first s : ℕ) → ((s ≡ header) ⊎ ((first ≤ s) × (s < first + 32))) ⊎ ((s ≡ header) ⊎ ((first ≤ s) × (s < first + 32)) → ⊥)
-among header first s =
-    elim (cases_eq s header) [
-      | inl same ↦ inl (inl same)
-      | inr other ↦ elim (cases_lt s first) [
-        | inl low ↦ inr (λ is. elim is [ inl same ↦ other same | inr entries ↦ (let least = entries.0 in omega (arith, low, least)) ])
-        | inr least ↦ elim (cases_lt s (first + 32)) [
-          | inl inside ↦ inl (inr (least, inside))
-          | inr past ↦ inr (λ is. elim is [ inl same ↦ other same | inr entries ↦ (let most = entries.1 in omega (arith, past, most)) ])
-        ]
-      ]
-    ]
-
-of_copies : (sectors s : ℕ) → IsOfCopies sectors s ⊎ (IsOfCopies sectors s → ⊥)
-of_copies sectors s =
-    elim (among (header_sector Primary sectors) (entries_sector Primary sectors) s) [
-      | inl is ↦ inl (inl is)
-      | inr primary ↦ elim (among (header_sector Backup sectors) (entries_sector Backup sectors) s) [
-        | inl is ↦ inl (inr is)
-        | inr backup ↦ inr (λ is. elim is [ inl one ↦ primary one | inr two ↦ backup two ])
-      ]
-    ]
-
--- a sector is one of a disk's table, or elsewhere
-place_of_sector : (disk sectors d s : ℕ) → IsElsewhere disk (IsOfCopies sectors) d s ⊎ ((d ≡ disk) × IsOfCopies sectors s)
-place_of_sector disk sectors d s =
-    elim (cases_eq d disk) [
-      | inl same ↦ elim (of_copies sectors s) [ inl is ↦ inr (same, is) | inr other ↦ inl (inr other) ]
-      | inr other ↦ inl (inl other)
-    ]
-
-of_one : (copy : TableCopy) (sectors s : ℕ) → IsOfCopy copy sectors s → IsOfCopies sectors s
-of_one Primary sectors s is = inl is
-of_one Backup sectors s is = inr is
-
-live_of : (a b : Seen) (d n s : ℕ) → BothLive a b d n → IsOfCopies n s → IsLive a b d s
-live_of a b d n s live (inl is) = live Primary s is
-live_of a b d n s live (inr is) = live Backup s is
-
--- they stand at the start of the disk, or at its end
-pub table_end : (sectors s : ℕ) → IsOfCopies sectors s → (s < 34) ⊎ (sectors ≤ s + 33)
-table_end sectors s (inl (inl same)) = let one : s ≡ 1 = same in inl (omega (arith, one))
-table_end sectors s (inl (inr entries)) = let most : s < 34 = entries.1 in inl most
-table_end sectors s (inr (inl same)) = let last : s ≡ sectors - 1 = same in inr (omega (arith, last))
-table_end sectors s (inr (inr entries)) = let least : sectors - 33 ≤ s = entries.0 in inr (omega (arith, least))
 
 -- ---- one table
 
@@ -225,6 +178,40 @@ module _ {a b c : Seen} (stays : Stays a b) (e : ℕ) (after : Stays b c) where
         (λ s is. let of = of_one copy n s is in (kept s of (live_after live s of)).within (contents s) (picks s is));
   }
 
+-- ---- what flags say
+
+-- a table is settled where it is if its disk is told
+pub settled_told : (a c : Seen) (d : ℕ) → (a.told d → IsSettled a c d) → IsSettled a c d
+settled_told a c d settled = record {
+  now = λ had live. (settled (told live)).now had live;
+  durable = λ had live single contents left. (settled (told live)).durable had live single contents left;
+  written = λ had live copy contents picks. (settled (told live)).written had live copy contents picks;
+}
+  where
+    told : BothLive a c d (a.sectors d) → a.told d
+    told live = (live Primary 1 (inl refl)).is_told
+
+-- a flag is true of a disk that it speaks of
+pub true_told : (x : Seen) (d : ℕ) (flag : Bool) → x.told d → IsAgreement x d flag → IsTrueOf x d flag
+true_told x d flag told agrees is live = (agrees told (now_on x d) (λ s below unspent. refl)).0 is
+
+-- and is so after calls that don't touch its table
+pub true_since : (a b : Seen) (d : ℕ) (flag : Bool) → Stays a b → a.told d
+    → ((s : ℕ) → IsOfCopies (a.sectors d) s → IsLive a b d s → Keeps (a.held d s) (b.held d s)) → IsTrueOf a d flag → IsTrueOf b d flag
+true_since a b d flag stays told untouched was is live =
+    subst (λ m. CopiesAgree m (now_on b d)) (sym (stays.sectors d)) (both.0, still Primary ∙ both.1, still Backup ∙ both.2)
+  where
+    here : BothLive a b d (a.sectors d)
+    here copy s of = live_both told (subst (BothLive b b d) (stays.sectors d) live copy s of)
+
+    both : CopiesAgree (a.sectors d) (now_on a d)
+    both = was is (λ copy s of. live_first stays (here copy s of))
+
+    still : (copy : TableCopy) → table_at copy (a.sectors d) (now_on b d) ≡ table_at copy (a.sectors d) (now_on a d)
+    still copy =
+        table_at_agrees copy (a.sectors d) (now_on b d) (now_on a d)
+        (λ s of. (untouched s (of_one copy (a.sectors d) s of) (here copy s of)).current)
+
 -- ---- calls that write no table
 
 module _ {a b : Seen} (may : ℕ → ℕ → List ℕ → Type 0) (e n : ℕ) (only : WritesOnly a b may) (never : (s : ℕ) (v : List ℕ) → IsOfCopies n s → may e s v → ⊥) where
@@ -311,8 +298,40 @@ settled_table a b d (Err NoTable) settles none gone = record {
     no_table : BothLive a b d (a.sectors d) → the_table (a.sectors d) (now_on a d) ≡ None
     no_table live = ap (option_map (λ found. found.table)) (none refl (live Primary 1 (inl refl)).is_told)
 
-pub place_empty : (a : Seen) (seats : Seats) (place : ℕ) → a.fit → seats place ≡ None → SettlesPlace a a seats seats place
-place_empty a seats place fit none = record {
+-- both copies agree already
+agreed_settled : (a : Seen) (d : ℕ) → (BothLive a a d (a.sectors d) → CopiesAgree (a.sectors d) (now_on a d)) → IsSettled a a d
+agreed_settled a d agree = record {
+  now = λ had live. says live (now_on a d) (λ s is. refl);
+  durable = λ had live single contents left. says live contents (λ s is. single_in a d (a.sectors d) single s is (contents s) (left s is));
+  written = λ had live copy contents picks. inl picks;
+}
+  where
+    says : BothLive a a d (a.sectors d) → (contents : Contents) → ((s : ℕ) → IsOfCopies (a.sectors d) s → contents s ≡ now_on a d s)
+        → BothSay a d (a.sectors d) contents
+    says live contents same = (both.0, first_says (a.sectors d) (now_on a d) both.0 both.1, each)
+      where
+        both : CopiesAgree (a.sectors d) (now_on a d)
+        both = agree live
+
+        each : (copy : TableCopy) → table_at copy (a.sectors d) contents ≡ Some both.0
+        each Primary = table_at_agrees Primary (a.sectors d) contents (now_on a d) (λ s is. same s (inl is)) ∙ both.1
+        each Backup = table_at_agrees Backup (a.sectors d) contents (now_on a d) (λ s is. same s (inr is)) ∙ both.2
+
+-- nothing is called where a flag says so
+pub place_agreed : (a : Seen) (seats : Seats) (place : ℕ) (flag : Bool) → a.fit → flag ≡ true → SettlesPlace a a seats seats place flag
+place_agreed a seats place flag fit is = record {
+  others = λ p other. refl;
+  empty = λ none. (only_reads_start a fit, none);
+  changes = λ d seat.
+      changes_read a a d (IsOfCopies (a.sectors d))
+      (λ contents. AreSingle a d (a.sectors d) → the_table (a.sectors d) contents ≡ the_table (a.sectors d) (now_on a d)) (only_reads_start a fit)
+      (λ live contents pick single.
+      tables_agree (a.sectors d) contents (now_on a d) (λ s of. single_in a d (a.sectors d) single s of (contents s) (pick s of)));
+  settles = λ d seat. inl (seat, λ says. agreed_settled a d (says is));
+}
+
+pub place_empty : (a : Seen) (seats : Seats) (place : ℕ) (flag : Bool) → a.fit → seats place ≡ None → SettlesPlace a a seats seats place flag
+place_empty a seats place flag fit none = record {
   others = λ p other. refl;
   empty = λ is. (only_reads_start a fit, none);
   changes = λ d seat. absurd (none-some d (sym none ∙ seat));
@@ -320,27 +339,27 @@ place_empty a seats place fit none = record {
 }
 
 -- the place keeps its disk
-pub place_kept : (a b : Seen) (seats : Seats) (place d : ℕ) (result : Result (Unit {0}) TableFault) → seats place ≡ Some d
+pub place_kept : (a b : Seen) (seats : Seats) (place d : ℕ) (flag : Bool) (result : Result (Unit {0}) TableFault) → seats place ≡ Some d
     → SettlesTable a b d (a.sectors d) result
     → (result ≡ Err NoTable → a.told d → first_table (a.sectors d) (now_on a d) ≡ None)
-    → (result ≡ Err Gone → ⊥) → SettlesPlace a b seats seats place
-place_kept a b seats place d result seat settles none gone = record {
+    → (result ≡ Err Gone → ⊥) → SettlesPlace a b seats seats place flag
+place_kept a b seats place d flag result seat settles none gone = record {
   others = λ p other. refl;
   empty = λ is. absurd (none-some d (sym is ∙ seat));
   changes = λ e at.
       subst (λ k. Changes a b k (IsOfCopies (a.sectors k))
       (λ contents. AreSingle a k (a.sectors k) → the_table (a.sectors k) contents ≡ the_table (a.sectors k) (now_on a k)))
       (same e at) settles.changes;
-  settles = λ e at. inl (at, subst (IsSettled a b) (same e at) (settled_table a b d result settles none gone));
+  settles = λ e at. inl (at, λ says. subst (IsSettled a b) (same e at) (settled_table a b d result settles none gone));
 }
   where
     same : (e : ℕ) → seats place ≡ Some e → d ≡ e
     same e at = let both : Some d ≡ Some e = sym seat ∙ at in cc
 
 -- the place loses it
-pub place_lost : (a b : Seen) (before after : Seats) (place d : ℕ) (result : Result (Unit {0}) TableFault) → before place ≡ Some d
-    → IsWithout before after place → SettlesTable a b d (a.sectors d) result → Rose (a.faults d) (b.faults d) → SettlesPlace a b before after place
-place_lost a b before after place d result seat without settles rose = record {
+pub place_lost : (a b : Seen) (before after : Seats) (place d : ℕ) (flag : Bool) (result : Result (Unit {0}) TableFault) → before place ≡ Some d
+    → IsWithout before after place → SettlesTable a b d (a.sectors d) result → Rose (a.faults d) (b.faults d) → SettlesPlace a b before after place flag
+place_lost a b before after place d flag result seat without settles rose = record {
   others = λ p other. without_other before after place p without other;
   empty = λ is. absurd (none-some d (sym is ∙ seat));
   changes = λ e at.
@@ -355,8 +374,8 @@ place_lost a b before after place d result seat without settles rose = record {
 
 -- ---- all places
 
-pub settled_none : (a : Seen) (seats : Seats) → a.fit → AreSettled a a seats seats 0
-settled_none a seats fit = record {
+pub settled_none : (a : Seen) (seats : Seats) (agreed : List Bool) → a.fit → AreSettled a a seats seats agreed 0
+settled_none a seats agreed fit = record {
   only = only_none a (IsTableSector a seats 0) fit;
   seats = λ place. inl refl;
   later = λ p least. refl;
@@ -364,8 +383,8 @@ settled_none a seats fit = record {
   settled = λ p d below seat. absurd (omega (arith, below));
 }
 
-module _ (a b c : Seen) (first before after : Seats) (place : ℕ) (low : place < 16) (distinct : AreDistinct first)
-    (old : AreSettled a b first before place) (settles : SettlesPlace b c before after place) where
+module _ (a b c : Seen) (first before after : Seats) (agreed : List Bool) (place : ℕ) (low : place < 16) (distinct : AreDistinct first)
+    (old : AreSettled a b first before agreed place) (settles : SettlesPlace b c before after place (flag_by agreed place)) where
   -- a place that has a disk had it from the first
   had : (p d : ℕ) → before p ≡ Some d → first p ≡ Some d
   had p d seat = by (old.seats p)
@@ -391,7 +410,7 @@ module _ (a b c : Seen) (first before after : Seats) (place : ℕ) (low : place 
   later_seats p least = settles.others p (λ same. omega (arith, least, same)) ∙ old.later p (omega (arith, least))
 
   -- the place has no disk
-  empty_more : before place ≡ None → AreSettled a c first after (place + 1)
+  empty_more : before place ≡ None → AreSettled a c first after agreed (place + 1)
   empty_more none =
       let is = settles.empty none in
       let reads = is.0 in record {
@@ -404,11 +423,11 @@ module _ (a b c : Seen) (first before after : Seats) (place : ℕ) (low : place 
         ];
         later = later_seats;
         tables = λ d. keeps_read stays d reads.stays reads (old.tables d);
-        settled = λ p d below seat. elim (cases_eq p place) [
+        settled = λ p d below seat says. elim (cases_eq p place) [
           | inl same ↦ absurd (none-some d (sym is.1 ∙ ap after (sym same) ∙ seat))
           | inr other ↦
               settled_by stays d reads.stays (λ s of live. reads.keeps.held d s live)
-              (old.settled p d (omega (arith, below, other)) (sym (settles.others p other) ∙ seat))
+              (old.settled p d (omega (arith, below, other)) (sym (settles.others p other) ∙ seat) says)
         ];
       }
 
@@ -428,18 +447,23 @@ module _ (a b c : Seen) (first before after : Seats) (place : ℕ) (low : place 
         let same = distinct may.place place d (omega (arith, below, low)) low may.seat (had place d seat) in
         omega (arith, same, below))
 
-    here_seats : SettlesDisk b c after place d → (after place ≡ first place) ⊎ ((after place ≡ None) × Goes a c first place)
+    here_seats : SettlesDisk b c after place (flag_by agreed place) d → (after place ≡ first place) ⊎ ((after place ≡ None) × Goes a c first place)
     here_seats (inl kept) = inl (kept.0 ∙ sym (had place d seat))
     here_seats (inr gone) = inr (gone.0, (d, had place d seat, rose_later a b c d stays gone.1))
 
-    here_settled : (e : ℕ) → after place ≡ Some e → SettlesDisk b c after place d → IsSettled a c e
-    here_settled e now (inl kept) =
+    here_settled : (e : ℕ) → after place ≡ Some e → SettlesDisk b c after place (flag_by agreed place) d → IsTrueOf a e (flag_by agreed place)
+        → IsSettled a c e
+    here_settled e now (inl kept) says =
         let same : Some d ≡ Some e = sym kept.0 ∙ now in
         let is : d ≡ e = cc in
-        subst (IsSettled a c) is (settled_since stays d changes.stays untouched (stays.sectors d) kept.1)
-    here_settled e now (inr gone) = absurd (none-some e (sym gone.0 ∙ now))
+        subst (IsSettled a c) is
+        (settled_told a c d
+        (λ told.
+        settled_since stays d changes.stays untouched (stays.sectors d)
+        (kept.1 (true_since a b d (flag_by agreed place) stays told untouched (subst (λ k. IsTrueOf a k (flag_by agreed place)) (sym is) says)))))
+    here_settled e now (inr gone) says = absurd (none-some e (sym gone.0 ∙ now))
 
-    seated_more : AreSettled a c first after (place + 1)
+    seated_more : AreSettled a c first after agreed (place + 1)
     seated_more = record {
       only = only_then (IsTableSector a first (place + 1)) wide (only_table a first place d P (had place d seat) (stays.sectors d) changes);
       seats = λ p. elim (cases_eq p place) [
@@ -456,18 +480,19 @@ module _ (a b c : Seen) (first before after : Seats) (place : ℕ) (low : place 
             (old.tables d))
         | inr other ↦ keeps_other stays e changes.stays d (b.sectors d) P other changes (old.tables e)
       ];
-      settled = λ p e below now. elim (cases_eq p place) [
-        | inl same ↦ here_settled e (ap after (sym same) ∙ now) (settles.settles d seat)
+      settled = λ p e below now says. elim (cases_eq p place) [
+        | inl same ↦
+            here_settled e (ap after (sym same) ∙ now) (settles.settles d seat) (subst (λ q. IsTrueOf a e (flag_by agreed q)) same says)
         | inr other ↦
             let was = sym (settles.others p other) ∙ now in
             let apart : e ≡ d → ⊥ = λ same. other (distinct p place d (omega (arith, below, low)) low (had p e was ∙ ap Some same) (had place d seat)) in
-            settled_by stays e changes.stays (λ s of live. changes.others e s live (inl apart)) (old.settled p e (omega (arith, below, other)) was)
+            settled_by stays e changes.stays (λ s of live. changes.others e s live (inl apart)) (old.settled p e (omega (arith, below, other)) was says)
       ];
     }
 
-  pub settled_more : AreSettled a c first after (place + 1)
+  pub settled_more : AreSettled a c first after agreed (place + 1)
   settled_more = by (before place) refl
     where
-      by : (o : Option ℕ) → before place ≡ o → AreSettled a c first after (place + 1)
+      by : (o : Option ℕ) → before place ≡ o → AreSettled a c first after agreed (place + 1)
       by None none = empty_more none
       by (Some d) seat = seated_more d seat

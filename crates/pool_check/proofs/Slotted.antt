@@ -20,9 +20,8 @@ use Rattle.pool_check.specs.declared.Extent.{Extent}
 use Rattle.pool_check.specs.declared.Layer.{Layer}
 use Rattle.pool_check.specs.declared.Sight.{Sight}
 use Rattle.pool_check.specs.declared.ArraysRead.{ArraysRead}
-use Rattle.pool_check.specs.Layers.{Opens, extent_by, has_layer, is_member_of, is_member_sight, is_sound_on, is_table_by, log_extent, sight_by, sights_by}
-use Rattle.pool_check.specs.Slots.{AreKept, AreMatched, AreOrdered, AreSlots, FitsOn, IsBehind, IsSoundDrive, SaysMember, behind}
-use Rattle.pool_check.specs.Refusing.{part_behind}
+use Rattle.pool_check.specs.Layers.{Opens, extent_by, has_layer, is_member_of, is_member_sight, is_table_by, log_extent, sight_by, sights_by}
+use Rattle.pool_check.specs.Slots.{AreKept, AreMatched, AreOrdered, AreSlots, FitsOn, IsBehind, SaysMember, behind}
 use Rattle.pool_check.proofs.Finding.{got_from}
 
 got_below : {X : Type 0} (xs : List X) (k : ℕ) (x : X) → slice_get xs k ≡ Some x → k < length xs
@@ -252,18 +251,6 @@ table_room s layers place sectors (Some table) is =
     let two = and_parts (has_slice sectors table 1 log_kind log_extent) (list_all (has_layer sectors table place) layers) one.1 in
     let last = and_parts (has_entry table 1 log_kind log_extent) (nat_lt (arrays_first + 32) sectors) two.0 in
     ltb-true (arrays_first + 32) sectors last.1
-
--- the drive of a place whose parts are sound is
-pub drive_sound : (layers : List Layer) (place sectors : ℕ) (copied well : Bool) → arrays_first + 32 < sectors → FitsOn layers place sectors
-    → part_behind copied well (list_all (is_sound_on place) layers) ≡ None → IsSoundDrive layers place sectors
-drive_sound layers place sectors copied well room fits none =
-    record { room = room; fits = fits; supers = by copied well (list_all (is_sound_on place) layers) none }
-  where
-    by : (copied well sound : Bool) → part_behind copied well sound ≡ None → sound ≡ true
-    by copied well true none = refl
-    by true true false none = cc
-    by true false false none = cc
-    by false well false none = cc
 
 -- ---- all
 

@@ -1,5 +1,5 @@
 -- The pool that seated disks make, and what a rack shows of it.
-use Rattle.std.specs.Prelude.{◌≡◌, ◌⊎◌, ℕ, ◌*◌, ◌<◌, ◌≤◌, ◌^◌, true, List, length, slice_get, Option, Some, None}
+use Rattle.std.specs.Prelude.{◌≡◌, ◌⊎◌, ℕ, ◌*◌, ◌<◌, ◌≤◌, ◌^◌, Bool, true, false, List, get_or, length, slice_get, Option, Some, None}
 use Rattle.std.specs.Option.{option_map_or}
 use Rattle.rack.specs.Seen.{Image, Seen, Rose}
 use Rattle.gpt_table.specs.Changes.{the_table}
@@ -15,6 +15,10 @@ use Rattle.pool_scan.specs.Scanning.{copied_at}
 -- the disk of each place, by a list
 abbrev pub seats_by : List (Option ℕ) → Seats
 seats_by seats place = option_map_or (λ seat. seat) (slice_get seats place) None
+
+-- the flag of each place, by a list
+abbrev pub flag_by : List Bool → ℕ → Bool
+flag_by flags place = get_or flags place false
 
 -- what the drives of a pool are, but for its state and its seats
 pub record Drives : Type 0 where

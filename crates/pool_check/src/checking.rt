@@ -9,6 +9,7 @@ ghost use Rattle.array_core.specs.Seats.{names};
 ghost use Rattle.pool_check.specs.Drives.{AreCopied, AreDrivesOf, Drives, IsFitState, IsSeating, Loses, found_with, seats_by};
 ghost use Rattle.pool_check.specs.Refusing.{CountsAbsent, Halts, IsFault, IsOfFew, absent_among, is_well, refusal_by, refused_with};
 ghost use Rattle.pool_check.specs.Founded.{AreFounded};
+ghost use Rattle.pool_check.specs.Settling.{AreCompared};
 ghost use Rattle.pool_check.specs.Slots.{AreSlots};
 ghost use Rattle.pool_check.specs.Checking.{IsChecked, first_number, is_dirty, is_few, refused_by_layers};
 
@@ -157,6 +158,7 @@ fn check_seated<R: Rack>(
     ensures only { OnlyReads (R.seen rack.old) (R.seen rack.new) }
     ensures checked { IfOk result (λ checked. (o : Drives) → AreDrivesOf (R.seen rack.old) (seats_by seats.now) o
         → AreCopied scan.now.disks.items (seats_by seats.now) o → IsChecked (is_well bad) (found_with state.now (seats_by seats.now) o) checked) }
+    ensures agreed { IfOk result (λ checked. AreCompared (R.seen rack.old) (seats_by seats.now) checked.agreed) }
     ensures slots { IfOk result (λ checked. AreSlots (R.seen rack.old).sectors (seats_by seats.now) checked.arrays.items checked.extents.items) }
     ensures pool { IfOk result (λ checked. AreFounded state.now (seats_by seats.now) checked.arrays.items checked.stale.items) }
     ensures room { OnOk result ((place d : ℕ) → seats_by seats.now place ≡ Some d → arrays_first + 32 < (R.seen rack.old).sectors d) }
@@ -175,12 +177,16 @@ fn check_seated<R: Rack>(
         Ok(layers) => layers,
         Err(place) => return Err(Halt::Went { place }),
     };
-    if let Err(halt) = check_places(rack, scan, state, seats, layers.all.as_slice(), bad) {
-        return Err(halt);
-    }
+    let agreed = match check_places(rack, scan, state, seats, layers.all.as_slice(), bad) {
+        Ok(agreed) => agreed,
+        Err(halt) => return Err(halt),
+    };
     match fault_in(layers.all.as_slice()) {
         Some(fault) => Err(Halt::Fault(fault)),
-        None => Ok(layers.opened),
+        None => Ok(Checked {
+            agreed,
+            ..layers.opened
+        }),
     }
 }
 
@@ -209,6 +215,8 @@ pub fn check_drives<R: Rack>(
     // Whatever the disks tell, it is want of drives exactly where two or more places have no disk, and says how many.
     ensures few { OnOk result (absent_among state.now (seats_by seats.new) ≤ 1) }
     ensures counts { IfErr result (λ fault. CountsAbsent (absent_among state.now (seats_by seats.new)) fault) }
+    // Of each told disk it says whether both copies of its table agree, whatever the others tell.
+    ensures agreed { IfOk result (λ checked. AreCompared (R.seen rack.old) (seats_by seats.new) checked.agreed) }
     // Whatever the disks tell, the members' slices lie one behind the other, and on their disks.
     ensures slots { IfOk result (λ checked. AreSlots (R.seen rack.old).sectors (seats_by seats.new) checked.arrays.items checked.extents.items) }
     // Whatever the disks tell, each array is that of valid superblocks of its members, and each member with a disk has one.

@@ -1,23 +1,25 @@
 //! The parts of one drive: its table, its copy of the state, its log and its superblocks.
 
-ghost use Rattle.std.specs.Prelude.{◌≡◌, ◌==◌, ◌&&◌, ◌<◌, ◌^◌, ◌+◌, ℕ, is_some, not, bytes_eq, false, true, Ok, IfOk, IfErr, OnErr, OnOk, Some, None, option_map};
+ghost use Rattle.std.specs.Prelude.{◌≡◌, ◌==◌, ◌&&◌, ◌<◌, ◌^◌, ◌+◌, ℕ, is_some, not, bytes_eq, false, true, Ok, IfOk, IfErr, OnErr, OnOk, Some, None, option_map, if◌then◌else◌};
 ghost use Rattle.std.specs.List.{list_all};
 ghost use Rattle.std.specs.Option.{option_map_or};
 ghost use Rattle.rack.specs.Sequences.{OnlyReads};
+ghost use Rattle.gpt_table.specs.Changes.{the_table};
 ghost use Rattle.array_image.specs.Places.{arrays_first, log_kind};
 ghost use Rattle.pool_image.specs.Disks.{id_at, Seats as PlaceSeats};
-ghost use Rattle.pool_image.specs.Meaning.{has_entry, has_slice, has_table};
-ghost use Rattle.pool_scan.specs.Scanning.{copied_at};
+ghost use Rattle.pool_image.specs.Meaning.{has_entry, has_slice, has_table, in_table};
+ghost use Rattle.pool_scan.specs.Scanning.{Finds, copied_at};
 ghost use Rattle.rack.specs.Seen.{Rose};
-ghost use Rattle.pool_check.specs.Drives.{AreCopied, AreDrivesOf, Drives, IsFitState, IsSeating, found_with, seats_by};
-ghost use Rattle.pool_check.specs.Refusing.{IsDamage, IsFault, IsOfFew, Halts, damage_by, damage_with, first_with, is_well, part_behind, part_by, refusal_by};
+ghost use Rattle.pool_check.specs.Drives.{AreCopied, AreDrivesOf, Drives, IsFitState, IsSeating, flag_by, found_with, seats_by};
+ghost use Rattle.pool_check.specs.Refusing.{IsDamage, IsFault, IsOfFew, Halts, damage_with, first_with, is_well, part_behind, part_by, refusal_by};
+ghost use Rattle.pool_check.specs.Settling.{AreCompared, IsAgreement};
 ghost use Rattle.pool_check.specs.Slots.{FitsOn, IsSoundDrive};
 ghost use Rattle.pool_check.specs.Layers.{AreRead, extent_by, has_layer, is_member_of, is_sound_on, is_table_by, log_extent};
 
 use crate::superblocks::seat_at;
-use crate::{CheckFault, Extent, Halt, Layer, Part, Seats, Sight};
-use gpt_table::Table;
-use pool_scan::{Scan, find_table};
+use crate::{CheckFault, Extent, Flags, Halt, Layer, Part, Seats, Sight};
+use gpt_table::{Compared, Table, TableFault, compare_copies};
+use pool_scan::Scan;
 use pool_state::State;
 use rack::{Gone, Rack};
 use shr_base::Id;
@@ -135,39 +137,75 @@ fn is_table(state: &State, layers: &[Layer], place: u32, table: &Table, sectors:
     is_drive(state, place, &table.disk_id) && has_slices(layers, table, sectors, place)
 }
 
+/// The table of a disk, if it has one, and whether both copies say it.
+fn find_table<R: Rack>(rack: &mut R, disk: u32) -> Result<Option<Compared>, Gone>
+    requires fit { (R.seen rack.old).fit }
+    requires disk { disk < (R.seen rack.old).disks }
+    ensures found { Finds (R.seen rack.old) (R.seen rack.new) disk
+        (λ contents found. option_map (λ c. c.table) found ≡ the_table ((R.seen rack.old).sectors disk) contents) result }
+    ensures agree { IfOk result (λ found. IsAgreement (R.seen rack.old) disk (option_map_or (λ c. c.agree) found false)) }
+    ensures runs { R.runs rack.old rack.new }
+{
+    match compare_copies(rack, disk) {
+        Ok(found) => Ok(Some(found)),
+        Err(TableFault::NoTable) => Ok(None),
+        Err(TableFault::Gone) => Err(Gone { disk }),
+    }
+}
+
 /// Whether there is a table, and it is that of a place's drive.
 fn is_found(
     state: &State,
     layers: &[Layer],
     place: u32,
-    found: &Option<Table>,
+    found: &Option<Compared>,
     sectors: u64,
 ) -> bool
-    ensures { result ≡ option_map_or (is_table_by state.now layers.now place sectors) found.now false }
+    ensures { result ≡ option_map_or (is_table_by state.now layers.now place sectors) (option_map (λ c. c.table) found.now) false }
 {
     match found {
-        Some(table) => is_table(state, layers, place, table, sectors),
+        Some(found) => is_table(state, layers, place, &found.table, sectors),
         None => false,
     }
 }
 
-/// Whether the table of a place's disk is valid, and that of its drive.
-fn has_table<R: Rack>(
+/// Whether there is a table, and both copies say it.
+fn is_agreed(found: &Option<Compared>) -> bool
+    ensures { result ≡ option_map_or (λ c. c.agree) found.now false }
+{
+    match found {
+        Some(found) => found.agree,
+        None => false,
+    }
+}
+
+/// What is read of a table.
+#[derive(Clone, Copy, Debug, PartialEq, Eq)]
+struct TableRead {
+    /// It is valid, and that of the place's drive.
+    is_own: bool,
+    /// Both copies are valid, and agree.
+    is_agreed: bool,
+}
+
+/// Reads both copies of the table of a place's disk.
+fn read_table<R: Rack>(
     rack: &mut R,
     state: &State,
     layers: &[Layer],
     place: u32,
     disk: u32,
-) -> Result<bool, Gone>
+) -> Result<TableRead, Gone>
     requires fit { (R.seen rack.old).fit }
     requires disk { disk < (R.seen rack.old).disks }
     requires place { place < 16 }
     requires small { (R.seen rack.old).sectors disk < 2 ^ 48 }
     ensures only { OnlyReads (R.seen rack.old) (R.seen rack.new) }
-    ensures has { IfOk result (λ has. (seats : PlaceSeats) (o : Drives) → seats place ≡ Some disk → AreDrivesOf (R.seen rack.old) seats o
-        → AreRead (found_with state.now seats o) layers.now → has ≡ has_table (found_with state.now seats o) place disk) }
-    ensures room { result ≡ Ok true → arrays_first + 32 < (R.seen rack.old).sectors disk }
-    ensures fits { result ≡ Ok true → FitsOn layers.now place ((R.seen rack.old).sectors disk) }
+    ensures has { IfOk result (λ table. (seats : PlaceSeats) (o : Drives) → seats place ≡ Some disk → AreDrivesOf (R.seen rack.old) seats o
+        → AreRead (found_with state.now seats o) layers.now → table.is_own ≡ has_table (found_with state.now seats o) place disk) }
+    ensures agree { IfOk result (λ table. IsAgreement (R.seen rack.old) disk table.is_agreed) }
+    ensures room { IfOk result (λ table. table.is_own ≡ true → arrays_first + 32 < (R.seen rack.old).sectors disk) }
+    ensures fits { IfOk result (λ table. table.is_own ≡ true → FitsOn layers.now place ((R.seen rack.old).sectors disk)) }
     ensures gone { OnErr result (Rose ((R.seen rack.old).faults disk) ((R.seen rack.new).faults disk)) }
     ensures runs { R.runs rack.old rack.new }
 {
@@ -176,7 +214,10 @@ fn has_table<R: Rack>(
         Ok(found) => found,
         Err(gone) => return Err(gone),
     };
-    Ok(is_found(state, layers, place, &found, sectors))
+    Ok(TableRead {
+        is_own: is_found(state, layers, place, &found, sectors),
+        is_agreed: is_agreed(&found),
+    })
 }
 
 /// Whether a disk has a valid copy of the state.
@@ -206,17 +247,21 @@ fn are_sound(layers: &[Layer], place: u32) -> bool
     layers.iter().all(|layer| is_sound(layer, place))
 }
 
-/// The first part of a place's drive that isn't valid, behind its table.
-fn damage_behind(
+/// The first part of a place's drive that isn't valid, by whether its table is.
+fn damage_on(
     scan: &Scan,
     layers: &[Layer],
     bad: Option<u32>,
     place: u32,
     disk: u32,
+    has_table: bool,
 ) -> Option<Part>
-    ensures { option_map part_by result
-        ≡ part_behind (is_some (copied_at scan.now.disks.items disk)) (is_well bad place) (list_all (is_sound_on place) layers.now) }
+    ensures { option_map part_by result ≡ (if not has_table then Some in_table
+        else part_behind (is_some (copied_at scan.now.disks.items disk)) (is_well bad place) (list_all (is_sound_on place) layers.now)) }
 {
+    if !has_table {
+        return Some(Part::Table);
+    }
     if !has_copy(scan, disk) {
         return Some(Part::State);
     }
@@ -229,36 +274,7 @@ fn damage_behind(
     None
 }
 
-/// The first part of a place's drive that isn't valid.
-fn damage_on<R: Rack>(
-    rack: &mut R,
-    scan: &Scan,
-    state: &State,
-    layers: &[Layer],
-    bad: Option<u32>,
-    place: u32,
-    disk: u32,
-) -> Result<Option<Part>, Gone>
-    requires fit { (R.seen rack.old).fit }
-    requires disk { disk < (R.seen rack.old).disks }
-    requires place { place < 16 }
-    requires small { (R.seen rack.old).sectors disk < 2 ^ 48 }
-    ensures only { OnlyReads (R.seen rack.old) (R.seen rack.new) }
-    ensures damage { IfOk result (λ part. (seats : PlaceSeats) (o : Drives) → seats place ≡ Some disk → AreDrivesOf (R.seen rack.old) seats o
-        → AreCopied scan.now.disks.items seats o → AreRead (found_with state.now seats o) layers.now
-        → option_map part_by part ≡ damage_by (is_well bad) (found_with state.now seats o) place disk) }
-    ensures drive { result ≡ Ok None → IsSoundDrive layers.now place ((R.seen rack.old).sectors disk) }
-    ensures gone { OnErr result (Rose ((R.seen rack.old).faults disk) ((R.seen rack.new).faults disk)) }
-    ensures runs { R.runs rack.old rack.new }
-{
-    match has_table(rack, state, layers, place, disk) {
-        Ok(true) => Ok(damage_behind(scan, layers, bad, place, disk)),
-        Ok(false) => Ok(Some(Part::Table)),
-        Err(gone) => Err(gone),
-    }
-}
-
-/// Checks the drive of a place, where it has a disk.
+/// Checks the drive of a place, where it has a disk. Answers whether both copies of its table agree.
 fn check_place<R: Rack>(
     rack: &mut R,
     scan: &Scan,
@@ -267,7 +283,7 @@ fn check_place<R: Rack>(
     layers: &[Layer],
     bad: Option<u32>,
     place: u32,
-) -> Result<(), Halt>
+) -> Result<bool, Halt>
     requires fit { (R.seen rack.old).fit }
     requires seating { IsSeating (R.seen rack.old) state.now (seats_by seats.now) }
     requires place { place < 16 }
@@ -275,6 +291,7 @@ fn check_place<R: Rack>(
     ensures sound { OnOk result ((o : Drives) → AreDrivesOf (R.seen rack.old) (seats_by seats.now) o
         → AreCopied scan.now.disks.items (seats_by seats.now) o → AreRead (found_with state.now (seats_by seats.now) o) layers.now
         → damage_with (is_well bad) (found_with state.now (seats_by seats.now) o) place ≡ None) }
+    ensures agree { IfOk result (λ agree. (d : ℕ) → seats_by seats.now place ≡ Some d → IsAgreement (R.seen rack.old) d agree) }
     ensures drive { OnOk result ((d : ℕ) → seats_by seats.now place ≡ Some d → IsSoundDrive layers.now place ((R.seen rack.old).sectors d)) }
     ensures halts { IfErr result (λ halt. Halts (R.seen rack.old) (R.seen rack.new) (seats_by seats.now)
         (λ fault. (o : Drives) → AreDrivesOf (R.seen rack.old) (seats_by seats.now) o
@@ -284,16 +301,27 @@ fn check_place<R: Rack>(
     ensures runs { R.runs rack.old rack.new }
 {
     let Some(disk) = seat_at(seats, place) else {
-        return Ok(());
+        return Ok(false);
     };
-    match damage_on(rack, scan, state, layers, bad, place, disk) {
-        Ok(Some(part)) => Err(Halt::Fault(CheckFault::Damaged { place, part })),
-        Ok(None) => Ok(()),
-        Err(_) => Err(Halt::Went { place }),
+    let table = match read_table(rack, state, layers, place, disk) {
+        Ok(table) => table,
+        Err(_) => return Err(Halt::Went { place }),
+    };
+    match damage_on(scan, layers, bad, place, disk, table.is_own) {
+        Some(part) => Err(Halt::Fault(CheckFault::Damaged { place, part })),
+        None => Ok(table.is_agreed),
     }
 }
 
-/// Checks the drives of all places that have a disk, the lowest place first.
+/// Puts the flag of a place.
+fn put_flag(flags: &mut Flags, place: u32, flag: bool)
+    requires { place < 16 }
+    ensures { (p : ℕ) → flag_by flags.new p ≡ (if p == place then flag else flag_by flags.old p) }
+{
+    flags[place as usize] = flag;
+}
+
+/// Checks the drives of all places that have a disk, the lowest place first. Answers of which of them both copies of the table agree.
 pub(crate) fn check_places<R: Rack>(
     rack: &mut R,
     scan: &Scan,
@@ -301,7 +329,7 @@ pub(crate) fn check_places<R: Rack>(
     seats: &Seats,
     layers: &[Layer],
     bad: Option<u32>,
-) -> Result<(), Halt>
+) -> Result<Flags, Halt>
     requires fit { (R.seen rack.old).fit }
     requires seating { IsSeating (R.seen rack.old) state.now (seats_by seats.now) }
     requires state { IsFitState state.now }
@@ -309,6 +337,7 @@ pub(crate) fn check_places<R: Rack>(
     ensures sound { OnOk result ((o : Drives) → AreDrivesOf (R.seen rack.old) (seats_by seats.now) o
         → AreCopied scan.now.disks.items (seats_by seats.now) o → AreRead (found_with state.now (seats_by seats.now) o) layers.now
         → (place : ℕ) → place < 16 → damage_with (is_well bad) (found_with state.now (seats_by seats.now) o) place ≡ None) }
+    ensures agreed { IfOk result (AreCompared (R.seen rack.old) (seats_by seats.now)) }
     ensures drives { OnOk result ((place d : ℕ) → place < 16 → seats_by seats.now place ≡ Some d → IsSoundDrive layers.now place ((R.seen rack.old).sectors d)) }
     ensures halts { IfErr result (λ halt. Halts (R.seen rack.old) (R.seen rack.new) (seats_by seats.now)
         (λ fault. (o : Drives) → AreDrivesOf (R.seen rack.old) (seats_by seats.now) o
@@ -317,10 +346,12 @@ pub(crate) fn check_places<R: Rack>(
     ensures few { IfErr result (λ halt. IsFault IsOfFew halt) }
     ensures runs { R.runs rack.old rack.new }
 {
+    let mut agreed = [false; 16];
     for place in 0..16 {
-        if let Err(halt) = check_place(rack, scan, state, seats, layers, bad, place) {
-            return Err(halt);
+        match check_place(rack, scan, state, seats, layers, bad, place) {
+            Ok(agree) => put_flag(&mut agreed, place, agree),
+            Err(halt) => return Err(halt),
         }
     }
-    Ok(())
+    Ok(agreed)
 }

@@ -315,6 +315,7 @@ fn no_layers() -> ArraysRead
             arrays: ArrayVec::new(),
             extents: ArrayVec::new(),
             stale: ArrayVec::new(),
+            agreed: [false; 16],
         },
         next: Some(ARRAYS_FIRST),
     }

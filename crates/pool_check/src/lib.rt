@@ -1,7 +1,7 @@
 //! Checks the parts of a pool's drives, opens its arrays, and makes the copies of its partition tables agree.
 //!
 //! The pool is at rest: its pending record is replayed, its state is known, and each of its current places has a disk or none. Of each
-//! seated drive a check reads the partition table and the superblocks once, and writes nothing. A drive that answers `Gone` is absent
+//! seated drive a check reads both copies of the partition table and the superblocks once, and writes nothing. A drive that answers `Gone` is absent
 //! from the start, and the check begins again without it; that happens once at most, since two absent drives are too many.
 //!
 //! **Its model** is `Found` of pool_image: the pool that the disks' contents make, with the seats that are left.
@@ -9,13 +9,14 @@
 //! **The contract for the layer above.** [`check_drives`] answers by that pool: the first refusal that it has but that of the volume
 //! (`refused_with` of specs/Refusing.antt), or, where it has none, the arrays with the shapes that their truths give, where their
 //! slices lie, and which of them have stale superblocks (`IsChecked` of specs/Checking.antt). Whatever the disks tell, each array is
-//! one of valid superblocks that were read of its members (`AreFounded` of specs/Founded.antt), and want of drives is answered exactly where two
+//! one of valid superblocks that were read of its members (`AreFounded` of specs/Founded.antt), a flag of each place says whether both
+//! copies of its disk's table agree (`AreCompared` of specs/Settling.antt), and want of drives is answered exactly where two
 //! or more places have no disk, with their count (`CountsAbsent` of specs/Refusing.antt). Where nothing is pending and no disk's
 //! faults rise, the answer is the meaning's refusal (proofs/Meant.antt). Whether a place's log is well formed is not read here: the
 //! caller hands in the lowest place whose log isn't. [`lay_members`] lays the slices behind the log slices of a rack of slices, where
 //! none is refused (`AreSlots` of specs/Slots.antt), and what they show is what the drives' slices hold (proofs/Shown.antt).
 //! [`settle_tables`] writes only sectors of partition tables, and at each moment each disk has the table that it had
-//! (specs/Settling.antt).
+//! (specs/Settling.antt). It calls no disk of which the check has said that both copies agree.
 #![tactic(auto)]
 
 ghost use Rattle.std.specs.Prelude.{◌+◌, ◌<◌, ◌^◌};
@@ -76,6 +77,9 @@ pub enum CheckFault {
 /// The disk of each place, none of one that isn't current, has no disk, or whose disk went.
 pub type Seats = [Option<u32>; 16];
 
+/// A flag of each place.
+pub type Flags = [bool; 16];
+
 /// Where the slices of an array lie, at the same sectors of each member's drive.
 #[derive(Clone, Copy, Debug, PartialEq, Eq)]
 pub struct Extent {
@@ -104,6 +108,8 @@ pub struct Checked {
     pub extents: ArrayVec<Extent, 16>,
     /// Whether a member's superblock is stale, which is of other events than the array's truth, by number.
     pub stale: ArrayVec<bool, 16>,
+    /// Whether both copies of the partition table of each place's disk agree.
+    pub agreed: Flags,
 }
 
 /// What the disk of a place has to do with an array.

@@ -30,12 +30,14 @@ use Rattle.pool_image.specs.Meaning.{arrays_held, is_member}
 use Rattle.pool_image.specs.Sound.{IsSoundState}
 use Rattle.pool_image.proofs.Composed.{same_slices, seated}
 use Rattle.pool_image.proofs.Truths.{extent_found, slice_of_member, slice_sector}
+use Rattle.pool_model.specs.InService.{IsOutset}
 use Rattle.pool_model.specs.Pools.{IsSoundPool}
-use Rattle.pool_model.specs.Left.{AreAlone, HaveSlices, HoldAgain, HoldRest, IsLeftBy, IsPickOff, IsServed, AreElsewhere}
-use Rattle.pool_model.proofs.Copies.{IsKnown, c, copied_now, copy_now, no_later, quiet, s, seat_there, state_is}
+use Rattle.pool_model.specs.Left.{AreAlone, AreAloneBy, HaveSlices, HoldAgain, HoldRest, IsLeftBy, IsPickOff, IsServed, AreElsewhere}
+use Rattle.pool_model.proofs.Copies.{IsKnown, known_of, c, copied_now, copy_now, no_later, quiet, s, seat_there, state_is}
 use Rattle.pool_model.proofs.Current.{SameCurrent, SameMembers, array_current, sound_current}
 use Rattle.pool_model.proofs.Extents.{alone, begins_now, disk_is, few, is, is_is, lies, lies_now, made_same, member_same, named_same, no_slice, place_is, reads_nothing, room, says, truth_is, truth_now, was_is}
 use Rattle.pool_model.proofs.Found.{found_is}
+use Rattle.pool_model.proofs.Outset.{outset_of}
 use Rattle.pool_model.proofs.Layers.{no_super, nothing_super}
 use Rattle.pool_model.proofs.Rested.{found_now, idle_now, now, sound_logs}
 use Rattle.pool_model.proofs.Seats.{none_former, seats_now}
@@ -61,10 +63,10 @@ module _ (f : Found) (t : Slices) (v : Raid) (y : Seen) (i : Image) (known : IsK
     slice_now p d u counts seat member =
         same_slices g t (member_slice p n) u
         (seated
-        (ap g.seats (place_is f t v y i known n low p) ∙ seats_now f t v y i known p counts ∙ seat ∙ ap Some (sym (disk_is f t v y i known n low p d seat)))
-        (ap (extent_of g) (slice_of_member p n (few f t v y i known n low)) ∙ lies_now f t v y i known n low ∙ known.served.slices.members n p d low seat member)
+        (ap g.seats (place_is f t v y i known n low p) ∙ seats_now f t v y i known p counts ∙ seat ∙ ap Some (sym (disk_is f t v y i known n low p d seat counts)))
+        (ap (extent_of g) (slice_of_member p n (few f t v y i known n low)) ∙ lies_now f t v y i known n low ∙ known.served.slices.members n p d low counts seat member)
         (subst (λ e. slice_first t (member_slice p n) + sectors_of t (member_slice p n) ≤ f.disks.sectors e)
-        (sym (disk_is f t v y i known n low p d seat)) (room f t v y i known n low p d seat member)))
+        (sym (disk_is f t v y i known n low p d seat counts)) (room f t v y i known n low p d seat counts member)))
 
     none_now : (p d : ℕ) → is_current book p ≡ true → f.seats p ≡ Some d → is_member f n p ≡ false → super_in book (slices_of g) n p ≡ None
     none_now p d counts seat none =
@@ -74,7 +76,7 @@ module _ (f : Found) (t : Slices) (v : Raid) (y : Seen) (i : Image) (known : IsK
         ∙ extent_found g n (lies f t v y i known n low).first (is f t v y i known n low) (begins_now f t v y i known n low) (truth_now f t v y i known n low))
         (omega arith))
         ∙ no_super book (slices_from g (lies f t v y i known n low).first) n p
-        (alone f t v y i known n low p d seat none (seats_now f t v y i known p counts ∙ seat))
+        (alone f t v y i known n low p d seat counts none (seats_now f t v y i known p counts ∙ seat))
 
     pub same : SameCurrent book n (slices_of g) held
     same p counts =
@@ -160,21 +162,23 @@ module _ (f : Found) (t : Slices) (v : Raid) (y : Seen) (i : Image) (known : IsK
   pub slices_now : HaveSlices g t
   unfolding extent_of
   slices_now = record {
-    seats = λ p counts. known.served.slices.seats p ∙ sym (seats_now f t v y i known p counts);
-    logs = λ p counts. let one = seat_there f t v y i known p counts in known.served.slices.logs p one.0 one.1;
+    seats = λ p counts.
+        let one = seat_there f t v y i known p counts in
+        known.served.slices.seats p one.0 counts one.1 ∙ sym (seats_now f t v y i known p counts ∙ one.1);
+    logs = λ p counts. let one = seat_there f t v y i known p counts in known.served.slices.logs p one.0 counts one.1;
     members = λ n p low counts member.
         let less = low_before n low in
         let one = seat_there f t v y i known p counts in
         lies_now f t v y i known n less
-        ∙ known.served.slices.members n p one.0 less one.1 (sym (member_same f t v y i known n less p) ∙ member);
+        ∙ known.served.slices.members n p one.0 less counts one.1 (sym (member_same f t v y i known n less p) ∙ member);
     others = λ n p low none. let less = low_before n low in no_slice f t v y i known n less p (sym (member_same f t v y i known n less p) ∙ none);
   }
 
   pub alone_now : AreAlone g i
   alone_now n p d first low seat none begins within =
       let less = low_before n low in
-      let before = (seat_before p d seat).1 in
-      known.left.alone n p d first less before (sym (member_same f t v y i known n less p) ∙ none)
+      let before = seat_before p d seat in
+      known.left.alone n p d first less before.0 before.1 (sym (member_same f t v y i known n less p) ∙ none)
       ((lies f t v y i known n less).begins ∙ sym (begins_now f t v y i known n less) ∙ begins) within
 
   unfoldable pub known_again : HoldAgain f t book i
@@ -194,21 +198,17 @@ module _ (f : Found) (t : Slices) (v : Raid) (y : Seen) (i : Image) (known : IsK
 
 -- Where a pool that was found on disks, a sound one, is served, contents that it leaves hold a sound pool again.
 pub opens_again : (disks : Disks) (before : Image) (f : Found) (t : Slices) (v : Raid) (y : Seen) (i : Image)
-    → found disks before ≡ Some f → IsSoundPool f → IsServed f t v y → IsLeftBy f t y i → HoldAgain f t v.state i
+    → found disks before ≡ Some f → IsSoundPool f → IsServed f t v y → IsLeftBy f t v.state y i → HoldAgain f t v.state i
 opens_again disks before f t v y i found_before sound served left =
-    known_again f t v y i (record { is = (found_is disks before f found_before).0; sound = sound; served = served; left = left })
+    known_again f t v y i (known_of f t v y i (outset_of f (found_is disks before f found_before).0 sound) served left)
 
 -- ---- by the disks
 
-module _ (f : Found) (t : Slices) (x : Seen) (v : Raid) (served : IsServed f t v (slices_shown t x)) (inside : IsInside t x) where
-  -- a slice that is there is on a disk
-  slice_on : (k u : ℕ) → u < sectors_of t k → (d : ℕ) × (slice_seat t (slice_place k) ≡ Some d)
-  slice_on k u within = by (f.seats (slice_place k)) refl
-    where
-      by : (o : Option ℕ) → f.seats (slice_place k) ≡ o → (d : ℕ) × (slice_seat t (slice_place k) ≡ Some d)
-      by (Some d) seat = (d, served.slices.seats (slice_place k) ∙ seat)
-      by None none = let nothing = served.slices.unseated k none in absurd (omega (arith, within, nothing))
+-- each slice that is there is on a disk
+abbrev pub AreOnDisks : Slices → Type 0
+AreOnDisks t = (k u : ℕ) → u < sectors_of t k → (d : ℕ) × (slice_seat t (slice_place k) ≡ Some d)
 
+module _ (t : Slices) (x : Seen) (inside : IsInside t x) (slice_on : AreOnDisks t) where
   live_on_disk : (k u : ℕ) → IsLive (slices_shown t x) (slices_shown t x) k u → IsLive x x (disk_of t k) (slice_first t k + u)
   live_on_disk k u live =
       let one = slice_on k u live.sector in
@@ -229,28 +229,42 @@ module _ (f : Found) (t : Slices) (x : Seen) (v : Raid) (served : IsServed f t v
     inside = λ k u past. ap (λ (b : Bool). if b then i (disk_of t k) (slice_first t k + u) else []) (le-ltb u (sectors_of t k) past);
   }
 
+  -- contents that the disks may be left with, which outside the slices are as the pool goes by
+  pub left_by : (f : Found) (s : State) (i : Image) → f.disks ≡ disks_of x → AreElsewhere f i → AreAloneBy s f i → IsPick x x x.held i
+      → IsLeftBy f t s (slices_shown t x) i
+  left_by f s i same elsewhere alone pick = record {
+    sectors = λ k. refl;
+    picks = picks_sliced i pick;
+    inside = λ k d seat some.
+        let disk : disk_of t k ≡ d = ap (λ o. unwrap_or o 0) seat in
+        let sectors : x.sectors d ≡ f.disks.sectors d = ap (λ (z : Disks). z.sectors d) (sym same) in
+        let within = inside.slices k some in
+        let here : x.sectors (disk_of t k) ≡ x.sectors d = ap x.sectors disk in
+        omega (arith, within, sectors, here);
+    elsewhere = elsewhere;
+    alone = alone;
+  }
+
+module _ (f : Found) (t : Slices) (x : Seen) (v : Raid) (served : IsServed f t v (slices_shown t x)) (inside : IsInside t x) where
+  -- a slice that is there is on a disk
+  slice_on : (k u : ℕ) → u < sectors_of t k → (d : ℕ) × (slice_seat t (slice_place k) ≡ Some d)
+  slice_on k u within = by (f.seats (slice_place k)) refl
+    where
+      by : (o : Option ℕ) → f.seats (slice_place k) ≡ o → (d : ℕ) × (slice_seat t (slice_place k) ≡ Some d)
+      by (Some d) seat = (d, served.slices.seats (slice_place k) ∙ seat)
+      by None none = let nothing = served.slices.unseated k none in absurd (omega (arith, within, nothing))
+
+  pub left_known_by : (i : Image) → IsOutset f → f.disks ≡ disks_of x → AreElsewhere f i → AreAloneBy v.state f i → IsPick x x x.held i
+      → IsKnown f t v (slices_shown t x) i
+  left_known_by i outset same elsewhere alone pick =
+      known_of f t v (slices_shown t x) i outset served (left_by t x inside slice_on f v.state i same elsewhere alone pick)
+
   -- contents that the disks may be left with, which outside the slices are as they were
   pub left_known : (disks : Disks) (before i : Image) → found disks before ≡ Some f → disks ≡ disks_of x → IsSoundPool f → AreElsewhere f i → AreAlone f i
       → IsPick x x x.held i → IsKnown f t v (slices_shown t x) i
   left_known disks before i found_before same sound elsewhere alone pick =
       let at = found_is disks before f found_before in
-      record {
-        is = at.0;
-        sound = sound;
-        served = served;
-        left = record {
-          sectors = λ k. refl;
-          picks = picks_sliced i pick;
-          inside = λ k d seat some.
-              let disk : disk_of t k ≡ d = ap (λ o. unwrap_or o 0) seat in
-              let sectors : x.sectors d ≡ f.disks.sectors d = ap (λ (z : Disks). z.sectors d) (sym same ∙ sym at.1) in
-              let within = inside.slices k some in
-              let here : x.sectors (disk_of t k) ≡ x.sectors d = ap x.sectors disk in
-              omega (arith, within, sectors, here);
-          elsewhere = elsewhere;
-          alone = alone;
-        };
-      }
+      left_known_by i (outset_of f at.0 sound) (at.1 ∙ same) elsewhere (λ n p d first low counts seat. alone n p d first low seat) pick
 
   -- Disks of a served pool, which outside its slices are as they were: what they may be left with holds a sound pool again.
   pub left_again : (disks : Disks) (before i : Image)

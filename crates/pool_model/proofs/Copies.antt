@@ -1,40 +1,97 @@
 -- What the disks of a served pool say: each current place's drive has the book's state, and no other disk a later one.
-use Rattle.std.proofs.Common.{◌≡◌, ◌⊎◌, ℕ, ◌+◌, ◌<◌, ◌≤◌, Bool, true, false, if◌then◌else◌, [], Option, Some, None, unwrap_or, refl, sym, ap, ap₂, ◌∙◌, inl, inr, lt-ltb, arith}
-use Rattle.std.specs.Option.{option_map_or}
+use Rattle.std.proofs.Common.{◌≡◌, ◌⊎◌, ℕ, suc, ◌+◌, ◌<◌, ◌≤◌, ◌&&◌, nat_lt, true, false, [], Option, Some, None, refl, sym, ap, subst, ◌∙◌, inl, inr, arith}
 use Rattle.std.specs.Result.{result_ok}
-use Rattle.std.proofs.lemmas.Bool.{both_ways, cases_Bool, cases_lt}
+use Rattle.std.proofs.lemmas.Bool.{both_ways, cases_Bool}
 use Rattle.rack.specs.Seen.{Image, Seen}
 use Rattle.rack.specs.Values.{MayLeave}
-use Rattle.slice_rack.specs.Slices.{Slices, disk_of, first_of, seat_of as slice_seat, sectors_of}
+use Rattle.slice_rack.specs.Slices.{Slices, seat_of as slice_seat, sectors_of}
 use Rattle.slice_rack.specs.Sliced.{sliced}
 use Rattle.pool_state.specs.declared.contents.Copied.{Copied}
 use Rattle.pool_state.specs.declared.contents.State.{State}
 use Rattle.pool_state.specs.Sector.{decoded}
 use Rattle.array_image.specs.Arrays.{replayed}
-use Rattle.array_image.specs.Places.{arrays_first, log_sectors, log_slice, place_of, state_sector}
+use Rattle.array_image.specs.Places.{arrays_first, log_sectors, log_slice, member_slice, place_of, state_sector}
 use Rattle.array_image.specs.Record.{pending}
 use Rattle.array_image.specs.States.{is_current, state_in}
 use Rattle.commit_log.specs.Commits.{Stands}
 use Rattle.commit_log.specs.Kept.{IsCopyOf, IsNoLater, LogKept}
 use Rattle.commit_log.specs.Standing.{LogsStand, deciding}
 use Rattle.commit_log.proofs.Kept.{kept_state}
-use Rattle.raid_rack.specs.Raid.{Raid, Stood, held_in, spent_of}
+use Rattle.md_super.specs.declared.superblock.Super.{Super}
+use Rattle.raid_rack.specs.Book.{IsAfter}
+use Rattle.raid_rack.specs.Raid.{IsTold, Raid, Stood, held_in, is_over, spent_of}
 use Rattle.raid_rack.proofs.Over.{number_room}
-use Rattle.array_model.specs.View.{shape_of}
+use Rattle.raid_rack.proofs.Noted.{current_few}
+use Rattle.array_model.specs.View.{HasGeometry, shape_of}
 use Rattle.pool_image.specs.Disks.{Identities, Identity, identities_of, newest}
 use Rattle.pool_image.specs.Drives.{Found, extent_of}
-use Rattle.pool_image.specs.Replay.{Extent}
-use Rattle.pool_model.specs.Pools.{IsSoundPool}
+use Rattle.pool_image.specs.Meaning.{is_member, truth_of}
+use Rattle.pool_model.specs.InService.{HasSeat, IsOutset}
 use Rattle.pool_model.specs.Left.{IsLeftBy, IsServed}
-use Rattle.pool_model.proofs.Found.{IsFound, few_places, latest, newest_latest, ok_of, seated_below, some_made}
-use Rattle.pool_model.proofs.Named.{IsAhead, seat_ahead}
+use Rattle.pool_model.specs.Pools.{extent_in}
+use Rattle.pool_model.proofs.Found.{newest_latest, ok_of, seated_below}
+use Rattle.pool_model.proofs.Logs.{copied_in, many_in, reads_in, room_in, there_in}
 
--- all that is known of a served pool and of the contents that it leaves
+-- Tables of slices are those of a pool's drives, for the places that are current by a state.
+pub record AreSlicesNow (f : Found) (t : Slices) (s : State) : Type 0 where
+  pub seats : (p d : ℕ) → is_current s p ≡ true → f.seats p ≡ Some d → slice_seat t p ≡ Some d
+  pub logs : (p d : ℕ) → is_current s p ≡ true → f.seats p ≡ Some d → extent_of f 0 ≡ Some (extent_in t (log_slice p))
+  pub members :
+      (n p d : ℕ) → n < f.state.made → is_current s p ≡ true → f.seats p ≡ Some d → is_member f n p ≡ true
+      → extent_of f (suc n) ≡ Some (extent_in t (member_slice p n))
+  pub others : (n p : ℕ) → n < 16 → (nat_lt n f.state.made && is_member f n p) ≡ false → sectors_of t (member_slice p n) ≡ 0
+  pub unseated : (k : ℕ) → f.seats (place_of k) ≡ None → sectors_of t k ≡ 0
+
+-- a served pool, of which no more is told than the slices of current places
+pub record IsServedNow (f : Found) (t : Slices) (v : Raid) (y : Seen) : Type 0 where
+  pub slices : AreSlicesNow f t v.state
+  pub after : IsAfter f.state v.state
+  pub joined : f.state.joined ≡ f.state.made
+  pub told : (n : ℕ) → n < f.state.made → IsTold v y n
+  pub lasts : (n : ℕ) → n < f.state.made → is_over v n ≡ false
+  pub geometry : (n : ℕ) (u : Super) → n < f.state.made → truth_of f n ≡ Some u → HasGeometry u (v.arrays n).truth
+
+pub served_now : (f : Found) (t : Slices) (v : Raid) (y : Seen) → IsServed f t v y → IsServedNow f t v y
+served_now f t v y served = record {
+  slices = record {
+    seats = λ p d now seat. served.slices.seats p ∙ seat;
+    logs = λ p d now seat. served.slices.logs p d seat;
+    members = λ n p d low now seat member. served.slices.members n p d low seat member;
+    others = served.slices.others;
+    unseated = served.slices.unseated;
+  };
+  after = served.after;
+  joined = served.joined;
+  told = served.told;
+  lasts = served.lasts;
+  geometry = served.geometry;
+}
+
+-- All that is known of a served pool and of the contents that it leaves. The drives that were marked say earlier states.
 pub record IsKnown (f : Found) (t : Slices) (v : Raid) (y : Seen) (i : Image) : Type 0 where
-  pub is : IsFound f
-  pub sound : IsSoundPool f
-  pub served : IsServed f t v y
-  pub left : IsLeftBy f t y i
+  pub is : IsOutset f
+  pub served : IsServedNow f t v y
+  pub left : IsLeftBy f t v.state y i
+  pub former :
+      (p d : ℕ) (copy : Copied) → f.seats p ≡ Some d → is_current v.state p ≡ false → (identities_of f.disks i d).copied ≡ Some copy
+      → copy.state.epoch < v.state.epoch
+
+-- those that still have their log slices do
+pub known_of : (f : Found) (t : Slices) (v : Raid) (y : Seen) (i : Image) → IsOutset f → IsServed f t v y → IsLeftBy f t v.state y i → IsKnown f t v y i
+known_of f t v y i is served left = record {
+  is = is;
+  served = served_now f t v y served;
+  left = left;
+  former = λ p d copy seat former here.
+      let first : 0 < f.state.made = (let made = is.made.0 in omega (arith, made)) in
+      let log = ((served.told 0 first).stood (served.lasts 0 first)).log in
+      let few = current_few f.state p is.places (is.seated p d seat).current in
+      let on : slice_seat t p ≡ Some d = served.slices.seats p ∙ seat in
+      let lies = served.slices.logs p d seat in
+      let there = there_in f t y i left p d on lies in
+      log.copies.earlier p (sliced t i (log_slice p) 0) copy few former there (left.picks.picks (log_slice p) 0 (log.logs p 0 few there))
+      (ok_of (decoded (sliced t i (log_slice p) 0)) copy (sym (copied_in f t y i left p d on lies) ∙ here));
+}
 
 module _ (f : Found) (t : Slices) (v : Raid) (y : Seen) (i : Image) (known : IsKnown f t v y i) where
   abbrev pub s : State
@@ -51,7 +108,7 @@ module _ (f : Found) (t : Slices) (v : Raid) (y : Seen) (i : Image) (known : IsK
   stood n low = (known.served.told n low).stood (known.served.lasts n low)
 
   abbrev first_array : 0 < f.state.made
-  first_array = let made = (some_made f known.is).0 in omega (arith, made)
+  first_array = let made = known.is.made.0 in omega (arith, made)
 
   pub kept : LogKept s v.number (λ place. false) y
   kept = (stood 0 first_array).log
@@ -80,7 +137,7 @@ module _ (f : Found) (t : Slices) (v : Raid) (y : Seen) (i : Image) (known : IsK
   current_before p now = known.served.after.current p now
 
   pub few : (p : ℕ) → is_current s p ≡ true → p < 16
-  few p now = few_places f known.is p (current_before p now)
+  few p now = current_few f.state p known.is.places (current_before p now)
 
   -- a current place has its drive
   pub seat_there : (p : ℕ) → is_current s p ≡ true → (d : ℕ) × (f.seats p ≡ Some d)
@@ -94,67 +151,42 @@ module _ (f : Found) (t : Slices) (v : Raid) (y : Seen) (i : Image) (known : IsK
           let same = known.left.sectors (log_slice p) in
           absurd (omega (arith, nothing, some, same))
 
-  pub ahead_of : (p d : ℕ) → f.seats p ≡ Some d → IsAhead f.state f.disks f.identities p d
-  ahead_of p d seat = seat_ahead f.state f.disks f.identities p d (sym (known.is.seats p) ∙ seat)
+  pub ahead_of : (p d : ℕ) → f.seats p ≡ Some d → HasSeat f p d
+  ahead_of p d seat = known.is.seated p d seat
 
-  module _ (p d : ℕ) (seat : f.seats p ≡ Some d) where
-    log_lies : (first_of t (log_slice p) ≡ state_sector) × (sectors_of t (log_slice p) ≡ log_sectors)
-    unfolding extent_of
-    log_lies =
-        let lies = known.served.slices.logs p d seat in (
-          sym (ap (λ (o : Option Extent). option_map_or (λ e. e.first) o 0) lies),
-          sym (ap (λ (o : Option Extent). option_map_or (λ e. e.sectors) o 0) lies),
-        )
+  pub low_place : (p d : ℕ) → f.seats p ≡ Some d → p < 16
+  low_place p d seat = current_few f.state p known.is.places (ahead_of p d seat).current
 
-    slice_seat_is : slice_seat t (place_of (log_slice p)) ≡ Some d
-    slice_seat_is = ap (slice_seat t) (place_is p) ∙ known.served.slices.seats p ∙ seat
+  module _ (p d : ℕ) (seat : f.seats p ≡ Some d) (now : is_current s p ≡ true) where
+    on_place : slice_seat t p ≡ Some d
+    on_place = known.served.slices.seats p d now seat
 
-    log_disk : disk_of t (log_slice p) ≡ d
-    log_disk = ap (λ o. unwrap_or o 0) slice_seat_is
-
-    pub low_place : p < 16
-    low_place = few_places f known.is p (ahead_of p d seat).current
+    lies : extent_of f 0 ≡ Some (extent_in t (log_slice p))
+    lies = known.served.slices.logs p d now seat
 
     -- it has all of its log slice
     pub log_room : arrays_first ≤ f.disks.sectors d
-    log_room =
-        let inside = known.left.inside (log_slice p) d slice_seat_is (let many = log_lies.1 in omega (arith, many)) in
-        let first = log_lies.0 in
-        let many = log_lies.1 in
-        omega (arith, inside, first, many)
+    log_room = room_in f t y i known.left p d on_place lies
 
     pub log_reads : (u : ℕ) → u < log_sectors → c (log_slice p) u ≡ i d (state_sector + u)
-    log_reads u low =
-        ap (λ (b : Bool). if b then i (disk_of t (log_slice p)) (first_of t (log_slice p) + u) else [])
-        (lt-ltb u (sectors_of t (log_slice p)) (let many = log_lies.1 in omega (arith, low, many)))
-        ∙ ap₂ (λ e first. i e (first + u)) log_disk log_lies.0
-
-    log_there : 0 < y.sectors (log_slice p)
-    log_there = let many = log_lies.1 in let same = known.left.sectors (log_slice p) in omega (arith, many, same)
+    log_reads u low = reads_in f t y i known.left p d on_place lies u low
 
     pub log_many : y.sectors (log_slice p) ≡ log_sectors
-    log_many = known.left.sectors (log_slice p) ∙ log_lies.1
+    log_many = many_in f t y i known.left p d on_place lies
 
     copy_may : MayLeave (y.held (log_slice p) 0) (c (log_slice p) 0)
-    copy_may = known.left.picks.picks (log_slice p) 0 (kept.logs p 0 low_place log_there)
-
-    copied_is : (ids d).copied ≡ result_ok (decoded (c (log_slice p) 0))
-    copied_is =
-        ap (λ (b : Bool). if b then result_ok (decoded (i d state_sector)) else None) (lt-ltb state_sector (f.disks.sectors d) (let room = log_room in omega (arith, room)))
-        ∙ ap (λ block. result_ok (decoded block)) (sym (log_reads 0 (omega arith)))
+    copy_may = known.left.picks.picks (log_slice p) 0 (kept.logs p 0 (low_place p d seat) (there_in f t y i known.left p d on_place lies))
 
     -- its copy is of the book's state, and names its id
-    pub copy_now : is_current s p ≡ true → IsCopyOf s p (c (log_slice p) 0)
-    copy_now now = kept.copies.own p (c (log_slice p) 0) now refl copy_may
+    pub copy_now : IsCopyOf s p (c (log_slice p) 0)
+    copy_now = kept.copies.own p (c (log_slice p) 0) now refl copy_may
 
-    pub copied_now : (now : is_current s p ≡ true) → (ids d).copied ≡ Some (record { state = s; own = (copy_now now).own })
-    copied_now now = copied_is ∙ ap result_ok (copy_now now).copy
+    pub copied_now : (ids d).copied ≡ Some (record { state = s; own = copy_now.own })
+    copied_now = copied_in f t y i known.left p d on_place lies ∙ ap result_ok copy_now.copy
 
-    -- that of a drive that was marked is earlier
-    pub copied_before : (copy : Copied) → is_current s p ≡ false → (ids d).copied ≡ Some copy → copy.state.epoch < s.epoch
-    copied_before copy former here =
-        kept.copies.earlier p (c (log_slice p) 0) copy low_place former log_there copy_may
-        (ok_of (decoded (c (log_slice p) 0)) copy (sym copied_is ∙ here))
+  -- that of a drive that was marked is earlier
+  pub copied_before : (p d : ℕ) → f.seats p ≡ Some d → (copy : Copied) → is_current s p ≡ false → (ids d).copied ≡ Some copy → copy.state.epoch < s.epoch
+  copied_before p d seat copy former here = known.former p d copy seat former here
 
   -- ---- other disks
 
@@ -174,18 +206,17 @@ module _ (f : Found) (t : Slices) (v : Raid) (y : Seen) (i : Image) (known : IsK
 
   other_no_later : (d : ℕ) (copy : Copied) → d < f.disks.count → (f.identities d).copied ≡ Some copy → IsNoLater s copy
   other_no_later d copy low here =
-      let most = latest f known.is d copy low here in
-      elim later_or [
-        | inr later ↦ inl (omega (arith, most, later))
-        | inl same ↦ elim (cases_lt copy.state.epoch f.state.epoch) [
-          | inl less ↦ inl (let epoch = no_earlier in omega (arith, less, epoch))
-          | inr from ↦ inr (known.sound.rules.copies d copy low here (omega (arith, most, from)) ∙ sym same)
+      elim (known.is.copies d copy low here) [
+        | inl less ↦ inl (let epoch = no_earlier in omega (arith, less, epoch))
+        | inr was ↦ elim later_or [
+          | inr later ↦ inl (subst (λ (z : State). z.epoch < s.epoch) (sym was) later)
+          | inl same ↦ inr (was ∙ sym same)
         ]
       ]
 
   -- a disk of the pool is some place's, or none's
   pub seated_or : (d : ℕ) → ((p : ℕ) × (f.seats p ≡ Some d)) ⊎ ((p : ℕ) → f.seats p ≡ Some d → ⊥)
-  seated_or d = elim (seated_below f known.is d 16) [
+  seated_or d = elim (seated_below f.seats d 16) [
     | inl one ↦ inl one
     | inr none ↦ inr (λ p seat. none p (low_place p d seat) seat)
   ]

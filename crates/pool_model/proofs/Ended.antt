@@ -10,6 +10,7 @@ use Rattle.rack.specs.Seen.{Image, Seen}
 use Rattle.slice_rack.specs.Slices.{Slices}
 use Rattle.md_super.specs.declared.superblock.Super.{Super}
 use Rattle.pool_state.specs.declared.contents.State.{State}
+use Rattle.pool_state.specs.Valid.{is_valid}
 use Rattle.array_image.specs.Arrays.{Member, Shape, member_by, member_in, place_with, shape_by}
 use Rattle.array_image.specs.Places.{log_slice, super_sector}
 use Rattle.array_image.specs.Record.{gate_of, gate_sector}
@@ -17,7 +18,7 @@ use Rattle.array_image.specs.SoundArray.{array_fields, first_unsynced}
 use Rattle.array_image.specs.States.{is_current}
 use Rattle.array_image.specs.Supers.{is_named, is_rebuilding, is_unclean, named_places, super_in, truth_in}
 use Rattle.array_core.proofs.Opened.{current_below, current_is, super_truth, truth_leads}
-use Rattle.array_core.proofs.Rules.{get_map, get_range}
+use Rattle.array_core.proofs.Rules.{get_map, get_range, placed}
 use Rattle.array_core.proofs.Truths.{Truth, truth_facts}
 use Rattle.array_model.specs.declared.Seat.{Seat}
 use Rattle.array_model.specs.View.{View, is_whole_seat, member_on, rows_of as rows_in, shape_of}
@@ -33,7 +34,6 @@ use Rattle.pool_model.proofs.Copies.{IsKnown, c, kept, log_many, low_place, othe
 use Rattle.pool_model.proofs.Away.{all_there, none_found}
 use Rattle.pool_model.proofs.Current.{shape_current}
 use Rattle.pool_model.proofs.Extents.{earlier, is, is_is, left, lies_in, made_same, reads_nothing, room, says, size_same, truth_is}
-use Rattle.pool_model.proofs.Found.{valid}
 use Rattle.pool_model.proofs.Layers.{nothing_super}
 use Rattle.pool_model.proofs.Named.{same_length, stands_same}
 use Rattle.pool_model.proofs.Rested.{log_same, now}
@@ -75,7 +75,7 @@ module _ (f : Found) (t : Slices) (v : Raid) (y : Seen) (i : Image) (known : IsK
   closed_now p gate counts at =
       let one = seat_there f t v y i known p counts in
       let there : gate_sector < y.sectors (log_slice p) = (let many = log_many f t v y i known p one.0 one.1 in omega (arith, many)) in
-      ends.closed p (held (log_slice p) gate_sector) gate counts
+      (kept f t v y i known).closed (λ q current. refl) p counts there (held (log_slice p) gate_sector) gate
       (known.left.picks.picks (log_slice p) gate_sector ((kept f t v y i known).logs p gate_sector (low_place f t v y i known p one.0 one.1) there))
       (sym (ap gate_of (log_same f t v y i known p gate_sector counts)) ∙ at)
 
@@ -102,7 +102,7 @@ module _ (f : Found) (t : Slices) (v : Raid) (y : Seen) (i : Image) (known : IsK
   none_gone q e seat gone =
       let same = same_length book.drives.items f.state.drives.items known.served.after.same.drives in
       let before = current_below f.state q (ahead_of f t v y i known q e seat).current in
-      both_ways (is_current book q) gone (all_there (λ drive. not drive.missing) book.drives.items q ends.drives (omega (arith, before, same)))
+      both_ways (is_current book q) gone (all_there (λ drive. not drive.missing) book.drives.items q ends.book.drives (omega (arith, before, same)))
 
   -- a drive of the pool stands for no other place, and no other disk for its place
   pub only_now : AreOnly g
@@ -113,7 +113,7 @@ module _ (f : Found) (t : Slices) (v : Raid) (y : Seen) (i : Image) (known : IsK
         elim (seated_or f t v y i known e) [
           | inr none ↦
               let same : g.identities e ≡ f.identities e = other_same f t v y i known e none low in
-              ends.only p d e was low (sym (stands_same f.state book known.served.after.same (f.identities e)) ∙ ap (stands_for book) (sym same) ∙ stands)
+              ends.alone.only p d e was low (sym (stands_same f.state book known.served.after.same (f.identities e)) ∙ ap (stands_for book) (sym same) ∙ stands)
           | inl one ↦ elim (cases_Bool (is_current book one.0)) [
             | inl now ↦
                 let place : one.0 ≡ p = some_same one.0 p (sym (stands_now f t v y i known one.0 e now one.1) ∙ stands) in
@@ -125,7 +125,7 @@ module _ (f : Found) (t : Slices) (v : Raid) (y : Seen) (i : Image) (known : IsK
 
   -- ---- one array
 
-  module _ (small : (d : ℕ) → d < f.disks.count → f.disks.sectors d < 2 ^ 48) (n : ℕ) (low : n < f.state.made) where
+  module _ (small : (d : ℕ) → d < f.disks.count → f.disks.sectors d < 2 ^ 48) (good : (own : ℕ) × (is_valid f.state own ≡ true)) (n : ℕ) (low : n < f.state.made) where
     abbrev pub its : View
     its = v.arrays n
 
@@ -142,8 +142,8 @@ module _ (f : Found) (t : Slices) (v : Raid) (y : Seen) (i : Image) (known : IsK
         let one = seat_there f t v y i known leads.at at.0 in
         elim (cases_Bool (is_member f n leads.at)) [
           | inl member ↦
-              let fits = room f t v y i known n low leads.at one.0 one.1 member in
-              let lies = (lies_in f t v y i known n low leads.at one.0 one.1 member).1 in
+              let fits = room f t v y i known n low leads.at one.0 one.1 at.0 member in
+              let lies = (lies_in f t v y i known n low leads.at one.0 one.1 at.0 member).1 in
               let size = size_same f t v y i known n low in
               let most = small one.0 (ahead_of f t v y i known leads.at one.0 one.1).low in
               omega (arith, fits, lies, size, most)
@@ -156,7 +156,6 @@ module _ (f : Found) (t : Slices) (v : Raid) (y : Seen) (i : Image) (known : IsK
     facts =
         let leads = truth_leads book held n w w_is in
         let at = current_is book held n leads.at w leads.here in
-        let good = valid f known.is in
         let fit = valid_fit f.state good.0 good.1 in
         truth_facts w
         (super_truth book held n leads.at fit.chunks w at.1 (known.served.after.same.extent ∙ fit.extent)
@@ -181,7 +180,7 @@ module _ (f : Found) (t : Slices) (v : Raid) (y : Seen) (i : Image) (known : IsK
         ∙ member_at (member_on its) its.truth.raid_disks k (omega (arith, less, disks)))
 
     whole_member : (k : ℕ) → k < its.truth.raid_disks → (member_on its k).is_whole ≡ true
-    whole_member k less = ap (λ (o : Option Seat). option_map_or is_whole_seat o false) (ends.seats n k low less)
+    whole_member k less = ap (λ (o : Option Seat). option_map_or is_whole_seat o false) (ends.book.seats n k low less)
 
     pub record IsHad (q : ℕ) : Type 0 where
       pub current : is_current book q ≡ true
@@ -208,16 +207,16 @@ module _ (f : Found) (t : Slices) (v : Raid) (y : Seen) (i : Image) (known : IsK
         by true current (Some own) has is = of own current has (is_rebuilding own) refl is
 
     had_named : (q : ℕ) → is_named w q ≡ true → IsHad q
-    had_named q named = let one = named_position w q facts.positions facts.few named in had one.0 q one.1 one.2
+    had_named q named = let one = named_position w q 16 facts.positions (λ k less. let one = placed w k facts.positions less in (one.0, one.1)) facts.few named in had one.0 q one.1 one.2
 
     -- ---- nothing is left to do
 
     clean : is_unclean w ≡ false
     clean =
         let offset : w.resync_offset ≡ 2 ^ 64 - 1 =
-        (ends.agree n held low (left f t v y i known)).left w w_is (ends.old n low)
-        ∙ ap (λ (b : Bool). if b then (if is_unclean its.truth then its.truth.resync_offset else 2 ^ 64 - 1) else if nat_lt its.resync (rows_in its) then its.resync * 128 else 2 ^ 64 - 1) (ends.old n low)
-        ∙ ap (λ (b : Bool). if b then its.resync * 128 else 2 ^ 64 - 1) (le-ltb its.resync (rows_in its) (let same = ends.synced n low in omega (arith, same))) in
+        (ends.agree n held low (left f t v y i known)).left w w_is (ends.book.old n low)
+        ∙ ap (λ (b : Bool). if b then (if is_unclean its.truth then its.truth.resync_offset else 2 ^ 64 - 1) else if nat_lt its.resync (rows_in its) then its.resync * 128 else 2 ^ 64 - 1) (ends.book.old n low)
+        ∙ ap (λ (b : Bool). if b then its.resync * 128 else 2 ^ 64 - 1) (le-ltb its.resync (rows_in its) (let same = ends.book.synced n low in omega (arith, same))) in
         le-ltb w.resync_offset w.size (let less = size_small in omega (arith, offset, less))
 
     nothing_unsynced : unsynced w ≡ 0

@@ -20,7 +20,6 @@ use Rattle.pool_image.specs.Replay.{Extent}
 use Rattle.pool_image.proofs.Truths.{extent_found, truth_found}
 use Rattle.pool_model.proofs.Copies.{IsKnown, c, kept, s, seat_there, stands, stood}
 use Rattle.pool_model.proofs.Current.{shape_truth, truth_current}
-use Rattle.pool_model.proofs.Found.{some_made}
 use Rattle.pool_model.proofs.Layers.{IsLaid, laid, no_super, none_there, nothing_super}
 use Rattle.pool_model.proofs.Rested.{now}
 use Rattle.pool_model.proofs.Seats.{seats_now}
@@ -43,7 +42,7 @@ module _ (f : Found) (t : Slices) (v : Raid) (y : Seen) (i : Image) (known : IsK
 
   module _ (n : ℕ) (low : n < f.state.made) where
     pub few : n < 16
-    few = let most = (some_made f known.is).1 in omega (arith, low, most)
+    few = let most = known.is.made.1 in omega (arith, low, most)
 
     -- what the slices say of the array
     pub says : Says book n (shape_of (v.arrays n)) (held_in v y n) (spent_of v n) held
@@ -53,10 +52,10 @@ module _ (f : Found) (t : Slices) (v : Raid) (y : Seen) (i : Image) (known : IsK
 
     -- its truth before, and by the slices
     abbrev pub was : Super
-    was = (known.sound.rules.arrays n low).0
+    was = (known.is.truths n low).0
 
     abbrev pub was_is : truth_of f n ≡ Some was
-    was_is = (known.sound.rules.arrays n low).1
+    was_is = (known.is.truths n low).1
 
     pub truth_there : (u : Super) × (truth_in book held n ≡ Some u)
     truth_there = let one = shape_truth book held n (truth_in book held n) (shape_of (v.arrays n)) says.shape_is in (one.0, one.1)
@@ -105,9 +104,9 @@ module _ (f : Found) (t : Slices) (v : Raid) (y : Seen) (i : Image) (known : IsK
           ap (λ (b : Bool). if b then i (disk_of t (member_slice p n)) (slice_first t (member_slice p n) + u) else [])
           (le-ltb u (sectors_of t (member_slice p n)) (let nothing = no_slice none in omega (arith, nothing)))
 
-      module _ (d : ℕ) (seat : f.seats p ≡ Some d) where
+      module _ (d : ℕ) (seat : f.seats p ≡ Some d) (counts : is_current book p ≡ true) where
         pub seat_is : slice_seat t (place_of (member_slice p n)) ≡ Some d
-        seat_is = ap (slice_seat t) place_is ∙ known.served.slices.seats p ∙ seat
+        seat_is = ap (slice_seat t) place_is ∙ known.served.slices.seats p d counts seat
 
         pub disk_is : disk_of t (member_slice p n) ≡ d
         disk_is = ap (λ o. unwrap_or o 0) seat_is
@@ -115,7 +114,7 @@ module _ (f : Found) (t : Slices) (v : Raid) (y : Seen) (i : Image) (known : IsK
         module _ (member : is_member f n p ≡ true) where
           pub lies_in : (slice_first t (member_slice p n) ≡ first) × (sectors_of t (member_slice p n) ≡ data_sector + was.size)
           lies_in =
-              let at = sym (known.served.slices.members n p d low seat member) ∙ extent_before in (
+              let at = sym (known.served.slices.members n p d low counts seat member) ∙ extent_before in (
                 ap (λ (o : Option Extent). option_map_or (λ e. e.first) o 0) at,
                 ap (λ (o : Option Extent). option_map_or (λ e. e.sectors) o 0) at,
               )
@@ -144,7 +143,7 @@ module _ (f : Found) (t : Slices) (v : Raid) (y : Seen) (i : Image) (known : IsK
           where
             of : (b : Bool) → nat_lt (first + super_sector) (f.disks.sectors d) ≡ b → super_of (if b then i d (first + super_sector) else []) ≡ None
             of true within =
-                known.left.alone n p d first low seat none lies.begins (ltb-true (first + super_sector) (f.disks.sectors d) within)
+                known.left.alone n p d first low counts seat none lies.begins (ltb-true (first + super_sector) (f.disks.sectors d) within)
             of false past = none_there
 
       -- its superblock is the one of the slices
@@ -153,9 +152,9 @@ module _ (f : Found) (t : Slices) (v : Raid) (y : Seen) (i : Image) (known : IsK
           let one = seat_there f t v y i known p counts in
           let seat = seats_now f t v y i known p counts ∙ one.1 in
           elim (cases_Bool (is_member f n p)) [
-            | inl member ↦ super_of_sector book (slices_from g first) held n p (super_same one.0 one.1 member seat)
+            | inl member ↦ super_of_sector book (slices_from g first) held n p (super_same one.0 one.1 counts member seat)
             | inr none ↦
-                no_super book (slices_from g first) n p (alone one.0 one.1 none seat)
+                no_super book (slices_from g first) n p (alone one.0 one.1 counts none seat)
                 ∙ sym (nothing_super book held n p (reads_nothing none super_sector))
           ]
 

@@ -94,6 +94,28 @@ found_is disks c f is = of (standing disks c) is
     of None at = absurd (none-some f at)
     of (Some before) at = by before (written disks before c) (newest disks (identities_of disks (written disks before c))) refl at
 
+-- a disk is some place's, or none's
+pub seated_below : (seats : ℕ → Option ℕ) (d n : ℕ) → ((p : ℕ) × (seats p ≡ Some d)) ⊎ ((p : ℕ) → p < n → seats p ≡ Some d → ⊥)
+seated_below seats d zero = inr (λ p low seat. absurd (omega (arith, low)))
+seated_below seats d (suc n) =
+    elim (seated_below seats d n) [
+      | inl one ↦ inl one
+      | inr none ↦ elim (of (seats n) refl) [
+        | inl here ↦ inl (n, here)
+        | inr other ↦ inr (λ p low seat. elim (cases_lt p n) [
+          | inl less ↦ none p less seat
+          | inr last ↦ (let same : p ≡ n = omega (arith, low, last) in other (ap seats (sym same) ∙ seat))
+        ])
+      ]
+    ]
+  where
+    of : (o : Option ℕ) → seats n ≡ o → (seats n ≡ Some d) ⊎ (seats n ≡ Some d → ⊥)
+    of None none = inr (λ at. none-some d (sym none ∙ at))
+    of (Some e) some = elim (cases_eq e d) [
+      | inl same ↦ inl (some ∙ ap Some same)
+      | inr other ↦ inr (λ at. other (some_same e d (sym some ∙ at)))
+    ]
+
 module _ (f : Found) (is : IsFound f) where
   -- no copy is of a later epoch than the state
   pub latest : (d : ℕ) (copy : Copied) → d < f.disks.count → (f.identities d).copied ≡ Some copy → copy.state.epoch ≤ f.state.epoch
@@ -135,25 +157,3 @@ module _ (f : Found) (is : IsFound f) where
 
   pub few_places : (p : ℕ) → is_current f.state p ≡ true → p < 16
   few_places p current = current_few f.state p (valid_places f.state valid.0 valid.1).1 current
-
-  -- a disk is some place's, or none's
-  pub seated_below : (d n : ℕ) → ((p : ℕ) × (f.seats p ≡ Some d)) ⊎ ((p : ℕ) → p < n → f.seats p ≡ Some d → ⊥)
-  seated_below d zero = inr (λ p low seat. absurd (omega (arith, low)))
-  seated_below d (suc n) =
-      elim (seated_below d n) [
-        | inl one ↦ inl one
-        | inr none ↦ elim (of (f.seats n) refl) [
-          | inl here ↦ inl (n, here)
-          | inr other ↦ inr (λ p low seat. elim (cases_lt p n) [
-            | inl less ↦ none p less seat
-            | inr last ↦ (let same : p ≡ n = omega (arith, low, last) in other (ap f.seats (sym same) ∙ seat))
-          ])
-        ]
-      ]
-    where
-      of : (o : Option ℕ) → f.seats n ≡ o → (f.seats n ≡ Some d) ⊎ (f.seats n ≡ Some d → ⊥)
-      of None none = inr (λ at. none-some d (sym none ∙ at))
-      of (Some e) some = elim (cases_eq e d) [
-        | inl same ↦ inl (some ∙ ap Some same)
-        | inr other ↦ inr (λ at. other (some_same e d (sym some ∙ at)))
-      ]

@@ -1,11 +1,20 @@
 pub mod Current
 pub mod Named
 pub mod Found
+pub mod Outset
+pub mod Logs
 pub mod Copies
 pub mod Seats
 pub mod Rested
 pub mod Layers
 pub mod Extents
+pub mod Alike
+pub mod Before
+pub mod Joined
+pub mod Beginnings
+pub mod Taken
+pub mod TakenSlices
+pub mod Staying
 pub mod Again
 pub mod Undamaged
 pub mod Values
@@ -20,6 +29,15 @@ pub mod Unrefused
 pub mod Members
 pub mod Without
 pub mod Absent
+pub mod Grouped
 pub mod Ended
 pub mod EndedWhole
+pub mod Heads
 mod AbsentExamples
+pub mod Declined
+pub mod Vacant
+pub mod InService
+pub mod Lost
+pub mod Serials
+pub mod NewMembers
+pub mod Unsliced

@@ -47,7 +47,7 @@ module _ (f : Found) (t : Slices) (v : Raid) (y : Seen) (i : Image) (known : IsK
   log_same p u now =
       let one = seat_there f t v y i known p now in
       let d = one.0 in
-      let room = log_room f t v y i known p d one.1 in
+      let room = log_room f t v y i known p d one.1 now in
       let of_log : slice_of (log_slice p) ≡ 0 = omega arith in
       let of_place : place_of (log_slice p) ≡ p = omega arith in
       let read : Option ℕ → List ℕ = λ o. option_map_or (λ e. option_map_or (λ (k : Extent). i e (k.first + u)) (log_extent (f.disks.sectors e)) []) o [] in
@@ -58,16 +58,16 @@ module _ (f : Found) (t : Slices) (v : Raid) (y : Seen) (i : Image) (known : IsK
             ∙ ap read (seats_now f t v y i known p now ∙ one.1)
             ∙ ap (λ (b : Bool). option_map_or (λ (k : Extent). i d (k.first + u)) (if b then Some (record { first = state_sector; sectors = log_sectors }) else None) [])
             (le-leb arrays_first (f.disks.sectors d) room)
-            ∙ sym (log_reads f t v y i known p d one.1 u low)
+            ∙ sym (log_reads f t v y i known p d one.1 now u low)
         | inr past ↦
             ap₂ (λ (n : ℕ) (b : Bool). if (n == 0) && b then read (seats (place_of (log_slice p))) else []) of_log (le-ltb u log_sectors past)
-            ∙ sym (nothing p d u one.1 past)
+            ∙ sym (nothing p d u one.1 now past)
       ]
     where
-      nothing : (p d u : ℕ) → f.seats p ≡ Some d → log_sectors ≤ u → held (log_slice p) u ≡ []
-      nothing p d u seat past =
+      nothing : (p d u : ℕ) → f.seats p ≡ Some d → is_current book p ≡ true → log_sectors ≤ u → held (log_slice p) u ≡ []
+      nothing p d u seat now past =
           known.left.picks.inside (log_slice p) u
-          (let many = log_many f t v y i known p d seat in omega (arith, many, past))
+          (let many = log_many f t v y i known p d seat now in omega (arith, many, past))
 
   listed : (p : ℕ) → names (current_places book) p ≡ true → is_current book p ≡ true
   listed p among = sym (names_current book p) ∙ among

@@ -11,7 +11,6 @@ use Rattle.std.proofs.lemmas.Option.{slice_get-get_or, slice_get_within}
 use Rattle.md_super.specs.declared.superblock.Super.{Super}
 use Rattle.array_image.specs.Arrays.{place_with}
 use Rattle.array_image.specs.Supers.{has_role, has_roles, is_named, named_places}
-use Rattle.array_core.proofs.Rules.{placed}
 use Rattle.array_core.proofs.Opened.{named_place}
 use Rattle.commit_log.specs.View.{names}
 use Rattle.commit_log.proofs.Naming.{names_range}
@@ -159,11 +158,11 @@ named_listed t p named =
     within (Some r) at is = slice_get_within t.roles.items p r at
 
 -- A place that roles name, of which each position has one, is that of a position.
-pub named_position : (t : Super) (p : ℕ) → has_roles 16 t ≡ true → t.raid_disks ≤ 16 → is_named t p ≡ true
+pub named_position : (t : Super) (p m : ℕ) → has_roles m t ≡ true → ((k : ℕ) → k < t.raid_disks → (q : ℕ) × (place_with t.roles.items k ≡ Some q)) → t.raid_disks ≤ 16 → is_named t p ≡ true
     → (k : ℕ) × (k < t.raid_disks) × (place_with t.roles.items k ≡ Some p)
-named_position t p roles few named =
+named_position t p m roles placed few named =
     let parts = and_parts (length (named_places t) == t.raid_disks) _ roles in
-    let rest = and_parts (list_all (λ place. nat_lt place 16) (named_places t)) _ parts.1 in
+    let rest = and_parts (list_all (λ place. nat_lt place m) (named_places t)) _ parts.1 in
     let many = eqb-true (length (named_places t)) t.raid_disks parts.0 in
     let each : (k : ℕ) → k < t.raid_disks → count_by (has_role t k) (named_places t) ≡ 1 =
     λ k low. eqb-true (count_by (has_role t k) (named_places t)) 1
@@ -177,7 +176,7 @@ named_position t p roles few named =
     at None is low each = absurd (both_ways false refl low)
     at (Some r) is low each =
         let below : r < t.raid_disks = ltb-true r t.raid_disks low in
-        let first = placed t r roles below in
+        let first = placed r below in
         let place = position-Some (λ k. k == r) t.roles.items first.0 0 first.1 in
         let role : has_role t r p ≡ true = ap (λ o. option_map_or (λ k. k == r) o false) is ∙ eq-eqb r r refl in
         let first_role : has_role t r first.0 ≡ true =

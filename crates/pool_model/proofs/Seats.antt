@@ -13,8 +13,8 @@ use Rattle.array_core.proofs.Leading.{Leads, leads_foremost}
 use Rattle.raid_rack.specs.Raid.{Raid}
 use Rattle.pool_image.specs.Disks.{Candidate, Identity, candidate, seat_of, stands_for}
 use Rattle.pool_image.specs.Drives.{Found}
+use Rattle.pool_model.specs.InService.{epoch_at}
 use Rattle.pool_model.proofs.Copies.{IsKnown, ahead_of, copied_before, copied_now, copy_now, ids, no_earlier, no_later, other_same, s, seat_there, seated_or}
-use Rattle.pool_model.proofs.Found.{first_epoch, latest}
 use Rattle.pool_model.proofs.Named.{IsNamed, candidate_is, id_same, is_candidate, named_stands, same_position, stands_named, stands_same}
 
 module _ (f : Found) (t : Slices) (v : Raid) (y : Seen) (i : Image) (known : IsKnown f t v y i) where
@@ -27,12 +27,8 @@ module _ (f : Found) (t : Slices) (v : Raid) (y : Seen) (i : Image) (known : IsK
   some_same : {X : Type 0} (a b : X) → Some a ≡ Some b → a ≡ b
   some_same a b same = cc
 
-  -- the epoch by which a disk is taken
-  abbrev epoch_at : Identity → ℕ
-  epoch_at z = option_map_or epoch_of z.copied 0
-
   first_book : 1 ≤ book.epoch
-  first_book = let first = first_epoch f known.is in let up = no_earlier f t v y i known in omega (arith, first, up)
+  first_book = let first = known.is.epoch in let up = no_earlier f t v y i known in omega (arith, first, up)
 
   -- a current place's drive stands for it
   pub stands_now : (p d : ℕ) → is_current book p ≡ true → f.seats p ≡ Some d → stands_for book (says d) ≡ Some p
@@ -58,13 +54,6 @@ module _ (f : Found) (t : Slices) (v : Raid) (y : Seen) (i : Image) (known : IsK
         | inr same ↦ (let epoch : copy.state.epoch ≡ book.epoch = ap (λ (z : State). z.epoch) same in omega (arith, epoch))
       ]
 
-  was_low : (p d : ℕ) → f.seats p ≡ Some d → epoch_at (f.identities d) ≤ f.state.epoch
-  was_low p d seat = of (f.identities d).copied refl
-    where
-      of : (o : Option Copied) → (f.identities d).copied ≡ o → option_map_or epoch_of o 0 ≤ f.state.epoch
-      of None none = omega arith
-      of (Some copy) some = latest f known.is d copy (ahead_of f t v y i known p d seat).low some
-
   -- of the disks that stand for it those before its drive have earlier states
   before_it : (p d q : ℕ) (z : Candidate) → is_current book p ≡ true → f.seats p ≡ Some d → q < d → candidate book says p q ≡ Some z → z.epoch < book.epoch
   before_it p d q z now seat less at =
@@ -78,11 +67,10 @@ module _ (f : Found) (t : Slices) (v : Raid) (y : Seen) (i : Image) (known : IsK
             let same : says q ≡ f.identities q = other_same f t v y i known q none low in
             let stands : stands_for f.state (f.identities q) ≡ Some p =
             sym (stands_same f.state book known.served.after.same (f.identities q)) ∙ ap (stands_for book) (sym same) ∙ one.stands in
-            let earlier = ahead.before q (record { disk = q; epoch = epoch_at (f.identities q) }) less (candidate_is f.state f.identities p q stands) in
-            let most = was_low p d seat in
+            let earlier = ahead.before q less none stands in
             let up = no_earlier f t v y i known in
             let was : epoch_at (says q) ≡ epoch_at (f.identities q) = ap (λ (k : Identity). option_map_or epoch_of k.copied 0) same in
-            omega (arith, epoch, earlier, most, up, was)
+            omega (arith, epoch, earlier, up, was)
         | inl other ↦ elim (cases_Bool (is_current book other.0)) [
           | inl counts ↦
               let same : other.0 ≡ p = some_same other.0 p (sym (stands_now other.0 q counts other.1) ∙ one.stands) in

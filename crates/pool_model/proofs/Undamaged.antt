@@ -113,8 +113,8 @@ module _ (f : Found) (t : Slices) (v : Raid) (y : Seen) (i : Image) (known : IsK
     gate_same =
         gate_block g p
         ∙ ap (λ o. option_map_or (λ e. if nat_lt drive_gate (f.disks.sectors e) then i e drive_gate else []) o []) (seats_now f t v y i known p here ∙ seat)
-        ∙ ap (λ (b : Bool). if b then i d drive_gate else []) (lt-ltb drive_gate (f.disks.sectors d) (let room = log_room f t v y i known p d seat in omega (arith, room)))
-        ∙ sym (log_same f t v y i known p gate_sector here ∙ log_reads f t v y i known p d seat gate_sector (omega arith))
+        ∙ ap (λ (b : Bool). if b then i d drive_gate else []) (lt-ltb drive_gate (f.disks.sectors d) (let room = log_room f t v y i known p d seat here in omega (arith, room)))
+        ∙ sym (log_same f t v y i known p gate_sector here ∙ log_reads f t v y i known p d seat here gate_sector (omega arith))
 
     log_now : has_log g p ≡ true
     log_now =

@@ -14,13 +14,11 @@ use Rattle.pool_image.specs.Meaning.{array_sectors, arrays_held, joined_arrays, 
 use Rattle.pool_image.specs.Volumes.{Arrays, first_bad}
 use Rattle.pool_image.proofs.Groups.{AreWholeArrays}
 use Rattle.pool_image.proofs.Joined.{AreAlike, bad_kept, group_kept, volumes_kept}
-use Rattle.pool_scan.proofs.Valid.{valid_arrays}
 use Rattle.pool_model.specs.Left.{HoldSame}
 use Rattle.pool_model.proofs.Again.{known_again, members, same}
 use Rattle.pool_model.proofs.Copies.{IsKnown, c, s}
 use Rattle.pool_model.proofs.Current.{array_current, shape_current}
 use Rattle.pool_model.proofs.Extents.{says}
-use Rattle.pool_model.proofs.Found.{valid}
 use Rattle.pool_model.proofs.Rested.{now}
 use Rattle.pool_model.proofs.Undamaged.{present_now, sound_parts}
 
@@ -45,7 +43,7 @@ module _ (f : Found) (t : Slices) (v : Raid) (y : Seen) (i : Image) (known : IsK
   g = now f t v y i known
 
   all_valid : (1 ≤ f.state.joined) × (f.state.joined ≤ f.state.made)
-  all_valid = (let of = valid f known.is in let all = valid_arrays f.state of.0 of.1 in (all.2, all.3))
+  all_valid = known.is.joined
 
   made_low : (n : ℕ) → n < f.state.joined → n < f.state.made
   made_low n low = (let most = all_valid.1 in omega (arith, low, most))

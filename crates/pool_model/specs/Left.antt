@@ -47,6 +47,12 @@ AreAlone f i =
     (n p d first : ℕ) → n < f.state.made → f.seats p ≡ Some d → is_member f n p ≡ false → first_of f n ≡ Some first
     → first + super_sector < f.disks.sectors d → super_of (i d (first + super_sector)) ≡ None
 
+-- So it is on the drives of the places that are current by a state.
+abbrev pub AreAloneBy : State → Found → Image → Type 0
+AreAloneBy s f i =
+    (n p d first : ℕ) → n < f.state.made → is_current s p ≡ true → f.seats p ≡ Some d → is_member f n p ≡ false → first_of f n ≡ Some first
+    → first + super_sector < f.disks.sectors d → super_of (i d (first + super_sector)) ≡ None
+
 -- contents that disks may be left with outside the slices
 abbrev pub IsPickOff : Slices → Seen → Image → Type 0
 IsPickOff t x i = (d s : ℕ) → IsLive x x d s → ((v : List ℕ) → IsSliced t d s v → ⊥) → MayLeave (x.held d s) (i d s)
@@ -56,13 +62,13 @@ pub record HoldRest (f : Found) (t : Slices) (x : Seen) : Type 0 where
   pub elsewhere : (i : Image) → IsPickOff t x i → AreElsewhere f i
   pub alone : (i : Image) → IsPickOff t x i → AreAlone f i
 
--- contents of the disks that such a pool leaves: its slices, which lie inside the disks, have what they may be left with
-pub record IsLeftBy (f : Found) (t : Slices) (y : Seen) (i : Image) : Type 0 where
+-- Contents of the disks that such a pool leaves, by a state: its slices, which lie inside the disks, have what they may be left with.
+pub record IsLeftBy (f : Found) (t : Slices) (s : State) (y : Seen) (i : Image) : Type 0 where
   pub sectors : (k : ℕ) → y.sectors k ≡ sectors_of t k
   pub picks : Picks y (sliced t i)
   pub inside : (k d : ℕ) → seat_of t (slice_place k) ≡ Some d → 0 < sectors_of t k → slice_first t k + sectors_of t k ≤ f.disks.sectors d
   pub elsewhere : AreElsewhere f i
-  pub alone : AreAlone f i
+  pub alone : AreAloneBy s f i
 
 -- Slices of the drives of a pool that are current: those of other places don't matter to it.
 pub record HaveSlices (g : Found) (t : Slices) : Type 0 where

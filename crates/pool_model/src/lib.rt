@@ -8,9 +8,13 @@
 //! **For the layers above.** `proofs/Again.antt`: all that the disks of such a pool may be left with holds a sound pool again, by the book's
 //! state, with the same drives for its places; nothing is pending there, no log is damaged, and the arrays hold what the slices give
 //! (`left_again`; by contents of the slices, `opens_again`). Calls that write slices alone leave the rest of the disks as it was (`rest_later`).
+//! `proofs/InService.antt`: so it is for a pool that took new drives in, which is `taken f ..` (`specs/Taken.antt`) in the place of `f` from then on, by
+//! `InService` (`specs/InService.antt`)
+//! (`in_service`, `service_calls`, `service_attached`, `service_taken`, `service_again`, `vacant_again`).
 //! `proofs/Values.antt`: where no sector is spent and the arrays have the shapes of the pool's and hold what those did, their shapes, their group, the
 //! lowest bad array and the volumes are the same (`same_again`). `proofs/Named.antt`: which place a disk stands for goes by the ids of the drives (`seat_ahead`, `copy_names`).
 //! `proofs/Absent.antt`: any one drive of a whole pool may be absent, `IsWholePool` (`specs/Absent.antt`): the disks without its disk mean what all of
 //! them mean (`safe_in_absence`). `proofs/EndedWhole.antt`: so it is of all that disks may be left with by a pool that has ended whole, by its
-//! book and its slices, `EndsWhole` (`left_absent`).
+//! book and its slices, `EndsWhole` (`left_absent`). Which arrays are bad goes by what stands before their first extents (`proofs/Heads.antt`,
+//! `bad_by_heads`).
 #![tactic(auto)]

@@ -1,16 +1,15 @@
 -- The states of copies that a scan read are valid.
-use Rattle.std.proofs.Common.{◌≡◌, ℕ, ◌<◌, ◌≤◌, Bool, true, ◌&&◌, nat_le, nat_lt, length, Option, Some, None, refl, ap, subst, ◌∙◌, lt-ltb, leb-true, arith}
+use Rattle.std.proofs.Common.{◌≡◌, ℕ, ◌<◌, ◌≤◌, true, ◌&&◌, nat_le, nat_lt, length, Option, Some, None, refl, subst, lt-ltb, leb-true, arith}
 use Rattle.std.specs.Prelude.{List, slice_get}
 use Rattle.std.specs.Int.{is_power_of_two}
 use Rattle.std.specs.Option.{option_and_then}
 use Rattle.std.proofs.lemmas.Bool.{and_parts, and_from}
 use Rattle.std.proofs.lemmas.Option.{none-some}
 use Rattle.rack.specs.Seen.{Seen}
-use Rattle.pool_state.specs.declared.contents.Copied.{Copied}
 use Rattle.pool_state.specs.declared.contents.State.{State}
 use Rattle.pool_state.specs.Valid.{has_arrays, has_places, is_extent, is_valid, place_of}
 use Rattle.pool_scan.specs.declared.Known.{Known}
-use Rattle.pool_scan.specs.Scanning.{IsScan, IsValidCopy, copied_at}
+use Rattle.pool_scan.specs.Scanning.{IsScan, IsValidCopy}
 use Rattle.pool_scan.specs.Choosing.{HasCopyOf}
 
 -- a state that is valid for one place is so for each of its list

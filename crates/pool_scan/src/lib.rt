@@ -16,7 +16,7 @@ mod choosing;
 mod reading;
 
 use pool_state::Copied;
-pub use reading::{find_table, scan_disks};
+pub use reading::scan_disks;
 use shr_base::Id;
 
 /// What a disk says of a pool.

@@ -47,12 +47,11 @@ fn copy_in(sector: &[u8; 512]) -> Option<Copied>
     decode_state(sector).ok()
 }
 
-/// The table of a disk, if it has one. Nothing is written.
-pub fn find_table<R: Rack>(rack: &mut R, disk: u32) -> Result<Option<Table>, Gone>
+/// The table of a disk, if it has one.
+fn find_table<R: Rack>(rack: &mut R, disk: u32) -> Result<Option<Table>, Gone>
     requires fit { (R.seen rack.old).fit }
     requires disk { disk < (R.seen rack.old).disks }
     ensures found { Finds (R.seen rack.old) (R.seen rack.new) disk (λ contents table. table ≡ the_table ((R.seen rack.old).sectors disk) contents) result }
-    ensures size { IfOk result (λ found. IfSome found (λ table. table.sectors ≡ (R.seen rack.old).sectors disk)) }
     ensures runs { R.runs rack.old rack.new }
 {
     match read_table(rack, disk) {

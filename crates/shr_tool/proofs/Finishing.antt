@@ -2,13 +2,9 @@
 use Rattle.std.proofs.Common.{◌≡◌, ◌⊎◌, ℕ, ◌<◌, true, false, List, [], ◌∷◌, ◌++◌, refl, sym, ◌∙◌, ap, subst, inl, inr, arith}
 use Rattle.rack.specs.Seen.{Image, IsPick}
 use Rattle.slice_rack.specs.Sliced.{slices_of}
-use Rattle.pool_image.specs.Disks.{disks_of}
 use Rattle.pool_image.specs.Drives.{Found}
-use Rattle.pool_model.specs.Left.{HoldAgain, HoldRest}
-use Rattle.pool_model.specs.Pools.{AreSlicesOf}
-use Rattle.pool_model.proofs.Again.{left_again}
-use Rattle.raid_rack.specs.Book.{after_then}
-use Rattle.raid_rack.specs.Losing.{geometry_then}
+use Rattle.pool_model.specs.Left.{HoldAgain}
+use Rattle.pool_model.specs.Taken.{AreSerial}
 use Rattle.raid_rack.specs.Raid.{IsTold, is_over}
 use Rattle.flat_array.specs.Array.{FlatArray, flushed}
 use Rattle.lvm_group.specs.Runs.{Linear}
@@ -24,12 +20,14 @@ use Rattle.shr_tool.specs.declared.status.Status.{Status}
 use Rattle.shr_tool.specs.declared.status.Status.TheVariants.{Limit}
 use Rattle.shr_tool.specs.Events.{AnyTakes, Event, any_takes, array_by}
 use Rattle.pool.specs.Moment.{moment_of}
-use Rattle.shr_tool.specs.Timeline.{Timeline, ground_of}
+use Rattle.shr_tool.specs.Timeline.{Steps, Timeline, ground_of, steps_of}
 use Rattle.shr_tool.specs.Serving.{HasStopCause, IsServing, Ran, Serves, StopsAtEnd}
-use Rattle.shr_tool.specs.Outcome.{DoneOutcome, EndsAt, HasStatusCause, IsRunOn, IsServed, Lasts, LeavesItsRows, Outcome, status_by}
-use Rattle.shr_tool.proofs.History.{IsUnspent, ran_before, slices_kept, standing}
+use Rattle.shr_tool.specs.Service.{AreFit, IsServed, pool_by}
+use Rattle.shr_tool.specs.Outcome.{DoneOutcome, EndsAt, HasStatusCause, IsRunOn, Lasts, LeavesItsRows, Outcome, status_by}
+use Rattle.shr_tool.proofs.History.{IsUnspent, ran_before, slices_kept, standing, steps_before}
+use Rattle.shr_tool.proofs.Serviced.{goes_again, goes_calls, goes_run}
 use Rattle.shr_tool.proofs.Joined.{means_at}
-use Rattle.shr_tool.proofs.Told.{outside_told, timeline_for}
+use Rattle.shr_tool.proofs.Told.{outside_told, steps_for, timeline_for}
 use Rattle.pool.proofs.Continuing.{continues_of, continues_then, outside_fewer, outside_of, outside_then}
 use Rattle.pool.proofs.Keeping.{passes_then}
 
@@ -82,8 +80,9 @@ ends_at :
     (x m y : View) (a : FlatArray) (events : List Event)
     → Ran x m events
     → Ends m y
+    → IsUnspent y
     → EndsAt (IsServing x a) x.bay.traced y.bay (ground_of x) (moment_of m) (moment_of y) (array_by a events)
-ends_at x m y a events ran ends =
+ends_at x m y a events ran ends unspent =
     let b = array_by a events in
     let linear = ends.passes.linear ∙ ran.continues.linear in
     let traced_then : IsServing x a → x.bay.traced → m.bay.traced = λ serving traced. ran.continues.traced serving.0.shelf traced in
@@ -94,6 +93,9 @@ ends_at x m y a events ran ends =
       cause =
           λ place was now. elim (ends.marks place was now) [ inl rose ↦ rose | inr never ↦ absurd never ];
       stands = standing m y 1 ends.passes.stays.fit ends.passes.book ends.raises;
+      held = λ serving d s low within unsliced.
+          (outside_of m y (λ d. ⊥) ends.passes unspent).held d s
+          (record { disk = low; sector = within; is_told = (ran.holds a serving.0).disks d low; unnamed = λ never. never; unsliced = unsliced });
       during =
           λ serving traced k i since until stops.
           means_at x y b i linear
@@ -117,31 +119,6 @@ told_at x m y a events ran ends serving served n inside =
     (λ none. passes_then x m y (ran.passes none) ends.passes)
     serving (ends.does.becomes (array_by a events) (ran.holds a serving.0)) served n inside
 
--- and what the disks may be left with holds a sound pool again
-again_at :
-    (x y : View) (a : FlatArray) (f : Found)
-    → Passes x y
-    → IsRunOn f (ground_of x) (moment_of x) y.bay
-    → ((n : ℕ) → n < x.linear.arrays → IsTold (book y) (slices_of y.slices y.bay) n)
-    → ((n : ℕ) → n < f.state.made → is_over (book y) n ≡ false)
-    → (i : Image) → IsPick y.bay y.bay y.bay.held i → HoldAgain f y.slices (book y).state i
-again_at x y a f passes on told goes i pick =
-    let made = on.after.same.made in
-    let joined = on.joined in
-    let arrays = on.arrays in
-    left_again f y.slices y.bay (book y)
-    (record {
-      slices = subst (AreSlicesOf f) (sym passes.slices) on.slices;
-      after = after_then f.state (book x).state (book y).state on.after passes.marks;
-      joined = on.joined;
-      told = λ n low. told n (omega (arith, low, joined, arrays));
-      lasts = goes;
-      geometry = λ n t low truth.
-          geometry_then t ((book x).arrays n).truth ((book y).arrays n).truth (on.geometry n t low truth) (passes.book n (omega (arith, low, made))).geometry;
-    })
-    passes.stays.fit.0.running.set.fit.1
-    (disks_of y.bay) on.before i on.found_is refl on.sound (subst (λ s. HoldRest f s y.bay) (sym passes.slices) on.rest) pick
-
 -- the events as they happened, told where the pool serves the array
 timeline_told :
     (x m y : View) (a : FlatArray) (events : List Event)
@@ -151,6 +128,39 @@ timeline_told :
 timeline_told x m y a events ran continues =
     timeline_for (x.bay.traced × Holds x a) (x.bay.traced × IsServing x a) y.bay.stops (ground_of x) (moment_of x) a events (moment_of m)
     (λ is. (is.0, is.1.0)) (ran_before x m y events a ran continues)
+
+-- the moments of the run
+steps_told :
+    (x m y : View) (a : FlatArray) (events : List Event) (ran : Ran x m events) (continues : Continues m y)
+    → steps_of (x.bay.traced × IsServing x a) y.bay.stops (ground_of x) (moment_of x) a events (moment_of m) (timeline_told x m y a events ran continues) ≡ ran.steps
+unfolding timeline_told
+steps_told x m y a events ran continues =
+    steps_for (x.bay.traced × Holds x a) (x.bay.traced × IsServing x a) y.bay.stops (ground_of x) (moment_of x) a events (moment_of m)
+    (λ is. (is.0, is.1.0)) (ran_before x m y events a ran continues)
+    ∙ steps_before x m y events a ran continues
+
+-- and what the disks may be left with holds a sound pool again
+again_at :
+    (x m y : View) (a : FlatArray) (events : List Event) (ran : Ran x m events) (ends : Ends m y)
+    → IsServing x a
+    → IsServed (ground_of x) (moment_of y) events
+    → (f : Found)
+    → IsRunOn f (ground_of x) (moment_of x) x.bay
+    → (any_takes events ≡ true → AreSerial f.state)
+    → AreFit f (moment_of x) events (moment_of m) ran.steps
+    → ((n : ℕ) → n < f.state.made → is_over (book y) n ≡ false)
+    → (i : Image) → IsPick y.bay y.bay y.bay.held i → HoldAgain (pool_by f (moment_of x) events (moment_of m) ran.steps) y.slices (book y).state i
+again_at x m y a events ran ends serving served f on serials fit lasts i pick =
+    let h = pool_by f (moment_of x) events (moment_of m) ran.steps in
+    let at_end = (ran.service a serving.0 (served_before x m y events ran.continues ends.passes served) f (goes_run x f on) serials fit).goes in
+    let goes = goes_calls m y h ends.passes at_end in
+    let made = goes.arrays in
+    let linear = ap (λ (l : Linear). l.arrays) (ends.passes.linear ∙ ran.continues.linear) in
+    let arrays = on.arrays ∙ on.joined in
+    goes_again y h ends.passes.stays.fit.0.running.set.fit.1 goes
+    (λ n low. told_at x m y a events ran ends serving served n (omega (arith, low, made, linear)))
+    (λ n low. lasts n (omega (arith, low, made, linear, arrays)))
+    i pick
 
 -- outside the slices those disks alone are written that a line named
 outside_at :
@@ -184,13 +194,16 @@ lasts_of x m y a events unspent ran ends =
       faults = λ d. refl;
       disks = refl;
       sectors = λ d. refl;
-      ends = ends_at x m y a events ran ends;
+      held = λ d s. refl;
+      ends = ends_at x m y a events ran ends unspent;
       outside = outside_at x m y a events unspent ran ends.passes;
       apart = λ none. (passes none).apart;
       told = told_at x m y a events ran ends;
       rows = rows_at x m y a events ran ends;
-      again = λ serving none f on goes i pick.
-          again_at x y a f (passes none) on (told_at x m y a events ran ends serving (inl none)) goes i pick;
+      again = λ serving served f on known fit lasts i pick.
+          let same = steps_told x m y a events ran (continues_of m y ends.passes) in
+          subst (λ (steps : Steps (moment_of x) events (moment_of m)). HoldAgain (pool_by f (moment_of x) events (moment_of m) steps) y.slices (book y).state i) (sym same)
+          (again_at x m y a events ran ends serving served f on (λ takes. (known takes).1) (subst (AreFit f (moment_of x) events (moment_of m)) same fit) lasts i pick);
     }
 
 -- all lines were answered

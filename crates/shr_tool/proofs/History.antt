@@ -1,5 +1,5 @@
 -- What a script's answering has done so far, and what one line more does.
-use Rattle.std.proofs.Common.{◌≡◌, ◌⊎◌, ℕ, ◌≤◌, true, false, List, [], ◌∷◌, ◌++◌, length, append_assoc, refl, sym, ◌∙◌, ap, subst, inl, inr, arith}
+use Rattle.std.proofs.Common.{◌≡◌, ◌⊎◌, ℕ, ◌≤◌, false, List, [], ◌∷◌, ◌++◌, length, append_assoc, refl, sym, ◌∙◌, ap, subst, inl, inr, arith}
 use Rattle.std.proofs.lemmas.Bool.{cases_Bool}
 use Rattle.std.proofs.lemmas.List.{append-nil}
 use Rattle.rack.specs.Seen.{Image}
@@ -13,13 +13,16 @@ use Rattle.pool.specs.Keeping.{KeepsBook, Raises}
 use Rattle.pool.specs.Continuing.{Continues, KeepsOutside}
 use Rattle.shr_tool.specs.declared.perform.Answer.{Answer}
 use Rattle.shr_tool.specs.declared.perform.Answer.TheVariants.{Given, Memory, Spent}
-use Rattle.shr_tool.specs.Events.{AnyTakes, Event, Takes, answer_of, any_takes, array_by, becomes, calls_in, line_of, lines_of, takes_disk, text_of, texts, worse, worst_of}
+use Rattle.shr_tool.specs.Events.{AnyTakes, Event, Takes, answer_of, array_by, becomes, calls_in, line_of, lines_of, takes_disk, text_of, texts, worse, worst_of}
 use Rattle.pool.specs.Moment.{Moment, moment_of}
-use Rattle.shr_tool.specs.Timeline.{Ground, KeepsDisks, KeepsSlices, KeepsStanding, Happens, Performs, Timeline, ground_of}
+use Rattle.shr_tool.specs.Timeline.{Ground, KeepsDisks, KeepsSlices, KeepsStanding, Happens, Performs, Steps, Timeline, ground_of, steps_of}
+use Rattle.shr_tool.specs.Service.{GoesOn, pool_by}
+use Rattle.shr_tool.proofs.Chains.{fit_parts, pool_by-snoc, steps_more}
+use Rattle.shr_tool.proofs.Serviced.{goes_performed, served_first, served_last}
 use Rattle.shr_tool.specs.Serving.{Answered, Ran, Replies}
-use Rattle.pool.proofs.Continuing.{continues_of, continues_same, continues_then, outside_fewer, outside_of, outside_then}
+use Rattle.pool.proofs.Continuing.{continues_same, continues_then, outside_fewer, outside_of, outside_then}
 use Rattle.shr_tool.proofs.Joined.{ground_same, means_at}
-use Rattle.shr_tool.proofs.Taking.{any_takes_before, any_takes_last, none_takes}
+use Rattle.shr_tool.proofs.Taking.{any_takes_before, any_takes_last, named_by, none_takes, takes_first, takes_last}
 use Rattle.pool.proofs.Booked.{book_seated}
 use Rattle.pool.proofs.Keeping.{passes_same, passes_then}
 
@@ -99,6 +102,8 @@ timeline_kept Traced old new g limit past p a (event ∷ events) q within line =
         later = happens.later;
         cause = happens.cause;
         disks = happens.disks;
+        held = happens.held;
+        named = happens.named;
         slices = happens.slices;
         marks = happens.marks;
         stands = happens.stands;
@@ -109,6 +114,17 @@ timeline_kept Traced old new g limit past p a (event ∷ events) q within line =
       },
       timeline_kept Traced old new g limit past at (becomes a event) events q within line.2,
     )
+
+-- so the moments are the same
+pub steps_kept :
+    (Traced : Type 0) (old new : ℕ → Image → Type 0) (g : Ground) (limit : ℕ)
+    (past : Traced → (k : ℕ) (i : Image) → k ≤ limit → new k i → old k i)
+    (p : Moment) (a : FlatArray) (events : List Event) (q : Moment) (within : q.clock ≤ limit) (line : Timeline Traced old g p a events q)
+    → steps_of Traced new g p a events q (timeline_kept Traced old new g limit past p a events q within line) ≡ steps_of Traced old g p a events q line
+unfolding timeline_kept
+steps_kept Traced old new g limit past p a [] q within line = refl
+steps_kept Traced old new g limit past p a (event ∷ events) q within line =
+    ap (λ (rest : Steps line.0 events q). (line.0, rest)) (steps_kept Traced old new g limit past line.0 (becomes a event) events q within line.2)
 
 -- one event more
 timeline_more :
@@ -121,6 +137,17 @@ timeline_more Traced stops g p a [] mid event q same happens =
     (q, subst (λ m. Happens Traced stops g m q a event) (sym same) happens, refl)
 timeline_more Traced stops g p a (first ∷ events) mid event q line happens =
     (line.0, line.1, timeline_more Traced stops g line.0 (becomes a first) events mid event q line.2 happens)
+
+steps_added :
+    (Traced : Type 0) (stops : ℕ → Image → Type 0) (g : Ground) (p : Moment) (a : FlatArray) (events : List Event) (mid : Moment)
+    (event : Event) (q : Moment) (line : Timeline Traced stops g p a events mid) (happens : Happens Traced stops g mid q (array_by a events) event)
+    → steps_of Traced stops g p a (events ++ event ∷ []) q (timeline_more Traced stops g p a events mid event q line happens)
+    ≡ steps_more p events mid event q (steps_of Traced stops g p a events mid line)
+unfolding timeline_more
+steps_added Traced stops g p a [] mid event q same happens = refl
+steps_added Traced stops g p a (first ∷ events) mid event q line happens =
+    ap (λ (rest : Steps line.0 (events ++ event ∷ []) q). (line.0, rest))
+    (steps_added Traced stops g line.0 (becomes a first) events mid event q line.2 happens)
 
 -- ---- what a pool did
 
@@ -137,25 +164,43 @@ disks_kept x y continues = record {
   sectors = continues.sectors;
   faults = continues.faults;
   names = continues.names;
+  waits = continues.waits;
 }
 
 pub slices_kept : (x y : View) → Passes x y → KeepsSlices (moment_of x) (moment_of y)
-slices_kept x y passes = record { slices = passes.slices; names = passes.shelf.names }
+slices_kept x y passes = record { slices = passes.slices; names = passes.shelf.names; ready = passes.shelf.ready }
+
+-- no sector of a bay's disks is spent
+abbrev pub IsUnspent : View → Type 0
+IsUnspent x = (d s : ℕ) → x.bay.spent d s ≡ false
+
+outside_by : (x y : View) (event : Event) (text : List ℕ) → IsUnspent y → Performs x y event text
+    → KeepsOutside x.slices y.slices (Takes y.shelf.names event) x.shelf.told x.bay y.bay
+outside_by x y event text unspent performs =
+    elim (cases_Bool (takes_disk event)) [
+      | inl takes ↦ performs.outside takes
+      | inr none ↦ outside_of x y (Takes y.shelf.names event) (performs.passes none) unspent
+    ]
 
 -- a line that was done is an event
 performed :
     (x y z : View) (event : Event) (text : List ℕ) (Traced : Type 0) (a : FlatArray)
     → Continues x y
     → Performs y z event text
+    → IsUnspent z
     → (Traced → y.bay.traced)
     → (Traced → Holds y a)
     → Happens Traced z.bay.stops (ground_of x) (moment_of y) (moment_of z) a event
-performed x y z event text Traced a continues performs traced holds =
+performed x y z event text Traced a continues performs unspent traced holds =
     subst (λ g. Happens Traced z.bay.stops g (moment_of y) (moment_of z) a event) (ground_same x y continues.linear)
     (record {
       later = λ told. performs.continues.later (holds told).shelf (traced told);
       cause = performs.cause;
       disks = disks_kept y z performs.continues;
+      held = λ told d s low within untaken unsliced.
+          (outside_by y z event text unspent performs).held d s
+          (record { disk = low; sector = within; is_told = (holds told).disks d low; unnamed = untaken; unsliced = unsliced });
+      named = λ told takes. named_by y z event continues.fit (performs.changes takes) (holds told).shelf (holds told).disks;
       slices = λ none. slices_kept y z (performs.passes none);
       marks = performs.marks;
       stands = standing y z (calls_in (line_of event)) performs.continues.fit performs.keeps performs.raises;
@@ -183,9 +228,17 @@ ran_before x y z events a ran continues =
     (omega arith)
     (ran.timeline a)
 
--- no sector of a bay's disks is spent
-abbrev pub IsUnspent : View → Type 0
-IsUnspent x = (d s : ℕ) → x.bay.spent d s ≡ false
+pub steps_before :
+    (x y z : View) (events : List Event) (a : FlatArray) (ran : Ran x y events) (continues : Continues y z)
+    → steps_of (x.bay.traced × Holds x a) z.bay.stops (ground_of x) (moment_of x) a events (moment_of y) (ran_before x y z events a ran continues) ≡ ran.steps
+unfolding ran_before
+steps_before x y z events a ran continues =
+    steps_kept (x.bay.traced × Holds x a) y.bay.stops z.bay.stops (ground_of x) y.bay.clock
+    (λ told. continues.past (ran.continues.told told.1.shelf) (ran.continues.traced told.1.shelf told.0))
+    (moment_of x) a events (moment_of y)
+    (omega arith)
+    (ran.timeline a)
+    ∙ ran.steps_are a
 
 -- nothing is done yet
 pub ran_none : (x : View) → (volume x).fit → IsUnspent x → Ran x x []
@@ -195,15 +248,10 @@ ran_none x fit unspent = record {
   outside = outside_of x x (AnyTakes x.shelf.names []) (passes_same x fit) unspent;
   holds = λ a holds. holds;
   timeline = λ a. refl;
+  steps = refl;
+  steps_are = λ a. refl;
+  service = λ a holds served f goes serials fit. record { goes = goes; serials = λ serial. serial };
 }
-
-outside_by : (x y : View) (event : Event) (text : List ℕ) → IsUnspent y → Performs x y event text
-    → KeepsOutside x.slices y.slices (Takes y.shelf.names event) x.shelf.told x.bay y.bay
-outside_by x y event text unspent performs =
-    elim (cases_Bool (takes_disk event)) [
-      | inl takes ↦ performs.outside takes
-      | inr none ↦ outside_of x y (Takes y.shelf.names event) (performs.passes none) unspent
-    ]
 
 -- one event more
 pub ran_more :
@@ -232,9 +280,29 @@ ran_more x y z events event text unspent ran performs = record {
       λ a.
       timeline_more (x.bay.traced × Holds x a) z.bay.stops (ground_of x) (moment_of x) a events (moment_of y) event (moment_of z)
       (ran_before x y z events a ran performs.continues)
-      (performed x y z event text (x.bay.traced × Holds x a) (array_by a events) ran.continues performs
+      (performed x y z event text (x.bay.traced × Holds x a) (array_by a events) ran.continues performs unspent
       (λ told. ran.continues.traced told.1.shelf told.0)
       (λ told. ran.holds a told.1));
+  steps = steps_more (moment_of x) events (moment_of y) event (moment_of z) ran.steps;
+  steps_are =
+      λ a.
+      steps_added (x.bay.traced × Holds x a) z.bay.stops (ground_of x) (moment_of x) a events (moment_of y) event (moment_of z)
+      (ran_before x y z events a ran performs.continues)
+      (performed x y z event text (x.bay.traced × Holds x a) (array_by a events) ran.continues performs unspent
+      (λ told. ran.continues.traced told.1.shelf told.0)
+      (λ told. ran.holds a told.1))
+      ∙ ap (steps_more (moment_of x) events (moment_of y) event (moment_of z)) (steps_before x y z events a ran performs.continues);
+  service =
+      λ a holds served f goes serials fit.
+      let parts = fit_parts f (moment_of x) events (moment_of y) event (moment_of z) ran.steps fit in
+      let linear = ran.continues.linear in
+      let before =
+      ran.service a holds (served_first x y z events event text linear performs served) f goes (λ takes. serials (takes_first events event takes)) parts.0 in
+      let after =
+      goes_performed y z event text (array_by a events) unspent ran.continues.fit performs (ran.holds a holds) (served_last x y z events event linear served)
+      (pool_by f (moment_of x) events (moment_of y) ran.steps) before.goes (λ takes. before.serials (serials (takes_last events event takes))) parts.1 in
+      subst (λ h. GoesOn f h z) (sym (pool_by-snoc f (moment_of x) events (moment_of y) event (moment_of z) ran.steps))
+      (record { goes = after.goes; serials = λ serial. after.serials (before.serials serial) });
 }
 
 -- one line more is answered

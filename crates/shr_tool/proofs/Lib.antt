@@ -1,4 +1,5 @@
 mod Attached
+pub mod Chains
 mod Examined
 mod Exported
 mod Filled
@@ -14,9 +15,12 @@ mod Performing
 mod Pieces
 mod Putting
 mod Replacing
+mod Serviced
 mod Shown
 mod Stepped
 mod Stopping
 mod Taking
+mod TakenIn
 mod Through
 mod Told
+mod TurnedDown

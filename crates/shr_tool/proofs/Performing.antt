@@ -79,6 +79,7 @@ performs_by x y event text during now none passes raises cause marks text_is sam
   continues = continues_of x y passes;
   passes = λ _. passes;
   outside = λ takes. absurd (both_ways (takes_disk event) none takes);
+  changes = λ takes. absurd (both_ways (takes_disk event) none takes);
   raises = raises;
   keeps = passes.book;
   cause = cause;

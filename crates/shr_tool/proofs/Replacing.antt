@@ -1,18 +1,17 @@
 -- A drive is replaced, or isn't: the line's event by what the call says.
-use Rattle.std.proofs.Common.{◌≡◌, ◌≢◌, ◌⊎◌, ℕ, ◌<◌, ◌≤◌, Bool, true, false, List, Result, Ok, Err, codes, length, refl, sym, ap, subst, inl, inr, arith}
+use Rattle.std.proofs.Common.{◌≡◌, ℕ, ◌<◌, ◌≤◌, true, false, List, Result, Ok, Err, codes, length, refl, sym, ap, subst, inl, inr, arith}
 use Rattle.std.proofs.lemmas.Bool.{both_ways, cases_Bool, cases_lt}
 use Rattle.flat_array.specs.Array.{FlatArray}
 use Rattle.rack.specs.Moments.{IsSound}
 use Rattle.rack.specs.Seen.{Image}
 use Rattle.shr_script.specs.Reply.{as_line, refused_line}
-use Rattle.slice_rack.specs.Slices.{Slices}
 use Rattle.lvm_group.specs.Runs.{Linear}
 use Rattle.pool.specs.declared.replacing.GrowFault.{GrowFault}
 use Rattle.pool.specs.declared.replacing.GrowFault.TheVariants.{NoSuchDrive, Attach, Twice, Memory, PlanPending, NotWhole, NotResynced, Unbuilt, Size, Smaller, TooManyDrives, TooManyLayers, TooManySegments, Gone}
-use Rattle.pool.specs.Moment.{IsNamed, moment_of}
-use Rattle.pool.specs.Replaced.{HasGrowCause, IsDeclined, IsReplaced, MeansBy, MeansWithout as MeansWithoutBy, ReplacesDrive}
+use Rattle.pool.specs.Moment.{moment_of}
+use Rattle.pool.specs.Replaced.{MeansWithout as MeansWithoutBy, ReplacesDrive}
 use Rattle.pool.specs.View.{View, book, contents_in, spent_by, volume}
-use Rattle.pool.specs.Volume.{Holds, Means, PicksLive, unchanged}
+use Rattle.pool.specs.Volume.{PicksLive, unchanged}
 use Rattle.pool.proofs.Booked.{raises_still}
 use Rattle.pool.proofs.Doing.{does_none}
 use Rattle.pool.proofs.Keeping.{marks_same, passes_same}
@@ -62,6 +61,7 @@ replace_done x y at place name text r fit cut is_ok is done_r =
       continues = done.continues;
       passes = λ none. absurd (both_ways true none refl);
       outside = λ takes. done.outside;
+      changes = λ takes. done.changes (subst (λ p. p < length (book x).state.drives.items) (cut_listed x at place fit cut low) low);
       raises = done.raises;
       keeps = done.keeps;
       cause = (done.cause, done.replaced);
@@ -172,6 +172,7 @@ decline_done x y at place name text r fault fit sound cut refused is still done_
             continues = done.continues;
             passes = λ none. absurd (both_ways (looks_at fault) none looks);
             outside = λ takes. done.outside;
+            changes = λ takes. done.changes (subst (λ p. p < length (book x).state.drives.items) (cut_listed x at place fit cut low) low);
             raises = done.raises;
             keeps = done.keeps;
             cause = (done.cause, done.declined);

@@ -1,6 +1,10 @@
--- Which disks some events took, or tried to, and one event more.
-use Rattle.std.proofs.Common.{◌≡◌, ℕ, ◌||◌, Bool, true, false, List, [], ◌∷◌, ◌++◌, slice_get, Some, refl, ◌∙◌, ap, inl, inr}
-use Rattle.std.proofs.lemmas.Bool.{both_ways}
+-- Which disks some events took, or tried to, and one event more; what an event leaves on the disk that it names.
+use Rattle.std.proofs.Common.{◌≡◌, ℕ, ◌<◌, ◌||◌, Bool, true, false, List, [], ◌∷◌, ◌++◌, slice_get, Some, refl, ◌∙◌, ap, inl, inr}
+use Rattle.std.proofs.lemmas.Bool.{both_ways, cases_Bool}
+use Rattle.pool.specs.Moment.{moment_of}
+use Rattle.pool.specs.Replaced.{ChangesDrive, TakesImage}
+use Rattle.pool.specs.View.{View, volume}
+use Rattle.shr_tool.specs.Timeline.{Changes, KeepsNamed, ground_of}
 use Rattle.shr_tool.specs.Events.{AnyTakes, Event, Takes, any_takes, takes_disk}
 use Rattle.shr_tool.specs.Events.Event.{answered, spent, lost, last, replaced, declined, stepped, stuck, shown}
 
@@ -28,7 +32,7 @@ pub any_takes_last : (names : List (List ℕ)) (events : List Event) (event : Ev
 any_takes_last names [] event d takes = inl takes
 any_takes_last names (first ∷ events) event d takes = inr (any_takes_last names events event d takes)
 
-or_parts : (a b : Bool) → (a || b) ≡ false → (a ≡ false) × (b ≡ false)
+pub or_parts : (a b : Bool) → (a || b) ≡ false → (a ≡ false) × (b ≡ false)
 or_parts false b none = (refl, none)
 or_parts true b none = absurd (both_ways true none refl)
 
@@ -38,3 +42,39 @@ none_takes (first ∷ events) event none =
     let parts = or_parts (takes_disk first) (any_takes (events ++ event ∷ [])) none in
     let rest = none_takes events event parts.1 in
     (ap (λ b. b || any_takes events) parts.0 ∙ rest.0, rest.1)
+
+-- one of them takes a disk, so one of all does
+pub takes_first : (events : List Event) (event : Event) → any_takes events ≡ true → any_takes (events ++ event ∷ []) ≡ true
+takes_first events event takes = elim (cases_Bool (any_takes (events ++ event ∷ []))) [
+  | inl some ↦ some
+  | inr none ↦ absurd (both_ways (any_takes events) (none_takes events event none).0 takes)
+]
+
+pub takes_last : (events : List Event) (event : Event) → takes_disk event ≡ true → any_takes (events ++ event ∷ []) ≡ true
+takes_last events event takes = elim (cases_Bool (any_takes (events ++ event ∷ []))) [
+  | inl some ↦ some
+  | inr none ↦ absurd (both_ways (takes_disk event) (none_takes events event none).1 takes)
+]
+
+-- ---- what an event leaves
+
+-- what a line leaves on the disk that it names
+named_of : (x y : View) (place : ℕ) (name : List ℕ) → (volume x).fit → ChangesDrive x y place name → x.shelf.told → ((d : ℕ) → d < x.bay.disks → x.bay.told d)
+    → TakesImage x.linear (moment_of x) (moment_of y) place name
+named_of x y place name fit changes told all = record {
+  names = changes.names;
+  image = changes.image told all;
+  former = λ d s seat unnamed within. (changes.retired d seat unnamed).held s within (all d (fit.0.running.set.fit.1.seats place d seat));
+}
+
+pub named_by : (x y : View) (event : Event) → (volume x).fit → Changes x y event → x.shelf.told → ((d : ℕ) → d < x.bay.disks → x.bay.told d)
+    → KeepsNamed (ground_of x) (moment_of x) (moment_of y) event
+named_by x y (answered line) fit changes told all = tt
+named_by x y (spent line sector) fit changes told all = tt
+named_by x y (lost place) fit changes told all = tt
+named_by x y (last place) fit changes told all = tt
+named_by x y (replaced place name) fit changes told all = named_of x y place name fit changes told all
+named_by x y (declined place name fault) fit changes told all = named_of x y place name fit changes told all
+named_by x y (stepped count left) fit changes told all = tt
+named_by x y (stuck count array) fit changes told all = tt
+named_by x y (shown text) fit changes told all = tt

@@ -3,10 +3,9 @@ use Rattle.std.proofs.Common.{◌≡◌, ◌⊎◌, ◌↔◌, ◌&&◌, is_some
 use Rattle.rack.specs.Seen.{Image, Seen, Rose, Stays}
 use Rattle.rack.specs.Shelf.{Shelf}
 use Rattle.rack.specs.Values.{Values, MayLeave, Keeps, only}
-use Rattle.rack.specs.Joins.{leaves_weaker, stays_then}
+use Rattle.rack.specs.Joins.{leaves_weaker}
 use Rattle.rack.specs.Moments.{Leaves}
-use Rattle.rack.specs.Sequences.{OnlyReads, WritesOnly}
-use Rattle.slice_rack.specs.Runs.{IsSliced}
+use Rattle.rack.specs.Sequences.{OnlyReads}
 use Rattle.flat_array.specs.Array.{FlatArray, fresh}
 use Rattle.array_image.specs.States.{is_current}
 use Rattle.lvm_group.specs.Runs.{Linear}
@@ -18,7 +17,6 @@ use Rattle.pool_scan.specs.declared.Known.{Known}
 use Rattle.pool_scan.specs.Scanning.{IsUnfaulted, now_in}
 use Rattle.pool_image.specs.Disks.{Disks, disks_of}
 use Rattle.pool_model.specs.Left.{AreAlone, IsPickOff}
-use Rattle.pool_model.proofs.Again.{rest_later}
 use Rattle.pool_rest.specs.Resting.{WritesDrives}
 use Rattle.assembler.specs.declared.refusal.Refusal.{Refusal}
 use Rattle.assembler.specs.declared.refusal.Refusal.TheVariants as refusal
@@ -205,10 +203,11 @@ opened_as pool shown shelf x opens marks f sound unfaulted =
 
 -- the run is one on that pool
 pub runs_on :
-    (bay opened after : Seen) (g : Ground) (from : Moment) (f : Found)
-    → HoldSound bay f → IsOpenedAs f opened g from → Stays bay opened → WritesOnly opened after (IsSliced from.slices) → f.state.joined ≡ f.state.made
-    → ((i : Image) → IsPickOff from.slices opened i → AreAlone f i) → IsRunOn f g from after
-runs_on bay opened after g from f sound meant stays only joined alone = record {
+    (bay opened : Seen) (g : Ground) (from : Moment) (f : Found)
+    → HoldSound bay f → IsOpenedAs f opened g from → Stays bay opened → f.state.joined ≡ f.state.made
+    → ((i : Image) → IsPickOff from.slices opened i → AreAlone f i) → IsRunOn f g from opened
+runs_on bay opened g from f sound meant stays joined alone = record {
+  lasting = stays.lasting sound.steady.lasts.lasting;
   before = now_in bay;
   found_is = ap (λ (disks : Disks). found disks (now_in bay)) same ∙ sound.found_is;
   sound = sound.sound;
@@ -217,14 +216,11 @@ runs_on bay opened after g from f sound meant stays only joined alone = record {
   joined = joined;
   arrays = ap (λ (l : Linear). l.arrays) meant.lies.linear;
   geometry = λ n t low truth. (meant.arrays n t (omega (arith, low, joined)) truth).geometry;
-  rest = rest_later f from.slices opened after (stays.lasting sound.steady.lasts.lasting) only (record { elsewhere = meant.elsewhere; alone = alone });
+  rest = record { elsewhere = meant.elsewhere; alone = alone };
 }
   where
-    all : Stays bay after
-    all = stays_then stays only.stays
-
-    same : disks_of after ≡ disks_of bay
-    same = λ j. record { count = all.disks j; sectors = λ d. all.sectors d j }
+    same : disks_of opened ≡ disks_of bay
+    same = λ j. record { count = stays.disks j; sectors = λ d. stays.sectors d j }
 
 -- stops stay told in an opening
 pub traced_through : {R : Type 0} (shown : R → Seen) (runs : R → R → Type 0) (r s : R) → WritesPool shown runs r s → (shown r).traced → (shown s).traced

@@ -1,5 +1,5 @@
 -- How a task came out, where the array is told for another reason.
-use Rattle.std.proofs.Common.{ℕ, List, [], ◌∷◌, codes}
+use Rattle.std.proofs.Common.{◌≡◌, ℕ, List, [], ◌∷◌, codes, refl, sym, ap, subst}
 use Rattle.rack.specs.Seen.{Image, Seen}
 use Rattle.flat_array.specs.Array.{FlatArray}
 use Rattle.shr_tool.specs.declared.opening.Task.{Task}
@@ -14,7 +14,9 @@ use Rattle.shr_tool.specs.Importing.{ImportOutcome}
 use Rattle.shr_tool.specs.Outcome.{EndsAt, Lasts, Outcome}
 use Rattle.shr_tool.specs.Tasks.{TaskOutcome}
 use Rattle.pool.specs.Moment.{Moment}
-use Rattle.shr_tool.specs.Timeline.{Ground, Happens, Timeline}
+use Rattle.shr_tool.specs.Timeline.{Ground, Happens, Steps, Timeline, steps_of}
+use Rattle.shr_tool.specs.Service.{AreFit, pool_by}
+use Rattle.pool_model.specs.Left.{HoldAgain}
 
 pub outside_told :
     (t u : Slices) (named : ℕ → Type 0) (T U : Type 0) (a b : Seen) → (U → T) → KeepsOutside t u named T a b → KeepsOutside t u named U a b
@@ -27,6 +29,8 @@ happens_for P Q stops g p q a event for happens = record {
   later = λ traced. happens.later (for traced);
   cause = happens.cause;
   disks = happens.disks;
+  held = λ traced. happens.held (for traced);
+  named = λ traced. happens.named (for traced);
   slices = happens.slices;
   marks = happens.marks;
   stands = happens.stands;
@@ -44,6 +48,15 @@ timeline_for P Q stops g p a (event ∷ events) q for line = (
   timeline_for P Q stops g line.0 (becomes a event) events q for line.2,
 )
 
+pub steps_for :
+    (P Q : Type 0) (stops : ℕ → Image → Type 0) (g : Ground) (p : Moment) (a : FlatArray) (events : List Event) (q : Moment)
+    (for : Q → P) (line : Timeline P stops g p a events q)
+    → steps_of Q stops g p a events q (timeline_for P Q stops g p a events q for line) ≡ steps_of P stops g p a events q line
+unfolding timeline_for
+steps_for P Q stops g p a [] q for line = refl
+steps_for P Q stops g p a (event ∷ events) q for line =
+    ap (λ (rest : Steps line.0 events q). (line.0, rest)) (steps_for P Q stops g line.0 (becomes a event) events q for line.2)
+
 ends_for :
     (T U S R : Type 0) (y : Seen) (g : Ground) (p q : Moment) (a : FlatArray)
     → (U → T) → (R → S) → EndsAt T S y g p q a → EndsAt U R y g p q a
@@ -53,6 +66,7 @@ ends_for T U S R y g p q a told traced ends = record {
   after = ends.after;
   cause = ends.cause;
   stands = ends.stands;
+  held = λ is. ends.held (told is);
   during = λ is so. ends.during (told is) (traced so);
   ended = λ is so. ends.ended (told is) (traced so);
 }
@@ -68,12 +82,17 @@ lasts_for T U S R x y g from a events told traced lasts = record {
   faults = lasts.faults;
   disks = lasts.disks;
   sectors = lasts.sectors;
+  held = lasts.held;
   ends = ends_for T U S R y g lasts.last lasts.final _ told traced lasts.ends;
   outside = outside_told from.slices lasts.final.slices (AnyTakes lasts.final.names events) T U x y told lasts.outside;
   apart = lasts.apart;
   told = λ is. lasts.told (told is);
   rows = λ is. lasts.rows (told is);
-  again = λ is. lasts.again (told is);
+  again = λ is served f on known fit goes i pick.
+      let same =
+      steps_for (S × T) (R × U) y.stops g from a events lasts.last (λ is. (traced is.0, told is.1)) lasts.timeline in
+      subst (λ (steps : Steps from events lasts.last). HoldAgain (pool_by f from events lasts.last steps) lasts.final.slices lasts.final.book.state i) (sym same)
+      (lasts.again (told is) served f on (λ takes. (traced (known takes).0, (known takes).1)) (subst (AreFit f from events lasts.last) same fit) goes i pick);
 }
 
 -- the same run, told where the array is told

@@ -2,6 +2,7 @@ pub mod Limits
 pub mod StatusText
 pub mod Events
 pub mod Timeline
+pub mod Service
 pub mod Filling
 pub mod Serving
 pub mod Forms

@@ -2,11 +2,10 @@
 use Rattle.std.specs.Prelude.{◌≡◌, ◌≢◌, ◌⊎◌, ◌&&◌, ◌<◌, ℕ, true, is_some, List, [], ◌∷◌, Some}
 use Rattle.rack.specs.Seen.{Image, Seen}
 use Rattle.rack.specs.Moments.{Leaves}
-use Rattle.rack.specs.Sequences.{OnlyReads, WritesOnly}
+use Rattle.rack.specs.Sequences.{OnlyReads}
 use Rattle.flat_array.specs.Array.{FlatArray, fresh}
 use Rattle.md_super.specs.declared.superblock.Super.{Super}
 use Rattle.array_image.specs.States.{is_current}
-use Rattle.slice_rack.specs.Runs.{IsSliced}
 use Rattle.slice_rack.specs.Sliced.{slices_of}
 use Rattle.raid_rack.specs.Book.{IsAfter}
 use Rattle.raid_rack.specs.Raid.{IsTold}
@@ -99,7 +98,10 @@ pub record OpenedOn {R : Type 0} (seen : R → Seen) (shelf : R → Shelf) (runs
   pub faults : (d : ℕ) → from.faults d ≡ (seen opened).faults d
   pub disks : from.disks ≡ (seen opened).disks
   pub sectors : (d : ℕ) → from.sectors d ≡ (seen opened).sectors d
+  pub held : (d s : ℕ) → from.held d s ≡ (seen opened).held d s
   pub named : from.names ≡ (shelf opened).names
+  -- and what waited before it waits still
+  pub waiting : (name : List ℕ) → from.ready name ≡ (shelf bay).ready name
   pub unattached : from.unattached ≡ (shelf opened).faults
   -- just those members of its arrays are missing whose drives are marked
   pub seated : HasMarkedSeats from.book
@@ -117,12 +119,11 @@ pub record OpenedOn {R : Type 0} (seen : R → Seen) (shelf : R → Shelf) (runs
   pub moments :
       (a : FlatArray) → (meant : IsMeant (seen bay) (seen opened) a) → MayStop (seen bay) meant.pool → (seen bay).traced
       → Leaves (seen bay) (seen opened) (MeansAt ground from a)
-  -- Where from then on sectors of slices alone are written, the run is one on that pool, where all its arrays are ready for the volume and no superblock stands on a drive that is no member of an
+  -- The run is one on that pool, where all its arrays are ready for the volume and no superblock stands on a drive that is no member of an
   -- array, where its slice would be.
   pub run_on :
       (f : Found) → HoldSound (seen bay) f → IsUnfaulted (seen bay) (seen opened) → f.state.joined ≡ f.state.made
-      → ((i : Image) → IsPickOff from.slices (seen opened) i → AreAlone f i) → WritesOnly (seen opened) (seen after) (IsSliced from.slices)
-      → IsRunOn f ground from (seen after)
+      → ((i : Image) → IsPickOff from.slices (seen opened) i → AreAlone f i) → IsRunOn f ground from (seen opened)
   -- the task, from the volume that the disks meant, where the names of the bay are told
   pub outcome :
       (a : FlatArray)

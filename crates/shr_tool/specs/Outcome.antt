@@ -1,6 +1,7 @@
 -- How a script on a pool came out, by the status that is answered.
-use Rattle.std.specs.Prelude.{◌≡◌, ◌⊎◌, slice_get, ℕ, ◌<◌, ◌≤◌, ◌^◌, true, false, List, [], ◌∷◌, ◌++◌, length, take, Some}
+use Rattle.std.specs.Prelude.{◌≡◌, slice_get, ℕ, ◌<◌, ◌≤◌, ◌^◌, true, false, List, [], ◌∷◌, ◌++◌, length, take, Some}
 use Rattle.rack.specs.Seen.{Image, IsPick, Seen, Rose}
+use Rattle.rack.specs.Values.{Keeps}
 use Rattle.io_ends.specs.Sink.{AddsPrefix}
 use Rattle.md_super.specs.declared.superblock.Super.{Super}
 use Rattle.array_image.specs.Left.{IsLeft}
@@ -14,6 +15,7 @@ use Rattle.pool_image.specs.Drives.{Found, found}
 use Rattle.pool_image.specs.Meaning.{truth_of}
 use Rattle.pool_model.specs.Left.{HoldAgain, HoldRest}
 use Rattle.pool_model.specs.Pools.{AreSlicesOf, IsSoundPool}
+use Rattle.pool_model.specs.Taken.{AreSerial}
 use Rattle.slice_rack.specs.Slices.{disk_of}
 use Rattle.slice_rack.specs.Sliced.{slices_of}
 use Rattle.raid_rack.specs.Book.{IsAfter}
@@ -30,12 +32,11 @@ use Rattle.shr_tool.specs.declared.perform.Answer.TheVariants.{Given, Spent as R
 use Rattle.shr_tool.specs.Events.{AnyTakes, Event, any_takes, array_by, lines_of, text_of, texts, worst_of}
 use Rattle.pool.specs.Moment.{Moment}
 use Rattle.pool.specs.Continuing.{KeepsOutside}
-use Rattle.pool.specs.View.{spent_by}
-use Rattle.lvm_group.specs.Runs.{sectors_in}
 use Rattle.rack.specs.Sequences.{WritesOnly}
 use Rattle.rack.specs.Shelf.{Shelf}
 use Rattle.slice_rack.specs.Runs.{IsSliced}
-use Rattle.shr_tool.specs.Timeline.{Ground, KeepsSlices, KeepsStanding, MeansAt, Timeline}
+use Rattle.shr_tool.specs.Timeline.{Ground, KeepsSlices, KeepsStanding, MeansAt, Timeline, steps_of}
+use Rattle.shr_tool.specs.Service.{AreFit, IsServed, pool_by}
 
 -- no disk's faults rose since they were counted so
 abbrev pub NoneRose : (ℕ → ℕ) → (ℕ → ℕ) → Type 0
@@ -54,12 +55,9 @@ LeavesItsRows y g p q =
 abbrev pub KeepsNames : Shelf → Shelf → Type 0
 KeepsNames s t = (d : ℕ) (name : List ℕ) → slice_get s.names d ≡ Some name → slice_get t.names d ≡ Some name
 
--- no drive was to be replaced, or a sector of the volume can be had
-abbrev pub IsServed : Ground → Moment → List Event → Type 0
-IsServed g q events = (any_takes events ≡ false) ⊎ ((s : ℕ) × (s < sectors_in g.linear) × (spent_by g.linear q.book s ≡ false))
-
 -- The end of a pool: no disk is attached, the slices of its drives stay where they lie, marks alone come to its book, each of a drive whose disk's faults rose, what
--- a stop inside it leaves means the array, and then its current values alone. The clock is told where stops are.
+-- a stop inside it leaves means the array, and then its current values alone. Outside the slices disks hold what they held.
+-- The clock is told where stops are.
 pub record EndsAt (Told : Type 0) (Traced : Type 0) (y : Seen) (g : Ground) (p q : Moment) (a : FlatArray) : Type 0 where
   pub later : Told → Traced → p.clock ≤ q.clock
   pub slices : KeepsSlices p q
@@ -68,26 +66,29 @@ pub record EndsAt (Told : Type 0) (Traced : Type 0) (y : Seen) (g : Ground) (p q
       (place : ℕ) → is_current p.book.state place ≡ true → is_current q.book.state place ≡ false
       → Rose (p.faults (disk_of p.slices (log_slice place))) (q.faults (disk_of p.slices (log_slice place)))
   pub stands : KeepsStanding 1 p q
+  pub held : Told → (d s : ℕ) → d < p.disks → s < p.sectors d → ((v : List ℕ) → IsSliced p.slices d s v → ⊥) → Keeps (p.held d s) (q.held d s)
   pub during : Told → Traced → (k : ℕ) (i : Image) → p.clock < k → k ≤ q.clock → y.stops k i → MeansAt g q a i
   pub ended : Told → Traced → (i : Image) → y.stops q.clock i → MeansAt g q (flushed a) i
 
--- The pool of a run, which its disks had before it: a sound one, whose drives have the run's slices. Its arrays are the volume's, with the
--- members and the sizes of its superblocks, and outside the slices its disks, y, are as it has them.
-pub record IsRunOn (f : Found) (g : Ground) (from : Moment) (y : Seen) : Type 0 where
+-- The pool of a run, which its disks, x, had when it began: a sound one, whose drives have the run's slices. Its arrays are the volume's, with
+-- the members and the sizes of its superblocks, and outside the slices the disks are as it has them.
+pub record IsRunOn (f : Found) (g : Ground) (from : Moment) (x : Seen) : Type 0 where
+  pub lasting : x.lasting
   pub before : Image
-  pub found_is : found (disks_of y) before ≡ Some f
+  pub found_is : found (disks_of x) before ≡ Some f
   pub sound : IsSoundPool f
   pub slices : AreSlicesOf f from.slices
   pub after : IsAfter f.state from.book.state
   pub joined : f.state.joined ≡ f.state.made
   pub arrays : g.linear.arrays ≡ f.state.joined
   pub geometry : (n : ℕ) (t : Super) → n < f.state.made → truth_of f n ≡ Some t → HasGeometry t (from.book.arrays n).truth
-  pub rest : HoldRest f from.slices y
+  pub rest : HoldRest f from.slices x
 
 -- Events of a script from a moment on, when the disks showed x, and the end of the pool: the disks show it afterwards, and where the pool
 -- told its volume to hold an array, each of the volume's arrays is told by the last book. Outside the slices of drives no disk is written
--- but one that a line named to replace a drive. Where none did, sectors of slices alone are written, and all that the disks may be left
--- with holds a sound pool again, by the last book's state, unless an array is over.
+-- but one that a line named to replace a drive. Where none did, sectors of slices alone are written. All that the disks may be left
+-- with holds a sound pool again, by the last book's state and with the drives that were taken in, unless an array is over. Where lines named images
+-- stops are to be told, the pool's drives to have ids of serials, and the images to be fit for it, by what they held before.
 pub record Lasts (Told Traced : Type 0) (x y : Seen) (g : Ground) (from : Moment) (a : FlatArray) (events : List Event) : Type 0 where
   pub last : Moment
   pub timeline : Timeline (Traced × Told) y.stops g from a events last
@@ -96,14 +97,18 @@ pub record Lasts (Told Traced : Type 0) (x y : Seen) (g : Ground) (from : Moment
   pub faults : (d : ℕ) → final.faults d ≡ y.faults d
   pub disks : final.disks ≡ y.disks
   pub sectors : (d : ℕ) → final.sectors d ≡ y.sectors d
+  pub held : (d s : ℕ) → final.held d s ≡ y.held d s
   pub ends : EndsAt Told Traced y g last final (array_by a events)
   pub outside : KeepsOutside from.slices final.slices (AnyTakes final.names events) Told x y
   pub apart : any_takes events ≡ false → WritesOnly x y (IsSliced from.slices)
   pub told : Told → IsServed g final events → (n : ℕ) → n < g.linear.arrays → IsTold final.book (slices_of final.slices y) n
   pub rows : Told → IsServed g final events → LeavesItsRows y g last final
   pub again :
-      Told → any_takes events ≡ false → (f : Found) → IsRunOn f g from y → ((n : ℕ) → n < f.state.made → is_over final.book n ≡ false)
-      → (i : Image) → IsPick y y y.held i → HoldAgain f final.slices final.book.state i
+      Told → IsServed g final events → (f : Found) → IsRunOn f g from x → (any_takes events ≡ true → Traced × AreSerial f.state)
+      → AreFit f from events last (steps_of (Traced × Told) y.stops g from a events last timeline)
+      → ((n : ℕ) → n < f.state.made → is_over final.book n ≡ false)
+      → (i : Image) → IsPick y y y.held i
+      → HoldAgain (pool_by f from events last (steps_of (Traced × Told) y.stops g from a events last timeline)) final.slices final.book.state i
 
 -- all lines of the text were answered, and the pool was ended; this is the worst of the answers
 pub record DoneOutcome (worst : Answer) (Told Traced : Type 0) (x y : Seen) (g : Ground) (from : Moment) (a : FlatArray) (text out out' : List ℕ) : Type 0 where

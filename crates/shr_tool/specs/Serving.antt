@@ -1,5 +1,5 @@
 -- A script that is answered on a pool: what was answered, and why it stopped.
-use Rattle.std.specs.Prelude.{◌≡◌, false, ℕ, ◌<◌, ◌≤◌, ◌^◌, List, [], ◌∷◌, ◌++◌, length, take, Option, Some, None, Result, Ok, Err}
+use Rattle.std.specs.Prelude.{◌≡◌, true, false, ℕ, ◌<◌, ◌≤◌, ◌^◌, List, [], ◌∷◌, ◌++◌, length, take, Option, Some, None, Result, Ok, Err}
 use Rattle.rack.specs.Seen.{Rose}
 use Rattle.io_ends.specs.Sink.{AddsPrefix}
 use Rattle.shr_script.specs.Line.{Line}
@@ -16,7 +16,10 @@ use Rattle.shr_tool.specs.declared.serve.Stop.{Stop}
 use Rattle.shr_tool.specs.declared.serve.Stop.TheVariants.{Quit as AtQuit, Input, SourceFault, Limit, SinkFault}
 use Rattle.shr_tool.specs.Events.{AnyTakes, Event, answer_of, any_takes, array_by, line_of, lines_of, text_of, texts, worse, worst_of}
 use Rattle.pool.specs.Moment.{moment_of}
-use Rattle.shr_tool.specs.Timeline.{Timeline, Performs, ground_of}
+use Rattle.shr_tool.specs.Timeline.{Timeline, Performs, Steps, ground_of, steps_of}
+use Rattle.shr_tool.specs.Service.{AreFit, GoesBy, GoesOn, IsServed, pool_by}
+use Rattle.pool_image.specs.Drives.{Found}
+use Rattle.pool_model.specs.Taken.{AreSerial}
 
 -- the volume is told to hold an array, be there a sector that can be had or none
 abbrev pub IsServing : View → FlatArray → Type 0
@@ -78,6 +81,14 @@ pub record Ran (x y : View) (events : List Event) : Type 0 where
   pub outside : KeepsOutside x.slices y.slices (AnyTakes y.shelf.names events) x.shelf.told x.bay y.bay
   pub holds : (a : FlatArray) → Holds x a → Holds y (array_by a events)
   pub timeline : (a : FlatArray) → Timeline (x.bay.traced × Holds x a) y.bay.stops (ground_of x) (moment_of x) a events (moment_of y)
+  pub steps : Steps (moment_of x) events (moment_of y)
+  pub steps_are :
+      (a : FlatArray)
+      → steps_of (x.bay.traced × Holds x a) y.bay.stops (ground_of x) (moment_of x) a events (moment_of y) (timeline a) ≡ steps
+  -- a pool by which the run goes, with the drives that it took in
+  pub service :
+      (a : FlatArray) → Holds x a → IsServed (ground_of x) (moment_of y) events → (f : Found) → GoesBy f x → (any_takes events ≡ true → AreSerial f.state)
+      → AreFit f (moment_of x) events (moment_of y) steps → GoesOn f (pool_by f (moment_of x) events (moment_of y) steps) y
 
 -- all these were done, and their replies put
 pub record Answered (x y : View) (events : List Event) (out out' : List ℕ) : Type 0 where

@@ -1,22 +1,23 @@
 -- A run as a list of events at moments that never fall.
 use Rattle.std.specs.Prelude.{◌≡◌, ◌⊎◌, ℕ, ◌+◌, ◌*◌, ◌<◌, ◌≤◌, min, true, false, List, [], ◌∷◌, None, Ok, Err}
 use Rattle.rack.specs.Seen.{Image, Rose}
+use Rattle.rack.specs.Values.{Keeps}
 use Rattle.shr_script.specs.declared.Command.TheVariants.{Lose}
 use Rattle.flat_array.specs.Array.{FlatArray}
 use Rattle.array_image.specs.Places.{log_slice}
 use Rattle.array_image.specs.States.{is_current}
 use Rattle.slice_rack.specs.Changes.{Seats}
+use Rattle.slice_rack.specs.Runs.{IsSliced}
 use Rattle.slice_rack.specs.Slices.{Slices, disk_of}
 use Rattle.lvm_group.specs.Runs.{Linear, sectors_in}
 use Rattle.raid_rack.specs.Book.{IsAfter}
 use Rattle.raid_rack.specs.Moves.{RaisesBy}
 use Rattle.raid_rack.specs.Losses.{has_other}
-use Rattle.raid_rack.specs.Raid.{Raid}
 use Rattle.pool.specs.Calls.{Passes}
 use Rattle.pool.specs.Keeping.{HasMarkedSeats, KeepsBook, Raises, most_raised}
 use Rattle.pool.specs.Moment.{IsNamed, Moment, moment_of}
 use Rattle.pool.specs.Continuing.{Continues, KeepsOutside}
-use Rattle.pool.specs.Replaced.{HasGrowCause, IsDeclined, IsReplaced, LeavesNew}
+use Rattle.pool.specs.Replaced.{ChangesDrive, HasGrowCause, IsDeclined, IsReplaced, LeavesNew, TakesImage}
 use Rattle.pool.specs.View.{View, book, contents_in, spent_by}
 use Rattle.pool.specs.Works.{HasRowsAlone, IsStuck, left_by}
 use Rattle.pool.specs.Volume.{Holds, Means, PicksLive}
@@ -79,17 +80,22 @@ pub record KeepsStanding (calls : ℕ) (p q : Moment) : Type 0 where
   pub keeps : KeepsBook p.book q.book
   pub seated : HasMarkedSeats q.book
 
--- the bay has the disks that it had, under their names, and their counts of faults never fall
+-- The bay has the disks that it had, under their names, and their counts of faults never fall. What waits under a name stays, but for what was
+-- attached.
 pub record KeepsDisks (p q : Moment) : Type 0 where
   pub disks : p.disks ≤ q.disks
   pub sectors : (d : ℕ) → d < p.disks → q.sectors d ≡ p.sectors d
   pub faults : (d : ℕ) → d < p.disks → p.faults d ≤ q.faults d
   pub names : (d : ℕ) (name : List ℕ) → IsNamed p name d → IsNamed q name d
+  pub waits :
+      (name : List ℕ)
+      → (q.ready name ≡ p.ready name) ⊎ ((q.ready name ≡ None) × ((d : ℕ) × (p.disks ≤ d) × IsNamed q name d))
 
 -- no disk is attached, and the slices of drives stay where they lie
 pub record KeepsSlices (p q : Moment) : Type 0 where
   pub slices : q.slices ≡ p.slices
   pub names : q.names ≡ p.names
+  pub ready : (name : List ℕ) → q.ready name ≡ p.ready name
 
 -- contents mean an array by the slices of a pool in which a place, whose drive is missing, has no disk
 abbrev pub MeansWithout : Ground → Moment → Moment → ℕ → FlatArray → Image → Type 0
@@ -108,13 +114,29 @@ MeansBefore g p q (stepped count left) a disks = MeansAt g q a disks
 MeansBefore g p q (stuck count array) a disks = MeansAt g q a disks
 MeansBefore g p q (shown text) a disks = MeansAt g q a disks
 
+-- what an event that names an image leaves of the disks
+abbrev pub KeepsNamed : Ground → Moment → Moment → Event → Type 0
+KeepsNamed g p q (answered line) = Unit {0}
+KeepsNamed g p q (spent line sector) = Unit {0}
+KeepsNamed g p q (lost place) = Unit {0}
+KeepsNamed g p q (last place) = Unit {0}
+KeepsNamed g p q (replaced place name) = TakesImage g.linear p q place name
+KeepsNamed g p q (declined place name fault) = TakesImage g.linear p q place name
+KeepsNamed g p q (stepped count left) = Unit {0}
+KeepsNamed g p q (stuck count array) = Unit {0}
+KeepsNamed g p q (shown text) = Unit {0}
+
 -- An event: what a stop inside it leaves means the array before it or after it, and one at its end the array after it. But where a drive
--- is to be replaced, the slices of drives stay where they lie, no disk is attached, and marks alone come to the state. The clock is told
--- where stops are.
+-- is to be replaced, the slices of drives stay where they lie, no disk is attached, and marks alone come to the state. Outside the slices
+-- disks hold what they held, but for one that the event took. The clock and what disks hold are told where stops are.
 pub record Happens (Traced : Type 0) (stops : ℕ → Image → Type 0) (g : Ground) (p q : Moment) (a : FlatArray) (event : Event) : Type 0 where
   pub later : Traced → p.clock ≤ q.clock
   pub cause : HasCause g p q event
   pub disks : KeepsDisks p q
+  pub held :
+      Traced → (d s : ℕ) → d < p.disks → s < p.sectors d → (Takes q.names event d → ⊥) → ((v : List ℕ) → IsSliced p.slices d s v → ⊥)
+      → Keeps (p.held d s) (q.held d s)
+  pub named : Traced → takes_disk event ≡ true → KeepsNamed g p q event
   pub slices : takes_disk event ≡ false → KeepsSlices p q
   pub marks : takes_disk event ≡ false → MarksFor p q event
   pub stands : KeepsStanding (calls_in (line_of event)) p q
@@ -131,11 +153,35 @@ Timeline Traced stops g p a (event ∷ events) q =
     × Happens Traced stops g p at a event
     × Timeline Traced stops g at (becomes a event) events q
 
+-- the moments at their ends
+abbrev pub Steps : Moment → List Event → Moment → Type 0
+Steps p [] q = p ≡ q
+Steps p (event ∷ events) q = (at : Moment) × Steps at events q
+
+abbrev pub steps_of :
+    (Traced : Type 0) (stops : ℕ → Image → Type 0) (g : Ground) (p : Moment) (a : FlatArray) (events : List Event) (q : Moment)
+    → Timeline Traced stops g p a events q → Steps p events q
+steps_of Traced stops g p a [] q line = line
+steps_of Traced stops g p a (event ∷ events) q line = (line.0, steps_of Traced stops g line.0 (becomes a event) events q line.2)
+
+-- what a line that names a disk does to the pool's drives
+abbrev pub Changes : View → View → Event → Type 0
+Changes x y (answered line) = Unit {0}
+Changes x y (spent line sector) = Unit {0}
+Changes x y (lost place) = Unit {0}
+Changes x y (last place) = Unit {0}
+Changes x y (replaced place name) = ChangesDrive x y place name
+Changes x y (declined place name fault) = ChangesDrive x y place name
+Changes x y (stepped count left) = Unit {0}
+Changes x y (stuck count array) = Unit {0}
+Changes x y (shown text) = Unit {0}
+
 -- A line was answered on a pool by this text.
 pub record Performs (x y : View) (event : Event) (text : List ℕ) : Type 0 where
   pub continues : Continues x y
   pub passes : takes_disk event ≡ false → Passes x y
   pub outside : takes_disk event ≡ true → KeepsOutside x.slices y.slices (Takes y.shelf.names event) x.shelf.told x.bay y.bay
+  pub changes : takes_disk event ≡ true → Changes x y event
   pub raises : Raises (calls_in (line_of event)) x y
   pub keeps : KeepsBook (book x) (book y)
   pub cause : HasCause (ground_of x) (moment_of x) (moment_of y) event

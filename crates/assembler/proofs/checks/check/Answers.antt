@@ -11,6 +11,7 @@ use Rattle.pool_check.specs.declared.Part.TheVariants.{Log}
 use Rattle.pool_check.specs.Checking.{IsChecked}
 use Rattle.pool_check.specs.Drives.{AreCopied, AreDrivesOf, IsSeating, Loses, found_with, seats_by}
 use Rattle.pool_check.specs.Refusing.{absent_among, is_well}
+use Rattle.pool_check.specs.Settling.{AreCompared}
 use Rattle.pool_check.specs.Slots.{AreSlots}
 use Rattle.pool_check.proofs.Valid.{valid_fit}
 use Rattle.pool_scan.specs.Scanning.{IsUnfaulted}
@@ -226,6 +227,12 @@ returns-clause-loses g c =
     (subst (λ r. Loses x (seen r) left (seats_by now)) (sym (c.lay_members.ensures.below ∙ c.unseat_lost.ensures.below))
     (loses_left x (seen c.check_drives.new.rack) known rest.state rest.gone.items c.seats_of-seats.result now c.seats_of-seats.ensures.each c.seats_of-seats.ensures.beyond
     (subst (λ r. Loses (seen r) (seen c.check_drives.new.rack) (seats_by c.seats_of-seats.result) (seats_by now)) c.inner.ensures.value c.check_drives.ensures.seats)))
+
+pub returns-clause-compared : goal.returns-clause-compared
+returns-clause-compared g c =
+    let x : Seen = g.R.Rack.seen (below_of c.args.rest.slices) in
+    subst (λ k. AreCompared x k c.in-Ok.checked.agreed) (λ i p. (returns-clause-taken g c p) i)
+    (subst (λ r. AreCompared (g.R.Rack.seen r) (seats_by c.check_drives.new.seats) c.in-Ok.checked.agreed) c.inner.ensures.value c.in-Ok.ensures.agreed)
 
 pub returns-clause-few : goal.returns-clause-few
 returns-clause-few g c =

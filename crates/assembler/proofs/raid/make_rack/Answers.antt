@@ -62,7 +62,7 @@ mark_gone-requires g c =
     let went = c.close_gates-gone.result.items in
     let places = c.mend_tables-left_out.result.items in
     let members = c.requires.members in
-    let is = mended_so m.state t (tables closed) y b d went places (g.R.Rack.runs (below_of m.slices) (below_of closed)) members.fit c.close_gates-gone.ensures.runs c.mend_tables-left_out.ensures.mends in
+    let is = mended_so m.state t (tables closed) y b d m.checked.agreed went places (g.R.Rack.runs (below_of m.slices) (below_of closed)) members.fit c.close_gates-gone.ensures.runs c.mend_tables-left_out.ensures.mends in
     let first = (each_items m.checked.arrays c.as_mut_slice.result.now c.restart_rebuilds.new.arrays restarted c.as_mut_slice.ensures.value c.restart_rebuilds.ensures).0 in
     let second = (each_items (with_items m.checked.arrays c.restart_rebuilds.new.arrays) c.as_mut_slice-2.result.now c.note_gone.new.arrays (gone places) c.as_mut_slice-2.ensures.value c.note_gone.ensures).0 in
     record {
@@ -103,7 +103,7 @@ returns-clause-only g c =
     let went = c.close_gates-gone.result.items in
     let places = c.mend_tables-left_out.result.items in
     let members = c.requires.members in
-    let is = mended_so m.state t (tables closed) y b d went places (g.R.Rack.runs (below_of m.slices) (below_of closed)) members.fit c.close_gates-gone.ensures.runs c.mend_tables-left_out.ensures.mends in
+    let is = mended_so m.state t (tables closed) y b d m.checked.agreed went places (g.R.Rack.runs (below_of m.slices) (below_of closed)) members.fit c.close_gates-gone.ensures.runs c.mend_tables-left_out.ensures.mends in
     rack_writes m.state t y b d went places m.checked m.absent.items m.slices.orderly members is z
     (marking_so m.state t y b d went places m.checked m.absent.items m.slices.orderly members is (tables mended) (tables last) z (g.R.Rack.runs (below_of mended) (below_of last))
     (c.mend_tables-left_out.ensures.tables ∙ c.close_gates-gone.ensures.runs.tables)
@@ -130,7 +130,7 @@ returns-clause-small g c =
     let closed = c.close_gates-gone.new.slices in
     let mended = c.mend_tables-left_out.new.slices in
     let places = c.mend_tables-left_out.result.items in
-    let is = mended_so m.state t (tables closed) x (seen (below_of closed)) (seen (below_of mended)) c.close_gates-gone.result.items places (g.R.Rack.runs (below_of m.slices) (below_of closed))
+    let is = mended_so m.state t (tables closed) x (seen (below_of closed)) (seen (below_of mended)) m.checked.agreed c.close_gates-gone.result.items places (g.R.Rack.runs (below_of m.slices) (below_of closed))
     members.fit c.close_gates-gone.ensures.runs c.mend_tables-left_out.ensures.mends in
     let first = (each_items m.checked.arrays c.as_mut_slice.result.now c.restart_rebuilds.new.arrays restarted c.as_mut_slice.ensures.value c.restart_rebuilds.ensures).0 in
     let second = (each_items (with_items m.checked.arrays c.restart_rebuilds.new.arrays) c.as_mut_slice-2.result.now c.note_gone.new.arrays (gone places) c.as_mut_slice-2.ensures.value c.note_gone.ensures).0 in
@@ -159,7 +159,7 @@ pub returns-clause-unwritten : goal.returns-clause-unwritten
 returns-clause-unwritten g c n = c.mark_gone.ensures.written n ∙ c.new-raid.ensures.written n
 
 pub returns-clause-mended : goal.returns-clause-mended
-returns-clause-mended g c quiet p disk seat =
+returns-clause-mended g c quiet p disk seat says =
     let m = c.args.members in
     let seen = g.R.Rack.seen in
     let runs = g.R.Rack.runs in
@@ -177,7 +177,7 @@ returns-clause-mended g c quiet p disk seat =
     let marking = subst (λ k. SliceRuns seen runs k last) c.new-raid.ensures.slices c.mark_gone.ensures.runs in
     settled m.state t (tables closed) (tables mended) (tables last) y b d z went places m.checked m.absent.items m.slices.orderly members m.log
     (runs (below_of m.slices) (below_of closed)) (runs (below_of mended) (below_of last)) c.close_gates-gone.ensures.runs c.close_gates-gone.ensures.closes
-    c.close_gates-gone.ensures.same c.mend_tables-left_out.ensures.mends c.mend_tables-left_out.ensures.tables marking quiet p disk seat
+    c.close_gates-gone.ensures.same c.mend_tables-left_out.ensures.mends c.mend_tables-left_out.ensures.tables marking quiet p disk seat says
 
 pub returns-clause-keeps : goal.returns-clause-keeps
 returns-clause-keeps g c p disk seat =
@@ -275,7 +275,7 @@ returns-clause-holds g c f holds found quiet =
     c.close_gates-gone.ensures.same c.mend_tables-left_out.ensures.mends c.mend_tables-left_out.ensures.tables marking quiet none) w after mends
     (elim (cases_Bool flag) [ inl stale ↦ inl (agrees (inl stale), unfaulted) | inr clear ↦ inr (still none clear) ]))
     (λ absent.
-    rack_still f m.state t y m.checked m.absent.items places m.slices.orderly m.log holds found members rules raid c.new-raid.ensures.state number are same w after
+    rack_still f m.state t y m.checked m.absent.items places m.slices.orderly m.log holds found members rules raid c.new-raid.ensures.state number are absent same w after
     (subst (λ k. Mends raid w (slices_of t (seen (below_of k))) after) (c.close_gates-gone.ensures.still absent) mends)
     (subst (λ k. MakesAgree raid w (slices_of t (seen (below_of k))) after) (c.close_gates-gone.ensures.still absent)
     (agrees

@@ -2,9 +2,10 @@ use Rattle.std.proofs.Common.{ℕ, ◌+◌, ◌<◌, subst, arith}
 use Rattle.rack.proofs.Reading.{only_reads_join}
 use Rattle.array_image.specs.Places.{arrays_first}
 use Rattle.array_core.proofs.Opened.{current_below}
-use Rattle.pool_check.specs.Drives.{seats_by}
+use Rattle.pool_check.specs.Drives.{flag_by, seats_by}
 use Rattle.pool_check.specs.Slots.{behind}
 use Rattle.pool_check.proofs.AfterReads.{drives_then}
+use Rattle.pool_check.proofs.Compared.{agreement_then}
 use Rattle.pool_check.proofs.Losing.{fewer_seated, loses_more, seating_without}
 use Rattle.pool_check.proofs.checking.check_drives.Goals as goal
 
@@ -51,6 +52,11 @@ again-preserved g c =
       seating = seating_without x c.args.state.now before after place c.put_seat.ensures c.again.invariant.seating;
       runs = g.met.R.Rack.runs_then _ _ _ c.again.invariant.runs c.in-Err-Went.ensures.runs;
     }
+
+pub returns-in-Ok-clause-agreed : goal.returns-in-Ok-clause-agreed
+returns-in-Ok-clause-agreed g c place d seat =
+    agreement_then (g.R.Rack.seen c.args.rack.now) (g.R.Rack.seen c.again.rack) d (flag_by c.in-Ok.checked.agreed place) c.again.invariant.only
+    (c.again.invariant.seating.inside place d seat) (c.in-Ok.ensures.agreed place d seat)
 
 pub returns-in-Ok-clause-slots : goal.returns-in-Ok-clause-slots
 returns-in-Ok-clause-slots g c =

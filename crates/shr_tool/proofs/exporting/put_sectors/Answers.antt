@@ -1,8 +1,10 @@
 -- Each sector is read and put, up to the first that is refused.
-use Rattle.std.proofs.Common.{Err, ◌<◌, ◌∙◌, ap, subst, arith}
+use Rattle.std.proofs.Common.{Err, ◌<◌, ◌∙◌, ap, sym, subst, arith}
+use Rattle.std.proofs.lemmas.List.{append-nil}
 use Rattle.pool.specs.View.{bay_in}
+use Rattle.shr_tool.proofs.History.{ran_none}
 use Rattle.shr_tool.proofs.Exported.{prefix_more, put_more, ran_read, ran_spent, value_read}
-use Rattle.pool.proofs.Keeping.{passes_then}
+use Rattle.pool.proofs.Keeping.{passes_same, passes_then}
 use Rattle.shr_tool.proofs.exporting.put_sectors.Goals as goal
 
 pub returns-in-Err-Spent-clause-passes : goal.returns-in-Err-Spent-clause-passes
@@ -38,6 +40,17 @@ returns-in-Err-clause-puts g c =
           prefix_more a _ _ _ _ _ (value_read _ _ _ _ _ _ a c.in-Ok.is before.ran c.read.ensures.read holds) (before.put sink a holds)
           (c.in-Err.ensures.prefix (before.told sink)),
     )
+
+pub loop-sector-init : goal.loop-sector-init
+loop-sector-init g c = record {
+  until = omega arith;
+  runs = g.met.R.Rack.runs_same (bay_in c.args.pool.now);
+  passes = passes_same _ c.requires;
+  ran = ran_none _ c.requires (g.met.R.Bay.unspent (bay_in c.args.pool.now));
+  sink = omega arith;
+  told = λ sink. sink;
+  put = λ sink a holds. sym (append-nil (g.O.Sink.taken c.args.out.now));
+}
 
 pub loop-sector-preserved : goal.loop-sector-preserved
 loop-sector-preserved g c =

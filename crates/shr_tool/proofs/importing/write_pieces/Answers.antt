@@ -1,8 +1,9 @@
 -- Each piece is taken and written, up to the end of the input or of the volume.
 use Rattle.std.proofs.Common.{◌≡◌, ◌*◌, ◌<◌, Err, refl, sym, ◌∙◌, ap, subst, arith}
 use Rattle.pool.specs.View.{bay_in}
+use Rattle.shr_tool.proofs.History.{ran_none}
 use Rattle.shr_tool.proofs.Imported.{ended_before, ended_in, ended_with, failed_behind, failed_in, goes_on, has_taken, spent_at, written_more}
-use Rattle.pool.proofs.Keeping.{passes_then}
+use Rattle.pool.proofs.Keeping.{passes_same, passes_then}
 use Rattle.shr_tool.proofs.importing.write_pieces.Goals as goal
 
 pub returns-in-Err-clause-imports : goal.returns-in-Err-clause-imports
@@ -60,6 +61,17 @@ returns-then-count-lt-SECTOR-clause-imports g c =
     c.if-count-lt-SECTOR.true
     c.write.ensures.written
     refl
+
+pub loop-sector-init : goal.loop-sector-init
+loop-sector-init g c = record {
+  until = omega arith;
+  long = refl;
+  runs = g.met.R.Rack.runs_same (bay_in c.args.pool.now);
+  passes = passes_same _ c.requires;
+  source = omega arith;
+  told = λ source. source;
+  written = λ source. record { ran = ran_none _ c.requires (g.met.R.Bay.unspent (bay_in c.args.pool.now)); rest_is = refl; some = omega arith };
+}
 
 pub loop-sector-preserved : goal.loop-sector-preserved
 loop-sector-preserved g c =

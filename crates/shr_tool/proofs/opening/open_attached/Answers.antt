@@ -41,7 +41,9 @@ returns-in-Ok-clause-outcome g c =
       faults = λ d. refl;
       disks = refl;
       sectors = λ d. refl;
+      held = λ d s. refl;
       named = refl;
+      waiting = λ name. (g.met.B.Bay.runs_shelf _ _ opens.runs.1).ready name;
       unattached = refl;
       seated = book_seated (book (view (λ r. seen r.now) (λ r. shelf r.now) pool)) (slices_shown (view (λ r. seen r.now) (λ r. shelf r.now) pool)) opens.fit.0.running.set opens.fit.0.heeded;
       caused = marks_through seen _ runs (λ r. r.now) (λ r s ran. ran.1) _ (bay_in pool) _ opens.caused;
@@ -49,9 +51,9 @@ returns-in-Ok-clause-outcome g c =
       tables = opens.mended;
       agreed = opens.agreed;
       moments = λ a meant calm traced. stops_mean pool (λ r. seen r.now) (λ r. shelf r.now) _ a opens.meant meant calm traced;
-      run_on = λ f sound quiet joined alone only.
-          runs_on _ _ _ _ _ f sound (opened_as pool (λ r. seen r.now) (λ r. shelf r.now) _ opens.meant opens.marks f sound quiet)
-          (stays_then opens.drives.early.only.stays opens.drives.late.stays) only joined alone;
+      run_on = λ f sound quiet joined alone.
+          runs_on _ _ _ _ f sound (opened_as pool (λ r. seen r.now) (λ r. shelf r.now) _ opens.meant opens.marks f sound quiet)
+          (stays_then opens.drives.early.only.stays opens.drives.late.stays) joined alone;
       outcome = λ a.
           task_for c.args.task c.do_on-status.result _ _ _ _ _ _ _ _ a _ _ _ _
           (λ meant. held_by_meant pool (λ r. seen r.now) (λ r. shelf r.now) _ a opens.meant

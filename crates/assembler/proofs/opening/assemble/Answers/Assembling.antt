@@ -23,9 +23,10 @@ use Rattle.pool_image.proofs.Founds.{joined_same, refused_same}
 use Rattle.pool_scan.specs.declared.Known.{Known}
 use Rattle.pool_scan.specs.Choosing.{seat_by}
 use Rattle.pool_check.specs.Checking.{IsChecked}
-use Rattle.pool_check.specs.Drives.{Loses}
+use Rattle.pool_check.specs.Drives.{Loses, flag_by}
 use Rattle.pool_check.specs.Refusing.{is_well}
-use Rattle.pool_check.specs.Settling.{KeepsTable}
+use Rattle.pool_check.specs.Settling.{IsTrueOf, KeepsTable}
+use Rattle.pool_check.proofs.Settled.{true_since, true_told}
 use Rattle.array_model.specs.View.{HasFault}
 use Rattle.pool_scan.specs.Scanning.{IsUnfaulted, now_in}
 use Rattle.pool_scan.proofs.Valid.{valid_arrays}
@@ -134,6 +135,13 @@ module _ (g : Over) (c : After-make_rack g) where
   marked w s stays marks =
       marked_since a x y w ax xy stays (seat_by c.in-Ok.rest.state known) (seat_of t) c.in-Ok.rest.state s lost
       (subst (λ (r : State). AreMarkedFor y w (seat_of t) r s) c.in-Ok-check.ensures.state marks)
+
+  -- what the check has said of both copies of a told disk's table is so still
+  pub says_so : (p d : ℕ) → seat_of t p ≡ Some d → x.told d → IsTrueOf y d (flag_by c.in-Ok-check.members.checked.agreed p)
+  says_so p d seat told =
+      let flag = flag_by c.in-Ok-check.members.checked.agreed p in
+      true_since x y d flag xy told (λ s of live. c.in-Ok-check.ensures.only.keeps.held d s live)
+      (true_told x d flag told (c.in-Ok-check.ensures.compared p d seat))
 
   -- where slices alone are written from then on
   module _ (w : Seen) (texts : WritesOnly z w (IsSliced t)) where

@@ -1,0 +1,154 @@
+-- A pool by which a run goes is one after a line, too.
+use Rattle.std.proofs.Common.{◌≡◌, ◌⊎◌, ℕ, ◌<◌, true, false, List, [], ◌∷◌, ◌++◌, length, refl, sym, ◌∙◌, ap, subst, inl, inr, arith}
+use Rattle.std.proofs.lemmas.Bool.{both_ways, cases_Bool}
+use Rattle.rack.specs.Seen.{Image, IsPick}
+use Rattle.rack.proofs.Writing.{only_weaker}
+use Rattle.slice_rack.specs.Runs.{IsSliced}
+use Rattle.slice_rack.specs.Slices.{Slices}
+use Rattle.slice_rack.specs.Sliced.{IsInside, slices_of}
+use Rattle.flat_array.specs.Array.{FlatArray}
+use Rattle.lvm_group.specs.Runs.{Linear}
+use Rattle.raid_rack.specs.Raid.{IsTold, is_over}
+use Rattle.pool_image.specs.Drives.{Found}
+use Rattle.pool_model.specs.Left.{HoldAgain}
+use Rattle.pool_model.specs.Taken.{AreSerial, LacksDrive}
+use Rattle.pool_model.proofs.InService.{in_service, service_again, service_calls, vacant_again}
+use Rattle.pool_model.proofs.Named.{same_length}
+use Rattle.pool_model.proofs.Vacant.{lacks_calls, sliced_before}
+use Rattle.pool.specs.Calls.{Passes}
+use Rattle.pool.specs.Moment.{moment_of}
+use Rattle.pool.specs.View.{View, book, spent_by, volume}
+use Rattle.pool.specs.Volume.{Holds, is_spent, size_of}
+use Rattle.shr_tool.specs.Events.{Event, takes_disk}
+use Rattle.shr_tool.specs.Events.Event.{answered, spent, lost, last, replaced, declined, stepped, stuck, shown}
+use Rattle.shr_tool.specs.Outcome.{IsRunOn}
+use Rattle.shr_tool.specs.Service.{GoesBy, GoesOn, IsFitFor, IsServed, pool_after}
+use Rattle.shr_tool.specs.Timeline.{Changes, Performs, ground_of}
+use Rattle.shr_tool.proofs.Chains.{pool_still}
+use Rattle.shr_tool.proofs.Taking.{none_takes}
+use Rattle.shr_tool.proofs.TakenIn.{on_replaced}
+use Rattle.shr_tool.proofs.TurnedDown.{on_declined}
+
+-- at the beginning
+pub goes_run : (x : View) (f : Found) → IsRunOn f (ground_of x) (moment_of x) x.bay → GoesBy f x
+goes_run x f on = record {
+  tables = x.slices;
+  service = in_service on.before f x.slices (book x) x.bay on.found_is on.sound on.slices on.after on.joined on.geometry on.rest;
+  vacant = inl refl;
+  lasting = on.lasting;
+  arrays = on.arrays ∙ on.joined;
+}
+
+-- a sector of a slice is one by the pool's tables
+pub sliced_was : (x : View) (f : Found) (goes : GoesBy f x) (d s : ℕ) (w : List ℕ) → IsSliced x.slices d s w → IsSliced goes.tables d s w
+sliced_was x f goes d s w is = elim goes.vacant [
+  | inl same ↦ subst (λ t. IsSliced t d s w) same is
+  | inr one ↦ sliced_before goes.tables x.slices one.0 one.2.vacated d s w is
+]
+
+-- after calls that take no disk
+pub goes_calls : (x y : View) (f : Found) → Passes x y → GoesBy f x → GoesBy f y
+goes_calls x y f passes goes = record {
+  tables = goes.tables;
+  service =
+      service_calls f goes.tables (book x) (book y) x.bay y.bay goes.service goes.lasting
+      (only_weaker (IsSliced x.slices) (IsSliced goes.tables) (sliced_was x f goes) passes.apart) passes.marks (λ n low. (passes.book n low).geometry);
+  vacant = elim goes.vacant [
+    | inl same ↦ inl (passes.slices ∙ same)
+    | inr one ↦
+        inr (
+          one.0,
+          (let many = same_length (book y).state.drives.items (book x).state.drives.items passes.marks.same.drives in let low = one.1 in
+              let listed : one.0 < length (book y).state.drives.items = omega (arith, many, low) in listed),
+          subst (λ (u : Slices). LacksDrive f goes.tables u (book y) one.0 y.bay) (sym passes.slices)
+              (lacks_calls f goes.tables x.slices (book x) (book y) one.0 x.bay y.bay goes.lasting passes.apart passes.marks one.2),
+        )
+  ];
+  lasting = passes.apart.stays.lasting goes.lasting;
+  arrays = ap (λ (l : Linear). l.arrays) passes.linear ∙ goes.arrays;
+}
+
+-- whatever the disks may be left with holds it again
+pub goes_again :
+    (x : View) (f : Found) → IsInside x.slices x.bay → GoesBy f x
+    → ((n : ℕ) → n < f.state.made → IsTold (book x) (slices_of x.slices x.bay) n) → ((n : ℕ) → n < f.state.made → is_over (book x) n ≡ false)
+    → (i : Image) → IsPick x.bay x.bay x.bay.held i → HoldAgain f x.slices (book x).state i
+goes_again x f inside goes told lasts i pick = elim goes.vacant [
+  | inl same ↦
+      subst (λ (t : Slices). HoldAgain f t (book x).state i) (sym same)
+      (service_again f goes.tables (book x) x.bay goes.service (subst (λ (t : Slices). IsInside t x.bay) same inside)
+      (λ n low. subst (λ (t : Slices). IsTold (book x) (slices_of t x.bay) n) same (told n low)) lasts i pick)
+  | inr one ↦ vacant_again f goes.tables x.slices (book x) x.bay one.0 goes.service one.2 inside told lasts i pick
+]
+
+-- ---- a line
+
+-- a sector that can be had after an event that takes a disk could be had before
+spent_changes : (x y : View) (event : Event) → takes_disk event ≡ true → Changes x y event → (s : ℕ) → is_spent y s ≡ false → is_spent x s ≡ false
+spent_changes x y (answered line) takes changes s = absurd (both_ways false refl takes)
+spent_changes x y (spent line sector) takes changes s = absurd (both_ways false refl takes)
+spent_changes x y (lost place) takes changes s = absurd (both_ways false refl takes)
+spent_changes x y (last place) takes changes s = absurd (both_ways false refl takes)
+spent_changes x y (replaced place name) takes changes s = changes.spent s
+spent_changes x y (declined place name fault) takes changes s = changes.spent s
+spent_changes x y (stepped count left) takes changes s = absurd (both_ways false refl takes)
+spent_changes x y (stuck count array) takes changes s = absurd (both_ways false refl takes)
+spent_changes x y (shown text) takes changes s = absurd (both_ways false refl takes)
+
+spent_performed : (x y : View) (event : Event) (text : List ℕ) → Performs x y event text → (s : ℕ) → is_spent y s ≡ false → is_spent x s ≡ false
+spent_performed x y event text performs s alive = elim (cases_Bool (takes_disk event)) [
+  | inl takes ↦ spent_changes x y event takes (performs.changes takes) s alive
+  | inr none ↦ (performs.passes none).stays.spent 0 s alive
+]
+
+pub served_first :
+    (x y z : View) (events : List Event) (event : Event) (text : List ℕ) → y.linear ≡ x.linear → Performs y z event text
+    → IsServed (ground_of x) (moment_of z) (events ++ event ∷ []) → IsServed (ground_of x) (moment_of y) events
+served_first x y z events event text same performs (inl none) = inl (none_takes events event none).0
+served_first x y z events event text same performs (inr some) =
+    inr (
+      some.0,
+      some.1,
+      subst (λ (l : Linear). spent_by l (book y) some.0 ≡ false) same
+          (spent_performed y z event text performs some.0
+          (subst (λ (l : Linear). spent_by l (book z) some.0 ≡ false) (sym (performs.continues.linear ∙ same)) some.2)),
+    )
+
+-- an event takes no disk, or a sector of the volume can be had after it
+abbrev pub IsServedBy : View → View → Event → Type 0
+IsServedBy y z event = (takes_disk event ≡ false) ⊎ ((s : ℕ) × (s < size_of y) × (spent_by y.linear (book z) s ≡ false))
+
+pub served_last :
+    (x y z : View) (events : List Event) (event : Event) → y.linear ≡ x.linear
+    → IsServed (ground_of x) (moment_of z) (events ++ event ∷ []) → IsServedBy y z event
+served_last x y z events event same (inl none) = inl (none_takes events event none).1
+served_last x y z events event same (inr some) =
+    inr (subst (λ (l : Linear). (s : ℕ) × (s < size_of (record y { linear = l })) × (spent_by l (book z) s ≡ false)) (sym same) (some.0, some.1, some.2))
+
+pub goes_performed :
+    (x y : View) (event : Event) (text : List ℕ) (b : FlatArray)
+    → ((d s : ℕ) → y.bay.spent d s ≡ false) → (volume x).fit → Performs x y event text → Holds x b → IsServedBy x y event
+    → (f : Found) → GoesBy f x → (takes_disk event ≡ true → AreSerial f.state) → IsFitFor f (moment_of x) event
+    → GoesOn f (pool_after f (moment_of x) (moment_of y) event) y
+goes_performed x y event text b unspent fit performs holds served f goes serials fitting = elim (cases_Bool (takes_disk event)) [
+  | inr none ↦
+      subst (λ h. GoesOn f h y) (sym (pool_still f (moment_of x) (moment_of y) event none))
+      (record { goes = goes_calls x y f (performs.passes none) goes; serials = λ serial. serial })
+  | inl takes ↦ taking event takes performs (serials takes) fitting (served_taking event takes served)
+]
+  where
+    served_taking : (e : Event) → takes_disk e ≡ true → IsServedBy x y e → (s : ℕ) × (s < size_of x) × (spent_by x.linear (book y) s ≡ false)
+    served_taking e takes (inl none) = absurd (both_ways (takes_disk e) none takes)
+    served_taking e takes (inr some) = some
+
+    taking : (e : Event) → takes_disk e ≡ true → Performs x y e text → AreSerial f.state → IsFitFor f (moment_of x) e
+        → (s : ℕ) × (s < size_of x) × (spent_by x.linear (book y) s ≡ false) → GoesOn f (pool_after f (moment_of x) (moment_of y) e) y
+    taking (answered line) takes does serial fits some = absurd (both_ways false refl takes)
+    taking (spent line sector) takes does serial fits some = absurd (both_ways false refl takes)
+    taking (lost place) takes does serial fits some = absurd (both_ways false refl takes)
+    taking (last place) takes does serial fits some = absurd (both_ways false refl takes)
+    taking (replaced place name) takes does serial fits some = on_replaced x y place name text b unspent fit does holds some f goes fits serial
+    taking (declined place name fault) takes does serial fits some = on_declined x y place name fault text b takes unspent fit does holds some f goes (fits takes)
+    taking (stepped count left) takes does serial fits some = absurd (both_ways false refl takes)
+    taking (stuck count array) takes does serial fits some = absurd (both_ways false refl takes)
+    taking (shown text') takes does serial fits some = absurd (both_ways false refl takes)

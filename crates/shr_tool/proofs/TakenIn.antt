@@ -1,0 +1,418 @@
+-- A pool by which a run goes is one after a line that took a drive in.
+use Rattle.std.proofs.Common.{◌≡◌, ◌≢◌, ℕ, zero, suc, ◌+◌, ◌-◌, ◌*◌, ◌/◌, ◌<◌, ◌≤◌, ◌^◌, ◌||◌, not, nat_lt, if◌then◌else◌, Bool, true, false, is_some, List, length, slice_get, Option, Some, None, unwrap_or, option_map, Result, Ok, Err, refl, sym, ◌∙◌, ap, ap₂, subst, inl, inr, eq-eqb, arith}
+use Rattle.std.specs.Option.{option_map_or}
+use Rattle.std.proofs.lemmas.Bool.{both_ways, cases_eq, cases_lt}
+use Rattle.std.proofs.lemmas.Nat.{div_below}
+use Rattle.std.proofs.lemmas.Option.{none-some}
+use Rattle.rack.specs.Seen.{Image, IsLive}
+use Rattle.slice_rack.specs.Changes.{Seats}
+use Rattle.slice_rack.specs.Runs.{IsSliced}
+use Rattle.slice_rack.specs.Slices.{Slices, disk_of, first_of, place_of, seat_of, sectors_of}
+use Rattle.slice_rack.specs.Sliced.{slices_of}
+use Rattle.flat_array.specs.Array.{FlatArray}
+use Rattle.lvm_group.specs.Runs.{Linear, array_of, extents_of, sector_of}
+use Rattle.pool_state.specs.declared.contents.Copied.{Copied}
+use Rattle.pool_state.specs.declared.contents.Drive.{Drive}
+use Rattle.pool_state.specs.declared.contents.Plan.TheVariants.{Replace as Replacing}
+use Rattle.pool_state.specs.declared.contents.State.{State}
+use Rattle.array_image.specs.Places.{log_sectors, log_slice, state_sector, super_sector}
+use Rattle.array_image.specs.Supers.{super_of}
+use Rattle.array_image.specs.States.{is_current}
+use Rattle.array_core.proofs.Opened.{current_below}
+use Rattle.array_core.specs.Seats.{seat_of as slot_of}
+use Rattle.array_model.specs.View.{View as ArrayView, spent_in}
+use Rattle.raid_rack.specs.Enlisting.{enlisted}
+use Rattle.raid_rack.specs.NewDrive.{SeatsDrive, is_reached, joins}
+use Rattle.raid_rack.specs.Raid.{IsTold, Raid, is_over}
+use Rattle.raid_rack.proofs.Over.{number_room, or_parts}
+use Rattle.pool_image.specs.Disks.{Disks, disks_of, identities_of}
+use Rattle.pool_image.specs.Drives.{Found, extent_of, first_of as first_in}
+use Rattle.pool_image.specs.Replay.{Extent}
+use Rattle.pool_image.specs.Meaning.{is_member}
+use Rattle.pool_model.specs.Left.{IsPickOff}
+use Rattle.pool_model.specs.Pools.{AreSlicesOf}
+use Rattle.raid_rack.specs.Missing.{raised}
+use Rattle.pool_model.specs.Taken.{AreSerial, KeepsOff, KeepsRest, SeatsNew, taken}
+use Rattle.pool_model.proofs.InService.{service_taken}
+use Rattle.pool_model.proofs.Lost.{epoch_room, lost_before}
+use Rattle.pool_model.proofs.Named.{same_length}
+use Rattle.pool_model.proofs.NewMembers.{joins_member, positions_of}
+use Rattle.pool_model.proofs.Serials.{serial_after, serial_enlisted, serial_fresh}
+use Rattle.pool_model.proofs.Taken.{IsKnownBefore}
+use Rattle.pool_model.proofs.Unsliced.{free_super, laid_super, past_log}
+use Rattle.pool_model.proofs.Vacant.{lacks_still, seat_other, seats_through, sliced_before}
+use Rattle.pool.specs.declared.replacing.GrowFault.{GrowFault}
+use Rattle.pool.specs.declared.replacing.GrowFault.TheVariants.{Attach, Memory, NoSuchDrive, Twice}
+use Rattle.pool.specs.Continuing.{Continues, KeepsOutside}
+use Rattle.pool.specs.Moment.{IsNamed, moment_of, views_of}
+use Rattle.pool.specs.Replaced.{ChangesDrive, HasGrowCause, IsAnswer, IsLookedAt, IsReplaced, is_vacant}
+use Rattle.pool.specs.Replacing.{refusal_of}
+use Rattle.pool.specs.View.{View, book, spent_by, volume}
+use Rattle.pool.specs.Volume.{Holds, is_spent, size_of}
+use Rattle.pool.proofs.Admitted.{IsAdmitted, admitted, others_current, reaches_each}
+use Rattle.shr_tool.specs.Events.Event.{replaced}
+use Rattle.shr_tool.specs.Service.{GoesBy, GoesOn, IsFitDrive, disk_in, pool_after, units_in}
+use Rattle.shr_tool.specs.Timeline.{Performs}
+
+some_same : {X : Type 0} (a b : X) → Some a ≡ Some b → a ≡ b
+some_same a b same = cc
+
+-- ---- what holds of each line that names a disk
+
+module _ (x y : View) (place : ℕ) (name : List ℕ) (unspent : (d s : ℕ) → y.bay.spent d s ≡ false) (continues : Continues x y)
+    (outside : KeepsOutside x.slices y.slices (λ d. slice_get y.shelf.names d ≡ Some name) x.shelf.told x.bay y.bay) (changes : ChangesDrive x y place name)
+    (told : (d : ℕ) → d < y.bay.disks → y.bay.told d) (f : Found) (goes : GoesBy f x) where
+  pub count_is : f.disks.count ≡ x.bay.disks
+  count_is = ap (λ (z : Disks). z.count) goes.service.disks
+
+  pub disks_more : f.disks.count ≤ y.bay.disks
+  disks_more = let same = count_is in let more = continues.disks in omega (arith, same, more)
+
+  pub sectors_kept : (d : ℕ) → d < f.disks.count → y.bay.sectors d ≡ f.disks.sectors d
+  sectors_kept d low = continues.sectors d (let same = count_is in omega (arith, low, same)) ∙ sym (ap (λ (z : Disks). z.sectors d) goes.service.disks)
+
+  pub sliced_old : (d s : ℕ) (w : List ℕ) → IsSliced x.slices d s w → IsSliced goes.tables d s w
+  sliced_old d s w is = elim goes.vacant [
+    | inl same ↦ subst (λ (t : Slices). IsSliced t d s w) same is
+    | inr one ↦ sliced_before goes.tables x.slices one.0 one.2.vacated d s w is
+  ]
+
+  -- outside the slices the disks show what they did, but for these
+  pub keeps_but : (named : ℕ → Type 0) → KeepsOutside x.slices y.slices named x.shelf.told x.bay y.bay → (t : Slices)
+      → ((d s : ℕ) (w : List ℕ) → IsSliced x.slices d s w → IsSliced t d s w) → (disk : ℕ) → ((d : ℕ) → d ≢ disk → named d → ⊥) → KeepsOff t disk x.bay y.bay
+  keeps_but named kept t old disk unnamed d s other live never = (
+    record {
+      disk = (let low = live.disk in let more = continues.disks in omega (arith, low, more));
+      sector = subst (λ n. s < n) (sym (continues.sectors d live.disk)) live.sector;
+      is_told = continues.tells d live.disk live.is_told;
+      unspent = unspent d s;
+    },
+    kept.held d s
+        (record { disk = live.disk; sector = live.sector; is_told = live.is_told; unnamed = unnamed d other; unsliced = λ w is. never w (old d s w is) }),
+  )
+
+  pub keeps_off : (t : Slices) → ((d s : ℕ) (w : List ℕ) → IsSliced x.slices d s w → IsSliced t d s w) → (disk : ℕ)
+      → ((d : ℕ) → d ≢ disk → IsNamed (moment_of y) name d → ⊥) → KeepsOff t disk x.bay y.bay
+  keeps_off t old disk unnamed = keeps_but (λ d. slice_get y.shelf.names d ≡ Some name) outside t old disk unnamed
+
+  pub live_at : (d s : ℕ) → d < y.bay.disks → s < y.bay.sectors d → IsLive y.bay y.bay d s
+  live_at d s low within = record { disk = low; sector = within; is_told = told d low; unspent = unspent d s }
+
+  -- a seat of the pool is a seat of the run's, unless the place gave its disk up
+  pub seat_now : (k d : ℕ) → f.seats k ≡ Some d → is_current (book x).state k ≡ true → seat_of x.slices k ≡ Some d
+  seat_now k d seat current = elim goes.vacant [
+    | inl same ↦ ap (λ (t : Slices). seat_of t k) same ∙ goes.service.slices.seats k ∙ seat
+    | inr one ↦
+        seat_other goes.tables x.slices one.0 one.2.vacated k
+        (λ same. both_ways (is_current (book x).state k) (subst (λ q. is_current (book x).state q ≡ false) (sym same) one.2.missing) current)
+        ∙ goes.service.slices.seats k ∙ seat
+  ]
+
+  pub seat_low : (k d : ℕ) → f.seats k ≡ Some d → k < length (book x).state.drives.items
+  seat_low k d seat =
+      let low = current_below f.state k (goes.service.arranged.seated k d seat).0 in
+      let many = same_length (book x).state.drives.items f.state.drives.items goes.service.after.same.drives in
+      omega (arith, low, many)
+
+-- ---- an array that is told, of a sector that can be had
+
+sized : (s n e : ℕ) → s < n * e → 0 < e
+sized s n zero within = (let none : n * zero ≡ 0 = omega arith in absurd (omega (arith, within, none)))
+sized s n (suc e) within = omega arith
+
+pub array_low : (x : View) (s : ℕ) → (volume x).fit → s < size_of x → array_of x.linear s < x.linear.arrays
+array_low x s fit within =
+    fit.1.placed (s / x.linear.extent)
+    (div_below s x.linear.extent (extents_of x.linear.runs) (sized s (extents_of x.linear.runs) x.linear.extent within) within)
+
+pub not_over : (l : Linear) (v : Raid) (s : ℕ) → spent_by l v s ≡ false → is_over v (array_of l s) ≡ false
+not_over l v s alive = (or_parts (is_over v (array_of l s)) (spent_in (v.arrays (array_of l s)) (sector_of l s)) alive).0
+
+pub told_by : (x : View) (b : FlatArray) (s : ℕ) → (volume x).fit → Holds x b → s < size_of x → is_spent x s ≡ false
+    → IsTold (book x) (slices_of x.slices x.bay) (array_of x.linear s)
+told_by x b s fit holds within alive = holds.told s (let same = holds.size in omega (arith, within, same)) alive (array_of x.linear s) (array_low x s fit within)
+
+-- the log slice of a place
+log_lies : (f : Found) (t : Slices) (place d : ℕ) → AreSlicesOf f t → f.seats place ≡ Some d
+    → (first_of t (log_slice place) ≡ state_sector) × (sectors_of t (log_slice place) ≡ log_sectors)
+unfolding extent_of
+log_lies f t place d slices seat =
+    let lies = slices.logs place d seat in (
+      sym (ap (λ (o : Option Extent). option_map_or (λ e. e.first) o 0) lies),
+      sym (ap (λ (o : Option Extent). option_map_or (λ e. e.sectors) o 0) lies),
+    )
+
+-- the drive that a place had, which has no slices any more and wasn't written, says a state that is earlier than the book's
+module _ (x y : View) (place : ℕ) (name : List ℕ) (unspent : (d s : ℕ) → y.bay.spent d s ≡ false) (fit : (volume x).fit) (continues : Continues x y)
+    (outside : KeepsOutside x.slices y.slices (λ d. slice_get y.shelf.names d ≡ Some name) x.shelf.told x.bay y.bay) (changes : ChangesDrive x y place name)
+    (told : (d : ℕ) → d < y.bay.disks → y.bay.told d) (f : Found) (goes : GoesBy f x) (d : ℕ) (seat : f.seats place ≡ Some d) (same : x.slices ≡ goes.tables)
+    (on : seat_of x.slices place ≡ Some d) (unnamed : IsNamed (moment_of y) name d → ⊥) (bare : (s : ℕ) (w : List ℕ) → IsSliced y.slices d s w → ⊥) {b : FlatArray}
+    (holds : Holds x b) (s : ℕ) (within : s < size_of x) (alive : is_spent x s ≡ false) (listed : place < length (book x).state.drives.items)
+    (missing : is_current (book x).state place ≡ false) where
+  there : d < x.bay.disks
+  there = fit.0.running.set.fit.1.seats place d on
+
+  sector : state_sector < x.bay.sectors d
+  sector =
+      let lies = log_lies f goes.tables place d goes.service.slices seat in
+      let first = ap (λ (u : Slices). first_of u (log_slice place)) same ∙ lies.0 in
+      let many = ap (λ (u : Slices). sectors_of u (log_slice place)) same ∙ lies.1 in
+      let on_place : place_of (log_slice place) ≡ place = omega arith in
+      let disk : disk_of x.slices (log_slice place) ≡ d = ap (λ o. unwrap_or o 0) (ap (seat_of x.slices) on_place ∙ on) in
+      let room = fit.0.running.set.fit.1.slices (log_slice place) (omega (arith, many)) in
+      let here : x.bay.sectors (disk_of x.slices (log_slice place)) ≡ x.bay.sectors d = ap x.bay.sectors disk in
+      omega (arith, room, first, many, here)
+
+  live : IsLive y.bay y.bay d state_sector
+  live =
+      let low : d < y.bay.disks = (let at = there in let more = continues.disks in omega (arith, at, more)) in
+      record { disk = low; sector = subst (λ n. state_sector < n) (sym (continues.sectors d there)) sector; is_told = told d low; unspent = unspent d state_sector }
+
+  small : place < 16
+  small = let few = fit.0.running.set.few in omega (arith, listed, few)
+
+  pub lost_below : (i : Image) → IsPickOff y.slices y.bay i → (copy : Copied) → (identities_of (disks_of y.bay) i d).copied ≡ Some copy
+      → copy.state.epoch < (book x).state.epoch
+  lost_below =
+      lost_before f goes.tables y.slices (book x) x.bay y.bay place d d goes.service.slices seat small missing (array_of x.linear s)
+      (subst (λ (u : Slices). IsTold (book x) (slices_of u x.bay) (array_of x.linear s)) same (told_by x b s fit holds within alive)) (not_over x.linear (book x) s alive) live
+      ((changes.retired d on unnamed).held state_sector sector (holds.disks d there)) (λ w is. bare state_sector w is)
+
+-- an epoch that is below one is below the next
+up_of : (n k : ℕ) → k < n → k < raised n
+up_of n k less = by (nat_lt n (2 ^ 63 - 1))
+  where
+    by : (c : Bool) → k < (if c then n + 1 else n)
+    by true = omega (arith, less)
+    by false = less
+
+-- ---- a drive is replaced
+
+pub ok_err : (e : GrowFault) → ◌≡◌ {A = Result (Unit {0}) GrowFault} (Ok tt) (Err e) → ⊥
+ok_err e same = cc
+
+answer_none : (o : Option GrowFault) → IsAnswer o (Ok tt) → o ≡ None
+answer_none None answer = refl
+answer_none (Some e) answer = absurd (ok_err e answer)
+
+or_map : (o : Option Drive) (units : ℕ) → option_map (λ (d : Drive). d.units) o ≡ Some units → option_map_or (λ (d : Drive). d.units) o 0 ≡ units
+or_map None units is = absurd (none-some units is)
+or_map (Some d) units is = some_same d.units units is
+
+pub vacant_not : (s : State) (k : ℕ) → is_current s k ≡ true → is_vacant s k ≡ false
+vacant_not s k current = by (slice_get s.drives.items k) current
+  where
+    by : (o : Option Drive) → option_map_or (λ (d : Drive). not d.missing) o false ≡ true → option_map_or (λ (d : Drive). d.missing) o false ≡ false
+    by None is = refl
+    by (Some d) is = of d.missing is
+      where
+        of : (b : Bool) → not b ≡ true → b ≡ false
+        of true is = absurd (both_ways false refl is)
+        of false is = refl
+
+reached_of : (arrays : List ArrayView) (place sectors n : ℕ)
+    → ((u : ArrayView) → slice_get arrays n ≡ Some u → is_some (slot_of u place) ≡ true → joins arrays place sectors n ≡ true) → is_reached arrays place sectors n ≡ true
+reached_of arrays place sectors n each = by (slice_get arrays n) refl
+  where
+    by : (o : Option ArrayView) → slice_get arrays n ≡ o → (option_map_or (λ u. not (is_some (slot_of u place))) o true || joins arrays place sectors n) ≡ true
+    by None none = refl
+    by (Some u) at = of (is_some (slot_of u place)) refl
+      where
+        of : (b : Bool) → is_some (slot_of u place) ≡ b → (not b || joins arrays place sectors n) ≡ true
+        of false none = refl
+        of true has = each u at has
+
+module _ (x y : View) (place : ℕ) (name text : List ℕ) (b : FlatArray) (unspent : (d s : ℕ) → y.bay.spent d s ≡ false) (fit : (volume x).fit)
+    (performs : Performs x y (replaced place name) text) (holds : Holds x b) (some : (s : ℕ) × (s < size_of x) × (spent_by x.linear (book y) s ≡ false))
+    (f : Found) (goes : GoesBy f x) (fitting : IsFitDrive f (moment_of x) place name) (serials : AreSerial f.state) where
+  abbrev pub changes : ChangesDrive x y place name
+  changes = performs.changes refl
+
+  abbrev pub cause : HasGrowCause x.linear (moment_of x) (moment_of y) place name (Ok tt)
+  cause = performs.cause.0
+
+  pub listed : place < length (book x).state.drives.items
+  listed = elim (cases_lt place (length (book x).state.drives.items)) [
+    | inl low ↦ low
+    | inr past ↦ absurd (ok_err NoSuchDrive (cause.missing.1 past))
+  ]
+
+  abbrev pub look : IsLookedAt (moment_of x) place (Ok tt)
+  look = record { listed = listed; attached = λ same. ok_err Attach same; had = λ same. ok_err Memory same; other = λ same. ok_err Twice same }
+
+  abbrev pub disk : ℕ
+  disk = (cause.named look).0
+
+  abbrev pub named : IsNamed (moment_of y) name disk
+  named = (cause.named look).1
+
+  abbrev pub is : IsReplaced (moment_of x) (moment_of y) place disk
+  is = performs.cause.1 disk named
+
+  free : IsAdmitted (book x) place (y.bay.sectors disk)
+  free = admitted x.linear (book x) place (y.bay.sectors disk) (answer_none (refusal_of x.linear (book x) place (y.bay.sectors disk)) (cause.answer look disk named))
+
+  disk_is : disk_in (moment_of y) place ≡ disk
+  disk_is = ap (λ o. unwrap_or o 0) (is.seats.seats place ∙ ap (λ (c : Bool). if c then Some disk else seat_of x.slices place) (eq-eqb place place refl))
+
+  units_is : units_in (moment_of x) place ≡ is.units
+  units_is = or_map (slice_get (book x).state.drives.items place) is.units is.units_is
+
+  told : (d : ℕ) → d < y.bay.disks → y.bay.told d
+  told = (performs.holds b holds).disks
+
+  only : (d : ℕ) → d ≢ disk → IsNamed (moment_of y) name d → ⊥
+  only d other also = other (changes.names.one d disk also named)
+
+  abbrev pub t : Slices
+  t = goes.tables
+
+  alive : is_spent x some.0 ≡ false
+  alive = changes.spent some.0 (subst (λ (l : Linear). spent_by l (book y) some.0 ≡ false) (sym performs.continues.linear) some.2)
+
+  room : (book x).state.epoch < 2 ^ 63 - 1
+  room =
+      let most = (number_room (book y) (array_of x.linear some.0) (not_over x.linear (book y) some.0 some.2)).1 in
+      epoch_room place is.units (Replacing place) (book x).state (book y).state is.marks (omega (arith, most))
+
+  -- where a place gave its disk up it is this one
+  vacant_is : (k : ℕ) → k < length (book x).state.drives.items → is_current (book x).state k ≡ false → k ≡ place
+  vacant_is k low missing = elim (cases_eq k place) [
+    | inl same ↦ same
+    | inr other ↦ absurd (both_ways (is_current (book x).state k) missing (others_current (book x).state place free.whole k low other))
+  ]
+
+  seats : SeatsDrive (views_of (book x)) place disk (y.bay.sectors disk) t y.slices
+  seats = elim goes.vacant [
+    | inl same ↦ subst (λ (u : Slices). SeatsDrive (views_of (book x)) place disk (y.bay.sectors disk) u y.slices) same is.seats
+    | inr one ↦
+        seats_through t x.slices place (subst (λ p. Seats t x.slices p None) (vacant_is one.0 one.1 one.2.missing) one.2.vacated) (views_of (book x)) disk
+        (y.bay.sectors disk) y.slices is.seats
+  ]
+
+  others : (k d : ℕ) → k ≢ place → f.seats k ≡ Some d → (is_current (book x).state k ≡ true) × (d ≢ disk)
+  others k d other seat =
+      let low = seat_low x y place name unspent performs.continues (performs.outside refl) changes told f goes k d seat in
+      let current = others_current (book x).state place free.whole k low other in
+      let on = seat_now x y place name unspent performs.continues (performs.outside refl) changes told f goes k d seat current in
+      let there : d < x.bay.disks = fit.0.running.set.fit.1.seats k d on in (
+        current,
+        λ same.
+            ok_err Twice (cause.twice.1 (
+              listed,
+              (d, k, changes.names.old d there (subst (IsNamed (moment_of y) name) (sym same) named), on, vacant_not (book x).state k current),
+            )),
+      )
+
+  members : (n : ℕ) → n < f.state.made → joins (views_of (book x)) place (y.bay.sectors disk) n ≡ is_member f n place
+  members n low =
+      let truth = goes.service.arranged.truths n low in
+      let made = goes.service.after.same.made in
+      let less : n < (book x).state.made = omega (arith, low, made) in
+      joins_member f (book x) place (y.bay.sectors disk) n truth.0 less truth.1 (goes.service.geometry n truth.0 low truth.1)
+      (positions_of (book x).state n ((book x).arrays n) (slices_of x.slices x.bay) (fit.0.running.set.arrays n less))
+      (reached_of (views_of (book x)) place (y.bay.sectors disk) n ((reaches_each (views_of (book x)) place (y.bay.sectors disk) free.reaches).1 n))
+
+  serials_now : AreSerial (book x).state
+  serials_now = serial_after f.state (book x).state goes.service.after serials
+
+  pub seats_new : SeatsNew f t y.slices (book x) place disk (y.bay.sectors disk)
+  seats_new = record {
+    listed = listed;
+    missing = free.missing;
+    others = others;
+    fresh = λ k other. serial_fresh (book x).state serials_now fitting.distinct k;
+    room = room;
+    seats = seats;
+    members = members;
+  }
+
+  off : KeepsOff t disk x.bay y.bay
+  off = keeps_off x y place name unspent performs.continues (performs.outside refl) changes told f goes t
+      (sliced_old x y place name unspent performs.continues (performs.outside refl) changes told f goes) disk only
+
+  fewer : (d s : ℕ) (w : List ℕ) → d ≢ disk → IsSliced y.slices d s w → IsSliced x.slices d s w
+  fewer d s w other at = elim ((performs.outside refl).slices d s w at) [ inl was ↦ was | inr also ↦ absurd (only d other also) ]
+
+  known : IsKnownBefore f (book x)
+  known = record { outset = goes.service.arranged; after = goes.service.after; geometry = goes.service.geometry }
+
+  -- no superblock stands on the new disk where the place is no member, by what its image held
+  fit_alone : (i : Image) → IsPickOff y.slices y.bay i → (n first : ℕ) → n < f.state.made → is_member f n place ≡ false → first_in f n ≡ Some first
+      → first + super_sector < y.bay.sectors disk → super_of (i disk (first + super_sector)) ≡ None
+  fit_alone i pick n first low none begins within =
+      let sector = first + super_sector in
+      let image = changes.image holds.shelf holds.disks disk named in
+      let free = free_super f t y.slices (book x) place disk (y.bay.sectors disk) seats_new goes.service.slices known n first low begins none in
+      let past = past_log f t y.slices (book x) place disk (y.bay.sectors disk) seats_new goes.service.slices known n first low begins none in
+      let live = live_at x y place name unspent performs.continues (performs.outside refl) changes told f goes disk sector (changes.names.there disk named) within in
+      let fit = fitting.alone (y.bay.sectors disk) image.0 image.1 n first low none begins within in
+      elim (image.2 sector (i disk sector) within free (pick disk sector live free)) [
+        | inl before ↦ fit.1 (i disk sector) before
+        | inr laid ↦ absurd (laid_super disk (y.bay.sectors disk) sector (i disk sector) (omega (arith, past)) fit.0 laid.value)
+      ]
+
+  -- the drive that the place had says an earlier state
+  lost_says : (d : ℕ) → d ≢ disk → f.seats place ≡ Some d → (i : Image) → IsPickOff y.slices y.bay i
+      → (copy : Copied) → (identities_of (disks_of y.bay) i d).copied ≡ Some copy → copy.state.epoch < raised (book x).state.epoch
+  lost_says d other seat i pick copy here = elim goes.vacant [
+    | inl same ↦
+        (let on : seat_of x.slices place ≡ Some d = ap (λ (u : Slices). seat_of u place) same ∙ goes.service.slices.seats place ∙ seat in
+        up_of (book x).state.epoch copy.state.epoch (lost_below x y place name unspent fit performs.continues (performs.outside refl) changes told f goes d seat same on (only d other)
+        (elim (changes.bare d on (only d other)) [
+          | inl still ↦
+              absurd
+              (other
+              (some_same d disk
+              (sym on ∙ ap (λ (u : Slices). seat_of u place) (sym still) ∙ is.seats.seats place
+              ∙ ap (λ (c : Bool). if c then Some disk else seat_of x.slices place) (eq-eqb place place refl))))
+          | inr bare ↦ bare
+        ])
+        holds some.0 some.1 alive listed free.missing i pick copy here))
+    | inr one ↦
+        (let now : place ≡ one.0 = sym (vacant_is one.0 one.1 one.2.missing) in
+        let less =
+        lacks_still f t x.slices y.slices (book x) one.0 disk x.bay y.bay one.2
+        (keeps_off x y place name unspent performs.continues (performs.outside refl) changes told f goes x.slices (λ e s w at. at) disk only) fewer d
+        (subst (λ p. f.seats p ≡ Some d) now seat) other (performs.continues.sectors d (low_of d seat)) i pick copy here in
+        up_of (book x).state.epoch copy.state.epoch less)
+  ]
+    where
+      low_of : (d : ℕ) → f.seats place ≡ Some d → d < x.bay.disks
+      low_of d seat = let low = (goes.service.arranged.seated place d seat).1 in let same = count_is x y place name unspent performs.continues (performs.outside refl) changes told f goes in omega (arith, low, same)
+
+  keeps_rest : KeepsRest f t y.slices (book x) place disk x.bay y.bay
+  keeps_rest = record {
+    low = changes.names.there disk named;
+    disks = disks_more x y place name unspent performs.continues (performs.outside refl) changes told f goes;
+    sectors = sectors_kept x y place name unspent performs.continues (performs.outside refl) changes told f goes;
+    outside = off;
+    alone = fit_alone;
+    earlier = λ i pick d low other why copy here. elim why [
+      | inl past ↦
+          (let same = count_is x y place name unspent performs.continues (performs.outside refl) changes told f goes in
+          absurd (only d other (changes.names.came d (omega (arith, past, same)) low)))
+      | inr seat ↦ lost_says d other seat i pick copy here
+    ];
+  }
+
+  pool_is : pool_after f (moment_of x) (moment_of y) (replaced place name) ≡ taken f (disks_of y.bay) place disk (enlisted place is.units (Replacing place) (book x).state)
+  pool_is = ap₂ (λ (d n : ℕ). taken f (disks_of y.bay) place d (enlisted place n (Replacing place) (book x).state)) disk_is units_is
+
+  goes_replaced : GoesBy (pool_after f (moment_of x) (moment_of y) (replaced place name)) y
+  goes_replaced = subst (λ h. GoesBy h y) (sym pool_is) (record {
+    tables = y.slices;
+    service =
+        service_taken f t y.slices (book x) (book y) x.bay y.bay place disk is.units (Replacing place) (joins (views_of (book x)) place (y.bay.sectors disk)) goes.service
+        seats_new keeps_rest (record { marks = is.marks; arrays = is.arrays });
+    vacant = inl refl;
+    lasting = performs.continues.lasting goes.lasting;
+    arrays = ap (λ (l : Linear). l.arrays) performs.continues.linear ∙ goes.arrays ∙ sym goes.service.after.same.made;
+  })
+
+  pub on_replaced : GoesOn f (pool_after f (moment_of x) (moment_of y) (replaced place name)) y
+  on_replaced = record {
+    goes = goes_replaced;
+    serials = λ serial.
+        subst (λ (h : Found). AreSerial h.state) (sym pool_is) (serial_enlisted place is.units (Replacing place) (book x).state listed serials_now);
+  }
