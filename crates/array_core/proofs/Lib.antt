@@ -29,3 +29,6 @@ pub mod RowLogged
 pub mod LogWrites
 pub mod WriteCalls
 pub mod Elsewhere
+pub mod TruthHeld
+pub mod TruthStaged
+pub mod TruthValid

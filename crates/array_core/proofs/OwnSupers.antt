@@ -43,7 +43,7 @@ one_bit n =
     one k low there = omega (arith, low, there)
 
 -- the bit of a reshape is the only one of an array's that a superblock of the profile has
-array_bits : (n : ℕ) → bit_and n 0xfffffff9 ≡ 0 → bit_and n 0xfffffffd ≡ bit_and n 4
+pub array_bits : (n : ℕ) → bit_and n 0xfffffff9 ≡ 0 → bit_and n 0xfffffffd ≡ bit_and n 4
 array_bits n none =
     same_from_bits (bit_and n 0xfffffffd) (bit_and n 4) (λ i.
     let mask : bit_at 0xfffffffd i ≡ max (bit_at 0xfffffff9 i) (bit_at 4 i) = bit_at_or 0xfffffff9 4 i in
@@ -79,7 +79,7 @@ module _ (t : Super) where
   rebuild_bit : (seat : Seat) → (bit_and (features t seat) 2 == 2) ≡ is_rebuilding_seat seat
   rebuild_bit = by_bits (λ r b n. (bit_and n 2 == 2) ≡ b) refl refl refl refl
 
-  only_bits : (seat : Seat) → (bit_and (features t seat) 0xfffffff9 == 0) ≡ true
+  pub only_bits : (seat : Seat) → (bit_and (features t seat) 0xfffffff9 == 0) ≡ true
   only_bits = by_bits (λ r b n. (bit_and n 0xfffffff9 == 0) ≡ true) refl refl refl refl
 
   array_bit : (seat : Seat) → bit_and (features t seat) 0xfffffffd ≡ (if is_reshaping t then 4 else 0)
@@ -137,7 +137,7 @@ own_valid v t s state low =
     (and_from _ _ (own_row v.truth s state.row) state.roles)))))
 
 -- what passes is there
-passes_only : {X : Type 0} (test : X → Bool) (o : Option X) (x : X) → o ≡ Some x → test x ≡ true → only_if test o ≡ Some x
+pub passes_only : {X : Type 0} (test : X → Bool) (o : Option X) (x : X) → o ≡ Some x → test x ≡ true → only_if test o ≡ Some x
 passes_only test o x is passes = ap (only_if test) is ∙ ap (λ (b : Bool). if b then Some x else None) passes
 
 -- ---- the contents that have them

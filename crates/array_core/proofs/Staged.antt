@@ -41,7 +41,7 @@ slot_on v n = record {
   device = unwrap_or (slice_get v.devices n) no_device;
 }
 
-slots_zipped : (place : ℕ → ℕ) (a m : ℕ) (seats : List Seat) (devices : List Id) → length seats ≡ m → length devices ≡ m → (n : ℕ) → n < m
+pub slots_zipped : (place : ℕ → ℕ) (a m : ℕ) (seats : List Seat) (devices : List Id) → length seats ≡ m → length devices ≡ m → (n : ℕ) → n < m
     → slice_get (map slot_with (zip (map place (range_with_len a m)) (zip seats devices))) n
     ≡ Some (record { place = place (a + n); seat = unwrap_or (slice_get seats n) Missing; device = unwrap_or (slice_get devices n) no_device })
 slots_zipped place a zero seats devices one two n low = absurd (omega (arith, low))
@@ -53,7 +53,7 @@ slots_zipped place a (suc m) (s ∷ seats) (d ∷ devices) one two (suc n) low =
     slots_zipped place (a + 1) m seats devices (omega (arith, one)) (omega (arith, two)) n (omega (arith, low))
     ∙ ap (λ (k : ℕ). Some (record { place = place k; seat = unwrap_or (slice_get seats n) Missing; device = unwrap_or (slice_get devices n) no_device })) (omega arith)
 
-got : {X : Type 0} (xs : List X) (n : ℕ) (d : X) → n < length xs → slice_get xs n ≡ Some (unwrap_or (slice_get xs n) d)
+pub got : {X : Type 0} (xs : List X) (n : ℕ) (d : X) → n < length xs → slice_get xs n ≡ Some (unwrap_or (slice_get xs n) d)
 got [] n d low = absurd (omega (arith, low))
 got (x ∷ xs) zero d low = refl
 got (x ∷ xs) (suc n) d low = got xs n d (omega (arith, low))

@@ -12,3 +12,4 @@ pub mod Pool
 pub mod Logging
 pub mod Writing
 pub mod Blank
+pub mod TruthHeld

@@ -19,6 +19,7 @@ ghost use Rattle.commit_log.specs.Phases.{AreLogs};
 ghost use Rattle.array_core.specs.Stands.{IsStand, layout_of};
 ghost use Rattle.array_core.specs.Pool.{Goes, MayLog};
 ghost use Rattle.array_core.specs.Writing.{Base, KeepsElsewhere};
+ghost use Rattle.array_core.specs.TruthHeld.{KeepsSupers};
 ghost use Rattle.array_core.specs.Logging.{HasAll, MakesParity, Stages, StagesChange, due_copies, is_due, one_if, sector_target};
 
 use crate::members::{Spread, Stand};
@@ -246,6 +247,7 @@ impl Array {
             → LogKept s log.new.number (has_gone self.new) (R.seen rack.new) }
         ensures notes { Notes self.old self.new (R.seen rack.old) (R.seen rack.new) }
         ensures elsewhere { KeepsElsewhere all self.old on.now.items (R.seen rack.old) (R.seen rack.new) }
+        ensures supers { KeepsSupers (R.seen rack.old) (R.seen rack.new) }
         ensures goes { Goes (R.seen rack.old) (R.seen rack.new) }
         ensures log { (log.new ≡ log.old) ⊎ (log.new ≡ committed log.old) }
         ensures runs { R.runs rack.old rack.new }

@@ -15,6 +15,7 @@ ghost use Rattle.commit_log.specs.View.{most_sectors};
 ghost use Rattle.array_core.specs.Settling.{Cleans, IsOwnSector, KeepsOthers, Settles, WritesSuper, WritesSupers};
 ghost use Rattle.array_core.specs.Pool.{Goes, MayRenew};
 ghost use Rattle.array_core.specs.Staging.{AddsSupersOf};
+ghost use Rattle.array_core.specs.TruthHeld.{HoldTruth};
 ghost use Rattle.array_core.specs.Writing.{KeepsElsewhere};
 
 use crate::Array;
@@ -55,6 +56,9 @@ impl Array {
         ensures goes { Goes (R.seen rack.old) (R.seen rack.new) }
         ensures elsewhere { (on : List ℕ) → KeepsElsewhere false self.old on (R.seen rack.old) (R.seen rack.new) }
 
+        // Superblocks that said the array's truth do so after it.
+        ensures truth { HoldTruth self.old (R.seen rack.old) → HoldTruth self.new (R.seen rack.new) }
+
         // No other sectors than those of superblocks are written, and whoever is left has one value in each sector.
         ensures others { KeepsOthers (R.seen rack.old) (R.seen rack.new) }
         ensures settled { (s : State) (durable : Shape) (vals : ℕ → Values) (spent : ℕ → Bool) → Covers self.new spent
@@ -63,6 +67,7 @@ impl Array {
         ensures runs { R.runs rack.old rack.new }
     {
         self.rules();
+        self.truth_rules();
         self.sync(rack);
         self.rules();
         if self.has_lost() || self.is_settled() {

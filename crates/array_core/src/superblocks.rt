@@ -134,6 +134,13 @@ impl Array {
         let _number = self.number;
     }
 
+    /// Its truth is one that an array can go by.
+    pub fn truth_rules(&self)
+        ensures { is_truth self.now.truth ≡ true }
+    {
+        let _number = self.number;
+    }
+
     /// The truth says so, with one more event. A mark that this run made is taken back.
     pub(crate) fn settle_truth(&mut self)
         ensures { self.new ≡ spec.settled self.old }

@@ -23,6 +23,7 @@ ghost use Rattle.array_core.specs.Stands.{IsStand};
 ghost use Rattle.array_core.specs.Writing.{KeepsElsewhere, WritesView};
 ghost use Rattle.array_core.specs.Parities.{FoundParity};
 ghost use Rattle.array_core.specs.Settling.{Marks, Readies};
+ghost use Rattle.array_core.specs.TruthHeld.{HoldTruth, KeepsSupers};
 
 use crate::members::{Spread, Stand};
 use crate::reading::DATA_SECTOR;
@@ -171,6 +172,7 @@ impl Array {
         ensures notes { Notes self.old self.new (R.seen rack.old) (R.seen rack.new) }
         ensures others { KeepsOthers self.old.number (R.seen rack.old) (R.seen rack.new) }
         ensures elsewhere { (on : List ℕ) → KeepsElsewhere false self.old on (R.seen rack.old) (R.seen rack.new) }
+        ensures supers { KeepsSupers (R.seen rack.old) (R.seen rack.new) }
         ensures goes { Goes (R.seen rack.old) (R.seen rack.new) }
         ensures runs { R.runs rack.old rack.new }
         ensures served { OnOk result (spent_in self.new sector ≡ false) }
@@ -214,6 +216,7 @@ impl Array {
         ensures notes { Notes self.old self.new (R.seen rack.old) (R.seen rack.new) }
         ensures others { KeepsOthers self.old.number (R.seen rack.old) (R.seen rack.new) }
         ensures elsewhere { (on : List ℕ) → KeepsElsewhere false self.old on (R.seen rack.old) (R.seen rack.new) }
+        ensures supers { KeepsSupers (R.seen rack.old) (R.seen rack.new) }
         ensures goes { Goes (R.seen rack.old) (R.seen rack.new) }
         ensures runs { R.runs rack.old rack.new }
         ensures served { OnOk result (spent_in self.new sector ≡ false) }
@@ -276,6 +279,9 @@ impl Array {
             → LogKept s log.new.number (has_gone self.new) (R.seen rack.new) }
         ensures view { WritesView self.old self.new (R.seen rack.old) (R.seen rack.new) }
         ensures elsewhere { KeepsElsewhere false self.old on.now.items (R.seen rack.old) (R.seen rack.new) }
+
+        // Superblocks that said the array's truth do so after it.
+        ensures truth { HoldTruth self.old (R.seen rack.old) → HoldTruth self.new (R.seen rack.new) }
         ensures goes { Goes (R.seen rack.old) (R.seen rack.new) }
         ensures log { (log.new ≡ log.old) ⊎ (log.new ≡ committed log.old) }
         ensures runs { R.runs rack.old rack.new }
@@ -287,6 +293,7 @@ impl Array {
             return self.write_alone(rack, sector, from);
         }
         let whole = self.is_whole();
+        self.truth_rules();
         let ready = self.is_ready(rack);
         self.rules();
         if ready {

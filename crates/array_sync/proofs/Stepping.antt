@@ -22,6 +22,7 @@ use Rattle.commit_log.specs.Commits.{CommitCall}
 use Rattle.commit_log.specs.Standing.{IsReady, SomeoneDecides}
 use Rattle.commit_log.specs.Kept.{LogKept, gone_with}
 use Rattle.commit_log.proofs.KeptAfter.{kept_more}
+use Rattle.commit_log.proofs.Story.{payload_is}
 use Rattle.array_model.specs.declared.Seat.{Seat}
 use Rattle.array_model.specs.declared.Seat.TheVariants.{Missing}
 use Rattle.array_model.specs.Stages.{IsStateOf}
@@ -33,21 +34,25 @@ use Rattle.array_model.proofs.Keeping.{keeping_calls, left_before, open_after, p
 use Rattle.array_model.proofs.Looking.{look_payload}
 use Rattle.array_model.proofs.Moves.{Moves, moves_then}
 use Rattle.array_model.proofs.Noting.{covers_before, holds_noted, losing_by, losing_of}
+use Rattle.array_model.proofs.Reading.{missing_before}
 use Rattle.array_model.proofs.RowWrites.{gone_none}
 use Rattle.array_model.proofs.Spared.{wanting_more}
 use Rattle.array_model.proofs.Views.{either_of, fault_early, fault_later, loses_then, members_then}
 use Rattle.array_core.specs.Pool.{MayCommit}
 use Rattle.array_core.specs.Staging.{AddsSupersOf, HasRowRebuilds}
+use Rattle.array_core.specs.TruthHeld.{HasFewBits, HoldTruth}
 use Rattle.array_core.proofs.Staged.{slot_on}
 use Rattle.array_core.proofs.LogWrites.{refused_kept}
 use Rattle.array_core.proofs.RowCommits.{IsOwnData}
-use Rattle.array_core.proofs.RowLists.{payload_or}
+use Rattle.array_core.proofs.RowLists.{payload_left, payload_or}
+use Rattle.array_core.proofs.TruthHeld.{hold_noted, live_now, reads_supers}
+use Rattle.array_core.proofs.TruthStaged.{hold_committed, left_there}
 use Rattle.array_sync.specs.Rows.{lacks_row}
 use Rattle.array_sync.specs.Steps.{MayStep, Steps, as_it_was, done}
 use Rattle.array_sync.proofs.Copying.{apart_joined}
 use Rattle.array_sync.proofs.Logged.{AreOnMembers, log_decides, log_kept, log_quiet, log_ready, nobody}
 use Rattle.array_sync.proofs.Moved.{data_after, durable_now, kept_now, moved, settled_now}
-use Rattle.array_sync.proofs.Owed.{RowMoves, SaysEither, restated}
+use Rattle.array_sync.proofs.Owed.{RowMoves, SaysEither, among_payload, restated}
 use Rattle.array_sync.proofs.Supers.{IsMemberSuper, supers_apart, supers_on}
 
 -- ---- reads
@@ -97,6 +102,7 @@ refused_steps v g w number on a b answered lasting is_array reads notes refused 
       };
   durable = λ none. absurd (both_ways false refl none);
   kept = λ s may. refused_kept s number w a b lasting reads may.commit.log;
+  truth = λ bits. hold_noted v w a b lasting is_array.few reads.stays notes (reads_supers a b reads);
 }
 
 -- ---- what a step is
@@ -394,6 +400,23 @@ module _ {needs : (ℕ → Bool) → Type 0} (v u z w : View) (events offset res
       (λ place named. loses_g.went place ∙ ap (λ (p : Bool). (p || notes.lost place) || has_gone g place) named)
       (log_kept s v w a b c l on lost is_array lasting reads members_on (live_all s may) commit (may_log s may.commit) left_w))
 
+  -- the commit has all superblocks
+  all_truth : HasFewBits v.truth → HoldTruth v a → HoldTruth w c
+  all_truth bits held =
+      hold_committed (restated v events offset resync seats marked) l [] supers adds step.next
+      (λ x among.
+      payload_is l.added x.disk x.sector x.bytes (ap are_apart added ∙ all_apart v events offset resync seats marked supers own_data a b step adds)
+      (subst (λ xs. IsPayload xs x.disk x.sector x.bytes) (sym added)
+      (payload_left supers own_data x.disk x.sector x.bytes
+      (subst (λ xs. IsPayload xs x.disk x.sector x.bytes) (sym adds.appended) (among_payload adds.targets x among)))))
+      w on lost b c (reads.stays.lasting lasting) bits commit same_g.number same_g.truth
+      (λ k low there. (
+        missing_before (restated v events offset resync seats marked) w k (λ place. names lost place || notes.lost place) loses_g there,
+        or_first (names lost (place_at v k)) (notes.lost (place_at v k))
+            (left_there (restated v events offset resync seats marked) w (λ place. names lost place || notes.lost place) k step.next loses_g low there),
+      ))
+      (λ k low there. live_now a b (slice_on v k) super_sector lasting reads.stays (held k low (step.present k there)).live)
+
   pub committed_steps : (answered : Bool) → ((spent : ℕ → Bool) → needs spent)
       → (HasRowRebuilds v → (y : ℕ) → spent_in (restated v events offset resync seats marked) y ≡ false → spent_in v y ≡ false) → Steps v (restated v events offset resync seats marked) w number after on a c answered
   committed_steps answered meets unspent_step = record {
@@ -409,4 +432,5 @@ module _ {needs : (ℕ → Bool) → Type 0} (v u z w : View) (events offset res
         record { stays = moves.stays; leaves = moves.leaves; holds = moves.holds; apart = moves.apart; calm = moves.calm };
     durable = λ is_done s vals spent covers may held r left. all_durable s vals spent covers may (meets spent) held r left;
     kept = all_kept;
+    truth = all_truth;
   }

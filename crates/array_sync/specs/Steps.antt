@@ -24,6 +24,7 @@ use Rattle.array_core.specs.Seats.{seat_of}
 use Rattle.array_core.specs.Slots.{slots_of}
 use Rattle.array_core.specs.Staging.{HasRowRebuilds}
 use Rattle.array_core.specs.Superblocks.{raised}
+use Rattle.array_core.specs.TruthHeld.{HasFewBits, HoldTruth}
 
 -- the member sector from which rows are left to resync once so many aren't, and all ones where none is
 abbrev pub offset_after : View → ℕ → ℕ
@@ -92,6 +93,8 @@ pub record Steps (v next w : View) (number next_number : ℕ) (on : List ℕ) (a
       → Holds s (shape_of v) v vals spent a → (r : Image) → IsLeft b r → HasFields s v.number next.truth r
   -- the log is kept for the next commit
   pub kept : (s : State) → MayStep s v next w number on a → LogKept s next_number (has_gone w) b
+  -- superblocks that said the array's truth do so after it
+  pub truth : HasFewBits v.truth → HoldTruth v a → HoldTruth w b
 
 -- ---- rows of a young array
 

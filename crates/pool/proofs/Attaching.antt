@@ -21,10 +21,14 @@ use Rattle.pool.specs.Continuing.{Continues, KeepsOutside}
 use Rattle.pool.specs.Moment.{IsNamed, moment_of}
 use Rattle.pool.specs.Replaced.{IsOfDrive, faults_before}
 use Rattle.pool.specs.Taking.{AreTold, AttachesDisk, Carries, IsOfPlace, NoDisk}
-use Rattle.pool.specs.View.{View, volume}
+use Rattle.pool.specs.View.{View, book, slices_shown, volume}
 use Rattle.pool.specs.Volume.{is_spent}
 use Rattle.pool.proofs.Carrying.{carries_kept}
 use Rattle.pool.proofs.Later.{disks_fit, inside_later, later, only_read, some_disk}
+use Rattle.rack.specs.Sequences.{OnlyReads}
+use Rattle.array_model.specs.Members.{slice_on}
+use Rattle.raid_rack.specs.Truths.{KeepsTruths}
+use Rattle.raid_rack.proofs.Truths.{truths_reads}
 
 -- what a bay promises of its disks
 pub record IsBay (b : Seen) (s : Shelf) : Type 0 where
@@ -118,13 +122,24 @@ module _ (x : View) (b : Seen) (s : Shelf) (name : List ℕ) (raw : Result ℕ A
       spent = λ k alive. alive;
       told = λ names all k low alive told. (kept names k alive).told names all k low alive told;
       keeps = λ names all k low alive told. (kept names k alive).keeps names all k low alive told;
+      made = refl;
+      truths = truths_kept;
     }
       where
+        reads : x.shelf.told → 0 < x.bay.disks → OnlyReads (slices_of x.slices x.bay) (slices_of x.slices b)
+        reads names some = attached_reads x.slices x.bay b x.shelf s name number adds names some inside now.fit now.lasting was.unspent now.unspent now.small
+
+        truths_kept : x.shelf.told → AreTold x → KeepsTruths (book x) (book m) (slices_shown x) (slices_shown m)
+        truths_kept names all n low held k within there =
+            let d = slice_on ((book x).arrays n) k in
+            let long = (held k within there).live.sector in
+            let disk = old_disk d (omega (arith, long)) in
+            truths_reads (book x) (slices_of x.slices x.bay) (slices_of x.slices b) fit.0.running.set (reads names (omega (arith, disk))) n low held k within there
+
         kept : x.shelf.told → (k : ℕ) → is_spent m k ≡ false → Carries x m
         kept names k alive =
-            let both = only_read x b s linear fit added_arrays
-            (attached_reads x.slices x.bay b x.shelf s name number adds names (some_disk x k orderly fit alive) inside now.fit now.lasting was.unspent now.unspent now.small) in
-            carries_kept x m both.0 both.1
+            let both = only_read x b s linear fit added_arrays (reads names (some_disk x k orderly fit alive)) in
+            carries_kept x m both.0 both.1 refl truths_kept
 
     pub added_outside : KeepsOutside x.slices x.slices NoDisk x.shelf.told x.bay b
     added_outside = record {
@@ -182,8 +197,9 @@ module _ (x : View) (b : Seen) (s : Shelf) (name : List ℕ) (raw : Result ℕ A
 
     pub same_carries : Carries x m
     same_carries =
-        let both = only_read x b s linear fit same_arrays (unattached_reads x.slices x.bay b x.shelf s same inside now.fit now.lasting was.unspent now.unspent) in
-        carries_kept x m both.0 both.1
+        let reads = unattached_reads x.slices x.bay b x.shelf s same inside now.fit now.lasting was.unspent now.unspent in
+        let both = only_read x b s linear fit same_arrays reads in
+        carries_kept x m both.0 both.1 refl (λ names all. truths_reads (book x) (slices_of x.slices x.bay) (slices_of x.slices b) fit.0.running.set reads)
 
     pub same_outside : KeepsOutside x.slices x.slices NoDisk x.shelf.told x.bay b
     same_outside = record {

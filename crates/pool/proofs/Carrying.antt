@@ -1,14 +1,16 @@
 -- What a pool's volume holds, by what it carries along.
-use Rattle.std.proofs.Common.{ℕ, ◌<◌, ◌≤◌, sym, subst, ◌∙◌, arith}
+use Rattle.std.proofs.Common.{◌≡◌, ℕ, ◌<◌, ◌≤◌, refl, sym, subst, ◌∙◌, arith}
 use Rattle.rack.specs.Seen.{Image, Stays}
 use Rattle.rack.specs.Calls.{KeepsAll}
 use Rattle.rack.specs.Joins.{keeps_same, keeps_then}
 use Rattle.rack.specs.Moments.{IsSound}
 use Rattle.flat_array.specs.Array.{FlatArray}
-use Rattle.pool.specs.View.{View, contents_in, volume}
+use Rattle.raid_rack.specs.Truths.{KeepsTruths}
+use Rattle.raid_rack.proofs.Truths.{truths_then}
+use Rattle.pool.specs.View.{View, book, contents_in, slices_shown, volume}
 use Rattle.pool.specs.Volume.{Holds, Means}
 use Rattle.pool.specs.Continuing.{Continues}
-use Rattle.pool.specs.Taking.{Carries}
+use Rattle.pool.specs.Taking.{AreTold, Carries}
 use Rattle.pool.proofs.Doing.{stopped_in}
 
 pub carries_same : (x : View) → Carries x x
@@ -16,6 +18,8 @@ carries_same x = record {
   spent = λ s alive. alive;
   told = λ names all s low alive told. told;
   keeps = λ names all s low alive told. keeps_same ((volume x).held 0 s);
+  made = refl;
+  truths = λ names all n low held. held;
 }
 
 pub carries_then : (x y z : View) → Continues x y → Carries x y → Carries y z → Carries x z
@@ -27,15 +31,21 @@ carries_then x y z go one two = record {
       let mid = two.spent s alive in
       keeps_then ((volume x).held 0 s) ((volume y).held 0 s) ((volume z).held 0 s) (one.keeps names all s low mid told)
       (two.keeps (go.told names) (go.known names all) s (subst (λ n. s < n) (sym go.size) low) alive (one.told names all s low mid told));
+  made = two.made ∙ one.made;
+  truths = λ names all.
+      truths_then (book x) (book y) (book z) (slices_shown x) (slices_shown y) (slices_shown z) one.made (one.truths names all) (two.truths (go.told names) (go.known names all));
 }
 
 -- a call in which no value comes to the volume
-pub carries_kept : (x y : View) → Stays (volume x) (volume y) → KeepsAll (volume x) (volume y) → Carries x y
-carries_kept x y stays keeps = record {
+pub carries_kept : (x y : View) → Stays (volume x) (volume y) → KeepsAll (volume x) (volume y) → (book y).state.made ≡ (book x).state.made
+    → (x.shelf.told → AreTold x → KeepsTruths (book x) (book y) (slices_shown x) (slices_shown y)) → Carries x y
+carries_kept x y stays keeps made truths = record {
   spent = λ s alive. stays.spent 0 s alive;
   told = λ names all s low alive told. stays.told 0 told;
   keeps = λ names all s low alive told.
       keeps.held 0 s (record { disk = omega arith; sector = subst (λ n. s < n) (sym (stays.sectors 0)) low; is_told = told; unspent = alive });
+  made = made;
+  truths = truths;
 }
 
 -- the volume holds what it held

@@ -1,5 +1,5 @@
 -- The end of a run.
-use Rattle.std.proofs.Common.{◌≡◌, ℕ, ◌<◌, refl, subst, lt-ltb, arith}
+use Rattle.std.proofs.Common.{◌≡◌, ℕ, ◌<◌, nat_lt, refl, sym, subst, lt-ltb, arith}
 use Rattle.rack.specs.Values.{IsSingle}
 use Rattle.rack.specs.Seen.{Rose, Seen}
 use Rattle.rack.specs.Shelf.{Shelf}
@@ -12,13 +12,15 @@ use Rattle.lvm_group.specs.Runs.{array_of, sector_of}
 use Rattle.lvm_group.specs.Volume.{linear}
 use Rattle.raid_rack.specs.declared.arrays.Arrays.{Arrays}
 use Rattle.raid_rack.specs.declared.arrays.RaidRack.{RaidRack}
-use Rattle.raid_rack.specs.Cleaning.{CleansAll, LeavesItsRows as LeavesRowsOf}
+use Rattle.raid_rack.specs.Cleaning.{CleansAll, NoneFails, LeavesItsRows as LeavesRowsOf}
 use Rattle.raid_rack.specs.Laws.{live_parts, stops_inside}
 use Rattle.raid_rack.specs.Moves.{RaisesBy}
 use Rattle.raid_rack.specs.Raid.{IsTold, StopsInside, held_in, live_of, spent_of}
 use Rattle.raid_rack.specs.RaidRack.{IsFit, KeepsRack, SliceRuns, raid_by, raid_in, raid_seen, slices_in, slices_seen}
 use Rattle.raid_rack.proofs.Moving.{moves_bring}
 use Rattle.raid_rack.proofs.Serving.{whole_call}
+use Rattle.raid_rack.specs.Truths.{KeepsTruths}
+use Rattle.raid_rack.proofs.TruthAgrees.{cleans_settled, truth_agrees}
 use Rattle.raid_rack.proofs.Whole.{before_amid}
 use Rattle.pool.specs.declared.Pool.{Pool}
 use Rattle.pool.specs.View.{View, arrays_of, book, slices_shown, view, volume}
@@ -49,14 +51,16 @@ pub record IsCleaned {R : Type 0} (seen : R → Seen) (runs : R → R → Type 0
   pub keeps : KeepsRack (raid_seen seen old) (raid_seen seen new)
   pub raises : RaisesBy 288 (raid_in old) (raid_in new)
   pub ran : SliceRuns seen runs (slices_in old) (slices_in new)
+  pub truths : KeepsTruths (raid_in old) (raid_in new) (slices_seen seen old) (slices_seen seen new)
 
 -- where no disk of the bay has a new fault, no slice has one
-rows_left : (x y : View) → y.slices ≡ x.slices → LeavesRowsOf (book x) (book y) (slices_shown x) (slices_shown y) → LeavesItsRows x y
-rows_left x y same images quiet =
-    images
-    (λ place fault.
+none_fails : (x y : View) → y.slices ≡ x.slices → ((d : ℕ) → Rose (x.bay.faults d) (y.bay.faults d) → ⊥) → NoneFails (slices_shown x) (slices_shown y)
+none_fails x y same quiet place fault =
     quiet (disk_of x.slices fault.0)
-    (subst (λ (t : Slices). Rose (x.bay.faults (disk_of x.slices fault.0)) (y.bay.faults (disk_of t fault.0))) same fault.2))
+    (subst (λ (t : Slices). Rose (x.bay.faults (disk_of x.slices fault.0)) (y.bay.faults (disk_of t fault.0))) same fault.2)
+
+rows_left : (x y : View) → y.slices ≡ x.slices → LeavesRowsOf (book x) (book y) (slices_shown x) (slices_shown y) → LeavesItsRows x y
+rows_left x y same images quiet = images (none_fails x y same quiet)
 
 pub end_done : {R : Type 0} (seen : R → Seen) (shelf : R → Shelf) (runs : R → R → Type 0) (laws : Laws seen) (names : KeepNames shelf runs) (p : Pool R) (raid : RaidRack R) → (volume (view seen shelf p)).fit
     → IsCleaned seen runs (arrays_of p) raid → Ends (view seen shelf p) (view seen shelf (with_arrays p raid))
@@ -68,7 +72,7 @@ end_done seen shelf runs laws names p raid fit cleaned =
     let moves = cleaned.cleans.moves in
     let stays = reached_stays seen shelf p raid fit cleaned.keeps in
     let keeps = book_lost (book x) (book y) (slices_shown y) stays.fit.0.running.set stays.fit.0.heeded moves.book.same.made moves.arrays in
-    let call = is_call seen shelf runs laws names 1 p q fit stays refl cleaned.ran moves.book (record { left = moves.left; cause = moves.cause }) keeps
+    let call = is_call seen shelf runs laws names 1 p q fit stays refl cleaned.ran moves.book (record { left = moves.left; cause = moves.cause }) keeps cleaned.truths
     (raises_more 288 most_raised (book x) (book y) (omega arith) cleaned.raises) in
     record {
       passes = call.passes;
@@ -81,4 +85,9 @@ end_done seen shelf runs laws names p raid fit cleaned =
           (stops_inside (tables (slices_in raid)) (seen (below_of (slices_in raid)))) cleaned.cleans
           (subst (λ n. array_of l s < n) moves.book.same.made below.disk) below.is_told below.unspent v left);
       rows = rows_left x y cleaned.ran.tables cleaned.images;
+      agree = λ quiet n low held told goes r left.
+          let now = subst (λ k. n < k) (sym moves.book.same.made) low in
+          truth_agrees (book y) (slices_shown y) n stays.fit.0.running.set stays.fit.0.heeded now told goes (cleaned.truths n low held) r left
+          (cleans_settled (λ k. nat_lt k (book x).state.made) (book x) (book y) (slices_shown x) (slices_shown y) n cleaned.cleans (none_fails x y cleaned.ran.tables quiet) low
+          (lt-ltb n (book x).state.made low));
     }

@@ -181,6 +181,7 @@ replaced_unlisted x place name fit sound past = record {
   table = tt;
   moments = tt;
   holds = λ a holds. holds;
+  truths = λ names all n low held. held;
   leaves = λ traced a holds k i since until stopped. absurd (omega (arith, since, until));
   ends = λ traced a holds i stopped. ends_of x (sound traced) a holds i stopped;
 }
@@ -242,6 +243,7 @@ module _ (x : View) (b : Seen) (s : Shelf) (place : ℕ) (name : List ℕ) (list
     table = tt;
     moments = tt;
     holds = holds_of x m at.continues at.carries;
+    truths = at.carries.truths;
     leaves = λ traced a holds k i since until stopped. let clock = at.clock in absurd (omega (arith, since, until, clock));
     ends = λ traced a holds i stopped. ends_of m (sound (at.continues.traced holds.shelf traced)) a (holds_of x m at.continues at.carries a holds) i stopped;
   }
@@ -332,6 +334,7 @@ module _ (x : View) (b : Seen) (s : Shelf) (place : ℕ) (name : List ℕ) (list
           table = table_since y r (only y by) by.table;
           moments = moments_since y r (only y by) by.moments;
           holds = holds_of x y go carries;
+          truths = carries.truths;
           leaves = λ traced a holds k i since until stopped.
               by.leaves (at.continues.traced holds.shelf traced) a (holds_of x m at.continues at.carries a holds) k i
               (let clock = at.clock in omega (arith, since, clock)) until stopped;

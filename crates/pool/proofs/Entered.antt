@@ -140,6 +140,8 @@ module _ (x : View) (b : Seen) (s : Shelf) (place disk units : ℕ) (t u : Slice
         let n = array_of x.linear k in
         let below = array_inside k inside in
         (tells all k alive n (low_array n below) told below).keeps (sector_of x.linear k) alive;
+    made = made;
+    truths = λ names all. enlists.truths (opened all);
   }
 
   -- ---- its table

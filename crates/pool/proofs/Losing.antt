@@ -14,6 +14,7 @@ use Rattle.array_image.specs.States.{is_current}
 use Rattle.commit_log.proofs.Deciding.{names_first}
 use Rattle.array_model.specs.View.{has_gone}
 use Rattle.array_core.specs.Seats.{gone, names}
+use Rattle.raid_rack.specs.Truths.{KeepsTruths}
 use Rattle.raid_rack.specs.Losses.{has_other}
 use Rattle.raid_rack.specs.Moves.{IsHeeded, IsSet, Mends, RaisesBy, noted_at}
 use Rattle.raid_rack.specs.Raid.{Raid, gone_in, is_left}
@@ -108,6 +109,7 @@ pub record IsLost {R : Type 0} (seen : R → Seen) (runs : R → R → Type 0) (
   pub keeps : KeepsRack (raid_seen seen old) (raid_seen seen new)
   pub raises : RaisesBy 17 (raid_in old) (raid_in new)
   pub ran : SliceRuns seen runs (slices_in old) (slices_in new)
+  pub truths : KeepsTruths (raid_in old) (raid_in new) (slices_seen seen old) (slices_seen seen new)
 
 never_fault : (e : LoseFault) → ◌≡◌ {A = Result (Unit {0}) LoseFault} (Ok tt) (Err e) → ⊥
 never_fault e same = cc
@@ -127,7 +129,7 @@ lose_done seen shelf runs laws names p raid place fit current lost =
     let stays = reached_stays seen shelf p raid fit lost.keeps in
     let keeps = book_noted (book x) (book y) (slices_shown x) (slices_shown y) (place ∷ []) fit.0.running.set stays.fit.0.running.set
     stays.fit.0.heeded lost.mends.moves.book.same.made lost.mends.moves.arrays in
-    let passes = passes_of x y fit stays refl lost.ran lost.mends.moves.book keeps (names (bay_in p) (below_of (slices_in raid)) lost.ran.below) in
+    let passes = passes_of x y fit stays refl lost.ran lost.mends.moves.book keeps lost.truths (names (bay_in p) (below_of (slices_in raid)) lost.ran.below) in
     record {
       passes = passes;
       raises = raises_more 17 most_raised (book x) (book y) (omega arith) lost.raises;

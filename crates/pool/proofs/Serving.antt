@@ -16,6 +16,7 @@ use Rattle.raid_rack.specs.AllRuns.{AreRuns, IsOneCall}
 use Rattle.raid_rack.specs.Laws.{raid_sound, stops_inside}
 use Rattle.raid_rack.specs.Moves.{AreCaused}
 use Rattle.raid_rack.specs.Book.{IsAfter}
+use Rattle.raid_rack.specs.Truths.{KeepsTruths}
 use Rattle.raid_rack.specs.RaidRack.{SliceRuns, raid_in, raid_seen, slices_in, slices_seen}
 use Rattle.pool.specs.declared.Pool.{Pool}
 use Rattle.pool.specs.declared.calls.SectorFault.{SectorFault}
@@ -63,10 +64,12 @@ pub is_call : {R : Type 0} (seen : R → Seen) (shelf : R → Shelf) (runs : R �
     → SliceRuns seen runs (slices_in (arrays_of p)) (slices_in (arrays_of q))
     → IsAfter (raid_in (arrays_of p)).state (raid_in (arrays_of q)).state
     → AreCaused (raid_in (arrays_of p)) (raid_in (arrays_of q)) (slices_seen seen (arrays_of p)) (slices_seen seen (arrays_of q))
-    → KeepsBook (raid_in (arrays_of p)) (raid_in (arrays_of q)) → Raises calls (view seen shelf p) (view seen shelf q)
+    → KeepsBook (raid_in (arrays_of p)) (raid_in (arrays_of q))
+    → KeepsTruths (raid_in (arrays_of p)) (raid_in (arrays_of q)) (slices_seen seen (arrays_of p)) (slices_seen seen (arrays_of q))
+    → Raises calls (view seen shelf p) (view seen shelf q)
     → IsCall calls (view seen shelf p) (view seen shelf q)
-is_call seen shelf runs laws names calls p q fit stays same ran marks caused keeps raises = record {
-  passes = passes_of (view seen shelf p) (view seen shelf q) fit stays same ran marks keeps
+is_call seen shelf runs laws names calls p q fit stays same ran marks caused keeps truths raises = record {
+  passes = passes_of (view seen shelf p) (view seen shelf q) fit stays same ran marks keeps truths
       (names (bay_in p) (bay_in q) ran.below);
   raises = raises;
   marks = marks_of (view seen shelf p) (view seen shelf q) fit ran.tables caused;
@@ -87,6 +90,7 @@ volume_call seen shelf runs laws names p q fit stays same ran several =
     let most = fit.0.running.set.most in
     is_call seen shelf runs laws names 1 p q fit stays same ran.0 ran.1.book ran.1.caused
     (book_lost v w (slices_seen seen (arrays_of q)) running.running.set running.heeded ran.1.book.same.made ran.2.arrays)
+    ran.1.truths
     (several_raise (1 + (linear p.volume).arrays) most_raised (arrays_of p) (arrays_of q) (omega (arith, disks, most)) several)
 
 -- no call

@@ -38,6 +38,8 @@ use Rattle.pool.proofs.Continuing.{continues_then, outside_fewer, outside_then, 
 use Rattle.pool.proofs.Keeping.{not_left, went}
 use Rattle.pool.proofs.Later.{inside_later, later, moved, only_read}
 use Rattle.pool.proofs.Vacating.{bay_continues, without_carries, without_continues, without_fit, without_outside}
+use Rattle.raid_rack.specs.Truths.{KeepsTruths}
+use Rattle.raid_rack.proofs.Truths.{truths_reads}
 
 -- the drive of a place that is left is one of the bay's disks
 pub low_disk : (v : Raid) (t : Slices) (a : Seen) (p : ℕ) → IsOrderly t → IsSet v (slices_of t a) → is_left v p ≡ true → disk_of t (log_slice p) < a.disks
@@ -116,7 +118,7 @@ module _ (x : View) (b : Seen) (s : Shelf) (place disk : ℕ) (t : Slices) (line
       let fit_now : (volume y).fit = (after, inside_later x b s t x.arrays fit refl (λ n. refl)) in
       record {
         continues = goes_on t x.arrays may only fit_now;
-        carries = carries_then x mid y mid_goes mid_carries (carries_kept mid y both.0 both.1);
+        carries = carries_then x mid y mid_goes mid_carries (carries_kept mid y both.0 both.1 refl (λ names all. truths_reads (book x) (slices_of t x.bay) (slices_of t b) empty.running.set reads));
         raises = raises_still 1 x;
         keeps = book_same (book x);
         outside = outside_of_it t x.arrays may only fit_now (λ d k v at. inr at.0) (λ d k v is. inl is);
@@ -144,10 +146,10 @@ module _ (x : View) (b : Seen) (s : Shelf) (place disk : ℕ) (t : Slices) (line
   -- ---- another drive was found gone
 
   pub taken_lost : (z : Arrays) → WritesOnly x.bay b (IsWrittenBy t disk (x.bay.sectors disk)) → Mends (book x) (raid_by z) (slices_of t x.bay) (slices_of t b)
-      → RaisesBy 18 (book x) (raid_by z)
+      → RaisesBy 18 (book x) (raid_by z) → KeepsTruths (book x) (raid_by z) (slices_of t x.bay) (slices_of t b)
       → (p : ℕ) × (is_current (book x).state p ≡ true) × (is_current (raid_by z).state p ≡ false) × HasFault (slices_of t x.bay) (slices_of t b) p
       → IsFit z (slices_of t b) → ReplacesBy x (later x b s t z) place disk (Err NotWhole)
-  taken_lost z only mends raises lost after =
+  taken_lost z only mends raises truths lost after =
       let y = later x b s t z in
       let may : ℕ → ℕ → List ℕ → Type 0 = IsWrittenBy t disk (x.bay.sectors disk) in
       let moves = mends.moves in
@@ -155,7 +157,7 @@ module _ (x : View) (b : Seen) (s : Shelf) (place disk : ℕ) (t : Slices) (line
       let fit_now : (volume y).fit = (after, inside_later x b s t z fit moves.book.same.made moves.sectors) in
       record {
         continues = goes_on t z may only fit_now;
-        carries = carries_then x mid y mid_goes mid_carries (carries_kept mid y both.0 both.1);
+        carries = carries_then x mid y mid_goes mid_carries (carries_kept mid y both.0 both.1 moves.book.same.made (λ names all. truths));
         raises = raises_more 18 most_raised (book x) (raid_by z) (omega arith) raises;
         keeps = book_lost (book x) (raid_by z) (slices_of t b) after.running.set after.heeded moves.book.same.made moves.arrays;
         outside = outside_of_it t z may only fit_now (λ d k v at. elim at [ inl own ↦ inr own.0 | inr sliced ↦ inl sliced ]) (λ d k v is. inl is);

@@ -13,7 +13,7 @@ use Rattle.lvm_group.specs.Laws.{array_below}
 use Rattle.lvm_group.specs.Runs.{IsOrderly as IsOrderlyVolume, array_of, sector_of, sectors_in}
 use Rattle.raid_rack.specs.Raid.{raid_of}
 use Rattle.raid_rack.specs.RaidRack.{IsFit}
-use Rattle.raid_rack.proofs.Vacated.{disk_left, vacated_keeps, vacated_told}
+use Rattle.raid_rack.proofs.Vacated.{disk_left, vacated_keeps, vacated_told, vacated_truths}
 use Rattle.pool.specs.Continuing.{Continues, KeepsOutside}
 use Rattle.pool.specs.Taking.{Carries}
 use Rattle.pool.specs.View.{View, book, slices_shown, volume}
@@ -60,6 +60,8 @@ module _ (x : View) (place : ℕ) (t : Slices) (linear : IsOrderlyVolume x.linea
         let below = array_below x.linear (raid_of (IsFit x.arrays (slices_shown x)) x.refused (book x) (slices_shown x)) k linear fit.1 low in
         vacated_keeps place x.slices t x.bay vacated (book x) fit.0.heeded missing fit.0.running.set after.running.set.fit n (low_array n below) (told n below)
         (sector_of x.linear k) alive;
+    made = refl;
+    truths = λ names all. vacated_truths place x.slices t x.bay vacated (book x) fit.0.heeded missing fit.0.running.set;
   }
 
   -- a sector of a slice was one

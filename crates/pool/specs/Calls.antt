@@ -12,9 +12,12 @@ use Rattle.array_image.specs.Supers.{truth_in}
 use Rattle.array_core.specs.Superblocks.{is_settled, left_offset}
 use Rattle.slice_rack.specs.Slices.{disk_of}
 use Rattle.slice_rack.specs.Runs.{IsSliced}
+use Rattle.array_core.specs.TruthHeld.{HoldTruth}
+use Rattle.raid_rack.specs.Agreeing.{AgreeLeaving}
 use Rattle.raid_rack.specs.Book.{IsAfter}
 use Rattle.raid_rack.specs.Losses.{has_other}
 use Rattle.raid_rack.specs.Raid.{IsTold, is_over}
+use Rattle.raid_rack.specs.Truths.{KeepsTruths}
 use Rattle.pool.specs.declared.calls.LoseFault.{LoseFault}
 use Rattle.pool.specs.declared.calls.LoseFault.TheVariants.{LastDrive, NoSuchDrive}
 use Rattle.pool.specs.declared.calls.SectorFault.{SectorFault}
@@ -33,6 +36,8 @@ pub record Passes (x y : View) : Type 0 where
   pub slices : y.slices ≡ x.slices
   pub marks : IsAfter (book x).state (book y).state
   pub book : KeepsBook (book x) (book y)
+  -- superblocks that said an array's truth do so after it
+  pub truths : KeepsTruths (book x) (book y) (slices_shown x) (slices_shown y)
   pub apart : WritesOnly x.bay y.bay (IsSliced x.slices)
   pub shelf : KeepsShelf x.shelf y.shelf
 
@@ -97,6 +102,14 @@ LeavesItsRows x y =
     → (r : Image) → IsLeft (slices_shown y) r → (t : Super) → truth_in (book y).state r n ≡ Some t
     → t.resync_offset ≡ left_offset ((book x).arrays n)
 
+-- Where no disk's faults rose, superblocks that said an array's truth agree in whatever a stop leaves, and leave the rows to resync that are
+-- left in the array and no others.
+abbrev pub AgreesInEnd : View → View → Type 0
+AgreesInEnd x y =
+    ((d : ℕ) → Rose (x.bay.faults d) (y.bay.faults d) → ⊥)
+    → (n : ℕ) → n < (book x).state.made → HoldTruth ((book x).arrays n) (slices_shown x) → IsTold (book y) (slices_shown y) n → is_over (book y) n ≡ false
+    → (r : Image) → IsLeft (slices_shown y) r → AgreeLeaving ((book y).arrays n) (book y).state r n
+
 -- The end of a run flushes the volume, and its superblocks leave no rows to resync but those that were left.
 pub record Ends (x y : View) : Type 0 where
   pub passes : Passes x y
@@ -104,6 +117,7 @@ pub record Ends (x y : View) : Type 0 where
   pub marks : Marks x y
   pub does : Does x y unchanged flushed
   pub rows : LeavesItsRows x y
+  pub agree : AgreesInEnd x y
 
 -- no disk of the bay has a new fault
 abbrev pub IsQuiet : View → View → Type 0

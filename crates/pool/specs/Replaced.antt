@@ -19,6 +19,7 @@ use Rattle.raid_rack.specs.Book.{IsAfter}
 use Rattle.raid_rack.specs.Enlisting.{HoldsTable, enlisted, next_drive, with_drive}
 use Rattle.raid_rack.specs.Moves.{KeepsArrays}
 use Rattle.raid_rack.specs.NewDrive.{SeatsDrive, drive_table, joins}
+use Rattle.raid_rack.specs.Truths.{KeepsTruths}
 use Rattle.shr_base.specs.Units.{units_of}
 use Rattle.pool.specs.declared.replacing.GrowFault.{GrowFault}
 use Rattle.pool.specs.declared.replacing.GrowFault.TheVariants.{NoSuchDrive, Attach, Twice, Memory, NotWhole, Gone}
@@ -27,7 +28,7 @@ use Rattle.pool.specs.Continuing.{Continues, KeepsDisk, KeepsOutside}
 use Rattle.pool.specs.Keeping.{KeepsBook, Raises}
 use Rattle.pool.specs.Moment.{IsNamed, Moment, moment_of, views_of}
 use Rattle.pool.specs.Replacing.{refusal_of}
-use Rattle.pool.specs.View.{View, book, contents_in}
+use Rattle.pool.specs.View.{View, book, contents_in, slices_shown}
 use Rattle.pool.specs.Volume.{Holds, Means, PicksLive, is_spent}
 
 -- ---- refusals, by how the pool stands before and after
@@ -149,6 +150,8 @@ pub record ReplacesDrive (x y : View) (place : ℕ) (name : List ℕ) (result : 
   pub replaced : OnOk result ((d : ℕ) → IsNamed (moment_of y) name d → IsReplaced (moment_of x) (moment_of y) place d)
   pub table : OnOk result ((d : ℕ) → IsNamed (moment_of y) name d → HasTable x y place d)
   pub holds : (a : FlatArray) → Holds x a → Holds y a
+  -- where the disks are told, superblocks that said an array's truth do so after it, and so do those of the new members
+  pub truths : x.shelf.told → ((d : ℕ) → d < x.bay.disks → x.bay.told d) → KeepsTruths (book x) (book y) (slices_shown x) (slices_shown y)
   pub leaves : x.bay.traced → (a : FlatArray) → Holds x a → LeavesNew x y (λ i. MeansWithout x y place a i ⊎ Means y a i)
   -- where it is replaced, stops leave it without the drive, or with it and its table
   pub moments :

@@ -4,6 +4,7 @@ use Rattle.rack.specs.Values.{Keeps}
 use Rattle.rack.specs.Seen.{Rose}
 use Rattle.flat_array.specs.Array.{FlatArray}
 use Rattle.slice_rack.specs.Slices.{seat_of}
+use Rattle.raid_rack.specs.Truths.{KeepsTruths}
 use Rattle.pool.specs.declared.replacing.GrowFault.{GrowFault}
 use Rattle.pool.specs.declared.replacing.GrowFault.TheVariants.{Attach, Twice, Memory, NotWhole, Gone}
 use Rattle.pool.specs.Continuing.{Continues, KeepsDisk, KeepsOutside}
@@ -11,7 +12,7 @@ use Rattle.pool.specs.Keeping.{KeepsBook, Raises}
 use Rattle.pool.specs.Moment.{IsNamed, Moment, moment_of}
 use Rattle.pool.specs.Replaced.{HasMarked, HasTable, IsAnswer, IsDeclined, IsOfDrive, IsReplaced, LeavesNew, MeansWith, MeansWithout, faults_before, is_vacant}
 use Rattle.pool.specs.Replacing.{refusal_of}
-use Rattle.pool.specs.View.{View, book, volume}
+use Rattle.pool.specs.View.{View, book, slices_shown, volume}
 use Rattle.pool.specs.Volume.{Holds, Means, is_spent, size_of}
 
 -- the disks are told
@@ -25,6 +26,9 @@ pub record Carries (x y : View) : Type 0 where
   pub keeps :
       x.shelf.told → AreTold x → (s : ℕ) → s < size_of x → is_spent y s ≡ false → (volume x).told 0
       → Keeps ((volume x).held 0 s) ((volume y).held 0 s)
+  -- superblocks that said an array's truth do so
+  pub made : (book y).state.made ≡ (book x).state.made
+  pub truths : x.shelf.told → AreTold x → KeepsTruths (book x) (book y) (slices_shown x) (slices_shown y)
 
 -- a disk is that of a place that isn't missing
 abbrev pub IsOfPlace : Moment → ℕ → Type 0

@@ -25,6 +25,8 @@ use Rattle.raid_rack.proofs.Moving.{moves_then}
 use Rattle.raid_rack.proofs.Over.{someone_left}
 use Rattle.raid_rack.proofs.Reading.{part_unread}
 use Rattle.raid_rack.proofs.Rows.{clear_same, rows_read}
+use Rattle.raid_rack.specs.Truths.{KeepsTruths}
+use Rattle.raid_rack.proofs.Truths.{truths_reads, truths_then}
 
 -- a slice with a sector is on the disk of its place
 pub seat_is : (t : Slices) (d s : ℕ) → IsOrderly t → s < sectors_of t d → seat_of t (place_of d) ≡ Some (disk_of t d)
@@ -124,19 +126,20 @@ moves_quiet v a b set reads =
 -- A disk without a place was written, and refused a call.
 pub refused_lay : (t : Slices) (disk : ℕ) (v : Raid) (a b : Seen) → IsOrderly t → ((p : ℕ) → seat_of t p ≢ Some disk) → IsSet v (slices_of t a)
     → WritesOnly a b (IsOfDrive disk (a.sectors disk)) → Rose (a.faults disk) (b.faults disk) → IsRefused t disk v a b
-refused_lay t disk v a b orderly free set only gone = record {
-  only = only;
-  gone = gone;
-  moves =
-      moves_quiet v (slices_of t a) (slices_of t b) set
-      (reads_apart t a b disk (IsOfDrive disk (a.sectors disk)) orderly set.fit.1 only (λ d s u at. at.0) free);
-}
+refused_lay t disk v a b orderly free set only gone =
+    let reads = reads_apart t a b disk (IsOfDrive disk (a.sectors disk)) orderly set.fit.1 only (λ d s u at. at.0) free in
+    record {
+      only = only;
+      gone = gone;
+      moves = moves_quiet v (slices_of t a) (slices_of t b) set reads;
+      truths = truths_reads v (slices_of t a) (slices_of t b) set reads;
+    }
 
 -- A disk without a place was written, and then another drive was found gone: but for its mark all is as before.
 pub not_whole : (t : Slices) (disk : ℕ) (v w : Raid) (a m b : Seen) → IsOrderly t → ((p : ℕ) → seat_of t p ≢ Some disk) → IsSet v (slices_of t a)
     → WritesOnly a m (IsOfDrive disk (a.sectors disk)) → (m.fit → IsInside t m → WritesOnly m b (IsSliced t)) → Mends v w (slices_of t m) (slices_of t b)
-    → HasLost v w (slices_of t m) (slices_of t b) → RaisesBy 18 v w → IsNotWhole t disk v w a b
-not_whole t disk v w a m b orderly free set one two mends lost raises =
+    → HasLost v w (slices_of t m) (slices_of t b) → RaisesBy 18 v w → KeepsTruths v w (slices_of t m) (slices_of t b) → IsNotWhole t disk v w a b
+not_whole t disk v w a m b orderly free set one two mends lost raises truths =
     let inside = set.fit.1 in
     let may : ℕ → ℕ → List ℕ → Type 0 = IsWrittenBy t disk (a.sectors disk) in
     let reads = reads_apart t a m disk (IsOfDrive disk (a.sectors disk)) orderly inside one (λ d s u at. at.0) free in
@@ -150,6 +153,7 @@ not_whole t disk v w a m b orderly free set one two mends lost raises =
         marked = mends.marked;
       };
       raises = raises;
+      truths = truths_then v v w (slices_of t a) (slices_of t m) (slices_of t b) refl (truths_reads v (slices_of t a) (slices_of t m) set reads) truths;
       lost =
           let fault = lost.3 in (
             lost.0,

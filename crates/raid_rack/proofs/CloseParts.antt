@@ -7,7 +7,7 @@ use Rattle.rack.specs.Joins.{leaves_weaker}
 use Rattle.rack.specs.Targets.{look, put}
 use Rattle.md_super.specs.declared.superblock.Super.{Super}
 use Rattle.pool_state.specs.declared.contents.State.{State}
-use Rattle.array_image.specs.Places.{log_slice, member_slice}
+use Rattle.array_image.specs.Places.{log_slice, member_slice, super_sector}
 use Rattle.array_image.specs.States.{current_places, is_current, state_in}
 use Rattle.array_image.specs.Supers.{truth_in}
 use Rattle.array_image.specs.SoundArray.{IsSoundArray}
@@ -49,6 +49,10 @@ use Rattle.raid_rack.proofs.Own.{says_same}
 use Rattle.raid_rack.proofs.Rows.{from_same}
 use Rattle.raid_rack.proofs.Seated.{names_joined, none_listed}
 use Rattle.raid_rack.proofs.Whole.{heeded_gone}
+use Rattle.array_core.specs.TruthHeld.{HoldTruth}
+use Rattle.array_core.proofs.TruthHeld.{hold_supers}
+use Rattle.raid_rack.specs.Truths.{KeepsTruths}
+use Rattle.raid_rack.proofs.Truths.{hold_gone}
 
 -- ---- what contents say goes by the plan nowhere
 
@@ -446,3 +450,17 @@ close_brings v on gone l f b c commit =
 pub close_arrays : (v : Raid) (on gone : List ℕ) (l : LogView) (f : ℕ → View) (b c : Seen) → IsClosing v on gone l f b c
     → KeepsArrays v (closed_raid v (next_number l.number) f)
 close_arrays v on gone l f b c commit n low = only_gone (v.arrays n) (f n) gone (commit.set.arrays n low).is_array (commit.arrays n low)
+
+-- superblocks aren't among its targets
+pub close_truths : (v : Raid) (on gone : List ℕ) (l : LogView) (f : ℕ → View) (b c : Seen) → IsClosing v on gone l f b c
+    → KeepsTruths v (closed_raid v (next_number l.number) f) b c
+close_truths v on gone l f b c commit n low held =
+    let u = v.arrays n in
+    let is_array = (commit.set.arrays n low).is_array in
+    subst (λ (w : View). HoldTruth w c) (sym (commit.arrays n low))
+    (hold_gone u gone c is_array
+    (hold_supers u b c commit.set.lasting is_array.few commit.call.stays
+    (λ d own live.
+    commit.call.apart d super_sector live (λ part. own part.0)
+    (closing_none v on gone l f b c commit d super_sector (λ p named disk first. absurd (omega (arith, first)))))
+    held))

@@ -11,14 +11,15 @@ use Rattle.slice_rack.specs.Runs.{IsSliced}
 use Rattle.pool_state.specs.declared.contents.Plan.{Plan}
 use Rattle.array_image.specs.States.{is_current}
 use Rattle.raid_rack.specs.declared.arrays.Arrays.{Arrays}
-use Rattle.raid_rack.specs.Enlisting.{Enlists, IsEnlisted, JoinsEach, KeepsTold, SettlesWhole, next_drive}
+use Rattle.raid_rack.specs.Enlisting.{Enlists, IsEnlisted, JoinsEach, KeepsTold, SettlesWhole, next_drive, with_drive}
 use Rattle.raid_rack.specs.Moves.{RaisesBy}
 use Rattle.raid_rack.specs.NewDrive.{LaysDrive, SeatsDrive, drive_table, joins}
 use Rattle.raid_rack.specs.RaidRack.{IsFit, IsRunning, raid_by}
-use Rattle.raid_rack.proofs.EnlistTold.{keeps_told}
+use Rattle.raid_rack.proofs.EnlistTold.{enlisted_truths, keeps_told}
 use Rattle.raid_rack.proofs.Enrolled.{all_only, copies_kept, enrolled, enrolled_raises, mbr_kept, single_kept}
 use Rattle.raid_rack.proofs.Renewing.{joins_same, same_members, seats_same}
 use Rattle.raid_rack.proofs.Untouched.{only_moved}
+use Rattle.raid_rack.specs.Truths.{JoinsTruths}
 
 module _ (r q z : Arrays) (place disk units sectors : ℕ) (plan : Plan) (t u : Slices) (a m y b : Seen) (size : sectors ≡ a.sectors disk)
     (fit : IsFit r (slices_of t a)) (running : IsRunning q (slices_of t y)) (settles : SettlesWhole (raid_by r) (raid_by q) (slices_of t m) (slices_of t y))
@@ -35,8 +36,9 @@ module _ (r q z : Arrays) (place disk units sectors : ℕ) (plan : Plan) (t u : 
       → WritesOnly m y (IsSliced t) → (slices_of u y).fit
       → IsEnlisted place units plan (joins q.all.items place sectors) (raid_by q) (raid_by z) (slices_of u y) (slices_of u b) → RaisesBy 18 (raid_by q) (raid_by z)
       → JoinsEach place units plan (raid_by q) (raid_by z) (slices_of u y) (slices_of u b) → WritesOnly y b (IsSliced u) → IsFit z (slices_of u b)
+      → JoinsTruths (with_drive place units plan (joins q.all.items place sectors) (raid_by q)) (raid_by z) (slices_of u y) (slices_of u b)
       → Enlists t u r.all.items place disk units plan (raid_by r) (raid_by z) a b
-  enlists table orderly orderly_now listed missing free room table_is lays two fit_now joined raises each three after =
+  enlists table orderly orderly_now listed missing free room table_is lays two fit_now joined raises each three after truths =
       let v = raid_by r in
       let s = raid_by q in
       let w = raid_by z in
@@ -69,4 +71,10 @@ module _ (r q z : Arrays) (place disk units sectors : ℕ) (plan : Plan) (t u : 
             subst (λ (e : Table). KeepsTold t u place disk units plan e v w a b y.clock n) whole
             (keeps_told r.all.items place disk units plan joining t u v s w a m y b table orderly orderly_now few free fit.running.set fit.heeded missing size_is room lays settles two
             seats fit_now joined_now each three after.running.set opened n low told other);
+        truths = λ opened n low.
+            enlisted_truths r.all.items place disk units plan joining t u v s w a m y b table orderly orderly_now few free fit.running.set fit.heeded missing size_is room lays settles two
+            seats fit_now joined_now each three after.running.set opened
+            (subst (λ (f : ℕ → Bool). JoinsTruths (with_drive place units plan f s) w (slices_of u y) (slices_of u b))
+            ((λ i k. joins_same r.all.items q.all.items same place sectors k i) ∙ ap (λ k. joins r.all.items place k) size) truths)
+            n low;
       }

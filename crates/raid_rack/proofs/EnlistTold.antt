@@ -1,5 +1,5 @@
 -- What an array that was told keeps while a drive is taken in, and what stops leave meanwhile.
-use Rattle.std.proofs.Common.{◌≡◌, ◌≢◌, ◌⊎◌, ℕ, ◌+◌, ◌-◌, ◌<◌, ◌≤◌, ◌^◌, Bool, true, false, if◌then◌else◌, List, [], Ok, Some, refl, sym, ap, ap₂, subst, ◌∙◌, inl, inr, le-ltb, arith}
+use Rattle.std.proofs.Common.{◌≡◌, ◌≢◌, ◌⊎◌, ℕ, ◌+◌, ◌-◌, ◌<◌, ◌≤◌, ◌^◌, Bool, true, false, ◌||◌, if◌then◌else◌, List, [], ◌∷◌, Ok, Some, option_map, slice_get, refl, sym, ap, ap₂, subst, ◌∙◌, inl, inr, le-ltb, arith}
 use Rattle.rack.specs.Values.{MayLeave, Values}
 use Rattle.rack.specs.Seen.{Image, IsLive, Seen, Stays}
 use Rattle.rack.specs.Moments.{Leaves}
@@ -16,14 +16,14 @@ use Rattle.pool_state.specs.declared.contents.State.{State}
 use Rattle.array_image.specs.Arrays.{replayed}
 use Rattle.array_image.specs.Held.{IsSettled}
 use Rattle.array_image.specs.Left.{IsInside}
-use Rattle.array_image.specs.Places.{log_slice, slice_of, state_sector}
+use Rattle.array_image.specs.Places.{log_slice, slice_of, state_sector, super_sector}
 use Rattle.array_image.specs.Record.{gate_sector}
 use Rattle.array_image.specs.States.{is_current}
 use Rattle.array_model.specs.ArrayCalls.{Covers}
-use Rattle.array_model.specs.View.{View, shape_of, spent_in}
+use Rattle.array_model.specs.View.{View, IsArray, place_at, shape_of, spent_in}
 use Rattle.array_model.proofs.Keeping.{live_on}
 use Rattle.commit_log.proofs.Kept.{place_of_log}
-use Rattle.raid_rack.specs.Enlisting.{IsEnlisted, IsNewLog, IsOpenDisk, JoinsEach, JoinsPart, KeepsTold, HoldsLaid, HoldsTable, SaysBy, SaysJoining, SaysLaying, SettlesWhole, enlisted}
+use Rattle.raid_rack.specs.Enlisting.{IsEnlisted, IsNewLog, IsOpenDisk, JoinsEach, JoinsPart, KeepsTold, HoldsLaid, HoldsTable, SaysBy, SaysJoining, SaysLaying, SettlesWhole, enlisted, next_drive, with_drive}
 use Rattle.raid_rack.specs.Laws.{live_parts}
 use Rattle.raid_rack.specs.Losses.{has_other}
 use Rattle.raid_rack.specs.Marking.{SaysBetween}
@@ -39,6 +39,18 @@ use Rattle.raid_rack.proofs.Reseated.{reseated_amid, reseated_rows, reseated_set
 use Rattle.raid_rack.proofs.ReseatedLogs.{DiffersAt}
 use Rattle.raid_rack.proofs.Untouched.{disk_new, disk_still, off_slices}
 use Rattle.raid_rack.proofs.Whole.{amid_stood, stood_keeps, stood_own, told_amid}
+use Rattle.std.proofs.lemmas.Bool.{cases_eq, ne_eqb}
+use Rattle.shr_base.specs.declared.Id.{Id}
+use Rattle.array_model.specs.declared.Seat.{Seat}
+use Rattle.array_model.specs.declared.Seat.TheVariants.{Missing, Rebuilding}
+use Rattle.array_model.specs.Members.{slice_on}
+use Rattle.array_core.specs.Seats.{names, renewed}
+use Rattle.array_core.specs.Slots.{place_by}
+use Rattle.array_core.specs.TruthHeld.{HoldTruth, TellSupers}
+use Rattle.array_core.proofs.TruthHeld.{hold_tells}
+use Rattle.raid_rack.specs.Truths.{JoinsTruths, TellsThere}
+use Rattle.raid_rack.proofs.Seated.{zip_seats}
+use Rattle.raid_rack.proofs.Truths.{tells_loses}
 
 -- what is said of each stop of the slices is said of the disks', beside what is said of these
 leaves_below : (t : Slices) (a b : Seen) (P Q : Image → Type 0) → Leaves a b Q → Leaves (slices_of t a) (slices_of t b) P → Leaves a b (λ c. Q c × P (sliced t c))
@@ -194,6 +206,43 @@ module _ (arrays : List View) (place disk units : ℕ) (plan : Plan) (joining : 
           | inl was ↦ was
           | inr at ↦ absurd (free (place_of at.slice) (seat_is t at.slice at.at orderly at.within ∙ ap Some (sym at.disk_is)))
         ]))
+
+    -- ---- superblocks
+
+    -- a member that was there before the new one
+    seat_before : (q : View) (drive : Id) (k : ℕ) → IsArray q → place_at q k ≢ place → slice_get (renewed place drive q).seats k ≢ Some Missing → slice_get q.seats k ≢ Some Missing
+    seat_before q drive k is_array away there gone =
+        let change : ℕ → Seat → Seat = λ p seat. if names (place ∷ []) p then Rebuilding 0 else seat in
+        there
+        (zip_seats change (place_by q.truth) 0 q.truth.raid_disks q.seats q.devices k is_array.seats is_array.devices
+        ∙ ap (option_map (change (place_by q.truth (0 + k)))) gone
+        ∙ ap (λ (b : Bool). Some (if b then Rebuilding 0 else Missing))
+        (ap (λ (p : ℕ). names (place ∷ []) (place_by q.truth p)) (let e : 0 + k ≡ k = omega arith in e) ∙ other_named (place_at q k) away))
+      where
+        other_named : (p : ℕ) → p ≢ place → names (place ∷ []) p ≡ false
+        other_named p away = ap (λ (b : Bool). b || false) (ne_eqb place p (λ same. away (sym same)))
+
+    -- those of the members that were there are told, and those of the new ones
+    tells_now : (q : View) (drive : Id) (b : Bool) → IsArray q → TellSupers q (slices_of t y) → TellsThere (if b then renewed place drive q else q) (slices_of u y)
+    tells_now q drive false is_array tells k inside there within =
+        elim (cases_eq (place_of (slice_on q k)) place) [
+          | inl same ↦ differs.own (slice_on q k) super_sector same within
+          | inr away ↦ differs.live (slice_on q k) super_sector away (tells k inside there)
+        ]
+    tells_now q drive true is_array tells k inside there within =
+        let few = is_array.few in
+        let on : place_of (slice_on q k) ≡ place_at q k = omega (arith, few) in
+        elim (cases_eq (place_of (slice_on q k)) place) [
+          | inl same ↦ differs.own (slice_on q k) super_sector same within
+          | inr away ↦ differs.live (slice_on q k) super_sector away (tells k inside (seat_before q drive k is_array (λ same. away (on ∙ same)) there))
+        ]
+
+    pub enlisted_truths : JoinsTruths (with_drive place units plan joining s) w (slices_of u y) (slices_of u b)
+        → (n : ℕ) → n < v.state.made → HoldTruth (v.arrays n) (slices_of t a) → HoldTruth (w.arrays n) (slices_of u b)
+    enlisted_truths joins n low held =
+        let now = low_now n low in
+        let tells = tells_loses (v.arrays n) (s.arrays n) (slices_of t a) (slices_of t y) set.lasting before.stays (before.arrays n low) (hold_tells (v.arrays n) (slices_of t a) held) in
+        joins n now (tells_now (s.arrays n) (next_drive s.state) (joining n) (set_then.arrays n now).is_array tells)
 
     -- ---- an array
 

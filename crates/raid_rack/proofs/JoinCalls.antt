@@ -16,7 +16,7 @@ use Rattle.commit_log.specs.Commits.{CommitCall}
 use Rattle.array_model.specs.View.{View, sectors_of}
 use Rattle.array_core.specs.Seats.{gone as without, renewed, seat_of}
 use Rattle.raid_rack.specs.declared.arrays.Arrays.{Arrays}
-use Rattle.raid_rack.specs.Enlisting.{HasNewSlices, IsEnlisted, JoinsEach, enlisted, next_drive, renewed_at}
+use Rattle.raid_rack.specs.Enlisting.{HasNewSlices, IsEnlisted, JoinsEach, enlisted, next_drive, renewed_at, with_drive}
 use Rattle.raid_rack.specs.Losses.{AddsCopies}
 use Rattle.raid_rack.specs.Moves.{IsHeeded, IsSet, Mends, RaisesBy}
 use Rattle.raid_rack.specs.NewDrive.{ReachesAll, first_in, joins, slice_length}
@@ -29,6 +29,8 @@ use Rattle.raid_rack.proofs.Joined.{joins_part}
 use Rattle.raid_rack.proofs.Joining.{MayJoinPool, enlisting_raises, is_enlisted, joining_fewer, joining_marks, listed_raid, staged_like}
 use Rattle.raid_rack.proofs.Mended.{each_get, each_sectors, get_past}
 use Rattle.raid_rack.proofs.Renewed.{renewed_count, renewed_get}
+use Rattle.raid_rack.specs.Truths.{JoinsTruths, KeepsTruths}
+use Rattle.raid_rack.proofs.Truths.{makes_commit, makes_kept}
 
 -- a new drive may join, over slices that it has
 pub record HasSeats (a : Arrays) (place units sectors : ℕ) (plan : Plan) (x : Seen) : Type 0 where
@@ -177,3 +179,11 @@ module _ (a d : Arrays) (place units sectors : ℕ) (plan : Plan) (joining : ℕ
       pub joins_each : JoinsEach place units plan (raid_by a) (raid_by b) x z
       joins_each new_log other n vals spent joined low goes covers amid settled =
           joins_part place units plan takes_in v on takes gone l xs f x y may commit (raid_by b) z mends_m is.on_are new_log other n vals spent joined low goes covers amid settled
+
+      -- the commit has the superblocks of all arrays
+      pub joins_truths : KeepsTruths (raid_by (record d { state = t; all = all; log = log })) (raid_by b) y z
+          → JoinsTruths (with_drive place units plan (joins a.all.items place sectors) (raid_by a)) (raid_by b) x z
+      joins_truths kept n low tells =
+          makes_kept u m (raid_by b) x y z refl (makes_commit u [] takes gone l xs f x y commit)
+          (subst (λ (r : Raid). KeepsTruths r (raid_by b) y z) (sym whole) kept) n low
+          (λ k inside there. tells k inside there (let long = (joins_marking.set.arrays n low).slices.sectors k inside there in omega (arith, long)))

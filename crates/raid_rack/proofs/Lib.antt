@@ -78,3 +78,6 @@ mod Enrolled
 mod EnlistTold
 mod EnlistAll
 pub mod Vacated
+pub mod Truths
+pub mod TruthTurns
+pub mod TruthAgrees

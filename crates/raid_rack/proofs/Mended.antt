@@ -36,6 +36,8 @@ use Rattle.raid_rack.proofs.Agreeing.{agree_then}
 use Rattle.raid_rack.proofs.Over.{someone_left}
 use Rattle.raid_rack.proofs.Turns.{agrees_commit, moves_commit, commit_progress}
 use Rattle.raid_rack.proofs.Turned.{newly_named, newly_other, moves_emptied}
+use Rattle.raid_rack.specs.Truths.{MakesTruths}
+use Rattle.raid_rack.proofs.Truths.{early_truths, makes_after, makes_commit, makes_nobody}
 
 -- ---- lists of which each element is changed
 
@@ -224,6 +226,11 @@ ends_turn a b c all log l t lost on gone x y z noted settles running t_is markin
       supers = subst (λ (w : Raid). MakesAgree (raid_by a) w x z) whole
           (agree_then (raid_by a) (raid_by b) (raid_after v lost (next_number l.number) f) x x z noted.moves last
           (agrees_commit (raid_by b) v lost on gone l c.log.added f x y z settled commit));
+      truths = λ are.
+          subst (λ (w : Raid). MakesTruths (raid_by a) w x z) whole
+          (makes_after (raid_by a) (raid_by b) (raid_after v lost (next_number l.number) f) x x z noted.running.set.lasting noted.moves
+          (makes_after (raid_by b) v (raid_after v lost (next_number l.number) f) x y z noted.running.set.lasting settled.moves
+          (makes_commit v lost on gone l c.log.added f y z commit)));
       moves = subst (λ (w : Raid). Moves (raid_by a) w x z) whole step;
       progress =
           subst (λ (w : Raid). AreMarked w ⊎ ((p : ℕ) × (is_left (raid_by a) p ≡ true) × (is_left w p ≡ false))) whole
@@ -284,6 +291,9 @@ ends_empty a b c t lost on x y noted settles running same t_is on_is empty =
       supers = λ unfaulted n vals spent low made goes.
           let one = someone_left (raid_by (record c { state = t })) n goes in
           absurd (over one.0 one.1);
+      truths = λ are.
+          subst (λ (w : Raid). MakesTruths (raid_by a) w x y) whole
+          (makes_nobody (raid_by a) (record v { state = state_after v lost }) x y joined.set joined.book.same.made nobody);
       moves = subst (λ (w : Raid). Moves (raid_by a) w x y) whole joined;
       progress = inl (λ p current. absurd (over p current));
       raises =
@@ -325,6 +335,7 @@ ends_early a b c lost x y turn noted settles running other =
       moves = joined;
       progress = inr lost_one;
       supers = λ unfaulted. absurd (unfaulted lost_one.0 (joined.cause lost_one.0 lost_one.1 lost_one.2));
+      truths = early_truths (raid_by a) (raid_by c) x y (settles.same ∙ noted.same) lost_one;
       raises =
           let stays = settles.number in
           let first = noted.raises in

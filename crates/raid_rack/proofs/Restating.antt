@@ -31,6 +31,8 @@ use Rattle.raid_rack.proofs.Moving.{moves_then}
 use Rattle.raid_rack.proofs.Noted.{heeded_shape, moves_heeded, with_arrays}
 use Rattle.raid_rack.proofs.Over.{someone_left}
 use Rattle.raid_rack.proofs.Raises.{raised_up, raises_then}
+use Rattle.raid_rack.specs.Truths.{MakesTruths}
+use Rattle.raid_rack.proofs.Truths.{makes_after, makes_commit}
 use Rattle.raid_rack.proofs.Turned.{moves_emptied, newly_named, none_newly}
 use Rattle.raid_rack.proofs.Turns.{agrees_commit, commit_marked, moves_commit}
 use Rattle.raid_rack.proofs.Whole.{heeded_gone, heeded_left}
@@ -142,6 +144,7 @@ marking_anew a d lost on l t x y has none t_is on_is copies number = record {
 pub record HasRestated (a b : Arrays) (x y : Seen) : Type 0 where
   pub moves : Moves (raid_by a) (raid_by b) x y
   pub supers : MakesAgree (raid_by a) (raid_by b) x y
+  pub truths : x.lasting → MakesTruths (raid_by a) (raid_by b) x y
   pub marked : NoneFails x y → AreMarked (raid_by b)
   pub raises : RaisesBy 1 (raid_by a) (raid_by b)
   pub running : IsRunning b y
@@ -169,6 +172,9 @@ has_restated a d all log l t lost on gone x y z has t_is marking call each count
     record {
       moves = subst (λ (r : Raid). Moves (raid_by a) r x z) whole step;
       supers = subst (λ (r : Raid). MakesAgree (raid_by a) r x z) whole (agrees_commit (raid_by a) v lost on gone l d.log.added f x y z has.settles commit);
+      truths = λ lasting.
+          subst (λ (r : Raid). MakesTruths (raid_by a) r x z) whole
+          (makes_after (raid_by a) v w x y z lasting has.settles.moves (makes_commit v lost on gone l d.log.added f y z commit));
       marked = λ none.
           subst AreMarked whole
           (commit_marked v lost on gone l d.log.added f y z commit (none_later x y z has.settles.moves.stays none));

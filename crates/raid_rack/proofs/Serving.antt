@@ -18,6 +18,7 @@ use Rattle.raid_rack.specs.Raid.{Raid, is_over, live_of, spent_of, held_in, Stop
 use Rattle.raid_rack.specs.Acts.{RaidActs}
 use Rattle.raid_rack.specs.Moves.{AreCaused, Brings, KeepsArrays, Mends, Moves, ReadsValue, SyncsOne, WritesOne, noted_at, written_at}
 use Rattle.raid_rack.specs.Runs.{RaidRuns}
+use Rattle.raid_rack.specs.Truths.{KeepsTruths}
 use Rattle.raid_rack.specs.RaidRack.{IsFit, IsRunning, KeepsRack, raid_by}
 use Rattle.raid_rack.specs.AllRuns.{Serves}
 use Rattle.raid_rack.proofs.Ended.{none_past}
@@ -169,8 +170,9 @@ made_by a b n count same goes =
 
 pub runs_call : (p q : ℕ → Bool) (a b : Arrays) (x y : Seen) (now : ℕ → (ℕ → Values) → ℕ → Values)
     → ((n : ℕ) → q n ≡ false → (p n ≡ false) × ((was : ℕ → Values) → now n was ≡ was)) → IsFit a x → IsFit b y → StopsInside y
-    → Brings (raid_by a) (raid_by b) x y now → AreCaused (raid_by a) (raid_by b) x y → RaidRuns p q (raid_by a) (raid_by b) x y
-runs_call p q a b x y now unwritten fit after inside brings cause =
+    → Brings (raid_by a) (raid_by b) x y now → AreCaused (raid_by a) (raid_by b) x y → KeepsTruths (raid_by a) (raid_by b) x y
+    → RaidRuns p q (raid_by a) (raid_by b) x y
+runs_call p q a b x y now unwritten fit after inside brings cause truths =
     let v = raid_by a in
     let w = raid_by b in
     let vals : Held = λ n. now n (held_in v x n) in
@@ -188,6 +190,7 @@ runs_call p q a b x y now unwritten fit after inside brings cause =
       unspent = brings.stays.spent;
       unwritten = brings.unwritten;
       caused = cause;
+      truths = truths;
       still = call.still;
       told = acts.told;
       written = λ n not. (unwritten n not).0;
@@ -225,9 +228,11 @@ flags_kept p q m sector from noted others n not =
       λ was. ap (λ (t : Bool). if t then appended_at sector from was else was) (ne_eqb n m apart),
     )
 
-pub runs_moves : (p : ℕ → Bool) (a b : Arrays) (x y : Seen) → IsFit a x → IsFit b y → StopsInside y → Moves (raid_by a) (raid_by b) x y → RaidRuns p p (raid_by a) (raid_by b) x y
-runs_moves p a b x y fit after inside moves =
+pub runs_moves : (p : ℕ → Bool) (a b : Arrays) (x y : Seen) → IsFit a x → IsFit b y → StopsInside y → Moves (raid_by a) (raid_by b) x y → KeepsTruths (raid_by a) (raid_by b) x y
+    → RaidRuns p p (raid_by a) (raid_by b) x y
+runs_moves p a b x y fit after inside moves truths =
     runs_call p p a b x y (λ n vals. vals) (λ n not. (not, λ was. refl)) fit after inside (moves_bring (raid_by a) (raid_by b) x y moves) (record { left = moves.left; cause = moves.cause })
+    truths
 
 -- a call counts a refusal of its own array alone, and only of a spent sector
 pub served_call : (v w : Raid) (f g : ℕ → ℕ) (disk sector : ℕ) → sector < array_sectors (v.arrays disk)

@@ -1,21 +1,26 @@
 -- A place whose drive is missing has given its disk up: arrays stand over the slices that are left as they did.
-use Rattle.std.proofs.Common.{◌≡◌, ◌≢◌, ℕ, ◌+◌, ◌<◌, Bool, false, if◌then◌else◌, List, Option, None, sym, ap, ap₂, subst, ◌∙◌, arith, unwrap_or}
+use Rattle.std.proofs.Common.{◌≡◌, ◌≢◌, ℕ, ◌+◌, ◌<◌, Bool, false, ◌&&◌, not, if◌then◌else◌, List, slice_get, Option, Some, None, sym, ap, ap₂, subst, ◌∙◌, arith, unwrap_or}
 use Rattle.std.proofs.lemmas.Bool.{ne_eqb}
 use Rattle.rack.specs.Values.{Keeps, MayLeave}
 use Rattle.rack.specs.Seen.{Seen}
 use Rattle.slice_rack.specs.Changes.{Seats}
 use Rattle.slice_rack.specs.Slices.{Slices, disk_of, place_of, seat_of}
 use Rattle.slice_rack.specs.Sliced.{slices_of}
-use Rattle.array_image.specs.Places.{log_slice}
+use Rattle.array_image.specs.Places.{log_slice, super_sector}
 use Rattle.array_image.specs.States.{is_current}
 use Rattle.commit_log.proofs.Kept.{place_of_log}
+use Rattle.array_model.specs.declared.Seat.TheVariants.{Missing}
+use Rattle.array_model.specs.Members.{slice_on}
+use Rattle.array_model.specs.View.{has_gone, place_at}
+use Rattle.array_core.proofs.TruthHeld.{slice_place}
 use Rattle.raid_rack.specs.Laws.{live_parts}
 use Rattle.raid_rack.specs.Moves.{IsAmid, IsHeeded, IsSet}
 use Rattle.raid_rack.specs.NewDrive.{no_state}
 use Rattle.raid_rack.specs.Raid.{IsTold, Raid, held_in, is_over, live_of, spent_of}
 use Rattle.raid_rack.specs.Rows.{LeavesRows}
 use Rattle.raid_rack.proofs.Reseated.{reseated_amid, reseated_rows}
-use Rattle.raid_rack.specs.Rows.{LeavesRows}
+use Rattle.raid_rack.specs.Truths.{KeepsTruths}
+use Rattle.raid_rack.proofs.Truths.{missing_none}
 use Rattle.raid_rack.proofs.ReseatedLogs.{DiffersAt}
 use Rattle.raid_rack.proofs.Seating.{others_set}
 use Rattle.raid_rack.proofs.Whole.{amid_stood, stood_keeps, stood_own, told_amid}
@@ -42,6 +47,26 @@ module _ (place : ℕ) (t u : Slices) (x : Seen) (seats : Seats t u place None) 
     -- the arrays over the slices that are left
     pub vacated_set : (slices_of u x).fit → IsSet v (slices_of u x)
     vacated_set fit = others_set place t u x v seats.sectors fit missing set
+
+    -- a member that isn't missing is on another place
+    on_other : (n k : ℕ) → n < v.state.made → k < (v.arrays n).truth.raid_disks → slice_get (v.arrays n).seats k ≢ Some Missing → place_of (slice_on (v.arrays n) k) ≢ place
+    on_other n k low inside there same =
+        let seated = set.arrays n low in
+        let p = place_at (v.arrays n) k in
+        let here : p ≡ place = sym (slice_place (v.arrays n) k seated.is_array.few) ∙ same in
+        there (missing_none (slice_get (v.arrays n).seats k)
+        (seated.marks k inside ∙ ap (λ c. Some (not (c && not (has_gone (v.arrays n) p)))) (ap (is_current v.state) here ∙ missing)))
+
+    -- superblocks that said an array's truth do so
+    pub vacated_truths : KeepsTruths v v (slices_of t x) (slices_of u x)
+    vacated_truths n low held k inside there =
+        let d = slice_on (v.arrays n) k in
+        let other = on_other n k low inside there in
+        let has = held k inside there in
+        record {
+          live = differs.live d super_sector other has.live;
+          says = λ sector leaves. has.says sector (subst (λ h. MayLeave h sector) (differs.held d super_sector other) leaves);
+        }
 
     module _ (fit : (slices_of u x).fit) (n : ℕ) (low : n < v.state.made) (told : IsTold v (slices_of t x) n) where
       stood : is_over v n ≡ false → IsAmid v (slices_of t x) n (held_in v (slices_of t x) n) (spent_of v n)

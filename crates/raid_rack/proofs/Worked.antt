@@ -33,7 +33,8 @@ use Rattle.raid_rack.specs.RaidRack.{IsFit, IsRunning, raid_by, no_array}
 use Rattle.raid_rack.specs.Works.{ClosesPlan, ResyncsOne, StepsOne, closed, is_stuck}
 use Rattle.raid_rack.proofs.Added.{names_current}
 use Rattle.raid_rack.proofs.Adding.{copies_apart, copies_from}
-use Rattle.raid_rack.proofs.CloseParts.{close_arrays, close_brings}
+use Rattle.raid_rack.proofs.CloseParts.{close_arrays, close_brings, close_truths}
+use Rattle.raid_rack.specs.Truths.{KeepsTruths}
 use Rattle.raid_rack.proofs.Closing.{IsClosing, after_closed, closed_raid, closing_cause, closing_left, seated_closed, valid_closed}
 use Rattle.raid_rack.specs.Losing.{arrays_then, only_same}
 use Rattle.raid_rack.proofs.Mended.{each_get, each_sectors, on_named}
@@ -136,6 +137,7 @@ pub record HasClosed (a b : Arrays) (x y : Seen) : Type 0 where
   pub plan : b.state.plan ≡ Nothing
   pub running : IsRunning b y
   pub raises : RaisesBy 1 (raid_by a) (raid_by b)
+  pub truths : KeepsTruths (raid_by a) (raid_by b) x y
 
 pub closes_empty : (a : Arrays) (t : State) (log : LogView) (on : List ℕ) (x : Seen) → IsRunning a x → IsHeeded (raid_by a)
     → t ≡ closed a.state → on ≡ current_places t → length on ≡ 0 → log.number ≡ a.log.number
@@ -158,6 +160,7 @@ closes_empty a t log on x running heeded t_is on_is empty number =
         cause = λ p was now. absurd (both_ways (is_current v.state p) (nobody p) (and_parts (is_current v.state p) (not (gone_in v p)) was).0);
       });
       arrays = λ n low. only_same (v.arrays n) (v.arrays n) refl;
+      truths = λ n low held. held;
       plan = ap (λ (s : State). s.plan) t_is;
       running = record {
         count = running.count ∙ sym (ap (λ (s : State). s.made) t_is);
@@ -206,6 +209,7 @@ has_closed a all t log l on gone x y running commit t_is count number =
       brings = subst (λ (w : Raid). Brings v w x y (λ n vals. vals)) whole brings;
       caused = subst (λ (w : Raid). AreCaused v w x y) whole (record { left = closing_left v on gone l f x y commit; cause = closing_cause v on gone l f x y commit });
       arrays = close_arrays v on gone l f x y commit;
+      truths = subst (λ (w : Raid). KeepsTruths v w x y) whole (close_truths v on gone l f x y commit);
       plan = ap (λ (s : State). s.plan) t_is;
       running = record {
         count = count ∙ running.count ∙ sym (ap (λ (s : State). s.made) t_is);

@@ -62,7 +62,7 @@ opened s made n u x seated live low m sector among counts =
         (λ missing. absurd (let bad : Some (Rebuilding to) ≡ Some Missing = sym is ∙ missing in cc), omega (arith, reach, low_to))
 
 -- its members that are missing are those whose places are marked
-state_of : (v : Raid) (x : Seen) (n : ℕ) → IsSet v x → IsHeeded v → n < v.state.made → IsStateOf (v.arrays n) v.state
+pub state_of : (v : Raid) (x : Seen) (n : ℕ) → IsSet v x → IsHeeded v → n < v.state.made → IsStateOf (v.arrays n) v.state
 state_of v x n set heeded low =
     let seated = set.arrays n low in
     let pool = seated.is_of_pool in

@@ -25,6 +25,7 @@ use Rattle.array_model.specs.ArrayCalls.{Covers}
 use Rattle.array_model.specs.View.{View, HasFault, sectors_of, shape_of, spent_in}
 use Rattle.array_model.specs.Says.{Says}
 use Rattle.array_core.specs.Seats.{renewed}
+use Rattle.array_core.specs.TruthHeld.{HoldTruth}
 use Rattle.raid_rack.specs.Book.{IsAfter}
 use Rattle.raid_rack.specs.Losses.{has_other}
 use Rattle.raid_rack.specs.Marking.{SaysBetween}
@@ -32,6 +33,7 @@ use Rattle.raid_rack.specs.Missing.{raised}
 use Rattle.raid_rack.specs.Moves.{AreCaused, IsAmid, IsHeeded, KeepsArrays, Mends, Moves, RaisesBy}
 use Rattle.raid_rack.specs.NewDrive.{IsOfDrive, drive_table, first_gate, joins, length_in, no_state}
 use Rattle.raid_rack.specs.Raid.{Raid, IsTold, held_in, is_over, live_of, spent_of}
+use Rattle.raid_rack.specs.Truths.{KeepsTruths}
 use Rattle.raid_rack.specs.Rows.{KeepsRows, LeavesFrom, LeavesRows}
 
 -- ---- the book
@@ -143,6 +145,8 @@ pub record Enlists (t u : Slices) (arrays : List View) (place disk units : ℕ) 
   pub told :
       (n : ℕ) → n < v.state.made → IsTold v (slices_of t a) n → IsOpenDisk a disk → has_other w.state place ≡ true
       → KeepsTold t u place disk units plan (new_table v.state arrays place (a.sectors disk)) v w a b mid n
+  -- superblocks that said an array's truth do so after it, and so do those of the new members
+  pub truths : IsOpenDisk a disk → (n : ℕ) → n < v.state.made → HoldTruth (v.arrays n) (slices_of t a) → HoldTruth (w.arrays n) (slices_of u b)
 
 -- ---- refusals
 
@@ -151,12 +155,14 @@ pub record IsRefused (t : Slices) (disk : ℕ) (v : Raid) (a b : Seen) : Type 0 
   pub only : WritesOnly a b (IsOfDrive disk (a.sectors disk))
   pub gone : Rose (a.faults disk) (b.faults disk)
   pub moves : Moves v v (slices_of t a) (slices_of t b)
+  pub truths : KeepsTruths v v (slices_of t a) (slices_of t b)
 
 -- Another drive than the new one was found gone and is marked: the drive isn't taken in. But for the marks all is as before.
 pub record IsNotWhole (t : Slices) (disk : ℕ) (v w : Raid) (a b : Seen) : Type 0 where
   pub only : WritesOnly a b (IsWrittenBy t disk (a.sectors disk))
   pub mends : Mends v w (slices_of t a) (slices_of t b)
   pub raises : RaisesBy 18 v w
+  pub truths : KeepsTruths v w (slices_of t a) (slices_of t b)
   pub lost : (p : ℕ) × (is_current v.state p ≡ true) × (is_current w.state p ≡ false) × HasFault (slices_of t a) (slices_of t b) p
 
 -- ---- the parts of the call

@@ -18,3 +18,4 @@ pub mod Opening
 pub mod AllRuns
 pub mod NewDrive
 pub mod Enlisting
+pub mod Truths

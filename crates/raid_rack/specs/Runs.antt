@@ -15,6 +15,7 @@ use Rattle.array_image.specs.Arrays.{Shape, shape_in, replayed}
 use Rattle.raid_rack.specs.Book.{IsAfter, after_same, after_then}
 use Rattle.raid_rack.specs.Moves.{AreCaused, KeepsMarked}
 use Rattle.raid_rack.specs.Raid.{Raid, is_left, is_over, IsTold}
+use Rattle.raid_rack.specs.Truths.{KeepsTruths}
 use Rattle.raid_rack.specs.Rows.{KeepsRows, LeavesFrom, LeavesRows, rows_then}
 
 -- Replayed contents have a state between two, and by it an array whose superblocks agree.
@@ -51,6 +52,8 @@ pub record RaidRuns (p q : ℕ → Bool) (v w : Raid) (a b : Seen) : Type 0 wher
   pub images :
       (n : ℕ) → IsTold v a n → is_over w n ≡ false → a.traced
       → Leaves a b (λ c. IsBetween v.state w.state n (replayed a.sectors c))
+  -- superblocks that said an array's truth do so after it
+  pub truths : KeepsTruths v w a b
 
 -- no call is a run
 pub raid_runs_same : (p : ℕ → Bool) (v : Raid) (x : Seen) → RaidRuns p p v v x x
@@ -75,6 +78,7 @@ raid_runs_same p v x =
         leaves = λ traced. leaves_same x (λ c. IsInside x.sectors c → LeavesFrom (v.arrays n).resync n (replayed x.sectors c));
         after = rows;
       };
+      truths = λ n low held. held;
       images = λ n told goes traced. leaves_same x (λ c. IsBetween v.state v.state n (replayed x.sectors c));
     }
 
@@ -146,6 +150,7 @@ raid_runs_then p q r v w z a b c one two =
       rows = λ n not told goes rows.
           let first = one.rows n (two.written n not) told (two.still n goes) rows in
           rows_then v w z a b c n one.sectors one.traced first (two.rows n not (one.told n told) goes first.after);
+      truths = λ n low held. two.truths n (subst (λ k. n < k) (sym one.book.same.made) low) (one.truths n low held);
       images = λ n told goes traced.
           leaves_then
           (λ i. IsBetween v.state z.state n (replayed a.sectors i))

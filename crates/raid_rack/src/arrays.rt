@@ -48,6 +48,7 @@ impl<R: Rack> RaidRack<R> {
     ghost use Rattle.raid_rack.specs.Cleaning.{CleansAll, LeavesItsRows};
     ghost use Rattle.raid_rack.specs.Agreeing.{MakesAgree};
     ghost use Rattle.raid_rack.specs.Runs.{RaidRuns};
+    ghost use Rattle.raid_rack.specs.Truths.{KeepsTruths, MakesTruths};
     ghost use Rattle.raid_rack.specs.RaidRack.{SliceRuns, IsFit, IsRunning, KeepsRack, arrays_in, arrays_of, raid_seen, raid_in, refused_in, slices_in, slices_seen, written_in};
 
     /// The rack of these arrays, which are those below the state's `made`, by number, over these slices. Nothing is added to the
@@ -131,6 +132,7 @@ impl<R: Rack> RaidRack<R> {
         ensures mends { OnOk result (Mends (noted_at (place ∷ []) (raid_in self.old)) (raid_in self.new) (slices_seen R.seen self.old) (slices_seen R.seen self.new)) }
         ensures keeps { OnOk result (KeepsRack (raid_seen R.seen self.old) (raid_seen R.seen self.new)) }
         ensures raises { RaisesBy 17 (raid_in self.old) (raid_in self.new) }
+        ensures truths { KeepsTruths (raid_in self.old) (raid_in self.new) (slices_seen R.seen self.old) (slices_seen R.seen self.new) }
         ensures runs { SliceRuns R.seen R.runs (slices_in self.old) (slices_in self.new) }
     {
         if !has_other(&self.arrays.state, place) {
@@ -165,6 +167,8 @@ impl<R: Rack> RaidRack<R> {
         ensures idle { AreMarked (raid_in self.old) → (slices_in self.new ≡ slices_in self.old) × ((raid_in self.new).state ≡ (raid_in self.old).state) }
         // Else the superblocks of each array agree afterwards, where no drive refuses a call.
         ensures supers { (AreMarked (raid_in self.old) → ⊥) → MakesAgree (raid_in self.old) (raid_in self.new) (slices_seen R.seen self.old) (slices_seen R.seen self.new) }
+        ensures truths { KeepsTruths (raid_in self.old) (raid_in self.new) (slices_seen R.seen self.old) (slices_seen R.seen self.new) }
+        ensures makes { (AreMarked (raid_in self.old) → ⊥) → MakesTruths (raid_in self.old) (raid_in self.new) (slices_seen R.seen self.old) (slices_seen R.seen self.new) }
         ensures fit { IsFit (arrays_in self.new) (slices_seen R.seen self.new) }
         ensures refused { (n : ℕ) → refused_in self.new n ≡ refused_in self.old n }
         ensures written { (n : ℕ) → written_in self.new n ≡ written_in self.old n }
@@ -179,6 +183,7 @@ impl<R: Rack> RaidRack<R> {
         requires fit { IsFit (arrays_in self.old) (slices_seen R.seen self.old) }
         ensures mends { Mends (raid_in self.old) (raid_in self.new) (slices_seen R.seen self.old) (slices_seen R.seen self.new) }
         ensures supers { MakesAgree (raid_in self.old) (raid_in self.new) (slices_seen R.seen self.old) (slices_seen R.seen self.new) }
+        ensures truths { MakesTruths (raid_in self.old) (raid_in self.new) (slices_seen R.seen self.old) (slices_seen R.seen self.new) }
         ensures keeps { KeepsRack (raid_seen R.seen self.old) (raid_seen R.seen self.new) }
         ensures raises { RaisesBy 18 (raid_in self.old) (raid_in self.new) }
         ensures refused { (n : ℕ) → refused_in self.new n ≡ refused_in self.old n }

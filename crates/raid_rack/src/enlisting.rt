@@ -11,6 +11,7 @@ ghost use Rattle.raid_rack.specs.Moves.{IsHeeded, Mends, RaisesBy};
 ghost use Rattle.raid_rack.specs.NewDrive.{ReachesAll, SeatsDrive, joins};
 ghost use Rattle.raid_rack.specs.Settling.{HasStaged};
 ghost use Rattle.raid_rack.specs.RaidRack.{IsFit, IsRunning, arrays_in, arrays_of, is_written, raid_by, raid_in, refused_in, slices_in, slices_seen, written_in};
+ghost use Rattle.raid_rack.specs.Truths.{JoinsTruths, KeepsTruths};
 ghost use Rattle.raid_rack.specs.Enlisting as spec;
 
 use crate::arrays::{Arrays, RaidRack};
@@ -80,6 +81,7 @@ impl Arrays {
         ensures mends { result ≡ false → Mends (raid_by self.old) (raid_by self.new) (S.seen rack.old) (S.seen rack.new) }
         ensures lost { result ≡ false → spec.HasLost (raid_by self.old) (raid_by self.new) (S.seen rack.old) (S.seen rack.new) }
         ensures raises { RaisesBy 18 (raid_by self.old) (raid_by self.new) }
+        ensures truths { result ≡ false → KeepsTruths (raid_by self.old) (raid_by self.new) (S.seen rack.old) (S.seen rack.new) }
         ensures running { IsRunning self.new (S.seen rack.new) }
         ensures runs { S.runs rack.old rack.new }
     {
@@ -145,6 +147,7 @@ impl Arrays {
         ensures raises { RaisesBy 18 (raid_by self.old) (raid_by self.new) }
         ensures fit { IsFit self.new (S.seen rack.new) }
         ensures each { spec.JoinsEach place units plan (raid_by self.old) (raid_by self.new) (S.seen rack.old) (S.seen rack.new) }
+        ensures truths { JoinsTruths (spec.with_drive place units plan (joins self.old.all.items place sectors) (raid_by self.old)) (raid_by self.new) (S.seen rack.old) (S.seen rack.new) }
         ensures runs { S.runs rack.old rack.new }
     {
         let on = current_places(&self.state);

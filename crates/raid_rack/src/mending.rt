@@ -1,6 +1,6 @@
 //! Losses that calls met are marked: all arrays are settled, and one commit writes the marks.
 
-ghost use Rattle.std.specs.Prelude.{◌≡◌, ◌<◌, ◌==◌, ℕ, Bool, true, [], ◌∷◌, length};
+ghost use Rattle.std.specs.Prelude.{◌≡◌, ◌⊎◌, ◌<◌, ◌==◌, ℕ, Bool, true, [], ◌∷◌, length};
 ghost use Rattle.array_image.specs.States.{is_current};
 ghost use Rattle.raid_rack.specs.Moves.{AreMarked, Mends, Moves, IsHeeded, RaisesBy, ReadsValue, SyncsOne, WritesOne, noted_at};
 ghost use Rattle.array_model.specs.View.{sectors_of};
@@ -9,6 +9,7 @@ ghost use Rattle.raid_rack.specs.Agreeing.{MakesAgree};
 ghost use Rattle.raid_rack.specs.AllRuns.{Spares};
 ghost use Rattle.raid_rack.specs.Cleaning.{Cleans, CleansAll, IsIdle};
 ghost use Rattle.raid_rack.specs.RaidRack.{EndsTurn, IsRunning, raid_by};
+ghost use Rattle.raid_rack.specs.Truths.{KeepsTruths, MakesTruths};
 ghost use Rattle.raid_rack.specs.Losses as spec;
 
 use crate::arrays::Arrays;
@@ -70,6 +71,7 @@ impl Arrays {
         ensures raises { RaisesBy 17 (raid_by self.old) (raid_by self.new) }
         ensures idle { AreMarked (raid_by self.old) → (self.new ≡ self.old) × (rack.new ≡ rack.old) }
         ensures supers { (AreMarked (raid_by self.old) → ⊥) → MakesAgree (raid_by self.old) (raid_by self.new) (S.seen rack.old) (S.seen rack.new) }
+        ensures truths { ((self.new ≡ self.old) × (rack.new ≡ rack.old)) ⊎ MakesTruths (raid_by self.old) (raid_by self.new) (S.seen rack.old) (S.seen rack.new) }
         ensures running { IsRunning self.new (S.seen rack.new) }
         ensures runs { S.runs rack.old rack.new }
     {
@@ -90,6 +92,8 @@ impl Arrays {
         ensures idle { AreMarked (raid_by self.old) → IsIdle (raid_by self.old) (raid_by self.new) × (rack.new ≡ rack.old) }
         ensures supers { (AreMarked (raid_by self.old) → ⊥) → MakesAgree (raid_by self.old) (raid_by self.new) (S.seen rack.old) (S.seen rack.new) }
         ensures raises { RaisesBy 17 (raid_by self.old) (raid_by self.new) }
+        ensures truths { KeepsTruths (raid_by self.old) (raid_by self.new) (S.seen rack.old) (S.seen rack.new) }
+        ensures makes { (AreMarked (raid_by self.old) → ⊥) → MakesTruths (raid_by self.old) (raid_by self.new) (S.seen rack.old) (S.seen rack.new) }
         ensures running { IsRunning self.new (S.seen rack.new) }
         ensures runs { S.runs rack.old rack.new }
     {
@@ -105,6 +109,7 @@ impl Arrays {
         ensures mends { Mends (raid_by self.old) (raid_by self.new) (S.seen rack.old) (S.seen rack.new) }
         ensures supers { MakesAgree (raid_by self.old) (raid_by self.new) (S.seen rack.old) (S.seen rack.new) }
         ensures raises { RaisesBy 18 (raid_by self.old) (raid_by self.new) }
+        ensures truths { MakesTruths (raid_by self.old) (raid_by self.new) (S.seen rack.old) (S.seen rack.new) }
         ensures running { IsRunning self.new (S.seen rack.new) }
         ensures runs { S.runs rack.old rack.new }
     {
@@ -135,6 +140,7 @@ impl Arrays {
         ensures spares { (written : ℕ → Bool) → Spares written (S.seen rack.old) (S.seen rack.new) }
         ensures syncs { SyncsOne (raid_by self.old) (raid_by self.new) (S.seen rack.old) (S.seen rack.new) number }
         ensures raises { RaisesBy 17 (raid_by self.old) (raid_by self.new) }
+        ensures truths { KeepsTruths (raid_by self.old) (raid_by self.new) (S.seen rack.old) (S.seen rack.new) }
         ensures running { IsRunning self.new (S.seen rack.new) }
         ensures runs { S.runs rack.old rack.new }
     {
@@ -157,6 +163,7 @@ impl Arrays {
         ensures spares { (written : ℕ → Bool) → Spares written (S.seen rack.old) (S.seen rack.new) }
         ensures reads { ReadsValue (raid_by self.old) (raid_by self.new) (S.seen rack.old) (S.seen rack.new) number sector into.new }
         ensures raises { RaisesBy 17 (raid_by self.old) (raid_by self.new) }
+        ensures truths { KeepsTruths (raid_by self.old) (raid_by self.new) (S.seen rack.old) (S.seen rack.new) }
         ensures running { IsRunning self.new (S.seen rack.new) }
         ensures runs { S.runs rack.old rack.new }
     {
@@ -179,6 +186,7 @@ impl Arrays {
         ensures spares { (written : ℕ → Bool) → written number ≡ true → Spares written (S.seen rack.old) (S.seen rack.new) }
         ensures writes { WritesOne (raid_by self.old) (raid_by self.new) (S.seen rack.old) (S.seen rack.new) number sector from.now }
         ensures raises { RaisesBy 18 (raid_by self.old) (raid_by self.new) }
+        ensures truths { KeepsTruths (raid_by self.old) (raid_by self.new) (S.seen rack.old) (S.seen rack.new) }
         ensures running { IsRunning self.new (S.seen rack.new) }
         ensures runs { S.runs rack.old rack.new }
     {
@@ -198,6 +206,7 @@ impl Arrays {
         requires number { number < self.old.state.made }
         ensures cleans { Cleans (λ n. n == number) (raid_by self.old) (raid_by self.new) (S.seen rack.old) (S.seen rack.new) }
         ensures raises { RaisesBy 18 (raid_by self.old) (raid_by self.new) }
+        ensures truths { KeepsTruths (raid_by self.old) (raid_by self.new) (S.seen rack.old) (S.seen rack.new) }
         ensures running { IsRunning self.new (S.seen rack.new) }
         ensures runs { S.runs rack.old rack.new }
     {
@@ -211,6 +220,7 @@ impl Arrays {
         requires heeded { IsHeeded (raid_by self.old) }
         ensures cleans { CleansAll (raid_by self.old) (raid_by self.new) (S.seen rack.old) (S.seen rack.new) }
         ensures raises { RaisesBy 288 (raid_by self.old) (raid_by self.new) }
+        ensures truths { KeepsTruths (raid_by self.old) (raid_by self.new) (S.seen rack.old) (S.seen rack.new) }
         ensures running { IsRunning self.new (S.seen rack.new) }
         ensures runs { S.runs rack.old rack.new }
     {
@@ -225,6 +235,7 @@ impl Arrays {
         requires place { is_current self.old.state place ≡ true }
         ensures mends { Mends (noted_at (place ∷ []) (raid_by self.old)) (raid_by self.new) (S.seen rack.old) (S.seen rack.new) }
         ensures raises { RaisesBy 17 (raid_by self.old) (raid_by self.new) }
+        ensures truths { KeepsTruths (raid_by self.old) (raid_by self.new) (S.seen rack.old) (S.seen rack.new) }
         ensures running { IsRunning self.new (S.seen rack.new) }
         ensures runs { S.runs rack.old rack.new }
     {

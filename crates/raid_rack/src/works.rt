@@ -6,6 +6,7 @@ ghost use Rattle.array_model.specs.View.{IsArray, rows_of};
 ghost use Rattle.array_sync.specs.Rows.{lacks_row};
 ghost use Rattle.raid_rack.specs.Moves.{IsHeeded, RaisesBy};
 ghost use Rattle.raid_rack.specs.RaidRack.{IsRunning, raid_by};
+ghost use Rattle.raid_rack.specs.Truths.{KeepsTruths};
 ghost use Rattle.raid_rack.specs.Works as spec;
 ghost use Rattle.array_sync.specs.Steps.{resynced};
 
@@ -64,6 +65,7 @@ impl Arrays {
         ensures steps { spec.StepsOne (raid_by self.old) (raid_by self.new) (S.seen rack.old) (S.seen rack.new) number (resynced ((raid_by self.old).arrays number)) result }
         ensures answer { result ≡ not (spec.is_stuck (raid_by self.new) number ((raid_by self.old).arrays number).resync) }
         ensures raises { RaisesBy 18 (raid_by self.old) (raid_by self.new) }
+        ensures truths { KeepsTruths (raid_by self.old) (raid_by self.new) (S.seen rack.old) (S.seen rack.new) }
         ensures running { IsRunning self.new (S.seen rack.new) }
         ensures runs { S.runs rack.old rack.new }
     {
@@ -98,6 +100,7 @@ impl Arrays {
         requires rebuilding { spec.is_rebuilding (raid_by self.old) number place ≡ true }
         ensures rebuilds { spec.RebuildsOne (raid_by self.old) (raid_by self.new) (S.seen rack.old) (S.seen rack.new) number place result }
         ensures raises { RaisesBy 18 (raid_by self.old) (raid_by self.new) }
+        ensures truths { KeepsTruths (raid_by self.old) (raid_by self.new) (S.seen rack.old) (S.seen rack.new) }
         ensures running { IsRunning self.new (S.seen rack.new) }
         ensures runs { S.runs rack.old rack.new }
     {
@@ -124,6 +127,7 @@ impl Arrays {
         requires heeded { IsHeeded (raid_by self.old) }
         ensures closes { spec.ClosesPlan (raid_by self.old) (raid_by self.new) (S.seen rack.old) (S.seen rack.new) }
         ensures raises { RaisesBy 18 (raid_by self.old) (raid_by self.new) }
+        ensures truths { KeepsTruths (raid_by self.old) (raid_by self.new) (S.seen rack.old) (S.seen rack.new) }
         ensures running { IsRunning self.new (S.seen rack.new) }
         ensures runs { S.runs rack.old rack.new }
     {

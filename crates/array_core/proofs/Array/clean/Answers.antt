@@ -3,8 +3,11 @@ use Rattle.array_image.specs.SoundArray.{first_unsynced}
 use Rattle.array_model.specs.View.{View, IsArray}
 use Rattle.array_core.specs.Settling.{WritesSupers}
 use Rattle.array_core.proofs.LogFrames.{kept_logs}
-use Rattle.array_core.proofs.Cleaning.{clean_acts, clean_logs, clean_others, clean_settled, cleans_view}
+use Rattle.array_core.proofs.Cleaning.{clean_acts, clean_logs, clean_others, clean_settled, cleans_view, noted_restated}
 use Rattle.array_core.proofs.Elsewhere.{clean_elsewhere, reads_elsewhere}
+use Rattle.array_core.specs.Superblocks.{left_offset, raised, settled}
+use Rattle.array_core.specs.TruthHeld.{HasFewBits}
+use Rattle.array_core.proofs.TruthHeld.{few_bits, hold_noted, hold_tells, hold_written, reads_supers}
 use Rattle.array_core.proofs.Array.clean.Goals as goal
 
 pub returns-then-has_lost-clause-cleans : goal.returns-then-has_lost-clause-cleans
@@ -74,3 +77,31 @@ returns-clause-settled g c =
     clean_settled c.args.self.now c.sync.new.self c.renew_supers.new.self (g.R.Rack.seen c.args.rack.now) b d c.settle_truth.new.self.truth.raid_disks c.requires.slices.lasting
     c.sync.ensures.reads c.sync.ensures.syncs
     (subst (λ (w : View). WritesSupers w c.renew_supers.new.self b d c.settle_truth.new.self.truth.raid_disks) c.settle_truth.ensures c.renew_supers.ensures.writes)
+
+pub returns-then-has_lost-clause-truth : goal.returns-then-has_lost-clause-truth
+returns-then-has_lost-clause-truth g c =
+    hold_noted c.args.self.now c.sync.new.self (g.R.Rack.seen c.args.rack.now) (g.R.Rack.seen c.sync.new.rack) c.requires.slices.lasting c.rules.ensures.few
+    c.sync.ensures.reads.stays c.sync.ensures.notes (reads_supers (g.R.Rack.seen c.args.rack.now) (g.R.Rack.seen c.sync.new.rack) c.sync.ensures.reads)
+
+pub returns-clause-truth : goal.returns-clause-truth
+returns-clause-truth g c =
+    let v = c.args.self.now in
+    let u = c.sync.new.self in
+    let a = g.R.Rack.seen c.args.rack.now in
+    let b = g.R.Rack.seen c.sync.new.rack in
+    let d = g.R.Rack.seen c.renew_supers.new.rack in
+    let writes = subst (λ (w : View). WritesSupers w c.renew_supers.new.self b d w.truth.raid_disks) c.settle_truth.ensures c.renew_supers.ensures.writes in
+    let notes = c.sync.ensures.notes in
+    λ held.
+    hold_written (settled u) c.renew_supers.new.self b d (c.sync.ensures.reads.stays.lasting c.requires.slices.lasting) c.rules-2.ensures.few
+    (subst HasFewBits (sym notes.same.truth) (few_bits v.truth c.truth_rules.ensures)) writes
+    (hold_tells u b (hold_noted v u a b c.requires.slices.lasting c.rules.ensures.few c.sync.ensures.reads.stays notes (reads_supers a b c.sync.ensures.reads) held))
+
+pub returns-clause-noted : goal.returns-clause-noted
+returns-clause-noted g c =
+    let u = c.sync.new.self in
+    let b = g.R.Rack.seen c.sync.new.rack in
+    let d = g.R.Rack.seen c.renew_supers.new.rack in
+    let writes = subst (λ (w : View). WritesSupers w c.renew_supers.new.self b d w.truth.raid_disks) c.settle_truth.ensures c.renew_supers.ensures.writes in
+    noted_restated c.args.self.now u c.renew_supers.new.self (raised u.truth.events) (left_offset u) false (g.R.Rack.seen c.args.rack.now) b d
+    c.sync.ensures.reads.stays writes.only.stays c.sync.ensures.notes writes.notes

@@ -7,6 +7,7 @@ use Rattle.array_core.specs.Writing.{Base, as_it_was}
 use Rattle.array_core.proofs.Elsewhere.{write_elsewhere}
 use Rattle.array_core.proofs.LogWrites.{goes_then}
 use Rattle.array_core.proofs.Marking.{ready_writes}
+use Rattle.array_core.proofs.TruthHeld.{few_bits, hold_noted, hold_write}
 use Rattle.array_core.proofs.WriteCalls.{logged_acts, past_kept, ready_all, ready_based, ready_goes, ready_kept, ready_now, ready_sectors, ready_slices, view_noted, view_then}
 use Rattle.array_core.proofs.Array.write.Goals as goal
 
@@ -165,3 +166,28 @@ returns-clause-elsewhere g c =
     let d = g.R.Rack.seen c.write_logged.new.rack in
     write_elsewhere v u on a b d c.is_ready-ready.result c.is_whole-whole.result c.rules.ensures c.is_ready-ready.ensures.ready
     (ready_goes v u a b c.is_ready-ready.result c.is_ready-ready.ensures.ready).stays c.write_logged.ensures.goes.stays (λ is. sym c.is_whole-whole.ensures ∙ is) c.write_logged.ensures.elsewhere
+
+pub returns-then-is_alone-clause-truth : goal.returns-then-is_alone-clause-truth
+returns-then-is_alone-clause-truth g c =
+    hold_noted c.args.self.now c.write_alone.new.self (g.R.Rack.seen c.args.rack.now) (g.R.Rack.seen c.write_alone.new.rack) c.requires.slices.lasting c.rules.ensures.few
+    c.write_alone.ensures.goes.stays c.write_alone.ensures.notes c.write_alone.ensures.supers
+
+pub returns-then-ready-clause-truth : goal.returns-then-ready-clause-truth
+returns-then-ready-clause-truth g c =
+    let v = c.args.self.now in
+    let u = c.is_ready-ready.new.self in
+    let a = g.R.Rack.seen c.args.rack.now in
+    let b = g.R.Rack.seen c.is_ready-ready.new.rack in
+    hold_write v u c.write_marked.new.self a b (g.R.Rack.seen c.write_marked.new.rack) c.is_ready-ready.result c.requires.slices.lasting c.rules.ensures.few c.rules-2.ensures.few
+    (few_bits v.truth c.truth_rules.ensures) (ready_goes v u a b c.is_ready-ready.result c.is_ready-ready.ensures.ready).stays c.write_marked.ensures.goes.stays
+    c.is_ready-ready.ensures.ready c.write_marked.ensures.notes c.write_marked.ensures.supers
+
+pub returns-clause-truth : goal.returns-clause-truth
+returns-clause-truth g c =
+    let v = c.args.self.now in
+    let u = c.is_ready-ready.new.self in
+    let a = g.R.Rack.seen c.args.rack.now in
+    let b = g.R.Rack.seen c.is_ready-ready.new.rack in
+    hold_write v u c.write_logged.new.self a b (g.R.Rack.seen c.write_logged.new.rack) c.is_ready-ready.result c.requires.slices.lasting c.rules.ensures.few c.rules-2.ensures.few
+    (few_bits v.truth c.truth_rules.ensures) (ready_goes v u a b c.is_ready-ready.result c.is_ready-ready.ensures.ready).stays c.write_logged.ensures.goes.stays
+    c.is_ready-ready.ensures.ready c.write_logged.ensures.notes c.write_logged.ensures.supers

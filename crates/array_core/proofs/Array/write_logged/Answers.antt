@@ -7,6 +7,7 @@ use Rattle.array_model.proofs.Views.{notes_then}
 use Rattle.array_core.specs.Pool.{MayLog}
 use Rattle.array_core.proofs.LogWrites.{few_in_order, staged_list, staged_row, staged_spent, row_had, reads_goes, goes_then, commit_notes, commit_moves, commit_kept, refused_moves, refused_kept}
 use Rattle.array_core.proofs.Elsewhere.{commit_elsewhere, elsewhere_then, reads_elsewhere}
+use Rattle.array_core.proofs.TruthHeld.{commit_supers, reads_supers, supers_then}
 use Rattle.array_core.proofs.Array.write_logged.Goals as goal
 
 pub commit-lost-requires-clause-some : goal.commit-lost-requires-clause-some
@@ -97,5 +98,18 @@ returns-clause-elsewhere g c =
     elsewhere_then c.args.all v on a b d c.stage_unspent.ensures.staged.reads.stays c.commit-lost.ensures.commits.stays
     (reads_elsewhere c.args.all v on a b c.stage_unspent.ensures.staged.reads)
     (commit_elsewhere c.args.all v c.stage_unspent.new.log on c.commit-lost.result.items b d c.rules.ensures.few
+    (staged_list _ _ _ _ _ _ _ _ _ c.rules.ensures c.requires.sector c.told-from c.stage_unspent.ensures.unspent c.stage_unspent.ensures.staged c.if-not-stage_unspent.false)
+    c.commit-lost.ensures.commits)
+
+pub returns-then-not-stage_unspent-clause-supers : goal.returns-then-not-stage_unspent-clause-supers
+returns-then-not-stage_unspent-clause-supers g c = reads_supers (g.R.Rack.seen c.args.rack.now) (g.R.Rack.seen c.stage_unspent.new.rack) c.stage_unspent.ensures.staged.reads
+
+pub returns-clause-supers : goal.returns-clause-supers
+returns-clause-supers g c =
+    let a = g.R.Rack.seen c.args.rack.now in
+    let b = g.R.Rack.seen c.stage_unspent.new.rack in
+    let d = g.R.Rack.seen c.commit-lost.new.rack in
+    supers_then a b d c.stage_unspent.ensures.staged.reads.stays c.commit-lost.ensures.commits.stays (reads_supers a b c.stage_unspent.ensures.staged.reads)
+    (commit_supers c.args.all c.args.self.now c.stage_unspent.new.log c.args.on.now.items c.commit-lost.result.items b d
     (staged_list _ _ _ _ _ _ _ _ _ c.rules.ensures c.requires.sector c.told-from c.stage_unspent.ensures.unspent c.stage_unspent.ensures.staged c.if-not-stage_unspent.false)
     c.commit-lost.ensures.commits)

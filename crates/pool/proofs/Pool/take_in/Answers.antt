@@ -145,7 +145,7 @@ returns-in-Err-NotWhole-clause-replaces g c =
     (sym refused)
     (subst (λ k. ReplacesBy x (later x b s k (arrays_in two)) c.args.place c.args.disk (Err NotWhole)) (sym tables_now)
     (taken_lost x b s c.args.place c.args.disk t p.volume.orderly c.requires.fit free.missing vacated empty (record { fit = g.met.R.Bay.always_fit last; lasting = g.met.R.Bay.lasting last; unspent = g.met.R.Bay.unspent last; small = g.met.R.Bay.bounded last; numbered = g.met.R.Bay.numbered last }) names (slices_in (arrays_of p)).orderly (slices_in one).orderly c.requires.admitted (arrays_in two) lost.only
-    lost.mends lost.raises lost.lost after))
+    lost.mends lost.raises lost.truths lost.lost after))
 
 pub returns-in-Err-NotWhole-clause-lenders : goal.returns-in-Err-NotWhole-clause-lenders
 returns-in-Err-NotWhole-clause-lenders g c =

@@ -2,6 +2,7 @@ use Rattle.std.proofs.Common.{◌==◌, ◌+◌, ◌*◌, nat_lt, le-ltb, arith}
 use Rattle.raid_rack.specs.RaidRack.{raid_by}
 use Rattle.raid_rack.proofs.Raises.{raises_more, raises_none, raises_then}
 use Rattle.raid_rack.proofs.Cleanings.{cleans_all, cleans_none, cleans_then, first_apart, first_more}
+use Rattle.raid_rack.proofs.Truths.{truths_same, truths_then}
 use Rattle.raid_rack.proofs.arrays.Arrays.clean_all.Goals as goal
 
 pub loop-number-init : goal.loop-number-init
@@ -9,6 +10,7 @@ loop-number-init g c = record {
   cleans = cleans_none (λ n. nat_lt n 0) (raid_by c.args.self.now) (g.S.Rack.seen c.args.rack.now) (λ n. le-ltb n 0 (omega arith)) c.requires.running.set c.requires.heeded;
   raises = raises_none (raid_by c.args.self.now);
   running = c.requires.running;
+  truths = truths_same (raid_by c.args.self.now) (g.S.Rack.seen c.args.rack.now);
   runs = g.met.S.Rack.runs_same c.args.rack.now;
 }
 
@@ -37,6 +39,8 @@ loop-number-preserved g c =
       raises = raises_more (c.loop-number.number * 18 + 18) ((c.loop-number.number + 1) * 18) (raid_by c.args.self.now) (raid_by c.clean_array.new.self) (omega arith)
           (raises_then (c.loop-number.number * 18) 18 (raid_by c.args.self.now) (raid_by c.loop-number.self) (raid_by c.clean_array.new.self) inv.cleans.moves.book.same.made inv.raises c.clean_array.ensures.raises);
       running = c.clean_array.ensures.running;
+      truths = truths_then (raid_by c.args.self.now) (raid_by c.loop-number.self) (raid_by c.clean_array.new.self)
+          (g.S.Rack.seen c.args.rack.now) (g.S.Rack.seen c.loop-number.rack) (g.S.Rack.seen c.clean_array.new.rack) inv.cleans.moves.book.same.made inv.truths c.clean_array.ensures.truths;
       runs = g.met.S.Rack.runs_then _ _ _ inv.runs c.clean_array.ensures.runs;
     }
 
@@ -60,3 +64,6 @@ returns-clause-running g c = c.loop-number.invariant.running
 
 pub returns-clause-runs : goal.returns-clause-runs
 returns-clause-runs g c = c.loop-number.invariant.runs
+
+pub returns-clause-truths : goal.returns-clause-truths
+returns-clause-truths g c = c.loop-number.invariant.truths

@@ -1,4 +1,4 @@
-use Rattle.std.proofs.Common.{◌==◌, get_or, slice_set, subst, sym, arith}
+use Rattle.std.proofs.Common.{[], ◌==◌, get_or, slice_set, subst, sym, arith}
 use Rattle.arrayvec.specs.ArrayVec.{with_items}
 use Rattle.raid_rack.specs.Cleaning.{Ends}
 use Rattle.raid_rack.specs.RaidRack.{no_array, raid_by}
@@ -6,6 +6,7 @@ use Rattle.raid_rack.proofs.Raises.{cleans_raise}
 use Rattle.raid_rack.proofs.RaisedCalls.{raises_call}
 use Rattle.raid_rack.proofs.Steps.{same_element, items_set}
 use Rattle.raid_rack.proofs.Cleanings.{clean_call, clean_running, cleans_one}
+use Rattle.raid_rack.proofs.TruthTurns.{truths_write}
 use Rattle.raid_rack.proofs.arrays.Arrays.clean_array.Goals as goal
 
 pub mend-requires : goal.mend-requires
@@ -66,3 +67,16 @@ returns-clause-raises g c =
     (omega arith)
     (cleans_raise _ c.clean.new.self (g.S.Rack.seen c.args.rack.now) (g.S.Rack.seen c.clean.new.rack) c.clean.ensures.view)
     c.mend.ensures.raises
+
+pub returns-clause-truths : goal.returns-clause-truths
+returns-clause-truths g c =
+    let a = c.args.self.now in
+    let n = c.args.number in
+    let x = g.S.Rack.seen c.args.rack.now in
+    let y = g.S.Rack.seen c.clean.new.rack in
+    let count = c.requires.running.count in
+    let low = c.requires.number in
+    truths_write a c.mend.new.self (with_items a.all (slice_set c.deref_mut.result.now n c.clean.new.self)) a.log n _ c.clean.new.self x y (g.S.Rack.seen c.mend.new.rack) c.requires.running low
+    (same_element c.deref_mut.result.now a.all.items n _ no_array c.deref_mut.ensures.value (omega (arith, count, low)))
+    (items_set a.all c.deref_mut.result.now n c.clean.new.self c.deref_mut.ensures.value) c.mend.ensures.truths
+    [] c.clean.ensures.goes.stays c.clean.ensures.truth (c.clean.ensures.elsewhere [])

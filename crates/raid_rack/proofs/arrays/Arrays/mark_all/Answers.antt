@@ -8,6 +8,7 @@ use Rattle.raid_rack.proofs.Moving.{moves_same, moves_then}
 use Rattle.raid_rack.proofs.Raises.{raises_more, raises_none, raises_then}
 use Rattle.raid_rack.proofs.Turned.{none_newly}
 use Rattle.raid_rack.proofs.Rounds.{done_agree, newly_unmarked, turns_first, turns_next, turns_done, no_length, some_length}
+use Rattle.raid_rack.proofs.TruthTurns.{done_truths, turn_truths}
 use Rattle.raid_rack.proofs.arrays.Arrays.mark_all.Goals as goal
 
 pub loop-turn-init : goal.loop-turn-init
@@ -18,6 +19,7 @@ loop-turn-init g c = record {
   raises = raises_none (raid_by c.args.self.now);
   idle = λ are. (refl, refl);
   supers = inl refl;
+  truths = inl (refl, refl);
   runs = g.met.S.Rack.runs_same c.args.rack.now;
 }
 
@@ -66,6 +68,8 @@ loop-turn-preserved g c =
           (subst (λ (a : Arrays). AreMarked (raid_by a)) (sym (inv.idle are).0) are));
       supers = inr (agree_then (raid_by c.args.self.now) (raid_by s) (raid_by c.mark.new.self) (g.S.Rack.seen c.args.rack.now) (g.S.Rack.seen c.loop-turn.rack) (g.S.Rack.seen c.mark.new.rack)
           inv.moves c.mark.ensures.ends.moves c.mark.ensures.ends.supers);
+      truths = inr (turn_truths (raid_by c.args.self.now) (raid_by s) (raid_by c.mark.new.self) (g.S.Rack.seen c.args.rack.now) (g.S.Rack.seen c.loop-turn.rack) (g.S.Rack.seen c.mark.new.rack)
+          c.requires.running.set.lasting inv.moves c.mark.ensures.ends.truths);
       runs = g.met.S.Rack.runs_then _ _ _ inv.runs c.mark.ensures.runs;
     }
 
@@ -103,3 +107,11 @@ returns-then-is_empty-clause-supers g c =
 pub returns-clause-supers : goal.returns-clause-supers
 returns-clause-supers g c =
     done_agree c.args.self.now c.loop-turn.self (g.S.Rack.seen c.args.rack.now) (g.S.Rack.seen c.loop-turn.rack) (returns-clause-marked g c) c.loop-turn.invariant.supers
+
+pub returns-then-is_empty-clause-truths : goal.returns-then-is_empty-clause-truths
+returns-then-is_empty-clause-truths g c =
+    done_truths g.S.Rack.seen c.args.self.now c.loop-turn.self c.args.rack.now c.loop-turn.rack (returns-then-is_empty-clause-marked g c) c.loop-turn.invariant.truths
+
+pub returns-clause-truths : goal.returns-clause-truths
+returns-clause-truths g c =
+    done_truths g.S.Rack.seen c.args.self.now c.loop-turn.self c.args.rack.now c.loop-turn.rack (returns-clause-marked g c) c.loop-turn.invariant.truths

@@ -3,6 +3,7 @@ use Rattle.raid_rack.specs.Agreeing.{MakesAgree}
 use Rattle.raid_rack.specs.Moves.{AreMarked, Moves, RaisesBy}
 use Rattle.raid_rack.specs.RaidRack.{IsRunning, raid_by}
 use Rattle.raid_rack.proofs.Rounds.{HasTurns}
+use Rattle.raid_rack.proofs.TruthTurns.{HasTruths}
 use Rattle.raid_rack.proofs.arrays.Arrays.mark_all.Given as goal
 
 abbrev pub invariant-loop-turn : goal.invariant-loop-turn
@@ -13,5 +14,6 @@ invariant-loop-turn g l = record {
   raises : RaisesBy l._turn (raid_by l.fn.self) (raid_by l.self);
   idle : AreMarked (raid_by l.fn.self) → (l.self ≡ l.fn.self) × (l.rack ≡ l.fn.rack);
   supers : (l.self ≡ l.fn.self) ⊎ MakesAgree (raid_by l.fn.self) (raid_by l.self) (g.S.Rack.seen l.fn.rack) (g.S.Rack.seen l.rack);
+  truths : HasTruths g.S.Rack.seen l.fn.self l.self l.fn.rack l.rack;
   runs : g.S.Rack.runs l.fn.rack l.rack;
 }

@@ -14,6 +14,7 @@ use Rattle.raid_rack.proofs.Rebuilt.{answered_refused_not, has_rebuilt, rebuilds
 use Rattle.raid_rack.proofs.Resynced.{step_later, step_raise}
 use Rattle.raid_rack.proofs.Steps.{same_element, items_set}
 use Rattle.raid_rack.proofs.Whole.{heeded_left}
+use Rattle.raid_rack.proofs.TruthTurns.{truths_step}
 use Rattle.raid_rack.proofs.arrays.Arrays.rebuild_array.Goals as goal
 
 pub rebuild_row-answer-requires-clause-logs : goal.rebuild_row-answer-requires-clause-logs
@@ -143,3 +144,31 @@ returns-else-is_ok-clause-raises g c =
 
 pub returns-else-is_ok-clause-runs : goal.returns-else-is_ok-clause-runs
 returns-else-is_ok-clause-runs g c = g.met.S.Rack.runs_then _ _ _ c.rebuild_row-answer.ensures.runs c.mend.ensures.runs
+
+pub returns-then-is_ok-clause-truths : goal.returns-then-is_ok-clause-truths
+returns-then-is_ok-clause-truths g c =
+    let a = c.args.self.now in
+    let n = c.args.number in
+    let x = g.S.Rack.seen c.args.rack.now in
+    let y = g.S.Rack.seen c.rebuild_row-answer.new.rack in
+    let count = c.requires.running.count in
+    let asked = rebuilding_parts (raid_by a) n c.args.place c.requires.rebuilding in
+    let low = asked.0 in
+    truths_step a c.mend.new.self (with_items a.all (slice_set c.deref_mut.result.now n c.rebuild_row-answer.new.array)) c.rebuild_row-answer.new.log n _ c.rebuild_row-answer.new.array x y (g.S.Rack.seen c.mend.new.rack) c.requires.running low
+    (same_element c.deref_mut.result.now a.all.items n _ no_array c.deref_mut.ensures.value (omega (arith, count, low)))
+    (items_set a.all c.deref_mut.result.now n c.rebuild_row-answer.new.array c.deref_mut.ensures.value) c.mend.ensures.truths
+    c.current_places-on.result.items c.rebuild_row-answer.ensures.goes.stays c.rebuild_row-answer.ensures.steps.truth c.rebuild_row-answer.ensures.elsewhere
+
+pub returns-else-is_ok-clause-truths : goal.returns-else-is_ok-clause-truths
+returns-else-is_ok-clause-truths g c =
+    let a = c.args.self.now in
+    let n = c.args.number in
+    let x = g.S.Rack.seen c.args.rack.now in
+    let y = g.S.Rack.seen c.rebuild_row-answer.new.rack in
+    let count = c.requires.running.count in
+    let asked = rebuilding_parts (raid_by a) n c.args.place c.requires.rebuilding in
+    let low = asked.0 in
+    truths_step a c.mend.new.self (with_items a.all (slice_set c.deref_mut.result.now n c.rebuild_row-answer.new.array)) c.rebuild_row-answer.new.log n _ c.rebuild_row-answer.new.array x y (g.S.Rack.seen c.mend.new.rack) c.requires.running low
+    (same_element c.deref_mut.result.now a.all.items n _ no_array c.deref_mut.ensures.value (omega (arith, count, low)))
+    (items_set a.all c.deref_mut.result.now n c.rebuild_row-answer.new.array c.deref_mut.ensures.value) c.mend.ensures.truths
+    c.current_places-on.result.items c.rebuild_row-answer.ensures.goes.stays c.rebuild_row-answer.ensures.steps.truth c.rebuild_row-answer.ensures.elsewhere

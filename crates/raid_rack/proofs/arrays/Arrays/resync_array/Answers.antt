@@ -15,6 +15,7 @@ use Rattle.raid_rack.proofs.Resynced.{answered_refused, answered_served, grown, 
 use Rattle.raid_rack.proofs.Steps.{same_element, items_set}
 use Rattle.raid_rack.proofs.Whole.{heeded_left}
 use Rattle.raid_rack.proofs.Worked.{unstuck}
+use Rattle.raid_rack.proofs.TruthTurns.{truths_step}
 use Rattle.raid_rack.proofs.arrays.Arrays.resync_array.Goals as goal
 
 pub resync_row-requires-clause-logs : goal.resync_row-requires-clause-logs
@@ -133,3 +134,16 @@ returns-clause-raises g c =
 
 pub returns-clause-runs : goal.returns-clause-runs
 returns-clause-runs g c = g.met.S.Rack.runs_then _ _ _ c.resync_row.ensures.runs c.mend.ensures.runs
+
+pub returns-clause-truths : goal.returns-clause-truths
+returns-clause-truths g c =
+    let a = c.args.self.now in
+    let n = c.args.number in
+    let x = g.S.Rack.seen c.args.rack.now in
+    let y = g.S.Rack.seen c.resync_row.new.rack in
+    let count = c.requires.running.count in
+    let low = c.requires.number in
+    truths_step a c.mend.new.self (with_items a.all (slice_set c.deref_mut.result.now n c.resync_row.new.array)) c.resync_row.new.log n _ c.resync_row.new.array x y (g.S.Rack.seen c.mend.new.rack) c.requires.running low
+    (same_element c.deref_mut.result.now a.all.items n _ no_array c.deref_mut.ensures.value (omega (arith, count, low)))
+    (items_set a.all c.deref_mut.result.now n c.resync_row.new.array c.deref_mut.ensures.value) c.mend.ensures.truths
+    c.current_places-on.result.items c.resync_row.ensures.goes.stays c.resync_row.ensures.steps.truth c.resync_row.ensures.elsewhere

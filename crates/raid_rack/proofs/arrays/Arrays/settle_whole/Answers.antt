@@ -7,6 +7,9 @@ use Rattle.raid_rack.proofs.Mended.{each_items}
 use Rattle.raid_rack.proofs.Restating.{has_settled, restates_early}
 use Rattle.raid_rack.proofs.Rounds.{no_length, some_length}
 use Rattle.raid_rack.proofs.SettledWhole.{lost_marked, settles_whole}
+use Rattle.raid_rack.specs.RaidRack.{raid_by}
+use Rattle.raid_rack.proofs.Truths.{makes_keeps}
+use Rattle.raid_rack.proofs.TruthTurns.{early_made}
 use Rattle.raid_rack.proofs.arrays.Arrays.settle_whole.Goals as goal
 
 pub returns-then-not-is_empty-clause-mends : goal.returns-then-not-is_empty-clause-mends
@@ -79,3 +82,12 @@ returns-clause-running g c =
     let has = has_settled a s (with_items s.all c.heed_all.new.arrays) c.clear.new.self lost x y c.requires.heeded (ap (λ (l : LogView). l.number) c.clear.ensures)
     c.settle_all.ensures.settles c.settle_all.ensures.running lost_is none each.0 each.1 in
     (settles_whole a d c.clear-2.new.self x y has (ap (λ (l : LogView). l.number) c.clear-2.ensures)).1.1
+
+pub returns-then-not-is_empty-clause-truths : goal.returns-then-not-is_empty-clause-truths
+returns-then-not-is_empty-clause-truths g c off =
+    let s = c.settle_all.new.self in
+    makes_keeps (raid_by c.args.self.now) (raid_by c.mend.new.self) (g.S.Rack.seen c.args.rack.now) (g.S.Rack.seen c.mend.new.rack)
+    (early_made c.args.self.now s c.mend.new.self c.clear.new.self c.newly_gone-lost.result.items (g.S.Rack.seen c.args.rack.now) (g.S.Rack.seen c.settle_all.new.rack)
+    (g.S.Rack.seen c.mend.new.rack) c.requires.running.set.lasting (ap (λ (l : LogView). l.number) c.clear.ensures) c.settle_all.ensures.settles c.settle_all.ensures.running
+    (c.newly_gone-lost.ensures ∙ ap (newly_gone s.state) c.as_slice.ensures.value)
+    (some_length c.newly_gone-lost.result.items (sym c.is_empty.ensures ∙ c.if-not-is_empty.true)) c.mend.ensures.makes)

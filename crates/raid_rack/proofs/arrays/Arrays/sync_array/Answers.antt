@@ -6,6 +6,7 @@ use Rattle.raid_rack.proofs.Raises.{notes_raise}
 use Rattle.raid_rack.proofs.RaisedCalls.{raises_call}
 use Rattle.raid_rack.proofs.Steps.{same_element, items_set}
 use Rattle.raid_rack.proofs.Synced.{has_synced, syncs_one}
+use Rattle.raid_rack.proofs.TruthTurns.{truths_read}
 use Rattle.raid_rack.proofs.arrays.Arrays.sync_array.Goals as goal
 
 pub mend-requires : goal.mend-requires
@@ -65,3 +66,16 @@ returns-clause-spares g c written =
     c.sync.ensures.syncs c.sync.ensures.reads c.sync.ensures.notes in
     spares_read written (raid_by a) _ x y (g.S.Rack.seen c.mend.new.rack) c.requires.heeded refl one.moves c.mend.ensures.mends.moves.stays
     (λ are. ap g.S.Rack.seen (c.mend.ensures.idle are).1) c.sync.ensures.reads
+
+pub returns-clause-truths : goal.returns-clause-truths
+returns-clause-truths g c =
+    let a = c.args.self.now in
+    let n = c.args.number in
+    let x = g.S.Rack.seen c.args.rack.now in
+    let y = g.S.Rack.seen c.sync.new.rack in
+    let count = c.requires.running.count in
+    let low = c.requires.number in
+    truths_read a c.mend.new.self (with_items a.all (slice_set c.deref_mut.result.now n c.sync.new.self)) a.log n _ c.sync.new.self x y (g.S.Rack.seen c.mend.new.rack) c.requires.running low
+    (same_element c.deref_mut.result.now a.all.items n _ no_array c.deref_mut.ensures.value (omega (arith, count, low)))
+    (items_set a.all c.deref_mut.result.now n c.sync.new.self c.deref_mut.ensures.value) c.mend.ensures.truths
+    c.sync.ensures.reads c.sync.ensures.notes

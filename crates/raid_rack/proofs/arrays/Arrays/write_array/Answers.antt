@@ -11,6 +11,7 @@ use Rattle.raid_rack.proofs.RaisedCalls.{logs_raise, raises_call}
 use Rattle.raid_rack.proofs.Sparing.{spares_write}
 use Rattle.raid_rack.proofs.Steps.{same_element, items_set}
 use Rattle.raid_rack.proofs.Whole.{heeded_left}
+use Rattle.raid_rack.proofs.TruthTurns.{truths_write}
 use Rattle.raid_rack.proofs.arrays.Arrays.write_array.Goals as goal
 
 pub write-requires-clause-logs : goal.write-requires-clause-logs
@@ -88,3 +89,16 @@ returns-clause-spares g c written noted =
     (record { writes = c.write.ensures.writes; kept = c.write.ensures.kept; view = c.write.ensures.view; elsewhere = c.write.ensures.elsewhere }) in
     spares_write written a _ n _ c.current_places-on.result.items x y (g.S.Rack.seen c.mend.new.rack) c.requires.running c.requires.heeded low old_is noted refl wrote.caused
     c.mend.ensures.mends.moves.stays (λ are. ap g.S.Rack.seen (c.mend.ensures.idle are).1) c.write.ensures.elsewhere
+
+pub returns-clause-truths : goal.returns-clause-truths
+returns-clause-truths g c =
+    let a = c.args.self.now in
+    let n = c.args.number in
+    let x = g.S.Rack.seen c.args.rack.now in
+    let y = g.S.Rack.seen c.write.new.rack in
+    let count = c.requires.running.count in
+    let low = c.requires.number in
+    truths_write a c.mend.new.self (with_items a.all (slice_set c.deref_mut.result.now n c.write.new.self)) c.write.new.log n _ c.write.new.self x y (g.S.Rack.seen c.mend.new.rack) c.requires.running low
+    (same_element c.deref_mut.result.now a.all.items n _ no_array c.deref_mut.ensures.value (omega (arith, count, low)))
+    (items_set a.all c.deref_mut.result.now n c.write.new.self c.deref_mut.ensures.value) c.mend.ensures.truths
+    c.current_places-on.result.items c.write.ensures.goes.stays c.write.ensures.truth c.write.ensures.elsewhere

@@ -16,7 +16,7 @@ pub returns-clause-book : goal.returns-clause-book
 returns-clause-book g c =
     runs_moves (written_in c.args.self.now) c.args.self.now.arrays c.clean_all.new.self _ _ c.requires.fit
     (record { running = c.clean_all.ensures.running; heeded = c.clean_all.ensures.cleans.heeded })
-    (stops_inside (tables c.clean_all.new.rack) (g.R.Rack.seen (below_of c.clean_all.new.rack))) c.clean_all.ensures.cleans.moves
+    (stops_inside (tables c.clean_all.new.rack) (g.R.Rack.seen (below_of c.clean_all.new.rack))) c.clean_all.ensures.cleans.moves c.clean_all.ensures.truths
 
 pub returns-clause-images : goal.returns-clause-images
 returns-clause-images g c =
@@ -24,4 +24,4 @@ returns-clause-images g c =
     record { running = c.clean_all.ensures.running; heeded = c.clean_all.ensures.cleans.heeded } in
     clean_images (written_in c.args.self.now) (written_in c.args.self.now) c.args.self.now.arrays c.clean_all.new.self _ _ c.requires.fit after c.clean_all.ensures.cleans
     (runs_moves (written_in c.args.self.now) c.args.self.now.arrays c.clean_all.new.self _ _ c.requires.fit after
-    (stops_inside (tables c.clean_all.new.rack) (g.R.Rack.seen (below_of c.clean_all.new.rack))) c.clean_all.ensures.cleans.moves)
+    (stops_inside (tables c.clean_all.new.rack) (g.R.Rack.seen (below_of c.clean_all.new.rack))) c.clean_all.ensures.cleans.moves c.clean_all.ensures.truths)

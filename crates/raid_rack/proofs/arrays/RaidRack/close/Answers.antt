@@ -16,4 +16,4 @@ returns-clause-book g c =
     runs_call (written_in c.args.self.now) (written_in c.args.self.now) c.args.self.now.arrays c.end_plan.new.self _ _ (λ n vals. vals)
     (λ n not. (not, λ was. refl)) c.requires.fit
     (record { running = c.end_plan.ensures.running; heeded = c.end_plan.ensures.closes.heeded })
-    (stops_inside (tables c.end_plan.new.rack) (g.R.Rack.seen (below_of c.end_plan.new.rack))) c.end_plan.ensures.closes.brings c.end_plan.ensures.closes.caused
+    (stops_inside (tables c.end_plan.new.rack) (g.R.Rack.seen (below_of c.end_plan.new.rack))) c.end_plan.ensures.closes.brings c.end_plan.ensures.closes.caused c.end_plan.ensures.truths

@@ -1,6 +1,7 @@
 use Rattle.std.proofs.Common.{◌≡◌, ◌≤◌, ◌<◌, ◌^◌, All, List, Ok, false, length, ap, subst, sym, ◌∙◌, arith}
 use Rattle.pool_state.specs.declared.contents.State.{State}
 use Rattle.array_model.specs.View.{View}
+use Rattle.raid_rack.specs.Truths.{JoinsTruths, KeepsTruths}
 use Rattle.raid_rack.proofs.Seating.{all_small, new_slices, seats_set}
 use Rattle.rack.specs.Seen.{Rose, Stays}
 use Rattle.rack.specs.Sequences.{WritesOnly}
@@ -13,7 +14,7 @@ use Rattle.array_image.specs.States.{is_current}
 use Rattle.slice_rack.specs.Runs.{IsSliced, inside_still}
 use Rattle.slice_rack.specs.Slices.{Slices}
 use Rattle.shr_base.specs.declared.Id.{Id}
-use Rattle.raid_rack.specs.Enlisting.{Enlists, HasLost, HasNewSlices, IsEnlisted, JoinsEach, SettlesWhole, next_drive}
+use Rattle.raid_rack.specs.Enlisting.{Enlists, HasLost, HasNewSlices, IsEnlisted, JoinsEach, SettlesWhole, next_drive, with_drive}
 use Rattle.raid_rack.specs.Moves.{IsSet, Mends}
 use Rattle.raid_rack.specs.NewDrive.{IsOfDrive, LaysDrive, ReachesAll, SeatsDrive, drive_table, joins}
 use Rattle.raid_rack.specs.RaidRack.{IsFit, IsRunning, raid_by, slices_in}
@@ -83,6 +84,7 @@ returns-then-not-settle_whole-clause-not_whole g c is =
     c.settle_whole.ensures.runs.apart
     (subst (λ u. Mends v w (slices_of t m) (slices_of u b)) same (c.settle_whole.ensures.mends c.if-not-settle_whole.true))
     (subst (λ u. HasLost v w (slices_of t m) (slices_of u b)) same (c.settle_whole.ensures.lost c.if-not-settle_whole.true)) c.settle_whole.ensures.raises
+    (subst (λ u. KeepsTruths v w (slices_of t m) (slices_of u b)) same (c.settle_whole.ensures.truths c.if-not-settle_whole.true))
 
 pub seat_drive-requires-clause-small : goal.seat_drive-requires-clause-small
 seat_drive-requires-clause-small g c =
@@ -217,4 +219,5 @@ returns-clause-enlists g c =
     (subst (λ x. IsEnlisted c.args.place c.args.units c.args.plan joins_then (raid_by q) (raid_by z) (slices_of u y) (slices_of x b)) c.join.ensures.runs.tables c.join.ensures.joined)
     c.join.ensures.raises
     (subst (λ x. JoinsEach c.args.place c.args.units c.args.plan (raid_by q) (raid_by z) (slices_of u y) (slices_of x b)) c.join.ensures.runs.tables c.join.ensures.each)
-    three (subst (λ x. IsFit z (slices_of x b)) c.join.ensures.runs.tables c.join.ensures.fit))
+    three (subst (λ x. IsFit z (slices_of x b)) c.join.ensures.runs.tables c.join.ensures.fit)
+    (subst (λ x. JoinsTruths (with_drive c.args.place c.args.units c.args.plan joins_then (raid_by q)) (raid_by z) (slices_of u y) (slices_of x b)) c.join.ensures.runs.tables c.join.ensures.truths))

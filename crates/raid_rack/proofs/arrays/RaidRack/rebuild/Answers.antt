@@ -17,6 +17,7 @@ returns-then-rebuild_array-clause-book g c =
     (λ n not. (not, λ was. refl)) c.requires.fit
     (record { running = c.rebuild_array.ensures.running; heeded = c.rebuild_array.ensures.rebuilds.steps.heeded })
     (stops_inside (tables c.rebuild_array.new.rack) (g.R.Rack.seen (below_of c.rebuild_array.new.rack))) c.rebuild_array.ensures.rebuilds.steps.brings c.rebuild_array.ensures.rebuilds.steps.caused
+    c.rebuild_array.ensures.truths
 
 pub returns-else-rebuild_array-clause-keeps : goal.returns-else-rebuild_array-clause-keeps
 returns-else-rebuild_array-clause-keeps g c =
@@ -30,3 +31,4 @@ returns-else-rebuild_array-clause-book g c =
     (λ n not. (not, λ was. refl)) c.requires.fit
     (record { running = c.rebuild_array.ensures.running; heeded = c.rebuild_array.ensures.rebuilds.steps.heeded })
     (stops_inside (tables c.rebuild_array.new.rack) (g.R.Rack.seen (below_of c.rebuild_array.new.rack))) c.rebuild_array.ensures.rebuilds.steps.brings c.rebuild_array.ensures.rebuilds.steps.caused
+    c.rebuild_array.ensures.truths

@@ -36,6 +36,7 @@ returns-then-resync_array-clause-book g c =
     (λ n not. (not, λ was. refl)) c.requires.fit
     (record { running = c.resync_array.ensures.running; heeded = c.resync_array.ensures.steps.heeded })
     (stops_inside (tables c.resync_array.new.rack) (g.R.Rack.seen (below_of c.resync_array.new.rack))) c.resync_array.ensures.steps.brings c.resync_array.ensures.steps.caused
+    c.resync_array.ensures.truths
 
 pub returns-else-resync_array-clause-keeps : goal.returns-else-resync_array-clause-keeps
 returns-else-resync_array-clause-keeps g c =
@@ -49,3 +50,4 @@ returns-else-resync_array-clause-book g c =
     (λ n not. (not, λ was. refl)) c.requires.fit
     (record { running = c.resync_array.ensures.running; heeded = c.resync_array.ensures.steps.heeded })
     (stops_inside (tables c.resync_array.new.rack) (g.R.Rack.seen (below_of c.resync_array.new.rack))) c.resync_array.ensures.steps.brings c.resync_array.ensures.steps.caused
+    c.resync_array.ensures.truths

@@ -31,7 +31,7 @@ returns-clause-runs g c =
     × Serves v (raid_in r) (refused_in c.args.self.now) (refused_in c.answer.new.self)
     × Spares (written_in r) (slices_seen g.R.Rack.seen c.args.self.now) (slices_seen g.R.Rack.seen r)) (sym c.answer.ensures.same) (
       c.read_array.ensures.runs,
-      runs_moves (written_in c.args.self.now) c.args.self.now.arrays c.read_array.new.self _ _ c.requires.fit fit inside c.read_array.ensures.reads.moves,
+      runs_moves (written_in c.args.self.now) c.args.self.now.arrays c.read_array.new.self _ _ c.requires.fit fit inside c.read_array.ensures.reads.moves c.read_array.ensures.truths,
       served_call v w (refused_in c.args.self.now) (refused_in c.answer.new.self) c.args.disk c.args.sector c.requires.sector
           reads.stays.sectors reads.stays.spent c.read_array.ensures.reads.moves.arrays c.answer.ensures.uncounted,
       c.read_array.ensures.spares (written_in c.args.self.now),
