@@ -22,10 +22,11 @@ use Rattle.pool_scan.specs.Scanning.{now_in}
 use Rattle.pool_rest.specs.Moments.{BringsNoState, TakesLower}
 use Rattle.pool_rest.specs.Resting.{IsIdle}
 use Rattle.pool_rest.specs.SoundLogs.{HasSoundLogs}
+use Rattle.array_core.specs.TruthHeld.{HoldTruth}
 use Rattle.raid_rack.specs.declared.arrays.RaidRack.{RaidRack}
 use Rattle.raid_rack.specs.Agreeing.{SupersAgree}
 use Rattle.raid_rack.specs.Book.{IsAfter}
-use Rattle.raid_rack.specs.Raid.{IsTold}
+use Rattle.raid_rack.specs.Raid.{IsTold, Raid}
 use Rattle.raid_rack.specs.RaidRack.{raid_in, raid_seen, slices_in, slices_seen}
 use Rattle.assembler.specs.declared.refusal.Refusal.{Refusal}
 use Rattle.pool_model.specs.Left.{AreAlone, AreElsewhere, HoldSame, IsPickOff}
@@ -90,6 +91,10 @@ pub record IsMeantBy {R : Type 0} (seen : R → Seen) (x : Seen) (f : Found) (ra
 -- is replayed.
 abbrev pub HaveAgreed : Found → State → Seen → Type 0
 HaveAgreed f s x = (n : ℕ) → n < f.state.joined → (r : Image) → IsLeft x r → SupersAgree s r n
+
+-- They say its truth, durably.
+abbrev pub SayTruths : Found → Raid → Seen → Type 0
+SayTruths f v x = (n : ℕ) → n < f.state.joined → HoldTruth (v.arrays n) x
 
 -- Disks of a pool that was refused once its arrays were made: by slices of its drives what a stop left since x, or leaves now, holds the arrays that the
 -- pool had, and each drive has its partition table at every moment. Whatever the disks may be left with now holds a sound pool again, by a state to

@@ -45,7 +45,7 @@ impl<R: Rack> RaidRack<R> {
     ghost use Rattle.array_image.specs.States.{is_current};
     ghost use Rattle.raid_rack.specs.Losses.{has_other};
     ghost use Rattle.raid_rack.specs.Moves.{AreMarked, Mends, RaisesBy, noted_at};
-    ghost use Rattle.raid_rack.specs.Cleaning.{CleansAll, LeavesItsRows};
+    ghost use Rattle.raid_rack.specs.Cleaning.{CleansAll, IsIdle, LeavesItsRows};
     ghost use Rattle.raid_rack.specs.Agreeing.{MakesAgree};
     ghost use Rattle.raid_rack.specs.Runs.{RaidRuns};
     ghost use Rattle.raid_rack.specs.Truths.{KeepsTruths, MakesTruths};
@@ -165,6 +165,7 @@ impl<R: Rack> RaidRack<R> {
         ensures mends { Mends (raid_in self.old) (raid_in self.new) (slices_seen R.seen self.old) (slices_seen R.seen self.new) }
         // Where nobody is noted who isn't marked, nothing is called.
         ensures idle { AreMarked (raid_in self.old) → (slices_in self.new ≡ slices_in self.old) × ((raid_in self.new).state ≡ (raid_in self.old).state) }
+        ensures still { AreMarked (raid_in self.old) → IsIdle (raid_in self.old) (raid_in self.new) }
         // Else the superblocks of each array agree afterwards, where no drive refuses a call.
         ensures supers { (AreMarked (raid_in self.old) → ⊥) → MakesAgree (raid_in self.old) (raid_in self.new) (slices_seen R.seen self.old) (slices_seen R.seen self.new) }
         ensures truths { KeepsTruths (raid_in self.old) (raid_in self.new) (slices_seen R.seen self.old) (slices_seen R.seen self.new) }

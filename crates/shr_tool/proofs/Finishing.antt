@@ -26,7 +26,7 @@ use Rattle.shr_tool.specs.Events.{AnyTakes, Event, any_takes, array_by}
 use Rattle.pool.specs.Moment.{moment_of}
 use Rattle.shr_tool.specs.Timeline.{Timeline, ground_of}
 use Rattle.shr_tool.specs.Serving.{HasStopCause, IsServing, Ran, Serves, StopsAtEnd}
-use Rattle.shr_tool.specs.Outcome.{DoneOutcome, EndsAt, HasStatusCause, IsRunOn, IsServed, Lasts, LeavesItsRows, Outcome, status_by}
+use Rattle.shr_tool.specs.Outcome.{AgreesAtEnd, DoneOutcome, EndsAt, HasStatusCause, IsRunOn, IsServed, Lasts, LeavesItsRows, Outcome, status_by}
 use Rattle.shr_tool.proofs.History.{IsUnspent, ran_before, slices_kept, standing}
 use Rattle.shr_tool.proofs.Joined.{means_at}
 use Rattle.shr_tool.proofs.Told.{outside_told, timeline_for}
@@ -76,6 +76,12 @@ rows_at x m y a events ran ends serving served none n inside over settled r left
     (told_after x m a (array_by a events) events ran.continues ran.passes serving (ran.holds a serving.0)
     (served_before x m y events ran.continues ends.passes served) n inside)
     over settled r left t truth
+
+-- and superblocks that agree
+agree_at : (x m y : View) (events : List Event) → Ran x m events → Ends m y → any_takes events ≡ false → AgreesAtEnd x.bay y.bay (moment_of x) (moment_of m) (moment_of y)
+agree_at x m y events ran ends none quiet n low held told goes r left =
+    let passes = ran.passes none in
+    ends.agree quiet n (subst (λ k. n < k) (sym passes.marks.same.made) low) (passes.truths n low held) told goes r left
 
 -- as an event after the script's
 ends_at :
@@ -189,6 +195,7 @@ lasts_of x m y a events unspent ran ends =
       apart = λ none. (passes none).apart;
       told = told_at x m y a events ran ends;
       rows = rows_at x m y a events ran ends;
+      agree = agree_at x m y events ran ends;
       again = λ serving none f on goes i pick.
           again_at x y a f (passes none) on (told_at x m y a events ran ends serving (inl none)) goes i pick;
     }

@@ -73,6 +73,7 @@ lasts_for T U S R x y g from a events told traced lasts = record {
   apart = lasts.apart;
   told = λ is. lasts.told (told is);
   rows = λ is. lasts.rows (told is);
+  agree = lasts.agree;
   again = λ is. lasts.again (told is);
 }
 

@@ -25,7 +25,7 @@ use Rattle.assembler.specs.Marking.{MarksDrives}
 use Rattle.assembler.specs.Refusing.{is_early}
 use Rattle.pool_model.specs.Left.{AreAlone, AreElsewhere, IsPickOff}
 use Rattle.pool_model.specs.Pools.{AreSlicesOf}
-use Rattle.assembler.specs.Sound.{HaveAgreed, HoldSound, IsMeantRefusal, KeepsPool, MayStop}
+use Rattle.assembler.specs.Sound.{HaveAgreed, SayTruths, HoldSound, IsMeantRefusal, KeepsPool, MayStop}
 use Rattle.assembler.specs.Volume.{AllLive, IsVolumeOf}
 use Rattle.assembler.specs.Wanting.{LeavesPool}
 use Rattle.assembler.specs.Writing.{WritesPool}
@@ -113,6 +113,9 @@ pub record OpenedOn {R : Type 0} (seen : R → Seen) (shelf : R → Shelf) (runs
   -- and the superblocks of each array that is ready for the volume agree, durably
   pub agreed :
       (f : Found) → HoldSound (seen bay) f → IsUnfaulted (seen bay) (seen opened) → HaveAgreed f from.book.state (slices_of from.slices (seen opened))
+  -- and say its truth
+  pub truths :
+      (f : Found) → HoldSound (seen bay) f → IsUnfaulted (seen bay) (seen opened) → SayTruths f from.book (slices_of from.slices (seen opened))
   -- what a stop inside the opening leaves means the array that the disks meant
   pub moments :
       (a : FlatArray) → (meant : IsMeant (seen bay) (seen opened) a) → MayStop (seen bay) meant.pool → (seen bay).traced

@@ -16,6 +16,8 @@ use Rattle.pool_model.specs.Left.{HoldAgain, HoldRest}
 use Rattle.pool_model.specs.Pools.{AreSlicesOf, IsSoundPool}
 use Rattle.slice_rack.specs.Slices.{disk_of}
 use Rattle.slice_rack.specs.Sliced.{slices_of}
+use Rattle.array_core.specs.TruthHeld.{HoldTruth}
+use Rattle.raid_rack.specs.Agreeing.{AgreeLeaving}
 use Rattle.raid_rack.specs.Book.{IsAfter}
 use Rattle.raid_rack.specs.Raid.{IsTold, is_over}
 use Rattle.shr_script.specs.Line.{Line}
@@ -49,6 +51,15 @@ LeavesItsRows y g p q =
     → (n : ℕ) → n < g.linear.arrays → is_over q.book n ≡ false → is_settled (p.book.arrays n) ≡ false
     → (r : Image) → IsLeft (slices_of q.slices y) r → (t : Super) → truth_in q.book.state r n ≡ Some t
     → t.resync_offset ≡ left_offset (p.book.arrays n)
+
+-- Where no disk's faults rose in the end of a pool, superblocks that said an array's truth when the run began agree in whatever a stop leaves,
+-- and leave the rows to resync that are left in the array and no others.
+abbrev pub AgreesAtEnd : Seen → Seen → Moment → Moment → Moment → Type 0
+AgreesAtEnd x y from p q =
+    NoneRose p.faults q.faults
+    → (n : ℕ) → n < from.book.state.made → HoldTruth (from.book.arrays n) (slices_of from.slices x)
+    → IsTold q.book (slices_of q.slices y) n → is_over q.book n ≡ false
+    → (r : Image) → IsLeft (slices_of q.slices y) r → AgreeLeaving (q.book.arrays n) q.book.state r n
 
 -- the disks that a bay had are still there under their names
 abbrev pub KeepsNames : Shelf → Shelf → Type 0
@@ -101,6 +112,7 @@ pub record Lasts (Told Traced : Type 0) (x y : Seen) (g : Ground) (from : Moment
   pub apart : any_takes events ≡ false → WritesOnly x y (IsSliced from.slices)
   pub told : Told → IsServed g final events → (n : ℕ) → n < g.linear.arrays → IsTold final.book (slices_of final.slices y) n
   pub rows : Told → IsServed g final events → LeavesItsRows y g last final
+  pub agree : any_takes events ≡ false → AgreesAtEnd x y from last final
   pub again :
       Told → any_takes events ≡ false → (f : Found) → IsRunOn f g from y → ((n : ℕ) → n < f.state.made → is_over final.book n ≡ false)
       → (i : Image) → IsPick y y y.held i → HoldAgain f final.slices final.book.state i

@@ -271,6 +271,25 @@ returns-in-Ok-open_volume-clause-agreed g c e sound quiet n joined =
     agree_opened g.R.Rack.seen g.R.Rack.runs raid (rack_in volume) (linear volume) (seqno_of volume) opens c.make_rack.ensures.fit (nobody_failed g c quiet)
     n (omega (arith, low, most)) (held.told n less) goes (held.agree n less (opens.kept.1.still n goes))
 
+pub returns-in-Ok-open_volume-clause-truths : goal.returns-in-Ok-open_volume-clause-truths
+returns-in-Ok-open_volume-clause-truths g c e sound quiet n joined =
+    let k = made g c in
+    let raid = c.make_rack.result in
+    let volume = c.in-Ok-open_volume.volume in
+    let opens = c.in-Ok-open_volume.ensures.opens in
+    let before = first_quiet g c quiet in
+    let pool = f g k before e sound in
+    let held = arrays g k before e sound in
+    let most = ready g k in
+    let less : n < pool.state.joined = subst (λ (s : State). n < s.joined) (sym (same g k before e sound).state) joined in
+    let low : n < (raid_in raid).state.joined =
+    (let kept = ap (λ (s : State). s.joined) (state g k before e sound) in let joined_is = c.make_rack.ensures.joined in omega (arith, less, joined_is, kept)) in
+    let some : 0 < sectors_of ((raid_in (rack_in volume)).arrays n) =
+    (let room = held.room n less in let is = held.sectors n less in let later = opens.kept.2.sectors n in omega (arith, room, is, later)) in
+    let goes : is_over (raid_in (rack_in volume)) n ≡ false =
+    (live_parts (raid_in (rack_in volume)) n 0 (live_last g c quiet n 0 (let same = opens.kept.1.book.same.joined in omega (arith, low, same)) some)).0 in
+    opens.kept.1.truths n (omega (arith, low, most)) (held.truths n less (opens.kept.1.still n goes))
+
 pub returns-in-Err-clause-cause : goal.returns-in-Err-clause-cause
 returns-in-Err-clause-cause g c = inl (record { fault = c.in-Err.back.why; said = c.by_finding.ensures; cause = c.in-Err.ensures.refused })
 

@@ -48,6 +48,7 @@ returns-in-Ok-clause-outcome g c =
       meant = opened_as pool (λ r. seen r.now) (λ r. shelf r.now) _ opens.meant opens.marks;
       tables = opens.mended;
       agreed = opens.agreed;
+      truths = opens.truths;
       moments = λ a meant calm traced. stops_mean pool (λ r. seen r.now) (λ r. shelf r.now) _ a opens.meant meant calm traced;
       run_on = λ f sound quiet joined alone only.
           runs_on _ _ _ _ _ f sound (opened_as pool (λ r. seen r.now) (λ r. shelf r.now) _ opens.meant opens.marks f sound quiet)
