@@ -7,7 +7,7 @@ use Rattle.rack.specs.Targets.{Target, look}
 use Rattle.pool_state.specs.declared.contents.State.{State}
 use Rattle.pool_state.specs.Sector.{decoded}
 use Rattle.array_image.specs.Places.{log_slice}
-use Rattle.array_image.specs.Record.{pending}
+use Rattle.array_image.specs.Record.{gate_sector, pending}
 use Rattle.array_image.specs.Arrays.{replayed}
 use Rattle.array_image.proofs.Replays.{replayed_as_is}
 use Rattle.commit_log.specs.Standing.{LogsStand, deciding}
@@ -51,6 +51,9 @@ kept_logs s number a b lasting stays keeps kept =
       halves = λ c stand. kept.halves c (logs c stand);
       whole = λ c stand. whole_logs a kept.whole c (logs c (of c stand));
       idle = λ c stand. kept.idle c (logs c stand);
+      closed = λ all p current there v g now.
+          let inside = subst (λ n. gate_sector < n) (stays.sectors (log_slice p)) there in
+          kept.closed all p current inside v g (before p gate_sector v (kept.few p current) inside now);
       quiet = λ c stand d t left. same c stand d t;
       brought = λ c p copy stand few there is.
           let inside = subst (λ n. 0 < n) (stays.sectors (log_slice p)) there in

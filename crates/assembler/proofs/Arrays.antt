@@ -42,6 +42,7 @@ use Rattle.pool_check.specs.Layers.{AreOpened, IsOpened}
 use Rattle.raid_rack.specs.Moves.{IsSeated}
 use Rattle.raid_rack.proofs.Founding.{position_named}
 use Rattle.raid_rack.proofs.Seated.{array_with, gone_lost, place_few}
+use Rattle.pool_model.proofs.Grouped.{truth_long}
 use Rattle.assembler.specs.Members.{AreMembers}
 use Rattle.pool_model.specs.Pools.{IsSoundPool}
 use Rattle.assembler.specs.Holding.{AreSteady, IsPoolOn}
@@ -353,15 +354,12 @@ module _ (f : Found) (t : Slices) (x : Seen) (checked : Checked) (absent : List 
       ∙ steady.sized (disk_of t slice) (first_of t slice + (data_sector + s))
       (disk_below t x slice (data_sector + s) orderly m.fit.1 at.inside) (sector_below t x slice (data_sector + s) m.fit.1 at.inside))
 
-  -- it has room for a label
-  pub array_room : 128 ≤ array_sectors f n
+  -- it has room for a volume's metadata
+  pub array_room : 2048 ≤ array_sectors f n
   array_room =
-      let founded = m.founded.each n v is in
-      let truth : v.truth ≡ founded.truth = ap (λ (z : View). z.truth) founded.view in
-      let some : 0 < v.truth.size = subst (λ (z : Super). 0 < z.size) (sym truth) founded.some in
+      let truth : v.truth ≡ tr = ap (λ (z : View). z.truth) of.view in
+      let least : 2048 < v.truth.size = subst (λ (z : Super). 2048 < z.size) (sym truth) (truth_long f.state (slices_of f) n tr of.truth_is) in
       let array = rules n v is in
-      let rows = array.whole_rows in
-      let least : 128 ≤ v.truth.size = omega (arith, some, rows) in
       let most : v.truth.size ≤ sectors_of (gone absent (restarted v)) = sectors_least v array in
       let same = sectors_are in
       omega (arith, least, most, same)

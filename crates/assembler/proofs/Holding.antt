@@ -1,7 +1,7 @@
 -- The rack of a pool's arrays holds what the pool's contents give.
 use Rattle.std.proofs.Common.{◌≡◌, ◌⊎◌, ℕ, ◌+◌, ◌^◌, ◌<◌, ◌≤◌, Bool, true, false, ◌&&◌, ◌||◌, not, nat_lt, is_none, List, [], ◌∷◌, filter, slice_get, Some, None, inl, inr, refl, sym, ap, subst, ◌∙◌, eq-eqb, lt-ltb, arith}
 use Rattle.std.specs.List.{list_any, range_with_len}
-use Rattle.std.proofs.lemmas.Bool.{both_ways, cases_Bool}
+use Rattle.std.proofs.lemmas.Bool.{and_parts, both_ways, cases_Bool}
 use Rattle.rack.specs.Values.{MayLeave}
 use Rattle.rack.specs.Seen.{Image, Seen, IsLive, Rose, Stays}
 use Rattle.rack.specs.Joins.{leaves_same, leaves_then, leaves_weaker, stays_same}
@@ -46,7 +46,7 @@ use Rattle.raid_rack.specs.Marking.{SaysBetween}
 use Rattle.raid_rack.specs.Moves.{IsHeeded, KeepsArrays, Mends}
 use Rattle.raid_rack.specs.Opening.{OpenedRaid, OpensRaid}
 use Rattle.raid_rack.proofs.Added.{names_current}
-use Rattle.raid_rack.proofs.Noted.{gone_not, gone_some}
+use Rattle.raid_rack.proofs.Noted.{gone_from, gone_not, gone_some}
 use Rattle.raid_rack.proofs.Opening.{IsAtRest, opened_raid, opens_raid}
 use Rattle.raid_rack.proofs.Seated.{names_joined}
 use Rattle.assembler.specs.Members.{AreMembers}
@@ -162,8 +162,16 @@ module _ (f : Found) (t : Slices) (x : Seen) (checked : Checked) (absent : List 
         }
 
   -- nothing is done where a place is absent
-  pub holds_still : (l : LogView) → number ≡ l.number → IsIdle f.state t x l → OpensRaid v (slices_seen t x)
-  holds_still l number_is log = opens_still v l log.on (slices_seen t x) (rests l number_is log)
+  pub holds_still : (l : LogView) → number ≡ l.number → IsIdle f.state t x l → (absent ≡ [] → ⊥) → OpensRaid v (slices_seen t x)
+  holds_still l number_is log some = opens_still v l log.on (slices_seen t x) (rests l number_is log) (away absent refl)
+    where
+      away : (ps : List ℕ) → absent ≡ ps → (p : ℕ) × (is_current f.state p ≡ true) × (gone_in v p ≡ true)
+      away [] none = absurd (some none)
+      away (p ∷ ps) is =
+          let named : names absent p ≡ true = ap (λ qs. names qs p) is ∙ ap (λ b. b || names ps p) (eq-eqb p p refl) in
+          let current = (and_parts (is_none (seat_of t p)) (is_current f.state p) (sym (m.absent_is p) ∙ named)).1 in
+          let low = few_place f t x checked absent orderly m steady pool found.opened p current in
+          (p, current, gone_from v p 0 low made_some (went_is 0 p made_some low ∙ named))
 
   -- where no place is absent the log is that of all current places
   module _ (l : LogView) (log : IsIdle f.state t x l) (none : absent ≡ []) where
@@ -379,12 +387,12 @@ module _ (f : Found) (s : State) (t : Slices) (x : Seen) (checked : Checked) (ab
           subst (λ (k : Super). k.size < 2 ^ 48) (ap (λ (k : View). k.truth) of.view ∙ some_same of.truth z (sym of.truth_is ∙ truth)) (rules n one.0 one.1).small
 
   -- where a place is absent
-  pub rack_still : gone_now ≡ absent → (w : Raid) (c : Seen) → Mends v w (slices_seen t x) c → MakesAgree v w (slices_seen t x) c → NoneFails (slices_seen t x) c
+  pub rack_still : (absent ≡ [] → ⊥) → gone_now ≡ absent → (w : Raid) (c : Seen) → Mends v w (slices_seen t x) c → MakesAgree v w (slices_seen t x) c → NoneFails (slices_seen t x) c
       → HoldsArrays f w (slices_seen t x) c
-  rack_still none w c mends agree quiet =
+  rack_still away none w c mends agree quiet =
       let now : (n : ℕ) (u : View) → slice_get checked.arrays.items n ≡ Some u → before.arrays n ≡ gone absent (restarted u) =
       λ n u is. are n u is ∙ ap (λ ps. gone ps (restarted u)) none in
-      let opens = holds_still f t x checked absent orderly m holds.steady pool found holds.sound rules v.arrays v.number now l number log in
+      let opens = holds_still f t x checked absent orderly m holds.steady pool found holds.sound rules v.arrays v.number now l number log away in
       let marks = opened_raid before w (slices_seen t x) c opens ready (subst (λ k. Mends k w (slices_seen t x) c) before_is mends) in
       holds_marked f t x checked absent orderly m holds.steady pool found holds.sound rules v.arrays v.number now
       (slices_seen t x) opens (stays_same (slices_seen t x) m.fit) (λ n place k low live. refl)

@@ -41,3 +41,4 @@ mod Unseated
 mod Volumes
 mod Whole
 mod Written
+mod Grouped

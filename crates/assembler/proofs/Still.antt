@@ -1,7 +1,7 @@
 -- Slices at rest on which nothing is pending, as calls find them though no gate was closed.
 use Rattle.std.proofs.Common.{◌≡◌, ℕ, ◌<◌, Bool, true, false, nat_lt, if◌then◌else◌, List, [], Result, Some, Ok, Err, refl, sym, ap, subst, ◌∙◌, inl, inr, lt-ltb, arith}
 use Rattle.std.specs.Result.{result_ok}
-use Rattle.std.proofs.lemmas.Bool.{cases_lt}
+use Rattle.std.proofs.lemmas.Bool.{both_ways, cases_lt}
 use Rattle.std.proofs.lemmas.Option.{none-some}
 use Rattle.rack.specs.Values.{MayLeave}
 use Rattle.rack.specs.Seen.{Image, Seen}
@@ -59,10 +59,11 @@ module _ (s : State) (l : LogView) (on : List ℕ) (a : Seen) (opened : Opened s
   ok_of (Ok z) y is = cc
   ok_of (Err why) y is = absurd (none-some y is)
 
-  -- The log is as a commit finds it.
-  pub still_kept : (gone : ℕ → Bool) → ((p : ℕ) → is_current s p ≡ true → gone p ≡ false → 0 < a.sectors (log_slice p)) → CopiesAgree s gone a
+  -- The log is as a commit finds it, where a current place has gone.
+  pub still_kept : (gone : ℕ → Bool) → (p : ℕ) × (is_current s p ≡ true) × (gone p ≡ true)
+      → ((p : ℕ) → is_current s p ≡ true → gone p ≡ false → 0 < a.sectors (log_slice p)) → CopiesAgree s gone a
       → LogKept s l.number gone a
-  still_kept gone there agree = record {
+  still_kept gone away there agree = record {
     logs = λ p k few inside. can.logs p k few inside;
     few = few_places;
     there = there;
@@ -81,6 +82,7 @@ module _ (s : State) (l : LogView) (on : List ℕ) (a : Seen) (opened : Opened s
     halves = λ c stand g is. can.number c (amid c stand) g is;
     whole = λ c stand. can.whole c (amid c (logs_of c stand));
     idle = λ c stand. inl (none_pending c stand);
+    closed = λ all. absurd (both_ways (gone away.0) (all away.0 away.1) away.2);
     quiet = λ c stand d k left. replays_nothing c d k (logs_of c stand);
     brought = λ c p copy stand small within is.
         no_later p (c (log_slice p) 0) copy small within (stand.picks (log_slice p) 0 (can.logs p 0 small within))
@@ -112,10 +114,10 @@ module _ (s : State) (l : LogView) (on : List ℕ) (a : Seen) (opened : Opened s
       }
 
 -- Where a drive is absent no gate is closed: the slices hold the arrays as they are.
-pub opens_still : (v : Raid) (l : LogView) (on : List ℕ) (a : Seen) → IsAtRest v l on a → OpensRaid v a
-opens_still v l on a at = record {
+pub opens_still : (v : Raid) (l : LogView) (on : List ℕ) (a : Seen) → IsAtRest v l on a → (p : ℕ) × (is_current v.state p ≡ true) × (gone_in v p ≡ true) → OpensRaid v a
+opens_still v l on a at away = record {
   few = at.few;
-  log = subst (λ k. LogKept v.state k (gone_in v) a) (sym at.number) (still_kept v.state l on a at.opened at.idle (gone_in v) at.there at.copies);
+  log = subst (λ k. LogKept v.state k (gone_in v) a) (sym at.number) (still_kept v.state l on a at.opened at.idle (gone_in v) away at.there at.copies);
   someone = at.someone;
   slices = λ n place k below small inside. let made = at.made in at.opened.rest.live (member_slice place n) k (omega (arith, below, made, small)) inside;
   numbers = at.numbers;

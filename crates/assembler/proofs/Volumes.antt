@@ -95,7 +95,7 @@ volume_holds f a b l of orderly inside writes told values =
 -- ---- calls of a rack of arrays
 
 -- what can be had after calls could be had before them
-live_before : {R : Type 0} (seen : R → Seen) (runs : R → R → Type 0) (x y : RaidRack R) → AreCalls seen runs x y → AllLive (raid_in y) → AllLive (raid_in x)
+pub live_before : {R : Type 0} (seen : R → Seen) (runs : R → R → Type 0) (x y : RaidRack R) → AreCalls seen runs x y → AllLive (raid_in y) → AllLive (raid_in x)
 live_before seen runs x y kept alive n s joined inside =
     kept.2.spent n s
     (alive n s (subst (λ k. n < k) (sym kept.1.book.same.joined) joined) (subst (λ k. s < k) (sym (kept.2.sectors n)) inside))
@@ -121,7 +121,7 @@ module _ {R : Type 0} (seen : R → Seen) (runs : R → R → Type 0) (f : Found
   whole = record { whole = λ n low s inside. holds.whole n s low; room = λ n low. let room = holds.room n low in omega (arith, room) }
 
   -- nothing is refused where no sector is spent in the end
-  served : (y : RaidRack R) → AreCalls seen runs x y → AllLive (raid_in y) → AreServed (raid_seen seen x) (raid_seen seen y) f.state.joined
+  pub served : (y : RaidRack R) → AreCalls seen runs x y → AllLive (raid_in y) → AreServed (raid_seen seen x) (raid_seen seen y) f.state.joined
   served y kept alive n low rose =
       let joined : (raid_in y).state.joined ≡ f.state.joined = kept.1.book.same.joined ∙ book.joined in
       let same : refused_in y n ≡ refused_in x n = kept.2.refused n (λ s inside. alive n s (subst (λ k. n < k) (sym joined) low) inside) in
@@ -131,7 +131,7 @@ module _ {R : Type 0} (seen : R → Seen) (runs : R → R → Type 0) (f : Found
         | inr last ↦ omega (arith, last, same, none)
       ]
 
-  now : AreNow (raid_seen seen x) f.state.joined (arrays_held f)
+  pub now : AreNow (raid_seen seen x) f.state.joined (arrays_held f)
   now n low = record {
     told = holds.told n low;
     current = λ s inside alive. holds.values n s (held_in (raid_in x) (slices_seen seen x) n s).current low alive (inl refl);

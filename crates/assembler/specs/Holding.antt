@@ -13,6 +13,7 @@ use Rattle.array_image.specs.States.{is_current}
 use Rattle.array_image.specs.Arrays.{replayed}
 use Rattle.array_image.specs.Left.{IsInside, IsLeft, reading}
 use Rattle.commit_log.specs.View.{LogView, left_of, names}
+use Rattle.lvm_group.specs.Runs.{data_start}
 use Rattle.commit_log.specs.Opening.{Finds}
 use Rattle.pool_image.specs.Disks.{disks_of, identities_of, seat_of as pool_seat}
 use Rattle.pool_image.specs.Drives.{Found, found}
@@ -104,9 +105,9 @@ pub record HoldsArrays (f : Found) (v : Raid) (a b : Seen) : Type 0 where
   pub arrays : (n : ℕ) (t : Super) → n < f.state.joined → truth_of f n ≡ Some t → IsArrayOf f n t (v.arrays n)
   pub sectors : (n : ℕ) → n < f.state.joined → sectors_in (v.arrays n) ≡ array_sectors f n
   pub values : (n y : ℕ) (u : List ℕ) → n < f.state.joined → live_of v n y → MayLeave (held_in v b n y) u → u ≡ arrays_held f n y
-  -- the pool's own are whole sectors, with room for a label
+  -- the pool's own are whole sectors, with room for the volume's metadata
   pub whole : (n y : ℕ) → n < f.state.joined → length (arrays_held f n y) ≡ 512
-  pub room : (n : ℕ) → n < f.state.joined → 128 ≤ array_sectors f n
+  pub room : (n : ℕ) → n < f.state.joined → data_start ≤ array_sectors f n
   pub leaves :
       (n : ℕ) → n < f.state.joined → is_over v n ≡ false → a.traced
       → Leaves a b (λ c. IsInside a.sectors c → SaysBetween f.state v.state n (pool_values f n) (spent_of v n) (replayed a.sectors c))

@@ -28,6 +28,7 @@ use Rattle.raid_rack.specs.Book.{IsAfter}
 use Rattle.raid_rack.specs.Raid.{IsTold}
 use Rattle.raid_rack.specs.RaidRack.{raid_in, raid_seen, slices_in, slices_seen}
 use Rattle.assembler.specs.declared.refusal.Refusal.{Refusal}
+use Rattle.pool_model.specs.Grouped.{HaveOwnAreas, HoldGroup}
 use Rattle.pool_model.specs.Left.{AreAlone, AreElsewhere, HoldSame, IsPickOff}
 use Rattle.pool_model.specs.Pools.{AreSlicesOf, IsSoundPool}
 use Rattle.assembler.specs.Holding.{AreSteady, IsArrayOf}
@@ -81,6 +82,8 @@ pub record IsMeantBy {R : Type 0} (seen : R → Seen) (x : Seen) (f : Found) (ra
   pub told : (n : ℕ) → n < f.state.joined → IsTold (raid_in rack) (slices_seen seen rack) n
   pub arrays : (n : ℕ) (t : Super) → n < f.state.joined → truth_of f n ≡ Some t → IsArrayOf f n t ((raid_in rack).arrays n)
   pub live : AllLive (raid_in rack)
+  -- where all arrays are ready for the volume, and have the pool's metadata areas, they hold its group, whatever they may be left with
+  pub group : f.state.joined ≡ f.state.made → HaveOwnAreas f → HoldGroup (raid_in rack) (slices_seen seen rack)
   -- outside the slices the disks have each drive's table, and other disks say what they said
   pub elsewhere : (i : Image) → IsPickOff (tables (slices_in rack)) (seen (below_of (slices_in rack))) i → AreElsewhere f i
   -- what a stop leaves inside the opening holds that volume, where it may come amid the replay of the record that was pending

@@ -24,7 +24,7 @@ use Rattle.commit_log.proofs.Calling.{calls_weaker, calls_then}
 use Rattle.commit_log.proofs.Restored.{restored, restored_there, pending_at_by}
 use Rattle.commit_log.proofs.Amid.{place_of_log, slice_of_log, log_of_place}
 use Rattle.commit_log.proofs.Early.{early_commits}
-use Rattle.commit_log.proofs.Story.{Parts, Story, log_named, record_no_gate, record_no_other, each_no_other, target_no_log, payload_is}
+use Rattle.commit_log.proofs.Story.{Parts, Story, log_named, named_log, record_no_gate, record_no_other, each_no_other, target_no_log, payload_is}
 use Rattle.commit_log.proofs.Since.{live_between}
 use Rattle.commit_log.proofs.Ended.{late_committed, late_rests}
 use Rattle.commit_log.proofs.Told.{Told, early_at_first, early_at_opening, late_at_targets, late_at_end, ending_after, shut_after}
@@ -277,6 +277,13 @@ commit_call l on lost number opened closed bytes count a r g t b w0 w1 w2 w3 w4 
             | inl old ↦ let h = numbered v old in (h.0, h.1, omega (arith, h.2, next_above l.number))
             | inr new ↦ gate_number l on lost number opened closed bytes count a r g t b w0 w1 w2 w3 w4 p v done new.1
           ];
+      gates = λ none p v named live left.
+          let all4 : AllLeft w4 = λ q. sym (done.lost_are q) ∙ ap (λ ps. names ps q) none in
+          let to_t : Stays a t = stays_then to_g done.story.writes_targets.calls.only.stays in
+          let is : v ≡ closed =
+          done.story.closes.durable (log_slice p) gate_sector closed v (live_second to_t live) (all4 (place_of (log_slice p)))
+          ((λ q. done.story.closes.calls.still q (all4 q)), record { disk = named_log on p named; there = refl; value = refl }) left in
+          ap gate_of is ∙ done.closed_is ∙ ap (λ n. Some (record { is_open = false; number = n })) done.number_is;
       apart = λ d s live other none.
           all.only.others d s live (λ v both. payload_none l.added d s none v (other_of l on number opened closed bytes count d s v other both.1));
       around = λ p t live some out.

@@ -1,7 +1,8 @@
 -- A commit leaves what the next one needs.
-use Rattle.std.proofs.Common.{◌≡◌, ◌⊎◌, ℕ, ◌<◌, ◌≤◌, Bool, true, false, ◌||◌, nat_lt, if◌then◌else◌, List, [], ◌∷◌, Option, Some, None, Ok, unwrap_or, refl, eq-eqb, sym, ap, subst, ◌∙◌, inl, inr, arith}
+use Rattle.std.proofs.Common.{◌≡◌, ◌⊎◌, ℕ, ◌<◌, ◌≤◌, Bool, true, false, ◌&&◌, ◌||◌, not, nat_lt, if◌then◌else◌, List, [], ◌∷◌, length, Option, Some, None, Ok, unwrap_or, refl, eq-eqb, sym, ap, ap₂, subst, ◌∙◌, inl, inr, arith}
 use Rattle.std.proofs.lemmas.Bool.{both_ways, cases_Bool}
 use Rattle.std.proofs.lemmas.Option.{none-some}
+use Rattle.std.specs.Option.{option_map_or}
 use Rattle.rack.specs.Values.{MayLeave}
 use Rattle.rack.specs.Seen.{Image, Seen, IsLive, Stays}
 use Rattle.rack.specs.Calls.{KeepsAll}
@@ -10,13 +11,13 @@ use Rattle.pool_state.specs.declared.contents.Copied.{Copied}
 use Rattle.pool_state.specs.declared.contents.State.{State}
 use Rattle.pool_state.specs.Sector.{decoded}
 use Rattle.array_image.specs.Places.{log_slice, place_of}
-use Rattle.array_image.specs.Record.{gate_sector, pending}
+use Rattle.array_image.specs.Record.{Gate, gate_sector, pending}
 use Rattle.array_image.specs.States.{is_current}
 use Rattle.array_image.specs.Arrays.{replayed}
 use Rattle.commit_log.specs.View.{LogView, names, next_number}
 use Rattle.commit_log.specs.Standing.{LogsStand, deciding, IsNumbered, IsReady, SomeoneDecides, IsLogPart}
 use Rattle.commit_log.specs.Commits.{Stands, CommitCall}
-use Rattle.commit_log.specs.Kept.{IsCopyOf, IsNoLater, CopiesStand, LogKept, AreLeft, gone_with, Brings, BringsTo}
+use Rattle.commit_log.specs.Kept.{IsCopyOf, IsNoLater, CopiesStand, HasClosedGate, LogKept, AreLeft, gone_with, Brings, BringsTo}
 use Rattle.commit_log.proofs.Kept.{live_on, live_after, LogsLive, place_of_log, epoch_up, later_yet, copy_state, brings_to}
 
 -- what stood before a call of the log may be called after it
@@ -208,6 +209,31 @@ one_gone s t gone l on takes lost a b commit brings (p ∷ others) is some =
     or_true true c is = refl
     or_true false c is = is
 
+-- where each place is left the gates of current ones are closed: those of the commit by it, and those of places that join before it
+closed_after : (s t : State) (gone : ℕ → Bool) (l : LogView) (on takes lost : List ℕ) (a b : Seen) (p : ℕ)
+    → CommitCall l on lost a b → LogKept s l.number gone a → BringsTo s t l.number gone a l.added on takes → AreLeft s gone on → a.lasting
+    → ((q : ℕ) → is_current t q ≡ true → gone_with gone lost q ≡ false) → is_current t p ≡ true → gate_sector < a.sectors (log_slice p)
+    → HasClosedGate b p
+closed_after s t gone l on takes lost a b p commit kept brings are_left lasting all current there v g left is =
+    let live = live_on lasting commit.stays (kept.logs p gate_sector (few_of s t gone l on takes a p kept brings current) there) in
+    elim (cases_Bool (names on p)) [
+      | inl named ↦ ap (λ o. option_map_or (λ (h : Gate). h.is_open) o false) (sym is ∙ commit.gates (nobody lost refl) p v named live left)
+      | inr other ↦
+          let old = (commit.around p gate_sector live (omega arith) (inl other)).within v left in
+          elim (brings.current p current) [
+            | inr joins ↦ joins.closed v g old is
+            | inl was ↦
+                let stays = (or_none (gone p) (names lost p) (all p current)).0 in
+                absurd (both_ways (names on p) other (are_left p ∙ ap₂ (λ x y. x && not y) was stays))
+          ]
+    ]
+  where
+    nobody : (places : List ℕ) → places ≡ lost → lost ≡ []
+    nobody [] same = sym same
+    nobody (q ∷ others) same =
+        let one = one_gone s t gone l on takes lost a b commit brings (q ∷ others) same (λ none. let e = ap length none in absurd (omega (arith, e))) in
+        absurd (both_ways (gone_with gone lost one.0) (all one.0 one.1) one.2)
+
 -- A commit leaves what the next one needs, for the state that it brings and without the places that went in it.
 pub joined_after : (s t : State) (gone : ℕ → Bool) (l : LogView) (on takes lost : List ℕ) (a b : Seen)
     → CommitCall l on lost a b → LogKept s l.number gone a → BringsTo s t l.number gone a l.added on takes → AreLeft s gone on
@@ -238,6 +264,8 @@ joined_after s t gone l on takes lost a b commit kept brings are_left ready some
             | inl none ↦ inl none
             | inr all ↦ inr (one_gone s t gone l on takes lost a b commit brings lost refl all.0)
           ];
+      closed = λ all p current there.
+          closed_after s t gone l on takes lost a b p commit kept brings are_left ready.lasting all current (subst (λ n. gate_sector < n) (commit.stays.sectors (log_slice p)) there);
       quiet = λ c stand d u left.
           let both = or_none (gone (place_of d)) (names lost (place_of d)) left in
           quiet_after s t gone l on lost a b c d u commit ready someone stand both.1;
@@ -304,6 +332,9 @@ kept_keeps s number gone a b lasting stays keeps kept =
       halves = λ c stand. kept.halves c (logs_before lasting stays keeps c stand);
       whole = λ c stand. kept.whole c (stands_before lasting stays keeps c stand);
       idle = λ c stand. kept.idle c (logs_before lasting stays keeps c stand);
+      closed = λ all p current there v g now.
+          let before = subst (λ n. gate_sector < n) (stays.sectors (log_slice p)) there in
+          kept.closed all p current before v g (held_before lasting stays keeps kept.logs p gate_sector v (kept.few p current) before now);
       quiet = λ c stand d t left.
           ap (λ (n : ℕ → ℕ). replayed n c d t) sectors ∙ kept.quiet c (stands_before lasting stays keeps c stand) d t left;
       brought = λ c p copy stand few there is.
@@ -328,6 +359,7 @@ kept_more s number gone now x more kept =
       halves = kept.halves;
       whole = kept.whole;
       idle = λ c stand. elim (kept.idle c stand) [ inl none ↦ inl none | inr one ↦ inr (one.0, one.1, more one.0 one.2) ];
+      closed = λ all. kept.closed (λ p current. was_left p (all p current));
       quiet = λ c stand d t left. kept.quiet c stand d t (was_left (place_of d) left);
       brought = kept.brought;
     }

@@ -130,7 +130,7 @@ and_true false = refl
 left_is : (on : List ℕ) (p : ℕ) → is_left on [] p ≡ names on p
 left_is on p = and_true (names on p)
 
-names_left : (s : State) (on : List ℕ) (x : Seen) (p : ℕ) → AtRest s on x → names (left_of on []) p ≡ names on p
+pub names_left : (s : State) (on : List ℕ) (x : Seen) (p : ℕ) → AtRest s on x → names (left_of on []) p ≡ names on p
 names_left s on x p rest =
     names_listed (is_left on [])
     (λ q past. elim (cases_Bool (is_left on [] q)) [

@@ -6,7 +6,7 @@ use Rattle.rack.specs.Seen.{Image, Seen, IsLive, Stays, Rose}
 use Rattle.rack.specs.Moments.{Leaves}
 use Rattle.rack.specs.Targets.{Target, look, put}
 use Rattle.array_image.specs.Places.{log_slice, place_of}
-use Rattle.array_image.specs.Record.{GateAt, gate_sector, half_of, pending_at, pending}
+use Rattle.array_image.specs.Record.{GateAt, gate_sector, gate_of, half_of, pending_at, pending}
 use Rattle.array_image.specs.Arrays.{replayed}
 use Rattle.commit_log.specs.View.{LogView, next_number, names, in_order}
 use Rattle.commit_log.specs.Standing.{IsLogPart, IsAlike, IsInside, deciding, IsWhole, LogsStand, IsNumbered, IsReady, SomeoneDecides}
@@ -72,6 +72,11 @@ pub record CommitCall (l : LogView) (on lost : List ℕ) (a b : Seen) : Type 0 w
       → (c : Image) → LogsStand b c → Rests (next_number l.number) l.added lost c
   pub numbers :
       (p : ℕ) → IsLive a b (log_slice p) gate_sector → IsNumbered l.number a p → IsNumbered (next_number l.number) b p
+  -- where nobody went each gate of `on` is closed with the next number, durably
+  pub gates :
+      lost ≡ [] → (p : ℕ) (v : List ℕ) → names on p ≡ true → IsLive a b (log_slice p) gate_sector
+      → MayLeave (b.held (log_slice p) gate_sector) v
+      → gate_of v ≡ Some (record { is_open = false; number = next_number l.number })
   -- sectors but for gates, halves and targets are as they were
   pub apart : (d t : ℕ) → IsLive a b d t → (IsLogPart d t → ⊥) → look l.added d t ≡ None → Keeps (a.held d t) (b.held d t)
   -- of the log's own it writes gates and the half of its number, on the places of `on` alone

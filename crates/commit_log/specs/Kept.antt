@@ -8,7 +8,7 @@ use Rattle.pool_state.specs.declared.contents.Copied.{Copied}
 use Rattle.pool_state.specs.declared.contents.State.{State}
 use Rattle.pool_state.specs.Sector.{decoded}
 use Rattle.array_image.specs.Places.{log_slice, place_of}
-use Rattle.array_image.specs.Record.{GateAt, gate_sector, pending_at, pending}
+use Rattle.array_image.specs.Record.{Gate, GateAt, gate_of, gate_sector, pending_at, pending}
 use Rattle.array_image.specs.States.{is_current}
 use Rattle.array_image.specs.Arrays.{replayed}
 use Rattle.commit_log.specs.View.{names}
@@ -40,6 +40,10 @@ pub record CopiesStand (s : State) (gone : ℕ → Bool) (x : Seen) : Type 0 whe
       (p : ℕ) (u : List ℕ) (copy : Copied) → p < 16 → is_current s p ≡ false → 0 < x.sectors (log_slice p)
       → MayLeave (x.held (log_slice p) 0) u → decoded u ≡ Ok copy → copy.state.epoch < s.epoch
 
+-- a stop now leaves no open gate on a place
+abbrev pub HasClosedGate : Seen → ℕ → Type 0
+HasClosedGate x p = (v : List ℕ) (g : Gate) → MayLeave (x.held (log_slice p) gate_sector) v → gate_of v ≡ Some g → g.is_open ≡ false
+
 -- What a commit finds of the log slices and leaves of them to the next one: `number` is the log's, and `gone` are the places that
 -- answered `Gone`, marked or not.
 pub record LogKept (s : State) (number : ℕ) (gone : ℕ → Bool) (x : Seen) : Type 0 where
@@ -54,6 +58,10 @@ pub record LogKept (s : State) (number : ℕ) (gone : ℕ → Bool) (x : Seen) :
   pub whole : (c : Image) → Stands x c → IsWhole c
   -- nothing is pending, or a current place has gone and isn't marked
   pub idle : (c : Image) → LogsStand x c → (pending (deciding c) c ≡ []) ⊎ ((p : ℕ) × (is_current s p ≡ true) × (gone p ≡ true))
+  -- where no current place has gone, their gates are closed
+  pub closed :
+      ((p : ℕ) → is_current s p ≡ true → gone p ≡ false)
+      → (p : ℕ) → is_current s p ≡ true → gate_sector < x.sectors (log_slice p) → HasClosedGate x p
   -- replaying changes nothing on the places that are left
   pub quiet : (c : Image) → Stands x c → (d t : ℕ) → gone (place_of d) ≡ false → replayed x.sectors c d t ≡ c d t
   -- and brings no later copy to the others
@@ -82,12 +90,13 @@ pub record Brings (s t : State) (xs : List Target) (on : List ℕ) : Type 0 wher
       × ((p : ℕ) → names on p ≡ true → (u : List ℕ) × (look xs (log_slice p) 0 ≡ Some u) × IsCopyOf t p u)
       × ((p : ℕ) → names on p ≡ false → look xs (log_slice p) 0 ≡ None))
 
--- A place that is to join: it is left, and has a log slice with a gate of no greater number than the log's.
+-- A place that is to join: it is left, and has a log slice with a closed gate of no greater number than the log's.
 pub record MayJoin (number : ℕ) (gone : ℕ → Bool) (x : Seen) (p : ℕ) : Type 0 where
   pub few : p < 16
   pub left : gone p ≡ false
   pub there : gate_sector < x.sectors (log_slice p)
   pub numbered : IsNumbered number x p
+  pub closed : HasClosedGate x p
 
 -- The same, where places may join: `takes` are the places of the commit and those that do. Each of them gets its copy.
 pub record BringsTo (s t : State) (number : ℕ) (gone : ℕ → Bool) (x : Seen) (xs : List Target) (on takes : List ℕ) : Type 0 where

@@ -40,3 +40,4 @@ pub mod Renewed
 pub mod Newest
 pub mod Brought
 pub mod KeptPlaces
+pub mod SameParts

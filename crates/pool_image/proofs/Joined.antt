@@ -44,23 +44,30 @@ module _ (pool : List ℕ) (extent joined : ℕ) (f g : ℕ → ℕ) (same : (n 
       ap (λ (p : Pv → Bool). has_own_head pool extent group && (list_all p group.pvs && (differ group.pvs && is_only_lv pool group.pvs group.lvs)))
       (λ i pv. pvs_same pv i)
 
-  pub group_same : (c e : Image) → ((n : ℕ) → n < joined → c n ≡ e n) → group_in c f joined ≡ group_in e g joined
-  group_same c e alike =
+  -- arrays that say the same parts
+  group_by_parts : (c e : Image) → ((n : ℕ) → n < joined → part_of (c n) (f n) ≡ part_of (e n) (g n)) → group_in c f joined ≡ group_in e g joined
+  group_by_parts c e alike =
       ap (λ parts. highest (map (λ part. part.group) parts))
-      (map_below (λ n. part_of (c n) (f n)) (λ n. part_of (e n) (g n)) 0 joined (λ n low.
-      let below : n < joined = omega (arith, low) in
-      ap₂ part_of (alike n below) (same n below)))
+      (map_below (λ n. part_of (c n) (f n)) (λ n. part_of (e n) (g n)) 0 joined (λ n low. alike n (omega (arith, low))))
 
-  pub bad_same : (c e : Image) → ((n : ℕ) → n < joined → c n ≡ e n) → first_bad pool extent f joined c ≡ first_bad pool extent g joined e
+  pub bad_by_parts : (c e : Image) → ((n : ℕ) → n < joined → part_of (c n) (f n) ≡ part_of (e n) (g n)) → first_bad pool extent f joined c ≡ first_bad pool extent g joined e
   unfolding first_bad
-  bad_same c e alike =
+  bad_by_parts c e alike =
       find_below (is_bad pool extent f joined c) (is_bad pool extent g joined e) 0 joined (λ n low.
-      let below : n < joined = omega (arith, low) in
-      ap₂ (λ o part. is_bad_by pool extent f joined o n part) (group_same c e alike) (ap₂ part_of (alike n below) (same n below))
+      ap₂ (λ o part. is_bad_by pool extent f joined o n part) (group_by_parts c e alike) (alike n (omega (arith, low)))
       ∙ ap (λ (own : Group → Bool).
       has_bad_text (part_of (e n) (g n))
       || ((option_map_or (λ h. names_array h n) (group_in e g joined) false && not (has_own_label pool n (part_of (e n) (g n))))
       || ((n == 0) && not (option_map_or own (group_in e g joined) false)))) (λ i group. own_same group i))
+
+  parts_same : (c e : Image) → ((n : ℕ) → n < joined → c n ≡ e n) → (n : ℕ) → n < joined → part_of (c n) (f n) ≡ part_of (e n) (g n)
+  parts_same c e alike n below = ap₂ part_of (alike n below) (same n below)
+
+  pub group_same : (c e : Image) → ((n : ℕ) → n < joined → c n ≡ e n) → group_in c f joined ≡ group_in e g joined
+  group_same c e alike = group_by_parts c e (parts_same c e alike)
+
+  pub bad_same : (c e : Image) → ((n : ℕ) → n < joined → c n ≡ e n) → first_bad pool extent f joined c ≡ first_bad pool extent g joined e
+  bad_same c e alike = bad_by_parts c e (parts_same c e alike)
 
 -- ---- the volume of a group
 

@@ -75,7 +75,7 @@ module _ (f : Found) (t : Slices) (v : Raid) (y : Seen) (i : Image) (known : IsK
   closed_now p gate counts at =
       let one = seat_there f t v y i known p counts in
       let there : gate_sector < y.sectors (log_slice p) = (let many = log_many f t v y i known p one.0 one.1 in omega (arith, many)) in
-      ends.closed p (held (log_slice p) gate_sector) gate counts
+      (kept f t v y i known).closed (λ q current. refl) p counts there (held (log_slice p) gate_sector) gate
       (known.left.picks.picks (log_slice p) gate_sector ((kept f t v y i known).logs p gate_sector (low_place f t v y i known p one.0 one.1) there))
       (sym (ap gate_of (log_same f t v y i known p gate_sector counts)) ∙ at)
 
@@ -102,7 +102,7 @@ module _ (f : Found) (t : Slices) (v : Raid) (y : Seen) (i : Image) (known : IsK
   none_gone q e seat gone =
       let same = same_length book.drives.items f.state.drives.items known.served.after.same.drives in
       let before = current_below f.state q (ahead_of f t v y i known q e seat).current in
-      both_ways (is_current book q) gone (all_there (λ drive. not drive.missing) book.drives.items q ends.drives (omega (arith, before, same)))
+      both_ways (is_current book q) gone (all_there (λ drive. not drive.missing) book.drives.items q ends.book.drives (omega (arith, before, same)))
 
   -- a drive of the pool stands for no other place, and no other disk for its place
   pub only_now : AreOnly g
@@ -113,7 +113,7 @@ module _ (f : Found) (t : Slices) (v : Raid) (y : Seen) (i : Image) (known : IsK
         elim (seated_or f t v y i known e) [
           | inr none ↦
               let same : g.identities e ≡ f.identities e = other_same f t v y i known e none low in
-              ends.only p d e was low (sym (stands_same f.state book known.served.after.same (f.identities e)) ∙ ap (stands_for book) (sym same) ∙ stands)
+              ends.alone.only p d e was low (sym (stands_same f.state book known.served.after.same (f.identities e)) ∙ ap (stands_for book) (sym same) ∙ stands)
           | inl one ↦ elim (cases_Bool (is_current book one.0)) [
             | inl now ↦
                 let place : one.0 ≡ p = some_same one.0 p (sym (stands_now f t v y i known one.0 e now one.1) ∙ stands) in
@@ -181,7 +181,7 @@ module _ (f : Found) (t : Slices) (v : Raid) (y : Seen) (i : Image) (known : IsK
         ∙ member_at (member_on its) its.truth.raid_disks k (omega (arith, less, disks)))
 
     whole_member : (k : ℕ) → k < its.truth.raid_disks → (member_on its k).is_whole ≡ true
-    whole_member k less = ap (λ (o : Option Seat). option_map_or is_whole_seat o false) (ends.seats n k low less)
+    whole_member k less = ap (λ (o : Option Seat). option_map_or is_whole_seat o false) (ends.book.seats n k low less)
 
     pub record IsHad (q : ℕ) : Type 0 where
       pub current : is_current book q ≡ true
@@ -215,9 +215,9 @@ module _ (f : Found) (t : Slices) (v : Raid) (y : Seen) (i : Image) (known : IsK
     clean : is_unclean w ≡ false
     clean =
         let offset : w.resync_offset ≡ 2 ^ 64 - 1 =
-        (ends.agree n held low (left f t v y i known)).left w w_is (ends.old n low)
-        ∙ ap (λ (b : Bool). if b then (if is_unclean its.truth then its.truth.resync_offset else 2 ^ 64 - 1) else if nat_lt its.resync (rows_in its) then its.resync * 128 else 2 ^ 64 - 1) (ends.old n low)
-        ∙ ap (λ (b : Bool). if b then its.resync * 128 else 2 ^ 64 - 1) (le-ltb its.resync (rows_in its) (let same = ends.synced n low in omega (arith, same))) in
+        (ends.agree n held low (left f t v y i known)).left w w_is (ends.book.old n low)
+        ∙ ap (λ (b : Bool). if b then (if is_unclean its.truth then its.truth.resync_offset else 2 ^ 64 - 1) else if nat_lt its.resync (rows_in its) then its.resync * 128 else 2 ^ 64 - 1) (ends.book.old n low)
+        ∙ ap (λ (b : Bool). if b then its.resync * 128 else 2 ^ 64 - 1) (le-ltb its.resync (rows_in its) (let same = ends.book.synced n low in omega (arith, same))) in
         le-ltb w.resync_offset w.size (let less = size_small in omega (arith, offset, less))
 
     nothing_unsynced : unsynced w ≡ 0

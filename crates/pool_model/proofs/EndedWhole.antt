@@ -6,13 +6,14 @@ use Rattle.std.proofs.lemmas.Bool.{and_from, and_parts, cases_Bool, cases_lt}
 use Rattle.std.proofs.lemmas.Option.{none-some}
 use Rattle.std.proofs.lemmas.Slice.Eq.{bytes_eq-Decides}
 use Rattle.rack.specs.Seen.{Image, IsPick, Seen}
+use Rattle.rack.specs.Values.{MayLeave}
 use Rattle.slice_rack.specs.Slices.{Slices, disk_of, first_of as slice_first, sectors_of}
-use Rattle.slice_rack.specs.Sliced.{IsInside, slices_of as slices_shown}
+use Rattle.slice_rack.specs.Sliced.{IsInside, sliced, slices_of as slices_shown}
 use Rattle.md_super.specs.declared.superblock.Super.{Super}
 use Rattle.md_super.specs.Profile.{is_height_of, profiled, rules}
 use Rattle.pool_state.specs.declared.contents.Copied.{Copied}
 use Rattle.pool_state.specs.declared.contents.State.{State}
-use Rattle.array_image.specs.Arrays.{Member, Shape, first_layout, sectors_by, shape_by, value_by}
+use Rattle.array_image.specs.Arrays.{Member, Shape, arrays_in, first_layout, replayed, sectors_by, shape_by, value_by}
 use Rattle.array_image.specs.Held.{Among}
 use Rattle.array_image.specs.Places.{data_sector, member_slice, super_sector}
 use Rattle.array_image.specs.States.{is_current}
@@ -21,7 +22,7 @@ use Rattle.array_core.proofs.Truths.{rule_holds}
 use Rattle.array_model.specs.declared.Seat.{Seat}
 use Rattle.array_model.specs.View.{member_on, seat_reach, sectors_of as sectors_in, shape_of}
 use Rattle.array_model.proofs.Noting.{first_is}
-use Rattle.raid_rack.specs.Raid.{Raid}
+use Rattle.raid_rack.specs.Raid.{Raid, held_in as raid_held, spent_of}
 use Rattle.lvm_group.specs.Group.{first_bad as bad_in}
 use Rattle.pool_image.specs.Book.{ArrayNow, IsWhole, array_now, book_of}
 use Rattle.pool_image.specs.Disks.{Disks, Identity, disks_of}
@@ -33,6 +34,7 @@ use Rattle.pool_image.proofs.Joined.{bad_same}
 use Rattle.pool_image.proofs.Parts.{held_in}
 use Rattle.pool_image.proofs.Wholes.{value_sized}
 use Rattle.pool_model.specs.Absent.{EndsWhole, HoldAbsent, IsWholePool, volume_arrays}
+use Rattle.pool_model.specs.Grouped.{HoldGroup}
 use Rattle.pool_model.specs.Left.{HoldRest, IsServed}
 use Rattle.pool_model.specs.Pools.{IsSoundPool}
 use Rattle.pool_model.proofs.Again.{known_again, left_known, members, same, sound_now, value_now}
@@ -47,6 +49,7 @@ use Rattle.pool_model.proofs.Members.{among_range}
 use Rattle.pool_model.proofs.Spare.{is_array, whole_view}
 use Rattle.pool_model.proofs.Unrefused.{no_damage, no_damages, none_any, not_refused}
 use Rattle.pool_model.proofs.Absent.{capacity_least, find_none, safe_in_absence}
+use Rattle.pool_model.proofs.Grouped.{truth_long}
 use Rattle.pool_model.proofs.Ended.{closed_now, done, enough, facts, in_sync, its, level_now, low_before, none_gone, only_now, shape_here, super_there, w, w_is}
 
 all_hold : (test : ℕ → Bool) (a m : ℕ) → ((n : ℕ) → n < a + m → test n ≡ true) → list_all test (range_with_len a m) ≡ true
@@ -95,7 +98,7 @@ module _ (f : Found) (t : Slices) (v : Raid) (y : Seen) (i : Image) (known : IsK
         let one = among_range (member_on (its f t v y i known ends small n low)) m 0 (its f t v y i known ends small n low).truth.raid_disks among in
         let less : one.0 < (its f t v y i known ends small n low).truth.raid_disks = (let most = one.2 in omega (arith, most)) in
         let reach : m.reach ≡ (its f t v y i known ends small n low).truth.size =
-        ap (λ (z : Member). z.reach) one.3 ∙ ap (λ (o : Option Seat). option_map_or (seat_reach (its f t v y i known ends small n low).truth.size) o 0) (ends.seats n one.0 low less) in
+        ap (λ (z : Member). z.reach) one.3 ∙ ap (λ (o : Option Seat). option_map_or (seat_reach (its f t v y i known ends small n low).truth.size) o 0) (ends.book.seats n one.0 low less) in
         let there = counts_there book held n (w f t v y i known ends small n low) m k (subst (λ (z : Shape). Among m z.members) (sym (shape_here f t v y i known ends small n low)) among) counts in
         elim (cases_Bool (is_member f n m.place)) [
           | inl member ↦ data_sized m.place k there.0 member (let same = size_is in omega (arith, counts, reach, same))
@@ -117,12 +120,7 @@ module _ (f : Found) (t : Slices) (v : Raid) (y : Seen) (i : Image) (known : IsK
     few_n = few f t v y i known n low
 
     long : 2048 < (w f t v y i known ends small n low).size
-    long =
-        let leads = truth_leads book held n (w f t v y i known ends small n low) (w_is f t v y i known ends small n low) in
-        let at = current_is book held n leads.at (w f t v y i known ends small n low) leads.here in
-        let one = and_parts (is_ok (profiled (w f t v y i known ends small n low) book.extent)) _ (super_passes book held n leads.at (w f t v y i known ends small n low) at.1) in
-        let size = and_parts (is_height_of book.extent (w f t v y i known ends small n low).size) _ (rule_holds 5 (rules (w f t v y i known ends small n low) book.extent) one.0) in
-        ltb-true 2048 (w f t v y i known ends small n low).size (and_parts (nat_lt 2048 (w f t v y i known ends small n low).size) _ size.0).0
+    long = truth_long book held n (w f t v y i known ends small n low) (w_is f t v y i known ends small n low)
 
     sectors_here : array_sectors g n ≡ sectors_in (its f t v y i known ends small n low)
     unfolding shape_of
@@ -161,6 +159,23 @@ module _ (f : Found) (t : Slices) (v : Raid) (y : Seen) (i : Image) (known : IsK
         let less = before_made n low in
         ap₂ (λ (k : ℕ) (u : List ℕ). if nat_lt x k then u else []) (sectors_here small sectors n less) (value_now f t v y i known n less x) j)
 
+  -- they have the values of the book's arrays
+  module _ (group : HoldGroup v y) (alive : (n x : ℕ) → n < f.state.made → x < sectors_in (v.arrays n) → spent_of v n x ≡ false) where
+    value_left : (n x : ℕ) → n < f.state.made → x < sectors_in (v.arrays n) → MayLeave (raid_held v y n x) (volume_arrays t v i n x)
+    value_left n x low inside =
+        subst (MayLeave (raid_held v y n x))
+        (sym (ap (λ (b : Bool). if b then arrays_in (replayed (sectors_of t) (sliced t i)) n x else []) (lt-ltb x (sectors_in (v.arrays n)) inside)
+        ∙ sym (value_now f t v y i known n low x)
+        ∙ array_current book (slices_of g) held n (same f t v y i known n low) (members f t v y i known n low) x
+        ∙ ap (λ (o : Option Shape). option_map_or (λ shape. value_by shape held n x) o []) (says f t v y i known n low).shape_is))
+        ((says f t v y i known n low).value x (alive n x low inside))
+
+    pub none_bad : bad_in book.pool.0 book.extent (λ n. sectors_in (v.arrays n)) book.joined (volume_arrays t v i) ≡ None
+    none_bad =
+        group (volume_arrays t v i)
+        (λ n x low inside first. value_left n x (let joined = known.served.after.same.joined in let all = known.served.joined in omega (arith, low, joined, all)) inside)
+        (λ n x low past. ap (λ (b : Bool). if b then arrays_in (replayed (sectors_of t) (sliced t i)) n x else []) (le-ltb x (sectors_in (v.arrays n)) past))
+
   -- ---- the pool
 
   supers_now : (p : ℕ) → ((d : ℕ) → d < f.disks.count → f.disks.sectors d < 2 ^ 48) → has_supers g p ≡ true
@@ -172,7 +187,7 @@ module _ (f : Found) (t : Slices) (v : Raid) (y : Seen) (i : Image) (known : IsK
       let one = seat_there f t v y i known p counts in
       let parts = sound_parts f t v y i known p one.0 counts one.1 in
       no_damage g p one.0 (seats_now f t v y i known p counts ∙ one.1)
-      (record { table = parts.table ∙ ends.tables p one.0 one.1; copy = parts.copy; log = parts.log; supers = supers_now p small })
+      (record { table = parts.table ∙ ends.alone.tables p one.0 one.1; copy = parts.copy; log = parts.log; supers = supers_now p small })
 
   -- no disk is of another pool
   own_pool : (d : ℕ) → d < f.disks.count → option_map_or (λ copy. not (bytes_eq copy.state.pool.0 book.pool.0)) (g.identities d).copied false ≡ false
@@ -184,7 +199,7 @@ module _ (f : Found) (t : Slices) (v : Raid) (y : Seen) (i : Image) (known : IsK
       pool_is : (copy : Copied) → (g.identities d).copied ≡ Some copy → copy.state.pool ≡ book.pool
       pool_is copy here = elim (seated_or f t v y i known d) [
         | inr none ↦
-            ends.one_pool d copy low (sym (ap (λ (z : Identity). z.copied) (other_same f t v y i known d none low)) ∙ here)
+            ends.alone.one_pool d copy low (sym (ap (λ (z : Identity). z.copied) (other_same f t v y i known d none low)) ∙ here)
             ∙ sym known.served.after.same.pool
         | inl one ↦ elim (cases_Bool (is_current book one.0)) [
           | inl counts ↦
@@ -219,7 +234,7 @@ module _ (f : Found) (t : Slices) (v : Raid) (y : Seen) (i : Image) (known : IsK
 
     whole_now : IsWhole (book_of g)
     unfolding book_of
-    whole_now = record { drives = ends.drives; rows = rows }
+    whole_now = record { drives = ends.book.drives; rows = rows }
       where
         rows : (n : ℕ) (at : ArrayNow) → (if nat_lt n book.made then option_map (array_now g n) (truth_of g n) else None) ≡ Some at
             → (at.resync ≡ 0) × (at.rebuild ≡ 0) × (at.zero_rows ≡ 0)
@@ -249,21 +264,22 @@ module _ (f : Found) (t : Slices) (v : Raid) (y : Seen) (i : Image) (known : IsK
       level = level_now f t v y i known ends;
     }
 
--- Disks of a served pool that has ended whole, which outside its slices are as they were, and whose volume isn't bad: of what they may be left
--- with the meaning without any one drive is the meaning with it.
+-- Disks of a served pool that has ended whole, which outside its slices are as they were, and whose arrays hold the pool's group: of what they may be
+-- left with the meaning without any one drive is the meaning with it.
 pub left_absent : (f : Found) (t : Slices) (x : Seen) (v : Raid) → IsServed f t v (slices_shown t x) → IsInside t x
     → (disks : Disks) (before i : Image) → found disks before ≡ Some f → disks ≡ disks_of x → IsSoundPool f → HoldRest f t x → IsPick x x x.held i
     → EndsWhole f v (slices_shown t x)
     → ((d k : ℕ) → d < f.disks.count → k < f.disks.sectors d → length (i d k) ≡ 512)
     → ((d : ℕ) → d < f.disks.count → f.disks.sectors d < 2 ^ 48)
-    → bad_in v.state.pool.0 v.state.extent (λ n. sectors_in (v.arrays n)) v.state.joined (volume_arrays t v i) ≡ None
+    → HoldGroup v (slices_shown t x)
+    → ((n k : ℕ) → n < f.state.made → k < sectors_in (v.arrays n) → spent_of v n k ≡ false)
     → HoldAbsent f t v.state i
 unfolding known_again
-left_absent f t x v served inside disks before i found_before same sound rest pick ends sectors small good =
+left_absent f t x v served inside disks before i found_before same sound rest pick ends sectors small group alive =
     let known = left_known f t x v served inside disks before i found_before same sound (rest.elsewhere i (λ d u live never. pick d u live)) (rest.alone i (λ d u live never. pick d u live)) pick in
     record {
       again = known_again f t v (slices_shown t x) i known;
       safe =
           safe_in_absence f.disks i (now f t v (slices_shown t x) i known)
-          (ended_whole f t v (slices_shown t x) i known ends small sectors good);
+          (ended_whole f t v (slices_shown t x) i known ends small sectors (none_bad f t v (slices_shown t x) i known ends group alive));
     }

@@ -20,6 +20,7 @@ pub mod Unrefused
 pub mod Members
 pub mod Without
 pub mod Absent
+pub mod Grouped
 pub mod Ended
 pub mod EndedWhole
 mod AbsentExamples

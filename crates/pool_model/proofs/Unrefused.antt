@@ -12,13 +12,14 @@ use Rattle.commit_log.specs.Kept.{IsNoLater}
 use Rattle.raid_rack.proofs.Added.{names_current}
 use Rattle.pool_image.specs.Disks.{Disks, identities_of, newest}
 use Rattle.pool_image.specs.Drives.{Found, found}
-use Rattle.pool_image.specs.Replay.{standing, standing_by}
+use Rattle.pool_image.specs.Replay.{Standing, standing, standing_by}
 use Rattle.pool_image.specs.Meaning.{Part, Refusal, absent, absent_count, arrays_of, bad_volume, damage_of, damage_on, damaged, dirty_degraded, first_damaged, has_log, has_other_pool, has_supers, has_table, in_log, in_state, in_superblock, in_table, is_dirty_degraded, is_too_few, joined_arrays, no_pool, refusal_of, refused_at, refused_by, too_few, two_pools}
 use Rattle.pool_image.specs.Sound.{skip}
 use Rattle.pool_image.specs.Volumes.{first_bad}
 use Rattle.pool_image.proofs.Identities.{seat_inside}
 use Rattle.pool_model.specs.Absent.{IsWholePool}
-use Rattle.pool_model.proofs.Found.{latest, newest_latest}
+use Rattle.pool_model.proofs.Found.{found_is, latest, newest_latest}
+use Rattle.pool_model.proofs.Named.{seat_ahead}
 use Rattle.pool_model.proofs.Skipped.{back, back_inside, skip_inside}
 use Rattle.pool_model.proofs.Standing.{found_at, pool_at}
 use Rattle.pool_model.proofs.Undamaged.{find_false}
@@ -118,6 +119,24 @@ not_refused f few undamaged enough clean good =
   where
     low : absent_count f ≤ 1 → nat_lt 1 (absent_count f) ≡ false
     low few = le-ltb 1 (absent_count f) few
+
+pub unrefused_by : (disks : Disks) (c : Image) (f : Found) → found disks c ≡ Some f → refusal_of disks c ≡ None → refused_by f ≡ None
+unfolding refusal_of
+unrefused_by disks c f is none = of (standing disks c) none
+  where
+    by : (b : Bool) → (if b then Some two_pools else option_map_or refused_by (found disks c) (Some no_pool)) ≡ None → refused_by f ≡ None
+    by true at = absurd (none-some two_pools (sym at))
+    by false at = sym (ap (λ o. option_map_or refused_by o (Some no_pool)) is) ∙ at
+
+    of : (o : Option Standing) → option_map_or (refused_at disks c) o (Some no_pool) ≡ None → refused_by f ≡ None
+    of None at = absurd (none-some no_pool (sym at))
+    of (Some x) at = by (has_other_pool disks x) at
+
+-- Each drive of a pool that isn't refused has its table.
+pub tables_meant : (disks : Disks) (c : Image) (f : Found) → found disks c ≡ Some f → refusal_of disks c ≡ None → (p d : ℕ) → f.seats p ≡ Some d → has_table f p d ≡ true
+tables_meant disks c f is none p d seat =
+    let current = (seat_ahead f.state f.disks f.identities p d (sym ((found_is disks c f is).0.seats p) ∙ seat)).current in
+    (undamaged f p d seat (none_damaged f p (unrefused f (unrefused_by disks c f is none)).0 current)).table
 
 pub stands_at : (disks : Disks) (c : Image) (s : State) → newest disks (identities_of disks c) ≡ Some s → standing disks c ≡ Some (standing_by disks c s)
 unfolding standing

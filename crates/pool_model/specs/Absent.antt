@@ -2,7 +2,6 @@
 use Rattle.std.specs.Prelude.{◌≡◌, ℕ, ◌<◌, ◌^◌, true, false, not, nat_lt, if◌then◌else◌, List, [], length, slice_get, Some, None}
 use Rattle.std.specs.List.{list_all}
 use Rattle.rack.specs.Seen.{Image, Seen}
-use Rattle.rack.specs.Values.{MayLeave}
 use Rattle.slice_rack.specs.Slices.{Slices, sectors_of}
 use Rattle.slice_rack.specs.Sliced.{sliced}
 use Rattle.md_super.specs.declared.superblock.Super.{Super}
@@ -10,8 +9,7 @@ use Rattle.pool_state.specs.declared.contents.Copied.{Copied}
 use Rattle.pool_state.specs.declared.contents.State.{State}
 use Rattle.array_image.specs.Arrays.{arrays_in, replayed}
 use Rattle.array_image.specs.Left.{IsLeft}
-use Rattle.array_image.specs.Places.{log_slice}
-use Rattle.array_image.specs.Record.{Gate, gate_in, gate_of, gate_sector}
+use Rattle.array_image.specs.Record.{Gate, gate_in}
 use Rattle.array_image.specs.States.{is_current}
 use Rattle.array_model.specs.declared.Seat.TheVariants.{Whole}
 use Rattle.array_model.specs.View.{rows_of, sectors_of as sectors_in}
@@ -52,21 +50,24 @@ pub record IsWholePool (disks : Disks) (c : Image) (f : Found) : Type 0 where
   pub closed : AreClosed f
   pub level : AreLevel f
 
--- A served pool that has ended whole, by its book v and the slices y: all drives are current, each member of its arrays is whole, and no row is
--- left to resync. Whatever a stop leaves, superblocks agree and gates are closed. Its drives had sound tables, and no other disk is of
--- another pool or stands for one of its places.
-pub record EndsWhole (f : Found) (v : Raid) (y : Seen) : Type 0 where
-  pub drives : list_all (λ drive. not drive.missing) v.state.drives.items ≡ true
-  pub seats : (n k : ℕ) → n < f.state.made → k < (v.arrays n).truth.raid_disks → slice_get (v.arrays n).seats k ≡ Some Whole
-  pub old : (n : ℕ) → n < f.state.made → (v.arrays n).young ≡ false
-  pub synced : (n : ℕ) → n < f.state.made → (v.arrays n).resync ≡ rows_of (v.arrays n)
-  pub agree : (n : ℕ) (r : Image) → n < f.state.made → IsLeft y r → AgreeLeaving (v.arrays n) v.state r n
-  pub closed :
-      (p : ℕ) (u : List ℕ) (g : Gate) → is_current v.state p ≡ true → MayLeave (y.held (log_slice p) gate_sector) u → gate_of u ≡ Some g
-      → g.is_open ≡ false
+-- What disks had of a pool: each of its drives had a table with its slices, and no other disk was of another pool or stood for one of its places.
+pub record StandsAlone (f : Found) : Type 0 where
   pub tables : (p d : ℕ) → f.seats p ≡ Some d → has_table f p d ≡ true
   pub only : AreOnly f
   pub one_pool : (d : ℕ) (copy : Copied) → d < f.disks.count → (f.identities d).copied ≡ Some copy → copy.state.pool ≡ f.state.pool
+
+-- The book of a pool of so many arrays is whole: all drives are current, each member of an array is whole, none is young, and no row is left to resync.
+pub record IsWholeRaid (made : ℕ) (v : Raid) : Type 0 where
+  pub drives : list_all (λ drive. not drive.missing) v.state.drives.items ≡ true
+  pub seats : (n k : ℕ) → n < made → k < (v.arrays n).truth.raid_disks → slice_get (v.arrays n).seats k ≡ Some Whole
+  pub old : (n : ℕ) → n < made → (v.arrays n).young ≡ false
+  pub synced : (n : ℕ) → n < made → (v.arrays n).resync ≡ rows_of (v.arrays n)
+
+-- A served pool that has ended whole, by its book v and the slices y: whatever a stop leaves, superblocks agree.
+pub record EndsWhole (f : Found) (v : Raid) (y : Seen) : Type 0 where
+  pub alone : StandsAlone f
+  pub book : IsWholeRaid f.state.made v
+  pub agree : (n : ℕ) (r : Image) → n < f.state.made → IsLeft y r → AgreeLeaving (v.arrays n) v.state r n
 
 -- what contents of the slices hold of the arrays of a book, and nothing past the arrays' ends
 abbrev pub volume_arrays : Slices → Raid → Image → Image

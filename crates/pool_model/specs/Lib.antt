@@ -1,3 +1,4 @@
 pub mod Pools
 pub mod Left
 pub mod Absent
+pub mod Grouped

@@ -1,6 +1,7 @@
 -- The commit that makes a new drive one of the pool, seen from an array that stands: it gives its values at each moment, by the state before or
 -- by one that has the drive, and stands after it.
 use Rattle.std.proofs.Common.{◌≡◌, ◌⊎◌, ℕ, ◌+◌, ◌-◌, ◌^◌, ◌<◌, ◌≤◌, ◌==◌, ◌&&◌, ◌||◌, not, Bool, true, false, if◌then◌else◌, List, [], length, Some, None, unwrap_or, refl, sym, ap, subst, ◌∙◌, inl, inr, lt-ltb, arith}
+use Rattle.std.specs.Option.{option_map_or}
 use Rattle.std.proofs.lemmas.Bool.{and_from, both_ways, cases_Bool, cases_eq, ne_eqb}
 use Rattle.rack.specs.Values.{Values}
 use Rattle.rack.specs.Seen.{Image, Seen}
@@ -12,7 +13,7 @@ use Rattle.pool_state.specs.declared.contents.State.{State}
 use Rattle.shr_base.specs.Blocks.{bytes_at, number_at, put_at}
 use Rattle.shr_base.specs.Crc.{times_x, times_x_to}
 use Rattle.array_image.specs.Places.{data_sector, log_slice, member_slice, super_sector}
-use Rattle.array_image.specs.Record.{gate_of}
+use Rattle.array_image.specs.Record.{Gate, gate_of}
 use Rattle.array_image.specs.States.{current_places, is_current}
 use Rattle.array_image.specs.Supers.{is_super_of, only_if, super_in, super_of}
 use Rattle.array_image.specs.Arrays.{Shape, place_with, replayed}
@@ -165,6 +166,8 @@ module _ (place units : ℕ) (plan : Plan) (joining : ℕ → Bool) (v : Raid) (
     left = nobody place;
     there = let size = may.log in omega (arith, size);
     numbered = λ block left. (record { is_open = false; number = 0 }, ap gate_of (new_log.gate block left) ∙ closed_gate, omega arith);
+    closed = λ block gate left is.
+        ap (λ o. option_map_or (λ (g : Gate). g.is_open) o false) (sym is ∙ ap gate_of (new_log.gate block left) ∙ closed_gate);
   }
 
   brings : BringsTo s t l.number (gone_in v) x l.added on takes

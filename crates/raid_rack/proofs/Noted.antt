@@ -316,6 +316,7 @@ kept_marked s number gone now x all kept =
       halves = kept.halves;
       whole = kept.whole;
       idle = λ c stand. inl (kept_idle s number gone x c kept stand all);
+      closed = λ now_all. kept.closed all;
       quiet = λ c stands d t left. idle_now s number gone x kept all c (logs_stand c stands) d t;
       brought = λ c p copy stands few there is. kept.brought c p copy stands few there is;
     }

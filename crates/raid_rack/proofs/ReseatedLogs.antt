@@ -230,6 +230,10 @@ module _ (place : ℕ) (x y : Seen) (differs : DiffersAt place x y) where
           (whole_by c (put_back place x c) (current_places s) (λ p named. logs_same c p gate_sector named) (records_same c)
           (subst (λ ps. damaged_log ps (put_back place x c) ≡ None) (decided_back c stand) (kept.whole (put_back place x c) (stands_back c stands))));
       idle = λ c stand. inl (idle_now c stand);
+      closed = λ all_left p current there v g left.
+          let off = log_away p (away p current) in
+          kept.closed all_left p current (subst (λ n. gate_sector < n) (differs.sectors (log_slice p) off) there) v g
+          (subst (λ h. MayLeave h v) (differs.held (log_slice p) gate_sector off) left);
       quiet = λ c stands d t left. as_is_now c d t (logs_of_stands c stands);
       brought = λ c p copy stands few there is.
           old_others p (c (log_slice p) 0) copy few there (stands.picks (log_slice p) 0 (logs_live p 0 few there))

@@ -5,14 +5,15 @@ use Rattle.raid_rack.specs.RaidRack.{raid_in, slices_in, slices_seen, written_in
 use Rattle.pool_state.specs.declared.contents.State.{State}
 use Rattle.std.proofs.Common.{◌≡◌, ◌<◌, ℕ, arith, false, Some, option_map, inl, inr, sym, ap, subst, ◌∙◌}
 use Rattle.std.proofs.lemmas.Bool.{both_ways}
-use Rattle.rack.specs.Seen.{Seen, Stays, Rose}
+use Rattle.rack.specs.Seen.{Image, Seen, Stays, Rose}
 use Rattle.rack.specs.Joins.{stays_then}
 use Rattle.rack.specs.Sequences.{WritesOnly}
 use Rattle.slice_rack.specs.Runs.{IsSliced}
 use Rattle.slice_rack.specs.Slices.{Slices, seat_of}
 use Rattle.lvm_group.specs.Volume.{below_of as rack_in, linear, seqno_of}
 use Rattle.pool_image.specs.Meaning.{arrays_held, bad_volume, joined_arrays, volume_by}
-use Rattle.pool_image.specs.Volumes.{linear_of}
+use Rattle.lvm_group.specs.Images.{HasOwnArea}
+use Rattle.pool_image.specs.Volumes.{Arrays, linear_of}
 use Rattle.pool_scan.specs.Scanning.{IsUnfaulted}
 use Rattle.pool_rest.proofs.Unwritten.{reads_mean}
 use Rattle.pool_scan.proofs.Valid.{valid_arrays}
@@ -29,10 +30,11 @@ use Rattle.assembler.specs.Refusing.{is_early, meant_by}
 use Rattle.pool_model.specs.Left.{IsPickOff}
 use Rattle.pool_model.specs.Pools.{AreSlicesOf}
 use Rattle.assembler.proofs.Agreed.{agree_opened}
+use Rattle.assembler.proofs.Grouped.{group_opened}
 use Rattle.assembler.proofs.Causes.{refuses_drives}
 use Rattle.assembler.proofs.Refusals.{check_early, finding_sound, meant_finding, memory_sound}
 use Rattle.assembler.proofs.Written.{writes_then_reads}
-use Rattle.pool_image.proofs.Founds.{super_same, truths_same}
+use Rattle.pool_image.proofs.Founds.{joined_same, super_same, truths_same}
 use Rattle.assembler.proofs.Elsewhere.{elsewhere}
 use Rattle.assembler.proofs.Finding.{same as found_by_rest}
 use Rattle.assembler.proofs.Founded.{array_later, array_same}
@@ -118,6 +120,15 @@ returns-in-Ok-open_volume-clause-meant g c e sound quiet =
           (array_same e pool n z ((raid_in raid).arrays n) (super_same e pool same_pool n) (held_arrays.arrays n z less (truths_same e pool same_pool n ∙ truth)))
           (opens.kept.2.arrays n (let most = ready g k in omega (arith, less, joined, most)));
       live = alive;
+      group = λ all own.
+          let joined = held_arrays.after.same.joined in
+          let made = held_arrays.after.same.made in
+          group_opened seen g.R.Rack.runs pool (slices_of (t g k) (y g k)) raid (rack_in volume) held_arrays c.make_rack.ensures.fresh (linear volume) (seqno_of volume) opens alive
+          (let most = c.make_rack.ensures.fit.running.set.most in let ready_is = ready g k in omega (arith, most, ready_is))
+          (joined ∙ ap (λ (s : State). s.joined) same_pool.state ∙ all ∙ sym (ap (λ (s : State). s.made) same_pool.state) ∙ sym made)
+          (λ n low.
+          subst (λ (h : Image). HasOwnArea (h n)) (sym (ap (λ (k : Arrays). k.contents) (joined_same e pool same_pool)))
+          (own n (subst (λ (s : State). n < s.joined) same_pool.state low)));
       elsewhere = λ i off.
           off_slices g k before e sound (seen (below_of (slices_in (rack_in volume)))) (own_texts g c) i
           (subst (λ (u : Slices). IsPickOff u (seen (below_of (slices_in (rack_in volume)))) i) (opens.kept.0.tables ∙ c.make_rack.ensures.tables) off);

@@ -275,7 +275,7 @@ returns-clause-holds g c f holds found quiet =
     c.close_gates-gone.ensures.same c.mend_tables-left_out.ensures.mends c.mend_tables-left_out.ensures.tables marking quiet none) w after mends
     (elim (cases_Bool flag) [ inl stale ↦ inl (agrees (inl stale), unfaulted) | inr clear ↦ inr (still none clear) ]))
     (λ absent.
-    rack_still f m.state t y m.checked m.absent.items places m.slices.orderly m.log holds found members rules raid c.new-raid.ensures.state number are same w after
+    rack_still f m.state t y m.checked m.absent.items places m.slices.orderly m.log holds found members rules raid c.new-raid.ensures.state number are absent same w after
     (subst (λ k. Mends raid w (slices_of t (seen (below_of k))) after) (c.close_gates-gone.ensures.still absent) mends)
     (subst (λ k. MakesAgree raid w (slices_of t (seen (below_of k))) after) (c.close_gates-gone.ensures.still absent)
     (agrees
