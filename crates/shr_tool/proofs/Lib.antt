@@ -20,3 +20,4 @@ mod Stopping
 mod Taking
 mod Through
 mod Told
+mod Absent

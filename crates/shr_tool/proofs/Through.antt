@@ -201,7 +201,7 @@ pub opened_as :
     → IsOpenedAs f (view shown shelf pool).bay (ground_of (view shown shelf pool)) (moment_of (view shown shelf pool))
 opened_as pool shown shelf x opens marks f sound unfaulted =
     let by = opens f sound unfaulted in
-    record { lies = by.lies; slices = by.slices; after = by.after; told = by.told; arrays = by.arrays; live = by.live; elsewhere = by.elsewhere; marks = marks f sound unfaulted }
+    record { lies = by.lies; slices = by.slices; after = by.after; told = by.told; arrays = by.arrays; live = by.live; group = by.group; elsewhere = by.elsewhere; marks = marks f sound unfaulted }
 
 -- the run is one on that pool
 pub runs_on :

@@ -23,6 +23,7 @@ use Rattle.assembler.specs.Causes.{HasRefusalCause}
 use Rattle.assembler.specs.Holding.{IsArrayOf}
 use Rattle.assembler.specs.Marking.{MarksDrives}
 use Rattle.assembler.specs.Refusing.{is_early}
+use Rattle.pool_model.specs.Grouped.{HaveOwnAreas, HoldGroup}
 use Rattle.pool_model.specs.Left.{AreAlone, AreElsewhere, IsPickOff}
 use Rattle.pool_model.specs.Pools.{AreSlicesOf}
 use Rattle.assembler.specs.Sound.{HaveAgreed, HoldSound, IsMeantRefusal, KeepsPool, MayStop}
@@ -71,6 +72,8 @@ pub record IsOpenedAs (f : Found) (y : Seen) (g : Ground) (from : Moment) : Type
   -- each is the array of the pool's superblocks, with the rows to resync that they leave
   pub arrays : (n : ℕ) (t : Super) → n < f.state.joined → truth_of f n ≡ Some t → IsArrayOf f n t (from.book.arrays n)
   pub live : AllLive from.book
+  -- where all arrays are ready for the volume, and have the pool's metadata areas, they hold its group, whatever they may be left with
+  pub group : f.state.joined ≡ f.state.made → HaveOwnAreas f → HoldGroup from.book (slices_of from.slices y)
   -- outside the slices the disks have each drive's table, and other disks say what they said
   pub elsewhere : (i : Image) → IsPickOff from.slices y i → AreElsewhere f i
   -- just those drives are marked missing that were, or that have no disk
