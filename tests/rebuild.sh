@@ -3,6 +3,7 @@
 # killed at any time; another drive is lost in the middle; and rows that a killed run left are resynced while the volume is written. What the
 # volume holds is compared with a file that is written alike.
 . "$(dirname "$(readlink -f "${BASH_SOURCE[0]}")")/lib/program.sh"
+. "$top/tests/lib/volume.sh"
 
 # Units of 10, 20, 30 and 40 extents: RAID-5 over all drives and over the last three, and a mirror over the last two.
 sizes=(79104 80384 81664 82944)
@@ -23,28 +24,6 @@ make() {
 put() {
   printf 'write %d %02x\n' "$1" "$2" >>script
   { printf "\\x$(printf %02x "$2")"; head -c 511 /dev/zero; } | dd of=bytes bs=512 seek="$1" conv=notrunc status=none
-}
-
-# holds NAME IMAGE..: the volume holds what the file does.
-holds() {
-  local name=$1
-  shift
-  "$tool" export "$@" </dev/null >exported 2>err
-  expect "$name" cmp -s bytes exported
-}
-
-# any_absent NAME IMAGE..: it does on all these images, and without each one of them.
-any_absent() {
-  local name=$1 image left one
-  shift
-  rm -rf kept && mkdir kept && cp "$@" kept
-  holds "$name: all drives" "$@"
-  for image in "$@"; do
-    left=()
-    for one in "$@"; do [ "$one" = "$image" ] || left+=("$one"); done
-    holds "$name: without $image" "${left[@]}"
-    cp kept/* .
-  done
 }
 
 # killed SECONDS IMAGE..: a run of the script that is killed after some time.

@@ -2,6 +2,7 @@
 # A drive of a pool on real files is lost and replaced: by a new image and by its own old one, with a run killed amid its rebuilding; what the
 # volume holds then without each one of its drives; and how Debian's mdadm and gdisk read the new drive.
 . "$(dirname "$(readlink -f "${BASH_SOURCE[0]}")")/lib/program.sh"
+. "$top/tests/lib/volume.sh"
 
 # Units of ten, twenty and thirty extents: RAID-5 over all drives, and a mirror over the last two. The rows of an array are 26.
 make() {
@@ -21,29 +22,6 @@ serve() {
   printf '%b' "$3" >script
   shift 4
   check "$name" "$status" "$replies" serve "$@"
-}
-
-# holds NAME IMAGE..: the volume holds its bytes.
-holds() {
-  local name=$1
-  shift
-  "$tool" export "$@" </dev/null >exported 2>err
-  expect "$name" cmp -s bytes exported
-}
-
-# any_absent NAME IMAGE..: the volume holds its bytes on all these images, and without each one of them.
-any_absent() {
-  local name=$1 left image
-  shift
-  rm -rf kept && mkdir kept && cp "$@" kept
-  holds "$name: all drives" "$@"
-  for image in "$@"; do
-    cp kept/* .
-    left=()
-    for one in "$@"; do [ "$one" = "$image" ] || left+=("$one"); done
-    holds "$name: without $image" "${left[@]}"
-  done
-  cp kept/* .
 }
 
 # Each drive by a new image of its size.
