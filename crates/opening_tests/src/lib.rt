@@ -10,7 +10,6 @@
 //! | `refusals` | pools with one cause and with each two: the first one is named, and a disk that is no drive isn't written |
 //! | `absences` | each drive absent, and there again at the next opening |
 //! | `quiet` | openings of pools that were ended cleanly: how many calls they make |
-//! | `reads` | how often an opening reads each sector: once, but for copies of a partition table that differ |
 //! | `records` | stops amid commits and amid openings, opened again |
 //!
 //! The crate has tests alone.
@@ -26,8 +25,6 @@ mod disks;
 mod plans;
 #[cfg(test)]
 mod quiet;
-#[cfg(test)]
-mod reads;
 #[cfg(test)]
 mod records;
 #[cfg(test)]
