@@ -5,6 +5,7 @@ pub mod KeptReplayed
 pub mod Calling
 pub mod Each
 pub mod Naming
+pub mod FirstGate
 pub mod Records
 pub mod Halves
 pub mod Targets

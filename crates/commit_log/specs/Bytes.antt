@@ -1,6 +1,7 @@
 -- A record as the bytes of its sectors, in a row.
 use Rattle.std.specs.Prelude.{◌≡◌, ℕ, ◌+◌, ◌*◌, ◌≤◌, List, map, codes, replicate, take, length, Bool, ◌&&◌, ◌==◌, bytes_eq}
 use Rattle.std.specs.List.{range_with_len, list_all}
+use Rattle.byteorder.specs.Endian.{little_bytes}
 use Rattle.shr_base.specs.Blocks.{bytes_at, number_at, put_at}
 use Rattle.shr_base.specs.Crc.{crc32_of}
 use Rattle.rack.specs.Targets.{Target}
@@ -54,3 +55,11 @@ passes number count bytes =
     && (number_at 8 4 bytes == crc32_of (put_at 8 4 (replicate 4 0) (take (512 * (96 + count)) bytes)))
     && list_all is_target (targets_in bytes count)
     && are_apart (targets_in bytes count)
+
+-- a gate's word alone
+abbrev pub gate_word : List ℕ
+gate_word = put_at 0 8 (codes "SHRGATE1") (replicate 512 0)
+
+-- the gate of a new log, closed with number 0: the word, the sum, and zeros
+abbrev pub first_gate : List ℕ
+first_gate = put_at 8 4 (little_bytes 4 (crc32_of gate_word)) gate_word

@@ -3,6 +3,7 @@
 ghost use Rattle.std.specs.Prelude.{◌≡◌, ◌≤◌, ◌==◌, None, Some, MatchOption, bytes_eq, length, replicate};
 ghost use Rattle.shr_base.specs.Blocks.{bytes_at, put_at};
 ghost use Rattle.shr_base.specs.Crc.{crc32_of};
+ghost use Rattle.commit_log.specs.Bytes as spec;
 ghost use Rattle.commit_log.specs.Bytes.{is_gate};
 ghost use Rattle.array_image.specs.Record.{gate_of};
 
@@ -43,6 +44,17 @@ impl Gate {
             None
         }
     }
+}
+
+/// The gate of a new log: closed, with number 0 (docs/FORMATS.md, 'Commit log').
+pub fn first_gate() -> [u8; 512]
+    ensures { result ≡ spec.first_gate }
+{
+    let mut gate = [0; 512];
+    put_bytes(&mut gate, 0, &WORD);
+    let sum = crc32(&gate);
+    put_u32(&mut gate, 8, sum);
+    gate
 }
 
 // The fields of a gate, and then the sum over its sector.

@@ -26,4 +26,5 @@ mod scan;
 mod tests;
 mod writing;
 
+pub use gates::first_gate;
 pub use log::{Log, Looked, Target};

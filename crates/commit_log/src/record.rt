@@ -70,8 +70,12 @@ impl Record {
     pub(crate) fn clear(&mut self)
         ensures { targets_in self.new.bytes.items self.new.count ≡ [] }
     {
+        let is_used = self.count > 0;
         self.count = 0;
-        put_zeros(self.bytes.as_mut_slice());
+        // Each write of a sector begins with a record that nothing was added to: its head has zeros.
+        if is_used {
+            put_zeros(self.bytes.as_mut_slice());
+        }
     }
 
     /// No targets any more, unless it is whole.

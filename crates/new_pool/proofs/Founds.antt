@@ -6,8 +6,6 @@ use Rattle.std.proofs.lemmas.Bool.{both_ways, cases_Bool, cases_lt}
 use Rattle.std.proofs.lemmas.Option.{none-some}
 use Rattle.rack.specs.Seen.{Image}
 use Rattle.rack.specs.Targets.{Target, look}
-use Rattle.shr_base.specs.Blocks.{bytes_at, number_at, put_at}
-use Rattle.shr_base.specs.Crc.{times_x, times_x_to}
 use Rattle.pool_state.specs.declared.contents.State.{State}
 use Rattle.array_image.specs.Foremost.{foremost}
 use Rattle.array_image.specs.Places.{arrays_first, log_sectors, log_slice, place_of, state_sector}
@@ -25,15 +23,11 @@ use Rattle.pool_rest.specs.SoundLogs.{HasSoundLogs}
 use Rattle.pool_format.proofs.Founded.{drive_current}
 use Rattle.pool_format.specs.declared.Birth.{Birth}
 use Rattle.pool_format.specs.declared.planning.NewPool.{NewPool}
-use Rattle.pool_format.specs.Drives.{first_gate}
+use Rattle.commit_log.specs.Bytes.{first_gate}
+use Rattle.commit_log.proofs.FirstGate.{closed_gate}
 use Rattle.pool_format.specs.Parts.{new_state}
 use Rattle.new_pool.specs.Contents.{IsNewPool}
 use Rattle.new_pool.proofs.Identities.{newest_is, no_drive, seat_at}
-
--- the gate of a new drive is closed, with number 0
-pub closed_gate : gate_of first_gate ≡ Some (record { is_open = false; number = 0 })
-unfolding gate_of bytes_at put_at number_at times_x_to times_x
-closed_gate = refl
 
 -- the first place that passes, of those of which none does
 pub none_found : (test : ℕ → Bool) (ps : List ℕ) → ((p : ℕ) → names ps p ≡ true → test p ≡ false) → find test ps ≡ None

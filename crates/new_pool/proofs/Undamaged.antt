@@ -28,7 +28,7 @@ use Rattle.pool_image.proofs.Truths.{slice_sector}
 use Rattle.pool_format.specs.declared.Birth.{Birth}
 use Rattle.pool_format.specs.declared.planning.NewArray.{NewArray}
 use Rattle.pool_format.specs.declared.planning.NewPool.{NewPool}
-use Rattle.pool_format.specs.Drives.{first_gate}
+use Rattle.commit_log.specs.Bytes.{first_gate}
 use Rattle.pool_format.specs.Parts.{entries_from, entry_of, new_state, new_super, new_table}
 use Rattle.pool_format.specs.Plan.{has}
 use Rattle.pool_format.proofs.Founded.{drive_at, drive_current, state_drives}
@@ -37,7 +37,8 @@ use Rattle.pool_format.proofs.Opening.{members_few}
 use Rattle.pool_format.proofs.Roles.{named_at}
 use Rattle.new_pool.specs.Contents.{IsNewPool}
 use Rattle.new_pool.proofs.Identities.{copied_at, seat_at, silent_at, table_said}
-use Rattle.new_pool.proofs.Founds.{closed_gate, current_low, good_log, logs, none_found, shown}
+use Rattle.commit_log.proofs.FirstGate.{closed_gate}
+use Rattle.new_pool.proofs.Founds.{current_low, good_log, logs, none_found, shown}
 use Rattle.new_pool.proofs.Sound.{super_at as super_there}
 use Rattle.new_pool.proofs.Truths.{array_is, extent_at}
 use Rattle.new_pool.proofs.Values.{first, truth_now}

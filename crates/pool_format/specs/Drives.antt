@@ -1,10 +1,7 @@
 -- What stands on the drives of a new pool.
-use Rattle.std.specs.Prelude.{◌≡◌, ℕ, ◌+◌, ◌++◌, ◌<◌, true, false, List, codes, length, replicate, slice_get, Some, Ok}
-use Rattle.byteorder.specs.Endian.{little_bytes}
+use Rattle.std.specs.Prelude.{◌≡◌, ℕ, ◌+◌, ◌++◌, ◌<◌, true, false, List, length, replicate, slice_get, Some, Ok}
 use Rattle.rack.specs.Values.{IsSector, IsSingle, MayLeave}
 use Rattle.rack.specs.Seen.{Seen, IsLive}
-use Rattle.shr_base.specs.Blocks.{put_at}
-use Rattle.shr_base.specs.Crc.{crc32_of}
 use Rattle.gpt_table.specs.Disk.{Contents, HoldsCopy, now_on}
 use Rattle.gpt_table.specs.Format.{mbr_of}
 use Rattle.gpt_table.specs.Plans.{IsOfTable}
@@ -14,6 +11,7 @@ use Rattle.md_super.specs.Layout.{LeavesZeros, decoded as super_in}
 use Rattle.pool_state.specs.Sector.{decoded as copy_in}
 use Rattle.array_image.specs.Places.{data_sector, state_sector, super_sector}
 use Rattle.array_image.specs.Record.{gate_sector}
+use Rattle.commit_log.specs.Bytes.{first_gate}
 use Rattle.pool_format.specs.declared.Birth.{Birth}
 use Rattle.pool_format.specs.declared.planning.NewArray.{NewArray}
 use Rattle.pool_format.specs.declared.planning.NewPool.{NewPool}
@@ -26,14 +24,6 @@ use Rattle.pool_format.specs.Plan.{has}
 -- where a drive has its gate: the second sector of its log slice
 abbrev pub gate_at : ℕ
 gate_at = state_sector + gate_sector
-
--- a gate's word alone
-abbrev pub gate_word : List ℕ
-gate_word = put_at 0 8 (codes "SHRGATE1") (replicate 512 0)
-
--- the closed gate with number 0: the word, the sum, and zeros
-abbrev pub first_gate : List ℕ
-first_gate = put_at 8 4 (little_bytes 4 (crc32_of gate_word)) gate_word
 
 -- the sector of a superblock: it says this one, and all bytes that no field takes are zeros
 pub record IsBlockOf (s : Super) (v : List ℕ) : Type 0 where

@@ -12,11 +12,10 @@ use crate::members::write_members;
 use crate::planning::{NewPool, array_at, has_member};
 use crate::superblocks::new_super;
 use crate::tables::write_table;
+use commit_log::first_gate;
 use lvm_group::NewGroup;
 use md_super::encode;
 use rack::{Gone, Rack};
-use shr_base::crc32;
-use shr_base::fields::{put_bytes, put_u32};
 
 /// The sector of the gate, the second one of the log slice.
 const GATE_SECTOR: u64 = 2049;
@@ -119,17 +118,6 @@ fn write_supers<R: Rack>(
         }
     }
     Ok(())
-}
-
-/// The gate of a new pool's log: closed, with number 0 (docs/FORMATS.md, 'Commit log').
-fn first_gate() -> [u8; 512]
-    ensures { result ≡ spec.first_gate }
-{
-    let mut gate = [0; 512];
-    put_bytes(&mut gate, 0, b"SHRGATE1");
-    let sum = crc32(&gate);
-    put_u32(&mut gate, 8, sum);
-    gate
 }
 
 /// Writes the closed gate and the superblocks of a place's drive, durably.

@@ -10,8 +10,7 @@ use Rattle.rack.specs.Targets.{Target, put}
 use Rattle.md_super.specs.declared.superblock.Super.{Super}
 use Rattle.pool_state.specs.declared.contents.Plan.{Plan}
 use Rattle.pool_state.specs.declared.contents.State.{State}
-use Rattle.shr_base.specs.Blocks.{bytes_at, number_at, put_at}
-use Rattle.shr_base.specs.Crc.{times_x, times_x_to}
+use Rattle.shr_base.specs.Blocks.{bytes_at, number_at}
 use Rattle.array_image.specs.Places.{data_sector, log_slice, member_slice, super_sector}
 use Rattle.array_image.specs.Record.{Gate, gate_of}
 use Rattle.array_image.specs.States.{current_places, is_current}
@@ -39,7 +38,7 @@ use Rattle.array_core.specs.Seats.{renewed}
 use Rattle.raid_rack.specs.Missing.{raised}
 use Rattle.raid_rack.specs.Marking.{Restates, SaysBetween}
 use Rattle.raid_rack.specs.Moves.{IsAmid, Mends}
-use Rattle.raid_rack.specs.NewDrive.{first_gate}
+use Rattle.commit_log.proofs.FirstGate.{closed_gate}
 use Rattle.raid_rack.specs.Raid.{Raid, IsWritten, Stood, gone_in, is_over}
 use Rattle.raid_rack.specs.Rows.{KeepsRows, LeavesRows, rows_then}
 use Rattle.raid_rack.specs.Settling.{state_after}
@@ -58,11 +57,6 @@ use Rattle.raid_rack.proofs.Renewed.{found_member, renewed_clear, renewed_resync
 use Rattle.raid_rack.proofs.Restated.{IsStaged, alone_on, restates_by}
 use Rattle.raid_rack.proofs.Staged.{none_gone, notes_lost, staged_array}
 use Rattle.raid_rack.proofs.Whole.{heeded_gone}
-
--- the gate of a new drive is closed, with number 0
-closed_gate : gate_of first_gate ≡ Some (record { is_open = false; number = 0 })
-unfolding gate_of bytes_at put_at number_at times_x_to times_x
-closed_gate = refl
 
 -- there is no superblock where there is no sector
 none_there : super_of [] ≡ None

@@ -33,7 +33,8 @@ use Rattle.array_model.specs.View.{View}
 use Rattle.array_core.specs.Seats.{seat_of}
 use Rattle.raid_rack.proofs.Each.{get_set_other, get_set_same}
 use Rattle.raid_rack.specs.RaidRack.{is_written}
-use Rattle.raid_rack.specs.NewDrive.{AreLaid, IsOfDrive, KeepsOthers, LaysDrive, SeatsDrive, SeatsFirst, entries_of, entry_of, first_gate, first_in, first_laid, gate_at, joins, length_in, member_entries, member_entry, no_state, sectors_laid, slice_length}
+use Rattle.commit_log.specs.Bytes.{first_gate}
+use Rattle.raid_rack.specs.NewDrive.{AreLaid, IsOfDrive, KeepsOthers, LaysDrive, SeatsDrive, SeatsFirst, entries_of, entry_of, first_in, first_laid, gate_at, joins, length_in, member_entries, member_entry, no_state, sectors_laid, slice_length}
 
 -- ---- calls
 

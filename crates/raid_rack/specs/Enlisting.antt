@@ -26,12 +26,13 @@ use Rattle.array_model.specs.View.{View, HasFault, sectors_of, shape_of, spent_i
 use Rattle.array_model.specs.Says.{Says}
 use Rattle.array_core.specs.Seats.{renewed}
 use Rattle.array_core.specs.TruthHeld.{HoldTruth}
+use Rattle.commit_log.specs.Bytes.{first_gate}
 use Rattle.raid_rack.specs.Book.{IsAfter}
 use Rattle.raid_rack.specs.Losses.{has_other}
 use Rattle.raid_rack.specs.Marking.{SaysBetween}
 use Rattle.raid_rack.specs.Missing.{raised}
 use Rattle.raid_rack.specs.Moves.{AreCaused, IsAmid, IsHeeded, KeepsArrays, Mends, Moves, RaisesBy}
-use Rattle.raid_rack.specs.NewDrive.{IsOfDrive, drive_table, first_gate, joins, length_in, no_state}
+use Rattle.raid_rack.specs.NewDrive.{IsOfDrive, drive_table, joins, length_in, no_state}
 use Rattle.raid_rack.specs.Raid.{Raid, IsTold, held_in, is_over, live_of, spent_of}
 use Rattle.raid_rack.specs.Truths.{KeepsTruths}
 use Rattle.raid_rack.specs.Rows.{KeepsRows, LeavesFrom, LeavesRows}

@@ -1,14 +1,11 @@
 -- A new drive at a place: where its slices lie, its table, and what is written on it before it is one of the pool.
-use Rattle.std.specs.Prelude.{◌≡◌, ◌≢◌, ◌⊎◌, ℕ, ◌+◌, ◌-◌, ◌<◌, ◌==◌, ◌&&◌, ◌||◌, not, nat_le, nat_lt, if◌then◌else◌, Bool, false, true, codes, List, [], ◌∷◌, filter, is_some, length, map, replicate, slice_get, take, sum_by, Some, Result, OnOk, IfErr}
+use Rattle.std.specs.Prelude.{◌≡◌, ◌≢◌, ◌⊎◌, ℕ, ◌+◌, ◌-◌, ◌<◌, ◌==◌, ◌&&◌, ◌||◌, not, nat_le, nat_lt, if◌then◌else◌, Bool, false, true, List, [], ◌∷◌, filter, is_some, length, map, replicate, slice_get, take, sum_by, Some, Result, OnOk, IfErr}
 use Rattle.std.specs.Option.{option_map_or}
 use Rattle.std.specs.List.{list_all, range_with_len}
-use Rattle.byteorder.specs.Endian.{little_bytes}
 use Rattle.rack.specs.Values.{IsSingle, MayLeave}
 use Rattle.rack.specs.Seen.{Seen, IsLive, Rose}
 use Rattle.rack.specs.Sequences.{WritesOnly}
 use Rattle.rack.specs.declared.Gone.{Gone}
-use Rattle.shr_base.specs.Blocks.{put_at}
-use Rattle.shr_base.specs.Crc.{crc32_of}
 use Rattle.shr_base.specs.Ids.{name_based, child_name}
 use Rattle.gpt_table.specs.declared.Entry.{Entry}
 use Rattle.gpt_table.specs.declared.Table.{Table}
@@ -20,6 +17,7 @@ use Rattle.slice_rack.specs.Slices.{Slices, seat_of as disk_at, place_of as plac
 use Rattle.array_image.specs.Places.{arrays_first, data_sector, log_kind, log_sectors, raid_kind, slice_of, state_sector}
 use Rattle.array_image.specs.Record.{gate_sector}
 use Rattle.array_model.specs.View.{View}
+use Rattle.commit_log.specs.Bytes.{first_gate}
 use Rattle.array_core.specs.Seats.{seat_of}
 
 -- ---- where its slices lie
@@ -112,14 +110,6 @@ drive_table drive arrays place sectors many = record {
 -- where a drive has its gate: the second sector of its log slice
 abbrev pub gate_at : ℕ
 gate_at = state_sector + gate_sector
-
--- a gate's word alone
-abbrev pub gate_word : List ℕ
-gate_word = put_at 0 8 (codes "SHRGATE1") (replicate 512 0)
-
--- the closed gate with number 0: the word, the sum, and zeros
-abbrev pub first_gate : List ℕ
-first_gate = put_at 8 4 (little_bytes 4 (crc32_of gate_word)) gate_word
 
 -- zeros, which say no copy of a state
 abbrev pub no_state : List ℕ

@@ -12,10 +12,10 @@ ghost use Rattle.raid_rack.specs.NewDrive.{LaysDrive, SeatsDrive};
 
 use array_core::Array;
 use arrayvec::ArrayVec;
+use commit_log::first_gate;
 use gpt_table::{Entry, Slice, Table, write_whole};
 use rack::{Gone, Rack, write_durably};
-use shr_base::fields::{put_bytes, put_u32};
-use shr_base::{Id, child_id, crc32};
+use shr_base::{Id, child_id};
 use slice_rack::SliceRack;
 
 /// The type of a log slice, 6B1F3C52-9D84-4E0A-A7C1-52E8D03F9B76.
@@ -164,17 +164,6 @@ pub(crate) fn table_of(drive: Id, arrays: &[Array], place: u32, sectors: u64) ->
         sectors,
         entries,
     }
-}
-
-/// The gate of a new log: closed, with number 0 (docs/FORMATS.md, 'Commit log').
-fn first_gate() -> [u8; 512]
-    ensures { result ≡ spec.first_gate }
-{
-    let mut gate = [0; 512];
-    put_bytes(&mut gate, 0, b"SHRGATE1");
-    let sum = crc32(&gate);
-    put_u32(&mut gate, 8, sum);
-    gate
 }
 
 /// Writes zeros over the state's sector, the table and the first gate on a disk, each durable before the next.
