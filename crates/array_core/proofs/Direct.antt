@@ -20,7 +20,7 @@ use Rattle.array_image.specs.Even.{AreEven}
 use Rattle.array_image.specs.Held.{IsSettled}
 use Rattle.array_image.specs.Left.{reading, IsInside, Picks, PicksLogs, IsLeft}
 use Rattle.array_image.proofs.Frames.{super_of_sector, value_by_data}
-use Rattle.array_image.proofs.Replays.{SameLogs, replayed_same}
+use Rattle.array_image.proofs.Replays.{SameLogs, calm_same, replayed_same, whole_same}
 use Rattle.array_model.specs.declared.Seat.{Seat}
 use Rattle.array_model.specs.declared.Seat.TheVariants.{Whole, Missing, Rebuilding}
 use Rattle.array_model.specs.View.{View, IsArray, shape_of, place_at, member_on, may_vary, is_missing_seat}
@@ -470,16 +470,16 @@ module _ (s : State) (v : View) (e o : ℕ) (m : Bool) (a b : Seen)
           leaves_weaker (IsMix a b (IsNewSuper u)) (λ c. IsInside a.sectors c → Turns v.number a b (λ r. H → Says s v.number (shape_of v) vals spent r) c)
           (λ c mix inside. record {
             before = replayed a.sectors (back c inside mix);
-            left = left c inside mix;
+            left = (back c inside mix, picks_back c inside mix, λ d t. refl);
             others = λ d t apart.
                 replayed_same a.sectors c (back c inside mix) d t (logs_back c inside mix)
                 (same_back c inside mix d t (λ x new. let disk = new.disk in let low = few in apart.0 (omega (arith, disk, low))));
             own = λ h. moment_says c inside mix vals spent (begins h) fresh (even h c inside mix);
+            whole = whole_same c (back c inside mix) (logs_back c inside mix);
+            calm = λ calm. calm_same v.number c (back c inside mix) (logs_back c inside mix) (calm (back c inside mix) (logs_of (back c inside mix) (picks_back c inside mix)));
           })
           (only.stops traced);
       holds = holds_now;
       apart = λ d t live apart. only.others d t live (λ x new. let disk = new.disk in let low = few in apart.0 (omega (arith, disk, low)));
-      calm = λ calm c picks d t apart.
-          ap (λ (sectors : ℕ → ℕ). replayed sectors c d t) (λ i k. only.stays.sectors k i)
-          ∙ calm c (logs_before lasting only.stays logs c picks) d t apart;
+      calm = λ calm c picks. calm c (logs_before lasting only.stays logs c picks);
     }

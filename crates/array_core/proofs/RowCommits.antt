@@ -24,7 +24,8 @@ use Rattle.array_image.proofs.Replays.{replayed_as_is}
 use Rattle.array_image.proofs.Sources.{source_counts}
 use Rattle.commit_log.specs.View.{LogView, names, next_number}
 use Rattle.commit_log.specs.Standing.{IsLogPart, IsAlike, IsReady, SomeoneDecides}
-use Rattle.commit_log.specs.Commits.{Commits, CommitCall}
+use Rattle.commit_log.specs.Commits.{Commits, CommitCall, StandsMidway}
+use Rattle.commit_log.proofs.Saying.{commit_moments, midway_none}
 use Rattle.commit_log.specs.Kept.{LogKept, gone_with}
 use Rattle.commit_log.proofs.Kept.{stands_of, before_inside}
 use Rattle.array_model.specs.View.{View, IsArray, shape_of, spent_in, may_vary, is_alone}
@@ -411,10 +412,11 @@ module _ (s : State) (v w : View) (a b : Seen) (l : LogView) (on lost : List ℕ
   logged_moves = record {
     stays = commit.stays;
     leaves = λ traced.
-        leaves_weaker (λ c. LogsInside a.sectors c → Commits l.added a c)
+        leaves_weaker (λ c. LogsInside a.sectors c → Commits l.added a c × StandsMidway l on a c)
         (λ c. IsInside a.sectors c → Turns v.number a b (λ r. H → Says s v.number (shape_of v) (appended_at x from vals) spent r) c)
         (λ c found inside.
-        let commits = found (λ place i out. inside (log_slice place) i out) in
+        let both = found (λ place i out. inside (log_slice place) i out) in
+        let commits = both.0 in
         let before = commits.before in
         let picks = before_inside xs a c before inside commits.stands commits.either in
         record {
@@ -428,14 +430,15 @@ module _ (s : State) (v w : View) (a b : Seen) (l : LogView) (on lost : List ℕ
             | inl old ↦ old_says holds c before picks old
             | inr new ↦ all_says holds (replayed a.sectors c) (record { before = before; picks = picks; alike = λ place t. new (member_slice place n) t (not_log place t) })
           ];
+          whole = commits.whole;
+          calm = λ calm d t apart. midway_none l on a c d t both.1 (apart_none d t apart) (λ e stand. calm e stand d t apart);
         })
-        (commit.stops traced ready decides);
+        (commit_moments l on lost a b commit traced ready decides);
     holds = holds_now;
     apart = λ d t live apart. commit.apart d t live (no_log d t apart) (apart_none d t apart);
     calm = λ calm c picks d t apart.
-        replayed_as_is b.sectors c d t
-        (elim (commit.rests ready decides c picks).targets [
+        elim (commit.rests ready decides c picks).targets [
           | inl none ↦ ap (λ (ys : List Target). look ys d t) none ∙ look_nothing d t
           | inr all ↦ ap (λ (ys : List Target). look ys d t) all.1 ∙ apart_none d t apart
-        ]);
+        ];
   }

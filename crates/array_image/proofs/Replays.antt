@@ -1,5 +1,5 @@
 -- What replaying goes by: the log slices alone. So a write to any other sector changes the replayed contents there and nowhere else.
-use Rattle.std.proofs.Common.{◌≡◌, ℕ, Bool, true, false, ◌&&◌, ◌||◌, nat_lt, is_none, if◌then◌else◌, List, [], ◌∷◌, Option, Some, None, unwrap_or, refl, ap, ap₂, ◌∙◌, option_map}
+use Rattle.std.proofs.Common.{◌≡◌, ℕ, Bool, true, false, ◌&&◌, ◌||◌, ◌==◌, find, nat_lt, is_none, if◌then◌else◌, List, [], ◌∷◌, Option, Some, None, unwrap_or, refl, ap, ap₂, ◌∙◌, option_map}
 use Rattle.std.specs.Option.{option_map_or, option_and_then}
 use Rattle.std.specs.List.{list_all, list_any}
 use Rattle.rack.specs.Seen.{Image}
@@ -7,9 +7,10 @@ use Rattle.pool_state.specs.declared.contents.State.{State}
 use Rattle.array_image.specs.Foremost.{foremost}
 use Rattle.array_image.specs.Places.{log_slice}
 use Rattle.rack.specs.Targets.{Target, look}
-use Rattle.array_image.specs.Record.{Gate, GateAt, gate_of, gate_in, is_there, is_bad_gate, record_of, record_in, gates_in, is_open_if_of, pending_at, pending_record, pending}
+use Rattle.array_image.specs.Record.{Gate, GateAt, gate_of, gate_in, is_there, is_bad_gate, record_of, record_in, gates_in, is_open_if_of, is_bad_log, damaged_log, pending_at, pending_record, pending}
 use Rattle.array_image.specs.States.{state_in, current_places}
 use Rattle.array_image.specs.Arrays.{replayed}
+use Rattle.array_image.specs.Left.{IsCalmIn, IsWhole, deciding}
 use Rattle.array_image.proofs.Frames.{map_same, state_same}
 
 -- contents that agree on the log slices
@@ -74,3 +75,27 @@ replayed_as_is sectors c d t none =
     if_same : (b : Bool) (v : List ℕ) → (if b then v else v) ≡ v
     if_same true v = refl
     if_same false v = refl
+
+-- ---- whether a log is damaged, and what is pending
+
+deciding_same : (c e : Image) → SameLogs c e → deciding c ≡ deciding e
+deciding_same c e same = ap (λ (s : Option State). option_map_or current_places s []) (state_same c e (λ place. same place 0))
+
+bad_log_same : (c e : Image) → SameLogs c e → (places : List ℕ) (place : ℕ) → is_bad_log places c place ≡ is_bad_log places e place
+bad_log_same c e same places place =
+    let at : (a : GateAt) → ((a.place == place) && is_none (record_in c a.place a.gate.number)) ≡ ((a.place == place) && is_none (record_in e a.place a.gate.number)) =
+    λ a. ap (λ (o : Option (List Target)). (a.place == place) && is_none o) (ap (record_of a.gate.number) (slice_same c e same a.place)) in
+    ap₂ (λ a b. a || b)
+    (ap (λ (block : List ℕ). is_there block && is_none (gate_of block)) (same place 1))
+    (ap₂ (λ (f : GateAt → Bool) o. option_map_or f o false) (λ i a. at a i) (pending_at_same c e same places))
+
+-- contents that agree on the log slices
+pub whole_same : (c e : Image) → SameLogs c e → IsWhole e → IsWhole c
+whole_same c e same whole =
+    ap (λ places. damaged_log places c) (deciding_same c e same)
+    ∙ ap (λ (f : ℕ → Bool). find f (deciding e)) (λ i place. bad_log_same c e same (deciding e) place i)
+    ∙ whole
+
+pub calm_same : (array : ℕ) (c e : Image) → SameLogs c e → IsCalmIn array e → IsCalmIn array c
+calm_same array c e same calm d t apart =
+    ap (λ (xs : List Target). look xs d t) (pending_same c e same (deciding c) ∙ ap (λ places. pending places e) (deciding_same c e same)) ∙ calm d t apart

@@ -1,8 +1,12 @@
 -- What a stop leaves on slices, and the same once the pending record is replayed.
-use Rattle.std.specs.Prelude.{◌≡◌, ◌≢◌, ◌⊎◌, ℕ, ◌+◌, ◌≤◌, nat_lt, if◌then◌else◌, []}
+use Rattle.std.specs.Prelude.{◌≡◌, ◌≢◌, ◌⊎◌, ℕ, ◌+◌, ◌≤◌, nat_lt, if◌then◌else◌, List, [], None}
+use Rattle.std.specs.Option.{option_map_or}
 use Rattle.rack.specs.Values.{MayLeave}
 use Rattle.rack.specs.Seen.{Image, Seen, IsLive}
+use Rattle.rack.specs.Targets.{look}
 use Rattle.array_image.specs.Places.{slice_of, log_slice, member_slice}
+use Rattle.array_image.specs.Record.{pending, damaged_log}
+use Rattle.array_image.specs.States.{state_in, current_places}
 use Rattle.array_image.specs.Arrays.{replayed}
 
 -- there is nothing where a slice has no sector
@@ -31,13 +35,25 @@ pub record PicksLogs (x : Seen) (c : Image) : Type 0 where
   pub picks : (place t : ℕ) → IsLive x x (log_slice place) t → MayLeave (x.held (log_slice place) t) (c (log_slice place) t)
   pub inside : LogsInside x.sectors c
 
--- nothing is pending outside an array's slices
-abbrev pub IsCalm : ℕ → Seen → Type 0
-IsCalm array x = (c : Image) → PicksLogs x c → (d t : ℕ) → IsApart array d t → replayed x.sectors c d t ≡ c d t
-
--- nothing is pending in them
+-- nothing is pending in an array's slices
 abbrev pub IsClosed : ℕ → Seen → Type 0
 IsClosed array x = (c : Image) → PicksLogs x c → (place t : ℕ) → replayed x.sectors c (member_slice place array) t ≡ c (member_slice place array) t
+
+-- the places whose gates decide: the current ones of the state in these contents
+abbrev pub deciding : Image → List ℕ
+deciding c = option_map_or current_places (state_in c) []
+
+-- their gates and the pending record are well formed: an opening doesn't refuse such contents as damaged
+abbrev pub IsWhole : Image → Type 0
+IsWhole c = damaged_log (deciding c) c ≡ None
+
+-- nothing is pending in contents outside an array's slices
+abbrev pub IsCalmIn : ℕ → Image → Type 0
+IsCalmIn array c = (d t : ℕ) → IsApart array d t → look (pending (deciding c) c) d t ≡ None
+
+-- so it is in whatever a stop now leaves
+abbrev pub IsCalm : ℕ → Seen → Type 0
+IsCalm array x = (c : Image) → PicksLogs x c → IsCalmIn array c
 
 -- the contents as they read now
 abbrev pub reading : Seen → Image

@@ -85,9 +85,8 @@ left_before {a} {b} lasting stays keeps r left = (
 )
 
 -- and so do images in the middle of them
-pub pick_before : {a b : Seen} → a.lasting → Stays a b → (c : Image) → IsInside a.sectors c → IsPick a b a.held c → IsLeft a (replayed a.sectors c)
-pick_before {a} {b} lasting stays c inside pick =
-    (c, record { picks = λ d t live. pick d t (live_on lasting stays live); inside = inside }, λ d t. refl)
+pub pick_before : {a b : Seen} → a.lasting → Stays a b → (c : Image) → IsInside a.sectors c → IsPick a b a.held c → Picks a c
+pick_before {a} {b} lasting stays c inside pick = record { picks = λ d t live. pick d t (live_on lasting stays live); inside = inside }
 
 -- the logs of contents
 pub logs_of : {x : Seen} → (c : Image) → Picks x c → PicksLogs x c
@@ -194,11 +193,13 @@ keeping_calls a b lasting stays keeps s durable v vals spent =
       noted = record { same = same_array v; lost = λ place. false; loses = loses_nobody v; cause = λ place none. absurd (both_ways false refl none) };
       leaves = λ traced.
           leaves_weaker (IsPick a b a.held) (λ c. IsInside a.sectors c → Turns v.number a b (λ r. Holds s durable v vals spent a → Says s v.number durable vals spent r) c)
-          (λ c pick inside. record {
+          (λ c pick inside. let picks = pick_before lasting stays c inside pick in record {
             before = replayed a.sectors c;
-            left = pick_before lasting stays c inside pick;
+            left = (c, picks, λ d t. refl);
             others = λ d t apart. refl;
-            own = λ holds. holds.shape.says (replayed a.sectors c) (pick_before lasting stays c inside pick);
+            own = λ holds. holds.shape.says (replayed a.sectors c) (c, picks, λ d t. refl);
+            whole = λ whole. whole;
+            calm = λ calm. calm c (logs_of c picks);
           })
           (keeps.stops traced);
       holds = λ holds.
@@ -210,7 +211,5 @@ keeping_calls a b lasting stays keeps s durable v vals spent =
             closed = λ none. closed_after v.number lasting stays (λ place t live. keeps.held (log_slice place) t live) (holds.closed none);
           };
       apart = λ d t live apart. keeps.held d t live;
-      calm = λ calm c picks d t apart.
-          ap (λ (sectors : ℕ → ℕ). replayed sectors c d t) (λ i e. stays.sectors e i)
-          ∙ calm c (logs_before lasting stays (λ place u live. keeps.held (log_slice place) u live) c picks) d t apart;
+      calm = λ calm c picks. calm c (logs_before lasting stays (λ place u live. keeps.held (log_slice place) u live) c picks);
     }

@@ -8,12 +8,12 @@ use Rattle.rack.specs.Joins.{keeps_then, leaves_weaker, leaves_then, stays_then,
 use Rattle.pool_state.specs.declared.contents.State.{State}
 use Rattle.array_image.specs.Places.{slice_of, log_slice}
 use Rattle.array_image.specs.Arrays.{Shape, replayed}
-use Rattle.array_image.proofs.Replays.{replayed_same}
+use Rattle.array_image.proofs.Replays.{SameLogs, replayed_same, whole_same}
 use Rattle.array_image.specs.Left.{reading, IsInside, Picks, IsApart, IsCalm}
 use Rattle.array_model.specs.View.{View, IsNoted}
 use Rattle.array_model.specs.Says.{Holds}
 use Rattle.array_model.specs.ArrayCalls.{Acts, Turns}
-use Rattle.array_model.proofs.Keeping.{reading_live, reading_outside, live_on, live_after}
+use Rattle.array_model.proofs.Keeping.{reading_live, reading_outside, live_on, live_after, logs_before}
 use Rattle.array_model.proofs.OwnWrites.{without_own, kept_other, log_other}
 
 -- A part of a call of array n: where H holds before it, contents have P at each moment of it, and Q holds after it.
@@ -53,15 +53,18 @@ turns_early : (n : ℕ) (a b c : Seen) (H Q : Type 0) (P : Image → Type 0) (i 
     → a.lasting → Stays a b → KeepsOthers n a b → (H → Q) → Turns n b c (λ r. Q → P r) i → Turns n a c (λ r. H → P r) i
 turns_early n a b c H Q P i lasting stays keeps next turn =
     let e = turn.left.0 in
+    let early = without_own n a e in
+    let logs : SameLogs e early = λ place u. kept_other n a e (log_slice place) u (log_other place n) in
     let now : (j : Image) (d t : ℕ) → replayed b.sectors j d t ≡ replayed a.sectors j d t =
     λ j d t. ap (λ (sectors : ℕ → ℕ). replayed sectors j d t) (λ k q. stays.sectors q k) in
     record {
-      before = replayed a.sectors (without_own n a e);
-      left = (without_own n a e, picks_early n a b e lasting stays keeps turn.left.1, λ d t. refl);
+      before = replayed a.sectors early;
+      left = (early, picks_early n a b e lasting stays keeps turn.left.1, λ d t. refl);
       others = λ d t apart.
-          sym (now i d t) ∙ turn.others d t apart ∙ turn.left.2 d t ∙ now e d t
-          ∙ replayed_same a.sectors e (without_own n a e) d t (λ place u. kept_other n a e (log_slice place) u (log_other place n)) (kept_other n a e d t apart.0);
+          sym (now i d t) ∙ turn.others d t apart ∙ turn.left.2 d t ∙ now e d t ∙ replayed_same a.sectors e early d t logs (kept_other n a e d t apart.0);
       own = λ holds. subst (λ (sectors : ℕ → ℕ). P (replayed sectors i)) (λ k d. stays.sectors d k) (turn.own (next holds));
+      whole = λ whole. turn.whole (whole_same e early logs whole);
+      calm = λ calm. turn.calm (λ j picks. calm j (logs_before lasting stays (λ place u live. keeps (log_slice place) u live (log_other place n)) j picks));
     }
 
 -- Two parts in a row are one, where the first wrote to the array's own slices alone.
@@ -74,7 +77,7 @@ moves_then n a b c H Q R P lasting keeps one two =
       leaves = λ traced.
           leaves_then Goal
           (leaves_weaker (λ i. IsInside a.sectors i → Turns n a b (λ r. H → P r) i) Goal
-          (λ i turn inside. let t = turn inside in record { before = t.before; left = t.left; others = t.others; own = t.own })
+          (λ i turn inside. let t = turn inside in record { before = t.before; left = t.left; others = t.others; own = t.own; whole = t.whole; calm = t.calm })
           (one.leaves traced))
           (leaves_weaker (λ i. IsInside b.sectors i → Turns n b c (λ r. Q → P r) i) Goal
           (λ i turn inside.
@@ -95,7 +98,14 @@ moves_by n a b G H Q R O P before during after moves =
           leaves_weaker (λ i. IsInside a.sectors i → Turns n a b (λ r. H → O r) i) (λ i. IsInside a.sectors i → Turns n a b (λ r. G → P r) i)
           (λ i turn inside.
           let t = turn inside in
-          record { before = t.before; left = t.left; others = t.others; own = λ holds. during (replayed a.sectors i) (t.own (before holds)) })
+          record {
+            before = t.before;
+            left = t.left;
+            others = t.others;
+            own = λ holds. during (replayed a.sectors i) (t.own (before holds));
+            whole = t.whole;
+            calm = t.calm;
+          })
           (moves.leaves traced);
       holds = λ holds. after (moves.holds (before holds));
       apart = moves.apart;

@@ -8,10 +8,10 @@ use Rattle.array_image.specs.Places.{slice_of, log_slice, member_slice, data_sec
 use Rattle.array_image.specs.Arrays.{Shape, replayed}
 use Rattle.array_image.specs.States.{state_in}
 use Rattle.array_image.proofs.Frames.{Agree, supers_same, truth_by_supers, state_same, shape_same, value_same}
+use Rattle.array_image.proofs.Replays.{replayed_as_is}
 use Rattle.array_image.proofs.SoundFrames.{sound_same}
 use Rattle.array_model.specs.View.{View, shape_of, may_vary}
 use Rattle.array_image.specs.Left.{reading, Picks, IsLeft, IsApart, IsCalm}
-use Rattle.array_model.specs.ArrayCalls.{Turns}
 use Rattle.array_model.specs.Says.{IsOpen, HoldsShape, Holds}
 use Rattle.array_model.proofs.Keeping.{reading_live, reading_outside, inside_before, logs_of, KeepsData, live_on, live_after, open_after, same_value, held_kept, even_kept, settled_kept}
 
@@ -104,9 +104,9 @@ apart_left {a} {b} n lasting stays keeps calm calm_now r left =
       (before, picks, λ d t. refl),
       λ d t apart.
           left.2 d t
-          ∙ calm_now c (logs_of c left.1) d t apart
+          ∙ replayed_as_is b.sectors c _ _ (calm_now c (logs_of c left.1) d t apart)
           ∙ apart_kept n a c d t apart
-          ∙ sym (calm before (logs_of before picks) d t apart),
+          ∙ sym (replayed_as_is a.sectors before _ _ (calm before (logs_of before picks) d t apart)),
     )
 
 -- Every other array m holds after a call of array n what it held before it.
@@ -134,7 +134,8 @@ other_holds {a} {b} n m few also other lasting stays keeps calm calm_now s durab
             value = λ x unspent. subst (MayLeave (vals x)) (sym (value_same durable r e m x agree)) (says.value x unspent);
             is_sound = λ t is. sound_same s r e m t agree (says.is_sound t (sym (truth_by_supers s r e m (supers_same s r e m agree)) ∙ is));
           };
-      still = λ c picks_b o sector among counts. calm_now c (logs_of c picks_b) (member_slice o.place m) (data_sector + sector) (other_apart n m o.place (data_sector + sector) few also other);
+      still = λ c picks_b o sector among counts.
+          replayed_as_is b.sectors c _ _ (calm_now c (logs_of c picks_b) (member_slice o.place m) (data_sector + sector) (other_apart n m o.place (data_sector + sector) few also other));
       within = λ y unspent u now. holds.within y unspent u (held_kept a.held b.held durable m y (sectors_keep durable holds.open_slices) u now);
       current = λ y unspent. same_value a.held b.held noted m y left ∙ holds.current y unspent;
       sized = λ o sector among counts. ap length (left o sector among counts).current ∙ holds.sized o sector among counts;
@@ -162,9 +163,9 @@ other_holds_all {a} {b} n v few also other lasting stays keeps calm calm_now s d
       λ place u.
           let apart = other_apart n m place u few also other in
           left_b.2 (member_slice place m) u
-          ∙ calm_now c (logs_of c left_b.1) (member_slice place m) u apart
+          ∙ replayed_as_is b.sectors c _ _ (calm_now c (logs_of c left_b.1) (member_slice place m) u apart)
           ∙ apart_kept n a c (member_slice place m) u apart
-          ∙ sym (calm kept (logs_of kept picks) (member_slice place m) u apart),
+          ∙ sym (replayed_as_is a.sectors kept _ _ (calm kept (logs_of kept picks) (member_slice place m) u apart)),
     ) in
     record {
       shape = other_holds n m few also other lasting stays keeps calm calm_now s durable (shape_of v) v.resync (may_vary v) vals spent holds.shape;
@@ -177,11 +178,11 @@ other_holds_all {a} {b} n v few also other lasting stays keeps calm calm_now s d
       alone = λ r left_b place current foreign.
           let at = same r left_b in
           supers_same s r at.0 m at.2 place ∙ holds.alone at.0 at.1 place current foreign;
-      closed = λ none c picks_b place t. calm_now c picks_b (member_slice place m) t (other_apart n m place t few also other);
+      closed = λ none c picks_b place t. replayed_as_is b.sectors c _ _ (calm_now c picks_b (member_slice place m) t (other_apart n m place t few also other));
     }
 
 -- the states' sectors are apart from every array
-state_apart : (n place : ℕ) → IsApart n (log_slice place) 0
+pub state_apart : (n place : ℕ) → IsApart n (log_slice place) 0
 state_apart n place = (λ same. absurd (omega (arith, same)), inr refl)
 
 -- and the state stays
@@ -198,31 +199,7 @@ state_kept {a} {b} n lasting stays keeps calm calm_now s is r left =
     (λ place.
     let apart = state_apart n place in
     left.2 (log_slice place) 0
-    ∙ calm_now c (logs_of c left.1) (log_slice place) 0 apart
+    ∙ replayed_as_is b.sectors c _ _ (calm_now c (logs_of c left.1) (log_slice place) 0 apart)
     ∙ apart_kept n a c (log_slice place) 0 apart
-    ∙ sym (calm before (logs_of before picks) (log_slice place) 0 apart))
+    ∙ sym (replayed_as_is a.sectors before _ _ (calm before (logs_of before picks) (log_slice place) 0 apart)))
     ∙ is (replayed a.sectors before) (before, picks, λ d t. refl)
-
--- Calls of one array in a row: what turns from the middle on turns from the start on, where nothing was pending for the others.
-pub turns_earlier : {a b c : Seen} (n : ℕ) (P : Image → Type 0) (i : Image)
-    → a.lasting → Stays a b
-    → ((d t : ℕ) → IsLive a b d t → IsApart n d t → Keeps (a.held d t) (b.held d t))
-    → IsCalm n a → IsCalm n b
-    → Turns n b c P i → Turns n a c P i
-turns_earlier {a} {b} {c} n P i lasting stays keeps calm calm_now turns =
-    let e = turns.left.0 in
-    let before : Image = apart_only n a e in
-    let picks : Picks a before = apart_picks n lasting stays keeps e turns.left.1 in
-    let sectors : b.sectors ≡ a.sectors = λ j d. stays.sectors d j in
-    record {
-      before = replayed a.sectors before;
-      left = (before, picks, λ d t. refl);
-      others = λ d t apart.
-          ap (λ (s : ℕ → ℕ). replayed s i d t) (sym sectors)
-          ∙ turns.others d t apart
-          ∙ turns.left.2 d t
-          ∙ calm_now e (logs_of e turns.left.1) d t apart
-          ∙ apart_kept n a e d t apart
-          ∙ sym (calm before (logs_of before picks) d t apart);
-      own = subst (λ (s : ℕ → ℕ). P (replayed s i)) sectors turns.own;
-    }

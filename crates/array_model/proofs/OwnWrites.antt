@@ -6,11 +6,11 @@ use Rattle.rack.specs.Seen.{Image, Seen, Stays}
 use Rattle.array_image.specs.Places.{slice_of, log_slice}
 use Rattle.rack.specs.Targets.{Target}
 use Rattle.array_image.specs.Arrays.{replayed}
-use Rattle.array_image.proofs.Replays.{replayed_same}
+use Rattle.array_image.proofs.Replays.{SameLogs, calm_same, replayed_same, whole_same}
 use Rattle.array_image.specs.Left.{reading, IsInside, Picks}
 use Rattle.array_model.specs.ArrayCalls.{Turns}
 use Rattle.rack.specs.Sequences.{IsPayload, IsMix}
-use Rattle.array_model.proofs.Keeping.{reading_live, reading_outside, live_on}
+use Rattle.array_model.proofs.Keeping.{reading_live, reading_outside, live_on, logs_of}
 
 -- all targets lie in the slices of an array
 abbrev pub OnlyOwn : List Target → ℕ → Type 0
@@ -57,12 +57,14 @@ log_other place array same = absurd (omega (arith, same))
 pub own_writes : (array : ℕ) (a b : Seen) (xs : List Target) (P : Image → Type 0) (c : Image)
     → a.lasting → Stays a b → OnlyOwn xs array → IsInside a.sectors c → IsMix a b (IsPayload xs) c → P (replayed a.sectors c) → Turns array a b P c
 own_writes array a b xs P c lasting stays own inside mix has =
+    let e = without_own array a c in
+    let picks = own_picks array a b xs c lasting stays own inside mix in
+    let logs : SameLogs c e = λ place u. kept_other array a c (log_slice place) u (log_other place array) in
     record {
-      before = replayed a.sectors (without_own array a c);
-      left = (without_own array a c, own_picks array a b xs c lasting stays own inside mix, λ d t. refl);
-      others = λ d t apart.
-          replayed_same a.sectors c (without_own array a c) d t
-          (λ place u. kept_other array a c (log_slice place) u (log_other place array))
-          (kept_other array a c d t apart.0);
+      before = replayed a.sectors e;
+      left = (e, picks, λ d t. refl);
+      others = λ d t apart. replayed_same a.sectors c e d t logs (kept_other array a c d t apart.0);
       own = has;
+      whole = whole_same c e logs;
+      calm = λ calm. calm_same array c e logs (calm e (logs_of e picks));
     }

@@ -269,6 +269,8 @@ spent_acts s v w spent a b durable vals x from lost kept =
             left = t.left;
             others = t.others;
             own = λ holds. says_values s v.number durable vals (appended_at x from vals) spent _ (same_values x from vals spent lost) (t.own holds);
+            whole = t.whole;
+            calm = t.calm;
           })
           (kept.leaves traced);
       holds = λ holds. holds_values s durable w vals (appended_at x from vals) spent b (same_values x from vals spent lost) (kept.holds holds);

@@ -20,7 +20,7 @@ use Rattle.array_image.specs.SoundArray.{first_unsynced}
 use Rattle.array_image.specs.Marks.{lower, lowered}
 use Rattle.array_image.proofs.Settled.{among_take}
 use Rattle.array_image.proofs.Marked.{among_lowered}
-use Rattle.array_image.proofs.Replays.{SameLogs, replayed_same}
+use Rattle.array_image.proofs.Replays.{SameLogs, calm_same, replayed_same, whole_same}
 use Rattle.array_image.proofs.Sources.{source_value, source_counts}
 use Rattle.array_model.specs.View.{View, shape_of, spent_in, may_vary, IsNoted}
 use Rattle.array_image.specs.Left.{reading, IsInside, Picks, PicksLogs, IsLeft, IsApart, IsClosed}
@@ -345,14 +345,16 @@ write_acts a b went_now s v w vals spent lost x from xs lasting puts noted losin
           leaves_weaker (IsMix a b (IsPayload xs)) (λ c. IsInside a.sectors c → Turns n a b (λ r. Holds s shape v vals spent a → Says s n shape (appended_at x from vals) spent r) c)
           (λ c mix inside.
           let e : Image = unwritten xs (reading a) c in
+          let picks = before_of a b xs c lasting puts.only.stays inside mix in
+          let same : SameLogs c e = λ place u. unwritten_same xs (reading a) c (log_slice place) u (log_free shape n x from xs few row place u) in
           record {
             before = replayed a.sectors e;
-            left = (e, before_of a b xs c lasting puts.only.stays inside mix, λ d t. refl);
+            left = (e, picks, λ d t. refl);
             others = λ d t apart.
-                replayed_same a.sectors c e d t
-                (λ place u. unwritten_same xs (reading a) c (log_slice place) u (log_free shape n x from xs few row place u))
-                (unwritten_same xs (reading a) c d t (apart_free shape n x from xs few row d t apart));
+                replayed_same a.sectors c e d t same (unwritten_same xs (reading a) c d t (apart_free shape n x from xs few row d t apart));
             own = λ holds. (mixed_says s v vals spent a b x from xs lasting puts.only.stays (begins_of holds) write c inside mix).0;
+            whole = whole_same c e same;
+            calm = λ calm. calm_same n c e same (calm e (logs_of e picks));
           })
           (puts.only.stops traced);
       holds = λ holds.
@@ -392,7 +394,5 @@ write_acts a b went_now s v w vals spent lost x from xs lasting puts noted losin
                 subst (λ k. IsClosed k b) (sym losing.number) (closed_after n lasting puts.only.stays logs begins.closed);
           };
       apart = λ d t live apart. puts.only.others d t live (payload_none xs d t (apart_free shape n x from xs few row d t apart));
-      calm = λ calm c picks d t apart.
-          ap (λ (sectors : ℕ → ℕ). replayed sectors c d t) (λ i e. puts.only.stays.sectors e i)
-          ∙ calm c (logs_before lasting puts.only.stays logs c picks) d t apart;
+      calm = λ calm c picks. calm c (logs_before lasting puts.only.stays logs c picks);
     }

@@ -15,7 +15,7 @@ use Rattle.array_image.specs.SoundArray.{array_fields}
 use Rattle.array_image.specs.Arrays.{Shape}
 use Rattle.array_image.specs.Held.{IsSettled}
 use Rattle.array_image.specs.Arrays.{replayed}
-use Rattle.array_image.specs.Left.{IsInside, IsLeft, IsApart, IsCalm}
+use Rattle.array_image.specs.Left.{IsInside, IsLeft, IsApart, IsCalm, IsCalmIn, IsWhole}
 use Rattle.array_model.specs.View.{View, IsNoted, shape_of, spent_in}
 use Rattle.array_model.specs.Says.{Says, Holds}
 
@@ -26,6 +26,9 @@ pub record Turns (array : ℕ) (a b : Seen) (P : Image → Type 0) (c : Image) :
   pub left : IsLeft a before
   pub others : (d t : ℕ) → IsApart array d t → replayed a.sectors c d t ≡ before d t
   pub own : P (replayed a.sectors c)
+  -- no log is damaged by it, and nothing comes to be pending for others
+  pub whole : IsWhole left.0 → IsWhole c
+  pub calm : IsCalm array a → IsCalmIn array c
 
 -- A call of an array: during it images say `during`, and after it the array holds `vals_after` by the shape `after`. Reads, writes,
 -- syncs, a settled or clean mark and every row of maintenance are this record.

@@ -28,7 +28,8 @@ use Rattle.array_image.proofs.SoundFrames.{sound_same}
 use Rattle.array_image.proofs.Sources.{source_counts}
 use Rattle.commit_log.specs.View.{LogView, names, next_number}
 use Rattle.commit_log.specs.Standing.{IsLogPart, IsAlike, IsReady, SomeoneDecides}
-use Rattle.commit_log.specs.Commits.{Commits, CommitCall}
+use Rattle.commit_log.specs.Commits.{Commits, CommitCall, StandsMidway}
+use Rattle.commit_log.proofs.Saying.{commit_moments, midway_none}
 use Rattle.commit_log.specs.Kept.{LogKept, gone_with}
 use Rattle.commit_log.proofs.Kept.{stands_of, before_inside, put_none, put_some}
 use Rattle.commit_log.proofs.Story.{payload_is}
@@ -467,10 +468,11 @@ module _ (s : State) (v w : View) (events offset resync : ℕ) (seats : List Sea
   moved = record {
     stays = commit.stays;
     leaves = λ traced.
-        leaves_weaker (λ i. LogsInside b.sectors i → Commits l.added b i)
+        leaves_weaker (λ i. LogsInside b.sectors i → Commits l.added b i × StandsMidway l on b i)
         (λ i. IsInside b.sectors i → Turns v.number b c (λ r. H → SaysEither s v g a vals spent r) i)
         (λ i found inside.
-        let commits = found (λ place j out. inside (log_slice place) j out) in
+        let both = found (λ place j out. inside (log_slice place) j out) in
+        let commits = both.0 in
         let before = commits.before in
         let picks = before_inside l.added b i before inside commits.stands commits.either in
         record {
@@ -486,14 +488,15 @@ module _ (s : State) (v w : View) (events offset resync : ℕ) (seats : List Sea
                 let all : AllIn held (replayed b.sectors i) = record { before = before; picks = picks; alike = λ place t. new (member_slice place n) t (not_log place t) } in
                 inr (all_says held (replayed b.sectors i) all, fields_now held (replayed b.sectors i) all)
           ];
+          whole = commits.whole;
+          calm = λ calm d t apart_from. midway_none l on b i d t both.1 (none_apart d t apart_from) (λ e stand. calm e stand d t apart_from);
         })
-        (commit.stops traced ready decides);
+        (commit_moments l on lost b c commit traced ready decides);
     holds = holds_now;
     apart = λ d t live apart_from. commit.apart d t live (no_log d t apart_from) (none_apart d t apart_from);
     calm = λ calm i picks d t apart_from.
-        replayed_as_is c.sectors i d t
-        (elim (commit.rests ready decides i picks).targets [
+        elim (commit.rests ready decides i picks).targets [
           | inl none ↦ ap (λ (ys : List Target). look ys d t) none ∙ look_nothing d t
           | inr all ↦ ap (λ (ys : List Target). look ys d t) all.1 ∙ none_apart d t apart_from
-        ]);
+        ];
   }

@@ -30,7 +30,7 @@ use Rattle.array_model.specs.View.{View, IsArray, LosesPlaces, has_gone, is_miss
 use Rattle.array_model.specs.Says.{Holds, IsOpen}
 use Rattle.array_model.specs.Members.{HasSlices, IsSameButSeats, Notes, members_of, slice_on}
 use Rattle.array_model.specs.ArrayCalls.{Covers, Turns, HasFields}
-use Rattle.array_model.proofs.Keeping.{keeping_calls, left_before, open_after, pick_before}
+use Rattle.array_model.proofs.Keeping.{keeping_calls, left_before, logs_of, open_after, pick_before}
 use Rattle.array_model.proofs.Looking.{look_payload}
 use Rattle.array_model.proofs.Moves.{Moves, moves_then}
 use Rattle.array_model.proofs.Noting.{covers_before, holds_noted, losing_by, losing_of}
@@ -68,12 +68,14 @@ read_moves s v g a b vals spent lasting reads =
       leaves = λ traced.
           leaves_weaker (IsPick a b a.held) (λ c. IsInside a.sectors c → Turns v.number a b (λ r. H → SaysEither s v g a vals spent r) c)
           (λ c pick inside.
-          let left = pick_before lasting reads.stays c inside pick in
+          let picks = pick_before lasting reads.stays c inside pick in
           record {
             before = replayed a.sectors c;
-            left = left;
+            left = (c, picks, λ d t. refl);
             others = λ d t apart. refl;
-            own = λ holds. inl (holds.shape.says (replayed a.sectors c) left, (replayed a.sectors c, left, λ place. refl));
+            own = λ holds. inl (holds.shape.says (replayed a.sectors c) (c, picks, λ d t. refl), (replayed a.sectors c, (c, picks, λ d t. refl), λ place. refl));
+            whole = λ whole. whole;
+            calm = λ calm. calm c (logs_of c picks);
           })
           (reads.keeps.stops traced);
       holds = λ holds. (holds, keeps.holds holds);

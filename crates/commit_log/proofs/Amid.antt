@@ -10,6 +10,7 @@ use Rattle.array_image.specs.Record.{Gate, gate_sector, gate_of, half_of, record
 use Rattle.array_image.specs.Arrays.{replayed}
 use Rattle.commit_log.specs.View.{LogView, names, is_left}
 use Rattle.commit_log.specs.Standing.{IsLogPart, IsInside, deciding}
+use Rattle.commit_log.specs.Commits.{IsWritten}
 use Rattle.commit_log.proofs.Deciding.{names_first, names_later, names_either}
 
 -- ---- the terms of a commit
@@ -29,10 +30,6 @@ pub record Terms (l : LogView) (on : List ℕ) (number : ℕ) (opened closed : L
 pub record IsNew (number : ℕ) (xs : List Target) (opened : List ℕ) (c : Image) (p : ℕ) : Type 0 where
   pub gate : c (log_slice p) gate_sector ≡ opened
   pub holds : record_in c p number ≡ Some xs
-
--- each target has its payload
-abbrev pub IsWritten : List Target → Image → Type 0
-IsWritten xs c = (d t : ℕ) (w : List ℕ) → look xs d t ≡ Some w → c d t ≡ w
 
 -- it was closed, all targets written
 pub record IsShut (xs : List Target) (closed : List ℕ) (c : Image) (p : ℕ) : Type 0 where

@@ -18,15 +18,15 @@ use Rattle.array_image.proofs.Replays.{SameLogs, pending_same}
 use Rattle.pool_state.specs.declared.contents.State.{State}
 use Rattle.commit_log.specs.View.{LogView, names, next_number, in_order}
 use Rattle.commit_log.specs.Standing.{IsLogPart, IsInside, LogsStand, deciding, IsReady, SomeoneDecides}
-use Rattle.commit_log.specs.Commits.{Stands, Commits, Committed, Rests, IsOutside, CommitCall}
+use Rattle.commit_log.specs.Commits.{Stands, Commits, Committed, Rests, StandsMidway, IsOutside, CommitCall}
 use Rattle.commit_log.specs.Phases.{Calls, IsLogOf, IsOnEach, IsOfRecord, IsTargeted, has_target, AllLeft}
 use Rattle.commit_log.proofs.Calling.{calls_weaker, calls_then}
 use Rattle.commit_log.proofs.Restored.{restored, restored_there, pending_at_by}
-use Rattle.commit_log.proofs.Amid.{place_of_log, slice_of_log, log_of_place}
-use Rattle.commit_log.proofs.Early.{early_commits}
+use Rattle.commit_log.proofs.Amid.{IsEarly, IsLate, place_of_log, slice_of_log, log_of_place}
+use Rattle.commit_log.proofs.Early.{early_commits, early_midway}
 use Rattle.commit_log.proofs.Story.{Parts, Story, log_named, named_log, record_no_gate, record_no_other, each_no_other, target_no_log, payload_is}
 use Rattle.commit_log.proofs.Since.{live_between}
-use Rattle.commit_log.proofs.Ended.{late_committed, late_rests}
+use Rattle.commit_log.proofs.Ended.{late_committed, late_midway, late_rests}
 use Rattle.commit_log.proofs.Told.{Told, early_at_first, early_at_opening, late_at_targets, late_at_end, ending_after, shut_after}
 
 -- what a commit's calls did
@@ -137,37 +137,55 @@ told_of l on lost number opened closed bytes count a r g t b w0 w1 w2 w3 w4 done
   lost_are = done.lost_are;
 }
 
--- at each moment all or nothing
-stops_of : (l : LogView) (on lost : List ℕ) (number : ℕ) (opened closed bytes : List ℕ) (count : ℕ) (a r g t b : Seen) (w0 w1 w2 w3 w4 : ℕ → Bool)
-    → Done l on lost number opened closed bytes count a r g t b w0 w1 w2 w3 w4 → a.traced → IsReady l on a → SomeoneDecides l.added on lost a
-    → Leaves a b (λ c. IsInside a.sectors c → Commits l.added a c)
-stops_of l on lost number opened closed bytes count a r g t b w0 w1 w2 w3 w4 done traced ready someone =
+-- at each moment contents are as in one of its parts
+moments_of : (P : Image → Type 0) (l : LogView) (on lost : List ℕ) (number : ℕ) (opened closed bytes : List ℕ) (count : ℕ) (a r g t b : Seen) (w0 w1 w2 w3 w4 : ℕ → Bool)
+    → Done l on lost number opened closed bytes count a r g t b w0 w1 w2 w3 w4 → a.traced → IsReady l on a
+    → ((c : Image) → IsEarly l on number opened a c → P c) → ((c : Image) → IsLate l on lost number opened closed a c → P c)
+    → Leaves a b (λ c. IsInside a.sectors c → P c)
+moments_of P l on lost number opened closed bytes count a r g t b w0 w1 w2 w3 w4 done traced ready early late =
     let told : Told l on lost number opened closed bytes count a r g t b w0 w1 w2 w3 w4 = told_of l on lost number opened closed bytes count a r g t b w0 w1 w2 w3 w4 done ready in
     let to_r : Stays a r = told.begun.writes.calls.only.stays in
     let to_g : Stays a g = stays_then to_r told.opens.calls.only.stays in
     let to_t : Stays a t = stays_then to_g told.writes.calls.only.stays in
-    let P : Image → Type 0 = λ c. IsInside a.sectors c → Commits l.added a c in
-    let whole : (c : Image) → Committed l.added a c → Commits l.added a c = λ c all. record { before = all.before; stands = all.stands; either = inr all.all; whole = λ before. all.whole } in
-    leaves_then P
-    (leaves_weaker _ P
-    (λ c mix inside. early_commits l on number opened closed a c ready told.begun.terms
-    (early_at_first l on number opened closed bytes count a r w0 w1 c told.begun inside mix))
+    let Q : Image → Type 0 = λ c. IsInside a.sectors c → P c in
+    leaves_then Q
+    (leaves_weaker _ Q
+    (λ c mix inside. early c (early_at_first l on number opened closed bytes count a r w0 w1 c told.begun inside mix))
     (told.begun.writes.calls.only.stops traced))
-    (leaves_then P
-    (leaves_weaker _ P
-    (λ c mix inside. early_commits l on number opened closed a c ready told.begun.terms
-    (early_at_opening l on number opened closed bytes count a r g w0 w1 c told.begun told.opens.calls.only.stays inside mix))
+    (leaves_then Q
+    (leaves_weaker _ Q
+    (λ c mix inside. early c (early_at_opening l on number opened closed bytes count a r g w0 w1 c told.begun told.opens.calls.only.stays inside mix))
     (told.opens.calls.only.stops (to_r.traced traced)))
-    (leaves_then P
-    (leaves_weaker _ P
-    (λ c mix inside. whole c (late_committed l on lost number opened closed a c ready told.begun.terms someone
-    (late_at_targets l on lost number opened closed bytes count a r g t b w0 w1 w2 w3 w4 c told inside mix)))
+    (leaves_then Q
+    (leaves_weaker _ Q
+    (λ c mix inside. late c (late_at_targets l on lost number opened closed bytes count a r g t b w0 w1 w2 w3 w4 c told inside mix))
     (told.writes.calls.only.stops (to_g.traced traced)))
-    (leaves_weaker _ P
-    (λ c mix inside. whole c (late_committed l on lost number opened closed a c ready told.begun.terms someone
-    (late_at_end l on lost number opened closed bytes count a r g t b w0 w1 w2 w3 w4 c told inside
-    (λ d s live. mix d s (live_between d s to_t told.closes.calls.only.stays ready.lasting live)))))
+    (leaves_weaker _ Q
+    (λ c mix inside. late c (late_at_end l on lost number opened closed bytes count a r g t b w0 w1 w2 w3 w4 c told inside
+    (λ d s live. mix d s (live_between d s to_t told.closes.calls.only.stays ready.lasting live))))
     (told.closes.calls.only.stops (to_t.traced traced)))))
+
+-- all or nothing
+stops_of : (l : LogView) (on lost : List ℕ) (number : ℕ) (opened closed bytes : List ℕ) (count : ℕ) (a r g t b : Seen) (w0 w1 w2 w3 w4 : ℕ → Bool)
+    → Done l on lost number opened closed bytes count a r g t b w0 w1 w2 w3 w4 → a.traced → IsReady l on a → SomeoneDecides l.added on lost a
+    → Leaves a b (λ c. IsInside a.sectors c → Commits l.added a c)
+stops_of l on lost number opened closed bytes count a r g t b w0 w1 w2 w3 w4 done traced ready someone =
+    let terms = (told_of l on lost number opened closed bytes count a r g t b w0 w1 w2 w3 w4 done ready).begun.terms in
+    moments_of (Commits l.added a) l on lost number opened closed bytes count a r g t b w0 w1 w2 w3 w4 done traced ready
+    (λ c early. early_commits l on number opened closed a c ready terms early)
+    (λ c late.
+    let all = late_committed l on lost number opened closed a c ready terms someone late in
+    record { before = all.before; stands = all.stands; either = inr all.all; whole = λ before. all.whole })
+
+-- and what the log slices say
+midway_of : (l : LogView) (on lost : List ℕ) (number : ℕ) (opened closed bytes : List ℕ) (count : ℕ) (a r g t b : Seen) (w0 w1 w2 w3 w4 : ℕ → Bool)
+    → Done l on lost number opened closed bytes count a r g t b w0 w1 w2 w3 w4 → a.traced → IsReady l on a → SomeoneDecides l.added on lost a
+    → Leaves a b (λ c. IsInside a.sectors c → StandsMidway l on a c)
+midway_of l on lost number opened closed bytes count a r g t b w0 w1 w2 w3 w4 done traced ready someone =
+    let terms = (told_of l on lost number opened closed bytes count a r g t b w0 w1 w2 w3 w4 done ready).begun.terms in
+    moments_of (StandsMidway l on a) l on lost number opened closed bytes count a r g t b w0 w1 w2 w3 w4 done traced ready
+    (λ c early. early_midway l on number opened closed a c ready terms early)
+    (λ c late. late_midway l on lost number opened closed a c ready terms someone late)
 
 -- contents that agree on the log slices leave the same pending
 pub logs_deciding : (c e : Image) → SameLogs c e → deciding c ≡ deciding e
@@ -268,6 +286,7 @@ commit_call l on lost number opened closed bytes count a r g t b w0 w1 w2 w3 w4 
       };
       leaves = λ traced. leaves_weaker _ (λ c. Unit {0}) (λ c mix. tt) (all.only.stops traced);
       stops = λ traced ready someone. stops_of l on lost number opened closed bytes count a r g t b w0 w1 w2 w3 w4 done traced ready someone;
+      midway = λ traced ready someone. midway_of l on lost number opened closed bytes count a r g t b w0 w1 w2 w3 w4 done traced ready someone;
       after = λ ready someone c stands. after_of l on lost number opened closed bytes count a r g t b w0 w1 w2 w3 w4 c done all.only.stays ready someone stands;
       rests = λ ready someone c stands.
           subst (λ n. Rests n l.added lost c) done.number_is

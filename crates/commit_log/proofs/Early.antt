@@ -9,12 +9,13 @@ use Rattle.array_image.specs.Record.{Gate, GateAt, gate_sector, gate_of, half_of
 use Rattle.array_image.proofs.Frames.{state_same}
 use Rattle.commit_log.specs.View.{LogView, names}
 use Rattle.commit_log.specs.Standing.{IsLogPart, StatesStand, deciding, IsWhole, Decides, IsReady}
-use Rattle.commit_log.specs.Commits.{Stands, Commits, Committed}
+use Rattle.commit_log.specs.Commits.{Stands, Commits, Committed, StandsMidway}
 use Rattle.commit_log.proofs.Restored.{restored, restored_there, restored_picks, restored_inside, pending_by}
 use Rattle.commit_log.proofs.Undamaged.{whole_by}
 use Rattle.commit_log.proofs.Counting.{decides_small, named_decides}
 use Rattle.commit_log.proofs.Halves.{record_same}
 use Rattle.commit_log.proofs.Late.{is_old, is_new, Deciders, late_pending, late_whole}
+use Rattle.commit_log.proofs.Midway.{HasGates, deciders_pends}
 use Rattle.commit_log.proofs.Whole.{all_committed}
 use Rattle.pool_state.specs.declared.contents.State.{State}
 use Rattle.array_image.specs.States.{current_places}
@@ -234,10 +235,10 @@ record Someone (l : LogView) (on : List ℕ) (number : ℕ) (opened : List ℕ) 
   decides : Decides c place
   new : IsNew number l.added opened c place
 
-pub early_commits : (l : LogView) (on : List ℕ) (number : ℕ) (opened closed : List ℕ) (a : Seen) (c : Image) → IsReady l on a → Terms l on number opened closed a
-    → IsEarly l on number opened a c → Commits l.added a c
-unfolding log_restored
-early_commits l on number opened closed a c ready terms early =
+-- all gates that decide are old, or one has the whole record
+early_either : (l : LogView) (on : List ℕ) (number : ℕ) (opened closed : List ℕ) (a : Seen) (c : Image) → IsReady l on a
+    → IsEarly l on number opened a c → ((p : ℕ) → names (deciding c) p ≡ true → IsOld l a c p) ⊎ Deciders l number opened closed a c
+early_either l on number opened closed a c ready early =
     elim (each_or (IsOld l a c) (Someone l on number opened c) (deciding c)
     (λ p among.
     let decides : Decides c p = named_decides c p among in
@@ -245,6 +246,24 @@ early_commits l on number opened closed a c ready terms early =
       | inl old ↦ inl old
       | inr new ↦ inr (record { place = p; decides = decides; new = new.1 })
     ])) [
+      | inl olds ↦ inl olds
+      | inr someone ↦ inr (record {
+        each = λ p decides.
+            elim (early_gate l on number opened a c ready early p decides) [
+              | inl old ↦ is_old old
+              | inr new ↦ is_new new.1
+            ];
+        one = someone.place;
+        one_decides = someone.decides;
+        has = inl someone.new;
+      })
+    ]
+
+pub early_commits : (l : LogView) (on : List ℕ) (number : ℕ) (opened closed : List ℕ) (a : Seen) (c : Image) → IsReady l on a → Terms l on number opened closed a
+    → IsEarly l on number opened a c → Commits l.added a c
+unfolding log_restored
+early_commits l on number opened closed a c ready terms early =
+    elim (early_either l on number opened closed a c ready early) [
       | inl olds ↦ record {
         before = log_restored number on a c;
         stands = log_stands l on number opened closed a c terms early;
@@ -254,18 +273,7 @@ early_commits l on number opened closed a c ready terms early =
             (sym (restored_there (of_log number on c) a c d t (not_of_log-other number on c d t other))));
         whole = log_whole c (log_restored number on a c) (log_same l on number opened closed a c ready terms early olds);
       }
-      | inr someone ↦
-          let deciders : Deciders l number opened closed a c =
-          record {
-            each = λ p decides.
-                elim (early_gate l on number opened a c ready early p decides) [
-                  | inl old ↦ is_old old
-                  | inr new ↦ is_new new.1
-                ];
-            one = someone.place;
-            one_decides = someone.decides;
-            has = inl someone.new;
-          } in
+      | inr deciders ↦
           let committed : Committed l.added a c =
           all_committed l on number opened closed a c terms early.around
           (λ p live. elim (early.gates p live) [ inl old ↦ inl old | inr new ↦ inr new.0 ])
@@ -274,3 +282,25 @@ early_commits l on number opened closed a c ready terms early =
           (late_whole l on number opened closed a c terms deciders) in
           record { before = committed.before; stands = committed.stands; either = inr committed.all; whole = λ before. committed.whole }
     ]
+
+-- and what the log slices say, as they stand
+pub early_midway : (l : LogView) (on : List ℕ) (number : ℕ) (opened closed : List ℕ) (a : Seen) (c : Image) → IsReady l on a → Terms l on number opened closed a
+    → IsEarly l on number opened a c → StandsMidway l on a c
+unfolding log_restored
+early_midway l on number opened closed a c ready terms early =
+    let states = early_states l on number opened a c early in
+    let gates : HasGates on a c = λ p live. elim (early.gates p live) [ inl old ↦ inl old | inr new ↦ inr new.0 ] in
+    record {
+      states = states;
+      gates = λ p other live. elim (gates p live) [ inl old ↦ old | inr named ↦ absurd (both_ways (names on p) other named) ];
+      inside = early.around.inside;
+      pends = elim (early_either l on number opened closed a c ready early) [
+        | inr deciders ↦ inr (deciders_pends l on number opened closed a c ready terms deciders states early.around.inside gates)
+        | inl olds ↦ inl (record {
+          before = log_restored number on a c;
+          stands = log_stands l on number opened closed a c terms early;
+          copies = λ p. sym (restored_there (of_log number on c) a c (log_slice p) 0 (not_of_log-other number on c (log_slice p) 0 (not_state p)));
+          same = log_pending c (log_restored number on a c) (log_same l on number opened closed a c ready terms early olds);
+        })
+      ];
+    }

@@ -1,15 +1,16 @@
 -- Once the gates of those left are open, and after the commit.
 use Rattle.std.proofs.Common.{◌≡◌, ◌≢◌, ◌⊎◌, ℕ, true, not, List, [], ◌∷◌, refl, sym, ◌∙◌, inl, inr, arith}
-use Rattle.std.proofs.lemmas.Bool.{cases_lt, and_parts}
+use Rattle.std.proofs.lemmas.Bool.{cases_lt, and_parts, both_ways}
 use Rattle.rack.specs.Seen.{Image, Seen}
 use Rattle.array_image.specs.Places.{log_slice}
 use Rattle.array_image.specs.Record.{gate_sector, pending}
 use Rattle.commit_log.specs.View.{LogView, names}
 use Rattle.commit_log.specs.Standing.{StatesStand, deciding, Decides, IsReady, SomeoneDecides}
-use Rattle.commit_log.specs.Commits.{Committed, Rests}
+use Rattle.commit_log.specs.Commits.{Committed, Rests, StandsMidway}
 use Rattle.commit_log.proofs.Counting.{decides_small}
 use Rattle.commit_log.proofs.Amid.{Terms, IsShut, IsLate, absent, lower, not_state}
 use Rattle.commit_log.proofs.Late.{Decider, is_old, is_new, is_shut, Deciders, late_pending, late_whole, shut_pending, pending_number}
+use Rattle.commit_log.proofs.Midway.{HasGates, deciders_pends}
 use Rattle.commit_log.proofs.Whole.{all_committed}
 
 late_states : (l : LogView) (on lost : List ℕ) (number : ℕ) (opened closed : List ℕ) (a : Seen) (c : Image)
@@ -54,6 +55,20 @@ late_committed l on lost number opened closed a c ready terms someone late =
     late.others
     (late_pending l on number opened closed a c terms (late_deciders l on lost number opened closed a c ready someone late))
     (late_whole l on number opened closed a c terms (late_deciders l on lost number opened closed a c ready someone late))
+
+-- what the log slices say, as they stand
+pub late_midway : (l : LogView) (on lost : List ℕ) (number : ℕ) (opened closed : List ℕ) (a : Seen) (c : Image) → IsReady l on a
+    → Terms l on number opened closed a → SomeoneDecides l.added on lost a → IsLate l on lost number opened closed a c → StandsMidway l on a c
+late_midway l on lost number opened closed a c ready terms someone late =
+    let states = late_states l on lost number opened closed a c late in
+    let gates : HasGates on a c = λ p live. elim (late.gates p live) [ inl old ↦ inl old | inr new ↦ inr new.0 ] in
+    record {
+      states = states;
+      gates = λ p other live. elim (gates p live) [ inl old ↦ old | inr named ↦ absurd (both_ways (names on p) other named) ];
+      inside = late.around.inside;
+      pends =
+          inr (deciders_pends l on number opened closed a c ready terms (late_deciders l on lost number opened closed a c ready someone late) states late.around.inside gates);
+    }
 
 -- nothing but they is pending, and nothing where nobody went
 pub late_rests : (l : LogView) (on lost : List ℕ) (number : ℕ) (opened closed : List ℕ) (a : Seen) (c : Image) → IsReady l on a

@@ -47,7 +47,7 @@ unfolding replayed
 replayed_outside sectors c d t out =
     ap (λ b. if b then unwrap_or (look (pending (deciding c) c) d t) (c d t) else c d t) (le-ltb t (sectors d) out)
 
-put_outside : (sectors : ℕ → ℕ) (xs : List Target) (c : Image) (d t : ℕ) → sectors d ≤ t → put sectors xs c d t ≡ c d t
+pub put_outside : (sectors : ℕ → ℕ) (xs : List Target) (c : Image) (d t : ℕ) → sectors d ≤ t → put sectors xs c d t ≡ c d t
 put_outside sectors xs c d t out = ap (λ b. if b then unwrap_or (look xs d t) (c d t) else c d t) (le-ltb t (sectors d) out)
 
 -- what stands where a target is written, and where none is
@@ -137,32 +137,45 @@ none_later s t c up each q copy few is =
       ]
     ]
 
--- A stop in a commit leaves the state from before or the new one, where a place that is left has both.
-stands_as : (s t : State) (number : ℕ) (gone : ℕ → Bool) (on takes : List ℕ) (xs : List Target) (x : Seen) (c : Image) (p : ℕ)
+-- no place has a later copy than one of a state
+abbrev pub NoneLater : State → Image → Type 0
+NoneLater s c = (q : ℕ) (copy : Copied) → q < 16 → decoded (c (log_slice q) 0) ≡ Ok copy → IsNoLater s copy
+
+-- A stop in a commit leaves the state from before or the new one, where a place that is left has both, and no later copy.
+pub stands_latest : (s t : State) (number : ℕ) (gone : ℕ → Bool) (on takes : List ℕ) (xs : List Target) (x : Seen) (c : Image) (p : ℕ)
     → LogsLive x → CopiesStand s gone x → BringsTo s t number gone x xs on takes → StatesStand xs x c
     → p < 16 → 0 < x.sectors (log_slice p) → is_current s p ≡ true → gone p ≡ false
-    → (state_in c ≡ Some s) ⊎ (state_in c ≡ Some t)
+    → ((state_in c ≡ Some s) × NoneLater s c) ⊎ ((state_in c ≡ Some t) × NoneLater t c)
 unfolding IsOld
-stands_as s t number gone on takes xs x c p logs copies brings stand few there current left =
+stands_latest s t number gone on takes xs x c p logs copies brings stand few there current left =
     let each : (q : ℕ) → q < 16 → IsOld s c q ⊎ IsCopyOf t q (c (log_slice q) 0) =
     λ q small. old_or_new s t number gone on takes xs x c q logs copies brings stand small in
     let up = epoch_up s t number gone x xs on takes brings in
+    let later : NoneLater t c = none_later s t c up each in
     elim (search s t c 16 each) [
-      | inr found ↦ inr (state_by_copies t c found.0 (none_later s t c up each) found.1 found.2)
+      | inr found ↦ inr (state_by_copies t c found.0 later found.1 found.2, later)
       | inl old ↦
           elim (stand.picks p (logs p 0 few there)) [
-            | inl held ↦ inl (state_by_copies s c p (λ q copy small is. old q small copy is) few (copies.own p (c (log_slice p) 0) current left held))
+            | inl held ↦
+                inl (state_by_copies s c p (λ q copy small is. old q small copy is) few (copies.own p (c (log_slice p) 0) current left held), λ q copy small is. old q small copy is)
             | inr new ↦ elim brings.either [
               | inl same ↦ absurd (none-some (c (log_slice p) 0) (sym (same.1 p) ∙ new))
-              | inr later ↦ elim (cases_Bool (names takes p)) [
-                | inr other ↦ absurd (none-some (c (log_slice p) 0) (sym (later.3 p other) ∙ new))
+              | inr next ↦ elim (cases_Bool (names takes p)) [
+                | inr other ↦ absurd (none-some (c (log_slice p) 0) (sym (next.3 p other) ∙ new))
                 | inl named ↦
-                    let w = later.2 p named in
-                    inr (state_by_copies t c p (none_later s t c up each) few (subst (λ u. IsCopyOf t p u) (ap (λ o. unwrap_or o []) (sym w.1 ∙ new)) w.2))
+                    let w = next.2 p named in
+                    inr (state_by_copies t c p later few (subst (λ u. IsCopyOf t p u) (ap (λ o. unwrap_or o []) (sym w.1 ∙ new)) w.2), later)
               ]
             ]
           ]
     ]
+
+stands_as : (s t : State) (number : ℕ) (gone : ℕ → Bool) (on takes : List ℕ) (xs : List Target) (x : Seen) (c : Image) (p : ℕ)
+    → LogsLive x → CopiesStand s gone x → BringsTo s t number gone x xs on takes → StatesStand xs x c
+    → p < 16 → 0 < x.sectors (log_slice p) → is_current s p ≡ true → gone p ≡ false
+    → (state_in c ≡ Some s) ⊎ (state_in c ≡ Some t)
+stands_as s t number gone on takes xs x c p logs copies brings stand few there current left =
+    elim (stands_latest s t number gone on takes xs x c p logs copies brings stand few there current left) [ inl old ↦ inl old.0 | inr new ↦ inr new.0 ]
 
 -- nothing to bring
 pub brings_nothing : (s : State) (gone : ℕ → Bool) (xs : List Target) (on : List ℕ)
@@ -177,7 +190,7 @@ brings_nothing s gone xs on are_left inside none =
     }
 
 -- no target, on no place
-brings_none : (s : State) → Brings s s [] []
+pub brings_none : (s : State) → Brings s s [] []
 unfolding look
 brings_none s =
     record {

@@ -283,7 +283,7 @@ kept_after s t gone l on lost a b commit kept brings = joined_after s t gone l o
 -- ---- calls that write nothing, and losses
 
 -- contents that a stop may leave after calls that bring no value, one before them might
-stands_before : {a b : Seen} → a.lasting → Stays a b → KeepsAll a b → (c : Image) → Stands b c → Stands a c
+pub stands_before : {a b : Seen} → a.lasting → Stays a b → KeepsAll a b → (c : Image) → Stands b c → Stands a c
 stands_before {a} {b} lasting stays keeps c stand =
     record {
       picks = λ d t live.
@@ -292,7 +292,7 @@ stands_before {a} {b} lasting stays keeps c stand =
       inside = λ p t out. stand.inside p t (subst (λ n. n ≤ t) (sym (stays.sectors (log_slice p))) out);
     }
 
-logs_before : {a b : Seen} → a.lasting → Stays a b → KeepsAll a b → (c : Image) → LogsStand b c → LogsStand a c
+pub logs_before : {a b : Seen} → a.lasting → Stays a b → KeepsAll a b → (c : Image) → LogsStand b c → LogsStand a c
 logs_before {a} {b} lasting stays keeps c stand =
     record {
       picks = λ p t live.

@@ -12,7 +12,8 @@ use Rattle.commit_log.specs.Standing.{deciding, IsWhole, Decides}
 use Rattle.commit_log.proofs.Deciding.{IsTop, top, gate_at, gate_at_is, all_or, all_at, nothing_pending, record_pending, pending_of_top, none_of_top, pending_is_decisive}
 use Rattle.commit_log.proofs.Undamaged.{whole_from}
 use Rattle.commit_log.proofs.Counting.{named_decides, decides_named}
-use Rattle.commit_log.proofs.Amid.{Terms, IsNew, IsWritten, IsShut, IsOld, absent, lower, no_gate_in_nothing}
+use Rattle.commit_log.specs.Commits.{IsWritten}
+use Rattle.commit_log.proofs.Amid.{Terms, IsNew, IsShut, IsOld, absent, lower, no_gate_in_nothing}
 
 -- ---- what is pending
 

@@ -21,6 +21,7 @@ pub mod Counting
 pub mod Amid
 pub mod Late
 pub mod Whole
+pub mod Midway
 pub mod Early
 pub mod Story
 pub mod Since
@@ -37,3 +38,4 @@ pub mod Fewer
 pub mod Epochs
 pub mod Replayable
 pub mod RestKept
+pub mod Saying

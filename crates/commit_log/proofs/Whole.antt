@@ -9,9 +9,9 @@ use Rattle.array_image.specs.Places.{slice_of, place_of, log_slice, log_sectors}
 use Rattle.array_image.specs.Record.{gate_sector, pending}
 use Rattle.commit_log.specs.View.{LogView, names}
 use Rattle.commit_log.specs.Standing.{IsLogPart, deciding, IsWhole}
-use Rattle.commit_log.specs.Commits.{Committed}
+use Rattle.commit_log.specs.Commits.{Committed, IsWritten}
 use Rattle.commit_log.proofs.Restored.{restored, restored_there, restored_picks, restored_inside, put_there, put_same}
-use Rattle.commit_log.proofs.Amid.{in_half, Terms, IsWritten, IsAround, slice_of_log, place_of_log, log_of_place, half_least, half_most, not_in_half, replayed_as}
+use Rattle.commit_log.proofs.Amid.{in_half, Terms, IsAround, slice_of_log, place_of_log, log_of_place, half_least, half_most, not_in_half, replayed_as}
 
 -- what a commit may have written: its half and the gates on the places of `on`, and the targets
 abbrev pub of_commit : ℕ → List ℕ → List Target → ℕ → ℕ → Bool

@@ -4,21 +4,12 @@ use Rattle.std.proofs.lemmas.Bool.{both_ways, eqb-true}
 use Rattle.rack.specs.Values.{MayLeave}
 use Rattle.rack.specs.Seen.{Image, Seen, IsLive}
 use Rattle.array_image.specs.Places.{log_slice, place_of, slice_of}
-use Rattle.array_image.specs.Record.{damaged_log, gate_sector, record_of}
-use Rattle.array_image.proofs.Replays.{SameLogs}
-use Rattle.commit_log.specs.Standing.{IsWhole, LogsStand, deciding}
+use Rattle.array_image.proofs.Replays.{SameLogs, whole_same}
+use Rattle.commit_log.specs.Standing.{IsWhole, LogsStand}
 use Rattle.commit_log.specs.Commits.{Stands}
 use Rattle.commit_log.proofs.Amid.{log_of_place}
-use Rattle.commit_log.proofs.Committing.{logs_deciding, off_log, on_log}
+use Rattle.commit_log.proofs.Committing.{off_log, on_log}
 use Rattle.commit_log.proofs.Restored.{restored, restored_inside, restored_picks, restored_there}
-use Rattle.commit_log.proofs.Undamaged.{whole_by}
-
--- contents that agree on the log slices
-pub whole_same : (c e : Image) → SameLogs c e → IsWhole e → IsWhole c
-whole_same c e same whole =
-    ap (λ ps. damaged_log ps c) (logs_deciding c e same)
-    ∙ whole_by c e (deciding e) (λ p among. same p gate_sector)
-    (λ x is. ap (record_of x.gate.number) (λ i t. same x.place t i)) whole
 
 -- contents of which the log slices are as a stop may leave them, whatever stands elsewhere
 pub whole_logs : (x : Seen) → ((c : Image) → Stands x c → IsWhole c) → (c : Image) → LogsStand x c → IsWhole c

@@ -9,7 +9,7 @@ use Rattle.array_image.specs.Places.{log_slice, place_of}
 use Rattle.array_image.specs.Record.{GateAt, gate_sector, gate_of, half_of, pending_at, pending}
 use Rattle.array_image.specs.Arrays.{replayed}
 use Rattle.commit_log.specs.View.{LogView, next_number, names, in_order}
-use Rattle.commit_log.specs.Standing.{IsLogPart, IsAlike, IsInside, deciding, IsWhole, LogsStand, IsNumbered, IsReady, SomeoneDecides}
+use Rattle.commit_log.specs.Standing.{IsLogPart, IsAlike, IsInside, StatesStand, deciding, IsWhole, LogsStand, IsNumbered, IsReady, SomeoneDecides}
 
 -- contents that a stop now may leave
 pub record Stands (x : Seen) (c : Image) : Type 0 where
@@ -33,6 +33,32 @@ pub record Committed (xs : List Target) (a : Seen) (c : Image) : Type 0 where
   pub stands : Stands a before
   pub all : IsAlike (replayed a.sectors c) (put a.sectors xs before)
   pub whole : IsWhole c
+
+-- each target has its payload in contents
+abbrev pub IsWritten : List Target → Image → Type 0
+IsWritten xs c = (d t : ℕ) (w : List ℕ) → look xs d t ≡ Some w → c d t ≡ w
+
+-- as it was: the copies are those of contents that a stop before the commit might leave, and what is pending there is so
+pub record IsPendingYet (a : Seen) (c : Image) : Type 0 where
+  pub before : Image
+  pub stands : Stands a before
+  pub copies : (p : ℕ) → c (log_slice p) 0 ≡ before (log_slice p) 0
+  pub same : pending (deciding c) c ≡ pending (deciding before) before
+
+-- the targets, read from a place of the commit
+pub record IsPendingNow (l : LogView) (on : List ℕ) (c : Image) : Type 0 where
+  pub all : pending (deciding c) c ≡ l.added
+  pub source : (g : GateAt) → pending_at (deciding c) c ≡ Some g → (names on g.place ≡ true) × (g.gate.number ≡ next_number l.number)
+
+-- What a stop in a commit leaves of the log slices as they stand: copies of states as they were or as the targets have them, gates that
+-- aren't the commit's as they were. What was pending is so yet, or all targets are, or none is and all are written.
+pub record StandsMidway (l : LogView) (on : List ℕ) (a : Seen) (c : Image) : Type 0 where
+  pub states : StatesStand l.added a c
+  pub gates :
+      (p : ℕ) → names on p ≡ false → IsLive a a (log_slice p) gate_sector
+      → MayLeave (a.held (log_slice p) gate_sector) (c (log_slice p) gate_sector)
+  pub inside : IsInside a.sectors c
+  pub pends : IsPendingYet a c ⊎ (IsPendingNow l on c ⊎ ((pending (deciding c) c ≡ []) × IsWritten l.added c))
 
 -- what log slices leave pending after a commit: its own targets at most, and these only where somebody went
 pub record Rests (number : ℕ) (xs : List Target) (lost : List ℕ) (c : Image) : Type 0 where
@@ -64,6 +90,10 @@ pub record CommitCall (l : LogView) (on lost : List ℕ) (a b : Seen) : Type 0 w
   pub stops :
       a.traced → IsReady l on a → SomeoneDecides l.added on lost a
       → Leaves a b (λ c. IsInside a.sectors c → Commits l.added a c)
+  -- what the log slices say meanwhile, as they stand
+  pub midway :
+      a.traced → IsReady l on a → SomeoneDecides l.added on lost a
+      → Leaves a b (λ c. IsInside a.sectors c → StandsMidway l on a c)
   -- all at the return
   pub after : IsReady l on a → SomeoneDecides l.added on lost a → (c : Image) → Stands b c → Committed l.added a c
   -- what the next commit needs

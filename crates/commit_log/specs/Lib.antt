@@ -7,3 +7,4 @@ pub mod Scans
 pub mod Opening
 pub mod Kept
 pub mod AtRest
+pub mod Saying

@@ -1,13 +1,13 @@
 -- What may stand on the slices when a stop comes, and which places count there.
 use Rattle.std.specs.Prelude.{◌≡◌, ◌⊎◌, ℕ, ◌-◌, ◌<◌, ◌≤◌, ◌^◌, true, List, [], Some, None}
-use Rattle.std.specs.Option.{option_map_or}
 use Rattle.rack.specs.Values.{MayLeave}
 use Rattle.rack.specs.Seen.{Image, Seen, IsLive}
 use Rattle.rack.specs.Targets.{Target, look}
 use Rattle.pool_state.specs.declared.contents.State.{State}
 use Rattle.array_image.specs.Places.{slice_of, log_slice}
-use Rattle.array_image.specs.Record.{Gate, GateAt, gate_sector, gate_of, pending_at, damaged_log}
-use Rattle.array_image.specs.States.{state_in, is_current, current_places}
+use Rattle.array_image.specs.Record.{Gate, GateAt, gate_sector, gate_of, pending_at}
+use Rattle.array_image.specs.States.{state_in, is_current}
+pub use Rattle.array_image.specs.Left.{deciding, IsWhole}
 use Rattle.array_image.specs.Left.{LogsInside, PicksLogs}
 use Rattle.commit_log.specs.View.{LogView, names, is_left}
 
@@ -33,14 +33,6 @@ pub record StatesStand (xs : List Target) (x : Seen) (c : Image) : Type 0 where
       (p : ℕ) → IsLive x x (log_slice p) 0
       → MayLeave (x.held (log_slice p) 0) (c (log_slice p) 0) ⊎ (look xs (log_slice p) 0 ≡ Some (c (log_slice p) 0))
   pub inside : (p : ℕ) → x.sectors (log_slice p) ≡ 0 → c (log_slice p) 0 ≡ []
-
--- the places whose gates decide: the current ones of the state in these contents
-abbrev pub deciding : Image → List ℕ
-deciding c = option_map_or current_places (state_in c) []
-
--- their gates and the pending record are well formed: an opening doesn't refuse such contents as damaged
-abbrev pub IsWhole : Image → Type 0
-IsWhole c = damaged_log (deciding c) c ≡ None
 
 -- a place is one of them
 abbrev pub Decides : Image → ℕ → Type 0

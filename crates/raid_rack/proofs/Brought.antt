@@ -1,16 +1,21 @@
 -- Targets with copies of a later state bring that state.
-use Rattle.std.proofs.Common.{◌≡◌, ◌⊎◌, ℕ, ◌<◌, ◌*◌, Bool, true, false, ◌==◌, ◌&&◌, ◌||◌, if◌then◌else◌, List, [], ◌∷◌, Some, None, refl, sym, ap, ap₂, subst, ◌∙◌, inl, inr, arith}
+use Rattle.std.proofs.Common.{◌≡◌, ◌⊎◌, ℕ, ◌<◌, ◌*◌, Bool, true, false, ◌==◌, ◌&&◌, ◌||◌, if◌then◌else◌, List, [], ◌∷◌, Ok, Result, Some, None, unwrap_or, refl, sym, ap, ap₂, subst, ◌∙◌, inl, inr, arith}
 use Rattle.std.proofs.lemmas.Bool.{cases_eq, cases_Bool, both_ways, eq-eqb, ne_eqb}
 use Rattle.std.proofs.lemmas.List.Folds.{list_any-append}
+use Rattle.std.proofs.lemmas.Option.{none-some}
 use Rattle.std.specs.Option.{option_or}
 use Rattle.std.specs.List.{list_any}
 use Rattle.rack.specs.Targets.{Target, look, is_at}
 use Rattle.rack.proofs.Phases.{look-append}
+use Rattle.pool_state.specs.declared.contents.Copied.{Copied}
 use Rattle.pool_state.specs.declared.contents.State.{State}
+use Rattle.pool_state.specs.declared.contents.StateFault.{StateFault}
+use Rattle.pool_state.specs.Sector.{decoded}
 use Rattle.array_image.specs.Places.{log_slice, place_of}
 use Rattle.array_image.specs.States.{is_current}
 use Rattle.commit_log.specs.View.{names}
 use Rattle.commit_log.specs.Kept.{IsCopyOf, Brings, id_of}
+use Rattle.commit_log.specs.Saying.{AreOwnCopies}
 use Rattle.commit_log.proofs.Deciding.{names_first, names_later}
 use Rattle.raid_rack.specs.Losses.{IsCopyOn, AreCopiesOn, AddsCopies}
 
@@ -24,11 +29,15 @@ module _ (t : State) where
       ap (λ b. b && (x.sector == 0))
       (ne_eqb x.disk (log_slice p) (λ same. other (let e : 17 * q ≡ 17 * p = sym on.disk ∙ same in omega (arith, e))))
 
+  abbrev own_as : ℕ → Result Copied StateFault
+  own_as q = Ok (record { state = t; own = q })
+
   -- the last of them for a place, or none
   pub record HasCopy (xs : List Target) (p : ℕ) : Type 0 where
     pub bytes : List ℕ
     pub is_found : look xs (log_slice p) 0 ≡ Some bytes
     pub is_copy : IsCopyOf t p bytes
+    pub own : decoded bytes ≡ Ok (record { state = t; own = p })
 
   pub copies_look : (on : List ℕ) (xs : List Target) (p : ℕ) → AreCopiesOn t on xs
       → ((names on p ≡ true) × HasCopy xs p) ⊎ ((names on p ≡ false) × (look xs (log_slice p) 0 ≡ None))
@@ -44,6 +53,7 @@ module _ (t : State) where
             bytes = had.1.bytes;
             is_found = ap (λ o. option_or o (if is_at (log_slice p) 0 x then Some x.bytes else None)) had.1.is_found;
             is_copy = had.1.is_copy;
+            own = had.1.own;
           },
         )
         | inr none ↦ elim (cases_eq q p) [
@@ -55,6 +65,7 @@ module _ (t : State) where
                   ap (λ o. option_or o (if is_at (log_slice p) 0 x then Some x.bytes else None)) none.1
                   ∙ ap (λ (b : Bool). if b then Some x.bytes else None) (own_at q p x are.0 same);
               is_copy = record { own = q; copy = are.0.copy; drive = ap (id_of t) same };
+              own = are.0.copy ∙ ap own_as same;
             },
           )
           | inr other ↦ inr (
@@ -76,6 +87,18 @@ module _ (t : State) where
         | inr other ↦ names_later q on p (copies_inside on xs p are.1
             (sym (ap (λ b. b || list_any (λ y. place_of y.disk == p) xs)
             (ne_eqb (place_of x.disk) p (λ same. other (let disk = are.0.disk in omega (arith, disk, same))))) ∙ is))
+      ]
+
+  -- behind targets that have none, each is its place's own
+  pub copies_own : (on : List ℕ) (before added : List Target) → AddsCopies t on before added → ((p : ℕ) → look before (log_slice p) 0 ≡ None) → AreOwnCopies t added
+  copies_own on before added adds none p u is =
+      let whole : look added (log_slice p) 0 ≡ option_or (look adds.targets (log_slice p) 0) (look before (log_slice p) 0) =
+      ap (λ xs. look xs (log_slice p) 0) adds.appended ∙ look-append before adds.targets (log_slice p) 0 in
+      elim (copies_look on adds.targets p adds.copies) [
+        | inl had ↦
+            let same : Some had.1.bytes ≡ Some u = sym (whole ∙ ap (λ o. option_or o (look before (log_slice p) 0)) had.1.is_found) ∙ is in
+            ap (λ o. decoded (unwrap_or o [])) (sym same) ∙ had.1.own
+        | inr lacking ↦ absurd (none-some u (sym (whole ∙ ap (λ o. option_or o (look before (log_slice p) 0)) lacking.1 ∙ none p) ∙ is))
       ]
 
   -- With copies of a later state on the places that it leaves, targets bring that state.

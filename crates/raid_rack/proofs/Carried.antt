@@ -35,6 +35,7 @@ use Rattle.raid_rack.specs.Settling.{state_after}
 use Rattle.raid_rack.specs.Agreeing.{SupersAgree}
 use Rattle.raid_rack.proofs.Agreed.{agree_by, staged_agrees}
 use Rattle.raid_rack.proofs.Added.{marks_bring}
+use Rattle.raid_rack.proofs.Brought.{copies_own}
 use Rattle.raid_rack.proofs.Marking.{MarksCall, restated_after, NotesLost, marks_part, shape_after}
 use Rattle.raid_rack.proofs.Restated.{IsStaged, restates_staged}
 use Rattle.raid_rack.proofs.Staged.{none_gone, notes_lost, staged_array}
@@ -42,7 +43,7 @@ use Rattle.raid_rack.proofs.Over.{someone_left, member_left, number_room}
 use Rattle.raid_rack.proofs.Noted.{live_later, noted_clear}
 use Rattle.raid_rack.proofs.Changed.{lowered_none}
 use Rattle.raid_rack.proofs.Adding.{current_is, on_current, was_current, no_data, all_live, supers_calm, supers_inside}
-use Rattle.raid_rack.proofs.Committed.{IsCommit, raid_after, after_further, after_marked, after_gone, commit_losing, raised_range, next_later}
+use Rattle.raid_rack.proofs.Committed.{IsCommit, raid_after, after_further, after_marked, after_gone, commit_losing, raised_more, raised_range, next_later}
 
 module _ (v : Raid) (lost on gone : List ℕ) (l : LogView) (xs : List Target) (f : ℕ → View) (b c : Seen) (commit : IsCommit v lost on gone l xs f b c)
     (n : ℕ) (vals : ℕ → Values) (spent : ℕ → Bool) (joined : n < v.state.joined) (low : n < v.state.made)
@@ -107,6 +108,8 @@ module _ (v : Raid) (lost on gone : List ℕ) (l : LogView) (xs : List Target) (
     left = left_both.0;
     now = someone.1;
     stays = left_both.1;
+    later = raised_more v.state.epoch room.1;
+    own = copies_own (state_after v lost) on xs l.added commit.marking.copies (supers_calm v lost on l xs b commit.marking);
   }
 
   losing : IsLosing (v.arrays n) (f n) (names gone)
@@ -134,7 +137,7 @@ module _ (v : Raid) (lost on gone : List ℕ) (l : LogView) (xs : List Target) (
   part =
       let now = shape_after v.state (state_after v lost) amid.durable (shape_of (v.arrays n)) (v.arrays n).resync (may_vary (v.arrays n)) false (may_vary (v.arrays n)) (v.arrays n) vals spent (gone_in v) l on gone b c n small marks_call restates settled holds in
       marks_part v.state (state_after v lost) amid.durable (shape_of (v.arrays n)) (may_vary (v.arrays n)) false (v.arrays n) vals spent (gone_in v) v (raid_after v lost (next_number l.number) f) l on gone b c n
-      small (after_marked lost v.state) commit.marking.number refl joined amid.stood.few marks_call restates settled holds notes
+      small (after_marked lost v.state) commit.marking.number refl joined amid.stood.few marks_call restates settled holds notes refl
       (λ y alive.
       lost_value (names gone) (shape_of (v.arrays n)) n (v.arrays n).resync (current_in c.held) y (laid_out (v.arrays n) seated.is_array) now.even now.sized
       (unspent_then (v.arrays n) (f n) (names gone) losing y (covers y alive)))
@@ -180,4 +183,6 @@ module _ (v : Raid) (lost on gone : List ℕ) (l : LogView) (xs : List Target) (
                   let same : names gone ≡ (λ q. false) = λ i q. none_gone v lost on gone l xs f b c commit n low are q i in
                   sym (losing.shape ∙ ap (λ g. lowered g (shape_of (v.arrays n))) same ∙ lowered_none (shape_of (v.arrays n)));
             };
+        logs = λ copies given. part.logs copies amid.stood;
+        frame = λ g before given. part.frame g before amid.stood;
       }

@@ -108,6 +108,8 @@ part_if v f number a b n vals now spent stays lasting leaves part =
             slices = live_later v.state.made a b stays lasting amid.slices;
             marked = at.marked;
           };
+      logs = λ copies amid. let at = part amid in at.part.logs copies at.stood;
+      frame = λ g before amid. let at = part amid in at.part.frame g before at.stood;
     }
 
 pub or_left : (b c : Bool) → b ≡ true → (b || c) ≡ true

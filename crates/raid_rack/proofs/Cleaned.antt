@@ -32,6 +32,7 @@ use Rattle.raid_rack.proofs.Views.{NotesOne, views_notes}
 use Rattle.raid_rack.proofs.Over.{over_still}
 use Rattle.raid_rack.proofs.Seated.{none_listed, view_with}
 use Rattle.raid_rack.proofs.Whole.{heeded_gone}
+use Rattle.raid_rack.proofs.Frames.{geometry_frame}
 use Rattle.raid_rack.proofs.Written.{ActsOne, may_renew, one_still, one_unwritten, other_part, other_rows, own_part}
 use Rattle.raid_rack.specs.Rows.{KeepsRows, LeavesRows}
 use Rattle.raid_rack.proofs.Rows.{KeepsClear, clear_seats, rows_read}
@@ -147,6 +148,7 @@ module _ (v : Raid) (f : ℕ → View) (m : ℕ) (a b : Seen) (set : IsSet v a) 
     heeded = call.heeded;
     views = views;
     shape = loses.shape;
+    frame = geometry_frame (v.arrays m).truth (f m).truth loses.only.same.geometry;
     goes = call.goes;
     later = omega arith;
     able = λ n vals spent below goes amid.

@@ -32,6 +32,7 @@ use Rattle.array_model.proofs.Spared.{lost_value}
 use Rattle.array_core.specs.Superblocks.{is_settled}
 use Rattle.raid_rack.specs.Book.{after_same}
 use Rattle.raid_rack.specs.Raid.{Raid, gone_in, is_over, IsWritten, Stood}
+use Rattle.raid_rack.specs.Frames.{Frame, HasFrame, frame_of}
 use Rattle.raid_rack.specs.Laws.{stood_left}
 use Rattle.raid_rack.specs.Marking.{SaysBetween}
 use Rattle.raid_rack.specs.Moves.{AreMarked, Brings, IsAmid, IsSeated, KeepsArrays, PartOf}
@@ -39,10 +40,13 @@ use Rattle.raid_rack.specs.Rows.{KeepsRows, LeavesFrom, LeavesRows}
 use Rattle.raid_rack.specs.Works.{closed}
 use Rattle.raid_rack.proofs.Changed.{lowered_none}
 use Rattle.raid_rack.proofs.Closing.{IsClosing, after_closed, closed_raid, closing_brings, closing_current, closing_data, closing_few, closing_further, closing_losing, closing_named, closing_none, closing_set, closing_target, closing_unwritten, closing_went}
-use Rattle.raid_rack.proofs.Committed.{next_later, raised_range}
+use Rattle.raid_rack.proofs.Brought.{copies_own}
+use Rattle.raid_rack.proofs.Committed.{next_later, raised_more, raised_range}
 use Rattle.raid_rack.proofs.Elements.{look_among}
+use Rattle.raid_rack.proofs.Frames.{frame_same, known_frame, left_frame}
 use Rattle.raid_rack.proofs.Losing.{only_gone}
-use Rattle.raid_rack.proofs.Marking.{MarksCall, alike_agree, alike_state, closed_after, data_kept, still_after}
+use Rattle.raid_rack.proofs.Marking.{MarksCall, alike_agree, alike_state, closed_after, data_kept, logs_commit, still_after}
+use Rattle.raid_rack.proofs.Own.{look_nothing}
 use Rattle.raid_rack.proofs.Noted.{idle_now, live_later, losing_spent}
 use Rattle.raid_rack.proofs.Over.{number_room, over_still, someone_left}
 use Rattle.raid_rack.proofs.Own.{says_same}
@@ -162,6 +166,8 @@ module _ (v : Raid) (on gone : List ℕ) (l : LogView) (f : ℕ → View) (b c :
     left = none_gone someone.0 someone.1;
     now = someone.1;
     stays = stays_there;
+    later = raised_more v.state.epoch room.1;
+    own = copies_own (closed v.state) on [] l.added commit.copies (λ p. look_nothing (log_slice p) 0);
   }
 
   -- ---- what contents have of it
@@ -240,6 +246,22 @@ module _ (v : Raid) (on gone : List ℕ) (l : LogView) (f : ℕ → View) (b c :
                   (put_agree before r picks (alike_agree n r (put b.sectors l.added before) small new))
                   (says_closed v.state n (shape_of (v.arrays n)) vals spent e left.1);
             }
+      ]
+
+  -- superblocks stay, so the array has its frame at each moment
+  frame_moment : (g : Frame) → frame_of (v.arrays n).truth ≡ g → (i : Image) → IsInside b.sectors i → Commits l.added b i → HasFrame g n (replayed b.sectors i)
+  frame_moment g framed i inside commits =
+      let before = commits.before in
+      let picks = before_inside l.added b i before inside commits.stands commits.either in
+      let r : Image = replayed b.sectors i in
+      let e : Image = replayed b.sectors before in
+      let of = left_frame g v.state (shape_of (v.arrays n)) vals spent (gone_in v) v b n before framed stood picks in
+      elim commits.either [
+        | inl old ↦ frame_same g n r e (alike_state r e old) (alike_agree n r e small old) of
+        | inr new ↦
+            known_frame g n (closed v.state) r e (brought before r picks new)
+            (put_agree before r picks (alike_agree n r (put b.sectors l.added before) small new))
+            (λ u truth. of v.state u (state_before e (before, picks, λ d k. refl)) (sym (truth_closed v.state e n) ∙ truth))
       ]
 
   -- ---- after it
@@ -362,6 +384,15 @@ module _ (v : Raid) (on gone : List ℕ) (l : LogView) (f : ℕ → View) (b c :
           let same : names gone ≡ (λ q. false) = λ i q. nobody are q i in
           sym (losing.shape ∙ ap (λ g. lowered g (shape_of (v.arrays n))) same ∙ lowered_none (shape_of (v.arrays n)));
     };
+    logs = λ copies given. logs_commit v.state (closed v.state) (gone_in v) l on gone b c marks_call (after_closed v.state) kept copies;
+    frame = λ g before given. record {
+      leaves = λ traced.
+          leaves_weaker (λ i. LogsInside b.sectors i → Commits l.added b i)
+          (λ i. IsInside b.sectors i → HasFrame g n (replayed b.sectors i))
+          (λ i commits inside. frame_moment g before i inside (commits (λ place u out. inside (log_slice place) u out)))
+          (commit.call.stops traced marks_call.ready marks_call.decides);
+      after = ap frame_of losing.truth ∙ before;
+    };
   }
     where
       nobody : AreMarked (closed_raid v (next_number l.number) f) → (q : ℕ) → names gone q ≡ false
@@ -443,6 +474,19 @@ close_brings v on gone l f b c commit =
                   ((close_part v on gone l f b c commit n vals spent low goes covers amid).leaves traced).new k i after until stopped inside amid;
             };
         holds = λ amid. (close_part v on gone l f b c commit n vals spent low goes covers amid).holds amid;
+        logs = λ copies amid. (close_part v on gone l f b c commit n vals spent low goes covers amid).logs copies amid;
+        frame = λ g before amid. record {
+          leaves = λ traced.
+              let all = commit.call.leaves traced in
+              record {
+                later = all.later;
+                kept = all.kept;
+                past = all.past;
+                new = λ k i after until stopped inside.
+                    (((close_part v on gone l f b c commit n vals spent low goes covers amid).frame g before amid).leaves traced).new k i after until stopped inside;
+              };
+          after = ap (λ (u : View). frame_of u.truth) (commit.arrays n low) ∙ before;
+        };
       };
       rows = λ n vals spent unwritten joined low goes covers amid rows. close_rows v on gone l f b c commit n vals spent low goes covers amid rows;
     }

@@ -53,6 +53,10 @@ raised_range e = elim (cases_lt e (2 ^ 63 - 1)) [
       (omega (arith, is), λ low. omega (arith, is, low))
 ]
 
+-- below the last one it is raised
+pub raised_more : (e : ℕ) → e < 2 ^ 63 - 1 → e < raised e
+raised_more e room = let is : raised e ≡ e + 1 = ap (λ (b : Bool). if b then e + 1 else e) (lt-ltb e (2 ^ 63 - 1) room) in omega (arith, is)
+
 -- it is raised until the last one
 pub raised_later : (e : ℕ) → (e < raised e) ⊎ (2 ^ 63 - 1 ≤ raised e)
 raised_later e = elim (cases_lt e (2 ^ 63 - 1)) [

@@ -43,9 +43,10 @@ use Rattle.raid_rack.specs.Raid.{Raid, IsWritten, Stood, gone_in, is_over}
 use Rattle.raid_rack.specs.Rows.{KeepsRows, LeavesRows, rows_then}
 use Rattle.raid_rack.specs.Settling.{state_after}
 use Rattle.raid_rack.proofs.Added.{marks_bring, names_current}
+use Rattle.raid_rack.proofs.Brought.{copies_own}
 use Rattle.raid_rack.proofs.Adding.{all_live, no_data, supers_calm, supers_inside}
 use Rattle.raid_rack.proofs.Changed.{lowered_none}
-use Rattle.raid_rack.proofs.Committed.{IsCommitBy, after_further, after_gone, commit_losing, next_later, raid_after}
+use Rattle.raid_rack.proofs.Committed.{IsCommitBy, after_further, after_gone, commit_losing, next_later, raid_after, raised_more}
 use Rattle.raid_rack.proofs.Enlisted.{enlisted_marked, listed}
 use Rattle.raid_rack.proofs.Joining.{MayJoinPool, listed_heeded, listed_raid, listed_shape, lists_listed, was_current}
 use Rattle.raid_rack.proofs.Marking.{MarksCall, NotesLost, commit_moment, marks_stood, says_first, shape_after}
@@ -164,6 +165,9 @@ module _ (place units : ℕ) (plan : Plan) (joining : ℕ → Bool) (v : Raid) (
         ap (λ o. option_map_or (λ (g : Gate). g.is_open) o false) (sym is ∙ ap gate_of (new_log.gate block left) ∙ closed_gate);
   }
 
+  later_epoch : s.epoch < t.epoch
+  later_epoch = raised_more s.epoch room.1
+
   brings : BringsTo s t l.number (gone_in v) x l.added on takes
   brings =
       let new : Brings (listed place units plan v.state) t l.added takes =
@@ -185,11 +189,6 @@ module _ (place units : ℕ) (plan : Plan) (joining : ℕ → Bool) (v : Raid) (
           | inr later ↦ inr later
         ];
       }
-    where
-      later_epoch : s.epoch < t.epoch
-      later_epoch =
-          let is : raised s.epoch ≡ s.epoch + 1 = ap (λ (b : Bool). if b then s.epoch + 1 else s.epoch) (lt-ltb s.epoch (2 ^ 63 - 1) room.1) in
-          omega (arith, is)
 
   marks_call : MarksCall s t (gone_in v) l on gone x y
   marks_call = record {
@@ -207,6 +206,8 @@ module _ (place units : ℕ) (plan : Plan) (joining : ℕ → Bool) (v : Raid) (
     left = nobody q;
     now = then_q;
     stays = stays_q;
+    later = later_epoch;
+    own = copies_own t takes xs l.added commit.marking.copies (supers_calm u [] takes l xs x commit.marking);
   }
 
   -- ---- its superblocks

@@ -1,4 +1,6 @@
 mod Own
+pub mod Logs
+pub mod Frames
 pub mod Raid
 mod Ranges
 pub mod Dropped

@@ -22,8 +22,10 @@ use Rattle.commit_log.specs.View.{LogView, names, next_number}
 use Rattle.commit_log.specs.Standing.{IsReady, SomeoneDecides, IsLogPart, IsAlike}
 use Rattle.commit_log.specs.Commits.{Commits, CommitCall}
 use Rattle.commit_log.specs.Kept.{LogKept, AreLeft, gone_with, BringsTo}
+use Rattle.commit_log.specs.Saying.{AreOwnCopies, HoldsCopies, SaysState}
 use Rattle.commit_log.proofs.Kept.{stands_of, before_inside, joined_state, put_none}
 use Rattle.commit_log.proofs.KeptAfter.{joined_after}
+use Rattle.commit_log.proofs.Saying.{commit_holds, commit_says}
 use Rattle.array_model.specs.View.{View, shape_of, may_vary}
 use Rattle.array_model.specs.Says.{Says, IsOpen, HoldsShape, IsEarlier}
 use Rattle.array_model.proofs.Keeping.{live_on, inside_before, logs_of, KeepsData}
@@ -32,7 +34,10 @@ use Rattle.raid_rack.specs.Raid.{Raid, Stood, IsWritten}
 use Rattle.raid_rack.specs.Enlisting.{SaysBy}
 use Rattle.raid_rack.specs.Marking.{NoData, Restates, SaysBetween, Part}
 use Rattle.raid_rack.specs.Book.{IsAfter, after_same}
+use Rattle.raid_rack.specs.Frames.{Frame, HasFrame, frame_of}
+use Rattle.raid_rack.specs.Logs.{KeepsLogs, LogsBetween}
 use Rattle.raid_rack.specs.Laws.{stood_left}
+use Rattle.raid_rack.proofs.Frames.{fields_frame, frame_same, known_frame, left_frame}
 use Rattle.raid_rack.proofs.Own.{look_nothing, says_same}
 
 -- ---- slices of an array, and the states' sectors, aren't the log's
@@ -103,6 +108,30 @@ pub record MarksCall (s t : State) (gone : ℕ → Bool) (l : LogView) (on lost 
   pub left : gone place ≡ false
   pub now : is_current t place ≡ true
   pub stays : names lost place ≡ false
+  -- of a later state, each copy its place's own
+  pub later : s.epoch < t.epoch
+  pub own : AreOwnCopies t l.added
+
+-- So the log slices say the old state or the new one.
+pub logs_commit : (s t : State) (gone : ℕ → Bool) (l : LogView) (on lost : List ℕ) (a b : Seen) → MarksCall s t gone l on lost a b → IsAfter s t
+    → LogKept s l.number gone a → HoldsCopies s a → KeepsLogs s t a b
+logs_commit s t gone l on lost a b call book kept copies =
+    let never : t ≡ s → (p : ℕ) → is_current s p ≡ true → gone p ≡ false =
+    λ same. let epoch = ap (λ (u : State). u.epoch) same in let later = call.later in absurd (omega (arith, epoch, later)) in
+    record {
+      leaves = λ traced.
+          leaves_weaker (λ c. LogsInside a.sectors c → SaysState s a.sectors c ⊎ SaysState t a.sectors c)
+          (λ c. IsInside a.sectors c → LogsBetween s t a.sectors c)
+          (λ c says inside. elim (says (λ place i out. inside (log_slice place) i out)) [
+            | inl old ↦ record { state = s; later = after_same s; sooner = book; says = old }
+            | inr new ↦ record { state = t; later = book; sooner = after_same t; says = new }
+          ])
+          (commit_says s t gone l on call.takes a kept copies call.brings call.own never call.are_left call.ready.room call.place call.was call.left call.now
+          lost b call.commit call.ready call.decides traced);
+      holds =
+          commit_holds s t gone l on call.takes a kept copies call.brings call.own never call.are_left call.ready.room call.place call.was call.left call.now
+          lost b call.commit call.ready call.decides;
+    }
 
 -- By the old state it is as it was, by the new one as the targets restate it.
 pub commit_moment : (s t : State) (durable noted : Shape) (vary marked : Bool) (view : View) (vals : ℕ → Values) (spent gone : ℕ → Bool) (v : Raid) (l : LogView) (on lost : List ℕ) (a b : Seen) (n : ℕ) (c : Image)
@@ -278,15 +307,38 @@ marks_stood s t durable noted vary marked view vals spent gone v w l on lost a b
       };
     }
 
+-- At each moment the array has its frame.
+frame_moment : (g : Frame) (s t : State) (durable noted : Shape) (marked : Bool) (view : View) (vals : ℕ → Values) (spent gone : ℕ → Bool) (v : Raid) (l : LogView) (on lost : List ℕ) (a b : Seen) (n : ℕ) (c : Image)
+    → n < 16 → MarksCall s t gone l on lost a b → Restates t noted marked view l.added a n
+    → frame_of view.truth ≡ g → frame_of (v.arrays n).truth ≡ g
+    → Stood s durable vals spent gone v a n → IsInside a.sectors c → Commits l.added a c → HasFrame g n (replayed a.sectors c)
+frame_moment g s t durable noted marked view vals spent gone v l on lost a b n c few call restates now was stood inside commits =
+    let before = commits.before in
+    let picks = before_inside l.added a c before inside commits.stands commits.either in
+    let r : Image = replayed a.sectors c in
+    elim commits.either [
+      | inl old ↦
+          let e : Image = replayed a.sectors before in
+          frame_same g n r e (alike_state r e old) (alike_agree n r e few old) (left_frame g s durable vals spent gone v a n before was stood picks)
+      | inr new ↦
+          let e : Image = put a.sectors l.added before in
+          known_frame g n t r e
+          (alike_state r e new
+          ∙ joined_state s t l.number gone on call.takes l.added a before call.place stood.log.logs stood.log.copies call.brings (stands_of before picks)
+          (stood.log.few call.place call.was) (stood.log.there call.place call.was call.left) call.was call.left call.now)
+          (alike_agree n r e few new)
+          (λ u truth. fields_frame u view.truth (restates.truth before picks u truth) ∙ now)
+    ]
+
 -- The whole of it: it gives its values at each moment too.
 pub marks_part : (s t : State) (durable noted : Shape) (vary marked : Bool) (view : View) (vals : ℕ → Values) (spent gone : ℕ → Bool) (v w : Raid) (l : LogView) (on lost : List ℕ) (a b : Seen) (n : ℕ)
     → n < 16 → IsAfter s t → l.number ≡ v.number → w.number ≡ next_number l.number → n < t.joined → t.joined < 17
     → MarksCall s t gone l on lost a b → Restates t noted marked view l.added a n → IsSettled noted n a.held
     → HoldsShape s n durable noted (v.arrays n).resync vary vals spent a
-    → NotesLost (w.arrays n) noted (v.arrays n).resync marked view lost n
+    → NotesLost (w.arrays n) noted (v.arrays n).resync marked view lost n → frame_of view.truth ≡ frame_of (v.arrays n).truth
     → ((y : ℕ) → spent y ≡ false → value_by (lowered (names lost) noted) (current_in b.held) n y ≡ value_by noted (current_in b.held) n y)
     → Part s t durable noted vals vals spent gone (gone_with gone lost) v w a b n
-marks_part s t durable noted vary marked view vals spent gone v w l on lost a b n few book number number_now joined arrays call restates settled holds notes same =
+marks_part s t durable noted vary marked view vals spent gone v w l on lost a b n few book number number_now joined arrays call restates settled holds notes framed same =
     record {
       stays = call.commit.stays;
       book = book;
@@ -300,4 +352,15 @@ marks_part s t durable noted vary marked view vals spent gone v w l on lost a b 
           ])
           (call.commit.stops traced call.ready call.decides);
       holds = marks_stood s t durable noted vary marked view vals spent gone v w l on lost a b n few number number_now joined arrays call restates settled holds notes same;
+      logs = λ copies stood. logs_commit s t gone l on lost a b call book (subst (λ k. LogKept s k gone a) (sym number) stood.log) copies;
+      frame = λ g before stood. record {
+        leaves = λ traced.
+            leaves_weaker (λ c. LogsInside a.sectors c → Commits l.added a c)
+            (λ c. IsInside a.sectors c → HasFrame g n (replayed a.sectors c))
+            (λ c commits inside.
+            frame_moment g s t durable noted marked view vals spent gone v l on lost a b n c few call restates (framed ∙ before) before stood inside
+            (commits (λ place i out. inside (log_slice place) i out)))
+            (call.commit.stops traced call.ready call.decides);
+        after = ap frame_of notes.truth ∙ framed ∙ before;
+      };
     }

@@ -13,7 +13,11 @@ use Rattle.array_model.specs.View.{HasFault}
 use Rattle.raid_rack.specs.Book.{IsAfter, after_same, after_then}
 use Rattle.raid_rack.specs.Raid.{Raid, is_left}
 use Rattle.array_model.specs.ArrayCalls.{Covers}
+use Rattle.raid_rack.specs.Frames.{frame_of}
+use Rattle.raid_rack.specs.Logs.{KeepsLogs}
 use Rattle.raid_rack.specs.Marking.{SaysBetween}
+use Rattle.raid_rack.proofs.Frames.{frame_still, frame_then}
+use Rattle.raid_rack.proofs.Logs.{logs_still, logs_then}
 use Rattle.raid_rack.proofs.Rows.{clear_same, rows_still}
 use Rattle.raid_rack.specs.Rows.{rows_then}
 use Rattle.raid_rack.specs.Losing.{arrays_then, only_same}
@@ -23,19 +27,22 @@ use Rattle.raid_rack.specs.Moves.{IsSet, IsAmid, KeepsMarked, PartOf, AreCaused,
 
 -- where nothing is called, an array that stands after it is all that is owed
 pub part_still : (v w : Raid) (x : Seen) (n : ℕ) (vals : ℕ → Values) (spent : ℕ → Bool)
-    → (IsAmid v x n vals spent → IsAmid w x n vals spent) → PartOf v w x x n vals vals spent
-part_still v w x n vals spent holds =
+    → w.state ≡ v.state → frame_of (w.arrays n).truth ≡ frame_of (v.arrays n).truth → (IsAmid v x n vals spent → IsAmid w x n vals spent)
+    → PartOf v w x x n vals vals spent
+part_still v w x n vals spent same framed holds =
     record {
       leaves = λ traced. leaves_same x (λ c. IsInside x.sectors c → IsAmid v x n vals spent → SaysBetween v.state w.state n vals spent (replayed x.sectors c));
       holds = holds;
+      logs = λ copies amid. subst (λ (s : State). KeepsLogs v.state s x x) (sym same) (logs_still v.state x copies);
+      frame = λ g before amid. frame_still g n (w.arrays n) x (framed ∙ before);
     }
 
 pub parts_then : (v w z : Raid) (a b c : Seen) (n : ℕ) (vals now late : ℕ → Values) (spent : ℕ → Bool)
-    → Stays a b → Moves w z b c
+    → Stays a b → IsAfter v.state w.state → Moves w z b c
     → ((i : Image) → SaysBetween v.state w.state n now spent (replayed a.sectors i) → SaysBetween v.state z.state n late spent (replayed a.sectors i))
     → ((i : Image) → SaysBetween w.state z.state n late spent (replayed a.sectors i) → SaysBetween v.state z.state n late spent (replayed a.sectors i))
     → PartOf v w a b n vals now spent → PartOf w z b c n now late spent → PartOf v z a c n vals late spent
-parts_then v w z a b c n vals now late spent stays moves early late_says one two =
+parts_then v w z a b c n vals now late spent stays book moves early late_says one two =
     record {
       leaves = λ traced.
           leaves_then
@@ -54,6 +61,12 @@ parts_then v w z a b c n vals now late spent stays moves early late_says one two
           (says (λ d t out. inside d t (subst (λ k. k ≤ t) (stays.sectors d) out)) (one.holds amid))))
           (two.leaves (stays.traced traced)));
       holds = λ amid. two.holds (one.holds amid);
+      logs = λ copies amid.
+          let first = one.logs copies amid in
+          logs_then v.state w.state z.state a b c book moves.book stays first (two.logs first.holds (one.holds amid));
+      frame = λ g before amid.
+          let first = one.frame g before amid in
+          frame_then g n (w.arrays n) (z.arrays n) a b c stays first (two.frame g first.after (one.holds amid));
     }
 
 -- contents that say an array by a state between two, say it by one between more
@@ -101,7 +114,7 @@ moves_same v x set =
       counted = λ n m sector made among counts. among;
       unwritten = λ d t live gone. keeps_same (x.held d t);
       kept = λ d t live apart other. keeps_same (x.held d t);
-      parts = λ n vals spent joined made goes covers. part_still v v x n vals spent (λ amid. amid);
+      parts = λ n vals spent joined made goes covers. part_still v v x n vals spent refl refl (λ amid. amid);
       rows = λ n vals spent joined made goes covers amid rows. rows_still v v x n (clear_same (v.arrays n) (v.arrays n) refl) rows;
     }
 
@@ -127,7 +140,7 @@ moves_then v w z a b c one two =
       kept = λ d t live apart other.
           keeps_then (a.held d t) (b.held d t) (c.held d t) (one.kept d t (live_first two.stays live) apart other) (two.kept d t (live_second one.stays live) apart other);
       parts = λ n vals spent joined made goes covers.
-          parts_then v w z a b c n vals vals vals spent one.stays two
+          parts_then v w z a b c n vals vals vals spent one.stays one.book two
           (λ i says. says_sooner v.state w.state z.state n vals spent (replayed a.sectors i) two.book says)
           (λ i says. says_later v.state w.state z.state n vals spent (replayed a.sectors i) one.book says)
           (one.parts n vals spent joined made (two.still n (still_made n made) goes) (λ y alive. two.spent n y (still_made n made) (covers y alive)))
@@ -190,7 +203,7 @@ brings_then v w z a b c now one two =
       still = λ n made over. one.still n made (two.still n (still_made n made) over);
       spent = λ n y made alive. one.spent n y made (two.spent n y (still_made n made) alive);
       parts = λ n vals spent joined made goes covers.
-          parts_then v w z a b c n vals (now n vals) (now n vals) spent one.stays two
+          parts_then v w z a b c n vals (now n vals) (now n vals) spent one.stays one.book two
           (λ i says. says_sooner v.state w.state z.state n (now n vals) spent (replayed a.sectors i) two.book says)
           (λ i says. says_later v.state w.state z.state n (now n vals) spent (replayed a.sectors i) one.book says)
           (one.parts n vals spent joined made (two.still n (still_made n made) goes) (λ y alive. two.spent n y (still_made n made) (covers y alive)))

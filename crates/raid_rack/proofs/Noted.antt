@@ -30,6 +30,7 @@ use Rattle.array_model.proofs.Noting.{laid_out, unspent_then}
 use Rattle.array_core.specs.Seats.{names, gone, heeded}
 use Rattle.array_core.specs.Superblocks.{is_settled}
 use Rattle.raid_rack.specs.Book.{after_same}
+use Rattle.raid_rack.specs.Frames.{frame_of}
 use Rattle.raid_rack.specs.Raid.{Raid, AreLive, gone_in, is_left, is_over, IsWritten}
 use Rattle.raid_rack.specs.Moves.{IsSet, IsSeated, IsMarkedWhole, AreMarked, IsAmid, Brings, Moves}
 use Rattle.raid_rack.proofs.Own.{look_nothing}
@@ -260,7 +261,7 @@ moves_noted lost v f x set noting went sectors =
           (subst (λ (shape : Shape). Among m shape.members) (noted_losing lost v f n noting low (set.arrays n low).is_array).shape among) counts;
       unwritten = λ d t live gone. keeps_same (x.held d t);
       kept = λ d t live apart other. keeps_same (x.held d t);
-      parts = λ n vals spent joined low goes covers. part_still v (with_arrays v f) x n vals spent (noted_amid lost v f x n vals spent set noting low goes covers);
+      parts = λ n vals spent joined low goes covers. part_still v (with_arrays v f) x n vals spent refl (ap (λ (u : View). frame_of u.truth) (noting.arrays n low)) (noted_amid lost v f x n vals spent set noting low goes covers);
       rows = λ n vals spent joined low goes covers amid rows. rows_still v (with_arrays v f) x n (noted_clear lost (v.arrays n) (f n) (noting.arrays n low)) rows;
     }
 
@@ -287,7 +288,7 @@ noted_brings lost v f x set noting sectors =
       }) n low goes;
       spent = λ n y low alive.
           losing_spent (v.arrays n) (f n) (names lost) (set.arrays n low).is_array (noted_losing lost v f n noting low (set.arrays n low).is_array) y alive;
-      parts = λ n vals spent joined low goes covers. part_still v (with_arrays v f) x n vals spent (noted_amid lost v f x n vals spent set noting low goes covers);
+      parts = λ n vals spent joined low goes covers. part_still v (with_arrays v f) x n vals spent refl (ap (λ (u : View). frame_of u.truth) (noting.arrays n low)) (noted_amid lost v f x n vals spent set noting low goes covers);
       rows = λ n vals spent unwritten joined low goes covers amid rows. rows_still v (with_arrays v f) x n (noted_clear lost (v.arrays n) (f n) (noting.arrays n low)) rows;
     }
 
@@ -415,6 +416,6 @@ moves_heeded v f x set arrays sectors are =
           subst (λ (shape : Shape). Among m shape.members) (ap shape_of (arrays n low) ∙ heeded_shape (v.arrays n)) among;
       unwritten = λ d t live gone. keeps_same (x.held d t);
       kept = λ d t live apart other. keeps_same (x.held d t);
-      parts = λ n vals spent joined low goes covers. part_still v (with_arrays v f) x n vals spent (heeded_amid v f x n vals spent set arrays are low);
+      parts = λ n vals spent joined low goes covers. part_still v (with_arrays v f) x n vals spent refl (ap (λ (u : View). frame_of u.truth) (arrays n low)) (heeded_amid v f x n vals spent set arrays are low);
       rows = λ n vals spent joined low goes covers amid rows. rows_still v (with_arrays v f) x n (heeded_clear (v.arrays n) (f n) (arrays n low)) rows;
     }

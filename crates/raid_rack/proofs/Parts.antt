@@ -7,11 +7,12 @@ use Rattle.rack.specs.Targets.{Target, look}
 use Rattle.pool_state.specs.declared.contents.State.{State}
 use Rattle.array_image.specs.Places.{log_slice, member_slice}
 use Rattle.array_image.specs.States.{state_in, is_current}
-use Rattle.array_image.specs.Arrays.{Shape, replayed}
+use Rattle.array_image.specs.Arrays.{Shape, replayed, shape_in}
 use Rattle.array_image.specs.Left.{IsInside, IsCalm, IsApart}
 use Rattle.array_image.proofs.Frames.{Agree, state_same}
 use Rattle.array_image.proofs.Replays.{replayed_as_is}
 use Rattle.commit_log.specs.Kept.{LogKept}
+use Rattle.commit_log.specs.Saying.{HoldsCopies}
 use Rattle.commit_log.proofs.Kept.{stands_of, kept_replayed, kept_idle}
 use Rattle.array_model.specs.View.{View}
 use Rattle.array_model.specs.Says.{Says, Holds}
@@ -20,9 +21,13 @@ use Rattle.array_model.proofs.Moves.{Moves as CallMoves, moves_by, moves_of}
 use Rattle.array_model.proofs.Others.{other_holds_all}
 use Rattle.raid_rack.specs.Book.{after_same, after_then}
 use Rattle.raid_rack.specs.Raid.{Raid, Stood, IsWritten}
+use Rattle.raid_rack.specs.Frames.{Frame, HasFrame, KeepsFrame, frame_of}
+use Rattle.raid_rack.specs.Logs.{KeepsLogs}
 use Rattle.raid_rack.specs.Marking.{SaysBetween, Part}
 use Rattle.raid_rack.specs.Laws.{stood_left}
-use Rattle.raid_rack.proofs.Own.{look_nothing, says_at, says_same}
+use Rattle.raid_rack.proofs.Frames.{frame_same, frame_then, left_frame, shape_frame, shaped_frame}
+use Rattle.raid_rack.proofs.Logs.{kept_calm, logs_call, logs_then}
+use Rattle.raid_rack.proofs.Own.{says_at, says_same}
 
 -- two parts in a row are one
 pub part_then : (s t u : State) (first durable after : Shape) (vals now : ℕ → Values) (spent gone gone_now gone_after : ℕ → Bool) (v w z : Raid) (a b c : Seen) (n : ℕ)
@@ -52,6 +57,12 @@ part_then s t u first durable after vals now spent gone gone_now gone_after v w 
           record { state = at.state; is_state = at.is_state; later = after_then s t at.state one.book at.later; sooner = at.sooner; shape = at.shape; says = at.says }))
           (two.leaves (one.stays.traced traced)));
       holds = λ stood. two.holds (one.holds stood);
+      logs = λ copies stood.
+          let first = one.logs copies stood in
+          logs_then s t u a b c one.book two.book one.stays first (two.logs first.holds (one.holds stood));
+      frame = λ g before stood.
+          let first = one.frame g before stood in
+          frame_then g n (w.arrays n) (z.arrays n) a b c one.stays first (two.frame g first.after (one.holds stood));
     }
 
 -- ---- a call of the array itself
@@ -67,33 +78,58 @@ turned_state s durable vals spent gone v a b n m P c stood turns =
     ∙ turns.left.2 (log_slice place) 0)
     ∙ kept_replayed s v.number gone a before stood.someone.0 stood.log (stands_of before turns.left.1) stood.someone.1 stood.someone.2
 
--- contents say an array whose sectors hold these values, by some shape
-pub record SaysSome (s : State) (n : ℕ) (vals : ℕ → Values) (spent : ℕ → Bool) (r : Image) : Type 0 where
+-- contents say an array whose sectors hold these values, by some shape of this frame
+pub record SaysSome (s : State) (n : ℕ) (g : Frame) (vals : ℕ → Values) (spent : ℕ → Bool) (r : Image) : Type 0 where
   pub shape : Shape
   pub says : Says s n shape vals spent r
+  pub framed : shape_frame shape ≡ g
 
 -- a call of an array, in which contents say its values
 pub acts_some : (s : State) (v w : View) (spent : ℕ → Bool) (a b : Seen) (durable : Shape) (vals now : ℕ → Values)
     → Acts s v w spent a b durable vals (Says s v.number durable now spent) durable now
-    → CallMoves v.number a b (Holds s durable v vals spent a) (SaysSome s v.number now spent) (Holds s durable w now spent b)
+    → CallMoves v.number a b (Holds s durable v vals spent a) (SaysSome s v.number (shape_frame durable) now spent) (Holds s durable w now spent b)
 acts_some s v w spent a b durable vals now acts =
     let H : Type 0 = Holds s durable v vals spent a in
     let Q : Type 0 = Holds s durable w now spent b in
-    moves_by v.number a b H H Q Q (Says s v.number durable now spent) (SaysSome s v.number now spent)
-    (λ holds. holds) (λ r says. record { shape = durable; says = says }) (λ holds. holds)
+    moves_by v.number a b H H Q Q (Says s v.number durable now spent) (SaysSome s v.number (shape_frame durable) now spent)
+    (λ holds. holds) (λ r says. record { shape = durable; says = says; framed = refl }) (λ holds. holds)
     (moves_of s v w spent a b durable vals (Says s v.number durable now spent) durable now acts)
 
+-- Such a call keeps the array's frame, where its shape has it.
+pub frame_by : (s : State) (shaped g : Frame) (durable : Shape) (vals now : ℕ → Values) (spent gone : ℕ → Bool) (v : Raid) (w : View) (a b : Seen) (n : ℕ) (Q : Type 0)
+    → CallMoves (v.arrays n).number a b (Holds s durable (v.arrays n) vals spent a) (SaysSome s (v.arrays n).number shaped now spent) Q
+    → shaped ≡ g → frame_of w.truth ≡ g → Stood s durable vals spent gone v a n → KeepsFrame g n w a b
+frame_by s shaped g durable vals now spent gone v w a b n Q moves same after stood =
+    let H : Type 0 = Holds s durable (v.arrays n) vals spent a in
+    let P : Image → Type 0 = SaysSome s (v.arrays n).number shaped now spent in
+    record {
+      leaves = λ traced.
+          leaves_weaker
+          (λ c. IsInside a.sectors c → Turns (v.arrays n).number a b (λ r. H → P r) c)
+          (λ c. IsInside a.sectors c → HasFrame g n (replayed a.sectors c))
+          (λ c turn inside.
+          let turns = turn inside in
+          let own = turns.own stood.holds in
+          shaped_frame g s n own.shape (replayed a.sectors c)
+          (turned_state s durable vals spent gone v a b n (v.arrays n).number (λ r. H → P r) c stood turns)
+          (subst (λ k. shape_in s (replayed a.sectors c) k ≡ Some own.shape) stood.number own.says.shape_is) (own.framed ∙ same))
+          (moves.leaves traced);
+      after = after;
+    }
+
 -- Such a call is a part for the array itself.
-pub part_by : (s : State) (durable after : Shape) (vals now : ℕ → Values) (spent gone gone_now : ℕ → Bool) (v w : Raid) (a b : Seen) (n : ℕ)
-    → CallMoves (v.arrays n).number a b (Holds s durable (v.arrays n) vals spent a) (SaysSome s (v.arrays n).number now spent) (Holds s after (w.arrays n) now spent b)
+pub part_by : (s : State) (shaped : Frame) (durable after : Shape) (vals now : ℕ → Values) (spent gone gone_now : ℕ → Bool) (v w : Raid) (a b : Seen) (n : ℕ)
+    → CallMoves (v.arrays n).number a b (Holds s durable (v.arrays n) vals spent a) (SaysSome s (v.arrays n).number shaped now spent) (Holds s after (w.arrays n) now spent b)
     → (w.arrays n).number ≡ (v.arrays n).number
     → (LogKept s v.number gone a → LogKept s w.number gone_now b)
     → ((place : ℕ) × (is_current s place ≡ true) × (gone_now place ≡ false))
     → (IsWritten (v.arrays n) → IsWritten (w.arrays n))
+    → (HoldsCopies s a → Stood s durable vals spent gone v a n → KeepsLogs s s a b)
+    → ((g : Frame) → frame_of (v.arrays n).truth ≡ g → Stood s durable vals spent gone v a n → KeepsFrame g n (w.arrays n) a b)
     → Part s s durable after vals now spent gone gone_now v w a b n
-part_by s durable after vals now spent gone gone_now v w a b n moves number log someone written =
+part_by s shaped durable after vals now spent gone gone_now v w a b n moves number log someone written logs frame =
     let H : Type 0 = Holds s durable (v.arrays n) vals spent a in
-    let P : Image → Type 0 = SaysSome s (v.arrays n).number now spent in
+    let P : Image → Type 0 = SaysSome s (v.arrays n).number shaped now spent in
     record {
       stays = moves.stays;
       book = after_same s;
@@ -118,6 +154,8 @@ part_by s durable after vals now spent gone gone_now v w a b n moves number log 
             written = written stood.written;
             holds = moves.holds stood.holds;
           };
+      logs = logs;
+      frame = frame;
     }
 
 pub part_own : (s : State) (durable : Shape) (vals now : ℕ → Values) (spent gone gone_now : ℕ → Bool) (v w : Raid) (a b : Seen) (n : ℕ)
@@ -125,19 +163,14 @@ pub part_own : (s : State) (durable : Shape) (vals now : ℕ → Values) (spent 
     → (LogKept s v.number gone a → LogKept s w.number gone_now b)
     → ((place : ℕ) × (is_current s place ≡ true) × (gone_now place ≡ false))
     → (IsWritten (v.arrays n) → IsWritten (w.arrays n))
+    → (HoldsCopies s a → Stood s durable vals spent gone v a n → KeepsLogs s s a b)
+    → ((g : Frame) → frame_of (v.arrays n).truth ≡ g → Stood s durable vals spent gone v a n → KeepsFrame g n (w.arrays n) a b)
     → Part s s durable durable vals now spent gone gone_now v w a b n
-part_own s durable vals now spent gone gone_now v w a b n acts log someone written =
-    part_by s durable durable vals now spent gone gone_now v w a b n (acts_some s (v.arrays n) (w.arrays n) spent a b durable vals now acts) acts.noted.same.number
-    log someone written
+part_own s durable vals now spent gone gone_now v w a b n acts log someone written logs frame =
+    part_by s (shape_frame durable) durable durable vals now spent gone gone_now v w a b n (acts_some s (v.arrays n) (w.arrays n) spent a b durable vals now acts) acts.noted.same.number
+    log someone written logs frame
 
 -- ---- a call of another array
-
--- where all current places are left, nothing is pending for other arrays
-pub kept_calm : (s : State) (number : ℕ) (gone : ℕ → Bool) (x : Seen) (m : ℕ) → LogKept s number gone x
-    → ((p : ℕ) → is_current s p ≡ true → gone p ≡ false) → IsCalm m x
-kept_calm s number gone x m kept all c picks d t apart =
-    replayed_as_is x.sectors c d t
-    (ap (λ (xs : List Target). look xs d t) (kept_idle s number gone x c kept picks all) ∙ look_nothing d t)
 
 -- the slices of another array are apart
 other_slices : (m n place t : ℕ) → m < 16 → n < 16 → (n ≡ m → ⊥) → IsApart m (member_slice place n) t
@@ -186,4 +219,24 @@ part_other s durable vals spent gone gone_now v w a b n m H Q during few also ot
                 (other_holds_all (v.arrays m).number (v.arrays n) (subst (λ k. k < 16) (sym number) few) (subst (λ k. k < 16) (sym stood.number) also)
                 (λ is. other (sym stood.number ∙ is ∙ number)) lasting acts.stays acts.apart calm (acts.calm calm) s durable vals spent stood.holds);
           };
+      logs = λ copies stood. logs_call s v.number gone (v.arrays m).number a b H Q during lasting all acts stood.log stood.someone copies;
+      frame = λ g framed stood. record {
+        leaves = λ traced.
+            leaves_weaker
+            (λ c. IsInside a.sectors c → Turns (v.arrays m).number a b (λ r. H → during r) c)
+            (λ c. IsInside a.sectors c → HasFrame g n (replayed a.sectors c))
+            (λ c turn inside.
+            let turns = turn inside in
+            let before = turns.left.0 in
+            let agree : Agree n (replayed a.sectors c) (replayed a.sectors before) =
+            λ place t.
+            turns.others (member_slice place n) t (subst (λ k. IsApart k (member_slice place n) t) (sym number) (other_slices m n place t few also other))
+            ∙ turns.left.2 (member_slice place n) t in
+            let state =
+            turned_state s durable vals spent gone v a b n (v.arrays m).number (λ r. H → during r) c stood turns
+            ∙ sym (stood_left s durable vals spent gone v a n before stood turns.left.1).0 in
+            frame_same g n (replayed a.sectors c) (replayed a.sectors before) state agree (left_frame g s durable vals spent gone v a n before framed stood turns.left.1))
+            (acts.leaves traced);
+        after = ap (λ (u : View). frame_of u.truth) same ∙ framed;
+      };
     }

@@ -18,6 +18,8 @@ use Rattle.array_model.proofs.Keeping.{keeping_calls}
 use Rattle.array_model.proofs.Losses.{IsLosing, losing_holds}
 use Rattle.raid_rack.specs.Raid.{Raid, Stood, IsWritten}
 use Rattle.raid_rack.specs.Marking.{Part}
+use Rattle.raid_rack.proofs.Frames.{frame_read, geometry_frame}
+use Rattle.raid_rack.proofs.Logs.{logs_read}
 use Rattle.raid_rack.proofs.Parts.{part_own}
 
 -- the log after calls that write nothing, in which places may have gone
@@ -37,6 +39,10 @@ pub part_read : (s : State) (durable : Shape) (vals : ℕ → Values) (spent gon
     → Part s s durable durable vals vals spent gone now v w a b n
 part_read s durable vals spent gone now v w a b n lasting reads same more someone written kept =
     part_own s durable vals vals spent gone now v w a b n kept (log_after s gone now v w a b lasting reads same more) someone written
+    (λ copies stood. logs_read s v.number gone a b lasting reads.stays reads.keeps stood.log stood.someone copies)
+    (λ g framed stood.
+    frame_read g s durable vals spent gone v (w.arrays n) a b n lasting reads.stays reads.keeps framed
+    (geometry_frame (v.arrays n).truth (w.arrays n).truth kept.noted.same.geometry ∙ framed) stood)
 
 -- and every other one
 pub part_unread : (s : State) (durable : Shape) (vals : ℕ → Values) (spent gone now : ℕ → Bool) (v w : Raid) (a b : Seen) (n : ℕ)

@@ -226,6 +226,7 @@ has_rebuilt a all log x y n place on number old u answered running heeded low ha
       on_is = on_is;
       few = λ p is. low_named u.went p few (sym (ap (λ (z : View). has_gone z p) own) ∙ is);
       is_next = next_rebuilt a.state n (v.arrays n) x place seated has;
+      framed = refl;
       rows = omega arith;
       young = refl;
       whole = whole;

@@ -225,6 +225,7 @@ has_resynced a all log x y n on number old u answered running heeded low row old
       on_is = on_is;
       few = λ p is. low_named u.went p few (sym (ap (λ (z : View). has_gone z p) own) ∙ is);
       is_next = next_resynced a.state n (v.arrays n) x seated row;
+      framed = refl;
       rows = omega arith;
       young = refl;
       whole = offset_whole (v.arrays n) (nat_lt ((v.arrays n).resync + 1) (rows_of (v.arrays n))) refl;

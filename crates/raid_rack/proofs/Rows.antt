@@ -112,7 +112,7 @@ rows_read v w a b n lasting reads clear rows = record {
   later = let same = clear.resync in omega (arith, same);
   leaves = λ traced.
       leaves_weaker (IsPick a b a.held) (λ c. IsInside a.sectors c → LeavesFrom (v.arrays n).resync n (replayed a.sectors c))
-      (λ c pick inside. rows.images (replayed a.sectors c) (pick_before lasting reads.stays c inside pick)) (reads.keeps.stops traced);
+      (λ c pick inside. rows.images (replayed a.sectors c) (c, pick_before lasting reads.stays c inside pick, λ d t. refl)) (reads.keeps.stops traced);
   after = rows_after v w a b n clear rows (λ r left. rows.images r (left_before lasting reads.stays (λ d t live. reads.keeps.held d t live) r left));
 }
 

@@ -9,6 +9,7 @@ use Rattle.rack.specs.Calls.{Reads, Syncs, Writes}
 use Rattle.rack.proofs.Writing.{appended_elsewhere}
 use Rattle.array_image.proofs.Sources.{held_single}
 use Rattle.commit_log.proofs.Deciding.{names_first}
+use Rattle.commit_log.proofs.Saying.{kept_holds}
 use Rattle.array_image.specs.States.{is_current}
 use Rattle.array_core.specs.Seats.{gone}
 use Rattle.array_model.specs.View.{View, shape_of, sectors_of as array_sectors}
@@ -17,6 +18,7 @@ use Rattle.raid_rack.specs.declared.arrays.Arrays.{Arrays}
 use Rattle.raid_rack.specs.Raid.{Raid, is_over, live_of, spent_of, held_in, StopsInside, raid_of}
 use Rattle.raid_rack.specs.Acts.{RaidActs}
 use Rattle.raid_rack.specs.Moves.{AreCaused, Brings, KeepsArrays, Mends, Moves, ReadsValue, SyncsOne, WritesOne, noted_at, written_at}
+use Rattle.raid_rack.specs.Frames.{frame_of}
 use Rattle.raid_rack.specs.Runs.{RaidRuns}
 use Rattle.raid_rack.specs.Truths.{KeepsTruths}
 use Rattle.raid_rack.specs.RaidRack.{IsFit, IsRunning, KeepsRack, raid_by}
@@ -216,6 +218,30 @@ runs_call p q a b x y now unwritten fit after inside brings cause truths =
                   shape_is = at.says.shape_is;
                   is_sound = at.says.is_sound;
                 };
+          };
+      logs = λ n told goes traced.
+          let all = brings.leaves traced in
+          let amid = before_amid v w x y vals call n told goes in
+          let holds = kept_holds v.state v.number x (told.stood (call.still n goes)).log in
+          record {
+            later = all.later;
+            kept = all.kept;
+            past = all.past;
+            new = λ k c after until stopped.
+                (((call.parts n told.joined goes).logs holds amid).leaves traced).new k c after until stopped
+                (λ d t out. inside k c stopped d t (subst (λ i. i ≤ t) (sym (brings.stays.sectors d)) out));
+          };
+      framed = λ n told goes. ((call.parts n told.joined goes).frame (frame_of (v.arrays n).truth) refl (before_amid v w x y vals call n told goes)).after;
+      frames = λ n told goes traced.
+          let all = brings.leaves traced in
+          let amid = before_amid v w x y vals call n told goes in
+          record {
+            later = all.later;
+            kept = all.kept;
+            past = all.past;
+            new = λ k c after until stopped.
+                (((call.parts n told.joined goes).frame (frame_of (v.arrays n).truth) refl amid).leaves traced).new k c after until stopped
+                (λ d t out. inside k c stopped d t (subst (λ i. i ≤ t) (sym (brings.stays.sectors d)) out));
           };
     }
 

@@ -39,6 +39,8 @@ use Rattle.raid_rack.proofs.Parts.{SaysSome, turned_state}
 use Rattle.raid_rack.proofs.Rows.{clear_seats, rows_read, settled_rows}
 use Rattle.raid_rack.proofs.Views.{IsNext, next_same, next_shape, views_next}
 use Rattle.raid_rack.proofs.Whole.{heeded_gone}
+use Rattle.raid_rack.specs.Frames.{frame_of}
+use Rattle.raid_rack.proofs.Frames.{shape_frame, view_frame}
 use Rattle.raid_rack.proofs.Written.{ActsOne, may_commit, one_brings, opened, own_part}
 
 -- what was noted, by the array as it was or as the step made it
@@ -56,6 +58,7 @@ pub record StepCall (v : Raid) (f : ℕ → View) (next : View) (number m : ℕ)
   pub on_is : on ≡ current_places v.state
   pub few : (p : ℕ) → has_gone (f m) p ≡ true → p < 16
   pub is_next : IsNext v.state m (v.arrays m) next a
+  pub framed : frame_of next.truth ≡ frame_of (v.arrays m).truth
   pub rows : (v.arrays m).resync ≤ next.resync
   pub young : next.young ≡ (v.arrays m).young
   pub whole : (next.truth.resync_offset ≡ 2 ^ 64 - 1) ⊎ (next.truth.resync_offset % 128 ≡ 0)
@@ -96,6 +99,10 @@ module _ (v : Raid) (f : ℕ → View) (next : View) (number m : ℕ) (a b : See
   is_next : (d : Bool) → IsNext v.state m (v.arrays m) (if_done d (v.arrays m) next) a
   is_next true = call.is_next
   is_next false = next_same v.state m (v.arrays m) a (set.arrays m call.low)
+
+  frame_if : (d : Bool) → frame_of (if_done d (v.arrays m) next).truth ≡ frame_of (v.arrays m).truth
+  frame_if true = call.framed
+  frame_if false = refl
 
   shape_if : (d : Bool) → shape_of (if_done d (v.arrays m) next) ≡ if_done d (shape_of (v.arrays m)) (shape_of next)
   shape_if true = refl
@@ -138,17 +145,17 @@ module _ (v : Raid) (f : ℕ → View) (next : View) (number m : ℕ) (a b : See
   Held vals spent = Holds v.state (shape_of (v.arrays m)) (v.arrays m) vals spent a
 
   step_acts : (vals : ℕ → Values) (spent : ℕ → Bool) → Covers (f m) spent → MayStep v.state (v.arrays m) next (f m) v.number on a
-      → CallMoves (v.arrays m).number a b (Held vals spent) (SaysSome v.state (v.arrays m).number vals spent)
+      → CallMoves (v.arrays m).number a b (Held vals spent) (SaysSome v.state (v.arrays m).number (shape_frame (shape_of (v.arrays m))) vals spent)
       (Holds v.state (if_done call.steps.is_done (shape_of (v.arrays m)) (shape_of next)) (f m) vals spent b)
   step_acts vals spent covers able =
       let moving = call.steps.moving v.state vals spent covers able in
       let H = Held vals spent in
       let Q : Type 0 = Holds v.state (if_done call.steps.is_done (shape_of (v.arrays m)) (shape_of next)) (f m) vals spent b in
-      moves_by (v.arrays m).number a b H H Q Q (Either vals spent) (SaysSome v.state (v.arrays m).number vals spent)
+      moves_by (v.arrays m).number a b H H Q Q (Either vals spent) (SaysSome v.state (v.arrays m).number (shape_frame (shape_of (v.arrays m))) vals spent)
       (λ holds. holds)
       (λ r either. elim either [
-        | inl old ↦ record { shape = shape_of (v.arrays m); says = old.0 }
-        | inr new ↦ record { shape = shape_of next; says = new.0 }
+        | inl old ↦ record { shape = shape_of (v.arrays m); says = old.0; framed = refl }
+        | inr new ↦ record { shape = shape_of next; says = new.0; framed = view_frame next ∙ call.framed ∙ sym (view_frame (v.arrays m)) }
       ])
       (λ holds. holds)
       (record { stays = moving.stays; leaves = moving.leaves; holds = moving.holds; apart = moving.apart; calm = moving.calm })
@@ -158,6 +165,7 @@ module _ (v : Raid) (f : ℕ → View) (next : View) (number m : ℕ) (a b : See
     heeded = call.heeded;
     views = views;
     shape = after_marked;
+    frame = ap frame_of notes.same.truth ∙ frame_if call.steps.is_done;
     goes = call.goes;
     later = call.later;
     able = may_step;

@@ -24,6 +24,8 @@ use Rattle.raid_rack.specs.Agreeing.{MakesAgree}
 use Rattle.raid_rack.specs.Cleaning.{NoneFails}
 use Rattle.raid_rack.specs.Settling.{SettlesTo, state_after}
 use Rattle.raid_rack.specs.Losing.{only_then}
+use Rattle.raid_rack.proofs.Frames.{frame_then}
+use Rattle.raid_rack.proofs.Logs.{logs_then}
 use Rattle.raid_rack.proofs.Losing.{only_gone}
 use Rattle.raid_rack.proofs.Over.{over_still, not_true}
 use Rattle.raid_rack.proofs.Moving.{marked_later, says_sooner, says_later}
@@ -60,6 +62,12 @@ parts_within v w z a b c n vals spent stays first second leaves one two =
                 (λ d t out. inside d t (subst (λ j. j ≤ t) (stays.sectors d) out)) (one.holds amid)));
           });
       holds = λ amid. (two amid).holds (one.holds amid);
+      logs = λ copies amid.
+          let early = one.logs copies amid in
+          logs_then v.state w.state z.state a b c first second stays early ((two amid).logs early.holds (one.holds amid));
+      frame = λ g before amid.
+          let early = one.frame g before amid in
+          frame_then g n (w.arrays n) (z.arrays n) a b c stays early ((two amid).frame g early.after (one.holds amid));
     }
 
 pub moves_commit : (u v : Raid) (lost on gone : List ℕ) (l : LogView) (xs : List Target) (f : ℕ → View) (a b c : Seen)

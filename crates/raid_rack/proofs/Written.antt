@@ -29,7 +29,10 @@ use Rattle.raid_rack.proofs.Staged.{seat_marks}
 use Rattle.raid_rack.proofs.Changed.{LosesOne, ViewsOne, called, part_if, marked_before, further, views_set, views_sectors, views_spent}
 use Rattle.raid_rack.proofs.Noted.{current_few, gone_from, gone_not}
 use Rattle.raid_rack.proofs.Over.{event_room, number_room, over_still, someone_left}
-use Rattle.raid_rack.proofs.Parts.{SaysSome, acts_some, kept_calm, part_by, part_other}
+use Rattle.raid_rack.specs.Frames.{frame_of}
+use Rattle.raid_rack.proofs.Frames.{geometry_frame, shape_frame, view_frame}
+use Rattle.raid_rack.proofs.Logs.{kept_calm, logs_call}
+use Rattle.raid_rack.proofs.Parts.{SaysSome, acts_some, frame_by, part_by, part_other}
 use Rattle.raid_rack.specs.Rows.{KeepsRows, LeavesRows}
 use Rattle.raid_rack.proofs.Rows.{rows_other}
 use Rattle.raid_rack.proofs.Seated.{missing_of, place_few}
@@ -121,12 +124,13 @@ pub record ActsOne (v : Raid) (f : ℕ → View) (number m : ℕ) (a b : Seen) (
   pub heeded : IsHeeded v
   pub views : ViewsOne v f m a b
   pub shape : AreMarked (called v f number) → after ≡ shape_of (f m)
+  pub frame : frame_of (f m).truth ≡ frame_of (v.arrays m).truth
   pub goes : Goes a b
   pub later : v.number ≤ number
   pub able : (n : ℕ) (vals : ℕ → Values) (spent : ℕ → Bool) → n < v.state.made → is_over (called v f number) n ≡ false → IsAmid v a n vals spent → Able
   pub acts :
       (vals : ℕ → Values) (spent : ℕ → Bool) → Covers (f m) spent → Able
-      → CallMoves (v.arrays m).number a b (Holds v.state (shape_of (v.arrays m)) (v.arrays m) vals spent a) (SaysSome v.state (v.arrays m).number (now vals) spent)
+      → CallMoves (v.arrays m).number a b (Holds v.state (shape_of (v.arrays m)) (v.arrays m) vals spent a) (SaysSome v.state (v.arrays m).number (shape_frame (shape_of (v.arrays m))) (now vals) spent)
       (Holds v.state after (f m) (now vals) spent b)
   pub kept : Able → LogKept v.state v.number (λ place. false) a → LogKept v.state number (gone_in (called v f number)) b
   pub elsewhere : (on : List ℕ) × ((p : ℕ) → is_current v.state p ≡ false → names on p ≡ false) × KeepsElsewhere false (v.arrays m) on a b
@@ -148,7 +152,7 @@ module _ (v : Raid) (f : ℕ → View) (number m : ℕ) (a b : Seen) (now : (ℕ
   OwnBefore own = Holds v.state (shape_of (v.arrays m)) (v.arrays m) own (spent_in (f m)) a
 
   abbrev OwnDuring : (ℕ → Values) → Image → Type 0
-  OwnDuring own = SaysSome v.state (v.arrays m).number (now own) (spent_in (f m))
+  OwnDuring own = SaysSome v.state (v.arrays m).number (shape_frame (shape_of (v.arrays m))) (now own) (spent_in (f m))
 
   abbrev OwnAfter : (ℕ → Values) → Type 0
   OwnAfter own = Holds v.state after (f m) (now own) (spent_in (f m)) b
@@ -164,9 +168,15 @@ module _ (v : Raid) (f : ℕ → View) (number m : ℕ) (a b : Seen) (now : (ℕ
         before = shape;
         after = after;
         stood = subst (λ (s : Shape). Stood v.state s vals spent (gone_in v) v a m) (amid.marked marked) amid.stood;
-        part = part_by v.state shape after vals (now vals) spent (gone_in v) (gone_in (called v f number)) v (called v f number) a b m
+        part = part_by v.state (shape_frame shape) shape after vals (now vals) spent (gone_in v) (gone_in (called v f number)) v (called v f number) a b m
             (call.acts vals spent covers able) (call.views.seated.number ∙ sym (set.arrays m call.views.low).number) (λ log. log_after able log)
-            (someone_left (called v f number) m goes) call.views.written;
+            (someone_left (called v f number) m goes) call.views.written
+            (λ copies stood.
+            logs_call v.state v.number (gone_in v) (v.arrays m).number a b (Holds v.state shape (v.arrays m) vals spent a) (Holds v.state after (f m) (now vals) spent b)
+            (SaysSome v.state (v.arrays m).number (shape_frame shape) (now vals) spent) set.lasting marked (call.acts vals spent covers able) stood.log stood.someone copies)
+            (λ g framed stood.
+            frame_by v.state (shape_frame shape) g shape vals (now vals) spent (gone_in v) v (f m) a b m (Holds v.state after (f m) (now vals) spent b)
+            (call.acts vals spent covers able) (view_frame (v.arrays m) ∙ framed) (call.frame ∙ framed) stood);
         marked = call.shape;
       })
 
@@ -291,6 +301,7 @@ write_brings v f number m a b on sector from set call =
       heeded = call.heeded;
       views = call.views;
       shape = call.loses.shape;
+      frame = geometry_frame (v.arrays m).truth (f m).truth call.loses.only.same.geometry;
       goes = call.goes;
       later = call.later;
       able = λ n vals spent below goes amid.

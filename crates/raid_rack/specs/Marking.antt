@@ -15,7 +15,10 @@ use Rattle.array_image.specs.Arrays.{Shape, shape_in, replayed}
 use Rattle.array_image.specs.Left.{IsInside, Picks}
 use Rattle.array_model.specs.View.{View}
 use Rattle.array_model.specs.Says.{Says, HasNoOthers}
+use Rattle.commit_log.specs.Saying.{HoldsCopies}
 use Rattle.raid_rack.specs.Book.{IsAfter}
+use Rattle.raid_rack.specs.Frames.{Frame, KeepsFrame, frame_of}
+use Rattle.raid_rack.specs.Logs.{KeepsLogs}
 use Rattle.raid_rack.specs.Raid.{Raid, Stood}
 
 -- the targets are copies of a state and superblocks
@@ -50,3 +53,5 @@ pub record Part (s t : State) (durable after : Shape) (vals vals_after : ℕ →
       a.traced
       → Leaves a b (λ c. IsInside a.sectors c → Stood s durable vals spent gone v a n → SaysBetween s t n vals_after spent (replayed a.sectors c))
   pub holds : Stood s durable vals spent gone v a n → Stood t after vals_after spent gone_after w b n
+  pub logs : HoldsCopies s a → Stood s durable vals spent gone v a n → KeepsLogs s t a b
+  pub frame : (g : Frame) → frame_of (v.arrays n).truth ≡ g → Stood s durable vals spent gone v a n → KeepsFrame g n (w.arrays n) a b

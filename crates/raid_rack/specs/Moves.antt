@@ -21,7 +21,10 @@ use Rattle.array_model.specs.ArrayCalls.{Covers, appended_at}
 use Rattle.array_core.specs.Staging.{HasRowRebuilds}
 use Rattle.array_core.specs.Seats.{gone}
 use Rattle.raid_rack.specs.Raid.{Raid, AreLive, gone_in, is_left, is_over, Stood}
+use Rattle.commit_log.specs.Saying.{HoldsCopies}
 use Rattle.raid_rack.specs.Book.{IsAfter}
+use Rattle.raid_rack.specs.Frames.{Frame, KeepsFrame, frame_of}
+use Rattle.raid_rack.specs.Logs.{KeepsLogs}
 use Rattle.raid_rack.specs.Marking.{SaysBetween}
 use Rattle.raid_rack.specs.Rows.{KeepsRows, LeavesRows}
 
@@ -92,6 +95,10 @@ pub record PartOf (v w : Raid) (a b : Seen) (n : ℕ) (vals now : ℕ → Values
       a.traced
       → Leaves a b (λ c. IsInside a.sectors c → IsAmid v a n vals spent → SaysBetween v.state w.state n now spent (replayed a.sectors c))
   pub holds : IsAmid v a n vals spent → IsAmid w b n now spent
+  -- and so do the log slices, where they hold all copies of the state before it
+  pub logs : HoldsCopies v.state a → IsAmid v a n vals spent → KeepsLogs v.state w.state a b
+  -- its size and its members' places stay
+  pub frame : (g : Frame) → frame_of (v.arrays n).truth ≡ g → IsAmid v a n vals spent → KeepsFrame g n (w.arrays n) a b
 
 -- the slices of drives that are marked missing stay as they are
 abbrev pub KeepsMarked : Raid → Seen → Seen → Type 0

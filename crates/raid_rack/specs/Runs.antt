@@ -13,6 +13,8 @@ use Rattle.array_image.specs.Supers.{truth_in}
 use Rattle.array_image.specs.SoundArray.{IsSoundArray}
 use Rattle.array_image.specs.Arrays.{Shape, shape_in, replayed}
 use Rattle.raid_rack.specs.Book.{IsAfter, after_same, after_then}
+use Rattle.raid_rack.specs.Frames.{Frame, HasFrame, frame_of}
+use Rattle.raid_rack.specs.Logs.{LogsBetween}
 use Rattle.raid_rack.specs.Moves.{AreCaused, KeepsMarked}
 use Rattle.raid_rack.specs.Raid.{Raid, is_left, is_over, IsTold}
 use Rattle.raid_rack.specs.Truths.{KeepsTruths}
@@ -52,6 +54,11 @@ pub record RaidRuns (p q : ℕ → Bool) (v w : Raid) (a b : Seen) : Type 0 wher
   pub images :
       (n : ℕ) → IsTold v a n → is_over w n ≡ false → a.traced
       → Leaves a b (λ c. IsBetween v.state w.state n (replayed a.sectors c))
+  -- no log is damaged, and the copies of the state agree in what stops leave, where some array is told that isn't over in the end
+  pub logs : (n : ℕ) → IsTold v a n → is_over w n ≡ false → a.traced → Leaves a b (LogsBetween v.state w.state a.sectors)
+  -- an array's size and its members' places are those before it, in what stops leave too
+  pub framed : (n : ℕ) → IsTold v a n → is_over w n ≡ false → frame_of (w.arrays n).truth ≡ frame_of (v.arrays n).truth
+  pub frames : (n : ℕ) → IsTold v a n → is_over w n ≡ false → a.traced → Leaves a b (λ c. HasFrame (frame_of (v.arrays n).truth) n (replayed a.sectors c))
   -- superblocks that said an array's truth do so after it
   pub truths : KeepsTruths v w a b
 
@@ -80,6 +87,9 @@ raid_runs_same p v x =
       };
       truths = λ n low held. held;
       images = λ n told goes traced. leaves_same x (λ c. IsBetween v.state v.state n (replayed x.sectors c));
+      logs = λ n told goes traced. leaves_same x (LogsBetween v.state v.state x.sectors);
+      framed = λ n told goes. refl;
+      frames = λ n told goes traced. leaves_same x (λ c. HasFrame (frame_of (v.arrays n).truth) n (replayed x.sectors c));
     }
 
 between_sooner : (s t u : State) (n : ℕ) (r : Image) → IsAfter t u → IsBetween s t n r → IsBetween s u n r
@@ -166,4 +176,24 @@ raid_runs_then p q r v w z a b c one two =
           subst (λ (sectors : ℕ → ℕ). IsBetween v.state z.state n (replayed sectors i)) (λ k d. one.sectors d k)
           (between_later v.state w.state z.state n (replayed b.sectors i) one.book at))
           (two.images n (one.told n told) goes (one.traced traced)));
+      logs = λ n told goes traced.
+          leaves_then (LogsBetween v.state z.state a.sectors)
+          (leaves_weaker (LogsBetween v.state w.state a.sectors) (LogsBetween v.state z.state a.sectors)
+          (λ i at. record { state = at.state; later = at.later; sooner = after_then at.state w.state z.state at.sooner two.book; says = at.says })
+          (one.logs n told (two.still n goes) traced))
+          (leaves_weaker (LogsBetween w.state z.state b.sectors) (LogsBetween v.state z.state a.sectors)
+          (λ i at.
+          subst (λ (sectors : ℕ → ℕ). LogsBetween v.state z.state sectors i) (λ k d. one.sectors d k)
+          (record { state = at.state; later = after_then v.state w.state at.state one.book at.later; sooner = at.sooner; says = at.says }))
+          (two.logs n (one.told n told) goes (one.traced traced)));
+      framed = λ n told goes. two.framed n (one.told n told) goes ∙ one.framed n told (two.still n goes);
+      frames = λ n told goes traced.
+          let g : Frame = frame_of (v.arrays n).truth in
+          leaves_then (λ i. HasFrame g n (replayed a.sectors i))
+          (one.frames n told (two.still n goes) traced)
+          (leaves_weaker (λ i. HasFrame (frame_of (w.arrays n).truth) n (replayed b.sectors i)) (λ i. HasFrame g n (replayed a.sectors i))
+          (λ i frame.
+          subst (λ (sectors : ℕ → ℕ). HasFrame g n (replayed sectors i)) (λ k d. one.sectors d k)
+          (subst (λ (k : Frame). HasFrame k n (replayed b.sectors i)) (one.framed n told (two.still n goes)) frame))
+          (two.frames n (one.told n told) goes (one.traced traced)));
     }

@@ -1,7 +1,8 @@
 use Rattle.std.proofs.Common.{refl}
 use Rattle.slice_rack.specs.SliceRack.{tables, below_of}
 use Rattle.raid_rack.specs.Laws.{stops_inside}
-use Rattle.raid_rack.specs.RaidRack.{written_in}
+use Rattle.raid_rack.specs.RaidRack.{raid_in, slices_seen, written_in}
+use Rattle.raid_rack.specs.Runs.{raid_runs_same}
 use Rattle.raid_rack.proofs.Serving.{brings_keep, runs_call}
 use Rattle.raid_rack.proofs.arrays.RaidRack.close.Goals as goal
 
@@ -17,3 +18,6 @@ returns-clause-book g c =
     (λ n not. (not, λ was. refl)) c.requires.fit
     (record { running = c.end_plan.ensures.running; heeded = c.end_plan.ensures.closes.heeded })
     (stops_inside (tables c.end_plan.new.rack) (g.R.Rack.seen (below_of c.end_plan.new.rack))) c.end_plan.ensures.closes.brings c.end_plan.ensures.closes.caused c.end_plan.ensures.truths
+
+pub returns-then-not-has_plan-clause-book : goal.returns-then-not-has_plan-clause-book
+returns-then-not-has_plan-clause-book g c = raid_runs_same (written_in c.args.self.now) (raid_in c.args.self.now) (slices_seen g.R.Rack.seen c.args.self.now)

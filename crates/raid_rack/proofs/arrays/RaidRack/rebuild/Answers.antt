@@ -1,7 +1,8 @@
 use Rattle.std.proofs.Common.{refl}
 use Rattle.slice_rack.specs.SliceRack.{tables, below_of}
 use Rattle.raid_rack.specs.Laws.{stops_inside}
-use Rattle.raid_rack.specs.RaidRack.{written_in}
+use Rattle.raid_rack.specs.RaidRack.{raid_in, slices_seen, written_in}
+use Rattle.raid_rack.specs.Runs.{raid_runs_same}
 use Rattle.raid_rack.proofs.Serving.{brings_keep, runs_call}
 use Rattle.raid_rack.proofs.arrays.RaidRack.rebuild.Goals as goal
 
@@ -32,3 +33,6 @@ returns-else-rebuild_array-clause-book g c =
     (record { running = c.rebuild_array.ensures.running; heeded = c.rebuild_array.ensures.rebuilds.steps.heeded })
     (stops_inside (tables c.rebuild_array.new.rack) (g.R.Rack.seen (below_of c.rebuild_array.new.rack))) c.rebuild_array.ensures.rebuilds.steps.brings c.rebuild_array.ensures.rebuilds.steps.caused
     c.rebuild_array.ensures.truths
+
+pub returns-then-not-is_rebuilding-clause-book : goal.returns-then-not-is_rebuilding-clause-book
+returns-then-not-is_rebuilding-clause-book g c = raid_runs_same (written_in c.args.self.now) (raid_in c.args.self.now) (slices_seen g.R.Rack.seen c.args.self.now)

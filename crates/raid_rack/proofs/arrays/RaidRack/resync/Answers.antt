@@ -5,6 +5,7 @@ use Rattle.array_model.specs.View.{rows_of}
 use Rattle.raid_rack.specs.Laws.{stops_inside}
 use Rattle.slice_rack.specs.Sliced.{slices_of}
 use Rattle.raid_rack.specs.RaidRack.{raid_by, raid_in, slices_seen, written_in}
+use Rattle.raid_rack.specs.Runs.{raid_runs_same}
 use Rattle.raid_rack.specs.Works.{ResyncsOne}
 use Rattle.raid_rack.proofs.Serving.{brings_keep, runs_call}
 use Rattle.raid_rack.proofs.Worked.{resyncs_one}
@@ -51,3 +52,6 @@ returns-else-resync_array-clause-book g c =
     (record { running = c.resync_array.ensures.running; heeded = c.resync_array.ensures.steps.heeded })
     (stops_inside (tables c.resync_array.new.rack) (g.R.Rack.seen (below_of c.resync_array.new.rack))) c.resync_array.ensures.steps.brings c.resync_array.ensures.steps.caused
     c.resync_array.ensures.truths
+
+pub returns-then-not-has_row-clause-book : goal.returns-then-not-has_row-clause-book
+returns-then-not-has_row-clause-book g c = raid_runs_same (written_in c.args.self.now) (raid_in c.args.self.now) (slices_seen g.R.Rack.seen c.args.self.now)

@@ -1,0 +1,349 @@
+-- What log slices say at each moment of a commit and after it: the state from before it, or the new one.
+use Rattle.std.proofs.Common.{◌≡◌, ◌⊎◌, ℕ, ◌+◌, ◌-◌, ◌<◌, ◌≤◌, ◌^◌, ◌&&◌, Bool, true, false, not, nat_lt, List, [], Option, Some, None, Ok, option_map, refl, sym, ap, subst, ◌∙◌, inl, inr, lt-ltb, arith}
+use Rattle.std.specs.Option.{option_map_or}
+use Rattle.std.proofs.lemmas.Bool.{both_ways, cases_Bool, cases_lt, cond-true}
+use Rattle.std.proofs.lemmas.Option.{none-some}
+use Rattle.rack.specs.Values.{MayLeave}
+use Rattle.rack.specs.Calls.{KeepsAll}
+use Rattle.rack.specs.Joins.{leaves_weaker}
+use Rattle.rack.specs.Moments.{Leaves}
+use Rattle.rack.specs.Seen.{Image, Seen, Stays}
+use Rattle.rack.specs.Targets.{Target, look, put}
+use Rattle.pool_state.specs.declared.contents.Copied.{Copied}
+use Rattle.pool_state.specs.declared.contents.State.{State}
+use Rattle.pool_state.specs.Sector.{decoded}
+use Rattle.array_image.specs.Places.{log_slice}
+use Rattle.array_image.specs.Record.{Gate, GateAt, gate_of, gate_in, gate_sector, pending_at, pending}
+use Rattle.array_image.specs.States.{state_in, is_current, current_places}
+use Rattle.array_image.specs.Arrays.{replayed}
+use Rattle.array_image.proofs.Frames.{state_same}
+use Rattle.commit_log.specs.View.{LogView, names, next_number}
+use Rattle.commit_log.specs.Standing.{IsInside, IsLogPart, LogsStand, StatesStand, deciding, IsWhole, IsReady, SomeoneDecides}
+use Rattle.commit_log.specs.Commits.{Stands, Commits, CommitCall, IsPendingNow, IsPendingYet, IsWritten, StandsMidway}
+use Rattle.commit_log.specs.Kept.{IsCopyOf, IsNoLater, LogKept, AreLeft, BringsTo}
+use Rattle.commit_log.specs.Saying.{AreOwnCopies, CopiesIn, HoldsCopies, IsBrought, SaysState}
+use Rattle.commit_log.proofs.Amid.{not_state, replayed_as, same_replayed}
+use Rattle.commit_log.proofs.Copies.{nothing_decodes, state_by_copies}
+use Rattle.commit_log.proofs.Kept.{NoneLater, brings_none, brings_to, copy_state, epoch_up, kept_idle, kept_state, later_yet, put_none, put_outside, put_some, stands_latest}
+use Rattle.commit_log.proofs.KeptAfter.{logs_before, stands_before}
+use Rattle.commit_log.proofs.Restored.{put_there}
+
+logs_of : {x : Seen} (c : Image) → Stands x c → LogsStand x c
+logs_of c stand = record { picks = λ p t live. stand.picks (log_slice p) t live; inside = stand.inside }
+
+states_of : {x : Seen} (xs : List Target) (c : Image) → LogsStand x c → StatesStand xs x c
+states_of xs c stand = record { picks = λ p live. inl (stand.picks p 0 live); inside = λ p none. stand.inside p 0 (omega (arith, none)) }
+
+-- no target is for nothing
+no_look : (d t : ℕ) (u : List ℕ) → look [] d t ≡ Some u → ⊥
+unfolding look
+no_look d t u is = none-some u is
+
+-- contents with the same copies
+pub copies_same : (s : State) (sectors : ℕ → ℕ) (c e : Image) → ((p : ℕ) → c (log_slice p) 0 ≡ e (log_slice p) 0) → CopiesIn s sectors e → CopiesIn s sectors c
+copies_same s sectors c e same copies = record {
+  own = λ p current there. subst (IsCopyOf s p) (sym (same p)) (copies.own p current there);
+  others = λ p copy few is. copies.others p copy few (ap decoded (sym (same p)) ∙ is);
+  earlier = λ p copy few former is. copies.earlier p copy few former (ap decoded (sym (same p)) ∙ is);
+}
+
+-- ---- targets that are written
+
+module _ (s t : State) (number : ℕ) (gone : ℕ → Bool) (on takes : List ℕ) (xs : List Target) (x : Seen) (kept : LogKept s number gone x)
+    (brings : BringsTo s t number gone x xs on takes) (all : t ≡ s → (p : ℕ) → is_current s p ≡ true → gone p ≡ false) (c : Image) (stand : StatesStand xs x c) where
+  abbrev e : Image
+  e = put x.sectors xs c
+
+  -- a place's copy is a new one, or it has no target and holds what it held
+  data Written (p : ℕ) : Type 0 where
+    is_new : names takes p ≡ true → IsCopyOf t p (e (log_slice p) 0) → Written p
+    is_held : look xs (log_slice p) 0 ≡ None → MayLeave (x.held (log_slice p) 0) (e (log_slice p) 0) → Written p
+
+  written : (p : ℕ) → p < 16 → 0 < x.sectors (log_slice p) → Written p
+  written p few there = of (look xs (log_slice p) 0) refl
+    where
+      of : (o : Option (List ℕ)) → look xs (log_slice p) 0 ≡ o → Written p
+      of None none =
+          let here : e (log_slice p) 0 ≡ c (log_slice p) 0 = put_none x.sectors xs c (log_slice p) 0 none in
+          elim (stand.picks p (kept.logs p 0 few there)) [
+            | inl held ↦ is_held none (subst (MayLeave (x.held (log_slice p) 0)) (sym here) held)
+            | inr new ↦ absurd (none-some (c (log_slice p) 0) (sym none ∙ new))
+          ]
+      of (Some w) some = elim brings.either [
+        | inl same ↦ absurd (none-some w (sym (same.1 p) ∙ some))
+        | inr later ↦ elim (cases_Bool (names takes p)) [
+          | inr other ↦ absurd (none-some w (sym (later.3 p other) ∙ some))
+          | inl named ↦
+              let new = later.2 p named in
+              is_new named (subst (IsCopyOf t p) (sym (put_some x.sectors xs c (log_slice p) 0 new.0 there new.1)) new.2)
+        ]
+      ]
+
+  few_of : (p : ℕ) → is_current t p ≡ true → p < 16
+  few_of p current = elim (brings.current p current) [ inl was ↦ kept.few p was | inr joins ↦ joins.few ]
+
+  -- where there is no sector nothing is decoded
+  nothing : (p : ℕ) (copy : Copied) → x.sectors (log_slice p) ≤ 0 → decoded (e (log_slice p) 0) ≡ Ok copy → ⊥
+  nothing p copy none is =
+      nothing_decodes copy (ap decoded (sym (put_outside x.sectors xs c (log_slice p) 0 none ∙ stand.inside p (omega (arith, none)))) ∙ is)
+
+  own_now : (p : ℕ) → is_current t p ≡ true → Written p → IsCopyOf t p (e (log_slice p) 0)
+  own_now p current (is_new named copy) = copy
+  own_now p current (is_held none held) = elim brings.either [
+    | inl same ↦
+        let was : is_current s p ≡ true = subst (λ (u : State). is_current u p ≡ true) same.0 current in
+        subst (λ (u : State). IsCopyOf u p (e (log_slice p) 0)) (sym same.0) (kept.copies.own p (e (log_slice p) 0) was (all same.0 p was) held)
+    | inr later ↦ let new = later.2 p (later.1 p current) in absurd (none-some new.0 (sym none ∙ new.1))
+  ]
+
+  others_now : (p : ℕ) (copy : Copied) → p < 16 → 0 < x.sectors (log_slice p) → decoded (e (log_slice p) 0) ≡ Ok copy → Written p → IsNoLater t copy
+  others_now p copy few there is (is_new named new) = inr (copy_state t copy p (e (log_slice p) 0) new is)
+  others_now p copy few there is (is_held none held) =
+      let old = kept.copies.others p (e (log_slice p) 0) copy few there held is in
+      elim (epoch_up s t number gone x xs on takes brings) [
+        | inl same ↦ subst (λ (u : State). IsNoLater u copy) (sym same) old
+        | inr later ↦ later_yet s t copy later old
+      ]
+
+  lower : (copy : Copied) → s.epoch < t.epoch → IsNoLater s copy → copy.state.epoch < t.epoch
+  lower copy later (inl less) = omega (arith, later, less)
+  lower copy later (inr same) = let epoch = ap (λ (u : State). u.epoch) same in omega (arith, later, epoch)
+
+  earlier_now : (p : ℕ) (copy : Copied) → p < 16 → is_current t p ≡ false → 0 < x.sectors (log_slice p) → decoded (e (log_slice p) 0) ≡ Ok copy → Written p
+      → copy.state.epoch < t.epoch
+  earlier_now p copy few former there is (is_new named new) = absurd (both_ways (is_current t p) former (brings.left p named))
+  earlier_now p copy few former there is (is_held none held) = elim brings.either [
+    | inl same ↦
+        subst (λ (u : State). copy.state.epoch < u.epoch) (sym same.0)
+        (kept.copies.earlier p (e (log_slice p) 0) copy few (subst (λ (u : State). is_current u p ≡ false) same.0 former) there held is)
+    | inr later ↦ lower copy later.0 (kept.copies.others p (e (log_slice p) 0) copy few there held is)
+  ]
+
+  -- with all targets written the copies are of the new state
+  pub put_copies : CopiesIn t x.sectors e
+  put_copies = record {
+    own = λ p current there. own_now p current (written p (few_of p current) there);
+    others = λ p copy few is. elim (cases_lt 0 (x.sectors (log_slice p))) [
+      | inl there ↦ others_now p copy few there is (written p few there)
+      | inr none ↦ absurd (nothing p copy none is)
+    ];
+    earlier = λ p copy few former is. elim (cases_lt 0 (x.sectors (log_slice p))) [
+      | inl there ↦ earlier_now p copy few former there is (written p few there)
+      | inr none ↦ absurd (nothing p copy none is)
+    ];
+  }
+
+-- ---- between commits
+
+-- Where each current place is left, contents whose copies are held have all of them.
+pub held_copies : (s : State) (number : ℕ) (gone : ℕ → Bool) (x : Seen) (c : Image) → LogKept s number gone x
+    → ((p : ℕ) → is_current s p ≡ true → gone p ≡ false) → StatesStand [] x c → CopiesIn s x.sectors c
+unfolding look
+held_copies s number gone x c kept all stand =
+    copies_same s x.sectors c (put x.sectors [] c) (λ p. sym (put_none x.sectors [] c (log_slice p) 0 refl))
+    (put_copies s s number gone [] [] [] x kept (brings_to s s number gone x [] [] (brings_none s)) (λ same. all) c stand)
+
+-- where nobody has gone all copies are there, and nothing is pending
+pub kept_holds : (s : State) (number : ℕ) (x : Seen) → LogKept s number (λ p. false) x → HoldsCopies s x
+kept_holds s number x kept =
+    let gone : ℕ → Bool = λ p. false in
+    record {
+      copies = λ c stand.
+          copies_same s x.sectors (replayed x.sectors c) c (λ p. kept.quiet c stand (log_slice p) 0 refl)
+          (held_copies s number gone x c kept (λ p current. refl) (states_of [] c (logs_of c stand)));
+      brings = λ c stand p u is.
+          absurd (no_look (log_slice p) 0 u (ap (λ (xs : List Target). look xs (log_slice p) 0) (sym (kept_idle s number gone x c kept stand (λ q current. refl))) ∙ is));
+    }
+
+-- no place has a later copy
+pub kept_latest : (s : State) (number : ℕ) (gone : ℕ → Bool) (x : Seen) (c : Image) → LogKept s number gone x → LogsStand x c → NoneLater s c
+kept_latest s number gone x c kept logs q copy few is = elim (cases_lt 0 (x.sectors (log_slice q))) [
+  | inl there ↦ kept.copies.others q (c (log_slice q) 0) copy few there (logs.picks q 0 (kept.logs q 0 few there)) is
+  | inr none ↦ absurd (nothing_decodes copy (ap decoded (sym (logs.inside q 0 none)) ∙ is))
+]
+
+-- what a stop leaves then
+pub kept_says : (s : State) (number : ℕ) (gone : ℕ → Bool) (x : Seen) (c : Image) (p : ℕ) → LogKept s number gone x → HoldsCopies s x
+    → is_current s p ≡ true → gone p ≡ false → Stands x c → SaysState s x.sectors c
+kept_says s number gone x c p kept holds current left stand =
+    let logs = logs_of c stand in
+    record {
+      whole = kept.whole c stand;
+      copies = holds.copies c stand;
+      stood = s;
+      stood_is = kept_state s number gone x c p kept logs current left;
+      latest = kept_latest s number gone x c kept logs;
+      next = inl refl;
+      brings = holds.brings c logs;
+    }
+
+-- calls that bring no value keep the copies
+pub holds_keeps : (s : State) (a b : Seen) → a.lasting → Stays a b → KeepsAll a b → HoldsCopies s a → HoldsCopies s b
+holds_keeps s a b lasting stays keeps holds = record {
+  copies = λ c stand.
+      subst (λ (n : ℕ → ℕ). CopiesIn s n (replayed n c)) (sym (λ i d. stays.sectors d i)) (holds.copies c (stands_before lasting stays keeps c stand));
+  brings = λ c stand. holds.brings c (logs_before lasting stays keeps c stand);
+}
+
+-- ---- a commit
+
+-- at each moment it is all or nothing, and the log slices are as they are midway
+pub commit_moments : (l : LogView) (on lost : List ℕ) (a b : Seen) → CommitCall l on lost a b → a.traced → IsReady l on a → SomeoneDecides l.added on lost a
+    → Leaves a b (λ c. IsInside a.sectors c → Commits l.added a c × StandsMidway l on a c)
+commit_moments l on lost a b commit traced ready someone =
+    let stops = commit.stops traced ready someone in
+    let midway = commit.midway traced ready someone in
+    record {
+      later = stops.later;
+      kept = stops.kept;
+      past = stops.past;
+      new = λ k c after until stopped inside. (stops.new k c after until stopped inside, midway.new k c after until stopped inside);
+    }
+
+-- for a sector that no target is for, nothing comes to be pending
+pub midway_none : (l : LogView) (on : List ℕ) (a : Seen) (c : Image) (d t : ℕ) → StandsMidway l on a c → look l.added d t ≡ None
+    → ((e : Image) → LogsStand a e → look (pending (deciding e) e) d t ≡ None) → look (pending (deciding c) c) d t ≡ None
+unfolding look
+midway_none l on a c d t mid none before = elim mid.pends [
+  | inl yet ↦ ap (λ (xs : List Target). look xs d t) yet.same ∙ before yet.before (logs_of yet.before yet.stands)
+  | inr (inl pends) ↦ ap (λ (xs : List Target). look xs d t) pends.all ∙ none
+  | inr (inr done) ↦ ap (λ (xs : List Target). look xs d t) done.0
+]
+
+module _ (s t : State) (gone : ℕ → Bool) (l : LogView) (on takes : List ℕ) (a : Seen) (kept : LogKept s l.number gone a) (holds : HoldsCopies s a)
+    (brings : BringsTo s t l.number gone a l.added on takes) (own : AreOwnCopies t l.added) (all : t ≡ s → (p : ℕ) → is_current s p ≡ true → gone p ≡ false)
+    (are_left : AreLeft s gone on) (room : l.number < 2 ^ 63 - 1)
+    (place : ℕ) (was : is_current s place ≡ true) (left : gone place ≡ false) (now : is_current t place ≡ true) where
+  few : place < 16
+  few = kept.few place was
+
+  there : 0 < a.sectors (log_slice place)
+  there = kept.there place was left
+
+  next_is : next_number l.number ≡ l.number + 1
+  next_is = cond-true (nat_lt l.number (2 ^ 63 - 1)) (l.number + 1) l.number (lt-ltb l.number (2 ^ 63 - 1) room)
+
+  -- what was pending is so yet
+  says_old : (c : Image) → IsPendingYet a c → IsWhole c → SaysState s a.sectors c
+  says_old c yet whole =
+      let logs = logs_of yet.before yet.stands in
+      record {
+        whole = whole;
+        copies =
+            copies_same s a.sectors (replayed a.sectors c) (replayed a.sectors yet.before) (λ p. same_replayed a c yet.before (log_slice p) 0 yet.same (yet.copies p))
+            (holds.copies yet.before yet.stands);
+        stood = s;
+        stood_is = state_same c yet.before yet.copies ∙ kept_state s l.number gone a yet.before place kept logs was left;
+        latest = λ p copy small is. kept_latest s l.number gone a yet.before kept logs p copy small (ap decoded (sym (yet.copies p)) ∙ is);
+        next = inl refl;
+        brings = λ p u is. holds.brings yet.before logs p u (ap (λ (xs : List Target). look xs (log_slice p) 0) (sym yet.same) ∙ is);
+      }
+
+  module _ (c : Image) (mid : StandsMidway l on a c) where
+    copies_put : CopiesIn t a.sectors (put a.sectors l.added c)
+    copies_put = put_copies s t l.number gone on takes l.added a kept brings all c mid.states
+
+    -- a place that joins had a gate of a lower number
+    joins_lower : (p : ℕ) (h : Gate) → is_current s p ≡ false → is_current t p ≡ true → gate_in c p ≡ Some h → h.number < next_number l.number
+    joins_lower p h former current has = elim (brings.current p current) [
+      | inl before ↦ absurd (both_ways (is_current s p) former before)
+      | inr joins ↦
+          let other : names on p ≡ false = are_left p ∙ ap (λ b. b && not (gone p)) former in
+          let gate = joins.numbered (c (log_slice p) gate_sector) (mid.gates p other (kept.logs p gate_sector joins.few joins.there)) in
+          let same : h ≡ gate.0 = some_gate h gate.0 (sym has ∙ gate.1) in
+          let number : h.number ≡ gate.0.number = ap (λ (g : Gate). g.number) same in
+          let most = gate.2 in
+          let next = next_is in
+          omega (arith, number, most, next)
+    ]
+      where
+        some_gate : (x y : Gate) → Some x ≡ Some y → x ≡ y
+        some_gate x y is = (cc)
+
+    -- the record brings the new state
+    brought : IsPendingNow l on c → state_in c ≡ Some s → (t ≡ s) ⊎ IsBrought s t c
+    brought pends state =
+        let places : deciding c ≡ current_places s = ap (λ o. option_map_or current_places o []) state in
+        let at : (g : GateAt) → pending_at (current_places s) c ≡ Some g → (names on g.place ≡ true) × (g.gate.number ≡ next_number l.number) =
+        λ g is. pends.source g (ap (λ ps. pending_at ps c) places ∙ is) in
+        elim brings.either [
+          | inl same ↦ inl same.0
+          | inr later ↦ inr (record {
+            later = later.0;
+            source = λ g is.
+                let named = brings.more g.place (at g is).0 in
+                let new = later.2 g.place named in (
+                  brings.left g.place named,
+                  (
+                    new.0,
+                    ap (λ ps. look (pending ps c) (log_slice g.place) 0) (sym places)
+                        ∙ ap (λ (xs : List Target). look xs (log_slice g.place) 0) pends.all
+                        ∙ new.1,
+                  ),
+                );
+            joining = λ g p h is former current has. subst (λ n. h.number < n) (sym (at g is).1) (joins_lower p h former current has);
+          })
+        ]
+
+    says_new : IsPendingNow l on c → IsWhole c → SaysState t a.sectors c
+    says_new pends whole =
+        let copies = copies_same t a.sectors (replayed a.sectors c) (put a.sectors l.added c) (λ p. replayed_as a c l.added (log_slice p) 0 pends.all) copies_put in
+        let brings_own : AreOwnCopies t (pending (deciding c) c) = λ p u is. own p u (ap (λ (xs : List Target). look xs (log_slice p) 0) (sym pends.all) ∙ is) in
+        elim (stands_latest s t l.number gone on takes l.added a c place kept.logs kept.copies brings mid.states few there was left) [
+          | inl old ↦
+              record { whole = whole; copies = copies; stood = s; stood_is = old.0; latest = old.1; next = brought pends old.0; brings = brings_own }
+          | inr new ↦
+              record { whole = whole; copies = copies; stood = t; stood_is = new.0; latest = new.1; next = inl refl; brings = brings_own }
+        ]
+
+    -- nothing is pending, and all is written
+    says_done : pending (deciding c) c ≡ [] → IsWritten l.added c → IsWhole c → SaysState t a.sectors c
+    unfolding look
+    says_done none writes whole =
+        let same : (p : ℕ) → c (log_slice p) 0 ≡ put a.sectors l.added c (log_slice p) 0 =
+        λ p. sym (put_there a.sectors l.added c (log_slice p) 0 (λ w is. writes (log_slice p) 0 w is)) in
+        let here : CopiesIn t a.sectors c = copies_same t a.sectors c (put a.sectors l.added c) same copies_put in
+        record {
+          whole = whole;
+          copies =
+              copies_same t a.sectors (replayed a.sectors c) c
+              (λ p. replayed_as a c [] (log_slice p) 0 none ∙ put_none a.sectors [] c (log_slice p) 0 refl) here;
+          stood = t;
+          stood_is = state_by_copies t c place here.others few (here.own place now there);
+          latest = here.others;
+          next = inl refl;
+          brings = λ p u is. absurd (no_look (log_slice p) 0 u (ap (λ (xs : List Target). look xs (log_slice p) 0) (sym none) ∙ is));
+        }
+
+    pub midway_says : Commits l.added a c → SaysState s a.sectors c ⊎ SaysState t a.sectors c
+    midway_says commits =
+        let whole = commits.whole (kept.whole commits.before commits.stands) in
+        elim mid.pends [
+          | inl yet ↦ inl (says_old c yet whole)
+          | inr (inl pends) ↦ inr (says_new pends whole)
+          | inr (inr done) ↦ inr (says_done done.0 done.1 whole)
+        ]
+
+  -- At each moment of a commit the log slices say the state from before it or the new one.
+  pub commit_says : (lost : List ℕ) (b : Seen) → CommitCall l on lost a b → IsReady l on a → SomeoneDecides l.added on lost a → a.traced
+      → Leaves a b (λ c. IsInside a.sectors c → SaysState s a.sectors c ⊎ SaysState t a.sectors c)
+  commit_says lost b commit ready someone traced =
+      leaves_weaker (λ c. IsInside a.sectors c → Commits l.added a c × StandsMidway l on a c)
+      (λ c. IsInside a.sectors c → SaysState s a.sectors c ⊎ SaysState t a.sectors c)
+      (λ c found inside. let both = found inside in midway_says c both.1 both.0)
+      (commit_moments l on lost a b commit traced ready someone)
+
+  -- And after it they hold the copies of the new one.
+  pub commit_holds : (lost : List ℕ) (b : Seen) → CommitCall l on lost a b → IsReady l on a → SomeoneDecides l.added on lost a → HoldsCopies t b
+  commit_holds lost b commit ready someone = record {
+    copies = λ c stand.
+        let done = commit.after ready someone c stand in
+        subst (λ (n : ℕ → ℕ). CopiesIn t n (replayed n c)) (sym (λ i d. commit.stays.sectors d i))
+        (copies_same t a.sectors (replayed a.sectors c) (put a.sectors l.added done.before) (λ p. done.all (log_slice p) 0 (not_state p))
+        (put_copies s t l.number gone on takes l.added a kept brings all done.before (states_of l.added done.before (logs_of done.before done.stands))));
+    brings = λ c stand p u is.
+        elim (commit.rests ready someone c stand).targets [
+          | inl none ↦ absurd (no_look (log_slice p) 0 u (ap (λ (xs : List Target). look xs (log_slice p) 0) (sym none) ∙ is))
+          | inr rest ↦ own p u (ap (λ (xs : List Target). look xs (log_slice p) 0) (sym rest.1) ∙ is)
+        ];
+  }

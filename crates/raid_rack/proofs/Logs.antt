@@ -1,0 +1,146 @@
+-- Parts of a call, as the log slices show them.
+use Rattle.std.proofs.Common.{◌≡◌, ◌⊎◌, ℕ, ◌≤◌, ◌<◌, Bool, true, false, List, [], None, Some, Ok, refl, sym, ap, subst, ◌∙◌, inl, inr, arith}
+use Rattle.std.proofs.lemmas.Option.{none-some}
+use Rattle.rack.specs.Values.{MayLeave}
+use Rattle.rack.specs.Calls.{KeepsAll}
+use Rattle.rack.specs.Moments.{Leaves}
+use Rattle.rack.specs.Seen.{Image, Seen, IsLive, IsPick, Stays}
+use Rattle.rack.specs.Joins.{leaves_same, leaves_then, leaves_weaker}
+use Rattle.rack.specs.Targets.{Target, look}
+use Rattle.pool_state.specs.declared.contents.State.{State}
+use Rattle.pool_state.specs.Sector.{decoded}
+use Rattle.array_image.specs.Places.{log_slice}
+use Rattle.array_image.specs.Record.{pending}
+use Rattle.array_image.specs.States.{state_in, is_current}
+use Rattle.array_image.specs.Arrays.{replayed}
+use Rattle.array_image.specs.Left.{IsCalm, IsCalmIn, IsInside, Picks, deciding}
+use Rattle.array_image.proofs.Frames.{state_same}
+use Rattle.array_image.proofs.Replays.{replayed_as_is}
+use Rattle.array_model.specs.ArrayCalls.{Turns}
+use Rattle.array_model.proofs.Keeping.{logs_of, pick_before}
+use Rattle.array_model.proofs.Moves.{Moves as CallMoves}
+use Rattle.array_model.proofs.Others.{state_apart}
+use Rattle.commit_log.specs.Commits.{Stands}
+use Rattle.commit_log.specs.Kept.{LogKept}
+use Rattle.commit_log.specs.Saying.{CopiesIn, HoldsCopies, SaysState}
+use Rattle.commit_log.specs.Standing.{LogsStand, StatesStand}
+use Rattle.commit_log.proofs.Kept.{kept_idle, kept_state, live_after, live_on, stands_of}
+use Rattle.commit_log.proofs.Saying.{copies_same, held_copies, holds_keeps, kept_latest, kept_says}
+use Rattle.raid_rack.specs.Book.{IsAfter, after_same, after_then}
+use Rattle.raid_rack.specs.Logs.{KeepsLogs, LogsBetween}
+use Rattle.raid_rack.proofs.Own.{look_nothing}
+
+-- a place that is left
+abbrev pub HasSomeone : State → (ℕ → Bool) → Type 0
+HasSomeone s gone = (place : ℕ) × (is_current s place ≡ true) × (gone place ≡ false)
+
+-- contents that say a state say it between the same
+pub between_same : (s : State) (sectors : ℕ → ℕ) (c : Image) → SaysState s sectors c → LogsBetween s s sectors c
+between_same s sectors c says = record { state = s; later = after_same s; sooner = after_same s; says = says }
+
+-- where nothing is called
+pub logs_still : (s : State) (x : Seen) → HoldsCopies s x → KeepsLogs s s x x
+logs_still s x holds = record { leaves = λ traced. leaves_same x (λ c. IsInside x.sectors c → LogsBetween s s x.sectors c); holds = holds }
+
+-- parts in a row
+pub logs_then : (s t u : State) (a b c : Seen) → IsAfter s t → IsAfter t u → Stays a b → KeepsLogs s t a b → KeepsLogs t u b c → KeepsLogs s u a c
+logs_then s t u a b c first second stays one two = record {
+  leaves = λ traced.
+      leaves_then
+      (λ i. IsInside a.sectors i → LogsBetween s u a.sectors i)
+      (leaves_weaker
+      (λ i. IsInside a.sectors i → LogsBetween s t a.sectors i)
+      (λ i. IsInside a.sectors i → LogsBetween s u a.sectors i)
+      (λ i says inside. let at = says inside in record { state = at.state; later = at.later; sooner = after_then at.state t u at.sooner second; says = at.says })
+      (one.leaves traced))
+      (leaves_weaker
+      (λ i. IsInside b.sectors i → LogsBetween t u b.sectors i)
+      (λ i. IsInside a.sectors i → LogsBetween s u a.sectors i)
+      (λ i says inside.
+      subst (λ (sectors : ℕ → ℕ). LogsBetween s u sectors i) (λ k d. stays.sectors d k)
+      (let at = says (λ d t out. inside d t (subst (λ k. k ≤ t) (stays.sectors d) out)) in
+      record { state = at.state; later = after_then s t at.state first at.later; sooner = at.sooner; says = at.says }))
+      (two.leaves (stays.traced traced)));
+  holds = two.holds;
+}
+
+-- calls that bring no value
+pub logs_read : (s : State) (number : ℕ) (gone : ℕ → Bool) (a b : Seen) → a.lasting → Stays a b → KeepsAll a b
+    → LogKept s number gone a → HasSomeone s gone → HoldsCopies s a → KeepsLogs s s a b
+logs_read s number gone a b lasting stays keeps kept someone holds = record {
+  leaves = λ traced.
+      leaves_weaker (IsPick a b a.held) (λ c. IsInside a.sectors c → LogsBetween s s a.sectors c)
+      (λ c pick inside.
+      between_same s a.sectors c
+      (kept_says s number gone a c someone.0 kept holds someone.1 someone.2 (stands_of c (pick_before lasting stays c inside pick))))
+      (keeps.stops traced);
+  holds = holds_keeps s a b lasting stays keeps holds;
+}
+
+-- where all current places are left, nothing is pending for other arrays
+pub kept_calm : (s : State) (number : ℕ) (gone : ℕ → Bool) (x : Seen) (m : ℕ) → LogKept s number gone x
+    → ((p : ℕ) → is_current s p ≡ true → gone p ≡ false) → IsCalm m x
+kept_calm s number gone x m kept all c picks d t apart =
+    ap (λ (xs : List Target). look xs d t) (kept_idle s number gone x c kept picks all) ∙ look_nothing d t
+
+-- ---- a call of one array
+
+module _ (s : State) (number : ℕ) (gone : ℕ → Bool) (n : ℕ) (a b : Seen) (H Q : Type 0) (P : Image → Type 0) (lasting : a.lasting)
+    (all : (p : ℕ) → is_current s p ≡ true → gone p ≡ false) (moves : CallMoves n a b H P Q) (kept : LogKept s number gone a)
+    (someone : HasSomeone s gone) (holds : HoldsCopies s a) where
+  calm : IsCalm n a
+  calm = kept_calm s number gone a n kept all
+
+  -- no copy of a state is pending where an array's slices alone are
+  none : (x : Image) (p : ℕ) (u : List ℕ) → IsCalmIn n x → look (pending (deciding x) x) (log_slice p) 0 ≡ Some u → ⊥
+  none x p u calm is = none-some u (sym (calm (log_slice p) 0 (state_apart n p)) ∙ is)
+
+  -- so copies stand as they are replayed
+  as_is : (sectors : ℕ → ℕ) (x : Image) (p : ℕ) → IsCalmIn n x → replayed sectors x (log_slice p) 0 ≡ x (log_slice p) 0
+  as_is sectors x p calm = replayed_as_is sectors x (log_slice p) 0 (calm (log_slice p) 0 (state_apart n p))
+
+  turned : (c : Image) → Turns n a b (λ r. H → P r) c → SaysState s a.sectors c
+  turned c turns =
+      let e = turns.left.0 in
+      let picks : Picks a e = turns.left.1 in
+      let stand : Stands a e = stands_of e picks in
+      let calm_now : IsCalmIn n c = turns.calm calm in
+      let same : (p : ℕ) → replayed a.sectors c (log_slice p) 0 ≡ replayed a.sectors e (log_slice p) 0 =
+      λ p. turns.others (log_slice p) 0 (state_apart n p) ∙ turns.left.2 (log_slice p) 0 in
+      let stands : (p : ℕ) → c (log_slice p) 0 ≡ e (log_slice p) 0 =
+      λ p. sym (as_is a.sectors c p calm_now) ∙ same p ∙ as_is a.sectors e p (calm e (logs_of e picks)) in
+      let logs : LogsStand a e = record { picks = λ p t live. picks.picks (log_slice p) t live; inside = λ p t out. picks.inside (log_slice p) t out } in
+      record {
+        whole = turns.whole (kept.whole e stand);
+        copies = copies_same s a.sectors (replayed a.sectors c) (replayed a.sectors e) same (holds.copies e stand);
+        stood = s;
+        stood_is = state_same c e stands ∙ kept_state s number gone a e someone.0 kept logs someone.1 someone.2;
+        latest = λ p copy small is. kept_latest s number gone a e kept logs p copy small (ap decoded (sym (stands p)) ∙ is);
+        next = inl refl;
+        brings = λ p u is. absurd (none c p u calm_now is);
+      }
+
+  pub logs_call : KeepsLogs s s a b
+  logs_call = record {
+    leaves = λ traced.
+        leaves_weaker (λ c. IsInside a.sectors c → Turns n a b (λ r. H → P r) c) (λ c. IsInside a.sectors c → LogsBetween s s a.sectors c)
+        (λ c turns inside. between_same s a.sectors c (turned c (turns inside)))
+        (moves.leaves traced);
+    holds = record {
+      copies = λ c stand.
+          let stays = moves.stays in
+          let sectors : b.sectors ≡ a.sectors = λ i d. stays.sectors d i in
+          let held : StatesStand [] a c = record {
+            picks = λ p live.
+                let over = live_on lasting stays live in
+                inl ((moves.apart (log_slice p) 0 over (state_apart n p)).within (c (log_slice p) 0) (stand.picks (log_slice p) 0 (live_after stays over)));
+            inside = λ p empty. stand.inside p 0 (let size = stays.sectors (log_slice p) in omega (arith, empty, size));
+          } in
+          copies_same s b.sectors (replayed b.sectors c) c (λ p. as_is b.sectors c p (moves.calm calm c (logs_now c stand)))
+          (subst (λ (k : ℕ → ℕ). CopiesIn s k c) (sym sectors) (held_copies s number gone a c kept all held));
+      brings = λ c stand p u is. absurd (none c p u (moves.calm calm c stand) is);
+    };
+  }
+    where
+      logs_now : (c : Image) → Stands b c → LogsStand b c
+      logs_now c stand = record { picks = λ p t live. stand.picks (log_slice p) t live; inside = stand.inside }
