@@ -1,13 +1,7 @@
 #!/usr/bin/env bash
 # The seconds of `create` over two files of 1 GiB, beside dd's for zeros of the same length to two such files, both
 # with their bytes durable at the end.
-set -euo pipefail
-
-top=$(cd "$(dirname "$(readlink -f "${BASH_SOURCE[0]}")")/.." && pwd)
-folder=$(mktemp -d)
-trap 'rm -rf "$folder"' EXIT
-cd "$folder"
-"$top/roskubel" </dev/null >/dev/null || [ $? -eq 2 ]
+. "$(dirname "$(readlink -f "${BASH_SOURCE[0]}")")/program.sh"
 
 # The seconds of one run over two fresh files.
 seconds() {
@@ -27,6 +21,6 @@ zeros() {
 
 for turn in 1 2 3; do
   theirs=$(seconds zeros)
-  ours=$(seconds "$top/roskubel" create 8192 first second)
+  ours=$(seconds "$program" create 8192 first second)
   echo "create $ours s, dd $theirs s"
 done

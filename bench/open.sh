@@ -1,23 +1,15 @@
 #!/usr/bin/env bash
 # The processor time of opening and ending a pool of 16 drives and 15 arrays on warm image files, with no line of a script.
 # usage: bench/open.sh [OPENINGS]
-set -euo pipefail
-
-top=$(cd "$(dirname "$(readlink -f "${BASH_SOURCE[0]}")")/.." && pwd)
+. "$(dirname "$(readlink -f "${BASH_SOURCE[0]}")")/program.sh"
 openings=${1:-20}
-folder=$(mktemp -d)
-trap 'rm -rf "$folder"' EXIT
-cd "$folder"
 
 names=()
 for drive in $(seq -w 0 15); do
   names+=("drive$drive")
   truncate -s $(((79104 + 3328 * 10#$drive) * 512)) "drive$drive"
 done
-"$top/roskubel" create 128 "${names[@]}" </dev/null
-# The program itself: the launcher looks at the sources at each call.
-program=$top/out/shr_tool
-[ -x "$program" ] || program=$top/release/shr_tool
+"$program" create 128 "${names[@]}" </dev/null
 cat "${names[@]}" >/dev/null
 
 TIMEFORMAT='%U %S'

@@ -2,22 +2,17 @@
 # The MB a second of the rebuilding of a member of a RAID-5 over three images, by `replace` and `step`, beside a C program that makes the same
 # calls on files like them: for each row of 64 KiB the reads of the other two members, the record of 227 sectors on the three logs, a sync, the
 # gates, a sync, the row with three superblocks, a sync, and the gates with a sync. No call reads or writes more than a sector.
-set -euo pipefail
-
-top=$(cd "$(dirname "$(readlink -f "${BASH_SOURCE[0]}")")/.." && pwd)
+. "$(dirname "$(readlink -f "${BASH_SOURCE[0]}")")/program.sh"
 mebibytes=${1:-64}
-folder=$(mktemp -d)
-trap 'rm -rf "$folder"' EXIT
-cd "$folder"
 
 # Of each image 77824 sectors are no extents.
 size=$((77824 * 512 + mebibytes * 1048576))
 truncate -s "$size" first second third
-"$top/roskubel" create 128 first second third </dev/null >made
-head -c $((512 * $(cut -d ' ' -f 2 made))) /dev/urandom | "$top/roskubel" import first second third >/dev/null
+"$program" create 128 first second third </dev/null >made
+head -c $((512 * $(cut -d ' ' -f 2 made))) /dev/urandom | "$program" import first second third >/dev/null
 rm second
 truncate -s "$size" new
-rows=$(printf 'replace 1 new\nstep 0\n' | "$top/roskubel" serve first third | sed -n 's/^left //p')
+rows=$(printf 'replace 1 new\nstep 0\n' | "$program" serve first third | sed -n 's/^left //p')
 rows=$((rows - 1))
 
 cat >same.c <<'C'
@@ -75,7 +70,7 @@ seconds() {
   awk -v from="$from" -v to="$EPOCHREALTIME" 'BEGIN { print to - from }'
 }
 
-ours() { printf 'step 1000000\n' | "$top/roskubel" serve first new third; }
+ours() { printf 'step 1000000\n' | "$program" serve first new third; }
 mine=$(seconds ours)
 theirs=$(seconds ./same "$rows" one two three)
 awk -v rows="$rows" -v ours="$mine" -v theirs="$theirs" 'BEGIN {
