@@ -1,10 +1,10 @@
 -- Arrays on which a volume was opened hold its group, whatever they may be left with: their texts were brought up to it.
-use Rattle.std.proofs.Common.{◌≡◌, ℕ, ◌<◌, ◌≤◌, Bool, false, nat_lt, if◌then◌else◌, List, [], None, refl, sym, ap, subst, ◌∙◌, lt-ltb, arith}
+use Rattle.std.proofs.Common.{◌≡◌, ℕ, ◌<◌, ◌≤◌, Bool, if◌then◌else◌, List, [], None, refl, sym, ap, subst, ◌∙◌, lt-ltb, arith}
 use Rattle.rack.specs.Values.{MayLeave}
 use Rattle.rack.specs.Seen.{Image, IsLive, Seen}
 use Rattle.lvm_group.specs.Brought.{IsEven}
 use Rattle.lvm_group.specs.Group.{first_bad}
-use Rattle.lvm_group.specs.Images.{HasOwnArea, HoldOnly, IsSettled, MeansVolume, over}
+use Rattle.lvm_group.specs.Images.{HoldOnly, IsSettled, MeansVolume, over}
 use Rattle.lvm_group.specs.Opening.{AreNow, AreServed, Means, within_sectors}
 use Rattle.lvm_group.specs.Runs.{Linear, data_start}
 use Rattle.lvm_group.proofs.OwnGroup.{own_sized}
@@ -16,7 +16,7 @@ use Rattle.pool_image.specs.Meaning.{arrays_held}
 use Rattle.pool_image.proofs.Joined.{bad_same}
 use Rattle.raid_rack.specs.declared.arrays.RaidRack.{RaidRack}
 use Rattle.raid_rack.specs.AllRuns.{AreCalls}
-use Rattle.raid_rack.specs.Raid.{Raid, held_in, live_of}
+use Rattle.raid_rack.specs.Raid.{Raid, held_in}
 use Rattle.raid_rack.specs.RaidRack.{raid_in, raid_seen, refused_in, slices_seen}
 use Rattle.pool_model.specs.Grouped.{HaveOwnAreas, HoldGroup}
 use Rattle.pool_model.proofs.Grouped.{group_left}

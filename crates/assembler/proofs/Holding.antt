@@ -16,6 +16,7 @@ use Rattle.array_image.specs.Places.{data_sector, log_slice, member_slice}
 use Rattle.array_image.specs.States.{current_places, is_current}
 use Rattle.array_image.specs.Held.{IsSettled, held_by}
 use Rattle.array_image.specs.Left.{IsClosed, IsInside, IsLeft, reading}
+use Rattle.array_image.specs.SoundArray.{array_fields}
 use Rattle.array_image.specs.Supers.{is_unclean, truth_in}
 use Rattle.array_image.proofs.Frames.{Agree, supers_same, truth_by_supers}
 use Rattle.array_image.proofs.Sources.{held_single}
@@ -28,6 +29,7 @@ use Rattle.std.specs.Option.{option_map_or}
 use Rattle.array_model.specs.declared.Seat.TheVariants.{Missing}
 use Rattle.array_core.specs.Opening.{seat_by}
 use Rattle.array_core.specs.Seats.{gone, names, restarted}
+use Rattle.array_core.specs.TruthHeld.{HoldTruth}
 use Rattle.array_core.specs.Slots.{place_by}
 use Rattle.pool_scan.proofs.Valid.{valid_arrays}
 use Rattle.array_image.specs.Arrays.{array_in, replayed, value_by}
@@ -40,10 +42,11 @@ use Rattle.raid_rack.specs.Agreeing.{AgreeLeaving, MakesAgree, SupersAgree}
 use Rattle.raid_rack.specs.Cleaning.{NoneFails}
 use Rattle.raid_rack.proofs.Agreed.{agree_by}
 use Rattle.raid_rack.specs.Losing.{arrays_same}
-use Rattle.raid_rack.specs.Raid.{IsTold, Raid, gone_in, held_in, is_over, spent_of}
+use Rattle.raid_rack.specs.Truths.{KeepsTruths, MakesTruths}
+use Rattle.raid_rack.specs.Raid.{AreLive, IsTold, Raid, gone_in, held_in, is_over, spent_of}
 use Rattle.raid_rack.specs.Book.{IsAfter}
 use Rattle.raid_rack.specs.Marking.{SaysBetween}
-use Rattle.raid_rack.specs.Moves.{IsHeeded, KeepsArrays, Mends}
+use Rattle.raid_rack.specs.Moves.{IsHeeded, IsSet, KeepsArrays, Mends}
 use Rattle.raid_rack.specs.Opening.{OpenedRaid, OpensRaid}
 use Rattle.raid_rack.proofs.Added.{names_current}
 use Rattle.raid_rack.proofs.Noted.{gone_from, gone_not, gone_some}
@@ -62,6 +65,7 @@ use Rattle.assembler.proofs.Rest.{copies_agree, log_there, opened_now}
 use Rattle.assembler.proofs.Agreeing.{fresh_agrees, left_reads}
 use Rattle.assembler.proofs.Shows.{few_made, few_place, got, live as live_at, none_past}
 use Rattle.assembler.proofs.Still.{opens_still, rest_closed}
+use Rattle.assembler.proofs.TruthFound.{hold_agreed, live_tells}
 use Rattle.assembler.proofs.Truthful.{truth_now}
 use Rattle.assembler.proofs.Whole.{whole_member}
 
@@ -225,7 +229,8 @@ module _ (f : Found) (t : Slices) (x : Seen) (checked : Checked) (absent : List 
       → ((n place s : ℕ) → n < 16 → IsLive (slices_seen t x) (slices_seen t x) (member_slice place n) s
       → (b.held (member_slice place n) s).current ≡ ((slices_seen t x).held (member_slice place n) s).current)
       → (w : Raid) (c : Seen) → OnlyReads b c → w.state ≡ f.state → IsHeeded w → OpenedRaid v w b c
-      → (n : ℕ) → n < f.state.joined → is_over w n ≡ false → (r : Image) → IsLeft c r → SupersAgree w.state r n × LeavesClean f w.state n r
+      → (n : ℕ) → n < f.state.joined → is_over w n ≡ false → (r : Image) → IsLeft c r
+      → SupersAgree w.state r n × LeavesClean f w.state n r × (truth_in w.state r n ≡ truth_of f n)
   agree_still l number_is log none fresh b opens stays kept w c reads same heeded marks n less goes r left =
       let a = slices_seen t x in
       let made = low_joined n less in
@@ -252,13 +257,13 @@ module _ (f : Found) (t : Slices) (x : Seen) (checked : Checked) (absent : List 
       ∙ kept n place u few first)
       r left in
       let of = found.opened.each n at.0 at.1 in
-      subst (λ (s : State). SupersAgree s r n × LeavesClean f s n r) (sym same) (
+      let here : truth_in f.state r n ≡ Some of.truth =
+      truth_by_supers f.state r (reading a) n (supers_same f.state r (reading a) n agree)
+      ∙ truth_now f t x checked absent orderly m steady pool found.opened n made of.truth of.truth_is (sound.own n of.truth made of.truth_is) in
+      subst (λ (s : State). SupersAgree s r n × LeavesClean f s n r × (truth_in s r n ≡ truth_of f n)) (sym same) (
         agree_by f.state r (reading a) n agree (fresh_agrees f t x checked absent orderly m steady pool found.opened sound none fresh n made at.0 at.1),
-        λ before now truth clean is.
-            let here : truth_in f.state r n ≡ Some of.truth =
-            truth_by_supers f.state r (reading a) n (supers_same f.state r (reading a) n agree)
-            ∙ truth_now f t x checked absent orderly m steady pool found.opened n made of.truth of.truth_is (sound.own n of.truth made of.truth_is) in
-            ap is_unclean (some_same now before (sym is ∙ here ∙ sym of.truth_is ∙ truth)) ∙ clean,
+        λ before now truth clean is. ap is_unclean (some_same now before (sym is ∙ here ∙ sym of.truth_is ∙ truth)) ∙ clean,
+        here ∙ sym of.truth_is,
       )
     where
       opens_lasting : {b : Seen} → Stays (slices_seen t x) b → b.lasting
@@ -291,13 +296,15 @@ module _ (f : Found) (t : Slices) (x : Seen) (checked : Checked) (absent : List 
       → (w : Raid) (c : Seen) → IsAfter f.state w.state → ((n : ℕ) → array_sectors_of (w.arrays n) ≡ array_sectors_of (arrays n))
       → OpenedRaid v w b c
       → ((n : ℕ) → n < f.state.joined → is_over w n ≡ false → (r : Image) → IsLeft c r → SupersAgree w.state r n × LeavesClean f w.state n r)
+      → ((n : ℕ) → n < f.state.joined → is_over w n ≡ false → HoldTruth (w.arrays n) c)
       → ((n : ℕ) (z : Super) → n < f.state.joined → truth_of f n ≡ Some z → IsArrayOf f n z (w.arrays n))
       → HoldsArrays f w (slices_seen t x) c
-  holds_marked b opens stays kept closing w c after sizes marks agree founds = record {
+  holds_marked b opens stays kept closing w c after sizes marks agree truths founds = record {
     after = after;
     arrays = founds;
     agree = λ n less goes r left. (agree n less goes r left).0;
     clean = λ n less goes r left. (agree n less goes r left).1;
+    truths = truths;
     told = marks.told;
     sectors = λ n less.
         let made = low_joined n less in
@@ -386,10 +393,22 @@ module _ (f : Found) (s : State) (t : Slices) (x : Seen) (checked : Checked) (ab
           let of = found.opened.each n one.0 one.1 in
           subst (λ (k : Super). k.size < 2 ^ 48) (ap (λ (k : View). k.truth) of.view ∙ some_same of.truth z (sym of.truth_is ∙ truth)) (rules n one.0 one.1).small
 
+  low_made : (n : ℕ) → n < f.state.joined → n < v.state.made
+  low_made n less =
+      let is = ap (λ (k : State). k.made) (state ∙ same) in
+      let least = ready in
+      omega (arith, least, less, is)
+
+  -- superblocks that were all written say their arrays' truths
+  made_truths : (w : Raid) (b c : Seen) → IsSet v b → OpensRaid before b → MakesTruths v w b c → (n : ℕ) → n < f.state.joined → HoldTruth (w.arrays n) c
+  made_truths w b c set opens makes n less =
+      makes n (low_made n less)
+      (live_tells v b n set (subst (λ k. AreLive k b) (sym (ap (λ (k : State). k.made) (state ∙ same))) opens.slices) (low_made n less))
+
   -- where a place is absent
   pub rack_still : (absent ≡ [] → ⊥) → gone_now ≡ absent → (w : Raid) (c : Seen) → Mends v w (slices_seen t x) c → MakesAgree v w (slices_seen t x) c → NoneFails (slices_seen t x) c
-      → HoldsArrays f w (slices_seen t x) c
-  rack_still away none w c mends agree quiet =
+      → IsSet v (slices_seen t x) → MakesTruths v w (slices_seen t x) c → HoldsArrays f w (slices_seen t x) c
+  rack_still away none w c mends agree quiet set makes =
       let now : (n : ℕ) (u : View) → slice_get checked.arrays.items n ≡ Some u → before.arrays n ≡ gone absent (restarted u) =
       λ n u is. are n u is ∙ ap (λ ps. gone ps (restarted u)) none in
       let opens = holds_still f t x checked absent orderly m holds.steady pool found holds.sound rules v.arrays v.number now l number log away in
@@ -401,14 +420,17 @@ module _ (f : Found) (s : State) (t : Slices) (x : Seen) (checked : Checked) (ab
       (λ n less goes r left.
       marked_clean none w mends.moves.arrays c n less (marks.told n less) goes r left
       (marks.agree (subst (λ k. MakesAgree k w (slices_seen t x) c) before_is agree) quiet n less goes r left))
+      (λ n less goes. made_truths w (slices_seen t x) c set opens makes n less)
       (founds none w mends.moves.arrays)
 
   -- where none is, and none goes
   pub rack_closed : absent ≡ [] → gone_now ≡ [] → (b : Seen) → ReplayCall l (current_places s) gone_now (slices_seen t x) b
       → (w : Raid) (c : Seen) → Mends v w b c
-      → (MakesAgree v w b c × NoneFails b c) ⊎ (OnlyReads b c × (w.state ≡ v.state) × (list_any (λ flag. flag) checked.stale.items ≡ false))
+      → IsSet v b
+      → (MakesAgree v w b c × NoneFails b c × MakesTruths v w b c)
+      ⊎ (OnlyReads b c × (w.state ≡ v.state) × (list_any (λ flag. flag) checked.stale.items ≡ false) × IsSet v c × KeepsTruths v w c c)
       → HoldsArrays f w (slices_seen t x) c
-  rack_closed none nobody b replay w c mends either =
+  rack_closed none nobody b replay w c mends set either =
       let now : (n : ℕ) (u : View) → slice_get checked.arrays.items n ≡ Some u → before.arrays n ≡ gone absent (restarted u) =
       λ n u is. are n u is ∙ ap (λ ps. gone ps (restarted u)) (nobody ∙ sym none) in
       let call : ReplayCall l (current_places f.state) [] (slices_seen t x) b =
@@ -425,8 +447,25 @@ module _ (f : Found) (s : State) (t : Slices) (x : Seen) (checked : Checked) (ab
         | inl made ↦ λ n less goes r left.
             marked_clean (nobody ∙ sym none) w mends.moves.arrays c n less (marks.told n less) goes r left
             (marks.agree (subst (λ k. MakesAgree k w b c) before_is made.0) made.1 n less goes r left)
-        | inr still ↦
-            agree_still f t x checked absent orderly m holds.steady pool found holds.sound rules v.arrays v.number now l number log none still.2 b opens replay.stays kept w c
-            still.0 (still.1 ∙ state ∙ same) mends.heeded marks
+        | inr still ↦ λ n less goes r left.
+            let at = agree_still f t x checked absent orderly m holds.steady pool found holds.sound rules v.arrays v.number now l number log none still.2 b opens replay.stays kept w c
+            still.0 (still.1 ∙ state ∙ same) mends.heeded marks n less goes r left in
+            (at.0, at.1)
+      ])
+      (elim either [
+        | inl made ↦ λ n less goes. made_truths w b c set opens made.2 n less
+        | inr still ↦ λ n less goes.
+            let made = low_made n less in
+            let one = got checked.arrays.items n (let count = m.founded.count in let least = ready in omega (arith, least, less, count)) in
+            let of = found.opened.each n one.0 one.1 in
+            let truth : (v.arrays n).truth ≡ of.truth = ap (λ (u : View). u.truth) (are n one.0 one.1) ∙ ap (λ (u : View). u.truth) of.view in
+            let told = marks.told n less in
+            still.4 n made
+            (hold_agreed v c n still.3 made (λ i stands d u. (told.stood goes).log.quiet i stands d u refl) of.truth (ap array_fields (sym truth))
+            (λ r left.
+            let at = agree_still f t x checked absent orderly m holds.steady pool found holds.sound rules v.arrays v.number now l number log none still.2 b opens replay.stays kept w c
+            still.0 (still.1 ∙ state ∙ same) mends.heeded marks n less goes r left in
+            subst (λ (k : State). SupersAgree k r n × (truth_in k r n ≡ Some of.truth)) still.1 (at.0, at.2 ∙ of.truth_is))
+            (subst (λ (k : State). AreLive k.made c) still.1 (told.slices goes)))
       ])
       (founds (nobody ∙ sym none) w mends.moves.arrays)

@@ -42,3 +42,4 @@ mod Volumes
 mod Whole
 mod Written
 mod Grouped
+mod TruthFound

@@ -42,10 +42,12 @@ use Rattle.assembler.specs.Mending.{MendsTables}
 use Rattle.assembler.specs.Writing.{IsSlicedOrTable}
 use Rattle.assembler.proofs.Drives.{sliced_at}
 use Rattle.assembler.proofs.Running.{members_later}
+use Rattle.raid_rack.specs.Truths.{MakesTruths}
+use Rattle.raid_rack.proofs.Truths.{makes_after}
 
 -- ---- reads before losses are mended
 
-reads_move : (v : Raid) (a b : Seen) → IsSet v a → 0 < v.state.made → OnlyReads a b → Moves v v a b
+pub reads_move : (v : Raid) (a b : Seen) → IsSet v a → 0 < v.state.made → OnlyReads a b → Moves v v a b
 reads_move v a b set some reads =
     moves_read v v.arrays 0 a b set
     (reads_notes v v.arrays 0 a b set some reads (λ n other. refl)
@@ -73,6 +75,10 @@ mends_then v w z a b c one two = record {
 -- superblocks that agree after calls, some reads before which are calls of the same arrays
 pub reads_agree : (v w : Raid) (a b c : Seen) → IsSet v a → 0 < v.state.made → OnlyReads a b → Moves v w b c → MakesAgree v w b c → MakesAgree v w a c
 reads_agree v w a b c set some reads moves agree = agree_then v v w a b c (reads_move v a b set some reads) moves agree
+
+-- and superblocks that are all written
+pub reads_makes : (v w : Raid) (a b c : Seen) → IsSet v a → 0 < v.state.made → OnlyReads a b → MakesTruths v w b c → MakesTruths v w a c
+reads_makes v w a b c set some reads = makes_after v v w a b c set.lasting (reads_move v a b set some reads)
 
 -- ---- sectors of tables
 

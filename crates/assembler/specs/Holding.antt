@@ -26,6 +26,7 @@ use Rattle.pool_model.specs.Pools.{IsSoundPool}
 use Rattle.pool_rest.specs.Standing.{IsLasting}
 use Rattle.pool_rest.specs.Resting.{AreSectors, AreSingle, StandsNow}
 use Rattle.pool_check.specs.Drives.{Drives}
+use Rattle.array_core.specs.TruthHeld.{HoldTruth}
 use Rattle.raid_rack.specs.Agreeing.{SupersAgree}
 use Rattle.raid_rack.specs.Raid.{Raid, IsTold, held_in, is_over, live_of, spent_of}
 use Rattle.array_image.specs.SoundArray.{first_unsynced}
@@ -113,5 +114,7 @@ pub record HoldsArrays (f : Found) (v : Raid) (a b : Seen) : Type 0 where
       → Leaves a b (λ c. IsInside a.sectors c → SaysBetween f.state v.state n (pool_values f n) (spent_of v n) (replayed a.sectors c))
   -- the superblocks of each agree, durably
   pub agree : (n : ℕ) → n < f.state.joined → is_over v n ≡ false → (r : Image) → IsLeft b r → SupersAgree v.state r n
+  -- and say its truth
+  pub truths : (n : ℕ) → n < f.state.joined → is_over v n ≡ false → HoldTruth (v.arrays n) b
   -- and leave no row to resync where the pool's left none
   pub clean : (n : ℕ) → n < f.state.joined → is_over v n ≡ false → (r : Image) → IsLeft b r → LeavesClean f v.state n r

@@ -22,10 +22,11 @@ use Rattle.pool_scan.specs.Scanning.{now_in}
 use Rattle.pool_rest.specs.Moments.{BringsNoState, TakesLower}
 use Rattle.pool_rest.specs.Resting.{IsIdle}
 use Rattle.pool_rest.specs.SoundLogs.{HasSoundLogs}
+use Rattle.array_core.specs.TruthHeld.{HoldTruth}
 use Rattle.raid_rack.specs.declared.arrays.RaidRack.{RaidRack}
 use Rattle.raid_rack.specs.Agreeing.{SupersAgree}
 use Rattle.raid_rack.specs.Book.{IsAfter}
-use Rattle.raid_rack.specs.Raid.{IsTold}
+use Rattle.raid_rack.specs.Raid.{IsTold, Raid}
 use Rattle.raid_rack.specs.RaidRack.{raid_in, raid_seen, slices_in, slices_seen}
 use Rattle.assembler.specs.declared.refusal.Refusal.{Refusal}
 use Rattle.pool_model.specs.Grouped.{HaveOwnAreas, HoldGroup}
@@ -69,6 +70,10 @@ MayStop x f =
     ⊎ (((IsSoundList f × HasSoundPlan f) ⊎ LieApart f)
     × (BringsNoState x ⊎ (HaveStood f × TakesLower x)))
 
+-- no disk had the state of another pool, once the pending record was replayed
+abbrev pub HaveOnePool : Found → Type 0
+HaveOnePool f = (d : ℕ) (copy : Copied) → d < f.disks.count → (f.identities d).copied ≡ Some copy → copy.state.pool ≡ f.state.pool
+
 -- A volume that was opened means what the disks x do: it is the volume of the group of their pool, over the slices of its drives. Marks
 -- alone have come to the pool's state; each array that is ready for the volume is told, and the one of the pool's superblocks, and no
 -- sector of these is spent.
@@ -82,6 +87,7 @@ pub record IsMeantBy {R : Type 0} (seen : R → Seen) (x : Seen) (f : Found) (ra
   pub told : (n : ℕ) → n < f.state.joined → IsTold (raid_in rack) (slices_seen seen rack) n
   pub arrays : (n : ℕ) (t : Super) → n < f.state.joined → truth_of f n ≡ Some t → IsArrayOf f n t ((raid_in rack).arrays n)
   pub live : AllLive (raid_in rack)
+  pub one_pool : HaveOnePool f
   -- where all arrays are ready for the volume, and have the pool's metadata areas, they hold its group, whatever they may be left with
   pub group : f.state.joined ≡ f.state.made → HaveOwnAreas f → HoldGroup (raid_in rack) (slices_seen seen rack)
   -- outside the slices the disks have each drive's table, and other disks say what they said
@@ -93,6 +99,10 @@ pub record IsMeantBy {R : Type 0} (seen : R → Seen) (x : Seen) (f : Found) (ra
 -- is replayed.
 abbrev pub HaveAgreed : Found → State → Seen → Type 0
 HaveAgreed f s x = (n : ℕ) → n < f.state.joined → (r : Image) → IsLeft x r → SupersAgree s r n
+
+-- They say its truth, durably.
+abbrev pub SayTruths : Found → Raid → Seen → Type 0
+SayTruths f v x = (n : ℕ) → n < f.state.joined → HoldTruth (v.arrays n) x
 
 -- Disks of a pool that was refused once its arrays were made: by slices of its drives what a stop left since x, or leaves now, holds the arrays that the
 -- pool had, and each drive has its partition table at every moment. Whatever the disks may be left with now holds a sound pool again, by a state to

@@ -12,7 +12,7 @@ ghost use Rattle.slice_rack.specs.SliceRack.{below_of, tables};
 ghost use Rattle.slice_rack.specs.Slices.{seat_of};
 ghost use Rattle.lvm_group.specs.Shown.{total, volume_of};
 ghost use Rattle.lvm_group.specs.Volume.{below_of as rack_in, linear, seqno_of};
-ghost use Rattle.assembler.specs.Sound.{HaveAgreed, HoldSound, IsMeantBy, IsMeantRefusal, KeepsPool};
+ghost use Rattle.assembler.specs.Sound.{HaveAgreed, HoldSound, IsMeantBy, IsMeantRefusal, KeepsPool, SayTruths};
 ghost use Rattle.assembler.specs.Volume.{Agrees, OpensVolume, RefusesVolume};
 ghost use Rattle.array_image.specs.States.{is_current};
 ghost use Rattle.assembler.specs.Wanting.{LeavesPool};
@@ -164,6 +164,8 @@ pub fn assemble<R: Rack>(
     // Then too the superblocks of each array agree, durably.
     ensures agreed { IfOk result (λ volume. (f : Found) → HoldSound (R.seen rack) f → IsUnfaulted (R.seen rack) (R.seen (below_of (slices_in (rack_in volume))))
         → HaveAgreed f (raid_in (rack_in volume)).state (slices_seen R.seen (rack_in volume))) }
+    ensures truths { IfOk result (λ volume. (f : Found) → HoldSound (R.seen rack) f → IsUnfaulted (R.seen rack) (R.seen (below_of (slices_in (rack_in volume))))
+        → SayTruths f (raid_in (rack_in volume)) (slices_seen R.seen (rack_in volume))) }
     ensures exact { IfErr result (λ back. (f : Found) → HoldSound (R.seen rack) f → IsUnfaulted (R.seen rack) (R.seen back.rack)
         → back.why ≢ Memory → IsMeantRefusal (R.seen rack) back.why) }
     // Whatever the disks tell and whoever goes, a refusal has its cause in what was read of them.

@@ -11,6 +11,7 @@ ghost use Rattle.commit_log.specs.Phases.{AreLogs};
 ghost use Rattle.array_model.specs.View.{View, IsArray, IsSameArray, sectors_of};
 ghost use Rattle.lvm_group.specs.Shown.{total};
 ghost use Rattle.raid_rack.specs.Agreeing.{MakesAgree};
+ghost use Rattle.raid_rack.specs.Truths.{KeepsTruths, MakesTruths};
 ghost use Rattle.raid_rack.specs.Book.{IsAfter};
 ghost use Rattle.raid_rack.specs.Moves.{AreMarked, Mends};
 ghost use Rattle.raid_rack.specs.RaidRack.{IsFit, IsRunning, SliceRuns, arrays_in, raid_in, raid_seen, refused_in, slices_in, slices_seen, written_in};
@@ -84,6 +85,9 @@ fn mark_gone<R: Rack>(raid: &mut RaidRack<R>, is_stale: bool)
     ensures mends { Mends (raid_in raid.old) (raid_in raid.new) (slices_seen R.seen raid.old) (slices_seen R.seen raid.new) }
     ensures supers { (is_stale ≡ true) ⊎ (AreMarked (raid_in raid.old) → ⊥)
         → MakesAgree (raid_in raid.old) (raid_in raid.new) (slices_seen R.seen raid.old) (slices_seen R.seen raid.new) }
+    ensures makes { (is_stale ≡ true) ⊎ (AreMarked (raid_in raid.old) → ⊥)
+        → MakesTruths (raid_in raid.old) (raid_in raid.new) (slices_seen R.seen raid.old) (slices_seen R.seen raid.new) }
+    ensures truths { is_stale ≡ false → KeepsTruths (raid_in raid.old) (raid_in raid.new) (slices_seen R.seen raid.old) (slices_seen R.seen raid.new) }
     ensures idle { is_stale ≡ false → AreMarked (raid_in raid.old)
         → (slices_in raid.new ≡ slices_in raid.old) × ((raid_in raid.new).state ≡ (raid_in raid.old).state) }
     ensures fit { IsFit (arrays_in raid.new) (slices_seen R.seen raid.new) }

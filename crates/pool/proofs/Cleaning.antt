@@ -1,5 +1,6 @@
 -- The end of a run.
 use Rattle.std.proofs.Common.{◌≡◌, ℕ, ◌<◌, nat_lt, refl, sym, subst, lt-ltb, arith}
+use Rattle.rack.proofs.Writing.{only_quiet}
 use Rattle.rack.specs.Values.{IsSingle}
 use Rattle.rack.specs.Seen.{Rose, Seen}
 use Rattle.rack.specs.Shelf.{Shelf}
@@ -10,6 +11,7 @@ use Rattle.array_model.specs.View.{shape_of}
 use Rattle.lvm_group.specs.Laws.{live_below}
 use Rattle.lvm_group.specs.Runs.{array_of, sector_of}
 use Rattle.lvm_group.specs.Volume.{linear}
+use Rattle.lvm_group.specs.Framed.{IsShown}
 use Rattle.raid_rack.specs.declared.arrays.Arrays.{Arrays}
 use Rattle.raid_rack.specs.declared.arrays.RaidRack.{RaidRack}
 use Rattle.raid_rack.specs.Cleaning.{CleansAll, NoneFails, LeavesItsRows as LeavesRowsOf}
@@ -73,6 +75,7 @@ end_done seen shelf runs laws names p raid fit cleaned =
     let stays = reached_stays seen shelf p raid fit cleaned.keeps in
     let keeps = book_lost (book x) (book y) (slices_shown y) stays.fit.0.running.set stays.fit.0.heeded moves.book.same.made moves.arrays in
     let call = is_call seen shelf runs laws names 1 p q fit stays refl cleaned.ran moves.book (record { left = moves.left; cause = moves.cause }) keeps cleaned.truths
+    (only_quiet (IsShown l) cleaned.keeps.stays cleaned.keeps.keeps)
     (raises_more 288 most_raised (book x) (book y) (omega arith) cleaned.raises) in
     record {
       passes = call.passes;

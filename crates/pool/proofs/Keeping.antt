@@ -13,13 +13,15 @@ use Rattle.array_image.specs.Places.{log_slice}
 use Rattle.array_image.specs.States.{is_current}
 use Rattle.commit_log.proofs.Kept.{place_of_log}
 use Rattle.array_model.specs.View.{HasFault as HasDriveFault}
+use Rattle.lvm_group.specs.Framed.{IsShown}
+use Rattle.lvm_group.specs.Runs.{Linear}
 use Rattle.raid_rack.specs.Book.{IsAfter, after_same, after_then}
 use Rattle.raid_rack.specs.Moves.{AreCaused}
 use Rattle.raid_rack.specs.Raid.{Raid, gone_in, is_left}
 use Rattle.raid_rack.specs.Truths.{KeepsTruths}
 use Rattle.raid_rack.proofs.Truths.{truths_then}
 use Rattle.raid_rack.proofs.Whole.{heeded_left}
-use Rattle.pool.specs.View.{View, book, slices_shown, volume}
+use Rattle.pool.specs.View.{View, arrays_shown, book, slices_shown, volume}
 use Rattle.pool.proofs.Booked.{book_same, book_then}
 use Rattle.raid_rack.proofs.Raises.{raises_more, raises_then}
 use Rattle.pool.specs.Keeping.{KeepsBook, Raises, most_raised}
@@ -34,6 +36,7 @@ passes_same x fit = record {
   marks = after_same (book x).state;
   book = book_same (book x);
   truths = λ n low held. held;
+  arrays = only_none (arrays_shown x) (IsShown x.linear) fit.0;
   apart = only_none x.bay (IsSliced x.slices) fit.0.running.set.fit.0;
   shelf = keeps_shelf_same x.shelf;
 }
@@ -44,14 +47,16 @@ marks_same x lost place was now = absurd (both_ways (is_current (book x).state p
 -- the volume stays, and calls in a row of its slices run below it
 pub passes_of : {own : Type 0} (x y : View) → (volume x).fit → Stays (volume x) (volume y) → y.linear ≡ x.linear
     → Runs x.slices y.slices x.bay y.bay own → IsAfter (book x).state (book y).state → KeepsBook (book x) (book y)
-    → KeepsTruths (book x) (book y) (slices_shown x) (slices_shown y) → KeepsShelf x.shelf y.shelf → Passes x y
-passes_of x y fit stays same runs marks keeps truths shelf = record {
+    → KeepsTruths (book x) (book y) (slices_shown x) (slices_shown y) → WritesOnly (arrays_shown x) (arrays_shown y) (IsShown x.linear)
+    → KeepsShelf x.shelf y.shelf → Passes x y
+passes_of x y fit stays same runs marks keeps truths arrays shelf = record {
   stays = stays;
   linear = same;
   slices = runs.tables;
   marks = marks;
   book = keeps;
   truths = truths;
+  arrays = arrays;
   apart = runs.apart fit.0.running.set.fit.0 fit.0.running.set.fit.1;
   shelf = shelf;
 }
@@ -85,6 +90,7 @@ passes_then x y z one two = record {
   marks = after_then (book x).state (book y).state (book z).state one.marks two.marks;
   book = book_then (book x) (book y) (book z) one.marks.same.made two.marks one.book two.book;
   truths = truths_then (book x) (book y) (book z) (slices_shown x) (slices_shown y) (slices_shown z) one.marks.same.made one.truths two.truths;
+  arrays = only_then (IsShown x.linear) one.arrays (subst (λ (l : Linear). WritesOnly (arrays_shown y) (arrays_shown z) (IsShown l)) one.linear two.arrays);
   apart = only_then (IsSliced x.slices) one.apart (subst (λ (t : Slices). WritesOnly y.bay z.bay (IsSliced t)) one.slices two.apart);
   shelf = keeps_shelf_then x.shelf y.shelf z.shelf one.shelf two.shelf;
 }

@@ -5,6 +5,7 @@ use Rattle.std.specs.Option.{option_map_or}
 use Rattle.std.proofs.Common.{◌≡◌, ℕ, ◌<◌, ◌&&◌, ◌||◌, not, nat_le, Bool, true, false, [], ◌∷◌, Ok, Err, length, if◌then◌else◌, refl, sym, ap, ◌∙◌, inl, inr, lt-ltb, leb-true, ne_eqb, arith}
 use Rattle.std.proofs.lemmas.Bool.{both_ways, and_parts, and_from, cases_Bool, cases_eq, cases_lt}
 use Rattle.std.proofs.lemmas.Option.{slice_get_past}
+use Rattle.rack.proofs.Writing.{only_quiet}
 use Rattle.rack.specs.Seen.{Seen}
 use Rattle.rack.specs.Shelf.{Shelf}
 use Rattle.slice_rack.specs.SliceRack.{below_of}
@@ -14,6 +15,7 @@ use Rattle.array_image.specs.States.{is_current}
 use Rattle.commit_log.proofs.Deciding.{names_first}
 use Rattle.array_model.specs.View.{has_gone}
 use Rattle.array_core.specs.Seats.{gone, names}
+use Rattle.lvm_group.specs.Framed.{IsShown}
 use Rattle.raid_rack.specs.Truths.{KeepsTruths}
 use Rattle.raid_rack.specs.Losses.{has_other}
 use Rattle.raid_rack.specs.Moves.{IsHeeded, IsSet, Mends, RaisesBy, noted_at}
@@ -129,7 +131,8 @@ lose_done seen shelf runs laws names p raid place fit current lost =
     let stays = reached_stays seen shelf p raid fit lost.keeps in
     let keeps = book_noted (book x) (book y) (slices_shown x) (slices_shown y) (place ∷ []) fit.0.running.set stays.fit.0.running.set
     stays.fit.0.heeded lost.mends.moves.book.same.made lost.mends.moves.arrays in
-    let passes = passes_of x y fit stays refl lost.ran lost.mends.moves.book keeps lost.truths (names (bay_in p) (below_of (slices_in raid)) lost.ran.below) in
+    let passes = passes_of x y fit stays refl lost.ran lost.mends.moves.book keeps lost.truths
+    (only_quiet (IsShown x.linear) lost.keeps.stays lost.keeps.keeps) (names (bay_in p) (below_of (slices_in raid)) lost.ran.below) in
     record {
       passes = passes;
       raises = raises_more 17 most_raised (book x) (book y) (omega arith) lost.raises;

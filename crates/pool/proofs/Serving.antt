@@ -7,9 +7,11 @@ use Rattle.rack.specs.Seen.{Seen, Stays}
 use Rattle.rack.specs.Moments.{IsSound}
 use Rattle.rack.specs.Shelf.{KeepsShelf, Shelf}
 use Rattle.rack.specs.Calls.{Reads, Syncs, Writes}
+use Rattle.rack.specs.Sequences.{WritesOnly}
 use Rattle.slice_rack.specs.SliceRack.{below_of, tables}
 use Rattle.slice_rack.specs.Laws as slices
 use Rattle.lvm_group.specs.Laws as volumes
+use Rattle.lvm_group.specs.Framed.{Frames, IsShown}
 use Rattle.lvm_group.specs.Volume.{linear}
 use Rattle.rack.specs.Several.{Several}
 use Rattle.raid_rack.specs.AllRuns.{AreRuns, IsOneCall}
@@ -66,10 +68,11 @@ pub is_call : {R : Type 0} (seen : R → Seen) (shelf : R → Shelf) (runs : R �
     → AreCaused (raid_in (arrays_of p)) (raid_in (arrays_of q)) (slices_seen seen (arrays_of p)) (slices_seen seen (arrays_of q))
     → KeepsBook (raid_in (arrays_of p)) (raid_in (arrays_of q))
     → KeepsTruths (raid_in (arrays_of p)) (raid_in (arrays_of q)) (slices_seen seen (arrays_of p)) (slices_seen seen (arrays_of q))
+    → WritesOnly (raid_seen seen (arrays_of p)) (raid_seen seen (arrays_of q)) (IsShown (linear p.volume))
     → Raises calls (view seen shelf p) (view seen shelf q)
     → IsCall calls (view seen shelf p) (view seen shelf q)
-is_call seen shelf runs laws names calls p q fit stays same ran marks caused keeps truths raises = record {
-  passes = passes_of (view seen shelf p) (view seen shelf q) fit stays same ran marks keeps truths
+is_call seen shelf runs laws names calls p q fit stays same ran marks caused keeps truths arrays raises = record {
+  passes = passes_of (view seen shelf p) (view seen shelf q) fit stays same ran marks keeps truths arrays
       (names (bay_in p) (bay_in q) ran.below);
   raises = raises;
   marks = marks_of (view seen shelf p) (view seen shelf q) fit ran.tables caused;
@@ -79,18 +82,18 @@ is_call seen shelf runs laws names calls p q fit stays same ran marks caused kee
 -- a call of the volume
 pub volume_call : {R : Type 0} (seen : R → Seen) (shelf : R → Shelf) (runs : R → R → Type 0) (laws : Laws seen) (names : KeepNames shelf runs) (p q : Pool R)
     → (volume (view seen shelf p)).fit
-    → Stays (volume (view seen shelf p)) (volume (view seen shelf q)) → linear q.volume ≡ linear p.volume → AreRuns seen runs (arrays_of p) (arrays_of q)
+    → Stays (volume (view seen shelf p)) (volume (view seen shelf q)) → Frames (raid_seen seen) p.volume q.volume → AreRuns seen runs (arrays_of p) (arrays_of q)
     → Several (λ a b. IsOneCall (raid_in a) (raid_in b)) (1 + (linear p.volume).arrays) (arrays_of p) (arrays_of q)
     → IsCall 1 (view seen shelf p) (view seen shelf q)
-volume_call seen shelf runs laws names p q fit stays same ran several =
+volume_call seen shelf runs laws names p q fit stays frames ran several =
     let v = raid_in (arrays_of p) in
     let w = raid_in (arrays_of q) in
     let running = stays.fit.0 in
     let disks = fit.1.arrays in
     let most = fit.0.running.set.most in
-    is_call seen shelf runs laws names 1 p q fit stays same ran.0 ran.1.book ran.1.caused
+    is_call seen shelf runs laws names 1 p q fit stays frames.volume ran.0 ran.1.book ran.1.caused
     (book_lost v w (slices_seen seen (arrays_of q)) running.running.set running.heeded ran.1.book.same.made ran.2.arrays)
-    ran.1.truths
+    ran.1.truths (frames.writes fit.0)
     (several_raise (1 + (linear p.volume).arrays) most_raised (arrays_of p) (arrays_of q) (omega (arith, disks, most)) several)
 
 -- no call

@@ -1,5 +1,6 @@
 -- Works of maintenance in a row, and what they are to the volume.
 use Rattle.std.proofs.Common.{◌≡◌, ℕ, ◌+◌, ◌*◌, refl, sym, subst, ◌∙◌, arith}
+use Rattle.rack.proofs.Writing.{only_quiet}
 use Rattle.rack.specs.Seen.{IsPick, Seen, Stays}
 use Rattle.rack.specs.Shelf.{Shelf}
 use Rattle.rack.specs.Calls.{KeepsAll}
@@ -10,6 +11,7 @@ use Rattle.lvm_group.proofs.Below.{keeps_volume, stays_volume}
 use Rattle.lvm_group.specs.Runs.{Linear}
 use Rattle.lvm_group.specs.Shown.{volume_of}
 use Rattle.lvm_group.specs.Volume.{linear}
+use Rattle.lvm_group.specs.Framed.{IsShown}
 use Rattle.raid_rack.specs.Moves.{RaisesBy}
 use Rattle.raid_rack.specs.RaidRack.{KeepsRack, SliceRuns, raid_in, raid_seen, slices_in, slices_seen, written_in}
 use Rattle.raid_rack.specs.Runs.{RaidRuns, raid_runs_same, raid_runs_then}
@@ -108,7 +110,8 @@ module _ {R : Type 0} (seen : R → Seen) (shelf : R → Shelf) (runs : R → R 
 
   pub worked_call : (laws : Laws seen) (names : KeepNames shelf runs) (count : ℕ) (p q : Pool R) → (volume (view seen shelf p)).fit → IsWorked seen runs count p q → IsCall count (view seen shelf p) (view seen shelf q)
   worked_call laws names count p q fit worked =
-      is_call seen shelf runs laws names count p q fit (worked_stays count p q fit worked) worked.linear worked.ran worked.book.book worked.book.caused worked.arrays worked.book.truths worked.raises
+      is_call seen shelf runs laws names count p q fit (worked_stays count p q fit worked) worked.linear worked.ran worked.book.book worked.book.caused worked.arrays worked.book.truths
+      (only_quiet (IsShown (linear p.volume)) worked.keeps.stays worked.keeps.keeps) worked.raises
 
   pub worked_does : (laws : Laws seen) (names : KeepNames shelf runs) (count : ℕ) (p q : Pool R) → (volume (view seen shelf p)).fit → IsWorked seen runs count p q
       → Does (view seen shelf p) (view seen shelf q) unchanged unchanged

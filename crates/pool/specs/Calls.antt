@@ -13,6 +13,7 @@ use Rattle.array_core.specs.Superblocks.{is_settled, left_offset}
 use Rattle.slice_rack.specs.Slices.{disk_of}
 use Rattle.slice_rack.specs.Runs.{IsSliced}
 use Rattle.array_core.specs.TruthHeld.{HoldTruth}
+use Rattle.lvm_group.specs.Framed.{IsShown}
 use Rattle.raid_rack.specs.Agreeing.{AgreeLeaving}
 use Rattle.raid_rack.specs.Book.{IsAfter}
 use Rattle.raid_rack.specs.Losses.{has_other}
@@ -22,14 +23,14 @@ use Rattle.pool.specs.declared.calls.LoseFault.{LoseFault}
 use Rattle.pool.specs.declared.calls.LoseFault.TheVariants.{LastDrive, NoSuchDrive}
 use Rattle.pool.specs.declared.calls.SectorFault.{SectorFault}
 use Rattle.pool.specs.declared.calls.SectorFault.TheVariants.{Range, Spent}
-use Rattle.pool.specs.View.{View, book, slices_shown, volume}
+use Rattle.pool.specs.View.{View, arrays_shown, book, slices_shown, volume}
 use Rattle.raid_rack.specs.declared.works.Stuck.{Stuck}
 use Rattle.pool.specs.Keeping.{KeepsBook, Raises}
 use Rattle.pool.specs.Works.{HasRowsAlone, IsStuck, left_of}
 use Rattle.pool.specs.Volume.{Does, Holds, is_spent, size_of, unchanged}
 
 -- What each call keeps: the volume stays where it is, marks alone come to the state, or the end of its plan, arrays lose whom these marks
--- name and nobody else, of the bay's disks only sectors of slices are written, and its names stay.
+-- name and nobody else, of the arrays' sectors only the volume's are written and of the bay's disks only those of slices, and its names stay.
 pub record Passes (x y : View) : Type 0 where
   pub stays : Stays (volume x) (volume y)
   pub linear : y.linear ≡ x.linear
@@ -38,6 +39,7 @@ pub record Passes (x y : View) : Type 0 where
   -- superblocks that said an array's truth do so after it
   pub truths : KeepsTruths (book x) (book y) (slices_shown x) (slices_shown y)
   pub book : KeepsBook (book x) (book y)
+  pub arrays : WritesOnly (arrays_shown x) (arrays_shown y) (IsShown x.linear)
   pub apart : WritesOnly x.bay y.bay (IsSliced x.slices)
   pub shelf : KeepsShelf x.shelf y.shelf
 

@@ -37,9 +37,13 @@ book x = raid_by x.arrays
 abbrev pub slices_shown : View → Seen
 slices_shown x = slices_of x.slices x.bay
 
+-- its arrays, as a rack
+abbrev pub arrays_shown : View → Seen
+arrays_shown x = raid_of (IsFit x.arrays (slices_shown x)) x.refused (book x) (slices_shown x)
+
 -- its volume, as a rack of one disk
 abbrev pub volume : View → Seen
-volume x = volume_of x.linear (raid_of (IsFit x.arrays (slices_shown x)) x.refused (book x) (slices_shown x))
+volume x = volume_of x.linear (arrays_shown x)
 
 -- a sector of a volume can't be had by a book
 abbrev pub spent_by : Linear → Raid → ℕ → Bool

@@ -15,7 +15,7 @@ ghost use Rattle.pool_rest.specs.Resting.{WritesDrives};
 ghost use Rattle.assembler.specs.Causes.{HasRefusalCause};
 ghost use Rattle.assembler.specs.Marking.{MarksDrives};
 ghost use Rattle.assembler.specs.Refusing.{is_early};
-ghost use Rattle.assembler.specs.Sound.{HaveAgreed, HoldSound, IsMeantBy, IsMeantRefusal, KeepsPool};
+ghost use Rattle.assembler.specs.Sound.{HaveAgreed, HoldSound, IsMeantBy, IsMeantRefusal, KeepsPool, SayTruths};
 ghost use Rattle.assembler.specs.Wanting.{LeavesPool};
 ghost use Rattle.assembler.specs.Writing.{WritesPool};
 ghost use Rattle.raid_rack.specs.RaidRack.{arrays_in};
@@ -54,6 +54,8 @@ impl<R: Bay> Pool<R> {
             → (p d : ℕ) → f.seats p ≡ Some d → IsSettled (R.seen bay) (R.seen (bay_in pool)) d) }
         ensures agreed { IfOk result (λ pool. (f : Found) → HoldSound (R.seen bay) f → IsUnfaulted (R.seen bay) (R.seen (bay_in pool))
             → HaveAgreed f (book (view R.seen R.shelf pool)).state (slices_shown (view R.seen R.shelf pool))) }
+        ensures truths { IfOk result (λ pool. (f : Found) → HoldSound (R.seen bay) f → IsUnfaulted (R.seen bay) (R.seen (bay_in pool))
+            → SayTruths f (book (view R.seen R.shelf pool)) (slices_shown (view R.seen R.shelf pool))) }
         ensures exact { IfErr result (λ back. (f : Found) → HoldSound (R.seen bay) f → IsUnfaulted (R.seen bay) (R.seen back.rack)
             → back.why ≢ Refusal.Memory → IsMeantRefusal (R.seen bay) back.why) }
         // Whatever the disks tell and whoever goes, a refusal has its cause in what was read of them.

@@ -24,7 +24,7 @@ use Rattle.shr_tool.specs.Serving.{IsServing, Ran}
 use Rattle.pool.specs.Moment.{moment_of}
 use Rattle.shr_tool.specs.Timeline.{ground_of}
 use Rattle.shr_tool.proofs.Finishing.{lasts_of}
-use Rattle.shr_tool.proofs.History.{IsUnspent, ran_more}
+use Rattle.shr_tool.proofs.History.{IsLawful, IsUnspent, ran_more}
 use Rattle.shr_tool.proofs.Performing.{read_done, read_spent}
 
 -- reads change nothing
@@ -47,13 +47,13 @@ bytes_more a sector =
 pub ran_read :
     (x y z : View) (sector : ℕ) (into : List ℕ) (r : Result (Unit {0}) SectorFault)
     → r ≡ Ok tt
-    → IsUnspent z
+    → IsLawful z
     → Ran x y (reads_of sector)
     → ReadsSector y z sector into r
     → Ran x z (reads_of (sector + 1))
-ran_read x y z sector into r is unspent ran reads =
+ran_read x y z sector into r is laws ran reads =
     subst (λ events. Ran x z events) (sym (reads_more sector))
-    (ran_more x y z (reads_of sector) (read_of sector) (data_line into) unspent ran (read_done y z sector into (data_line into) r is refl reads))
+    (ran_more x y z (reads_of sector) (read_of sector) (data_line into) laws ran (read_done y z sector into (data_line into) r is refl reads))
 
 -- and gave its current bytes
 pub value_read :
@@ -97,12 +97,12 @@ prefix_more a sector into out out' out'' value before adds =
 pub ran_spent :
     (x y z : View) (sector : ℕ) (into : List ℕ) (r : Result (Unit {0}) SectorFault)
     → r ≡ Err IsSpent
-    → IsUnspent z
+    → IsLawful z
     → Ran x y (reads_of sector)
     → ReadsSector y z sector into r
     → Ran x z (reads_of sector ++ spent (Ok (Read sector)) sector ∷ [])
-ran_spent x y z sector into r is unspent ran reads =
-    ran_more x y z (reads_of sector) (spent (Ok (Read sector)) sector) (spent_line sector) unspent ran
+ran_spent x y z sector into r is laws ran reads =
+    ran_more x y z (reads_of sector) (spent (Ok (Read sector)) sector) (spent_line sector) laws ran
     (read_spent y z sector into (spent_line sector) r is refl reads)
 
 -- an export, once the pool was ended

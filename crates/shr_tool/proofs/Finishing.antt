@@ -22,31 +22,17 @@ use Rattle.shr_tool.specs.Events.{AnyTakes, Event, any_takes, array_by}
 use Rattle.pool.specs.Moment.{moment_of}
 use Rattle.shr_tool.specs.Timeline.{Steps, Timeline, ground_of, steps_of}
 use Rattle.shr_tool.specs.Serving.{HasStopCause, IsServing, Ran, Serves, StopsAtEnd}
+use Rattle.shr_tool.specs.Between.{HoldsEach}
 use Rattle.shr_tool.specs.Service.{AreFit, IsServed, pool_by}
 use Rattle.shr_tool.specs.Outcome.{DoneOutcome, EndsAt, HasStatusCause, IsRunOn, Lasts, LeavesItsRows, Outcome, status_by}
-use Rattle.shr_tool.proofs.History.{IsUnspent, ran_before, slices_kept, standing, steps_before}
+use Rattle.shr_tool.proofs.Between.{told_after}
+use Rattle.shr_tool.proofs.History.{IsUnspent, each_before, ran_before, slices_kept, standing, steps_before}
 use Rattle.shr_tool.proofs.Serviced.{goes_again, goes_calls, goes_run}
 use Rattle.shr_tool.proofs.Joined.{means_at}
 use Rattle.shr_tool.proofs.Told.{outside_told, steps_for, timeline_for}
 use Rattle.pool.proofs.Continuing.{continues_of, continues_then, outside_fewer, outside_of, outside_then}
 use Rattle.pool.proofs.Keeping.{passes_then}
-
--- each of the volume's arrays is told after calls, where no drive was to be replaced or a sector of the volume can be had
-told_after :
-    (x y : View) (a b : FlatArray) (events : List Event)
-    → Continues x y
-    → (any_takes events ≡ false → Passes x y)
-    → IsServing x a
-    → Holds y b
-    → IsServed (ground_of x) (moment_of y) events
-    → (n : ℕ) → n < x.linear.arrays → IsTold (book y) (slices_of y.slices y.bay) n
-told_after x y a b events continues passes serving holds (inl none) n inside =
-    (passes none).stays.told 0 serving.1 n (subst (λ (l : Linear). n < l.arrays) (sym continues.linear) inside)
-told_after x y a b events continues passes serving holds (inr some) n inside =
-    let same = continues.linear in
-    holds.told some.0 (subst (λ k. some.0 < k) (sym (holds.size ∙ continues.size)) some.1)
-    (subst (λ (l : Linear). spent_by l (book y) some.0 ≡ false) (sym same) some.2) n
-    (subst (λ (l : Linear). n < l.arrays) (sym same) inside)
+use Rattle.shr_tool.proofs.Absent.{safe_at}
 
 -- what can be had after the end of a pool could be had before it
 served_before :
@@ -200,6 +186,12 @@ lasts_of x m y a events unspent ran ends =
       apart = λ none. (passes none).apart;
       told = told_at x m y a events ran ends;
       rows = rows_at x m y a events ran ends;
+      between = λ serving traced f on.
+          subst (HoldsEach y.bay.stops (ground_of x) (AreSerial f.state) [] f (moment_of x) events (moment_of m))
+          (sym (steps_told x m y a events ran (continues_of m y ends.passes)))
+          (each_before x m y events a f ran (continues_of m y ends.passes) serving traced (goes_run x f on));
+      safe = λ serving none quiet f on.
+          safe_at x m y f (ran.passes none) ends quiet on (λ n low. serving.1 n low) (told_at x m y a events ran ends serving (inl none));
       again = λ serving served f on known fit lasts i pick.
           let same = steps_told x m y a events ran (continues_of m y ends.passes) in
           subst (λ (steps : Steps (moment_of x) events (moment_of m)). HoldAgain (pool_by f (moment_of x) events (moment_of m) steps) y.slices (book y).state i) (sym same)

@@ -1,8 +1,9 @@
 -- What a script's answering has done so far, and what one line more does.
-use Rattle.std.proofs.Common.{◌≡◌, ◌⊎◌, ℕ, ◌≤◌, false, List, [], ◌∷◌, ◌++◌, length, append_assoc, refl, sym, ◌∙◌, ap, subst, inl, inr, arith}
+use Rattle.std.proofs.Common.{◌≡◌, ◌⊎◌, ℕ, ◌≤◌, true, false, List, [], ◌∷◌, ◌++◌, length, append_assoc, refl, sym, ◌∙◌, ap, subst, inl, inr, arith}
 use Rattle.std.proofs.lemmas.Bool.{cases_Bool}
 use Rattle.std.proofs.lemmas.List.{append-nil}
 use Rattle.rack.specs.Seen.{Image}
+use Rattle.rack.specs.Moments.{IsSound}
 use Rattle.shr_script.specs.Line.{Line}
 use Rattle.flat_array.specs.Array.{FlatArray}
 use Rattle.shr_script.specs.Script.{script_of, cut_script_of}
@@ -13,13 +14,17 @@ use Rattle.pool.specs.Keeping.{KeepsBook, Raises}
 use Rattle.pool.specs.Continuing.{Continues, KeepsOutside}
 use Rattle.shr_tool.specs.declared.perform.Answer.{Answer}
 use Rattle.shr_tool.specs.declared.perform.Answer.TheVariants.{Given, Memory, Spent}
-use Rattle.shr_tool.specs.Events.{AnyTakes, Event, Takes, answer_of, array_by, becomes, calls_in, line_of, lines_of, takes_disk, text_of, texts, worse, worst_of}
+use Rattle.shr_tool.specs.Events.{AnyTakes, Event, Takes, answer_of, any_takes, array_by, becomes, calls_in, line_of, lines_of, takes_disk, text_of, texts, worse, worst_of}
 use Rattle.pool.specs.Moment.{Moment, moment_of}
 use Rattle.shr_tool.specs.Timeline.{Ground, KeepsDisks, KeepsSlices, KeepsStanding, Happens, Performs, Steps, Timeline, ground_of, steps_of}
-use Rattle.shr_tool.specs.Service.{GoesOn, pool_by}
+use Rattle.shr_tool.specs.Between.{HoldsEach}
+use Rattle.shr_tool.specs.Service.{AreFit, GoesBy, GoesOn, IsServed, pool_by}
+use Rattle.pool_image.specs.Drives.{Found}
+use Rattle.pool_model.specs.Taken.{AreSerial}
+use Rattle.shr_tool.proofs.Between.{each_kept, each_more, holds_then, timeline_order}
 use Rattle.shr_tool.proofs.Chains.{fit_parts, pool_by-snoc, steps_more}
 use Rattle.shr_tool.proofs.Serviced.{goes_performed, served_first, served_last}
-use Rattle.shr_tool.specs.Serving.{Answered, Ran, Replies}
+use Rattle.shr_tool.specs.Serving.{Answered, IsServing, Ran, Replies}
 use Rattle.pool.proofs.Continuing.{continues_same, continues_then, outside_fewer, outside_of, outside_then}
 use Rattle.shr_tool.proofs.Joined.{ground_same, means_at}
 use Rattle.shr_tool.proofs.Taking.{any_takes_before, any_takes_last, named_by, none_takes, takes_first, takes_last}
@@ -71,18 +76,6 @@ worst_of-snoc (first ∷ events) event =
 
 -- ---- timelines
 
--- moments never fall
-timeline_order :
-    (Traced : Type 0) (stops : ℕ → Image → Type 0) (g : Ground) (p : Moment) (a : FlatArray) (events : List Event) (q : Moment)
-    → Traced
-    → Timeline Traced stops g p a events q
-    → p.clock ≤ q.clock
-timeline_order Traced stops g p a [] q traced same = subst (λ (m : Moment). p.clock ≤ m.clock) same (omega arith)
-timeline_order Traced stops g p a (event ∷ events) q traced line =
-    let rest = timeline_order Traced stops g line.0 (becomes a event) events q traced line.2 in
-    let later = line.1.later traced in
-    omega arith
-
 -- later calls leave the past as it was
 pub timeline_kept :
     (Traced : Type 0) (old new : ℕ → Image → Type 0) (g : Ground) (limit : ℕ)
@@ -100,6 +93,7 @@ timeline_kept Traced old new g limit past p a (event ∷ events) q within line =
       at,
       record {
         later = happens.later;
+        still = happens.still;
         cause = happens.cause;
         disks = happens.disks;
         held = happens.held;
@@ -174,6 +168,10 @@ slices_kept x y passes = record { slices = passes.slices; names = passes.shelf.n
 abbrev pub IsUnspent : View → Type 0
 IsUnspent x = (d s : ℕ) → x.bay.spent d s ≡ false
 
+-- nor is one ever, and what a stop leaves at any moment are values that the disks hold then
+abbrev pub IsLawful : View → Type 0
+IsLawful x = IsUnspent x × (x.bay.fit → x.bay.traced → IsSound x.bay)
+
 outside_by : (x y : View) (event : Event) (text : List ℕ) → IsUnspent y → Performs x y event text
     → KeepsOutside x.slices y.slices (Takes y.shelf.names event) x.shelf.told x.bay y.bay
 outside_by x y event text unspent performs =
@@ -195,6 +193,7 @@ performed x y z event text Traced a continues performs unspent traced holds =
     subst (λ g. Happens Traced z.bay.stops g (moment_of y) (moment_of z) a event) (ground_same x y continues.linear)
     (record {
       later = λ told. performs.continues.later (holds told).shelf (traced told);
+      still = performs.still;
       cause = performs.cause;
       disks = disks_kept y z performs.continues;
       held = λ told d s low within untaken unsliced.
@@ -240,29 +239,105 @@ steps_before x y z events a ran continues =
     (ran.timeline a)
     ∙ ran.steps_are a
 
+-- and what stops left between the lines
+pub each_before :
+    (x y z : View) (events : List Event) (a : FlatArray) (f : Found) (ran : Ran x y events)
+    → Continues y z
+    → IsServing x a
+    → x.bay.traced
+    → GoesBy f x
+    → HoldsEach z.bay.stops (ground_of x) (AreSerial f.state) [] f (moment_of x) events (moment_of y) ran.steps
+each_before x y z events a f ran continues serving traced goes =
+    let each = HoldsEach y.bay.stops (ground_of x) (AreSerial f.state) [] f (moment_of x) events (moment_of y) in
+    let later = HoldsEach z.bay.stops (ground_of x) (AreSerial f.state) [] f (moment_of x) events (moment_of y) in
+    subst later (ran.steps_are a)
+    (each_kept (x.bay.traced × Holds x a) y.bay.stops z.bay.stops (ground_of x) (AreSerial f.state) y.bay.clock (traced, serving.0)
+    (continues.past (ran.continues.told serving.0.shelf) (ran.continues.traced serving.0.shelf traced))
+    [] f (moment_of x) a events (moment_of y) (omega arith) (ran.timeline a)
+    (subst each (sym (ran.steps_are a)) (ran.between a serving traced f goes)))
+
 -- nothing is done yet
-pub ran_none : (x : View) → (volume x).fit → IsUnspent x → Ran x x []
-ran_none x fit unspent = record {
+pub ran_none : (x : View) → (volume x).fit → IsLawful x → Ran x x []
+ran_none x fit laws = record {
   continues = continues_same x fit;
   passes = λ none. passes_same x fit;
-  outside = outside_of x x (AnyTakes x.shelf.names []) (passes_same x fit) unspent;
+  outside = outside_of x x (AnyTakes x.shelf.names []) (passes_same x fit) laws.0;
   holds = λ a holds. holds;
   timeline = λ a. refl;
   steps = refl;
   steps_are = λ a. refl;
   service = λ a holds served f goes serials fit. record { goes = goes; serials = λ serial. serial };
+  between = λ a serving traced f goes.
+      holds_then x x a a [] (AreSerial f.state) f (continues_same x fit) (λ none. passes_same x fit) serving serving.0 traced laws.1 (λ served serials. goes);
 }
 
--- one event more
+-- ---- one event more of a run
+
+passes_more : (x y z : View) (events : List Event) (event : Event) (text : List ℕ) → Ran x y events → Performs y z event text
+    → any_takes (events ++ event ∷ []) ≡ false → Passes x z
+passes_more x y z events event text ran performs none =
+    let parts = none_takes events event none in
+    passes_then x y z (ran.passes parts.0) (performs.passes parts.1)
+
+holds_more : (x y z : View) (events : List Event) (event : Event) (text : List ℕ) (a : FlatArray) → Ran x y events → Performs y z event text
+    → Holds x a → Holds z (array_by a (events ++ event ∷ []))
+holds_more x y z events event text a ran performs holds =
+    subst (λ b. Holds z b) (sym (array_by-snoc a events event)) (performs.holds (array_by a events) (ran.holds a holds))
+
+-- a pool by which the run goes
+service_more :
+    (x y z : View) (events : List Event) (event : Event) (text : List ℕ) (a : FlatArray) (f : Found)
+    → IsUnspent z
+    → (ran : Ran x y events)
+    → Performs y z event text
+    → Holds x a
+    → IsServed (ground_of x) (moment_of z) (events ++ event ∷ [])
+    → GoesBy f x
+    → (any_takes (events ++ event ∷ []) ≡ true → AreSerial f.state)
+    → AreFit f (moment_of x) (events ++ event ∷ []) (moment_of z) (steps_more (moment_of x) events (moment_of y) event (moment_of z) ran.steps)
+    → GoesOn f (pool_by f (moment_of x) (events ++ event ∷ []) (moment_of z) (steps_more (moment_of x) events (moment_of y) event (moment_of z) ran.steps)) z
+service_more x y z events event text a f unspent ran performs holds served goes serials fit =
+    let parts = fit_parts f (moment_of x) events (moment_of y) event (moment_of z) ran.steps fit in
+    let linear = ran.continues.linear in
+    let before =
+    ran.service a holds (served_first x y z events event text linear performs served) f goes (λ takes. serials (takes_first events event takes)) parts.0 in
+    let after =
+    goes_performed y z event text (array_by a events) unspent ran.continues.fit performs (ran.holds a holds) (served_last x y z events event linear served)
+    (pool_by f (moment_of x) events (moment_of y) ran.steps) before.goes (λ takes. before.serials (serials (takes_last events event takes))) parts.1 in
+    subst (λ h. GoesOn f h z) (sym (pool_by-snoc f (moment_of x) events (moment_of y) event (moment_of z) ran.steps))
+    (record { goes = after.goes; serials = λ serial. after.serials (before.serials serial) })
+
+-- what a stop at the event's end leaves holds it
+between_more :
+    (x y z : View) (events : List Event) (event : Event) (text : List ℕ) (a : FlatArray) (f : Found)
+    → IsLawful z
+    → (ran : Ran x y events)
+    → Performs y z event text
+    → IsServing x a
+    → x.bay.traced
+    → GoesBy f x
+    → HoldsEach z.bay.stops (ground_of x) (AreSerial f.state) [] f (moment_of x) (events ++ event ∷ []) (moment_of z)
+    (steps_more (moment_of x) events (moment_of y) event (moment_of z) ran.steps)
+between_more x y z events event text a f laws ran performs serving traced goes =
+    let all = events ++ event ∷ [] in
+    let steps = steps_more (moment_of x) events (moment_of y) event (moment_of z) ran.steps in
+    each_more z.bay.stops (ground_of x) (AreSerial f.state) [] f (moment_of x) events (moment_of y) event (moment_of z) ran.steps
+    (each_before x y z events a f ran performs.continues serving traced goes)
+    (λ fit.
+    holds_then x z a (array_by a all) all (AreSerial f.state) (pool_by f (moment_of x) all (moment_of z) steps)
+    (continues_then x y z ran.continues performs.continues) (passes_more x y z events event text ran performs) serving
+    (holds_more x y z events event text a ran performs serving.0) traced laws.1
+    (λ served serials. (service_more x y z events event text a f laws.0 ran performs serving.0 served goes serials fit).goes))
+
 pub ran_more :
     (x y z : View) (events : List Event) (event : Event) (text : List ℕ)
-    → IsUnspent z
+    → IsLawful z
     → Ran x y events
     → Performs y z event text
     → Ran x z (events ++ event ∷ [])
-ran_more x y z events event text unspent ran performs = record {
+ran_more x y z events event text laws ran performs = record {
   continues = continues_then x y z ran.continues performs.continues;
-  passes = λ none. let parts = none_takes events event none in passes_then x y z (ran.passes parts.0) (performs.passes parts.1);
+  passes = passes_more x y z events event text ran performs;
   outside =
       outside_fewer x.slices z.slices (λ d. AnyTakes y.shelf.names events d ⊎ Takes z.shelf.names event d) (AnyTakes z.shelf.names (events ++ event ∷ []))
       x.shelf.told x.bay z.bay
@@ -272,15 +347,13 @@ ran_more x y z events event text unspent ran performs = record {
         | inr now ↦ any_takes_last z.shelf.names events event d now
       ])
       (outside_then x y z (AnyTakes y.shelf.names events) (Takes z.shelf.names event) ran.continues performs.continues ran.outside
-      (outside_by y z event text unspent performs));
-  holds =
-      λ a holds.
-      subst (λ b. Holds z b) (sym (array_by-snoc a events event)) (performs.holds (array_by a events) (ran.holds a holds));
+      (outside_by y z event text laws.0 performs));
+  holds = λ a holds. holds_more x y z events event text a ran performs holds;
   timeline =
       λ a.
       timeline_more (x.bay.traced × Holds x a) z.bay.stops (ground_of x) (moment_of x) a events (moment_of y) event (moment_of z)
       (ran_before x y z events a ran performs.continues)
-      (performed x y z event text (x.bay.traced × Holds x a) (array_by a events) ran.continues performs unspent
+      (performed x y z event text (x.bay.traced × Holds x a) (array_by a events) ran.continues performs laws.0
       (λ told. ran.continues.traced told.1.shelf told.0)
       (λ told. ran.holds a told.1));
   steps = steps_more (moment_of x) events (moment_of y) event (moment_of z) ran.steps;
@@ -288,34 +361,25 @@ ran_more x y z events event text unspent ran performs = record {
       λ a.
       steps_added (x.bay.traced × Holds x a) z.bay.stops (ground_of x) (moment_of x) a events (moment_of y) event (moment_of z)
       (ran_before x y z events a ran performs.continues)
-      (performed x y z event text (x.bay.traced × Holds x a) (array_by a events) ran.continues performs unspent
+      (performed x y z event text (x.bay.traced × Holds x a) (array_by a events) ran.continues performs laws.0
       (λ told. ran.continues.traced told.1.shelf told.0)
       (λ told. ran.holds a told.1))
       ∙ ap (steps_more (moment_of x) events (moment_of y) event (moment_of z)) (steps_before x y z events a ran performs.continues);
-  service =
-      λ a holds served f goes serials fit.
-      let parts = fit_parts f (moment_of x) events (moment_of y) event (moment_of z) ran.steps fit in
-      let linear = ran.continues.linear in
-      let before =
-      ran.service a holds (served_first x y z events event text linear performs served) f goes (λ takes. serials (takes_first events event takes)) parts.0 in
-      let after =
-      goes_performed y z event text (array_by a events) unspent ran.continues.fit performs (ran.holds a holds) (served_last x y z events event linear served)
-      (pool_by f (moment_of x) events (moment_of y) ran.steps) before.goes (λ takes. before.serials (serials (takes_last events event takes))) parts.1 in
-      subst (λ h. GoesOn f h z) (sym (pool_by-snoc f (moment_of x) events (moment_of y) event (moment_of z) ran.steps))
-      (record { goes = after.goes; serials = λ serial. after.serials (before.serials serial) });
+  service = λ a holds served f goes serials fit. service_more x y z events event text a f laws.0 ran performs holds served goes serials fit;
+  between = λ a serving traced f goes. between_more x y z events event text a f laws ran performs serving traced goes;
 }
 
 -- one line more is answered
 pub answered_more :
     (x y z : View) (events : List Event) (line : Line) (answer : Answer) (out out' out'' : List ℕ)
-    → IsUnspent z
+    → IsLawful z
     → Answered x y events out out'
     → (more : Replies y z line answer out' out'')
     → Answered x z (events ++ more.answers.event ∷ []) out out''
-answered_more x y z events line answer out out' out'' unspent answered more =
+answered_more x y z events line answer out out' out'' laws answered more =
     let event = more.answers.event in
     record {
-      ran = ran_more x y z events event more.text unspent answered.ran more.answers.performs;
+      ran = ran_more x y z events event more.text laws answered.ran more.answers.performs;
       put =
           λ a holds.
           let told = more.answers.performs.text_is (array_by a events) (answered.ran.holds a holds) in
@@ -340,18 +404,18 @@ pub record History (x y : View) (text rest : List ℕ) (count : ℕ) (out out' :
   pub answered : Answered x y events out out'
 
 -- nothing is answered yet
-pub answered_none : (x : View) (out : List ℕ) → (volume x).fit → IsUnspent x → Answered x x [] out out
-answered_none x out fit unspent = record { ran = ran_none x fit unspent; put = λ a holds. sym (append-nil out) }
+pub answered_none : (x : View) (out : List ℕ) → (volume x).fit → IsLawful x → Answered x x [] out out
+answered_none x out fit laws = record { ran = ran_none x fit laws; put = λ a holds. sym (append-nil out) }
 
 -- nothing has been read
 pub history_none :
     (x : View) (text rest : List ℕ) (count : ℕ) (out : List ℕ)
     → (volume x).fit
-    → IsUnspent x
+    → IsLawful x
     → rest ≡ text
     → count ≡ 0
     → History x x text rest count out out Given
-history_none x text rest count out fit unspent same zero = record {
+history_none x text rest count out fit laws same zero = record {
   done = [];
   text_is = sym same;
   counted = zero;
@@ -359,5 +423,5 @@ history_none x text rest count out fit unspent same zero = record {
   worst_is = refl;
   script = λ more. refl;
   cut = λ more. refl;
-  answered = answered_none x out fit unspent;
+  answered = answered_none x out fit laws;
 }

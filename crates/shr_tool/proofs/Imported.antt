@@ -21,7 +21,7 @@ use Rattle.shr_tool.specs.Serving.{IsServing, Ran}
 use Rattle.pool.specs.Moment.{moment_of}
 use Rattle.shr_tool.specs.Timeline.{ground_of}
 use Rattle.shr_tool.proofs.Finishing.{lasts_of}
-use Rattle.shr_tool.proofs.History.{IsUnspent, ran_more}
+use Rattle.shr_tool.proofs.History.{IsLawful, IsUnspent, ran_more}
 use Rattle.shr_tool.proofs.Performing.{write_done, write_spent}
 
 -- The pieces for the first so many sectors of a text were written, and this is left of it.
@@ -69,14 +69,14 @@ writes_more text sector = map-range_with_len_more (write_of text) 0 sector secto
 ran_write :
     (x y z : View) (text piece : List ℕ) (sector : ℕ) (r : Result (Unit {0}) SectorFault)
     → r ≡ Ok tt
-    → IsUnspent z
+    → IsLawful z
     → piece ≡ piece_of text sector
     → Ran x y (writes_of text sector)
     → WritesSector y z sector piece r
     → Ran x z (writes_of text (sector + 1))
-ran_write x y z text piece sector r is unspent same ran writes =
+ran_write x y z text piece sector r is laws same ran writes =
     subst (λ events. Ran x z events) (sym (writes_more text sector))
-    (ran_more x y z (writes_of text sector) (write_of text sector) (as_line (codes "ok")) unspent ran
+    (ran_more x y z (writes_of text sector) (write_of text sector) (as_line (codes "ok")) laws ran
     (write_done y z sector (piece_of text sector) (as_line (codes "ok")) r is refl
     (subst (λ v. WritesSector y z sector v r) same writes)))
 
@@ -84,14 +84,14 @@ ran_write x y z text piece sector r is unspent same ran writes =
 pub written_more :
     (x y z : View) (text before rest piece : List ℕ) (sector count : ℕ) (r : Result (Unit {0}) SectorFault)
     → r ≡ Ok tt
-    → IsUnspent z
+    → IsLawful z
     → HasWritten x y text before sector
     → HasTaken text rest piece sector count
     → 512 ≤ count
     → WritesSector y z sector piece r
     → HasWritten x z text rest (sector + 1)
-written_more x y z text before rest piece sector count r is unspent has took full writes = record {
-  ran = ran_write x y z text piece sector r is unspent took.piece_is has.ran writes;
+written_more x y z text before rest piece sector count r is laws has took full writes = record {
+  ran = ran_write x y z text piece sector r is laws took.piece_is has.ran writes;
   rest_is = took.rest_is;
   some = let some = has.some in let counted = took.count_is in omega arith;
 }
@@ -141,7 +141,7 @@ ended_before x y text before rest piece sector count bytes has took inside none 
 pub ended_in :
     (x y z : View) (text before rest piece : List ℕ) (sector count bytes : ℕ) (r : Result (Unit {0}) SectorFault)
     → r ≡ Ok tt
-    → IsUnspent z
+    → IsLawful z
     → HasWritten x y text before sector
     → HasTaken text rest piece sector count
     → sector < size_of x
@@ -150,11 +150,11 @@ pub ended_in :
     → WritesSector y z sector piece r
     → bytes ≡ sector * 512 + count
     → Imports x z text rest (Ok bytes)
-ended_in x y z text before rest piece sector count bytes r done unspent has took inside some_count few writes is =
+ended_in x y z text before rest piece sector count bytes r done laws has took inside some_count few writes is =
     let some = has.some in
     let counted = took.count_is in
     let left = left_count text rest (512 * (sector + 1)) took.rest_is in
-    all_written x z text rest (sector + 1) bytes (ran_write x y z text piece sector r done unspent took.piece_is has.ran writes)
+    all_written x z text rest (sector + 1) bytes (ran_write x y z text piece sector r done laws took.piece_is has.ran writes)
     (nil_from_length rest (omega arith)) (omega arith) (omega arith) (omega arith) (omega arith)
 
 -- the input ends with the volume
@@ -254,14 +254,14 @@ failed_behind x y text before rest sectors has whole same =
 pub spent_at :
     (x y z : View) (text before rest piece : List ℕ) (sector count : ℕ) (r : Result (Unit {0}) SectorFault)
     → r ≡ Err IsSpent
-    → IsUnspent z
+    → IsLawful z
     → HasWritten x y text before sector
     → HasTaken text rest piece sector count
     → sector < size_of x
     → 0 < count
     → WritesSector y z sector piece r
     → Imports x z text rest (Err (AtSpent sector))
-spent_at x y z text before rest piece sector count r is unspent has took inside some_count writes =
+spent_at x y z text before rest piece sector count r is laws has took inside some_count writes =
     let some = has.some in
     let counted = took.count_is in
     let left = left_count text rest (512 * (sector + 1)) took.rest_is in
@@ -271,7 +271,7 @@ spent_at x y z text before rest piece sector count r is unspent has took inside 
       writes = record { inside = inside; some = omega arith; events_are = refl };
       most = omega arith;
       ran =
-          ran_more x y z (writes_of text sector) refused (spent_line sector) unspent has.ran
+          ran_more x y z (writes_of text sector) refused (spent_line sector) laws has.ran
           (write_spent y z sector (piece_of text sector) (spent_line sector) r is refl
           (subst (λ v. WritesSector y z sector v r) took.piece_is writes));
     }

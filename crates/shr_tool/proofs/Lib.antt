@@ -1,4 +1,6 @@
+mod Absent
 mod Attached
+mod Between
 pub mod Chains
 mod Examined
 mod Exported

@@ -1,5 +1,5 @@
 -- A drive is replaced, or isn't: the line's event by what the call says.
-use Rattle.std.proofs.Common.{◌≡◌, ℕ, ◌<◌, ◌≤◌, true, false, List, Result, Ok, Err, codes, length, refl, sym, ap, subst, inl, inr, arith}
+use Rattle.std.proofs.Common.{◌≡◌, ℕ, ◌<◌, ◌≤◌, true, false, not, List, Result, Ok, Err, codes, length, refl, sym, ap, subst, inl, inr, arith}
 use Rattle.std.proofs.lemmas.Bool.{both_ways, cases_Bool, cases_lt}
 use Rattle.flat_array.specs.Array.{FlatArray}
 use Rattle.rack.specs.Moments.{IsSound}
@@ -59,6 +59,7 @@ replace_done x y at place name text r fit cut is_ok is done_r =
     let done : ReplacesDrive x y place name (Ok tt) = subst (λ p. ReplacesDrive x y p name (Ok tt)) (cut_listed x at place fit cut low) done_at in
     record {
       continues = done.continues;
+      still = λ none. absurd (both_ways false refl none);
       passes = λ none. absurd (both_ways true none refl);
       outside = λ takes. done.outside;
       changes = λ takes. done.changes (subst (λ p. p < length (book x).state.drives.items) (cut_listed x at place fit cut low) low);
@@ -110,7 +111,7 @@ unlisted_done x at place name text fit sound cut is done =
       | inl inside ↦ subst (λ p. length (book x).state.drives.items ≤ p) (cut.same inside) out
       | inr great ↦ omega (arith, few, great)
     ] in
-    performs_by x x event text unchanged unchanged refl (passes_same x fit) (raises_still 1 x) (
+    performs_by x x event text unchanged unchanged refl (λ none. refl) (passes_same x fit) (raises_still 1 x) (
       record {
         missing = (λ same. past, λ much. refl);
         attach = λ same. absurd (let wrong = same_fault NoSuchDrive Attach same in cc);
@@ -170,6 +171,7 @@ decline_done x y at place name text r fault fit sound cut refused is still done_
           subst (λ p. ReplacesDrive x y p name (Err fault)) (cut_listed x at place fit cut low) done_at in
           record {
             continues = done.continues;
+            still = λ none. absurd (both_ways (not (looks_at fault)) (ap not looks) none);
             passes = λ none. absurd (both_ways (looks_at fault) none looks);
             outside = λ takes. done.outside;
             changes = λ takes. done.changes (subst (λ p. p < length (book x).state.drives.items) (cut_listed x at place fit cut low) low);

@@ -21,7 +21,7 @@ pub show_done :
     → text ≡ status_text x.linear (book x)
     → Performs x x (shown text) text
 show_done x text fit sound is =
-    performs_by x x (shown text) text unchanged unchanged refl (passes_same x fit) (raises_still 1 x) is
+    performs_by x x (shown text) text unchanged unchanged refl (λ none. refl) (passes_same x fit) (raises_still 1 x) is
     (marks_for x x (shown text) (passes_same x fit) (marks_same x (λ place. ⊥)))
     (λ a holds. refl)
     (λ a holds. refl)

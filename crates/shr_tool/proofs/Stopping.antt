@@ -14,7 +14,7 @@ use Rattle.shr_tool.specs.declared.serve.Stop.{Stop}
 use Rattle.shr_tool.specs.declared.serve.Stop.TheVariants.{Quit as AtQuit, Input, SourceFault, Limit, SinkFault}
 use Rattle.shr_tool.specs.Events.{Event, answer_of, array_by, line_of, lines_of, texts, worse, worst_of}
 use Rattle.shr_tool.specs.Serving.{Answered, IsReplied, LastAnswers, LineAnswers, Serves, StopsAtEnd, StopsAtLimit, StopsAtSource}
-use Rattle.shr_tool.proofs.History.{History, IsUnspent, answered_more, lines_of-snoc, ran_more, worse_given, worst_of-snoc}
+use Rattle.shr_tool.proofs.History.{History, IsLawful, answered_more, lines_of-snoc, ran_more, worse_given, worst_of-snoc}
 
 -- a line with a reply stands before those after it
 prepend-replied : (line : Line) (tail : List Line) → IsReplied line → prepend (Some line) tail ≡ line ∷ tail
@@ -114,7 +114,7 @@ history_next x y z text rest rest' line count to out out' out'' before now h r e
 
 -- a line was answered
 pub line_answered :
-    {P : Type 0} (shown : P → View) (unspent : (r : P) → IsUnspent (shown r)) (p q : P) (x : View) (text rest rest' line : List ℕ) (count to : ℕ)
+    {P : Type 0} (shown : P → View) (laws : (r : P) → IsLawful (shown r)) (p q : P) (x : View) (text rest rest' line : List ℕ) (count to : ℕ)
     (out out' out'' : List ℕ) (before now : Answer) (answer : Answer) (said : Option Line)
     → (h : History x (shown p) text rest count out out' before)
     → (r : ReadsLine rest rest' line count to)
@@ -122,19 +122,19 @@ pub line_answered :
     → now ≡ worse before answer
     → LineAnswers shown (Ok answer) said p q out' out''
     → History x (shown q) text rest' to out out'' now
-line_answered shown unspent p q x text rest rest' line count to out out' out'' before now answer None h r is worse_is answers =
+line_answered shown laws p q x text rest rest' line count to out out' out'' before now answer None h r is worse_is answers =
     history_next x (shown p) (shown q) text rest rest' line count to out out' out'' before now h r h.events
     (λ tail. ap (λ l. lines_of h.events ++ prepend l tail) (sym is))
     (worst_still h.events answer before h.worst_is answers.0 ∙ sym worse_is)
     (answered_still shown p q x h.events out out' out'' h.answered answers.1 answers.2)
-line_answered shown unspent p q x text rest rest' line count to out out' out'' before now answer (Some l) h r is worse_is answers =
+line_answered shown laws p q x text rest rest' line count to out out' out'' before now answer (Some l) h r is worse_is answers =
     let event = answers.answers.event in
     history_next x (shown p) (shown q) text rest rest' line count to out out' out'' before now h r (h.events ++ event ∷ [])
     (λ tail.
     ap (λ d. lines_of h.events ++ prepend d tail) (sym is)
     ∙ lines_over h.events event l tail answers.answers.line_is answers.replied)
     (worst_over h.events event answer before h.worst_is answers.answers.answer_is ∙ sym worse_is)
-    (answered_more x (shown p) (shown q) h.events l answer out out' out'' (unspent q) h.answered answers)
+    (answered_more x (shown p) (shown q) h.events l answer out out' out'' (laws q) h.answered answers)
 
 -- ---- a script that stops
 
@@ -148,23 +148,23 @@ quit_script lines whole tail said script is = script ∙ (ap (λ l. lines ++ pre
 
 -- at a line that was answered
 pub line_stopped :
-    {P : Type 0} (shown : P → View) (unspent : (r : P) → IsUnspent (shown r)) (p q : P) (x : View) (text rest : List ℕ) (out out' out'' : List ℕ) (worst : Answer)
+    {P : Type 0} (shown : P → View) (laws : (r : P) → IsLawful (shown r)) (p q : P) (x : View) (text rest : List ℕ) (out out' out'' : List ℕ) (worst : Answer)
     (events : List Event) (tail : List Line) (said : Option Line) (stop : Stop)
     → Answered x (shown p) events out out'
     → script_of text ≡ lines_of events ++ prepend said tail
     → worst_of events ≡ worst
     → LineAnswers shown (Err stop) said p q out' out''
     → Serves stop x (shown q) text rest out out'' worst
-line_stopped shown unspent p q x text rest out out' out'' worst events tail said AtQuit answered script worst_is answers = record {
+line_stopped shown laws p q x text rest out out' out'' worst events tail said AtQuit answered script worst_is answers = record {
   events = events;
   script = quit_script (lines_of events) (script_of text) tail said script answers.0;
   worst_is = worst_is;
   answered = answered_still shown p q x events out out' out'' answered answers.1 answers.2;
 }
-line_stopped shown unspent p q x text rest out out' out'' worst events tail said Input answered script worst_is answers = absurd answers
-line_stopped shown unspent p q x text rest out out' out'' worst events tail said SourceFault answered script worst_is answers = absurd answers
-line_stopped shown unspent p q x text rest out out' out'' worst events tail said Limit answered script worst_is answers = absurd answers
-line_stopped shown unspent p q x text rest out out' out'' worst events tail said SinkFault answered script worst_is answers =
+line_stopped shown laws p q x text rest out out' out'' worst events tail said Input answered script worst_is answers = absurd answers
+line_stopped shown laws p q x text rest out out' out'' worst events tail said SourceFault answered script worst_is answers = absurd answers
+line_stopped shown laws p q x text rest out out' out'' worst events tail said Limit answered script worst_is answers = absurd answers
+line_stopped shown laws p q x text rest out out' out'' worst events tail said SinkFault answered script worst_is answers =
     let l = answers.0 in
     let refuses = answers.2 in
     let event = refuses.answers.event in
@@ -176,7 +176,7 @@ line_stopped shown unspent p q x text rest out out' out'' worst events tail said
           script
           ∙ (ap (λ d. lines_of events ++ prepend d tail) answers.1
           ∙ lines_over events event l tail refuses.answers.line_is refuses.replied);
-      ran = ran_more x (shown p) (shown q) events event refuses.text (unspent q) answered.ran refuses.answers.performs;
+      ran = ran_more x (shown p) (shown q) events event refuses.text (laws q) answered.ran refuses.answers.performs;
       put =
           λ a holds.
           let told = refuses.answers.performs.text_is (array_by a events) (answered.ran.holds a holds) in
@@ -192,7 +192,7 @@ line_stopped shown unspent p q x text rest out out' out'' worst events tail said
 
 -- the last line was answered
 last_replied :
-    {P : Type 0} (shown : P → View) (unspent : (r : P) → IsUnspent (shown r)) (p q : P) (x : View) (text : List ℕ) (out out' out'' : List ℕ) (before now : Answer)
+    {P : Type 0} (shown : P → View) (laws : (r : P) → IsLawful (shown r)) (p q : P) (x : View) (text : List ℕ) (out out' out'' : List ℕ) (before now : Answer)
     (answer : Answer) (events : List Event) (said : Option Line)
     → Answered x (shown p) events out out'
     → script_of text ≡ lines_of events ++ prepend said []
@@ -200,13 +200,13 @@ last_replied :
     → now ≡ worse before answer
     → LineAnswers shown (Ok answer) said p q out' out''
     → StopsAtEnd x (shown q) text out out'' now
-last_replied shown unspent p q x text out out' out'' before now answer events None answered script worst_is worse_is answers = record {
+last_replied shown laws p q x text out out' out'' before now answer events None answered script worst_is worse_is answers = record {
   events = events;
   script = script ∙ append-nil (lines_of events);
   worst_is = worst_still events answer before worst_is answers.0 ∙ sym worse_is;
   answered = answered_still shown p q x events out out' out'' answered answers.1 answers.2;
 }
-last_replied shown unspent p q x text out out' out'' before now answer events (Some l) answered script worst_is worse_is answers =
+last_replied shown laws p q x text out out' out'' before now answer events (Some l) answered script worst_is worse_is answers =
     let event = answers.answers.event in
     record {
       events = events ++ event ∷ [];
@@ -214,11 +214,11 @@ last_replied shown unspent p q x text out out' out'' before now answer events (S
           script
           ∙ (lines_over events event l [] answers.answers.line_is answers.replied ∙ append-nil (lines_of (events ++ event ∷ [])));
       worst_is = worst_over events event answer before worst_is answers.answers.answer_is ∙ sym worse_is;
-      answered = answered_more x (shown p) (shown q) events l answer out out' out'' (unspent q) answered answers;
+      answered = answered_more x (shown p) (shown q) events l answer out out' out'' (laws q) answered answers;
     }
 
 pub last_answered :
-    {P : Type 0} (shown : P → View) (unspent : (r : P) → IsUnspent (shown r)) (p q : P) (x : View) (text rest : List ℕ) (out out' out'' : List ℕ) (before now : Answer)
+    {P : Type 0} (shown : P → View) (laws : (r : P) → IsLawful (shown r)) (p q : P) (x : View) (text rest : List ℕ) (out out' out'' : List ℕ) (before now : Answer)
     (events : List Event) (said : Option Line) (stop : Stop)
     → Answered x (shown p) events out out'
     → script_of text ≡ lines_of events ++ prepend said []
@@ -226,15 +226,15 @@ pub last_answered :
     → length text ≤ 2 ^ 32
     → LastAnswers shown before now stop said p q out' out''
     → Serves stop x (shown q) text rest out out'' now
-last_answered shown unspent p q x text rest out out' out'' before now events said AtQuit answered script worst_is short answers =
-    line_stopped shown unspent p q x text rest out out' out'' now events [] said AtQuit answered script (worst_is ∙ sym answers.0) answers.1
-last_answered shown unspent p q x text rest out out' out'' before now events said Input answered script worst_is short answers =
-    (last_replied shown unspent p q x text out out' out'' before now answers.0 events said answered script worst_is answers.1 answers.2, short)
-last_answered shown unspent p q x text rest out out' out'' before now events said SourceFault answered script worst_is short answers =
+last_answered shown laws p q x text rest out out' out'' before now events said AtQuit answered script worst_is short answers =
+    line_stopped shown laws p q x text rest out out' out'' now events [] said AtQuit answered script (worst_is ∙ sym answers.0) answers.1
+last_answered shown laws p q x text rest out out' out'' before now events said Input answered script worst_is short answers =
+    (last_replied shown laws p q x text out out' out'' before now answers.0 events said answered script worst_is answers.1 answers.2, short)
+last_answered shown laws p q x text rest out out' out'' before now events said SourceFault answered script worst_is short answers =
     absurd answers
-last_answered shown unspent p q x text rest out out' out'' before now events said Limit answered script worst_is short answers = absurd answers
-last_answered shown unspent p q x text rest out out' out'' before now events said SinkFault answered script worst_is short answers =
-    line_stopped shown unspent p q x text rest out out' out'' before events [] said SinkFault answered script worst_is answers
+last_answered shown laws p q x text rest out out' out'' before now events said Limit answered script worst_is short answers = absurd answers
+last_answered shown laws p q x text rest out out' out'' before now events said SinkFault answered script worst_is short answers =
+    line_stopped shown laws p q x text rest out out' out'' before events [] said SinkFault answered script worst_is answers
 
 -- ---- the text
 

@@ -1,5 +1,7 @@
 -- A pool holds a reference to its bay: what is done through it is done to the bay.
-use Rattle.std.proofs.Common.{◌≡◌, ◌⊎◌, ◌↔◌, ◌&&◌, is_some, ℕ, ◌<◌, List, [], ◌∷◌, Option, Some, None, refl, sym, subst, ◌∙◌, ap, inl, inr, arith}
+use Rattle.std.specs.Option.{option_map_or}
+use Rattle.std.proofs.Common.{◌≡◌, ◌⊎◌, ◌↔◌, ◌&&◌, is_some, ℕ, ◌<◌, List, [], ◌∷◌, Option, Some, None, option_map, refl, sym, subst, ◌∙◌, ap, inl, inr, arith}
+use Rattle.std.proofs.lemmas.Option.{none-some}
 use Rattle.rack.specs.Seen.{Image, Seen, Rose, Stays}
 use Rattle.rack.specs.Shelf.{Shelf}
 use Rattle.rack.specs.Values.{Values, MayLeave, Keeps, only}
@@ -12,18 +14,20 @@ use Rattle.lvm_group.specs.Runs.{Linear}
 use Rattle.layer_plan.specs.declared.PlanError.{PlanError}
 use Rattle.pool_state.specs.declared.contents.State.{State}
 use Rattle.pool_image.specs.Drives.{Found, found}
-use Rattle.pool_image.specs.Meaning.{Volume}
+use Rattle.pool_image.specs.Meaning.{Refusal as PoolRefusal, Volume, meaning, refusal_of, volumes_of}
 use Rattle.pool_scan.specs.declared.Known.{Known}
 use Rattle.pool_scan.specs.Scanning.{IsUnfaulted, now_in}
 use Rattle.pool_image.specs.Disks.{Disks, disks_of}
 use Rattle.pool_model.specs.Left.{AreAlone, IsPickOff}
+use Rattle.pool_model.proofs.Unrefused.{tables_meant}
+use Rattle.slice_rack.specs.Sliced.{slices_of}
 use Rattle.pool_rest.specs.Resting.{WritesDrives}
 use Rattle.assembler.specs.declared.refusal.Refusal.{Refusal}
 use Rattle.assembler.specs.declared.refusal.Refusal.TheVariants as refusal
 use Rattle.assembler.specs.Causes.{ArraysOn, HasRefusalCause, RefusesArrays, RefusesPool}
 use Rattle.assembler.specs.Marking.{MarksDrives}
 use Rattle.assembler.specs.Moments.{HoldsAt}
-use Rattle.assembler.specs.Sound.{HoldSound, IsMeantBy, MayStop}
+use Rattle.assembler.specs.Sound.{HaveOnePool, HoldSound, IsMeantBy, MayStop, SayTruths}
 use Rattle.assembler.specs.Wanting.{LeavesPool}
 use Rattle.assembler.specs.Writing.{WritesPool}
 use Rattle.pool_format.specs.declared.formatting.CreateFault.{CreateFault}
@@ -199,14 +203,24 @@ pub opened_as :
     → IsOpenedAs f (view shown shelf pool).bay (ground_of (view shown shelf pool)) (moment_of (view shown shelf pool))
 opened_as pool shown shelf x opens marks f sound unfaulted =
     let by = opens f sound unfaulted in
-    record { lies = by.lies; slices = by.slices; after = by.after; told = by.told; arrays = by.arrays; live = by.live; elsewhere = by.elsewhere; marks = marks f sound unfaulted }
+    record { lies = by.lies; slices = by.slices; after = by.after; told = by.told; arrays = by.arrays; live = by.live; group = by.group; elsewhere = by.elsewhere; marks = marks f sound unfaulted }
+
+-- contents that mean volumes aren't refused
+meant_unrefused : (disks : Disks) (c : Image) (volumes : List Volume) → meaning disks c ≡ Some volumes → refusal_of disks c ≡ None
+unfolding meaning
+meant_unrefused disks c volumes meant = of (refusal_of disks c) (option_map volumes_of (found disks c)) meant
+  where
+    of : (o : Option PoolRefusal) (v : Option (List Volume)) → option_map_or (λ why. None) o v ≡ Some volumes → o ≡ None
+    of None v is = refl
+    of (Some why) v is = absurd (none-some volumes is)
 
 -- the run is one on that pool
 pub runs_on :
     (bay opened : Seen) (g : Ground) (from : Moment) (f : Found)
-    → HoldSound bay f → IsOpenedAs f opened g from → Stays bay opened → f.state.joined ≡ f.state.made
+    → HoldSound bay f → IsOpenedAs f opened g from → (volumes : List Volume) → meaning (disks_of bay) (now_in bay) ≡ Some volumes → HaveOnePool f
+    → SayTruths f from.book (slices_of from.slices opened) → Stays bay opened → f.state.joined ≡ f.state.made
     → ((i : Image) → IsPickOff from.slices opened i → AreAlone f i) → IsRunOn f g from opened
-runs_on bay opened g from f sound meant stays joined alone = record {
+runs_on bay opened g from f sound meant volumes means one_pool truths stays joined alone = record {
   lasting = stays.lasting sound.steady.lasts.lasting;
   before = now_in bay;
   found_is = ap (λ (disks : Disks). found disks (now_in bay)) same ∙ sound.found_is;
@@ -216,6 +230,10 @@ runs_on bay opened g from f sound meant stays joined alone = record {
   joined = joined;
   arrays = ap (λ (l : Linear). l.arrays) meant.lies.linear;
   geometry = λ n t low truth. (meant.arrays n t (omega (arith, low, joined)) truth).geometry;
+  tables = tables_meant (disks_of bay) (now_in bay) f sound.found_is (meant_unrefused (disks_of bay) (now_in bay) volumes means);
+  one_pool = one_pool;
+  truths = λ n low. truths n (omega (arith, low, joined));
+  group = meant.group joined;
   rest = record { elsewhere = meant.elsewhere; alone = alone };
 }
   where

@@ -17,6 +17,8 @@ use Rattle.pool.specs.Moment.{Moment}
 use Rattle.shr_tool.specs.Timeline.{Ground, Happens, Steps, Timeline, steps_of}
 use Rattle.shr_tool.specs.Service.{AreFit, pool_by}
 use Rattle.pool_model.specs.Left.{HoldAgain}
+use Rattle.pool_model.specs.Taken.{AreSerial}
+use Rattle.shr_tool.specs.Between.{HoldsEach}
 
 pub outside_told :
     (t u : Slices) (named : ℕ → Type 0) (T U : Type 0) (a b : Seen) → (U → T) → KeepsOutside t u named T a b → KeepsOutside t u named U a b
@@ -27,6 +29,7 @@ happens_for :
     → (Q → P) → Happens P stops g p q a event → Happens Q stops g p q a event
 happens_for P Q stops g p q a event for happens = record {
   later = λ traced. happens.later (for traced);
+  still = happens.still;
   cause = happens.cause;
   disks = happens.disks;
   held = λ traced. happens.held (for traced);
@@ -88,6 +91,11 @@ lasts_for T U S R x y g from a events told traced lasts = record {
   apart = lasts.apart;
   told = λ is. lasts.told (told is);
   rows = λ is. lasts.rows (told is);
+  between = λ is so f on.
+      subst (HoldsEach y.stops g (AreSerial f.state) [] f from events lasts.last)
+      (sym (steps_for (S × T) (R × U) y.stops g from a events lasts.last (λ is. (traced is.0, told is.1)) lasts.timeline))
+      (lasts.between (told is) (traced so) f on);
+  safe = λ is. lasts.safe (told is);
   again = λ is served f on known fit goes i pick.
       let same =
       steps_for (S × T) (R × U) y.stops g from a events lasts.last (λ is. (traced is.0, told is.1)) lasts.timeline in

@@ -1,5 +1,5 @@
 -- What a line of a script does on a pool: as a flat array of sectors has it, or what lost drives make of it.
-use Rattle.std.specs.Prelude.{◌≡◌, ◌⊎◌, ℕ, ◌+◌, ◌<◌, ◌≤◌, ◌||◌, Bool, true, false, slice_get, Some, List, [], ◌∷◌, ◌++◌, codes, decimal, Ok, Err}
+use Rattle.std.specs.Prelude.{◌≡◌, ◌⊎◌, ℕ, ◌+◌, ◌<◌, ◌≤◌, ◌||◌, not, Bool, true, false, slice_get, Some, List, [], ◌∷◌, ◌++◌, codes, decimal, Ok, Err}
 use Rattle.shr_script.specs.declared.Command.TheVariants.{Read, Write, Fill, Flush, Size, Lose, Replace, Step, Status, Quit, Unbuilt}
 use Rattle.shr_script.specs.Line.{Line}
 use Rattle.shr_script.specs.Reply.{as_line, left_line, refused_line}
@@ -207,6 +207,29 @@ Takes names (shown text) d = ⊥
 abbrev pub AnyTakes : List (List ℕ) → List Event → ℕ → Type 0
 AnyTakes names [] d = ⊥
 AnyTakes names (event ∷ events) d = Takes names event d ⊎ AnyTakes names events d
+
+-- no disk is asked for the answer: to a wrong line or one that isn't built, of the size, how the pool stands, a place that isn't in the list
+abbrev pub calls_none : Event → Bool
+calls_none (answered (Ok (Read sector))) = false
+calls_none (answered (Ok (Write sector bytes))) = false
+calls_none (answered (Ok (Fill sector count byte))) = false
+calls_none (answered (Ok Flush)) = false
+calls_none (answered (Ok Size)) = true
+calls_none (answered (Ok (Lose place))) = false
+calls_none (answered (Ok (Replace place name))) = false
+calls_none (answered (Ok (Step count))) = false
+calls_none (answered (Ok Status)) = false
+calls_none (answered (Ok Quit)) = true
+calls_none (answered (Ok Unbuilt)) = true
+calls_none (answered (Err fault)) = true
+calls_none (spent line sector) = false
+calls_none (lost place) = false
+calls_none (last place) = false
+calls_none (replaced place name) = false
+calls_none (declined place name fault) = not (looks_at fault)
+calls_none (stepped count left) = false
+calls_none (stuck count array) = false
+calls_none (shown text) = true
 
 -- a line that is answered as a flat array answers it, and not by the drives, the works that are left or how the pool stands
 abbrev pub IsOfArray : Line → Type 0

@@ -22,9 +22,10 @@ use Rattle.assembler.specs.Causes.{HasRefusalCause}
 use Rattle.assembler.specs.Holding.{IsArrayOf}
 use Rattle.assembler.specs.Marking.{MarksDrives}
 use Rattle.assembler.specs.Refusing.{is_early}
+use Rattle.pool_model.specs.Grouped.{HaveOwnAreas, HoldGroup}
 use Rattle.pool_model.specs.Left.{AreAlone, AreElsewhere, IsPickOff}
 use Rattle.pool_model.specs.Pools.{AreSlicesOf}
-use Rattle.assembler.specs.Sound.{HaveAgreed, HoldSound, IsMeantRefusal, KeepsPool, MayStop}
+use Rattle.assembler.specs.Sound.{HaveAgreed, HoldSound, IsMeantRefusal, KeepsPool, MayStop, SayTruths}
 use Rattle.assembler.specs.Volume.{AllLive, IsVolumeOf}
 use Rattle.assembler.specs.Wanting.{LeavesPool}
 use Rattle.assembler.specs.Writing.{WritesPool}
@@ -70,6 +71,8 @@ pub record IsOpenedAs (f : Found) (y : Seen) (g : Ground) (from : Moment) : Type
   -- each is the array of the pool's superblocks, with the rows to resync that they leave
   pub arrays : (n : ℕ) (t : Super) → n < f.state.joined → truth_of f n ≡ Some t → IsArrayOf f n t (from.book.arrays n)
   pub live : AllLive from.book
+  -- where all arrays are ready for the volume, and have the pool's metadata areas, they hold its group, whatever they may be left with
+  pub group : f.state.joined ≡ f.state.made → HaveOwnAreas f → HoldGroup from.book (slices_of from.slices y)
   -- outside the slices the disks have each drive's table, and other disks say what they said
   pub elsewhere : (i : Image) → IsPickOff from.slices y i → AreElsewhere f i
   -- just those drives are marked missing that were, or that have no disk
@@ -115,6 +118,9 @@ pub record OpenedOn {R : Type 0} (seen : R → Seen) (shelf : R → Shelf) (runs
   -- and the superblocks of each array that is ready for the volume agree, durably
   pub agreed :
       (f : Found) → HoldSound (seen bay) f → IsUnfaulted (seen bay) (seen opened) → HaveAgreed f from.book.state (slices_of from.slices (seen opened))
+  -- and say its truth
+  pub truths :
+      (f : Found) → HoldSound (seen bay) f → IsUnfaulted (seen bay) (seen opened) → SayTruths f from.book (slices_of from.slices (seen opened))
   -- what a stop inside the opening leaves means the array that the disks meant
   pub moments :
       (a : FlatArray) → (meant : IsMeant (seen bay) (seen opened) a) → MayStop (seen bay) meant.pool → (seen bay).traced

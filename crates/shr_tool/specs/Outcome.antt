@@ -12,14 +12,18 @@ use Rattle.array_core.specs.Superblocks.{is_settled, left_offset}
 use Rattle.array_model.specs.View.{HasGeometry}
 use Rattle.pool_image.specs.Disks.{disks_of}
 use Rattle.pool_image.specs.Drives.{Found, found}
-use Rattle.pool_image.specs.Meaning.{truth_of}
+use Rattle.pool_image.specs.Meaning.{has_table, truth_of}
+use Rattle.pool_model.specs.Absent.{AreOnly, HoldAbsent, IsWholeRaid}
+use Rattle.pool_model.specs.Grouped.{HaveOwnAreas, HoldGroup}
 use Rattle.pool_model.specs.Left.{HoldAgain, HoldRest}
 use Rattle.pool_model.specs.Pools.{AreSlicesOf, IsSoundPool}
 use Rattle.pool_model.specs.Taken.{AreSerial}
 use Rattle.slice_rack.specs.Slices.{disk_of}
 use Rattle.slice_rack.specs.Sliced.{slices_of}
+use Rattle.array_core.specs.TruthHeld.{HoldTruth}
 use Rattle.raid_rack.specs.Book.{IsAfter}
 use Rattle.raid_rack.specs.Raid.{IsTold, is_over}
+use Rattle.assembler.specs.Sound.{HaveOnePool}
 use Rattle.shr_script.specs.Line.{Line}
 use Rattle.flat_array.specs.Array.{FlatArray, flushed}
 use Rattle.shr_script.specs.Script.{script_of, cut_script_of}
@@ -37,6 +41,7 @@ use Rattle.rack.specs.Shelf.{Shelf}
 use Rattle.slice_rack.specs.Runs.{IsSliced}
 use Rattle.shr_tool.specs.Timeline.{Ground, KeepsSlices, KeepsStanding, MeansAt, Timeline, steps_of}
 use Rattle.shr_tool.specs.Service.{AreFit, IsServed, pool_by}
+use Rattle.shr_tool.specs.Between.{HoldsEach}
 
 -- no disk's faults rose since they were counted so
 abbrev pub NoneRose : (ℕ → ℕ) → (ℕ → ℕ) → Type 0
@@ -70,8 +75,13 @@ pub record EndsAt (Told : Type 0) (Traced : Type 0) (y : Seen) (g : Ground) (p q
   pub during : Told → Traced → (k : ℕ) (i : Image) → p.clock < k → k ≤ q.clock → y.stops k i → MeansAt g q a i
   pub ended : Told → Traced → (i : Image) → y.stops q.clock i → MeansAt g q (flushed a) i
 
--- The pool of a run, which its disks, x, had when it began: a sound one, whose drives have the run's slices. Its arrays are the volume's, with
--- the members and the sizes of its superblocks, and outside the slices the disks are as it has them.
+-- contents of whole sectors
+abbrev pub HasWholeSectors : Seen → Image → Type 0
+HasWholeSectors x i = (d s : ℕ) → d < x.disks → s < x.sectors d → length (i d s) ≡ 512
+
+-- The pool of a run, which its disks, x, had when it began: a sound one, whose drives have the run's slices and their partition tables, and no disk
+-- had another pool's state. Its arrays are the volume's, with the members and the sizes of its superblocks, which say these arrays' truths, durably.
+-- Where the arrays have the pool's metadata areas they hold its group, whatever they may be left with. Outside the slices the disks are as it has them.
 pub record IsRunOn (f : Found) (g : Ground) (from : Moment) (x : Seen) : Type 0 where
   pub lasting : x.lasting
   pub before : Image
@@ -82,13 +92,17 @@ pub record IsRunOn (f : Found) (g : Ground) (from : Moment) (x : Seen) : Type 0 
   pub joined : f.state.joined ≡ f.state.made
   pub arrays : g.linear.arrays ≡ f.state.joined
   pub geometry : (n : ℕ) (t : Super) → n < f.state.made → truth_of f n ≡ Some t → HasGeometry t (from.book.arrays n).truth
+  pub tables : (p d : ℕ) → f.seats p ≡ Some d → has_table f p d ≡ true
+  pub one_pool : HaveOnePool f
+  pub truths : (n : ℕ) → n < f.state.made → HoldTruth (from.book.arrays n) (slices_of from.slices x)
+  pub group : HaveOwnAreas f → HoldGroup from.book (slices_of from.slices x)
   pub rest : HoldRest f from.slices x
 
 -- Events of a script from a moment on, when the disks showed x, and the end of the pool: the disks show it afterwards, and where the pool
 -- told its volume to hold an array, each of the volume's arrays is told by the last book. Outside the slices of drives no disk is written
 -- but one that a line named to replace a drive. Where none did, sectors of slices alone are written. All that the disks may be left
--- with holds a sound pool again, by the last book's state and with the drives that were taken in, unless an array is over. Where lines named images
--- stops are to be told, the pool's drives to have ids of serials, and the images to be fit for it, by what they held before.
+-- with holds a sound pool again, by the last book's state and with the drives that were taken in, unless an array is over; and so does what a stop between
+-- lines leaves. Where lines named images stops are to be told, the pool's drives to have ids of serials, and the images to be fit for it, by what they held before.
 pub record Lasts (Told Traced : Type 0) (x y : Seen) (g : Ground) (from : Moment) (a : FlatArray) (events : List Event) : Type 0 where
   pub last : Moment
   pub timeline : Timeline (Traced × Told) y.stops g from a events last
@@ -103,6 +117,19 @@ pub record Lasts (Told Traced : Type 0) (x y : Seen) (g : Ground) (from : Moment
   pub apart : any_takes events ≡ false → WritesOnly x y (IsSliced from.slices)
   pub told : Told → IsServed g final events → (n : ℕ) → n < g.linear.arrays → IsTold final.book (slices_of final.slices y) n
   pub rows : Told → IsServed g final events → LeavesItsRows y g last final
+  -- what a stop leaves before the first line, and at the end of each, holds a sound pool again, by the book of that moment
+  pub between :
+      Told → Traced → (f : Found) → IsRunOn f g from x
+      → HoldsEach y.stops g (AreSerial f.state) [] f from events last (steps_of (Traced × Told) y.stops g from a events last timeline)
+  -- Any one drive may be absent after a clean whole end: where no line named a drive to replace, no disk's faults rose in the end, no array is over, and
+  -- all drives of the pool are then there, with nothing left to resync, to rebuild or to zero, contents of whole sectors that the disks may be left with
+  -- hold a sound pool again, and mean without any one of its drives what they mean with it. Of the pool that the run began on (`IsRunOn`) that asks
+  -- that no second disk stood for the place of a drive, and that labels of its arrays name the pool's metadata areas.
+  pub safe :
+      Told → any_takes events ≡ false → NoneRose last.faults final.faults
+      → (f : Found) → IsRunOn f g from x → AreOnly f → HaveOwnAreas f
+      → IsWholeRaid f.state.made final.book → ((n : ℕ) → n < f.state.made → is_over final.book n ≡ false)
+      → (i : Image) → IsPick y y y.held i → HasWholeSectors y i → HoldAbsent f final.slices final.book.state i
   pub again :
       Told → IsServed g final events → (f : Found) → IsRunOn f g from x → (any_takes events ≡ true → Traced × AreSerial f.state)
       → AreFit f from events last (steps_of (Traced × Told) y.stops g from a events last timeline)

@@ -18,6 +18,7 @@ use Rattle.shr_tool.specs.Events.{AnyTakes, Event, answer_of, any_takes, array_b
 use Rattle.pool.specs.Moment.{moment_of}
 use Rattle.shr_tool.specs.Timeline.{Timeline, Performs, Steps, ground_of, steps_of}
 use Rattle.shr_tool.specs.Service.{AreFit, GoesBy, GoesOn, IsServed, pool_by}
+use Rattle.shr_tool.specs.Between.{HoldsEach}
 use Rattle.pool_image.specs.Drives.{Found}
 use Rattle.pool_model.specs.Taken.{AreSerial}
 
@@ -89,6 +90,10 @@ pub record Ran (x y : View) (events : List Event) : Type 0 where
   pub service :
       (a : FlatArray) → Holds x a → IsServed (ground_of x) (moment_of y) events → (f : Found) → GoesBy f x → (any_takes events ≡ true → AreSerial f.state)
       → AreFit f (moment_of x) events (moment_of y) steps → GoesOn f (pool_by f (moment_of x) events (moment_of y) steps) y
+  -- what a stop between two of them leaves holds that pool again
+  pub between :
+      (a : FlatArray) → IsServing x a → x.bay.traced → (f : Found) → GoesBy f x
+      → HoldsEach y.bay.stops (ground_of x) (AreSerial f.state) [] f (moment_of x) events (moment_of y) steps
 
 -- all these were done, and their replies put
 pub record Answered (x y : View) (events : List Event) (out out' : List ℕ) : Type 0 where

@@ -21,7 +21,7 @@ use Rattle.pool.specs.Replaced.{ChangesDrive, HasGrowCause, IsDeclined, IsReplac
 use Rattle.pool.specs.View.{View, book, contents_in, spent_by}
 use Rattle.pool.specs.Works.{HasRowsAlone, IsStuck, left_by}
 use Rattle.pool.specs.Volume.{Holds, Means, PicksLive}
-use Rattle.shr_tool.specs.Events.{Event, IsOfArray, Takes, Touches, TouchesLast, becomes, calls_in, line_of, takes_disk, text_of}
+use Rattle.shr_tool.specs.Events.{Event, IsOfArray, Takes, Touches, TouchesLast, becomes, calls_in, calls_none, line_of, takes_disk, text_of}
 use Rattle.shr_tool.specs.StatusText.{status_text}
 use Rattle.shr_tool.specs.Events.Event.{answered, spent, lost, last, replaced, declined, stepped, stuck, shown}
 
@@ -131,6 +131,8 @@ KeepsNamed g p q (shown text) = Unit {0}
 -- disks hold what they held, but for one that the event took. The clock and what disks hold are told where stops are.
 pub record Happens (Traced : Type 0) (stops : ℕ → Image → Type 0) (g : Ground) (p q : Moment) (a : FlatArray) (event : Event) : Type 0 where
   pub later : Traced → p.clock ≤ q.clock
+  -- where no disk is asked nothing changes, and no time passes
+  pub still : calls_none event ≡ true → q ≡ p
   pub cause : HasCause g p q event
   pub disks : KeepsDisks p q
   pub held :
@@ -179,6 +181,7 @@ Changes x y (shown text) = Unit {0}
 -- A line was answered on a pool by this text.
 pub record Performs (x y : View) (event : Event) (text : List ℕ) : Type 0 where
   pub continues : Continues x y
+  pub still : calls_none event ≡ true → moment_of y ≡ moment_of x
   pub passes : takes_disk event ≡ false → Passes x y
   pub outside : takes_disk event ≡ true → KeepsOutside x.slices y.slices (Takes y.shelf.names event) x.shelf.told x.bay y.bay
   pub changes : takes_disk event ≡ true → Changes x y event

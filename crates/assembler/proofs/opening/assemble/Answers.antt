@@ -1,11 +1,14 @@
 mod Assembling
+mod Unopened
 use Rattle.slice_rack.specs.SliceRack.{below_of, tables}
 use Rattle.slice_rack.specs.Sliced.{slices_of}
 use Rattle.raid_rack.specs.RaidRack.{raid_in, slices_in, slices_seen, written_in}
 use Rattle.pool_state.specs.declared.contents.State.{State}
-use Rattle.std.proofs.Common.{◌≡◌, ◌<◌, ℕ, arith, false, Some, option_map, inl, inr, sym, ap, subst, ◌∙◌}
+use Rattle.std.proofs.Common.{◌≡◌, ◌<◌, ℕ, List, arith, false, Some, option_map, inl, inr, sym, ap, subst, ◌∙◌}
 use Rattle.std.proofs.lemmas.Bool.{both_ways}
-use Rattle.rack.specs.Seen.{Image, Seen, Stays, Rose}
+use Rattle.std.proofs.lemmas.Slice.Eq.{bytes_eq-Decides}
+use Rattle.shr_base.specs.declared.Id.{Id}
+use Rattle.rack.specs.Seen.{Image, Seen, Stays}
 use Rattle.rack.specs.Joins.{stays_then}
 use Rattle.rack.specs.Sequences.{WritesOnly}
 use Rattle.slice_rack.specs.Runs.{IsSliced}
@@ -24,9 +27,6 @@ use Rattle.raid_rack.specs.Laws.{live_parts}
 use Rattle.raid_rack.specs.Raid.{is_over}
 use Rattle.array_model.specs.View.{sectors_of}
 use Rattle.assembler.specs.Marking.{AreMarkedFor}
-use Rattle.assembler.specs.Causes.{HasChecked, arrays_on}
-use Rattle.assembler.specs.Holding.{HoldPool, IsPoolOn}
-use Rattle.assembler.specs.Members.{AreMembers}
 use Rattle.assembler.specs.Refusing.{is_early, meant_by}
 use Rattle.pool_model.specs.Left.{IsPickOff}
 use Rattle.pool_model.specs.Pools.{AreSlicesOf}
@@ -37,17 +37,17 @@ use Rattle.assembler.proofs.Refusals.{check_early, finding_sound, meant_finding,
 use Rattle.assembler.proofs.Written.{writes_then_reads}
 use Rattle.pool_image.proofs.Founds.{joined_same, super_same, truths_same}
 use Rattle.assembler.proofs.Elsewhere.{elsewhere}
-use Rattle.assembler.proofs.Finding.{same as found_by_rest}
 use Rattle.assembler.proofs.Founded.{array_later, array_same}
-use Rattle.assembler.proofs.Entry.{meaning_entry, means_still, quiet_first, quiet_last, refusal_entry, rest_found, rested_so, pool_same}
-use Rattle.assembler.proofs.Leaving.{opening_leaves, refused_leaves}
+use Rattle.assembler.proofs.Entry.{meaning_entry, means_still, only_pool, quiet_first, quiet_last, refusal_entry, rest_found, rested_so}
+use Rattle.assembler.proofs.Leaving.{opening_leaves}
 use Rattle.assembler.proofs.Making.{marked_calls, marked_then}
 use Rattle.assembler.proofs.Marks.{marks_still}
-use Rattle.assembler.proofs.Meaning.{check_fails, check_passes}
-use Rattle.assembler.proofs.Mended.{opening_keeps, opening_settled}
-use Rattle.assembler.proofs.Volumes.{volume_opened, volume_refused, live_later}
-use Rattle.assembler.proofs.Lies.{slices_same, volume_same, slices_lie}
-use Rattle.assembler.proofs.opening.assemble.Answers.Assembling.{a, x, y, z, t, known, ax, ay, yz, says_so, ready, marked, drives_only, tables_kept, from_y, rested, f, same, checked, state, members, holds, lie, passes, early, arrays, made, opened, texts, own_texts, first_quiet, nobody_failed, live_first, live_last, built, own_calls, arrays_for, pool_for, made_quiet, live_still, numbers_ended, pool_kept, marks_made, off_slices}
+use Rattle.assembler.proofs.Meaning.{check_fails}
+use Rattle.assembler.proofs.Mended.{opening_settled}
+use Rattle.assembler.proofs.Volumes.{volume_opened, volume_refused}
+use Rattle.assembler.proofs.Lies.{slices_same, volume_same}
+use Rattle.assembler.proofs.opening.assemble.Answers.Assembling.{a, x, y, z, t, known, ax, ay, yz, says_so, ready, marked, drives_only, tables_kept, from_y, rested, f, same, checked, state, members, holds, lie, passes, early, arrays, made, opened, texts, own_texts, first_quiet, nobody_failed, live_first, live_last, marks_made, off_slices}
+use Rattle.assembler.proofs.opening.assemble.Answers.Unopened.{built, own_calls, arrays_for, pool_for, made_quiet, live_still, numbers_ended, pool_kept}
 use Rattle.assembler.proofs.opening.assemble.Goals as goal
 
 pub open_volume-requires-clause-sized : goal.open_volume-requires-clause-sized
@@ -121,6 +121,10 @@ returns-in-Ok-open_volume-clause-meant g c e sound quiet =
           (array_same e pool n z ((raid_in raid).arrays n) (super_same e pool same_pool n) (held_arrays.arrays n z less (truths_same e pool same_pool n ∙ truth)))
           (opens.kept.2.arrays n (let most = ready g k in omega (arith, less, joined, most)));
       live = alive;
+      one_pool = λ d copy low here.
+          let same_id : copy.state.pool.0 ≡ e.state.pool.0 =
+          (bytes_eq-Decides copy.state.pool.0 e.state.pool.0).0 (only_pool seen (a g k) c.in-Ok.rest e sound (rested g k before e sound) d copy low here) in
+          ap (λ (bytes : List ℕ). let id : Id = record { 0 = bytes } in id) same_id;
       group = λ all own.
           let joined = held_arrays.after.same.joined in
           let made = held_arrays.after.same.made in
@@ -285,6 +289,25 @@ returns-in-Ok-open_volume-clause-agreed g c e sound quiet n joined =
     (live_parts (raid_in (rack_in volume)) n 0 (live_last g c quiet n 0 (let same = opens.kept.1.book.same.joined in omega (arith, low, same)) some)).0 in
     agree_opened g.R.Rack.seen g.R.Rack.runs raid (rack_in volume) (linear volume) (seqno_of volume) opens c.make_rack.ensures.fit (nobody_failed g c quiet)
     n (omega (arith, low, most)) (held.told n less) goes (held.agree n less (opens.kept.1.still n goes))
+
+pub returns-in-Ok-open_volume-clause-truths : goal.returns-in-Ok-open_volume-clause-truths
+returns-in-Ok-open_volume-clause-truths g c e sound quiet n joined =
+    let k = made g c in
+    let raid = c.make_rack.result in
+    let volume = c.in-Ok-open_volume.volume in
+    let opens = c.in-Ok-open_volume.ensures.opens in
+    let before = first_quiet g c quiet in
+    let pool = f g k before e sound in
+    let held = arrays g k before e sound in
+    let most = ready g k in
+    let less : n < pool.state.joined = subst (λ (s : State). n < s.joined) (sym (same g k before e sound).state) joined in
+    let low : n < (raid_in raid).state.joined =
+    (let kept = ap (λ (s : State). s.joined) (state g k before e sound) in let joined_is = c.make_rack.ensures.joined in omega (arith, less, joined_is, kept)) in
+    let some : 0 < sectors_of ((raid_in (rack_in volume)).arrays n) =
+    (let room = held.room n less in let is = held.sectors n less in let later = opens.kept.2.sectors n in omega (arith, room, is, later)) in
+    let goes : is_over (raid_in (rack_in volume)) n ≡ false =
+    (live_parts (raid_in (rack_in volume)) n 0 (live_last g c quiet n 0 (let same = opens.kept.1.book.same.joined in omega (arith, low, same)) some)).0 in
+    opens.kept.1.truths n (omega (arith, low, most)) (held.truths n less (opens.kept.1.still n goes))
 
 pub returns-in-Err-clause-cause : goal.returns-in-Err-clause-cause
 returns-in-Err-clause-cause g c = inl (record { fault = c.in-Err.back.why; said = c.by_finding.ensures; cause = c.in-Err.ensures.refused })

@@ -18,13 +18,14 @@ use Rattle.raid_rack.specs.RaidRack.{IsRunning, SliceRuns, arrays_in, no_array, 
 use Rattle.raid_rack.specs.Agreeing.{MakesAgree}
 use Rattle.raid_rack.specs.Book.{IsAfter}
 use Rattle.raid_rack.specs.Cleaning.{NoneFails}
-use Rattle.raid_rack.specs.Moves.{AreMarked, Mends}
+use Rattle.raid_rack.specs.Moves.{AreMarked, IsSet, Mends}
+use Rattle.raid_rack.specs.Truths.{KeepsTruths, MakesTruths}
 use Rattle.raid_rack.proofs.Mended.{each_items}
 use Rattle.assembler.proofs.Causes.{made_array}
 use Rattle.assembler.proofs.Holding.{rack_closed, rack_still}
 use Rattle.assembler.proofs.Live.{opened_live}
 use Rattle.assembler.proofs.Making.{by_list, keeps, marked_so, mended as making_mended, parts as making_parts, replayed, same as making_same, settled}
-use Rattle.assembler.proofs.Mended.{absent_still, closed_members, marking_so, mended_members, mended_reads, mended_so, rack_writes, reads_agree, reads_mend}
+use Rattle.assembler.proofs.Mended.{absent_still, closed_members, marking_so, mended_members, mended_reads, mended_so, rack_writes, reads_agree, reads_makes, reads_mend, reads_move}
 use Rattle.assembler.proofs.Entry.{quiet_last}
 use Rattle.assembler.proofs.Marks.{all_marked, marked_for, some_unmarked}
 use Rattle.assembler.proofs.Running.{array_now, current_logs, rack_running, twice}
@@ -257,30 +258,44 @@ returns-clause-holds g c f holds found quiet =
     reads_agree raid w (slices_of t b) (slices_of t d) after running.set some reads marks.moves
     (subst (λ u. MakesAgree raid w (slices_of u d) after) to_t
     (subst (λ k. MakesAgree raid w (slices_of (tables k) (seen (below_of k))) after) c.new-raid.ensures.slices (c.mark_gone.ensures.supers why))) in
+    let makes : (flag ≡ true) ⊎ (AreMarked raid → ⊥) → MakesTruths raid w (slices_of t b) after = λ why.
+    reads_makes raid w (slices_of t b) (slices_of t d) after running.set some reads
+    (subst (λ u. MakesTruths raid w (slices_of u d) after) to_t
+    (subst (λ k. MakesTruths raid w (slices_of (tables k) (seen (below_of k))) after) c.new-raid.ensures.slices (c.mark_gone.ensures.makes why))) in
     let as_listed : (p : ℕ) → names places p ≡ names m.absent.items p = λ p. ap (λ ps. names ps p) same in
-    let still : m.absent.items ≡ [] → flag ≡ false → OnlyReads (slices_of t b) after × (w.state ≡ raid.state) × (list_any (λ b. b) m.checked.stale.items ≡ false) =
+    let still : m.absent.items ≡ [] → flag ≡ false → OnlyReads (slices_of t b) after × (w.state ≡ raid.state) × (list_any (λ b. b) m.checked.stale.items ≡ false)
+    × IsSet raid after × KeepsTruths raid w after after =
     λ none clear.
-    let idle = c.mark_gone.ensures.idle clear
-    (all_marked m.state t y m.checked m.absent.items places members raid c.new-raid.ensures.state are as_listed w (slices_of t b) after mends none) in (
-      subst (OnlyReads (slices_of t b))
-          (sym (ap (λ k. slices_of (tables k) (seen (below_of k))) (idle.0 ∙ c.new-raid.ensures.slices) ∙ ap (λ u. slices_of u d) to_t)) reads,
+    let all_are = all_marked m.state t y m.checked m.absent.items places members raid c.new-raid.ensures.state are as_listed w (slices_of t b) after mends none in
+    let idle = c.mark_gone.ensures.idle clear all_are in
+    let stayed : after ≡ slices_of t d = ap (λ k. slices_of (tables k) (seen (below_of k))) (idle.0 ∙ c.new-raid.ensures.slices) ∙ ap (λ u. slices_of u d) to_t in
+    let only : OnlyReads (slices_of t b) after = subst (OnlyReads (slices_of t b)) (sym stayed) reads in (
+      only,
       idle.1,
       sym (c.has_stale.ensures ∙ ap (list_any (λ b. b)) c.as_slice-2.ensures.value) ∙ clear,
+      (reads_move raid (slices_of t b) after running.set some only).set,
+      subst (λ k. KeepsTruths raid w k after) (sym stayed)
+          (subst (λ u. KeepsTruths raid w (slices_of u d) after) to_t
+          (subst (λ k. KeepsTruths raid w (slices_of (tables k) (seen (below_of k))) after) c.new-raid.ensures.slices (c.mark_gone.ensures.truths clear))),
     ) in
     by_list m.absent.items
     (λ none.
     rack_closed f m.state t y m.checked m.absent.items places m.slices.orderly m.log holds found members rules raid c.new-raid.ensures.state number are none (same ∙ none)
     (slices_of t b) (replayed m.state t (tables closed) (tables mended) (tables last) y b d z went places m.checked m.absent.items m.slices.orderly members m.log
     (runs (below_of m.slices) (below_of closed)) (runs (below_of mended) (below_of last)) c.close_gates-gone.ensures.runs c.close_gates-gone.ensures.closes
-    c.close_gates-gone.ensures.same c.mend_tables-left_out.ensures.mends c.mend_tables-left_out.ensures.tables marking quiet none) w after mends
-    (elim (cases_Bool flag) [ inl stale ↦ inl (agrees (inl stale), unfaulted) | inr clear ↦ inr (still none clear) ]))
+    c.close_gates-gone.ensures.same c.mend_tables-left_out.ensures.mends c.mend_tables-left_out.ensures.tables marking quiet none) w after mends running.set
+    (elim (cases_Bool flag) [ inl stale ↦ inl (agrees (inl stale), unfaulted, makes (inl stale)) | inr clear ↦ inr (still none clear) ]))
     (λ absent.
     rack_still f m.state t y m.checked m.absent.items places m.slices.orderly m.log holds found members rules raid c.new-raid.ensures.state number are absent same w after
     (subst (λ k. Mends raid w (slices_of t (seen (below_of k))) after) (c.close_gates-gone.ensures.still absent) mends)
     (subst (λ k. MakesAgree raid w (slices_of t (seen (below_of k))) after) (c.close_gates-gone.ensures.still absent)
     (agrees
     (inr (some_unmarked m.state t y m.checked m.absent.items places members raid c.new-raid.ensures.state are as_listed w (slices_of t b) after mends absent))))
-    (subst (λ k. NoneFails (slices_of t (seen (below_of k))) after) (c.close_gates-gone.ensures.still absent) unfaulted))
+    (subst (λ k. NoneFails (slices_of t (seen (below_of k))) after) (c.close_gates-gone.ensures.still absent) unfaulted)
+    (subst (λ k. IsSet raid (slices_of t (seen (below_of k)))) (c.close_gates-gone.ensures.still absent) running.set)
+    (subst (λ k. MakesTruths raid w (slices_of t (seen (below_of k))) after) (c.close_gates-gone.ensures.still absent)
+    (makes
+    (inr (some_unmarked m.state t y m.checked m.absent.items places members raid c.new-raid.ensures.state are as_listed w (slices_of t b) after mends absent)))))
 
 pub returns-clause-marks : goal.returns-clause-marks
 returns-clause-marks g c quiet =

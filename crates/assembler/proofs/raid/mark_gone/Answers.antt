@@ -4,6 +4,7 @@ use Rattle.slice_rack.specs.SliceRack.{below_of, tables}
 use Rattle.slice_rack.specs.Runs.{runs_join}
 use Rattle.raid_rack.specs.RaidRack.{raid_in, slices_in, slices_seen}
 use Rattle.raid_rack.proofs.Agreeing.{agree_then}
+use Rattle.raid_rack.proofs.Truths.{makes_after}
 use Rattle.assembler.proofs.Mended.{mends_then}
 use Rattle.assembler.proofs.raid.mark_gone.Goals as goal
 
@@ -44,4 +45,20 @@ returns-else-is_stale-clause-supers g c why =
     elim why [
       | inl stale ↦ absurd (both_ways c.args.is_stale c.if-is_stale.false stale)
       | inr some ↦ c.mark_gone.ensures.supers some
+    ]
+
+pub returns-then-is_stale-clause-makes : goal.returns-then-is_stale-clause-makes
+returns-then-is_stale-clause-makes g c why =
+    let seen = g.R.Rack.seen in
+    let x = c.args.raid.now in
+    let y = c.mark_gone.new.self in
+    let z = c.restate.new.self in
+    makes_after (raid_in x) (raid_in y) (raid_in z) (slices_seen seen x) (slices_seen seen y) (slices_seen seen z) c.requires.running.set.lasting c.mark_gone.ensures.mends.moves
+    c.restate.ensures.truths
+
+pub returns-else-is_stale-clause-makes : goal.returns-else-is_stale-clause-makes
+returns-else-is_stale-clause-makes g c why =
+    elim why [
+      | inl stale ↦ absurd (both_ways c.args.is_stale c.if-is_stale.false stale)
+      | inr some ↦ c.mark_gone.ensures.makes some
     ]

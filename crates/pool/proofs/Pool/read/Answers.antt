@@ -14,7 +14,7 @@ returns-in-Ok-clause-read g c =
     let reads = c.in-Ok.ensures.reads in
     let runs = c.in-Ok.ensures.runs in
     read_done (view g.R.Rack.seen g.R.Bay.shelf c.args.self.now) (view g.R.Rack.seen g.R.Bay.shelf (record { volume = c.read.new.self })) c.args.sector c.read.new.into
-    (volume_call g.R.Rack.seen g.R.Bay.shelf g.R.Rack.runs g.met.R.Rack.sound g.met.R.Bay.runs_shelf c.args.self.now (record { volume = c.read.new.self }) c.requires reads.stays runs.1.volume
+    (volume_call g.R.Rack.seen g.R.Bay.shelf g.R.Rack.runs g.met.R.Rack.sound g.met.R.Bay.runs_shelf c.args.self.now (record { volume = c.read.new.self }) c.requires reads.stays runs.1
     runs.0 c.in-Ok.ensures.once)
     (let low = c.if-sector-size.false in let size = c.size.ensures.size in omega (arith, low, size)) reads
 
@@ -23,6 +23,6 @@ returns-in-Err-clause-read g c =
     let reads = c.in-Err.ensures.reads in
     let runs = c.in-Err.ensures.runs in
     read_spent (view g.R.Rack.seen g.R.Bay.shelf c.args.self.now) (view g.R.Rack.seen g.R.Bay.shelf (record { volume = c.read.new.self })) c.args.sector c.read.new.into c.in-Err.field-0
-    (volume_call g.R.Rack.seen g.R.Bay.shelf g.R.Rack.runs g.met.R.Rack.sound g.met.R.Bay.runs_shelf c.args.self.now (record { volume = c.read.new.self }) c.requires reads.stays runs.1.volume
+    (volume_call g.R.Rack.seen g.R.Bay.shelf g.R.Rack.runs g.met.R.Rack.sound g.met.R.Bay.runs_shelf c.args.self.now (record { volume = c.read.new.self }) c.requires reads.stays runs.1
     runs.0 c.in-Err.ensures.once)
     (let low = c.if-sector-size.false in let size = c.size.ensures.size in omega (arith, low, size)) reads

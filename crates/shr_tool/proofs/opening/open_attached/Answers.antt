@@ -50,10 +50,11 @@ returns-in-Ok-clause-outcome g c =
       meant = opened_as pool (λ r. seen r.now) (λ r. shelf r.now) _ opens.meant opens.marks;
       tables = opens.mended;
       agreed = opens.agreed;
+      truths = opens.truths;
       moments = λ a meant calm traced. stops_mean pool (λ r. seen r.now) (λ r. shelf r.now) _ a opens.meant meant calm traced;
       run_on = λ f sound quiet joined alone.
           runs_on _ _ _ _ f sound (opened_as pool (λ r. seen r.now) (λ r. shelf r.now) _ opens.meant opens.marks f sound quiet)
-          (stays_then opens.drives.early.only.stays opens.drives.late.stays) joined alone;
+          _ (opens.meant f sound quiet).meant (opens.meant f sound quiet).one_pool (opens.truths f sound quiet) (stays_then opens.drives.early.only.stays opens.drives.late.stays) joined alone;
       outcome = λ a.
           task_for c.args.task c.do_on-status.result _ _ _ _ _ _ _ _ a _ _ _ _
           (λ meant. held_by_meant pool (λ r. seen r.now) (λ r. shelf r.now) _ a opens.meant

@@ -11,5 +11,5 @@ returns-clause-serves g c =
     let shown = view g.R.Rack.seen g.R.Bay.shelf in
     let p = c.args.pool.now in
     let out = g.O.Sink.taken c.args.out.now in
-    last_answered shown (λ r d s. g.met.R.Bay.unspent (bay_in r) d s) p c.answer_last.new.pool (shown p) (codes "status") [] out out (g.O.Sink.taken c.answer_last.new.out) _ _ [] _ _
-    (answered_none (shown p) out c.requires (g.met.R.Bay.unspent (bay_in p))) refl refl (lit≤ tt) (c.answer_last.ensures.answers sink)
+    last_answered shown (λ r. (g.met.R.Bay.unspent (bay_in r), g.met.R.Rack.sound (bay_in r))) p c.answer_last.new.pool (shown p) (codes "status") [] out out (g.O.Sink.taken c.answer_last.new.out) _ _ [] _ _
+    (answered_none (shown p) out c.requires (g.met.R.Bay.unspent (bay_in p), g.met.R.Rack.sound (bay_in p))) refl refl (lit≤ tt) (c.answer_last.ensures.answers sink)

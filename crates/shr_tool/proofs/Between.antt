@@ -1,0 +1,117 @@
+-- What a stop between two lines leaves holds a sound pool again: at a view, after one event more, and seen after calls more.
+use Rattle.std.proofs.Common.{◌≡◌, ℕ, ◌<◌, ◌≤◌, true, false, List, [], ◌∷◌, ◌++◌, append_assoc, sym, ◌∙◌, ap, subst, inl, inr, arith}
+use Rattle.rack.specs.Moments.{IsSound}
+use Rattle.rack.specs.Seen.{Image}
+use Rattle.slice_rack.specs.Sliced.{slices_of}
+use Rattle.flat_array.specs.Array.{FlatArray}
+use Rattle.lvm_group.specs.Runs.{Linear}
+use Rattle.raid_rack.specs.Raid.{IsTold}
+use Rattle.pool_image.specs.Drives.{Found}
+use Rattle.pool.specs.Calls.{Passes}
+use Rattle.pool.specs.Continuing.{Continues}
+use Rattle.pool.specs.Moment.{Moment, moment_of}
+use Rattle.pool.specs.View.{View, book, spent_by}
+use Rattle.pool.specs.Volume.{Holds}
+use Rattle.shr_tool.specs.Between.{HoldsEach, HoldsThen}
+use Rattle.shr_tool.specs.Events.{Event, any_takes, becomes}
+use Rattle.shr_tool.specs.Service.{AreFit, GoesBy, IsServed, pool_after, pool_by}
+use Rattle.shr_tool.specs.Serving.{IsServing}
+use Rattle.shr_tool.specs.Timeline.{Ground, Steps, Timeline, ground_of, steps_of}
+use Rattle.shr_tool.proofs.Chains.{steps_more}
+use Rattle.shr_tool.proofs.Serviced.{goes_again}
+
+-- each of the volume's arrays is told after calls, where no drive was to be replaced or a sector of the volume can be had
+pub told_after :
+    (x y : View) (a b : FlatArray) (events : List Event)
+    → Continues x y
+    → (any_takes events ≡ false → Passes x y)
+    → IsServing x a
+    → Holds y b
+    → IsServed (ground_of x) (moment_of y) events
+    → (n : ℕ) → n < x.linear.arrays → IsTold (book y) (slices_of y.slices y.bay) n
+told_after x y a b events continues passes serving holds (inl none) n inside =
+    (passes none).stays.told 0 serving.1 n (subst (λ (l : Linear). n < l.arrays) (sym continues.linear) inside)
+told_after x y a b events continues passes serving holds (inr some) n inside =
+    let same = continues.linear in
+    holds.told some.0 (subst (λ k. some.0 < k) (sym (holds.size ∙ continues.size)) some.1)
+    (subst (λ (l : Linear). spent_by l (book y) some.0 ≡ false) (sym same) some.2) n
+    (subst (λ (l : Linear). n < l.arrays) (sym same) inside)
+
+-- a stop now leaves values that the disks hold, so the pool by which the run goes
+pub holds_then :
+    (x y : View) (a b : FlatArray) (events : List Event) (Serial : Type 0) (f : Found)
+    → Continues x y
+    → (any_takes events ≡ false → Passes x y)
+    → IsServing x a
+    → Holds y b
+    → x.bay.traced
+    → (y.bay.fit → y.bay.traced → IsSound y.bay)
+    → (IsServed (ground_of x) (moment_of y) events → (any_takes events ≡ true → Serial) → GoesBy f y)
+    → HoldsThen y.bay.stops (ground_of x) Serial events f (moment_of y)
+holds_then x y a b events Serial f continues passes serving holds traced sound goes = λ served serial lasts i stopped.
+    let going = goes served serial in
+    let fit = continues.fit.0.running.set.fit in
+    goes_again y f fit.1 going
+    (λ n low. told_after x y a b events continues passes serving holds served n
+    (subst (λ k. n < k) (sym going.arrays ∙ ap (λ (l : Linear). l.arrays) continues.linear) low))
+    lasts i ((sound fit.0 (continues.traced serving.0.shelf traced)).only_held i stopped)
+
+-- ---- in a row
+
+-- moments never fall
+pub timeline_order :
+    (Traced : Type 0) (stops : ℕ → Image → Type 0) (g : Ground) (p : Moment) (a : FlatArray) (events : List Event) (q : Moment)
+    → Traced
+    → Timeline Traced stops g p a events q
+    → p.clock ≤ q.clock
+timeline_order Traced stops g p a [] q traced same = subst (λ (m : Moment). p.clock ≤ m.clock) same (omega arith)
+timeline_order Traced stops g p a (event ∷ events) q traced line =
+    let rest = timeline_order Traced stops g line.0 (becomes a event) events q traced line.2 in
+    let later = line.1.later traced in
+    omega arith
+
+then_kept :
+    (old new : ℕ → Image → Type 0) (g : Ground) (Serial : Type 0) (done : List Event) (f : Found) (p : Moment)
+    → ((i : Image) → new p.clock i → old p.clock i) → HoldsThen old g Serial done f p → HoldsThen new g Serial done f p
+then_kept old new g Serial done f p past holds = λ served serial lasts i stopped. holds served serial lasts i (past i stopped)
+
+-- later calls leave the past as it was
+pub each_kept :
+    (Traced : Type 0) (old new : ℕ → Image → Type 0) (g : Ground) (Serial : Type 0) (limit : ℕ)
+    → Traced
+    → ((k : ℕ) (i : Image) → k ≤ limit → new k i → old k i)
+    → (done : List Event) (f : Found) (p : Moment) (a : FlatArray) (events : List Event) (q : Moment)
+    → q.clock ≤ limit
+    → (line : Timeline Traced old g p a events q)
+    → HoldsEach old g Serial done f p events q (steps_of Traced old g p a events q line)
+    → HoldsEach new g Serial done f p events q (steps_of Traced old g p a events q line)
+each_kept Traced old new g Serial limit traced past done f p a [] q within line holds =
+    let order = timeline_order Traced old g p a [] q traced line in
+    then_kept old new g Serial done f p (λ i. past p.clock i (omega arith)) holds
+each_kept Traced old new g Serial limit traced past done f p a (event ∷ events) q within line holds =
+    let order = timeline_order Traced old g p a (event ∷ events) q traced line in (
+      then_kept old new g Serial done f p (λ i. past p.clock i (omega arith)) holds.0,
+      λ fit.
+          each_kept Traced old new g Serial limit traced past (done ++ event ∷ []) (pool_after f p line.0 event) line.0 (becomes a event) events q within line.2
+          (holds.1 fit),
+    )
+
+-- one event more
+pub each_more :
+    (stops : ℕ → Image → Type 0) (g : Ground) (Serial : Type 0) (done : List Event) (f : Found) (p : Moment) (events : List Event) (mid : Moment)
+    (event : Event) (q : Moment) (steps : Steps p events mid)
+    → HoldsEach stops g Serial done f p events mid steps
+    → (AreFit f p (events ++ event ∷ []) q (steps_more p events mid event q steps)
+    → HoldsThen stops g Serial (done ++ (events ++ event ∷ [])) (pool_by f p (events ++ event ∷ []) q (steps_more p events mid event q steps)) q)
+    → HoldsEach stops g Serial done f p (events ++ event ∷ []) q (steps_more p events mid event q steps)
+each_more stops g Serial done f p [] mid event q steps holds last = (holds, λ fit. last (fit, tt))
+each_more stops g Serial done f p (first ∷ events) mid event q steps holds last = (
+  holds.0,
+  λ fit.
+      let after = pool_after f p steps.0 first in
+      each_more stops g Serial (done ++ first ∷ []) after steps.0 events mid event q steps.1 (holds.1 fit)
+      (λ rest.
+      subst
+      (λ (all : List Event). HoldsThen stops g Serial all (pool_by after steps.0 (events ++ event ∷ []) q (steps_more steps.0 events mid event q steps.1)) q)
+      (sym (append_assoc done (first ∷ []) (events ++ event ∷ []))) (last (fit, rest))),
+)

@@ -1,0 +1,26 @@
+-- What a stop between two lines of a run leaves: a sound pool again, as the end of a run does.
+use Rattle.std.specs.Prelude.{◌≡◌, ℕ, ◌<◌, true, false, List, [], ◌∷◌, ◌++◌}
+use Rattle.rack.specs.Seen.{Image}
+use Rattle.raid_rack.specs.Raid.{is_over}
+use Rattle.pool_image.specs.Drives.{Found}
+use Rattle.pool_model.specs.Left.{HoldAgain}
+use Rattle.pool.specs.Moment.{Moment}
+use Rattle.shr_tool.specs.Events.{Event, any_takes}
+use Rattle.shr_tool.specs.Service.{IsFitFor, IsServed, pool_after}
+use Rattle.shr_tool.specs.Timeline.{Ground, Steps}
+
+-- Whatever a stop at a moment leaves holds the pool f again, by the book of that moment and over its slices, unless an array is over by then. `done`
+-- are the events before it: where one of them was to replace a drive, a sector of the volume can be had at that moment, and the ids of the pool's
+-- drives are of serials.
+abbrev pub HoldsThen : (ℕ → Image → Type 0) → Ground → (Serial : Type 0) → (done : List Event) → Found → Moment → Type 0
+HoldsThen stops g Serial done f p =
+    IsServed g p done → (any_takes done ≡ true → Serial) → ((n : ℕ) → n < f.state.made → is_over p.book n ≡ false)
+    → (i : Image) → stops p.clock i → HoldAgain f p.slices p.book.state i
+
+-- So it is at the moment when events begin, and at the end of each of them, with the drives that were taken in up to there. Only the images that lines
+-- named before that moment are to be fit for the pool.
+abbrev pub HoldsEach : (ℕ → Image → Type 0) → Ground → (Serial : Type 0) → (done : List Event) → Found → (p : Moment) → (events : List Event) → (q : Moment) → Steps p events q → Type 0
+HoldsEach stops g Serial done f p [] q steps = HoldsThen stops g Serial done f p
+HoldsEach stops g Serial done f p (event ∷ events) q steps =
+    HoldsThen stops g Serial done f p
+    × (IsFitFor f p event → HoldsEach stops g Serial (done ++ event ∷ []) (pool_after f p steps.0 event) steps.0 events q steps.1)
