@@ -47,16 +47,11 @@ C
 gcc -O2 -o script script.c
 gcc -O2 -I "$top/bench" -o same same.c
 
-# The seconds of one run, with replies to /dev/null; the best of three.
-best() {
-  local least='' from seconds
-  for _ in 1 2 3; do
-    from=$EPOCHREALTIME
-    "$@" <lines >/dev/null
-    seconds=$(echo "$EPOCHREALTIME - $from" | tr ',' '.' | bc -l)
-    if [ -z "$least" ] || [ "$(echo "$seconds < $least" | bc -l)" = 1 ]; then least=$seconds; fi
-  done
-  echo "$least"
+# The seconds of one run, with replies to /dev/null.
+seconds() {
+  local from=$EPOCHREALTIME
+  "$@" <lines >/dev/null
+  awk -v from="$from" -v to="$EPOCHREALTIME" 'BEGIN { print to - from }'
 }
 
 # Each sector of the volume begins with a few bytes that aren't zero.
@@ -72,8 +67,12 @@ measure() {
   "$program" serve "$@" <lines >ours
   ./same "$@" <lines >theirs
   cmp ours theirs
-  ours=$(best "$program" serve "$@")
-  theirs=$(best ./same "$@")
+  # The best of five runs each, in turn.
+  for _ in 1 2 3 4 5; do
+    echo "$(seconds "$program" serve "$@") $(seconds ./same "$@")"
+  done >runs
+  ours=$(cut -d ' ' -f 1 runs | sort -g | head -n 1)
+  theirs=$(cut -d ' ' -f 2 runs | sort -g | head -n 1)
   awk -v lines="$lines" -v images=$# -v sectors="$sectors" -v ours="$ours" -v theirs="$theirs" 'BEGIN {
     printf "%d images, a volume of %d MiB: serve %d lines a second, C %d: %.2f of the speed of C\n",
       images, sectors / 2048, lines / ours, lines / theirs, theirs / ours
