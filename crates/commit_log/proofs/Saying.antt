@@ -21,7 +21,7 @@ use Rattle.commit_log.specs.View.{LogView, names, next_number}
 use Rattle.commit_log.specs.Standing.{IsInside, IsLogPart, LogsStand, StatesStand, deciding, IsWhole, IsReady, SomeoneDecides}
 use Rattle.commit_log.specs.Commits.{Stands, Commits, CommitCall, IsPendingNow, IsPendingYet, IsWritten, StandsMidway}
 use Rattle.commit_log.specs.Kept.{IsCopyOf, IsNoLater, LogKept, AreLeft, BringsTo}
-use Rattle.commit_log.specs.Saying.{AreOwnCopies, CopiesIn, HoldsCopies, IsBrought, SaysState}
+use Rattle.commit_log.specs.Saying.{AreOwnCopies, CopiesIn, HoldsCopies, IsBrought, KeepsDrives, SaysState}
 use Rattle.commit_log.proofs.Amid.{not_state, replayed_as, same_replayed}
 use Rattle.commit_log.proofs.Copies.{nothing_decodes, state_by_copies}
 use Rattle.commit_log.proofs.Kept.{NoneLater, brings_none, brings_to, copy_state, epoch_up, kept_idle, kept_state, later_yet, put_none, put_outside, put_some, stands_latest}
@@ -162,6 +162,10 @@ kept_latest s number gone x c kept logs q copy few is = elim (cases_lt 0 (x.sect
   | inr none ↦ absurd (nothing_decodes copy (ap decoded (sym (logs.inside q 0 none)) ∙ is))
 ]
 
+-- copies say their state, where a current place has its log slice
+pub says_by : (s : State) (sectors : ℕ → ℕ) (r : Image) (p : ℕ) → CopiesIn s sectors r → p < 16 → is_current s p ≡ true → 0 < sectors (log_slice p) → state_in r ≡ Some s
+says_by s sectors r p copies few current there = state_by_copies s r p copies.others few (copies.own p current there)
+
 -- what a stop leaves then
 pub kept_says : (s : State) (number : ℕ) (gone : ℕ → Bool) (x : Seen) (c : Image) (p : ℕ) → LogKept s number gone x → HoldsCopies s x
     → is_current s p ≡ true → gone p ≡ false → Stands x c → SaysState s x.sectors c
@@ -169,6 +173,7 @@ kept_says s number gone x c p kept holds current left stand =
     let logs = logs_of c stand in
     record {
       whole = kept.whole c stand;
+      is_state = says_by s x.sectors (replayed x.sectors c) p (holds.copies c stand) (kept.few p current) current (kept.there p current left);
       copies = holds.copies c stand;
       stood = s;
       stood_is = kept_state s number gone x c p kept logs current left;
@@ -211,7 +216,7 @@ midway_none l on a c d t mid none before = elim mid.pends [
 ]
 
 module _ (s t : State) (gone : ℕ → Bool) (l : LogView) (on takes : List ℕ) (a : Seen) (kept : LogKept s l.number gone a) (holds : HoldsCopies s a)
-    (brings : BringsTo s t l.number gone a l.added on takes) (own : AreOwnCopies t l.added) (all : t ≡ s → (p : ℕ) → is_current s p ≡ true → gone p ≡ false)
+    (brings : BringsTo s t l.number gone a l.added on takes) (own : AreOwnCopies t l.added) (drives : KeepsDrives s t) (all : t ≡ s → (p : ℕ) → is_current s p ≡ true → gone p ≡ false)
     (are_left : AreLeft s gone on) (room : l.number < 2 ^ 63 - 1)
     (place : ℕ) (was : is_current s place ≡ true) (left : gone place ≡ false) (now : is_current t place ≡ true) where
   few : place < 16
@@ -227,11 +232,13 @@ module _ (s t : State) (gone : ℕ → Bool) (l : LogView) (on takes : List ℕ)
   says_old : (c : Image) → IsPendingYet a c → IsWhole c → SaysState s a.sectors c
   says_old c yet whole =
       let logs = logs_of yet.before yet.stands in
+      let copies =
+      copies_same s a.sectors (replayed a.sectors c) (replayed a.sectors yet.before) (λ p. same_replayed a c yet.before (log_slice p) 0 yet.same (yet.copies p))
+      (holds.copies yet.before yet.stands) in
       record {
         whole = whole;
-        copies =
-            copies_same s a.sectors (replayed a.sectors c) (replayed a.sectors yet.before) (λ p. same_replayed a c yet.before (log_slice p) 0 yet.same (yet.copies p))
-            (holds.copies yet.before yet.stands);
+        is_state = says_by s a.sectors (replayed a.sectors c) place copies few was there;
+        copies = copies;
         stood = s;
         stood_is = state_same c yet.before yet.copies ∙ kept_state s l.number gone a yet.before place kept logs was left;
         latest = λ p copy small is. kept_latest s l.number gone a yet.before kept logs p copy small (ap decoded (sym (yet.copies p)) ∙ is);
@@ -244,21 +251,15 @@ module _ (s t : State) (gone : ℕ → Bool) (l : LogView) (on takes : List ℕ)
     copies_put = put_copies s t l.number gone on takes l.added a kept brings all c mid.states
 
     -- a place that joins had a gate of a lower number
-    joins_lower : (p : ℕ) (h : Gate) → is_current s p ≡ false → is_current t p ≡ true → gate_in c p ≡ Some h → h.number < next_number l.number
-    joins_lower p h former current has = elim (brings.current p current) [
+    joins_lower : (p : ℕ) → is_current s p ≡ false → is_current t p ≡ true → (h : Gate) × (gate_in c p ≡ Some h) × (h.number < next_number l.number)
+    joins_lower p former current = elim (brings.current p current) [
       | inl before ↦ absurd (both_ways (is_current s p) former before)
       | inr joins ↦
           let other : names on p ≡ false = are_left p ∙ ap (λ b. b && not (gone p)) former in
           let gate = joins.numbered (c (log_slice p) gate_sector) (mid.gates p other (kept.logs p gate_sector joins.few joins.there)) in
-          let same : h ≡ gate.0 = some_gate h gate.0 (sym has ∙ gate.1) in
-          let number : h.number ≡ gate.0.number = ap (λ (g : Gate). g.number) same in
           let most = gate.2 in
-          let next = next_is in
-          omega (arith, number, most, next)
+          let next = next_is in (gate.0, gate.1, omega (arith, most, next))
     ]
-      where
-        some_gate : (x y : Gate) → Some x ≡ Some y → x ≡ y
-        some_gate x y is = (cc)
 
     -- the record brings the new state
     brought : IsPendingNow l on c → state_in c ≡ Some s → (t ≡ s) ⊎ IsBrought s t c
@@ -270,6 +271,7 @@ module _ (s t : State) (gone : ℕ → Bool) (l : LogView) (on takes : List ℕ)
           | inl same ↦ inl same.0
           | inr later ↦ inr (record {
             later = later.0;
+            same = drives;
             source = λ g is.
                 let named = brings.more g.place (at g is).0 in
                 let new = later.2 g.place named in (
@@ -281,19 +283,21 @@ module _ (s t : State) (gone : ℕ → Bool) (l : LogView) (on takes : List ℕ)
                         ∙ new.1,
                   ),
                 );
-            joining = λ g p h is former current has. subst (λ n. h.number < n) (sym (at g is).1) (joins_lower p h former current has);
+            joining = λ g p is former current.
+                let lower = joins_lower p former current in (lower.0, lower.1, subst (λ n. lower.0.number < n) (sym (at g is).1) lower.2);
           })
         ]
 
     says_new : IsPendingNow l on c → IsWhole c → SaysState t a.sectors c
     says_new pends whole =
         let copies = copies_same t a.sectors (replayed a.sectors c) (put a.sectors l.added c) (λ p. replayed_as a c l.added (log_slice p) 0 pends.all) copies_put in
+        let state = says_by t a.sectors (replayed a.sectors c) place copies few now there in
         let brings_own : AreOwnCopies t (pending (deciding c) c) = λ p u is. own p u (ap (λ (xs : List Target). look xs (log_slice p) 0) (sym pends.all) ∙ is) in
         elim (stands_latest s t l.number gone on takes l.added a c place kept.logs kept.copies brings mid.states few there was left) [
           | inl old ↦
-              record { whole = whole; copies = copies; stood = s; stood_is = old.0; latest = old.1; next = brought pends old.0; brings = brings_own }
+              record { whole = whole; is_state = state; copies = copies; stood = s; stood_is = old.0; latest = old.1; next = brought pends old.0; brings = brings_own }
           | inr new ↦
-              record { whole = whole; copies = copies; stood = t; stood_is = new.0; latest = new.1; next = inl refl; brings = brings_own }
+              record { whole = whole; is_state = state; copies = copies; stood = t; stood_is = new.0; latest = new.1; next = inl refl; brings = brings_own }
         ]
 
     -- nothing is pending, and all is written
@@ -303,11 +307,12 @@ module _ (s t : State) (gone : ℕ → Bool) (l : LogView) (on takes : List ℕ)
         let same : (p : ℕ) → c (log_slice p) 0 ≡ put a.sectors l.added c (log_slice p) 0 =
         λ p. sym (put_there a.sectors l.added c (log_slice p) 0 (λ w is. writes (log_slice p) 0 w is)) in
         let here : CopiesIn t a.sectors c = copies_same t a.sectors c (put a.sectors l.added c) same copies_put in
+        let copies : CopiesIn t a.sectors (replayed a.sectors c) =
+        copies_same t a.sectors (replayed a.sectors c) c (λ p. replayed_as a c [] (log_slice p) 0 none ∙ put_none a.sectors [] c (log_slice p) 0 refl) here in
         record {
           whole = whole;
-          copies =
-              copies_same t a.sectors (replayed a.sectors c) c
-              (λ p. replayed_as a c [] (log_slice p) 0 none ∙ put_none a.sectors [] c (log_slice p) 0 refl) here;
+          is_state = says_by t a.sectors (replayed a.sectors c) place copies few now there;
+          copies = copies;
           stood = t;
           stood_is = state_by_copies t c place here.others few (here.own place now there);
           latest = here.others;

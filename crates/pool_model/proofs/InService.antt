@@ -148,17 +148,19 @@ service_attached f t v w disk x z is keeps after arrays =
 -- what disks say is no part of what it is to hold a pool again
 again_said : (f : Found) (e : Identities) (t : Slices) (v : Raid) (i : Image) → HoldAgain (record f { identities = e }) t v.state i → HoldAgain f t v.state i
 again_said f e t v i is = record {
-  now = is.now;
-  found_is = is.found_is;
-  sound = is.sound;
-  logs = is.logs;
+  still = record {
+    now = is.still.now;
+    found_is = is.still.found_is;
+    sound = is.still.sound;
+    logs = is.still.logs;
+    state = is.still.state;
+    seats = is.still.seats;
+    slices = is.still.slices;
+    joined = is.still.joined;
+    alone = is.still.alone;
+    values = is.still.values;
+  };
   idle = is.idle;
-  state = is.state;
-  seats = is.seats;
-  slices = is.slices;
-  joined = is.joined;
-  alone = is.alone;
-  values = is.values;
 }
 
 -- Where its arrays are told and none is over, whatever the disks may be left with holds it again.

@@ -3,11 +3,14 @@ pub mod Named
 pub mod Found
 pub mod Outset
 pub mod Logs
-pub mod Copies
+pub mod Said
 pub mod Seats
+pub mod Copies
 pub mod Rested
 pub mod Layers
 pub mod Extents
+pub mod Known
+pub mod Still
 pub mod Alike
 pub mod Before
 pub mod Joined
@@ -16,6 +19,9 @@ pub mod Taken
 pub mod TakenSlices
 pub mod Staying
 pub mod Again
+pub mod Stopped
+pub mod Brought
+pub mod Inside
 pub mod Undamaged
 pub mod Values
 pub mod Refused

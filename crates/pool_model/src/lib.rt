@@ -13,6 +13,10 @@
 //! (`in_service`, `service_calls`, `service_attached`, `service_taken`, `service_again`, `vacant_again`).
 //! `proofs/Values.antt`: where no sector is spent and the arrays have the shapes of the pool's and hold what those did, their shapes, their group, the
 //! lowest bad array and the volumes are the same (`same_again`). `proofs/Named.antt`: which place a disk stands for goes by the ids of the drives (`seat_ahead`, `copy_names`).
+//! **Inside calls** (`specs/Stopped.antt`): `IsStopped f t base s i` says of contents `i` that a stop inside a call leaves, which began with the state
+//! `base`, what its slices and the rest of the disks say; then they hold the pool still, by the state `s`, once what is pending is written (`HoldStill`,
+//! `specs/Left.antt`; `stopped_still`, `proofs/Inside.antt`). What contents say of a pool, whatever made them so, stands in `proofs/Said.antt`.
+//!
 //! `proofs/Absent.antt`: any one drive of a whole pool may be absent, `IsWholePool` (`specs/Absent.antt`): the disks without its disk mean what all of
 //! them mean (`safe_in_absence`). `proofs/EndedWhole.antt`: so it is of all that disks may be left with by a pool that has ended whole, by its
 //! book and its slices, `EndsWhole` (`left_absent`). Which arrays are bad goes by what stands before their first extents (`proofs/Heads.antt`,

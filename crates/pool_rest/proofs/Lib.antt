@@ -13,6 +13,7 @@ mod OnDrives
 mod DriveReplays
 mod Agreeing
 mod Again
+pub mod SaidLogs
 mod SameMeaning
 mod Settled
 mod Sliced

@@ -25,7 +25,7 @@ use Rattle.commit_log.specs.Kept.{LogKept}
 use Rattle.commit_log.specs.Saying.{CopiesIn, HoldsCopies, SaysState}
 use Rattle.commit_log.specs.Standing.{LogsStand, StatesStand}
 use Rattle.commit_log.proofs.Kept.{kept_idle, kept_state, live_after, live_on, stands_of}
-use Rattle.commit_log.proofs.Saying.{copies_same, held_copies, holds_keeps, kept_latest, kept_says}
+use Rattle.commit_log.proofs.Saying.{copies_same, held_copies, holds_keeps, kept_latest, kept_says, says_by}
 use Rattle.raid_rack.specs.Book.{IsAfter, after_same, after_then}
 use Rattle.raid_rack.specs.Logs.{KeepsLogs, LogsBetween}
 use Rattle.raid_rack.proofs.Own.{look_nothing}
@@ -99,20 +99,29 @@ module _ (s : State) (number : ℕ) (gone : ℕ → Bool) (n : ℕ) (a b : Seen)
   as_is : (sectors : ℕ → ℕ) (x : Image) (p : ℕ) → IsCalmIn n x → replayed sectors x (log_slice p) 0 ≡ x (log_slice p) 0
   as_is sectors x p calm = replayed_as_is sectors x (log_slice p) 0 (calm (log_slice p) 0 (state_apart n p))
 
+  replays_same : (c : Image) (turns : Turns n a b (λ r. H → P r) c) (p : ℕ)
+      → replayed a.sectors c (log_slice p) 0 ≡ replayed a.sectors turns.left.0 (log_slice p) 0
+  replays_same c turns p = turns.others (log_slice p) 0 (state_apart n p) ∙ turns.left.2 (log_slice p) 0
+
+  -- copies stand as a stop before the call might leave them
+  pub stands_same : (c : Image) (turns : Turns n a b (λ r. H → P r) c) (p : ℕ) → c (log_slice p) 0 ≡ turns.left.0 (log_slice p) 0
+  stands_same c turns p =
+      sym (as_is a.sectors c p (turns.calm calm)) ∙ replays_same c turns p ∙ as_is a.sectors turns.left.0 p (calm turns.left.0 (logs_of turns.left.0 turns.left.1))
+
   turned : (c : Image) → Turns n a b (λ r. H → P r) c → SaysState s a.sectors c
   turned c turns =
       let e = turns.left.0 in
       let picks : Picks a e = turns.left.1 in
       let stand : Stands a e = stands_of e picks in
       let calm_now : IsCalmIn n c = turns.calm calm in
-      let same : (p : ℕ) → replayed a.sectors c (log_slice p) 0 ≡ replayed a.sectors e (log_slice p) 0 =
-      λ p. turns.others (log_slice p) 0 (state_apart n p) ∙ turns.left.2 (log_slice p) 0 in
-      let stands : (p : ℕ) → c (log_slice p) 0 ≡ e (log_slice p) 0 =
-      λ p. sym (as_is a.sectors c p calm_now) ∙ same p ∙ as_is a.sectors e p (calm e (logs_of e picks)) in
+      let same : (p : ℕ) → replayed a.sectors c (log_slice p) 0 ≡ replayed a.sectors e (log_slice p) 0 = replays_same c turns in
+      let stands : (p : ℕ) → c (log_slice p) 0 ≡ e (log_slice p) 0 = stands_same c turns in
       let logs : LogsStand a e = record { picks = λ p t live. picks.picks (log_slice p) t live; inside = λ p t out. picks.inside (log_slice p) t out } in
+      let copies = copies_same s a.sectors (replayed a.sectors c) (replayed a.sectors e) same (holds.copies e stand) in
       record {
         whole = turns.whole (kept.whole e stand);
-        copies = copies_same s a.sectors (replayed a.sectors c) (replayed a.sectors e) same (holds.copies e stand);
+        is_state = says_by s a.sectors (replayed a.sectors c) someone.0 copies (kept.few someone.0 someone.1) someone.1 (kept.there someone.0 someone.1 someone.2);
+        copies = copies;
         stood = s;
         stood_is = state_same c e stands ∙ kept_state s number gone a e someone.0 kept logs someone.1 someone.2;
         latest = λ p copy small is. kept_latest s number gone a e kept logs p copy small (ap decoded (sym (stands p)) ∙ is);

@@ -2,6 +2,7 @@
 use Rattle.std.proofs.Common.{◌≡◌, ◌⊎◌, ℕ, ◌+◌, ◌<◌, Bool, true, false, ◌||◌, List, [], Option, Some, None, unwrap_or, refl, sym, ap, ap₂, subst, ◌∙◌, inl, inr, arith}
 use Rattle.rack.specs.Values.{Values, MayLeave}
 use Rattle.rack.specs.Seen.{Image, Seen, IsLive}
+use Rattle.rack.specs.Moments.{Leaves}
 use Rattle.rack.specs.Joins.{leaves_weaker}
 use Rattle.rack.specs.Targets.{Target, look, put}
 use Rattle.md_super.specs.declared.superblock.Super.{Super}
@@ -22,7 +23,7 @@ use Rattle.commit_log.specs.View.{LogView, names, next_number}
 use Rattle.commit_log.specs.Standing.{IsReady, SomeoneDecides, IsLogPart, IsAlike}
 use Rattle.commit_log.specs.Commits.{Commits, CommitCall}
 use Rattle.commit_log.specs.Kept.{LogKept, AreLeft, gone_with, BringsTo}
-use Rattle.commit_log.specs.Saying.{AreOwnCopies, HoldsCopies, SaysState}
+use Rattle.commit_log.specs.Saying.{AreOwnCopies, HoldsCopies, KeepsDrives, SaysState}
 use Rattle.commit_log.proofs.Kept.{stands_of, before_inside, joined_state, put_none}
 use Rattle.commit_log.proofs.KeptAfter.{joined_after}
 use Rattle.commit_log.proofs.Saying.{commit_holds, commit_says}
@@ -111,26 +112,40 @@ pub record MarksCall (s t : State) (gone : ℕ → Bool) (l : LogView) (on lost 
   -- of a later state, each copy its place's own
   pub later : s.epoch < t.epoch
   pub own : AreOwnCopies t l.added
+  -- and places keep their drives
+  pub drives : KeepsDrives s t
 
--- So the log slices say the old state or the new one.
+-- So the log slices say the old state or the new one, and after it they hold the new one's copies.
+pub logs_made : (s t : State) (gone : ℕ → Bool) (l : LogView) (on lost : List ℕ) (a b : Seen) → MarksCall s t gone l on lost a b
+    → LogKept s l.number gone a → HoldsCopies s a
+    → (a.traced → Leaves a b (λ c. IsInside a.sectors c → SaysState s a.sectors c ⊎ SaysState t a.sectors c)) × HoldsCopies t b
+logs_made s t gone l on lost a b call kept copies =
+    let never : t ≡ s → (p : ℕ) → is_current s p ≡ true → gone p ≡ false =
+    λ same. let epoch = ap (λ (u : State). u.epoch) same in let later = call.later in absurd (omega (arith, epoch, later)) in (
+      λ traced.
+          leaves_weaker (λ c. LogsInside a.sectors c → SaysState s a.sectors c ⊎ SaysState t a.sectors c)
+          (λ c. IsInside a.sectors c → SaysState s a.sectors c ⊎ SaysState t a.sectors c)
+          (λ c says inside. says (λ place i out. inside (log_slice place) i out))
+          (commit_says s t gone l on call.takes a kept copies call.brings call.own call.drives never call.are_left call.ready.room call.place call.was call.left call.now
+          lost b call.commit call.ready call.decides traced),
+      commit_holds s t gone l on call.takes a kept copies call.brings call.own call.drives never call.are_left call.ready.room call.place call.was call.left call.now
+          lost b call.commit call.ready call.decides,
+    )
+
 pub logs_commit : (s t : State) (gone : ℕ → Bool) (l : LogView) (on lost : List ℕ) (a b : Seen) → MarksCall s t gone l on lost a b → IsAfter s t
     → LogKept s l.number gone a → HoldsCopies s a → KeepsLogs s t a b
 logs_commit s t gone l on lost a b call book kept copies =
-    let never : t ≡ s → (p : ℕ) → is_current s p ≡ true → gone p ≡ false =
-    λ same. let epoch = ap (λ (u : State). u.epoch) same in let later = call.later in absurd (omega (arith, epoch, later)) in
+    let made = logs_made s t gone l on lost a b call kept copies in
     record {
       leaves = λ traced.
-          leaves_weaker (λ c. LogsInside a.sectors c → SaysState s a.sectors c ⊎ SaysState t a.sectors c)
+          leaves_weaker (λ c. IsInside a.sectors c → SaysState s a.sectors c ⊎ SaysState t a.sectors c)
           (λ c. IsInside a.sectors c → LogsBetween s t a.sectors c)
-          (λ c says inside. elim (says (λ place i out. inside (log_slice place) i out)) [
+          (λ c says inside. elim (says inside) [
             | inl old ↦ record { state = s; later = after_same s; sooner = book; says = old }
             | inr new ↦ record { state = t; later = book; sooner = after_same t; says = new }
           ])
-          (commit_says s t gone l on call.takes a kept copies call.brings call.own never call.are_left call.ready.room call.place call.was call.left call.now
-          lost b call.commit call.ready call.decides traced);
-      holds =
-          commit_holds s t gone l on call.takes a kept copies call.brings call.own never call.are_left call.ready.room call.place call.was call.left call.now
-          lost b call.commit call.ready call.decides;
+          (made.0 traced);
+      holds = made.1;
     }
 
 -- By the old state it is as it was, by the new one as the targets restate it.
@@ -308,7 +323,7 @@ marks_stood s t durable noted vary marked view vals spent gone v w l on lost a b
     }
 
 -- At each moment the array has its frame.
-frame_moment : (g : Frame) (s t : State) (durable noted : Shape) (marked : Bool) (view : View) (vals : ℕ → Values) (spent gone : ℕ → Bool) (v : Raid) (l : LogView) (on lost : List ℕ) (a b : Seen) (n : ℕ) (c : Image)
+pub frame_moment : (g : Frame) (s t : State) (durable noted : Shape) (marked : Bool) (view : View) (vals : ℕ → Values) (spent gone : ℕ → Bool) (v : Raid) (l : LogView) (on lost : List ℕ) (a b : Seen) (n : ℕ) (c : Image)
     → n < 16 → MarksCall s t gone l on lost a b → Restates t noted marked view l.added a n
     → frame_of view.truth ≡ g → frame_of (v.arrays n).truth ≡ g
     → Stood s durable vals spent gone v a n → IsInside a.sectors c → Commits l.added a c → HasFrame g n (replayed a.sectors c)

@@ -30,6 +30,16 @@ pub record IsBetween (s t : State) (n : ℕ) (r : Image) : Type 0 where
   pub shape_is : shape_in state r n ≡ Some shape
   pub is_sound : (u : Super) → truth_in state r n ≡ Some u → IsSoundArray state r n u
 
+-- What stops in a call leave of an array that was told and isn't over after it: by a state between, its superblocks agree, no log is
+-- damaged and the copies of the state agree, and its size and its members' places are those before the call.
+pub record KeepsMoments (v w : Raid) (a b : Seen) : Type 0 where
+  pub images :
+      (n : ℕ) → IsTold v a n → is_over w n ≡ false → a.traced
+      → Leaves a b (λ c. IsBetween v.state w.state n (replayed a.sectors c))
+  pub logs : (n : ℕ) → IsTold v a n → is_over w n ≡ false → a.traced → Leaves a b (LogsBetween v.state w.state a.sectors)
+  pub framed : (n : ℕ) → IsTold v a n → is_over w n ≡ false → frame_of (w.arrays n).truth ≡ frame_of (v.arrays n).truth
+  pub frames : (n : ℕ) → IsTold v a n → is_over w n ≡ false → a.traced → Leaves a b (λ c. HasFrame (frame_of (v.arrays n).truth) n (replayed a.sectors c))
+
 -- Marks are added and nothing else of the book, each with its cause; what stops leave meanwhile has marks between those before and
 -- those after. What is told stays so. `p` and `q` are the arrays that were written before it and after it.
 pub record RaidRuns (p q : ℕ → Bool) (v w : Raid) (a b : Seen) : Type 0 where
