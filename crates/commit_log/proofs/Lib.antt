@@ -37,5 +37,6 @@ pub mod LeftPlaces
 pub mod Fewer
 pub mod Epochs
 pub mod Replayable
+pub mod Retired
 pub mod RestKept
 pub mod Saying

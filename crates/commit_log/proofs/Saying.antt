@@ -50,7 +50,7 @@ copies_same s sectors c e same copies = record {
 -- ---- targets that are written
 
 module _ (s t : State) (number : ℕ) (gone : ℕ → Bool) (on takes : List ℕ) (xs : List Target) (x : Seen) (kept : LogKept s number gone x)
-    (brings : BringsTo s t number gone x xs on takes) (all : t ≡ s → (p : ℕ) → is_current s p ≡ true → gone p ≡ false) (c : Image) (stand : StatesStand xs x c) where
+    (brings : BringsTo s t number x xs on takes) (all : t ≡ s → (p : ℕ) → is_current s p ≡ true → gone p ≡ false) (c : Image) (stand : StatesStand xs x c) where
   abbrev e : Image
   e = put x.sectors xs c
 
@@ -100,7 +100,7 @@ module _ (s t : State) (number : ℕ) (gone : ℕ → Bool) (on takes : List ℕ
   others_now p copy few there is (is_new named new) = inr (copy_state t copy p (e (log_slice p) 0) new is)
   others_now p copy few there is (is_held none held) =
       let old = kept.copies.others p (e (log_slice p) 0) copy few there held is in
-      elim (epoch_up s t number gone x xs on takes brings) [
+      elim (epoch_up s t number x xs on takes brings) [
         | inl same ↦ subst (λ (u : State). IsNoLater u copy) (sym same) old
         | inr later ↦ later_yet s t copy later old
       ]
@@ -141,7 +141,7 @@ pub held_copies : (s : State) (number : ℕ) (gone : ℕ → Bool) (x : Seen) (c
 unfolding look
 held_copies s number gone x c kept all stand =
     copies_same s x.sectors c (put x.sectors [] c) (λ p. sym (put_none x.sectors [] c (log_slice p) 0 refl))
-    (put_copies s s number gone [] [] [] x kept (brings_to s s number gone x [] [] (brings_none s)) (λ same. all) c stand)
+    (put_copies s s number gone [] [] [] x kept (brings_to s s number x [] [] (brings_none s)) (λ same. all) c stand)
 
 -- where nobody has gone all copies are there, and nothing is pending
 pub kept_holds : (s : State) (number : ℕ) (x : Seen) → LogKept s number (λ p. false) x → HoldsCopies s x
@@ -211,7 +211,7 @@ midway_none l on a c d t mid none before = elim mid.pends [
 ]
 
 module _ (s t : State) (gone : ℕ → Bool) (l : LogView) (on takes : List ℕ) (a : Seen) (kept : LogKept s l.number gone a) (holds : HoldsCopies s a)
-    (brings : BringsTo s t l.number gone a l.added on takes) (own : AreOwnCopies t l.added) (all : t ≡ s → (p : ℕ) → is_current s p ≡ true → gone p ≡ false)
+    (brings : BringsTo s t l.number a l.added on takes) (own : AreOwnCopies t l.added) (all : t ≡ s → (p : ℕ) → is_current s p ≡ true → gone p ≡ false)
     (are_left : AreLeft s gone on) (room : l.number < 2 ^ 63 - 1)
     (place : ℕ) (was : is_current s place ≡ true) (left : gone place ≡ false) (now : is_current t place ≡ true) where
   few : place < 16

@@ -154,7 +154,7 @@ module _ (v : Raid) (on gone : List ℕ) (l : LogView) (f : ℕ → View) (b c :
   marks_call = record {
     commit = commit.call;
     takes = on;
-    brings = brings_to v.state (closed v.state) l.number (gone_in v) b l.added on brings;
+    brings = brings_to v.state (closed v.state) l.number b l.added on brings;
     are_left = are_left;
     none = closing_data v on gone l f b c commit;
     ready = kept_ready v.state (closed v.state) (gone_in v) l on b someone.0 kept brings room.0 commit.set.lasting targets_live someone.1 (none_gone someone.0 someone.1);

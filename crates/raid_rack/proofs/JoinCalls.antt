@@ -25,7 +25,7 @@ use Rattle.raid_rack.specs.RaidRack.{IsRunning, no_array, raid_by}
 use Rattle.raid_rack.specs.Settling.{HasStaged, IsMarking}
 use Rattle.raid_rack.proofs.Committed.{IsCommitBy, after_set, raid_after}
 use Rattle.raid_rack.proofs.Enlisted.{enlisted_marked}
-use Rattle.raid_rack.proofs.Joined.{joins_part}
+use Rattle.raid_rack.proofs.JoinedMissing.{joins_part}
 use Rattle.raid_rack.proofs.Joining.{MayJoinPool, enlisting_raises, is_enlisted, joining_fewer, joining_marks, listed_raid, staged_like}
 use Rattle.raid_rack.proofs.Mended.{each_get, each_sectors, get_past}
 use Rattle.raid_rack.proofs.Renewed.{renewed_count, renewed_get}

@@ -70,8 +70,13 @@ mod Others
 mod Renewed
 mod Joining
 mod Joined
+mod JoinedMissing
+mod RetiredArrays
+mod JoinedRetired
 mod JoinCalls
 pub mod ReseatedLogs
+pub mod RetiredLogs
+pub mod RetiredMoments
 pub mod SaysStill
 pub mod Reseated
 mod Renewing

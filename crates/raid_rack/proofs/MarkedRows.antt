@@ -14,7 +14,6 @@ use Rattle.array_image.specs.Arrays.{Shape, replayed}
 use Rattle.array_image.specs.Left.{IsInside, LogsInside, Picks}
 use Rattle.commit_log.specs.View.{LogView}
 use Rattle.commit_log.specs.Commits.{Commits}
-use Rattle.commit_log.specs.Kept.{gone_with}
 use Rattle.commit_log.proofs.Kept.{before_inside, joined_state, stands_of}
 use Rattle.array_model.specs.View.{View, IsArray}
 use Rattle.raid_rack.specs.Laws.{stood_left}
@@ -26,7 +25,7 @@ use Rattle.raid_rack.proofs.Rows.{KeepsClear, from_same, rows_after, settled_row
 
 module _ (s t : State) (durable noted : Shape) (view : View) (vals : ℕ → Values) (spent gone : ℕ → Bool) (v w : Raid) (l : LogView) (on lost : List ℕ) (a b : Seen) (n : ℕ)
     (few : n < 16) (call : MarksCall s t gone l on lost a b) (restates : Restates t noted false view l.added a n)
-    (stood : Stood s durable vals spent gone v a n) (after : Stood t noted vals spent (gone_with gone lost) w b n)
+    (stood : Stood s durable vals spent gone v a n) (gone_now : ℕ → Bool) (after : Stood t noted vals spent gone_now w b n)
     (is_array : IsArray view) (clear : KeepsClear (v.arrays n) view) (clear_after : KeepsClear (v.arrays n) (w.arrays n)) (rows : LeavesRows v a n) where
   -- contents that have the new state and the superblocks of the commit
   put_rows : (before r : Image) → Picks a before → state_in r ≡ Some t → Agree n r (put a.sectors l.added before) → LeavesFrom (v.arrays n).resync n r
@@ -67,6 +66,6 @@ module _ (s t : State) (durable noted : Shape) (view : View) (vals : ℕ → Val
         rows_after v w a b n clear_after rows
         (λ r left.
         let at = restated_after s t noted false view gone l on lost a b n r few call restates left in
-        let read = stood_left t noted vals spent (gone_with gone lost) w b n left.0 after left.1 in
+        let read = stood_left t noted vals spent gone_now w b n left.0 after left.1 in
         put_rows at.0 r at.1 (state_same r (replayed b.sectors left.0) (λ place. left.2 (log_slice place) 0) ∙ read.0) at.2);
   }

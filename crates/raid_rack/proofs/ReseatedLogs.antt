@@ -57,11 +57,11 @@ zeros_say_none : result_ok (decoded no_state) ≡ None
 unfolding number_at bytes_at
 zeros_say_none = refl
 
-no_copy : (u : List ℕ) (copy : Copied) → u ≡ no_state → decoded u ≡ Ok copy → ⊥
+pub no_copy : (u : List ℕ) (copy : Copied) → u ≡ no_state → decoded u ≡ Ok copy → ⊥
 no_copy u copy zeros is = none-some copy (sym (ap (λ v. result_ok (decoded v)) zeros ∙ zeros_say_none) ∙ ap result_ok is)
 
 -- no target, on no place
-no_targets : (s : State) → Brings s s [] []
+pub no_targets : (s : State) → Brings s s [] []
 unfolding look
 no_targets s = record {
   current = λ p is. is;
@@ -71,7 +71,7 @@ no_targets s = record {
 }
 
 -- contents whose log slices stand, as such contents of all slices
-stands_logs : (x : Seen) (c : Image) → LogsStand x c → Stands x (restored off_log x c)
+pub stands_logs : (x : Seen) (c : Image) → LogsStand x c → Stands x (restored off_log x c)
 stands_logs x c stand = record {
   picks = restored_picks off_log x c (λ d t live here.
       let slice : slice_of d ≡ 0 = eqb-true (slice_of d) 0 (not_false (slice_of d == 0) here) in
@@ -111,13 +111,13 @@ module _ (place : ℕ) (x y : Seen) (differs : DiffersAt place x y) where
     inside = λ d t past. inside_back c d t past (picks.inside d t);
   }
 
-  logs_back : (c : Image) → LogsStand y c → LogsStand x (put_back place x c)
+  pub logs_back : (c : Image) → LogsStand y c → LogsStand x (put_back place x c)
   logs_back c stand = record {
     picks = λ p t live. pick_back c (log_slice p) t live (stand.picks p t);
     inside = λ p t past. inside_back c (log_slice p) t past (stand.inside p t);
   }
 
-  stands_back : (c : Image) → Stands y c → Stands x (put_back place x c)
+  pub stands_back : (c : Image) → Stands y c → Stands x (put_back place x c)
   stands_back c stand = record {
     picks = λ d t live. pick_back c d t live (stand.picks d t);
     inside = λ p t past. inside_back c (log_slice p) t past (stand.inside p t);

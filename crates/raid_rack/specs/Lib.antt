@@ -3,6 +3,7 @@ pub mod Book
 pub mod Logs
 pub mod Frames
 pub mod Missing
+pub mod Vacated
 pub mod Acts
 pub mod Marking
 pub mod Losses
