@@ -217,6 +217,7 @@ clean_acts v u w a b c lasting is_array now later reads notes syncs fresh unsett
       holds = λ h. (subst (λ (f : Shape). Holds s f u vals spent b) (sym shape) (sync.acts.holds h), sync.settled h);
       apart = sync.acts.apart;
       calm = sync.acts.calm;
+      bounded = sync.acts.bounded;
     } in
     let raise = raised_more u.truth.events may_u.events in
     let lasting_b = reads.stays.lasting lasting in

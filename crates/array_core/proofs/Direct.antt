@@ -20,7 +20,7 @@ use Rattle.array_image.specs.Even.{AreEven}
 use Rattle.array_image.specs.Held.{IsSettled}
 use Rattle.array_image.specs.Left.{reading, IsInside, Picks, PicksLogs, IsLeft}
 use Rattle.array_image.proofs.Frames.{super_of_sector, value_by_data}
-use Rattle.array_image.proofs.Replays.{SameLogs, calm_same, replayed_same, whole_same}
+use Rattle.array_image.proofs.Replays.{SameLogs, calm_same, inside_same, replayed_same, whole_same}
 use Rattle.array_model.specs.declared.Seat.{Seat}
 use Rattle.array_model.specs.declared.Seat.TheVariants.{Whole, Missing, Rebuilding}
 use Rattle.array_model.specs.View.{View, IsArray, shape_of, place_at, member_on, may_vary, is_missing_seat}
@@ -28,7 +28,7 @@ use Rattle.array_model.specs.Says.{Says, IsOpen, Holds, IsEarlier, HasNoOthers}
 use Rattle.array_model.specs.ArrayCalls.{Turns}
 use Rattle.array_model.specs.Stages.{IsStateOf}
 use Rattle.array_model.specs.Members.{slice_on}
-use Rattle.array_model.proofs.Keeping.{reading_live, reading_outside, inside_before, logs_of, live_on, live_after, open_after, logs_before, closed_after, KeepsData, same_value, held_kept, even_kept, settled_kept}
+use Rattle.array_model.proofs.Keeping.{reading_live, reading_outside, inside_before, logs_of, live_on, live_after, open_after, logs_before, closed_after, bounded_after, KeepsData, same_value, held_kept, even_kept, settled_kept}
 use Rattle.array_model.proofs.Moves.{Moves}
 use Rattle.array_model.proofs.Renewed.{Renews, AreNewer, NewTruth, old, renewed, new_truth, shape_kept, sound_renewed, leads, in_current}
 use Rattle.array_core.specs.declared.slots.Slot.{Slot}
@@ -477,9 +477,11 @@ module _ (s : State) (v : View) (e o : ℕ) (m : Bool) (a b : Seen)
             own = λ h. moment_says c inside mix vals spent (begins h) fresh (even h c inside mix);
             whole = whole_same c (back c inside mix) (logs_back c inside mix);
             calm = λ calm. calm_same v.number c (back c inside mix) (logs_back c inside mix) (calm (back c inside mix) (logs_of (back c inside mix) (picks_back c inside mix)));
+            bounded = λ bounded. inside_same a.sectors c (back c inside mix) (logs_back c inside mix) (bounded (back c inside mix) (logs_of (back c inside mix) (picks_back c inside mix)));
           })
           (only.stops traced);
       holds = holds_now;
       apart = λ d t live apart. only.others d t live (λ x new. let disk = new.disk in let low = few in apart.0 (omega (arith, disk, low)));
       calm = λ calm c picks. calm c (logs_before lasting only.stays logs c picks);
+      bounded = bounded_after lasting only.stays logs;
     }

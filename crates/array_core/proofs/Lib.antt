@@ -19,6 +19,7 @@ pub mod Renewing
 pub mod Stripped
 pub mod Direct
 pub mod LogFrames
+pub mod Pending
 pub mod Cleaning
 pub mod Marking
 pub mod RowTargets

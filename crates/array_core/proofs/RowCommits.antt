@@ -44,6 +44,7 @@ use Rattle.array_model.proofs.Whole.{among_kept}
 use Rattle.array_model.proofs.WholeWrites.{own_held}
 use Rattle.array_image.proofs.SoundFrames.{sound_same}
 use Rattle.array_core.proofs.LogFrames.{look_nothing}
+use Rattle.array_core.proofs.Pending.{midway_inside, rests_inside, rests_none}
 
 -- targets are whole sectors of the array's own data
 pub record IsOwnData (n : ℕ) (xs : List Target) : Type 0 where
@@ -432,13 +433,11 @@ module _ (s : State) (v w : View) (a b : Seen) (l : LogView) (on lost : List ℕ
           ];
           whole = commits.whole;
           calm = λ calm d t apart. midway_none l on a c d t both.1 (apart_none d t apart) (λ e stand. calm e stand d t apart);
+          bounded = midway_inside l on a c both.1 ready;
         })
         (commit_moments l on lost a b commit traced ready decides);
     holds = holds_now;
     apart = λ d t live apart. commit.apart d t live (no_log d t apart) (apart_none d t apart);
-    calm = λ calm c picks d t apart.
-        elim (commit.rests ready decides c picks).targets [
-          | inl none ↦ ap (λ (ys : List Target). look ys d t) none ∙ look_nothing d t
-          | inr all ↦ ap (λ (ys : List Target). look ys d t) all.1 ∙ apart_none d t apart
-        ];
+    calm = λ calm c picks d t apart. rests_none (next_number l.number) l.added lost c d t (commit.rests ready decides c picks) (apart_none d t apart);
+    bounded = λ bounded. rests_inside l on lost a b commit ready decides;
   }

@@ -183,7 +183,7 @@ logged_row s all b0 u z w a b c l on lost x from gone base is_array lasting low 
     let Q : Type 0 = Holds s (shape_of b0) w (appended_at x from vals) spent c in
     let keeps = keeping_calls a b lasting reads.stays reads.keeps s (shape_of b0) b0 vals spent in
     let read : Moves n a b H (Says s n (shape_of b0) vals spent) Middle =
-    record { stays = keeps.stays; leaves = keeps.leaves; holds = λ h. (h, keeps.holds h); apart = keeps.apart; calm = keeps.calm } in
+    record { stays = keeps.stays; leaves = keeps.leaves; holds = λ h. (h, keeps.holds h); apart = keeps.apart; calm = keeps.calm; bounded = keeps.bounded } in
     let first : Moves n a b H P Middle =
     moves_by n a b H H Middle Middle (Says s n (shape_of b0) vals spent) P (λ h. h) (λ r. says_appended s n (shape_of b0) x from vals spent r) (λ q. q) read in
     let second : Moves n b c Middle P Q =

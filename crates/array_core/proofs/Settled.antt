@@ -90,6 +90,7 @@ settles_array a b v u syncs s durable vals spent covers =
         holds = λ holds. settled_holds s durable u vals spent b (sync.settled holds) (acts.holds holds);
         apart = acts.apart;
         calm = acts.calm;
+        bounded = acts.bounded;
       };
       keeps = sync.keeps;
       settled = λ holds. subst (λ (f : Shape). IsSettled f u.number b.held) (sym (settled_shape u)) (sync.settled holds);

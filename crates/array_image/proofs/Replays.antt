@@ -1,5 +1,5 @@
 -- What replaying goes by: the log slices alone. So a write to any other sector changes the replayed contents there and nowhere else.
-use Rattle.std.proofs.Common.{◌≡◌, ℕ, Bool, true, false, ◌&&◌, ◌||◌, ◌==◌, find, nat_lt, is_none, if◌then◌else◌, List, [], ◌∷◌, Option, Some, None, unwrap_or, refl, ap, ap₂, ◌∙◌, option_map}
+use Rattle.std.proofs.Common.{◌≡◌, ℕ, Bool, true, false, ◌&&◌, ◌||◌, ◌==◌, find, nat_lt, is_none, if◌then◌else◌, List, [], ◌∷◌, Option, Some, None, unwrap_or, refl, sym, ap, ap₂, ◌∙◌, option_map}
 use Rattle.std.specs.Option.{option_map_or, option_and_then}
 use Rattle.std.specs.List.{list_all, list_any}
 use Rattle.rack.specs.Seen.{Image}
@@ -10,7 +10,7 @@ use Rattle.rack.specs.Targets.{Target, look}
 use Rattle.array_image.specs.Record.{Gate, GateAt, gate_of, gate_in, is_there, is_bad_gate, record_of, record_in, gates_in, is_open_if_of, is_bad_log, damaged_log, pending_at, pending_record, pending}
 use Rattle.array_image.specs.States.{state_in, current_places}
 use Rattle.array_image.specs.Arrays.{replayed}
-use Rattle.array_image.specs.Left.{IsCalmIn, IsWhole, deciding}
+use Rattle.array_image.specs.Left.{IsCalmIn, IsWhole, TargetsInside, deciding}
 use Rattle.array_image.proofs.Frames.{map_same, state_same}
 
 -- contents that agree on the log slices
@@ -99,3 +99,10 @@ whole_same c e same whole =
 pub calm_same : (array : ℕ) (c e : Image) → SameLogs c e → IsCalmIn array e → IsCalmIn array c
 calm_same array c e same calm d t apart =
     ap (λ (xs : List Target). look xs d t) (pending_same c e same (deciding c) ∙ ap (λ places. pending places e) (deciding_same c e same)) ∙ calm d t apart
+
+pub inside_same : (sectors : ℕ → ℕ) (c e : Image) → SameLogs c e → TargetsInside sectors e → TargetsInside sectors c
+inside_same sectors c e same inside d t v is =
+    inside d t v
+    (ap (λ places. look (pending places e) d t) (sym (deciding_same c e same))
+    ∙ ap (λ (xs : List Target). look xs d t) (sym (pending_same c e same (deciding c)))
+    ∙ is)

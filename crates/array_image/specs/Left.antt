@@ -1,5 +1,5 @@
 -- What a stop leaves on slices, and the same once the pending record is replayed.
-use Rattle.std.specs.Prelude.{◌≡◌, ◌≢◌, ◌⊎◌, ℕ, ◌+◌, ◌≤◌, nat_lt, if◌then◌else◌, List, [], None}
+use Rattle.std.specs.Prelude.{◌≡◌, ◌≢◌, ◌⊎◌, ℕ, ◌+◌, ◌<◌, ◌≤◌, nat_lt, if◌then◌else◌, List, [], None, Some}
 use Rattle.std.specs.Option.{option_map_or}
 use Rattle.rack.specs.Values.{MayLeave}
 use Rattle.rack.specs.Seen.{Image, Seen, IsLive}
@@ -54,6 +54,14 @@ IsCalmIn array c = (d t : ℕ) → IsApart array d t → look (pending (deciding
 -- so it is in whatever a stop now leaves
 abbrev pub IsCalm : ℕ → Seen → Type 0
 IsCalm array x = (c : Image) → PicksLogs x c → IsCalmIn array c
+
+-- what is pending in contents is for sectors that slices have
+abbrev pub TargetsInside : (ℕ → ℕ) → Image → Type 0
+TargetsInside sectors c = (d t : ℕ) (v : List ℕ) → look (pending (deciding c) c) d t ≡ Some v → t < sectors d
+
+-- so it is in whatever a stop now leaves
+abbrev pub IsBounded : Seen → Type 0
+IsBounded x = (c : Image) → PicksLogs x c → TargetsInside x.sectors c
 
 -- the contents as they read now
 abbrev pub reading : Seen → Image

@@ -15,7 +15,7 @@ use Rattle.array_image.specs.Even.{AreEven}
 use Rattle.array_image.proofs.Settled.{among_take}
 use Rattle.array_image.proofs.Sources.{source_of, source_counts}
 use Rattle.array_model.specs.View.{View, shape_of, may_vary}
-use Rattle.array_image.specs.Left.{reading, IsInside, Picks, PicksLogs, IsLeft, IsClosed}
+use Rattle.array_image.specs.Left.{reading, IsBounded, IsInside, Picks, PicksLogs, IsLeft, IsClosed, TargetsInside}
 use Rattle.array_model.proofs.Views.{loses_nobody, same_array}
 use Rattle.array_model.specs.Says.{Says, IsOpen, HoldsShape, Holds}
 use Rattle.array_model.specs.ArrayCalls.{Keeping, Turns}
@@ -75,6 +75,11 @@ pub closed_after : {a b : Seen} (n : ℕ) → a.lasting → Stays a b → KeepsL
 closed_after n lasting stays keeps closed c picks place t =
     ap (λ (sectors : ℕ → ℕ). replayed sectors c (member_slice place n) t) (λ i e. stays.sectors e i)
     ∙ closed c (logs_before lasting stays keeps c picks) place t
+
+-- and what is pending is for sectors that slices have
+pub bounded_after : {a b : Seen} → a.lasting → Stays a b → KeepsLogs a b → IsBounded a → IsBounded b
+bounded_after lasting stays keeps bounded c picks =
+    subst (λ (sectors : ℕ → ℕ). TargetsInside sectors c) (sym (λ i e. stays.sectors e i)) (bounded c (logs_before lasting stays keeps c picks))
 
 -- what a stop after the calls may leave, one before them might
 pub left_before : {a b : Seen} → a.lasting → Stays a b → KeepsHeld a b → (r : Image) → IsLeft b r → IsLeft a r
@@ -200,6 +205,7 @@ keeping_calls a b lasting stays keeps s durable v vals spent =
             own = λ holds. holds.shape.says (replayed a.sectors c) (c, picks, λ d t. refl);
             whole = λ whole. whole;
             calm = λ calm. calm c (logs_of c picks);
+            bounded = λ bounded. bounded c (logs_of c picks);
           })
           (keeps.stops traced);
       holds = λ holds.
@@ -212,4 +218,5 @@ keeping_calls a b lasting stays keeps s durable v vals spent =
           };
       apart = λ d t live apart. keeps.held d t live;
       calm = λ calm c picks. calm c (logs_before lasting stays (λ place u live. keeps.held (log_slice place) u live) c picks);
+      bounded = bounded_after lasting stays (λ place u live. keeps.held (log_slice place) u live);
     }

@@ -211,4 +211,5 @@ losing_calls a b s durable v w vals spent lost kept noted losing same =
           losing_holds s durable v w vals spent b lost losing (same after) after;
       apart = kept.apart;
       calm = kept.calm;
+      bounded = kept.bounded;
     }

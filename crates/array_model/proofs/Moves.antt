@@ -9,7 +9,7 @@ use Rattle.pool_state.specs.declared.contents.State.{State}
 use Rattle.array_image.specs.Places.{slice_of, log_slice}
 use Rattle.array_image.specs.Arrays.{Shape, replayed}
 use Rattle.array_image.proofs.Replays.{SameLogs, replayed_same, whole_same}
-use Rattle.array_image.specs.Left.{reading, IsInside, Picks, IsApart, IsCalm}
+use Rattle.array_image.specs.Left.{reading, IsInside, Picks, IsApart, IsBounded, IsCalm, TargetsInside}
 use Rattle.array_model.specs.View.{View, IsNoted}
 use Rattle.array_model.specs.Says.{Holds}
 use Rattle.array_model.specs.ArrayCalls.{Acts, Turns}
@@ -23,6 +23,7 @@ pub record Moves (n : ℕ) (a b : Seen) (H : Type 0) (P : Image → Type 0) (Q :
   pub holds : H → Q
   pub apart : (d t : ℕ) → IsLive a b d t → IsApart n d t → Keeps (a.held d t) (b.held d t)
   pub calm : IsCalm n a → IsCalm n b
+  pub bounded : IsBounded a → IsBounded b
 
 -- nothing was written outside an array's slices
 abbrev pub KeepsOthers : ℕ → Seen → Seen → Type 0
@@ -65,6 +66,13 @@ turns_early n a b c H Q P i lasting stays keeps next turn =
       own = λ holds. subst (λ (sectors : ℕ → ℕ). P (replayed sectors i)) (λ k d. stays.sectors d k) (turn.own (next holds));
       whole = λ whole. turn.whole (whole_same e early logs whole);
       calm = λ calm. turn.calm (λ j picks. calm j (logs_before lasting stays (λ place u live. keeps (log_slice place) u live (log_other place n)) j picks));
+      bounded = λ bounded.
+          let same : b.sectors ≡ a.sectors = λ k d. stays.sectors d k in
+          subst (λ (sectors : ℕ → ℕ). TargetsInside sectors i) same
+          (turn.bounded
+          (λ j picks.
+          subst (λ (sectors : ℕ → ℕ). TargetsInside sectors j) (sym same)
+          (bounded j (logs_before lasting stays (λ place u live. keeps (log_slice place) u live (log_other place n)) j picks))));
     }
 
 -- Two parts in a row are one, where the first wrote to the array's own slices alone.
@@ -77,7 +85,7 @@ moves_then n a b c H Q R P lasting keeps one two =
       leaves = λ traced.
           leaves_then Goal
           (leaves_weaker (λ i. IsInside a.sectors i → Turns n a b (λ r. H → P r) i) Goal
-          (λ i turn inside. let t = turn inside in record { before = t.before; left = t.left; others = t.others; own = t.own; whole = t.whole; calm = t.calm })
+          (λ i turn inside. let t = turn inside in record { before = t.before; left = t.left; others = t.others; own = t.own; whole = t.whole; calm = t.calm; bounded = t.bounded })
           (one.leaves traced))
           (leaves_weaker (λ i. IsInside b.sectors i → Turns n b c (λ r. Q → P r) i) Goal
           (λ i turn inside.
@@ -86,6 +94,7 @@ moves_then n a b c H Q R P lasting keeps one two =
       holds = λ holds. two.holds (one.holds holds);
       apart = λ d t live apart. keeps_then _ _ _ (one.apart d t (live_first two.stays live) apart) (two.apart d t (live_second one.stays live) apart);
       calm = λ calm. two.calm (one.calm calm);
+      bounded = λ bounded. two.bounded (one.bounded bounded);
     }
 
 -- a part by more and for less
@@ -105,11 +114,13 @@ moves_by n a b G H Q R O P before during after moves =
             own = λ holds. during (replayed a.sectors i) (t.own (before holds));
             whole = t.whole;
             calm = t.calm;
+            bounded = t.bounded;
           })
           (moves.leaves traced);
       holds = λ holds. after (moves.holds (before holds));
       apart = moves.apart;
       calm = moves.calm;
+      bounded = moves.bounded;
     }
 
 -- ---- the clause of a call
@@ -118,10 +129,10 @@ pub moves_of : (s : State) (v w : View) (spent : ℕ → Bool) (a b : Seen) (dur
     → Acts s v w spent a b durable vals during after vals_after
     → Moves v.number a b (Holds s durable v vals spent a) during (Holds s after w vals_after spent b)
 moves_of s v w spent a b durable vals during after vals_after acts =
-    record { stays = acts.stays; leaves = acts.leaves; holds = acts.holds; apart = acts.apart; calm = acts.calm }
+    record { stays = acts.stays; leaves = acts.leaves; holds = acts.holds; apart = acts.apart; calm = acts.calm; bounded = acts.bounded }
 
 pub acts_of : (s : State) (v w : View) (spent : ℕ → Bool) (a b : Seen) (durable : Shape) (vals : ℕ → Values) (during : Image → Type 0) (after : Shape) (vals_after : ℕ → Values)
     → Moves v.number a b (Holds s durable v vals spent a) during (Holds s after w vals_after spent b) → IsNoted v w a b
     → Acts s v w spent a b durable vals during after vals_after
 acts_of s v w spent a b durable vals during after vals_after moves noted =
-    record { stays = moves.stays; noted = noted; leaves = moves.leaves; holds = moves.holds; apart = moves.apart; calm = moves.calm }
+    record { stays = moves.stays; noted = noted; leaves = moves.leaves; holds = moves.holds; apart = moves.apart; calm = moves.calm; bounded = moves.bounded }

@@ -6,7 +6,7 @@ use Rattle.rack.specs.Seen.{Image, Seen, Stays}
 use Rattle.array_image.specs.Places.{slice_of, log_slice}
 use Rattle.rack.specs.Targets.{Target}
 use Rattle.array_image.specs.Arrays.{replayed}
-use Rattle.array_image.proofs.Replays.{SameLogs, calm_same, replayed_same, whole_same}
+use Rattle.array_image.proofs.Replays.{SameLogs, calm_same, inside_same, replayed_same, whole_same}
 use Rattle.array_image.specs.Left.{reading, IsInside, Picks}
 use Rattle.array_model.specs.ArrayCalls.{Turns}
 use Rattle.rack.specs.Sequences.{IsPayload, IsMix}
@@ -67,4 +67,5 @@ own_writes array a b xs P c lasting stays own inside mix has =
       own = has;
       whole = whole_same c e logs;
       calm = λ calm. calm_same array c e logs (calm e (logs_of e picks));
+      bounded = λ bounded. inside_same a.sectors c e logs (bounded e (logs_of e picks));
     }

@@ -271,11 +271,13 @@ spent_acts s v w spent a b durable vals x from lost kept =
             own = λ holds. says_values s v.number durable vals (appended_at x from vals) spent _ (same_values x from vals spent lost) (t.own holds);
             whole = t.whole;
             calm = t.calm;
+            bounded = t.bounded;
           })
           (kept.leaves traced);
       holds = λ holds. holds_values s durable w vals (appended_at x from vals) spent b (same_values x from vals spent lost) (kept.holds holds);
       apart = kept.apart;
       calm = kept.calm;
+      bounded = kept.bounded;
     }
 
 pub is_spent : (w : View) (spent : ℕ → Bool) (x : ℕ) → Covers w spent → spent_in w x ≡ true → spent x ≡ true

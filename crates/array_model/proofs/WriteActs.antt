@@ -20,14 +20,14 @@ use Rattle.array_image.specs.SoundArray.{first_unsynced}
 use Rattle.array_image.specs.Marks.{lower, lowered}
 use Rattle.array_image.proofs.Settled.{among_take}
 use Rattle.array_image.proofs.Marked.{among_lowered}
-use Rattle.array_image.proofs.Replays.{SameLogs, calm_same, replayed_same, whole_same}
+use Rattle.array_image.proofs.Replays.{SameLogs, calm_same, inside_same, replayed_same, whole_same}
 use Rattle.array_image.proofs.Sources.{source_value, source_counts}
 use Rattle.array_model.specs.View.{View, shape_of, spent_in, may_vary, IsNoted}
 use Rattle.array_image.specs.Left.{reading, IsInside, Picks, PicksLogs, IsLeft, IsApart, IsClosed}
 use Rattle.array_model.specs.Says.{Says, HoldsShape, Holds, IsEarlier}
 use Rattle.array_model.specs.ArrayCalls.{Acts, Turns, appended_at}
 use Rattle.rack.specs.Sequences.{IsPayload, IsMix}
-use Rattle.array_model.proofs.Keeping.{reading_live, reading_outside, inside_before, logs_of, live_on, live_after, open_after, logs_before, closed_after}
+use Rattle.array_model.proofs.Keeping.{reading_live, reading_outside, inside_before, logs_of, live_on, live_after, open_after, logs_before, closed_after, bounded_after}
 use Rattle.array_model.proofs.Losses.{IsLosing, even_noted}
 use Rattle.array_model.proofs.WholeWrites.{write_values, own_held}
 use Rattle.array_image.specs.Spent.{spent_by}
@@ -355,6 +355,7 @@ write_acts a b went_now s v w vals spent lost x from xs lasting puts noted losin
             own = λ holds. (mixed_says s v vals spent a b x from xs lasting puts.only.stays (begins_of holds) write c inside mix).0;
             whole = whole_same c e same;
             calm = λ calm. calm_same n c e same (calm e (logs_of e picks));
+            bounded = λ bounded. inside_same a.sectors c e same (bounded e (logs_of e picks));
           })
           (puts.only.stops traced);
       holds = λ holds.
@@ -395,4 +396,5 @@ write_acts a b went_now s v w vals spent lost x from xs lasting puts noted losin
           };
       apart = λ d t live apart. puts.only.others d t live (payload_none xs d t (apart_free shape n x from xs few row d t apart));
       calm = λ calm c picks. calm c (logs_before lasting puts.only.stays logs c picks);
+      bounded = bounded_after lasting puts.only.stays logs;
     }

@@ -15,7 +15,7 @@ use Rattle.array_image.specs.SoundArray.{array_fields}
 use Rattle.array_image.specs.Arrays.{Shape}
 use Rattle.array_image.specs.Held.{IsSettled}
 use Rattle.array_image.specs.Arrays.{replayed}
-use Rattle.array_image.specs.Left.{IsInside, IsLeft, IsApart, IsCalm, IsCalmIn, IsWhole}
+use Rattle.array_image.specs.Left.{IsInside, IsLeft, IsApart, IsBounded, IsCalm, IsCalmIn, IsWhole, TargetsInside}
 use Rattle.array_model.specs.View.{View, IsNoted, shape_of, spent_in}
 use Rattle.array_model.specs.Says.{Says, Holds}
 
@@ -26,9 +26,10 @@ pub record Turns (array : ℕ) (a b : Seen) (P : Image → Type 0) (c : Image) :
   pub left : IsLeft a before
   pub others : (d t : ℕ) → IsApart array d t → replayed a.sectors c d t ≡ before d t
   pub own : P (replayed a.sectors c)
-  -- no log is damaged by it, and nothing comes to be pending for others
+  -- no log is damaged by it, nothing comes to be pending for others, and nothing for a sector that no slice has
   pub whole : IsWhole left.0 → IsWhole c
   pub calm : IsCalm array a → IsCalmIn array c
+  pub bounded : IsBounded a → TargetsInside a.sectors c
 
 -- A call of an array: during it images say `during`, and after it the array holds `vals_after` by the shape `after`. Reads, writes,
 -- syncs, a settled or clean mark and every row of maintenance are this record.
@@ -45,6 +46,8 @@ pub record Acts (s : State) (v w : View) (spent : ℕ → Bool) (a b : Seen)
   pub apart : (d t : ℕ) → IsLive a b d t → IsApart v.number d t → Keeps (a.held d t) (b.held d t)
   -- and nothing becomes pending for them
   pub calm : IsCalm v.number a → IsCalm v.number b
+  -- nor for a sector that no slice has
+  pub bounded : IsBounded a → IsBounded b
 
 -- the values after a write to one sector
 abbrev pub appended_at : ℕ → List ℕ → (ℕ → Values) → ℕ → Values
@@ -98,3 +101,4 @@ pub record Moving (s : State) (v next w : View) (spent : ℕ → Bool) (a b : Se
   pub holds : Holds s (shape_of v) v vals spent a → Holds s after w vals_after spent b
   pub apart : (d t : ℕ) → IsLive a b d t → IsApart v.number d t → Keeps (a.held d t) (b.held d t)
   pub calm : IsCalm v.number a → IsCalm v.number b
+  pub bounded : IsBounded a → IsBounded b

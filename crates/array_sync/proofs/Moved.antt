@@ -1,6 +1,6 @@
 -- A commit of sectors of an array's members and of superblocks that restate it: at each moment contents say the array before it with
 -- the superblocks from before, or the array after it with the new ones, and its values stay.
-use Rattle.std.proofs.Common.{◌≡◌, ◌⊎◌, ℕ, ◌+◌, ◌-◌, ◌%◌, ◌<◌, ◌≤◌, ◌^◌, Bool, true, false, List, [], ◌++◌, map, length, Option, Some, None, option_map, unwrap_or, refl, sym, ap, subst, ◌∙◌, inl, inr, arith}
+use Rattle.std.proofs.Common.{◌≡◌, ◌⊎◌, ℕ, ◌+◌, ◌-◌, ◌%◌, ◌<◌, ◌≤◌, ◌^◌, Bool, true, false, List, [], ◌++◌, map, length, Option, Some, None, unwrap_or, refl, sym, ap, subst, ◌∙◌, inl, inr, arith}
 use Rattle.std.proofs.lemmas.Bool.{both_ways}
 use Rattle.std.specs.Option.{option_map_or}
 use Rattle.rack.specs.Values.{Values, MayLeave, only}
@@ -15,7 +15,7 @@ use Rattle.array_image.specs.Record.{are_apart}
 use Rattle.array_image.specs.Stripes.{width, position_in, sector_in}
 use Rattle.array_image.specs.Supers.{super_in, truth_in}
 use Rattle.array_image.specs.SoundArray.{IsWrittenSuper, first_unsynced}
-use Rattle.array_image.specs.Arrays.{Member, Shape, layout_at, value_by, place_with, replayed, shape_by, shape_in}
+use Rattle.array_image.specs.Arrays.{Member, Shape, layout_at, value_by, place_with, replayed, shape_in}
 use Rattle.array_image.specs.Even.{AreEven}
 use Rattle.array_image.specs.Held.{Among, IsSettled, current_in, held_of, held_by}
 use Rattle.array_image.specs.Marks.{lower, lowered}
@@ -50,11 +50,12 @@ use Rattle.array_model.proofs.Whole.{among_kept}
 use Rattle.array_model.proofs.WholeWrites.{own_held}
 use Rattle.array_core.specs.Staging.{AddsSupersOf, HasRowRebuilds}
 use Rattle.array_core.proofs.LogFrames.{look_nothing}
+use Rattle.array_core.proofs.Pending.{midway_inside, rests_inside, rests_none}
 use Rattle.array_core.proofs.RowLists.{payload_left}
 use Rattle.array_core.proofs.RowCommits.{IsOwnData}
 use Rattle.array_core.proofs.Staged.{slot_on, alone_others, staged_shape, staged_truth, staged_sound}
 use Rattle.array_core.proofs.Stripped.{strip_written, whole_written}
-use Rattle.array_sync.proofs.Owed.{none_some, RowMoves, SaysEither, among_payload, look_first, look_last, none_or, restated, source_wants}
+use Rattle.array_sync.proofs.Owed.{none_some, RowMoves, SaysEither, among_payload, look_first, look_last, none_or, restated, shaped_truth, source_wants}
 
 module _ (s : State) (v w : View) (events offset resync : ℕ) (seats : List Seat) (marked : Bool) (a b c : Seen) (l : LogView) (on lost : List ℕ) (gone : ℕ → Bool) (supers own_data : List Target)
     (is_array : IsArray v) (later_array : IsArray (restated v events offset resync seats marked)) (fresh : v.went ≡ [])
@@ -225,25 +226,14 @@ module _ (s : State) (v w : View) (events offset resync : ℕ) (seats : List Sea
       fields_now u is = staged_truth g s r later_array.seats later_array.devices placed state [] supers adds has some some_low some_there others u is
 
       -- the truth before it
-      record HasTruth : Type 0 where
-        t : Super
-        is : truth_in s (replayed b.sectors all.before) v.number ≡ Some t
-
-      truth_there : HasTruth
-      truth_there =
-          let e = replayed b.sectors all.before in
-          let Goal : Option Super → Type 0 = λ o. truth_in s e n ≡ o → option_map (shape_by s e n) o ≡ Some (shape_of v) → HasTruth in
-          let goal : Goal (truth_in s e n) = elim (truth_in s e n) as Goal [
-            | None ↦ λ is none. cc
-            | Some t ↦ λ is shape. record { t = t; is = is }
-          ] in
-          goal refl old.shape_is
+      truth_there : (t : Super) × (truth_in s (replayed b.sectors all.before) v.number ≡ Some t)
+      truth_there = shaped_truth s (replayed b.sectors all.before) n (shape_of v) old.shape_is
 
       written_now : IsWrittenSuper v.number (record v.truth { events = events; resync_offset = offset })
       written_now =
-          let t = truth_there.t in
-          let before = (old.is_sound t truth_there.is).written in
-          let earlier = holds.truth (replayed b.sectors all.before) left t truth_there.is in
+          let t = truth_there.0 in
+          let before = (old.is_sound t truth_there.1).written in
+          let earlier = holds.truth (replayed b.sectors all.before) left t truth_there.1 in
           whole_written n (record v.truth { events = events; resync_offset = offset }) whole_offset
           (subst (IsWrittenSuper n) earlier.fields (strip_written n t before))
 
@@ -490,13 +480,11 @@ module _ (s : State) (v w : View) (events offset resync : ℕ) (seats : List Sea
           ];
           whole = commits.whole;
           calm = λ calm d t apart_from. midway_none l on b i d t both.1 (none_apart d t apart_from) (λ e stand. calm e stand d t apart_from);
+          bounded = midway_inside l on b i both.1 ready;
         })
         (commit_moments l on lost b c commit traced ready decides);
     holds = holds_now;
     apart = λ d t live apart_from. commit.apart d t live (no_log d t apart_from) (none_apart d t apart_from);
-    calm = λ calm i picks d t apart_from.
-        elim (commit.rests ready decides i picks).targets [
-          | inl none ↦ ap (λ (ys : List Target). look ys d t) none ∙ look_nothing d t
-          | inr all ↦ ap (λ (ys : List Target). look ys d t) all.1 ∙ none_apart d t apart_from
-        ];
+    calm = λ calm i picks d t apart_from. rests_none (next_number l.number) l.added lost i d t (commit.rests ready decides i picks) (none_apart d t apart_from);
+    bounded = λ bounded. rests_inside l on lost b c commit ready decides;
   }

@@ -1,15 +1,17 @@
 -- What a step of an array owes, by a commit of sectors of its members, and how its targets are looked up.
-use Rattle.std.proofs.Common.{◌≡◌, ◌⊎◌, ℕ, zero, suc, ◌+◌, ◌<◌, Bool, true, false, nat_lt, if◌then◌else◌, List, [], ◌∷◌, ◌++◌, take, length, Option, Some, None, refl, sym, ap, subst, ◌∙◌, inl, inr, arith}
+use Rattle.std.proofs.Common.{◌≡◌, ◌⊎◌, ℕ, zero, suc, ◌+◌, ◌<◌, Bool, true, false, nat_lt, if◌then◌else◌, List, [], ◌∷◌, ◌++◌, take, length, Option, Some, None, option_map, refl, sym, ap, subst, ◌∙◌, inl, inr, arith}
 use Rattle.std.specs.Option.{option_or}
 use Rattle.rack.specs.Values.{Values}
 use Rattle.rack.specs.Seen.{Image, Seen}
 use Rattle.rack.specs.Targets.{Target, look}
 use Rattle.rack.specs.Sequences.{IsPayload}
 use Rattle.rack.proofs.Phases.{look-append}
+use Rattle.md_super.specs.declared.superblock.Super.{Super}
 use Rattle.pool_state.specs.declared.contents.State.{State}
 use Rattle.array_image.specs.Places.{member_slice, data_sector}
 use Rattle.array_image.specs.Stripes.{Layout, mirror, parity, width}
-use Rattle.array_image.specs.Arrays.{Member, Shape, value_by}
+use Rattle.array_image.specs.Arrays.{Member, Shape, shape_by, shape_in, value_by}
+use Rattle.array_image.specs.Supers.{truth_in}
 use Rattle.array_image.specs.Even.{AreEven}
 use Rattle.array_image.specs.Held.{Among, first_counting, member_at, source_in}
 use Rattle.array_image.specs.Spent.{wanting}
@@ -50,6 +52,13 @@ pub record RowMoves (v : View) (g : Shape) (resync : ℕ) (spent : ℕ → Bool)
       × (look own_data (member_slice m.place v.number) (data_sector + sector_at g y) ≡ None))
       ⊎ (look own_data (member_slice m.place v.number) (data_sector + sector_at g y) ≡ Some (value_by (shape_of v) cur v.number y))
   pub even : AreEven (shape_of v) v.number v.resync cur → AreEven g v.number resync (written own_data cur)
+
+-- where contents say a shape of an array, it has a truth
+pub shaped_truth : (s : State) (r : Image) (n : ℕ) (shape : Shape) → shape_in s r n ≡ Some shape → (t : Super) × (truth_in s r n ≡ Some t)
+shaped_truth s r n shape is =
+    let Goal : Option Super → Type 0 = λ o. truth_in s r n ≡ o → option_map (shape_by s r n) o ≡ Some shape → (t : Super) × (truth_in s r n ≡ Some t) in
+    let goal : Goal (truth_in s r n) = elim (truth_in s r n) as Goal [ None ↦ λ none some. cc | Some t ↦ λ found some. (t, found) ] in
+    goal refl is
 
 -- ---- targets
 

@@ -76,11 +76,13 @@ read_moves s v g a b vals spent lasting reads =
             own = λ holds. inl (holds.shape.says (replayed a.sectors c) (c, picks, λ d t. refl), (replayed a.sectors c, (c, picks, λ d t. refl), λ place. refl));
             whole = λ whole. whole;
             calm = λ calm. calm c (logs_of c picks);
+            bounded = λ bounded. bounded c (logs_of c picks);
           })
           (reads.keeps.stops traced);
       holds = λ holds. (holds, keeps.holds holds);
       apart = keeps.apart;
       calm = keeps.calm;
+      bounded = keeps.bounded;
     }
 
 -- ---- a row that was refused before its commit
@@ -101,6 +103,7 @@ refused_steps v g w number on a b answered lasting is_array reads notes refused 
         holds = λ holds. holds_noted v w a b b is_array notes s (shape_of v) vals spent covers (moves.holds holds).1;
         apart = moves.apart;
         calm = moves.calm;
+        bounded = moves.bounded;
       };
   durable = λ none. absurd (both_ways false refl none);
   kept = λ s may. refused_kept s number w a b lasting reads may.commit.log;
@@ -431,7 +434,7 @@ module _ {needs : (ℕ → Bool) → Type 0} (v u z w : View) (events offset res
         (covers_before g w (λ place. names lost place || notes.lost place) (losing_of g w _ same_g loses_g) (spent_in w) (λ k unspent. unspent) y alive);
     moving = λ s vals spent covers may.
         let moves = all_moves s vals spent covers may (meets spent) in
-        record { stays = moves.stays; leaves = moves.leaves; holds = moves.holds; apart = moves.apart; calm = moves.calm };
+        record { stays = moves.stays; leaves = moves.leaves; holds = moves.holds; apart = moves.apart; calm = moves.calm; bounded = moves.bounded };
     durable = λ is_done s vals spent covers may held r left. all_durable s vals spent covers may (meets spent) held r left;
     kept = all_kept;
     truth = all_truth;

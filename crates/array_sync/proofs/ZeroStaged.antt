@@ -351,7 +351,7 @@ module _ (v z w : View) (a c : Seen) (l : LogView) (on lost : List ℕ) (number 
         (zero_step v a l.added staged_row) staged_row.adds staged_row.added (zeroing_slices v a slices) (only_reads_start a slices.fit) (no_notes (zeroing v) a)
         commit (zeroing_same v z same) (zeroing_loses v z (names lost) loses) same_g (λ lost_v loses_z. next_loses v z w staged_row.is z_array same adopts lost_v loses_z) number_is after_is
         s vals spent may.covers may.step (may.aside, may.single) in
-        record { stays = moves.stays; leaves = moves.leaves; holds = moves.holds; apart = moves.apart; calm = moves.calm };
+        record { stays = moves.stays; leaves = moves.leaves; holds = moves.holds; apart = moves.apart; calm = moves.calm; bounded = moves.bounded };
     row = λ is_done s vals spent may held. record {
       durable =
           all_durable (zeroing v) (zeroing v) (zeroing z) (zeroing w) (raised v.truth.events) (offset_after v (first_unsynced v.truth + 1)) (first_unsynced v.truth + 1) v.seats false a a c l on lost staged_row.supers staged_row.own_data number after
@@ -401,7 +401,7 @@ zero_refused v number on a answered slices is refused =
       view = as_it_was (notes_none v a a);
       moving = λ s vals spent may.
           let moves = read_moves s (zeroing v) (resynced (zeroing v)) a a vals spent slices.lasting reads in
-          record { stays = moves.stays; leaves = moves.leaves; holds = λ held. held; apart = moves.apart; calm = moves.calm };
+          record { stays = moves.stays; leaves = moves.leaves; holds = λ held. held; apart = moves.apart; calm = moves.calm; bounded = moves.bounded };
       row = λ none. absurd (both_ways false refl none);
       kept = λ s may. refused_kept s number (zeroing v) a a slices.lasting reads may.commit.log;
     }
