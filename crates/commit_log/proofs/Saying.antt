@@ -12,6 +12,7 @@ use Rattle.rack.specs.Targets.{Target, look, put}
 use Rattle.pool_state.specs.declared.contents.Copied.{Copied}
 use Rattle.pool_state.specs.declared.contents.State.{State}
 use Rattle.pool_state.specs.Sector.{decoded}
+use Rattle.array_image.specs.Left.{TargetsInside}
 use Rattle.array_image.specs.Places.{log_slice}
 use Rattle.array_image.specs.Record.{Gate, GateAt, gate_of, gate_in, gate_sector, pending_at, pending}
 use Rattle.array_image.specs.States.{state_in, is_current, current_places}
@@ -21,7 +22,7 @@ use Rattle.commit_log.specs.View.{LogView, names, next_number}
 use Rattle.commit_log.specs.Standing.{IsInside, IsLogPart, LogsStand, StatesStand, deciding, IsWhole, IsReady, SomeoneDecides}
 use Rattle.commit_log.specs.Commits.{Stands, Commits, CommitCall, IsPendingNow, IsPendingYet, IsWritten, StandsMidway}
 use Rattle.commit_log.specs.Kept.{IsCopyOf, IsNoLater, LogKept, AreLeft, BringsTo}
-use Rattle.commit_log.specs.Saying.{AreOwnCopies, CopiesIn, HoldsCopies, IsBrought, SaysState}
+use Rattle.commit_log.specs.Saying.{AreOwnCopies, CopiesIn, HoldsCopies, IsBrought, KeepsDrives, SaysState}
 use Rattle.commit_log.proofs.Amid.{not_state, replayed_as, same_replayed}
 use Rattle.commit_log.proofs.Copies.{nothing_decodes, state_by_copies}
 use Rattle.commit_log.proofs.Kept.{NoneLater, brings_none, brings_to, copy_state, epoch_up, kept_idle, kept_state, later_yet, put_none, put_outside, put_some, stands_latest}
@@ -153,6 +154,8 @@ kept_holds s number x kept =
           (held_copies s number gone x c kept (λ p current. refl) (states_of [] c (logs_of c stand)));
       brings = λ c stand p u is.
           absurd (no_look (log_slice p) 0 u (ap (λ (xs : List Target). look xs (log_slice p) 0) (sym (kept_idle s number gone x c kept stand (λ q current. refl))) ∙ is));
+      inside = λ c stand d t v is.
+          absurd (no_look d t v (ap (λ (xs : List Target). look xs d t) (sym (kept_idle s number gone x c kept stand (λ q current. refl))) ∙ is));
     }
 
 -- no place has a later copy
@@ -162,6 +165,10 @@ kept_latest s number gone x c kept logs q copy few is = elim (cases_lt 0 (x.sect
   | inr none ↦ absurd (nothing_decodes copy (ap decoded (sym (logs.inside q 0 none)) ∙ is))
 ]
 
+-- copies say their state, where a current place has its log slice
+pub says_by : (s : State) (sectors : ℕ → ℕ) (r : Image) (p : ℕ) → CopiesIn s sectors r → p < 16 → is_current s p ≡ true → 0 < sectors (log_slice p) → state_in r ≡ Some s
+says_by s sectors r p copies few current there = state_by_copies s r p copies.others few (copies.own p current there)
+
 -- what a stop leaves then
 pub kept_says : (s : State) (number : ℕ) (gone : ℕ → Bool) (x : Seen) (c : Image) (p : ℕ) → LogKept s number gone x → HoldsCopies s x
     → is_current s p ≡ true → gone p ≡ false → Stands x c → SaysState s x.sectors c
@@ -169,12 +176,14 @@ kept_says s number gone x c p kept holds current left stand =
     let logs = logs_of c stand in
     record {
       whole = kept.whole c stand;
+      is_state = says_by s x.sectors (replayed x.sectors c) p (holds.copies c stand) (kept.few p current) current (kept.there p current left);
       copies = holds.copies c stand;
       stood = s;
       stood_is = kept_state s number gone x c p kept logs current left;
       latest = kept_latest s number gone x c kept logs;
       next = inl refl;
       brings = holds.brings c logs;
+      inside = holds.inside c logs;
     }
 
 -- calls that bring no value keep the copies
@@ -183,6 +192,8 @@ holds_keeps s a b lasting stays keeps holds = record {
   copies = λ c stand.
       subst (λ (n : ℕ → ℕ). CopiesIn s n (replayed n c)) (sym (λ i d. stays.sectors d i)) (holds.copies c (stands_before lasting stays keeps c stand));
   brings = λ c stand. holds.brings c (logs_before lasting stays keeps c stand);
+  inside = λ c stand.
+      subst (λ (n : ℕ → ℕ). TargetsInside n c) (sym (λ i d. stays.sectors d i)) (holds.inside c (logs_before lasting stays keeps c stand));
 }
 
 -- ---- a commit
@@ -211,7 +222,7 @@ midway_none l on a c d t mid none before = elim mid.pends [
 ]
 
 module _ (s t : State) (gone : ℕ → Bool) (l : LogView) (on takes : List ℕ) (a : Seen) (kept : LogKept s l.number gone a) (holds : HoldsCopies s a)
-    (brings : BringsTo s t l.number gone a l.added on takes) (own : AreOwnCopies t l.added) (all : t ≡ s → (p : ℕ) → is_current s p ≡ true → gone p ≡ false)
+    (brings : BringsTo s t l.number gone a l.added on takes) (own : AreOwnCopies t l.added) (drives : KeepsDrives s t) (all : t ≡ s → (p : ℕ) → is_current s p ≡ true → gone p ≡ false)
     (are_left : AreLeft s gone on) (room : l.number < 2 ^ 63 - 1)
     (place : ℕ) (was : is_current s place ≡ true) (left : gone place ≡ false) (now : is_current t place ≡ true) where
   few : place < 16
@@ -220,6 +231,10 @@ module _ (s t : State) (gone : ℕ → Bool) (l : LogView) (on takes : List ℕ)
   there : 0 < a.sectors (log_slice place)
   there = kept.there place was left
 
+  -- targets are for sectors that slices have
+  abbrev AreInside : List Target → Type 0
+  AreInside xs = (d u : ℕ) (v : List ℕ) → look xs d u ≡ Some v → u < a.sectors d
+
   next_is : next_number l.number ≡ l.number + 1
   next_is = cond-true (nat_lt l.number (2 ^ 63 - 1)) (l.number + 1) l.number (lt-ltb l.number (2 ^ 63 - 1) room)
 
@@ -227,16 +242,19 @@ module _ (s t : State) (gone : ℕ → Bool) (l : LogView) (on takes : List ℕ)
   says_old : (c : Image) → IsPendingYet a c → IsWhole c → SaysState s a.sectors c
   says_old c yet whole =
       let logs = logs_of yet.before yet.stands in
+      let copies =
+      copies_same s a.sectors (replayed a.sectors c) (replayed a.sectors yet.before) (λ p. same_replayed a c yet.before (log_slice p) 0 yet.same (yet.copies p))
+      (holds.copies yet.before yet.stands) in
       record {
         whole = whole;
-        copies =
-            copies_same s a.sectors (replayed a.sectors c) (replayed a.sectors yet.before) (λ p. same_replayed a c yet.before (log_slice p) 0 yet.same (yet.copies p))
-            (holds.copies yet.before yet.stands);
+        is_state = says_by s a.sectors (replayed a.sectors c) place copies few was there;
+        copies = copies;
         stood = s;
         stood_is = state_same c yet.before yet.copies ∙ kept_state s l.number gone a yet.before place kept logs was left;
         latest = λ p copy small is. kept_latest s l.number gone a yet.before kept logs p copy small (ap decoded (sym (yet.copies p)) ∙ is);
         next = inl refl;
         brings = λ p u is. holds.brings yet.before logs p u (ap (λ (xs : List Target). look xs (log_slice p) 0) (sym yet.same) ∙ is);
+        inside = λ d u v is. holds.inside yet.before logs d u v (ap (λ (xs : List Target). look xs d u) (sym yet.same) ∙ is);
       }
 
   module _ (c : Image) (mid : StandsMidway l on a c) where
@@ -244,25 +262,30 @@ module _ (s t : State) (gone : ℕ → Bool) (l : LogView) (on takes : List ℕ)
     copies_put = put_copies s t l.number gone on takes l.added a kept brings all c mid.states
 
     -- a place that joins had a gate of a lower number
-    joins_lower : (p : ℕ) (h : Gate) → is_current s p ≡ false → is_current t p ≡ true → gate_in c p ≡ Some h → h.number < next_number l.number
-    joins_lower p h former current has = elim (brings.current p current) [
+    joins_lower : (p : ℕ) → is_current s p ≡ false → is_current t p ≡ true → (h : Gate) × (gate_in c p ≡ Some h) × (h.number < next_number l.number)
+    joins_lower p former current = elim (brings.current p current) [
       | inl before ↦ absurd (both_ways (is_current s p) former before)
       | inr joins ↦
           let other : names on p ≡ false = are_left p ∙ ap (λ b. b && not (gone p)) former in
           let gate = joins.numbered (c (log_slice p) gate_sector) (mid.gates p other (kept.logs p gate_sector joins.few joins.there)) in
-          let same : h ≡ gate.0 = some_gate h gate.0 (sym has ∙ gate.1) in
-          let number : h.number ≡ gate.0.number = ap (λ (g : Gate). g.number) same in
           let most = gate.2 in
-          let next = next_is in
-          omega (arith, number, most, next)
+          let next = next_is in (gate.0, gate.1, omega (arith, most, next))
+    ]
+
+    -- where no place has a later copy, the place has the one that it had
+    stood_copy : s.epoch < t.epoch → NoneLater s c → IsCopyOf s place (c (log_slice place) 0)
+    stood_copy later latest = elim (mid.states.picks place (kept.logs place 0 few there)) [
+      | inl held ↦ kept.copies.own place (c (log_slice place) 0) was left held
+      | inr new ↦ absurd (not_new (latest place (record { state = t; own = place }) few (own place (c (log_slice place) 0) new)))
     ]
       where
-        some_gate : (x y : Gate) → Some x ≡ Some y → x ≡ y
-        some_gate x y is = (cc)
+        not_new : IsNoLater s (record { state = t; own = place }) → ⊥
+        not_new (inl less) = omega (arith, later, less)
+        not_new (inr same) = let epoch = ap (λ (u : State). u.epoch) same in omega (arith, later, epoch)
 
     -- the record brings the new state
-    brought : IsPendingNow l on c → state_in c ≡ Some s → (t ≡ s) ⊎ IsBrought s t c
-    brought pends state =
+    brought : IsPendingNow l on c → state_in c ≡ Some s → NoneLater s c → (t ≡ s) ⊎ IsBrought s t c
+    brought pends state latest =
         let places : deciding c ≡ current_places s = ap (λ o. option_map_or current_places o []) state in
         let at : (g : GateAt) → pending_at (current_places s) c ≡ Some g → (names on g.place ≡ true) × (g.gate.number ≡ next_number l.number) =
         λ g is. pends.source g (ap (λ ps. pending_at ps c) places ∙ is) in
@@ -270,6 +293,7 @@ module _ (s t : State) (gone : ℕ → Bool) (l : LogView) (on takes : List ℕ)
           | inl same ↦ inl same.0
           | inr later ↦ inr (record {
             later = later.0;
+            same = drives;
             source = λ g is.
                 let named = brings.more g.place (at g is).0 in
                 let new = later.2 g.place named in (
@@ -281,19 +305,23 @@ module _ (s t : State) (gone : ℕ → Bool) (l : LogView) (on takes : List ℕ)
                         ∙ new.1,
                   ),
                 );
-            joining = λ g p h is former current has. subst (λ n. h.number < n) (sym (at g is).1) (joins_lower p h former current has);
+            joining = λ g p is former current.
+                let lower = joins_lower p former current in (lower.0, lower.1, subst (λ n. lower.0.number < n) (sym (at g is).1) lower.2);
+            copy = (place, was, now, stood_copy later.0 latest);
           })
         ]
 
-    says_new : IsPendingNow l on c → IsWhole c → SaysState t a.sectors c
-    says_new pends whole =
+    says_new : IsPendingNow l on c → IsWhole c → AreInside l.added → SaysState t a.sectors c
+    says_new pends whole fits =
         let copies = copies_same t a.sectors (replayed a.sectors c) (put a.sectors l.added c) (λ p. replayed_as a c l.added (log_slice p) 0 pends.all) copies_put in
+        let state = says_by t a.sectors (replayed a.sectors c) place copies few now there in
         let brings_own : AreOwnCopies t (pending (deciding c) c) = λ p u is. own p u (ap (λ (xs : List Target). look xs (log_slice p) 0) (sym pends.all) ∙ is) in
+        let inside : TargetsInside a.sectors c = λ d u v is. fits d u v (ap (λ (xs : List Target). look xs d u) (sym pends.all) ∙ is) in
         elim (stands_latest s t l.number gone on takes l.added a c place kept.logs kept.copies brings mid.states few there was left) [
           | inl old ↦
-              record { whole = whole; copies = copies; stood = s; stood_is = old.0; latest = old.1; next = brought pends old.0; brings = brings_own }
+              record { whole = whole; is_state = state; copies = copies; stood = s; stood_is = old.0; latest = old.1; next = brought pends old.0 old.1; brings = brings_own; inside = inside }
           | inr new ↦
-              record { whole = whole; copies = copies; stood = t; stood_is = new.0; latest = new.1; next = inl refl; brings = brings_own }
+              record { whole = whole; is_state = state; copies = copies; stood = t; stood_is = new.0; latest = new.1; next = inl refl; brings = brings_own; inside = inside }
         ]
 
     -- nothing is pending, and all is written
@@ -303,24 +331,26 @@ module _ (s t : State) (gone : ℕ → Bool) (l : LogView) (on takes : List ℕ)
         let same : (p : ℕ) → c (log_slice p) 0 ≡ put a.sectors l.added c (log_slice p) 0 =
         λ p. sym (put_there a.sectors l.added c (log_slice p) 0 (λ w is. writes (log_slice p) 0 w is)) in
         let here : CopiesIn t a.sectors c = copies_same t a.sectors c (put a.sectors l.added c) same copies_put in
+        let copies : CopiesIn t a.sectors (replayed a.sectors c) =
+        copies_same t a.sectors (replayed a.sectors c) c (λ p. replayed_as a c [] (log_slice p) 0 none ∙ put_none a.sectors [] c (log_slice p) 0 refl) here in
         record {
           whole = whole;
-          copies =
-              copies_same t a.sectors (replayed a.sectors c) c
-              (λ p. replayed_as a c [] (log_slice p) 0 none ∙ put_none a.sectors [] c (log_slice p) 0 refl) here;
+          is_state = says_by t a.sectors (replayed a.sectors c) place copies few now there;
+          copies = copies;
           stood = t;
           stood_is = state_by_copies t c place here.others few (here.own place now there);
           latest = here.others;
           next = inl refl;
           brings = λ p u is. absurd (no_look (log_slice p) 0 u (ap (λ (xs : List Target). look xs (log_slice p) 0) (sym none) ∙ is));
+          inside = λ d u v is. absurd (no_look d u v (ap (λ (xs : List Target). look xs d u) (sym none) ∙ is));
         }
 
-    pub midway_says : Commits l.added a c → SaysState s a.sectors c ⊎ SaysState t a.sectors c
-    midway_says commits =
+    pub midway_says : Commits l.added a c → AreInside l.added → SaysState s a.sectors c ⊎ SaysState t a.sectors c
+    midway_says commits fits =
         let whole = commits.whole (kept.whole commits.before commits.stands) in
         elim mid.pends [
           | inl yet ↦ inl (says_old c yet whole)
-          | inr (inl pends) ↦ inr (says_new pends whole)
+          | inr (inl pends) ↦ inr (says_new pends whole fits)
           | inr (inr done) ↦ inr (says_done done.0 done.1 whole)
         ]
 
@@ -330,7 +360,7 @@ module _ (s t : State) (gone : ℕ → Bool) (l : LogView) (on takes : List ℕ)
   commit_says lost b commit ready someone traced =
       leaves_weaker (λ c. IsInside a.sectors c → Commits l.added a c × StandsMidway l on a c)
       (λ c. IsInside a.sectors c → SaysState s a.sectors c ⊎ SaysState t a.sectors c)
-      (λ c found inside. let both = found inside in midway_says c both.1 both.0)
+      (λ c found inside. let both = found inside in midway_says c both.1 both.0 (λ d u v is. (ready.targets d u v is).sector))
       (commit_moments l on lost a b commit traced ready someone)
 
   -- And after it they hold the copies of the new one.
@@ -345,5 +375,11 @@ module _ (s t : State) (gone : ℕ → Bool) (l : LogView) (on takes : List ℕ)
         elim (commit.rests ready someone c stand).targets [
           | inl none ↦ absurd (no_look (log_slice p) 0 u (ap (λ (xs : List Target). look xs (log_slice p) 0) (sym none) ∙ is))
           | inr rest ↦ own p u (ap (λ (xs : List Target). look xs (log_slice p) 0) (sym rest.1) ∙ is)
+        ];
+    inside = λ c stand d u v is.
+        elim (commit.rests ready someone c stand).targets [
+          | inl none ↦ absurd (no_look d u v (ap (λ (xs : List Target). look xs d u) (sym none) ∙ is))
+          | inr rest ↦
+              subst (λ k. u < k) (sym (commit.stays.sectors d)) (ready.targets d u v (ap (λ (xs : List Target). look xs d u) (sym rest.1) ∙ is)).sector
         ];
   }

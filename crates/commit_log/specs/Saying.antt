@@ -1,10 +1,12 @@
 -- What contents of log slices say, as they stand and once the pending record is replayed.
-use Rattle.std.specs.Prelude.{◌≡◌, ◌⊎◌, ℕ, ◌<◌, true, false, List, Ok, Some}
+use Rattle.std.specs.Prelude.{◌≡◌, ◌⊎◌, ℕ, ◌<◌, true, false, List, Ok, Some, option_map, slice_get}
 use Rattle.rack.specs.Seen.{Image, Seen}
 use Rattle.rack.specs.Targets.{Target, look}
 use Rattle.pool_state.specs.declared.contents.Copied.{Copied}
+use Rattle.pool_state.specs.declared.contents.Drive.{Drive}
 use Rattle.pool_state.specs.declared.contents.State.{State}
 use Rattle.pool_state.specs.Sector.{decoded}
+use Rattle.array_image.specs.Left.{TargetsInside}
 use Rattle.array_image.specs.Places.{log_slice}
 use Rattle.array_image.specs.Record.{Gate, GateAt, gate_in, pending_at, pending}
 use Rattle.array_image.specs.States.{state_in, is_current, current_places}
@@ -21,33 +23,47 @@ pub record CopiesIn (s : State) (sectors : ℕ → ℕ) (c : Image) : Type 0 whe
   pub earlier :
       (p : ℕ) (copy : Copied) → p < 16 → is_current s p ≡ false → decoded (c (log_slice p) 0) ≡ Ok copy → copy.state.epoch < s.epoch
 
--- The record that is pending in contents of the state s brings a later state: it is read from a place that is current by that as well and has
--- a copy for it, and each place that joins has a gate of a lower number.
+-- states of one pool, by both of which a place that is current by both has the same drive
+pub record KeepsDrives (s t : State) : Type 0 where
+  pub pool : t.pool ≡ s.pool
+  pub ids :
+      (p : ℕ) → is_current s p ≡ true → is_current t p ≡ true
+      → option_map (λ (d : Drive). d.id.0) (slice_get t.drives.items p) ≡ option_map (λ (d : Drive). d.id.0) (slice_get s.drives.items p)
+
+-- The record that is pending in contents of the state s brings a later state of the same pool: it is read from a place that is current by
+-- that as well and has a copy for it, and each place that joins has a gate of a lower number. One place that is current by both has its copy of s
+-- yet.
 pub record IsBrought (s t : State) (c : Image) : Type 0 where
   pub later : s.epoch < t.epoch
+  pub same : KeepsDrives s t
   pub source :
       (g : GateAt) → pending_at (current_places s) c ≡ Some g
       → (is_current t g.place ≡ true) × ((u : List ℕ) × (look (pending (current_places s) c) (log_slice g.place) 0 ≡ Some u))
   pub joining :
-      (g : GateAt) (p : ℕ) (h : Gate) → pending_at (current_places s) c ≡ Some g → is_current s p ≡ false → is_current t p ≡ true
-      → gate_in c p ≡ Some h → h.number < g.gate.number
+      (g : GateAt) (p : ℕ) → pending_at (current_places s) c ≡ Some g → is_current s p ≡ false → is_current t p ≡ true
+      → (h : Gate) × (gate_in c p ≡ Some h) × (h.number < g.gate.number)
+  pub copy : (p : ℕ) × (is_current s p ≡ true) × (is_current t p ≡ true) × IsCopyOf s p (c (log_slice p) 0)
 
 -- targets have copies of this state alone, each its place's own
 abbrev pub AreOwnCopies : State → List Target → Type 0
 AreOwnCopies s xs = (p : ℕ) (u : List ℕ) → look xs (log_slice p) 0 ≡ Some u → decoded u ≡ Ok (record { state = s; own = p })
 
 -- Contents that say the state t once the pending record is replayed. No log is damaged. As they stand they say a state of which no place has
--- a later copy: t, or one that the record brings t to.
+-- a later copy: t, or one that the record brings t to. What is pending is for sectors that slices have.
 pub record SaysState (t : State) (sectors : ℕ → ℕ) (c : Image) : Type 0 where
   pub whole : IsWhole c
+  pub is_state : state_in (replayed sectors c) ≡ Some t
   pub copies : CopiesIn t sectors (replayed sectors c)
   pub stood : State
   pub stood_is : state_in c ≡ Some stood
   pub latest : (p : ℕ) (copy : Copied) → p < 16 → decoded (c (log_slice p) 0) ≡ Ok copy → IsNoLater stood copy
   pub next : (t ≡ stood) ⊎ IsBrought stood t c
   pub brings : AreOwnCopies t (pending (deciding c) c)
+  pub inside : TargetsInside sectors c
 
--- Whatever a stop leaves has the copies of a state once it is replayed, and nothing but such copies is pending for their sectors.
+-- Whatever a stop leaves has the copies of a state once it is replayed, and nothing but such copies is pending for their sectors, and nothing for a
+-- sector that no slice has.
 pub record HoldsCopies (s : State) (x : Seen) : Type 0 where
   pub copies : (c : Image) → Stands x c → CopiesIn s x.sectors (replayed x.sectors c)
   pub brings : (c : Image) → LogsStand x c → AreOwnCopies s (pending (deciding c) c)
+  pub inside : (c : Image) → LogsStand x c → TargetsInside x.sectors c

@@ -85,12 +85,12 @@ module _ (p q : ℕ → Bool) (v w : Raid) (a b : Seen) (set : IsSet v a) (befor
 
   closed_before : IsClosed n a
   closed_before =
-      let stood = told.stood (runs.still n goes) in
+      let stood = told.stood (runs.moments.still n goes) in
       subst (λ k. IsClosed k a) stood.number (stood.holds.closed (before n made))
 
   closed_after : IsClosed n b
   closed_after =
-      let stood = (runs.told n told).stood goes in
+      let stood = (runs.moments.told n told).stood goes in
       subst (λ k. IsClosed k b) stood.number (stood.holds.closed (after n made_now))
 
   -- the array's slices as a stop left them after it, and all others as they read before it
@@ -122,7 +122,7 @@ module _ (p q : ℕ → Bool) (v w : Raid) (a b : Seen) (set : IsSet v a) (befor
           let low = live.disk in
           let here : member_slice (place_of d) n ≡ d = omega (arith, own) in
           let now : IsLive b b d t = subst (λ k. IsLive b b k t) here
-          (((runs.told n told).slices goes) n (place_of d) t made_now (omega (arith, low, disks))
+          (((runs.moments.told n told).slices goes) n (place_of d) t made_now (omega (arith, low, disks))
           (subst (λ k. t < b.sectors k) (sym here) (subst (λ k. t < k) (sym (runs.sectors d)) live.sector))) in
           (spares none n d t unwritten own (record { disk = subst (λ k. d < k) (sym runs.disks) live.disk; sector = now.sector; is_told = live.is_told; unspent = now.unspent })).within
           (c d t) (picks.picks d t now)

@@ -36,6 +36,7 @@ use Rattle.raid_rack.specs.Agreeing.{SupersAgree}
 use Rattle.raid_rack.proofs.Agreed.{agree_by, staged_agrees}
 use Rattle.raid_rack.proofs.Added.{marks_bring}
 use Rattle.raid_rack.proofs.Brought.{copies_own}
+use Rattle.raid_rack.proofs.KeptDrives.{after_drives}
 use Rattle.raid_rack.proofs.Marking.{MarksCall, restated_after, NotesLost, marks_part, shape_after}
 use Rattle.raid_rack.proofs.Restated.{IsStaged, restates_staged}
 use Rattle.raid_rack.proofs.Staged.{none_gone, notes_lost, staged_array}
@@ -110,6 +111,7 @@ module _ (v : Raid) (lost on gone : List ℕ) (l : LogView) (xs : List Target) (
     stays = left_both.1;
     later = raised_more v.state.epoch room.1;
     own = copies_own (state_after v lost) on xs l.added commit.marking.copies (supers_calm v lost on l xs b commit.marking);
+    drives = after_drives v.state (state_after v lost) (after_marked lost v.state);
   }
 
   losing : IsLosing (v.arrays n) (f n) (names gone)

@@ -98,7 +98,7 @@ clean_images p q a b x y fit after cleans runs none n told goes unsettled r left
     let low = by (cases_lt n v.state.made) in
     let made : n < w.state.made = subst (λ k. n < k) (sym cleans.moves.book.same.made) low in
     let seated = after.running.set.arrays n made in
-    let stood = (runs.told n told).stood goes in
+    let stood = (runs.moments.told n told).stood goes in
     let was = told.slices (cleans.moves.still n low goes) in
     rows seated stood was ((cleans.ends none).ended n low (lt-ltb n v.state.made low))
   where

@@ -8,10 +8,9 @@ use Rattle.rack.specs.Targets.{look, put}
 use Rattle.md_super.specs.declared.superblock.Super.{Super}
 use Rattle.pool_state.specs.declared.contents.State.{State}
 use Rattle.array_image.specs.Places.{log_slice, member_slice, super_sector}
-use Rattle.array_image.specs.States.{current_places, is_current, state_in}
+use Rattle.array_image.specs.States.{is_current, state_in}
 use Rattle.array_image.specs.Supers.{truth_in}
-use Rattle.array_image.specs.SoundArray.{IsSoundArray}
-use Rattle.array_image.specs.Arrays.{Shape, replayed, shape_by, shape_in, value_by}
+use Rattle.array_image.specs.Arrays.{Shape, replayed, value_by}
 use Rattle.array_image.specs.Held.{current_in}
 use Rattle.array_image.specs.Left.{IsClosed, IsInside, IsLeft, LogsInside, Picks}
 use Rattle.array_image.specs.Marks.{lowered}
@@ -23,7 +22,7 @@ use Rattle.commit_log.specs.Standing.{IsAlike}
 use Rattle.commit_log.proofs.Kept.{before_inside, brings_to, brought_state, kept_decides, kept_ready, put_none, stands_of}
 use Rattle.commit_log.proofs.KeptAfter.{kept_after}
 use Rattle.array_model.specs.View.{View, may_vary, shape_of}
-use Rattle.array_model.specs.Says.{Holds, HoldsShape, Says}
+use Rattle.array_model.specs.Says.{Holds, HoldsShape}
 use Rattle.array_model.specs.ArrayCalls.{Covers}
 use Rattle.array_model.proofs.Keeping.{KeepsData, even_kept, held_kept, inside_before, logs_of, open_after, same_value, settled_kept}
 use Rattle.array_model.proofs.Losses.{IsLosing, losing_holds}
@@ -39,12 +38,14 @@ use Rattle.raid_rack.specs.Moves.{AreMarked, Brings, IsAmid, IsSeated, KeepsArra
 use Rattle.raid_rack.specs.Rows.{KeepsRows, LeavesFrom, LeavesRows}
 use Rattle.raid_rack.specs.Works.{closed}
 use Rattle.raid_rack.proofs.Changed.{lowered_none}
+use Rattle.raid_rack.proofs.ClosedSays.{says_closed, truth_closed}
 use Rattle.raid_rack.proofs.Closing.{IsClosing, after_closed, closed_raid, closing_brings, closing_current, closing_data, closing_few, closing_further, closing_losing, closing_named, closing_none, closing_set, closing_target, closing_unwritten, closing_went}
 use Rattle.raid_rack.proofs.Brought.{copies_own}
 use Rattle.raid_rack.proofs.Committed.{next_later, raised_more, raised_range}
 use Rattle.raid_rack.proofs.Elements.{look_among}
 use Rattle.raid_rack.proofs.Frames.{frame_same, known_frame, left_frame}
 use Rattle.raid_rack.proofs.Losing.{only_gone}
+use Rattle.raid_rack.proofs.KeptDrives.{after_drives}
 use Rattle.raid_rack.proofs.Marking.{MarksCall, alike_agree, alike_state, closed_after, data_kept, logs_commit, still_after}
 use Rattle.raid_rack.proofs.Own.{look_nothing}
 use Rattle.raid_rack.proofs.Noted.{idle_now, live_later, losing_spent}
@@ -57,32 +58,6 @@ use Rattle.array_core.specs.TruthHeld.{HoldTruth}
 use Rattle.array_core.proofs.TruthHeld.{hold_supers}
 use Rattle.raid_rack.specs.Truths.{KeepsTruths}
 use Rattle.raid_rack.proofs.Truths.{hold_gone}
-
--- ---- what contents say goes by the plan nowhere
-
-truth_closed : (s : State) (r : Image) (n : ℕ) → truth_in (closed s) r n ≡ truth_in s r n
-unfolding truth_in current_places
-truth_closed s r n = refl
-
-shape_closed : (s : State) (r : Image) (n : ℕ) → shape_in (closed s) r n ≡ shape_in s r n
-unfolding truth_in current_places shape_by
-shape_closed s r n = refl
-
-sound_closed : (s : State) (r : Image) (n : ℕ) (u : Super) → IsSoundArray s r n u → IsSoundArray (closed s) r n u
-sound_closed s r n u sound = record {
-  two = sound.two;
-  written = sound.written;
-  same = sound.same;
-  rebuilt = sound.rebuilt;
-  even = λ joined shape is. sound.even joined shape (sym (shape_closed s r n) ∙ is);
-}
-
-says_closed : (s : State) (n : ℕ) (shape : Shape) (vals : ℕ → Values) (spent : ℕ → Bool) (r : Image) → Says s n shape vals spent r → Says (closed s) n shape vals spent r
-says_closed s n shape vals spent r says = record {
-  shape_is = shape_closed s r n ∙ says.shape_is;
-  value = says.value;
-  is_sound = λ u is. sound_closed s r n u (says.is_sound u (sym (truth_closed s r n) ∙ is));
-}
 
 and_true : (b : Bool) → (b && true) ≡ b
 and_true true = refl
@@ -168,6 +143,7 @@ module _ (v : Raid) (on gone : List ℕ) (l : LogView) (f : ℕ → View) (b c :
     stays = stays_there;
     later = raised_more v.state.epoch room.1;
     own = copies_own (closed v.state) on [] l.added commit.copies (λ p. look_nothing (log_slice p) 0);
+    drives = after_drives v.state (closed v.state) (after_closed v.state);
   }
 
   -- ---- what contents have of it

@@ -22,9 +22,13 @@ use Rattle.array_image.specs.States.{is_current}
 use Rattle.array_model.specs.ArrayCalls.{Covers}
 use Rattle.array_model.specs.View.{View, IsArray, place_at, shape_of, spent_in}
 use Rattle.array_model.proofs.Keeping.{live_on}
+use Rattle.commit_log.specs.Saying.{SaysState}
 use Rattle.commit_log.proofs.Kept.{place_of_log}
+use Rattle.commit_log.proofs.Saying.{kept_holds}
 use Rattle.raid_rack.specs.Enlisting.{IsEnlisted, IsNewLog, IsOpenDisk, JoinsEach, JoinsPart, KeepsTold, HoldsLaid, HoldsTable, SaysBy, SaysJoining, SaysLaying, SettlesWhole, enlisted, next_drive, with_drive}
 use Rattle.raid_rack.specs.Laws.{live_parts}
+use Rattle.raid_rack.specs.Frames.{Frame, HasFrame, KeepsFrame, frame_of}
+use Rattle.raid_rack.specs.Logs.{LogsBetween}
 use Rattle.raid_rack.specs.Losses.{has_other}
 use Rattle.raid_rack.specs.Marking.{SaysBetween}
 use Rattle.raid_rack.specs.Moves.{IsAmid, IsHeeded, IsSet, Moves, PartOf}
@@ -70,6 +74,14 @@ leaves_where P Q R all some = record {
   new = λ k c after until left. (all.new k c after until left, λ holds. (some holds).new k c after until left);
 }
 
+leaves_both : {a b : Seen} (P Q : Image → Type 0) → Leaves a b P → Leaves a b Q → Leaves a b (λ c. P c × Q c)
+leaves_both P Q one two = record {
+  later = one.later;
+  kept = one.kept;
+  past = one.past;
+  new = λ k c after until left. (one.new k c after until left, two.new k c after until left);
+}
+
 sliced_inside : (t : Slices) (c : Image) → IsInside (sectors_of t) (sliced t c)
 sliced_inside t c d s past = ap (λ b. if b then c (disk_of t d) (first_of t d + s) else []) (le-ltb s (sectors_of t d) past)
 
@@ -83,6 +95,16 @@ between_same s n vals spent r low at =
       | inr (inr most) ↦ absurd (omega (arith, low, most))
     ] in
     subst (λ (q : State). SaysBy q n vals spent r) (sym is) (record { is_state = at.is_state; shape = at.shape; says = at.says })
+
+logs_same : (s : State) (sectors : ℕ → ℕ) (c : Image) → s.epoch < 2 ^ 63 - 1 → LogsBetween s s sectors c → SaysState s sectors c
+logs_same s sectors c low at =
+    let is : s ≡ at.state =
+    elim at.sooner.raised [
+      | inl same ↦ same
+      | inr (inl later) ↦ let up = at.later.epoch in absurd (omega (arith, up, later))
+      | inr (inr most) ↦ absurd (omega (arith, low, most))
+    ] in
+    subst (λ (q : State). SaysState q sectors c) (sym is) at.says
 
 module _ (arrays : List View) (place disk units : ℕ) (plan : Plan) (joining : ℕ → Bool) (t u : Slices) (v s w : Raid) (a m y b : Seen) (table : Table)
     (orderly : IsOrderly t) (orderly_now : IsOrderly u) (few : place < 16) (free : (p : ℕ) → seat_of t p ≢ Some disk)
@@ -309,41 +331,68 @@ module _ (arrays : List View) (place disk units : ℕ) (plan : Plan) (joining : 
             (reseated_rows s (slices_of t y) (slices_of u y) place n vals (spent_of w n) differs set_then settles.heeded missing_then (λ there. new_log.state) (low_now n low) (part.holds stands)
             (early_rows rows).after)
 
+        abbrev g : Frame
+        g = frame_of (v.arrays n).truth
+
+        early_frame : KeepsFrame g n (s.arrays n) (slices_of t a) (slices_of t y)
+        early_frame = part.frame g refl stands
+
+        late_frame : KeepsFrame g n (w.arrays n) (slices_of u y) (slices_of u b)
+        late_frame = joins_part.frame g early_frame.after
+
         early_leaves : a.traced → Leaves a y laying
         early_leaves traced =
             let Said : Image → Type 0 =
             λ c. IsInside (sectors_of t) c → IsAmid v (slices_of t a) n vals (spent_of w n) → SaysBetween v.state s.state n vals (spent_of w n) (replayed (sectors_of t) c) in
             let Rows : Image → Type 0 = λ c. IsInside (sectors_of t) c → LeavesFrom (v.arrays n).resync n (replayed (sectors_of t) c) in
-            leaves_weaker (λ c. HoldsLaid a disk c × (Said (sliced t c) × (clean → Rows (sliced t c)))) laying
+            let Logs : Image → Type 0 = λ c. IsInside (sectors_of t) c → LogsBetween v.state s.state (sectors_of t) c in
+            let Framed : Image → Type 0 = λ c. IsInside (sectors_of t) c → HasFrame g n (replayed (sectors_of t) c) in
+            leaves_weaker (λ c. HoldsLaid a disk c × (Framed (sliced t c) × (Logs (sliced t c) × (Said (sliced t c) × (clean → Rows (sliced t c)))))) laying
             (λ c at.
             let epoch = (number_room v n (before.still n low goes_then)).1 in
             record {
               laid = at.0;
               says = between_same v.state n vals (spent_of w n) (replayed (sectors_of t) (sliced t c)) (omega (arith, epoch))
-                  (subst (λ (q : State). SaysBetween v.state q n vals (spent_of w n) (replayed (sectors_of t) (sliced t c))) settles.same (at.1.0 (sliced_inside t c) stands));
-              rows = λ rows. at.1.1 rows (sliced_inside t c);
+                  (subst (λ (q : State). SaysBetween v.state q n vals (spent_of w n) (replayed (sectors_of t) (sliced t c))) settles.same (at.1.1.1.0 (sliced_inside t c) stands));
+              rows = λ rows. at.1.1.1.1 rows (sliced_inside t c);
+              frame = at.1.0 (sliced_inside t c);
+              logs = logs_same v.state (sectors_of t) (sliced t c) (omega (arith, epoch))
+                  (subst (λ (q : State). LogsBetween v.state q (sectors_of t) (sliced t c)) settles.same (at.1.1.0 (sliced_inside t c)));
             })
-            (leaves_below t a y (λ c. Said c × (clean → Rows c)) (HoldsLaid a disk)
+            (leaves_below t a y (λ c. Framed c × (Logs c × (Said c × (clean → Rows c)))) (HoldsLaid a disk)
             (leaves_then (HoldsLaid a disk)
             (leaves_weaker (IsMix a m (IsOfDrive disk table.sectors)) (HoldsLaid a disk) laid_at (lays.only.stops traced))
             (leaves_weaker (IsMix m y (IsSliced t)) (HoldsLaid a disk) laid_still (two.stops (lays.only.stays.traced traced))))
-            (leaves_where Said Rows clean (part.leaves traced) (λ rows. (early_rows rows).leaves traced)))
+            (leaves_both Framed (λ c. Logs c × (Said c × (clean → Rows c))) (early_frame.leaves traced)
+            (leaves_both Logs (λ c. Said c × (clean → Rows c))
+            ((part.logs (kept_holds v.state v.number (slices_of t a) (told.stood (before.still n low goes_then)).log) stands).leaves traced)
+            (leaves_where Said Rows clean (part.leaves traced) (λ rows. (early_rows rows).leaves traced)))))
 
         late_leaves : y.traced → Leaves y b joining_now
         late_leaves traced =
             let Said : Image → Type 0 = λ c. IsInside (sectors_of u) c → SaysBy s.state n vals (spent_of w n) (replayed (sectors_of u) c)
             ⊎ SaysBetween (enlisted place units plan s.state) w.state n vals (spent_of w n) (replayed (sectors_of u) c) in
             let Rows : Image → Type 0 = λ c. IsInside (sectors_of u) c → LeavesFrom (s.arrays n).resync n (replayed (sectors_of u) c) in
-            leaves_weaker (λ c. IsMix y b (IsSliced u) c × (Said (sliced u c) × (clean → Rows (sliced u c)))) joining_now
+            let Logs : Image → Type 0 = λ c. IsInside (sectors_of u) c → SaysState s.state (sectors_of u) c
+            ⊎ LogsBetween (enlisted place units plan s.state) w.state (sectors_of u) c in
+            let Framed : Image → Type 0 = λ c. IsInside (sectors_of u) c → HasFrame g n (replayed (sectors_of u) c) in
+            leaves_weaker (λ c. IsMix y b (IsSliced u) c × (Framed (sliced u c) × (Logs (sliced u c) × (Said (sliced u c) × (clean → Rows (sliced u c)))))) joining_now
             (λ c at.
             record {
               holds = table_at c at.0;
               says = subst (λ (q : State). SaysBy q n vals (spent_of w n) (replayed (sectors_of u) (sliced u c))
-                  ⊎ SaysBetween (enlisted place units plan q) w.state n vals (spent_of w n) (replayed (sectors_of u) (sliced u c))) settles.same (at.1.0 (sliced_inside u c));
-              rows = λ rows. from_lower (v.arrays n).resync (s.arrays n).resync n (replayed (sectors_of u) (sliced u c)) (early_rows rows).later (at.1.1 rows (sliced_inside u c));
+                  ⊎ SaysBetween (enlisted place units plan q) w.state n vals (spent_of w n) (replayed (sectors_of u) (sliced u c))) settles.same (at.1.1.1.0 (sliced_inside u c));
+              rows = λ rows. from_lower (v.arrays n).resync (s.arrays n).resync n (replayed (sectors_of u) (sliced u c)) (early_rows rows).later (at.1.1.1.1 rows (sliced_inside u c));
+              frame = at.1.0 (sliced_inside u c);
+              logs = subst (λ (q : State). SaysState q (sectors_of u) (sliced u c) ⊎ LogsBetween (enlisted place units plan q) w.state (sectors_of u) (sliced u c))
+                  settles.same (at.1.1.0 (sliced_inside u c));
             })
-            (leaves_below u y b (λ c. Said c × (clean → Rows c)) (IsMix y b (IsSliced u)) (three.stops traced)
-            (leaves_where Said Rows clean (joins_part.leaves traced) (λ rows. (late_rows rows).leaves traced)))
+            (leaves_below u y b (λ c. Framed c × (Logs c × (Said c × (clean → Rows c)))) (IsMix y b (IsSliced u)) (three.stops traced)
+            (leaves_both Framed (λ c. Logs c × (Said c × (clean → Rows c))) (late_frame.leaves traced)
+            (leaves_both Logs (λ c. Said c × (clean → Rows c))
+            (joins_part.logs
+            (kept_holds s.state s.number (slices_of u y) (amid_stood s (slices_of u y) n vals (spent_of w n) settles.heeded then_amid).log) traced)
+            (leaves_where Said Rows clean (joins_part.leaves traced) (λ rows. (late_rows rows).leaves traced)))))
 
       pub keeps_told : KeepsTold t u place disk units plan table v w a b y.clock n
       keeps_told = record {
@@ -356,6 +405,7 @@ module _ (arrays : List View) (place disk units : ℕ) (plan : Plan) (joining : 
         before = λ traced goes k c since until stopped.
             (early_leaves goes traced).new k c since until ((late_leaves goes (early.traced traced)).past k c until stopped);
         after = λ traced goes. (late_leaves goes (early.traced traced)).new;
+        framed = λ goes. (late_frame goes).after;
         rows = λ goes rows. (
           let one = (early_rows goes rows).later in let after = (late_rows goes rows).later in omega (arith, one, after),
           (late_rows goes rows).after,

@@ -33,6 +33,10 @@ use Rattle.array_model.proofs.Losses.{IsLosing}
 use Rattle.array_model.proofs.Noting.{laid_out, unspent_then}
 use Rattle.array_model.proofs.Spared.{IsLaidOut, lost_value}
 use Rattle.raid_rack.specs.Enlisting.{IsNewLog, JoinsPart, SaysBy, enlisted, next_drive}
+use Rattle.commit_log.specs.Saying.{KeepsDrives, SaysState}
+use Rattle.raid_rack.specs.Book.{after_same}
+use Rattle.raid_rack.specs.Frames.{HasFrame, frame_of}
+use Rattle.raid_rack.specs.Logs.{LogsBetween}
 use Rattle.raid_rack.specs.Losses.{AddsCopies, has_other}
 use Rattle.array_core.specs.Seats.{renewed}
 use Rattle.raid_rack.specs.Missing.{raised}
@@ -48,8 +52,10 @@ use Rattle.raid_rack.proofs.Adding.{all_live, no_data, supers_calm, supers_insid
 use Rattle.raid_rack.proofs.Changed.{lowered_none}
 use Rattle.raid_rack.proofs.Committed.{IsCommitBy, after_further, after_gone, commit_losing, next_later, raid_after, raised_more}
 use Rattle.raid_rack.proofs.Enlisted.{enlisted_marked, listed}
+use Rattle.raid_rack.proofs.Frames.{frame_then}
 use Rattle.raid_rack.proofs.Joining.{MayJoinPool, listed_heeded, listed_raid, listed_shape, lists_listed, was_current}
-use Rattle.raid_rack.proofs.Marking.{MarksCall, NotesLost, commit_moment, marks_stood, says_first, shape_after}
+use Rattle.raid_rack.proofs.KeptDrives.{enlisted_drives}
+use Rattle.raid_rack.proofs.Marking.{MarksCall, NotesLost, commit_moment, frame_moment, logs_made, marks_stood, says_first, shape_after}
 use Rattle.raid_rack.proofs.MarkedRows.{marks_rows}
 use Rattle.raid_rack.proofs.Noted.{live_later, noted_clear}
 use Rattle.raid_rack.proofs.Others.{some_other}
@@ -208,6 +214,7 @@ module _ (place units : ℕ) (plan : Plan) (joining : ℕ → Bool) (v : Raid) (
     stays = stays_q;
     later = later_epoch;
     own = copies_own t takes xs l.added commit.marking.copies (supers_calm u [] takes l xs x commit.marking);
+    drives = subst (KeepsDrives v.state) (enlisted_marked place units plan v.state) (enlisted_drives place units plan v.state may.missing);
   }
 
   -- ---- its superblocks
@@ -362,4 +369,37 @@ module _ (place units : ℕ) (plan : Plan) (joining : ℕ → Bool) (v : Raid) (
         rows = λ rows.
             let first = rows_after rows in
             rows_then v m w x y z n commit.call.stays.sectors commit.call.stays.traced first (mends.moves.rows n vals spent joined low goes covers amid_after first.after);
+        logs = λ copies traced.
+            let made = logs_made s t (gone_in v) l on gone x y marks_call kept copies in
+            let Logs : Image → Type 0 = λ c. IsInside x.sectors c
+            → SaysState v.state x.sectors c ⊎ LogsBetween (enlisted place units plan v.state) w.state x.sectors c in
+            let now : (c : Image) → LogsBetween t w.state x.sectors c → LogsBetween (enlisted place units plan v.state) w.state x.sectors c =
+            λ c says. subst (λ (k : State). LogsBetween k w.state x.sectors c) (sym (enlisted_marked place units plan v.state)) says in
+            leaves_then Logs
+            (leaves_weaker (λ c. IsInside x.sectors c → SaysState s x.sectors c ⊎ SaysState t x.sectors c) Logs
+            (λ c says inside. elim (says inside) [
+              | inl old ↦ inl old
+              | inr new ↦ inr (now c (record { state = t; later = after_same t; sooner = mends.moves.book; says = new }))
+            ])
+            (made.0 traced))
+            (leaves_weaker (λ c. IsInside y.sectors c → LogsBetween t w.state y.sectors c) Logs
+            (λ c says inside.
+            inr (now c
+            (subst (λ (sectors : ℕ → ℕ). LogsBetween t w.state sectors c) (λ k d. commit.call.stays.sectors d k)
+            (says (λ d i out. inside d i (subst (λ k. k ≤ i) (commit.call.stays.sectors d) out))))))
+            ((later.logs made.1 amid_after).leaves (commit.call.stays.traced traced)));
+        frame = λ g before.
+            let now : frame_of (u.arrays n).truth ≡ g = ap frame_of truth_same ∙ before in
+            frame_then g n (m.arrays n) (w.arrays n) x y z commit.call.stays
+            (record {
+              leaves = λ traced.
+                  leaves_weaker (λ c. LogsInside x.sectors c → Commits l.added x c)
+                  (λ c. IsInside x.sectors c → HasFrame g n (replayed x.sectors c))
+                  (λ c commits inside.
+                  frame_moment g s t amid.durable (shape_of (u.arrays n)) false (u.arrays n) vals spent (gone_in v) v l on gone x y n c small marks_call restates now before
+                  amid.stood inside (commits (λ p i out. inside (log_slice p) i out)))
+                  (commit.call.stops traced marks_call.ready marks_call.decides);
+              after = ap frame_of notes.truth ∙ now;
+            })
+            (later.frame g (ap frame_of notes.truth ∙ now) amid_after);
       }

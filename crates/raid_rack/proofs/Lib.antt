@@ -39,6 +39,8 @@ pub mod Stepped
 pub mod Resynced
 pub mod Rebuilt
 pub mod Closing
+mod ClosedSays
+mod KeptDrives
 pub mod CloseParts
 pub mod Cleaned
 pub mod Cleanings
@@ -83,3 +85,4 @@ pub mod Vacated
 pub mod Truths
 pub mod TruthTurns
 pub mod TruthAgrees
+pub mod Since

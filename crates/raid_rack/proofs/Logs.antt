@@ -1,17 +1,15 @@
 -- Parts of a call, as the log slices show them.
-use Rattle.std.proofs.Common.{◌≡◌, ◌⊎◌, ℕ, ◌≤◌, ◌<◌, Bool, true, false, List, [], None, Some, Ok, refl, sym, ap, subst, ◌∙◌, inl, inr, arith}
+use Rattle.std.proofs.Common.{◌≡◌, ℕ, ◌≤◌, ◌<◌, Bool, true, false, List, [], Some, refl, sym, ap, subst, ◌∙◌, inl, arith}
 use Rattle.std.proofs.lemmas.Option.{none-some}
-use Rattle.rack.specs.Values.{MayLeave}
 use Rattle.rack.specs.Calls.{KeepsAll}
-use Rattle.rack.specs.Moments.{Leaves}
-use Rattle.rack.specs.Seen.{Image, Seen, IsLive, IsPick, Stays}
+use Rattle.rack.specs.Seen.{Image, Seen, IsPick, Stays}
 use Rattle.rack.specs.Joins.{leaves_same, leaves_then, leaves_weaker}
 use Rattle.rack.specs.Targets.{Target, look}
 use Rattle.pool_state.specs.declared.contents.State.{State}
 use Rattle.pool_state.specs.Sector.{decoded}
 use Rattle.array_image.specs.Places.{log_slice}
 use Rattle.array_image.specs.Record.{pending}
-use Rattle.array_image.specs.States.{state_in, is_current}
+use Rattle.array_image.specs.States.{is_current}
 use Rattle.array_image.specs.Arrays.{replayed}
 use Rattle.array_image.specs.Left.{IsCalm, IsCalmIn, IsInside, Picks, deciding}
 use Rattle.array_image.proofs.Frames.{state_same}
@@ -25,10 +23,12 @@ use Rattle.commit_log.specs.Kept.{LogKept}
 use Rattle.commit_log.specs.Saying.{CopiesIn, HoldsCopies, SaysState}
 use Rattle.commit_log.specs.Standing.{LogsStand, StatesStand}
 use Rattle.commit_log.proofs.Kept.{kept_idle, kept_state, live_after, live_on, stands_of}
-use Rattle.commit_log.proofs.Saying.{copies_same, held_copies, holds_keeps, kept_latest, kept_says}
+use Rattle.commit_log.proofs.Saying.{copies_same, held_copies, holds_keeps, kept_latest, kept_says, says_by}
 use Rattle.raid_rack.specs.Book.{IsAfter, after_same, after_then}
 use Rattle.raid_rack.specs.Logs.{KeepsLogs, LogsBetween}
+use Rattle.raid_rack.specs.Since.{AreSince, HoldsSince, IsSince, KeepsSince, since_still, since_then}
 use Rattle.raid_rack.proofs.Own.{look_nothing}
+use Rattle.raid_rack.proofs.Since.{since_read}
 
 -- a place that is left
 abbrev pub HasSomeone : State → (ℕ → Bool) → Type 0
@@ -40,7 +40,11 @@ between_same s sectors c says = record { state = s; later = after_same s; sooner
 
 -- where nothing is called
 pub logs_still : (s : State) (x : Seen) → HoldsCopies s x → KeepsLogs s s x x
-logs_still s x holds = record { leaves = λ traced. leaves_same x (λ c. IsInside x.sectors c → LogsBetween s s x.sectors c); holds = holds }
+logs_still s x holds = record {
+  leaves = λ traced. leaves_same x (λ c. IsInside x.sectors c → LogsBetween s s x.sectors c);
+  holds = holds;
+  since = λ base after held. since_still base x held;
+}
 
 -- parts in a row
 pub logs_then : (s t u : State) (a b c : Seen) → IsAfter s t → IsAfter t u → Stays a b → KeepsLogs s t a b → KeepsLogs t u b c → KeepsLogs s u a c
@@ -62,6 +66,9 @@ logs_then s t u a b c first second stays one two = record {
       record { state = at.state; later = after_then s t at.state first at.later; sooner = at.sooner; says = at.says }))
       (two.leaves (stays.traced traced)));
   holds = two.holds;
+  since = λ base after held.
+      let early = one.since base after held in
+      since_then base a b c stays.sectors stays.traced early (two.since base (after_then base s t after first) early.holds);
 }
 
 -- calls that bring no value
@@ -75,6 +82,7 @@ logs_read s number gone a b lasting stays keeps kept someone holds = record {
       (kept_says s number gone a c someone.0 kept holds someone.1 someone.2 (stands_of c (pick_before lasting stays c inside pick))))
       (keeps.stops traced);
   holds = holds_keeps s a b lasting stays keeps holds;
+  since = λ base after held. since_read base a b lasting stays keeps kept.logs held;
 }
 
 -- where all current places are left, nothing is pending for other arrays
@@ -99,26 +107,51 @@ module _ (s : State) (number : ℕ) (gone : ℕ → Bool) (n : ℕ) (a b : Seen)
   as_is : (sectors : ℕ → ℕ) (x : Image) (p : ℕ) → IsCalmIn n x → replayed sectors x (log_slice p) 0 ≡ x (log_slice p) 0
   as_is sectors x p calm = replayed_as_is sectors x (log_slice p) 0 (calm (log_slice p) 0 (state_apart n p))
 
+  replays_same : (c : Image) (turns : Turns n a b (λ r. H → P r) c) (p : ℕ)
+      → replayed a.sectors c (log_slice p) 0 ≡ replayed a.sectors turns.left.0 (log_slice p) 0
+  replays_same c turns p = turns.others (log_slice p) 0 (state_apart n p) ∙ turns.left.2 (log_slice p) 0
+
+  -- copies stand as a stop before the call might leave them
+  stands_same : (c : Image) (turns : Turns n a b (λ r. H → P r) c) (p : ℕ) → c (log_slice p) 0 ≡ turns.left.0 (log_slice p) 0
+  stands_same c turns p =
+      sym (as_is a.sectors c p (turns.calm calm)) ∙ replays_same c turns p ∙ as_is a.sectors turns.left.0 p (calm turns.left.0 (logs_of turns.left.0 turns.left.1))
+
   turned : (c : Image) → Turns n a b (λ r. H → P r) c → SaysState s a.sectors c
   turned c turns =
       let e = turns.left.0 in
       let picks : Picks a e = turns.left.1 in
       let stand : Stands a e = stands_of e picks in
       let calm_now : IsCalmIn n c = turns.calm calm in
-      let same : (p : ℕ) → replayed a.sectors c (log_slice p) 0 ≡ replayed a.sectors e (log_slice p) 0 =
-      λ p. turns.others (log_slice p) 0 (state_apart n p) ∙ turns.left.2 (log_slice p) 0 in
-      let stands : (p : ℕ) → c (log_slice p) 0 ≡ e (log_slice p) 0 =
-      λ p. sym (as_is a.sectors c p calm_now) ∙ same p ∙ as_is a.sectors e p (calm e (logs_of e picks)) in
+      let same : (p : ℕ) → replayed a.sectors c (log_slice p) 0 ≡ replayed a.sectors e (log_slice p) 0 = replays_same c turns in
+      let stands : (p : ℕ) → c (log_slice p) 0 ≡ e (log_slice p) 0 = stands_same c turns in
       let logs : LogsStand a e = record { picks = λ p t live. picks.picks (log_slice p) t live; inside = λ p t out. picks.inside (log_slice p) t out } in
+      let copies = copies_same s a.sectors (replayed a.sectors c) (replayed a.sectors e) same (holds.copies e stand) in
       record {
         whole = turns.whole (kept.whole e stand);
-        copies = copies_same s a.sectors (replayed a.sectors c) (replayed a.sectors e) same (holds.copies e stand);
+        is_state = says_by s a.sectors (replayed a.sectors c) someone.0 copies (kept.few someone.0 someone.1) someone.1 (kept.there someone.0 someone.1 someone.2);
+        copies = copies;
         stood = s;
         stood_is = state_same c e stands ∙ kept_state s number gone a e someone.0 kept logs someone.1 someone.2;
         latest = λ p copy small is. kept_latest s number gone a e kept logs p copy small (ap decoded (sym (stands p)) ∙ is);
         next = inl refl;
         brings = λ p u is. absurd (none c p u calm_now is);
+        inside = turns.bounded holds.inside;
       }
+
+  -- what stands is of the state that calls began with, or came of it
+  since_call : (base : State) → HoldsSince base a → KeepsSince base a b
+  since_call base since = record {
+    leaves = λ traced.
+        leaves_weaker (λ c. IsInside a.sectors c → Turns n a b (λ r. H → P r) c) (λ c. IsInside a.sectors c → AreSince base a.sectors c)
+        (λ c found inside p few there.
+        let turns = found inside in
+        subst (IsSince base p) (sym (stands_same c turns p))
+        (since p (turns.left.0 (log_slice p) 0) few there (turns.left.1.picks (log_slice p) 0 (kept.logs p 0 few there))))
+        (moves.leaves traced);
+    holds = λ p u few there may.
+        let has : 0 < a.sectors (log_slice p) = subst (λ k. 0 < k) (moves.stays.sectors (log_slice p)) there in
+        since p u few has ((moves.apart (log_slice p) 0 (live_on lasting moves.stays (kept.logs p 0 few has)) (state_apart n p)).within u may);
+  }
 
   pub logs_call : KeepsLogs s s a b
   logs_call = record {
@@ -139,7 +172,9 @@ module _ (s : State) (number : ℕ) (gone : ℕ → Bool) (n : ℕ) (a b : Seen)
           copies_same s b.sectors (replayed b.sectors c) c (λ p. as_is b.sectors c p (moves.calm calm c (logs_now c stand)))
           (subst (λ (k : ℕ → ℕ). CopiesIn s k c) (sym sectors) (held_copies s number gone a c kept all held));
       brings = λ c stand p u is. absurd (none c p u (moves.calm calm c stand) is);
+      inside = moves.bounded holds.inside;
     };
+    since = λ base after since. since_call base since;
   }
     where
       logs_now : (c : Image) → Stands b c → LogsStand b c

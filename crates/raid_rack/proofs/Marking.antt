@@ -1,11 +1,15 @@
 -- A commit that marks losses: each array that stands gives its values at each moment of it, and stands after it by the new state.
-use Rattle.std.proofs.Common.{◌≡◌, ◌⊎◌, ℕ, ◌+◌, ◌<◌, Bool, true, false, ◌||◌, List, [], Option, Some, None, unwrap_or, refl, sym, ap, ap₂, subst, ◌∙◌, inl, inr, arith}
+use Rattle.std.proofs.Common.{◌≡◌, ◌⊎◌, ℕ, ◌+◌, ◌<◌, Bool, true, false, ◌||◌, List, [], Option, Some, None, Ok, unwrap_or, refl, sym, ap, ap₂, subst, ◌∙◌, inl, inr, arith}
+use Rattle.std.proofs.lemmas.Bool.{both_ways, cases_Bool}
+use Rattle.std.proofs.lemmas.Option.{none-some}
 use Rattle.rack.specs.Values.{Values, MayLeave}
 use Rattle.rack.specs.Seen.{Image, Seen, IsLive}
+use Rattle.rack.specs.Moments.{Leaves}
 use Rattle.rack.specs.Joins.{leaves_weaker}
 use Rattle.rack.specs.Targets.{Target, look, put}
 use Rattle.md_super.specs.declared.superblock.Super.{Super}
 use Rattle.pool_state.specs.declared.contents.State.{State}
+use Rattle.pool_state.specs.Sector.{decoded}
 use Rattle.array_image.specs.Places.{log_slice, member_slice, data_sector}
 use Rattle.array_image.specs.States.{state_in, is_current}
 use Rattle.array_image.specs.Supers.{super_in, truth_in}
@@ -20,12 +24,12 @@ use Rattle.array_image.specs.Marks.{lowered}
 use Rattle.array_image.proofs.Settled.{settled_value}
 use Rattle.commit_log.specs.View.{LogView, names, next_number}
 use Rattle.commit_log.specs.Standing.{IsReady, SomeoneDecides, IsLogPart, IsAlike}
-use Rattle.commit_log.specs.Commits.{Commits, CommitCall}
+use Rattle.commit_log.specs.Commits.{Commits, CommitCall, StandsMidway}
 use Rattle.commit_log.specs.Kept.{LogKept, AreLeft, gone_with, BringsTo}
-use Rattle.commit_log.specs.Saying.{AreOwnCopies, HoldsCopies, SaysState}
+use Rattle.commit_log.specs.Saying.{AreOwnCopies, HoldsCopies, KeepsDrives, SaysState}
 use Rattle.commit_log.proofs.Kept.{stands_of, before_inside, joined_state, put_none}
 use Rattle.commit_log.proofs.KeptAfter.{joined_after}
-use Rattle.commit_log.proofs.Saying.{commit_holds, commit_says}
+use Rattle.commit_log.proofs.Saying.{commit_holds, commit_moments, commit_says}
 use Rattle.array_model.specs.View.{View, shape_of, may_vary}
 use Rattle.array_model.specs.Says.{Says, IsOpen, HoldsShape, IsEarlier}
 use Rattle.array_model.proofs.Keeping.{live_on, inside_before, logs_of, KeepsData}
@@ -33,12 +37,15 @@ use Rattle.array_model.proofs.Losses.{noted_holds, marked_holds}
 use Rattle.raid_rack.specs.Raid.{Raid, Stood, IsWritten}
 use Rattle.raid_rack.specs.Enlisting.{SaysBy}
 use Rattle.raid_rack.specs.Marking.{NoData, Restates, SaysBetween, Part}
-use Rattle.raid_rack.specs.Book.{IsAfter, after_same}
+use Rattle.raid_rack.specs.Book.{IsAfter, after_same, after_then}
 use Rattle.raid_rack.specs.Frames.{Frame, HasFrame, frame_of}
 use Rattle.raid_rack.specs.Logs.{KeepsLogs, LogsBetween}
+use Rattle.raid_rack.specs.Since.{AreSince, HoldsSince, IsSince, KeepsSince}
 use Rattle.raid_rack.specs.Laws.{stood_left}
 use Rattle.raid_rack.proofs.Frames.{fields_frame, frame_same, known_frame, left_frame}
+use Rattle.raid_rack.proofs.KeptDrives.{after_drives}
 use Rattle.raid_rack.proofs.Own.{look_nothing, says_same}
+use Rattle.raid_rack.proofs.Since.{AreLive}
 
 -- ---- slices of an array, and the states' sectors, aren't the log's
 
@@ -111,26 +118,89 @@ pub record MarksCall (s t : State) (gone : ℕ → Bool) (l : LogView) (on lost 
   -- of a later state, each copy its place's own
   pub later : s.epoch < t.epoch
   pub own : AreOwnCopies t l.added
+  -- and places keep their drives
+  pub drives : KeepsDrives s t
 
--- So the log slices say the old state or the new one.
+-- So the log slices say the old state or the new one, and after it they hold the new one's copies.
+pub logs_made : (s t : State) (gone : ℕ → Bool) (l : LogView) (on lost : List ℕ) (a b : Seen) → MarksCall s t gone l on lost a b
+    → LogKept s l.number gone a → HoldsCopies s a
+    → (a.traced → Leaves a b (λ c. IsInside a.sectors c → SaysState s a.sectors c ⊎ SaysState t a.sectors c)) × HoldsCopies t b
+logs_made s t gone l on lost a b call kept copies =
+    let never : t ≡ s → (p : ℕ) → is_current s p ≡ true → gone p ≡ false =
+    λ same. let epoch = ap (λ (u : State). u.epoch) same in let later = call.later in absurd (omega (arith, epoch, later)) in (
+      λ traced.
+          leaves_weaker (λ c. LogsInside a.sectors c → SaysState s a.sectors c ⊎ SaysState t a.sectors c)
+          (λ c. IsInside a.sectors c → SaysState s a.sectors c ⊎ SaysState t a.sectors c)
+          (λ c says inside. says (λ place i out. inside (log_slice place) i out))
+          (commit_says s t gone l on call.takes a kept copies call.brings call.own call.drives never call.are_left call.ready.room call.place call.was call.left call.now
+          lost b call.commit call.ready call.decides traced),
+      commit_holds s t gone l on call.takes a kept copies call.brings call.own call.drives never call.are_left call.ready.room call.place call.was call.left call.now
+          lost b call.commit call.ready call.decides,
+    )
+
+-- And copies that stand are of the state that calls began with, or came of it.
+module _ (base s t : State) (gone : ℕ → Bool) (l : LogView) (on lost : List ℕ) (a b : Seen) (call : MarksCall s t gone l on lost a b) (after : IsAfter base t)
+    (live : AreLive a) (holds : HoldsSince base a) where
+  -- a copy that the targets have is its place's own, of the new state
+  target_since : (p : ℕ) (u : List ℕ) → look l.added (log_slice p) 0 ≡ Some u → IsSince base p u
+  target_since p u is = record {
+    own = λ now. record {
+      copy = record { state = t; own = p };
+      is = copy;
+      after = after;
+      drive = (after_drives base t after).ids p now current;
+    };
+    former = λ k past at. absurd (both_ways (is_current base p) past (after.current p current));
+  }
+    where
+      copy : decoded u ≡ Ok (record { state = t; own = p })
+      copy = call.own p u is
+
+      current : is_current t p ≡ true
+      current = elim call.brings.either [
+        | inl same ↦ absurd (none-some u (sym (same.1 p) ∙ is))
+        | inr later ↦ elim (cases_Bool (names call.takes p)) [
+          | inl named ↦ call.brings.left p named
+          | inr other ↦ absurd (none-some u (sym (later.3 p other) ∙ is))
+        ]
+      ]
+
+  midway_since : (c : Image) → StandsMidway l on a c → AreSince base a.sectors c
+  midway_since c mid p few there = elim (mid.states.picks p (live p 0 few there)) [
+    | inl held ↦ holds p (c (log_slice p) 0) few there held
+    | inr new ↦ target_since p (c (log_slice p) 0) new
+  ]
+
+  since_commit : KeepsSince base a b
+  since_commit = record {
+    leaves = λ traced.
+        leaves_weaker (λ c. LogsInside a.sectors c → Commits l.added a c × StandsMidway l on a c) (λ c. IsInside a.sectors c → AreSince base a.sectors c)
+        (λ c found inside. midway_since c (found (λ place k out. inside (log_slice place) k out)).1)
+        (commit_moments l on lost a b call.commit traced call.ready call.decides);
+    holds = λ p u few there may.
+        let stays = call.commit.stays in
+        let has : 0 < a.sectors (log_slice p) = subst (λ k. 0 < k) (stays.sectors (log_slice p)) there in
+        elim (call.commit.within (log_slice p) 0 u (live_on call.ready.lasting stays (live p 0 few has)) (state_no_log p) may) [
+          | inl held ↦ holds p u few has held
+          | inr new ↦ target_since p u new
+        ];
+  }
+
 pub logs_commit : (s t : State) (gone : ℕ → Bool) (l : LogView) (on lost : List ℕ) (a b : Seen) → MarksCall s t gone l on lost a b → IsAfter s t
     → LogKept s l.number gone a → HoldsCopies s a → KeepsLogs s t a b
 logs_commit s t gone l on lost a b call book kept copies =
-    let never : t ≡ s → (p : ℕ) → is_current s p ≡ true → gone p ≡ false =
-    λ same. let epoch = ap (λ (u : State). u.epoch) same in let later = call.later in absurd (omega (arith, epoch, later)) in
+    let made = logs_made s t gone l on lost a b call kept copies in
     record {
       leaves = λ traced.
-          leaves_weaker (λ c. LogsInside a.sectors c → SaysState s a.sectors c ⊎ SaysState t a.sectors c)
+          leaves_weaker (λ c. IsInside a.sectors c → SaysState s a.sectors c ⊎ SaysState t a.sectors c)
           (λ c. IsInside a.sectors c → LogsBetween s t a.sectors c)
-          (λ c says inside. elim (says (λ place i out. inside (log_slice place) i out)) [
+          (λ c says inside. elim (says inside) [
             | inl old ↦ record { state = s; later = after_same s; sooner = book; says = old }
             | inr new ↦ record { state = t; later = book; sooner = after_same t; says = new }
           ])
-          (commit_says s t gone l on call.takes a kept copies call.brings call.own never call.are_left call.ready.room call.place call.was call.left call.now
-          lost b call.commit call.ready call.decides traced);
-      holds =
-          commit_holds s t gone l on call.takes a kept copies call.brings call.own never call.are_left call.ready.room call.place call.was call.left call.now
-          lost b call.commit call.ready call.decides;
+          (made.0 traced);
+      holds = made.1;
+      since = λ base after since. since_commit base s t gone l on lost a b call (after_then base s t after book) kept.logs since;
     }
 
 -- By the old state it is as it was, by the new one as the targets restate it.
@@ -308,7 +378,7 @@ marks_stood s t durable noted vary marked view vals spent gone v w l on lost a b
     }
 
 -- At each moment the array has its frame.
-frame_moment : (g : Frame) (s t : State) (durable noted : Shape) (marked : Bool) (view : View) (vals : ℕ → Values) (spent gone : ℕ → Bool) (v : Raid) (l : LogView) (on lost : List ℕ) (a b : Seen) (n : ℕ) (c : Image)
+pub frame_moment : (g : Frame) (s t : State) (durable noted : Shape) (marked : Bool) (view : View) (vals : ℕ → Values) (spent gone : ℕ → Bool) (v : Raid) (l : LogView) (on lost : List ℕ) (a b : Seen) (n : ℕ) (c : Image)
     → n < 16 → MarksCall s t gone l on lost a b → Restates t noted marked view l.added a n
     → frame_of view.truth ≡ g → frame_of (v.arrays n).truth ≡ g
     → Stood s durable vals spent gone v a n → IsInside a.sectors c → Commits l.added a c → HasFrame g n (replayed a.sectors c)

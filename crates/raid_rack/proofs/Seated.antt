@@ -159,7 +159,7 @@ names_joined first second p low =
     and_true true = refl
     and_true false = refl
 
-map_get : {X Y : Type 0} (f : X → Y) (xs : List X) (n : ℕ) → slice_get (map f xs) n ≡ option_map f (slice_get xs n)
+pub map_get : {X Y : Type 0} (f : X → Y) (xs : List X) (n : ℕ) → slice_get (map f xs) n ≡ option_map f (slice_get xs n)
 map_get f [] n = refl
 map_get f (x ∷ xs) zero = refl
 map_get f (x ∷ xs) (suc n) = map_get f xs n

@@ -19,7 +19,7 @@ use Rattle.raid_rack.specs.Raid.{Raid, is_over, live_of, spent_of, held_in, Stop
 use Rattle.raid_rack.specs.Acts.{RaidActs}
 use Rattle.raid_rack.specs.Moves.{AreCaused, Brings, KeepsArrays, Mends, Moves, ReadsValue, SyncsOne, WritesOne, noted_at, written_at}
 use Rattle.raid_rack.specs.Frames.{frame_of}
-use Rattle.raid_rack.specs.Runs.{RaidRuns}
+use Rattle.raid_rack.specs.Runs.{KeepsMoments, RaidRuns}
 use Rattle.raid_rack.specs.Truths.{KeepsTruths}
 use Rattle.raid_rack.specs.RaidRack.{IsFit, IsRunning, KeepsRack, raid_by}
 use Rattle.raid_rack.specs.AllRuns.{Serves}
@@ -170,35 +170,17 @@ made_by a b n count same goes =
       | inr past ↦ absurd (both_ways (is_over (raid_by b) n) goes (none_past b n count (omega (arith, past, same))))
     ]
 
-pub runs_call : (p q : ℕ → Bool) (a b : Arrays) (x y : Seen) (now : ℕ → (ℕ → Values) → ℕ → Values)
-    → ((n : ℕ) → q n ≡ false → (p n ≡ false) × ((was : ℕ → Values) → now n was ≡ was)) → IsFit a x → IsFit b y → StopsInside y
-    → Brings (raid_by a) (raid_by b) x y now → AreCaused (raid_by a) (raid_by b) x y → KeepsTruths (raid_by a) (raid_by b) x y
-    → RaidRuns p q (raid_by a) (raid_by b) x y
-runs_call p q a b x y now unwritten fit after inside brings cause truths =
+-- what stops in a call leave
+pub moments_call : (a b : Arrays) (x y : Seen) (now : ℕ → (ℕ → Values) → ℕ → Values) → IsFit a x → IsFit b y → StopsInside y
+    → Brings (raid_by a) (raid_by b) x y now → KeepsMoments (raid_by a) (raid_by b) x y
+moments_call a b x y now fit after inside brings =
     let v = raid_by a in
     let w = raid_by b in
     let vals : Held = λ n. now n (held_in v x n) in
     let call = whole_call a b x y now fit after brings inside in
-    let acts = raid_acts v w x y vals call in
     record {
-      book = brings.book;
-      number = brings.number;
-      events = brings.events;
-      sectors = brings.stays.sectors;
-      faults = brings.stays.faults;
-      traced = brings.stays.traced;
-      disks = brings.stays.disks;
-      told_below = brings.stays.told;
-      unspent = brings.stays.spent;
-      unwritten = brings.unwritten;
-      caused = cause;
-      truths = truths;
       still = call.still;
-      told = acts.told;
-      written = λ n not. (unwritten n not).0;
-      rows = λ n not told goes rows.
-          brings.rows n (held_in v x n) (spent_of w n) (unwritten n not).1 told.joined (made_by a b n after.running.count brings.book.same.made goes) goes
-          (λ z unspent. (live_parts w n z unspent).1) (before_amid v w x y vals call n told goes) rows;
+      told = (raid_acts v w x y vals call).told;
       images = λ n told goes traced.
           let all = brings.leaves traced in
           record {
@@ -231,6 +213,9 @@ runs_call p q a b x y now unwritten fit after inside brings cause truths =
                 (((call.parts n told.joined goes).logs holds amid).leaves traced).new k c after until stopped
                 (λ d t out. inside k c stopped d t (subst (λ i. i ≤ t) (sym (brings.stays.sectors d)) out));
           };
+      since = λ n base told goes after since.
+          let holds = kept_holds v.state v.number x (told.stood (call.still n goes)).log in
+          ((call.parts n told.joined goes).logs holds (before_amid v w x y vals call n told goes)).since base after since;
       framed = λ n told goes. ((call.parts n told.joined goes).frame (frame_of (v.arrays n).truth) refl (before_amid v w x y vals call n told goes)).after;
       frames = λ n told goes traced.
           let all = brings.leaves traced in
@@ -243,6 +228,40 @@ runs_call p q a b x y now unwritten fit after inside brings cause truths =
                 (((call.parts n told.joined goes).frame (frame_of (v.arrays n).truth) refl amid).leaves traced).new k c after until stopped
                 (λ d t out. inside k c stopped d t (subst (λ i. i ≤ t) (sym (brings.stays.sectors d)) out));
           };
+    }
+
+pub lose_moments : (a b : Arrays) (place : ℕ) (x y : Seen) → IsFit a x → IsFit b y → StopsInside y → is_current a.state place ≡ true
+    → Mends (noted_at (place ∷ []) (raid_by a)) (raid_by b) x y → KeepsMoments (raid_by a) (raid_by b) x y
+lose_moments a b place x y fit after inside current mends =
+    moments_call a b x y (λ n vals. vals) fit after inside (lose_brings a b place x y fit.running current mends)
+
+pub runs_call : (p q : ℕ → Bool) (a b : Arrays) (x y : Seen) (now : ℕ → (ℕ → Values) → ℕ → Values)
+    → ((n : ℕ) → q n ≡ false → (p n ≡ false) × ((was : ℕ → Values) → now n was ≡ was)) → IsFit a x → IsFit b y → StopsInside y
+    → Brings (raid_by a) (raid_by b) x y now → AreCaused (raid_by a) (raid_by b) x y → KeepsTruths (raid_by a) (raid_by b) x y
+    → RaidRuns p q (raid_by a) (raid_by b) x y
+runs_call p q a b x y now unwritten fit after inside brings cause truths =
+    let v = raid_by a in
+    let w = raid_by b in
+    let vals : Held = λ n. now n (held_in v x n) in
+    let call = whole_call a b x y now fit after brings inside in
+    record {
+      book = brings.book;
+      number = brings.number;
+      events = brings.events;
+      sectors = brings.stays.sectors;
+      faults = brings.stays.faults;
+      traced = brings.stays.traced;
+      disks = brings.stays.disks;
+      told_below = brings.stays.told;
+      unspent = brings.stays.spent;
+      unwritten = brings.unwritten;
+      caused = cause;
+      truths = truths;
+      written = λ n not. (unwritten n not).0;
+      rows = λ n not told goes rows.
+          brings.rows n (held_in v x n) (spent_of w n) (unwritten n not).1 told.joined (made_by a b n after.running.count brings.book.same.made goes) goes
+          (λ z unspent. (live_parts w n z unspent).1) (before_amid v w x y vals call n told goes) rows;
+      moments = moments_call a b x y now fit after inside brings;
     }
 
 -- only the array that is written is noted so

@@ -158,7 +158,7 @@ module _ (v : Raid) (f : ℕ → View) (next : View) (number m : ℕ) (a b : See
         | inr new ↦ record { shape = shape_of next; says = new.0; framed = view_frame next ∙ call.framed ∙ sym (view_frame (v.arrays m)) }
       ])
       (λ holds. holds)
-      (record { stays = moving.stays; leaves = moving.leaves; holds = moving.holds; apart = moving.apart; calm = moving.calm })
+      (record { stays = moving.stays; leaves = moving.leaves; holds = moving.holds; apart = moving.apart; calm = moving.calm; bounded = moving.bounded })
 
   acts : ActsOne v f number m a b (λ vals. vals) (if_done call.steps.is_done (shape_of (v.arrays m)) (shape_of next)) (MayStep v.state (v.arrays m) next (f m) v.number on a)
   acts = record {

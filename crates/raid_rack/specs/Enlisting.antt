@@ -28,6 +28,9 @@ use Rattle.array_core.specs.Seats.{renewed}
 use Rattle.array_core.specs.TruthHeld.{HoldTruth}
 use Rattle.commit_log.specs.Bytes.{first_gate}
 use Rattle.raid_rack.specs.Book.{IsAfter}
+use Rattle.commit_log.specs.Saying.{HoldsCopies, SaysState}
+use Rattle.raid_rack.specs.Frames.{Frame, HasFrame, KeepsFrame, frame_of}
+use Rattle.raid_rack.specs.Logs.{LogsBetween}
 use Rattle.raid_rack.specs.Losses.{has_other}
 use Rattle.raid_rack.specs.Marking.{SaysBetween}
 use Rattle.raid_rack.specs.Missing.{raised}
@@ -91,11 +94,13 @@ abbrev pub HoldsLaid : Seen → ℕ → Image → Type 0
 HoldsLaid a disk c = (s : ℕ) → s < a.sectors disk → MayBecome a (IsOfDrive disk (a.sectors disk)) disk s (c disk s)
 
 -- Before the disk is one of the pool, contents of the drives say array n by the tables before, and by the state before, and the disk is
--- being laid. Where images left the array no rows to resync but its own, nor do these.
+-- being laid. Where images left the array no rows to resync but its own, nor do these. No log is damaged, and the copies of the state agree.
 pub record SaysLaying (t : Slices) (disk : ℕ) (v w : Raid) (a : Seen) (n : ℕ) (vals : ℕ → Values) (c : Image) : Type 0 where
   pub laid : HoldsLaid a disk c
   pub says : SaysBy v.state n vals (spent_of w n) (replayed (sectors_sliced t) (sliced t c))
   pub rows : LeavesRows v (slices_of t a) n → LeavesFrom (v.arrays n).resync n (replayed (sectors_sliced t) (sliced t c))
+  pub logs : SaysState v.state (sectors_sliced t) (sliced t c)
+  pub frame : HasFrame (frame_of (v.arrays n).truth) n (replayed (sectors_sliced t) (sliced t c))
 
 -- From then on they say it by the tables after, and by the state before or one that has the new drive, and the disk holds its table.
 pub record SaysJoining (t u : Slices) (disk : ℕ) (table : Table) (next : State) (v w : Raid) (a : Seen) (n : ℕ) (vals : ℕ → Values) (c : Image) : Type 0 where
@@ -104,6 +109,8 @@ pub record SaysJoining (t u : Slices) (disk : ℕ) (table : Table) (next : State
       SaysBy v.state n vals (spent_of w n) (replayed (sectors_sliced u) (sliced u c))
       ⊎ SaysBetween next w.state n vals (spent_of w n) (replayed (sectors_sliced u) (sliced u c))
   pub rows : LeavesRows v (slices_of t a) n → LeavesFrom (v.arrays n).resync n (replayed (sectors_sliced u) (sliced u c))
+  pub logs : SaysState v.state (sectors_sliced u) (sliced u c) ⊎ LogsBetween next w.state (sectors_sliced u) (sliced u c)
+  pub frame : HasFrame (frame_of (v.arrays n).truth) n (replayed (sectors_sliced u) (sliced u c))
 
 -- each sector of a disk can be called, and is told
 abbrev pub IsOpenDisk : Seen → ℕ → Type 0
@@ -121,6 +128,7 @@ pub record KeepsTold (t u : Slices) (place disk units : ℕ) (plan : Plan) (tabl
   pub after :
       a.traced → is_over w n ≡ false → (k : ℕ) (c : Image) → mid < k → k ≤ b.clock → b.stops k c
       → SaysJoining t u disk table (enlisted place units plan v.state) v w a n (held_in v (slices_of t a) n) c
+  pub framed : is_over w n ≡ false → frame_of (w.arrays n).truth ≡ frame_of (v.arrays n).truth
   pub rows : is_over w n ≡ false → LeavesRows v (slices_of t a) n → ((v.arrays n).resync ≤ (w.arrays n).resync) × LeavesRows w (slices_of u b) n
 
 -- a sector of the new disk's tables, its state or its gate, or one of a slice
@@ -210,6 +218,12 @@ pub record JoinsPart (place units : ℕ) (plan : Plan) (v w : Raid) (a b : Seen)
   pub holds : IsAmid w b n vals spent
   -- nor do contents leave it rows to resync that they didn't
   pub rows : LeavesRows v a n → KeepsRows v w a b n
+  -- and the log slices say these states
+  pub logs :
+      HoldsCopies v.state a → a.traced
+      → Leaves a b (λ c. IsInside a.sectors c → SaysState v.state a.sectors c ⊎ LogsBetween (enlisted place units plan v.state) w.state a.sectors c)
+  -- its size and its members' places stay
+  pub frame : (g : Frame) → frame_of (v.arrays n).truth ≡ g → KeepsFrame g n (w.arrays n) a b
 
 -- all arrays that stand and are settled, where a drive is left that the pool had
 abbrev pub JoinsEach : (place units : ℕ) → Plan → Raid → Raid → Seen → Seen → Type 0

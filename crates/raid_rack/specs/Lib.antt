@@ -1,6 +1,7 @@
 pub mod Raid
 pub mod Book
 pub mod Logs
+pub mod Since
 pub mod Frames
 pub mod Missing
 pub mod Acts

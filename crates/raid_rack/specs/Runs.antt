@@ -15,6 +15,7 @@ use Rattle.array_image.specs.Arrays.{Shape, shape_in, replayed}
 use Rattle.raid_rack.specs.Book.{IsAfter, after_same, after_then}
 use Rattle.raid_rack.specs.Frames.{Frame, HasFrame, frame_of}
 use Rattle.raid_rack.specs.Logs.{LogsBetween}
+use Rattle.raid_rack.specs.Since.{HoldsSince, KeepsSince, since_still, since_then}
 use Rattle.raid_rack.specs.Moves.{AreCaused, KeepsMarked}
 use Rattle.raid_rack.specs.Raid.{Raid, is_left, is_over, IsTold}
 use Rattle.raid_rack.specs.Truths.{KeepsTruths}
@@ -29,6 +30,22 @@ pub record IsBetween (s t : State) (n : ℕ) (r : Image) : Type 0 where
   pub shape : Shape
   pub shape_is : shape_in state r n ≡ Some shape
   pub is_sound : (u : Super) → truth_in state r n ≡ Some u → IsSoundArray state r n u
+
+-- What stops in a call leave of an array that was told and isn't over after it: by a state between, its superblocks agree, no log is
+-- damaged and the copies of the state agree, and its size and its members' places are those before the call. Copies that were such as calls leave that
+-- began with an earlier state stay so. An array that isn't over after it wasn't so before it, and one that was told is told after it.
+pub record KeepsMoments (v w : Raid) (a b : Seen) : Type 0 where
+  pub still : (n : ℕ) → is_over w n ≡ false → is_over v n ≡ false
+  pub told : (n : ℕ) → IsTold v a n → IsTold w b n
+  pub images :
+      (n : ℕ) → IsTold v a n → is_over w n ≡ false → a.traced
+      → Leaves a b (λ c. IsBetween v.state w.state n (replayed a.sectors c))
+  pub logs : (n : ℕ) → IsTold v a n → is_over w n ≡ false → a.traced → Leaves a b (LogsBetween v.state w.state a.sectors)
+  pub since :
+      (n : ℕ) (base : State) → IsTold v a n → is_over w n ≡ false → IsAfter base v.state → HoldsSince base a
+      → KeepsSince base a b
+  pub framed : (n : ℕ) → IsTold v a n → is_over w n ≡ false → frame_of (w.arrays n).truth ≡ frame_of (v.arrays n).truth
+  pub frames : (n : ℕ) → IsTold v a n → is_over w n ≡ false → a.traced → Leaves a b (λ c. HasFrame (frame_of (v.arrays n).truth) n (replayed a.sectors c))
 
 -- Marks are added and nothing else of the book, each with its cause; what stops leave meanwhile has marks between those before and
 -- those after. What is told stays so. `p` and `q` are the arrays that were written before it and after it.
@@ -46,21 +63,25 @@ pub record RaidRuns (p q : ℕ → Bool) (v w : Raid) (a b : Seen) : Type 0 wher
   -- a drive that is marked missing isn't written again
   pub unwritten : KeepsMarked v a b
   pub caused : AreCaused v w a b
-  pub still : (n : ℕ) → is_over w n ≡ false → is_over v n ≡ false
-  pub told : (n : ℕ) → IsTold v a n → IsTold w b n
   -- an array that isn't written leaves no rows to resync but those that are left in it
   pub written : (n : ℕ) → q n ≡ false → p n ≡ false
   pub rows : (n : ℕ) → q n ≡ false → IsTold v a n → is_over w n ≡ false → LeavesRows v a n → KeepsRows v w a b n
-  pub images :
-      (n : ℕ) → IsTold v a n → is_over w n ≡ false → a.traced
-      → Leaves a b (λ c. IsBetween v.state w.state n (replayed a.sectors c))
-  -- no log is damaged, and the copies of the state agree in what stops leave, where some array is told that isn't over in the end
-  pub logs : (n : ℕ) → IsTold v a n → is_over w n ≡ false → a.traced → Leaves a b (LogsBetween v.state w.state a.sectors)
-  -- an array's size and its members' places are those before it, in what stops leave too
-  pub framed : (n : ℕ) → IsTold v a n → is_over w n ≡ false → frame_of (w.arrays n).truth ≡ frame_of (v.arrays n).truth
-  pub frames : (n : ℕ) → IsTold v a n → is_over w n ≡ false → a.traced → Leaves a b (λ c. HasFrame (frame_of (v.arrays n).truth) n (replayed a.sectors c))
+  -- of arrays that were told: the book and superblocks by a state between, logs, copies and frames
+  pub moments : KeepsMoments v w a b
   -- superblocks that said an array's truth do so after it
   pub truths : KeepsTruths v w a b
+
+-- so it is where nothing is called
+pub moments_same : (v : Raid) (x : Seen) → KeepsMoments v v x x
+moments_same v x = record {
+  still = λ n goes. goes;
+  told = λ n told. told;
+  images = λ n told goes traced. leaves_same x (λ c. IsBetween v.state v.state n (replayed x.sectors c));
+  logs = λ n told goes traced. leaves_same x (LogsBetween v.state v.state x.sectors);
+  since = λ n base told goes after holds. since_still base x holds;
+  framed = λ n told goes. refl;
+  frames = λ n told goes traced. leaves_same x (λ c. HasFrame (frame_of (v.arrays n).truth) n (replayed x.sectors c));
+}
 
 -- no call is a run
 pub raid_runs_same : (p : ℕ → Bool) (v : Raid) (x : Seen) → RaidRuns p p v v x x
@@ -77,8 +98,6 @@ raid_runs_same p v x =
       unspent = λ d t unspent. unspent;
       unwritten = λ d t live gone. keeps_same (x.held d t);
       caused = record { left = λ place is. is; cause = λ place was now. absurd (both_ways (is_left v place) now was) };
-      still = λ n goes. goes;
-      told = λ n told. told;
       written = λ n not. not;
       rows = λ n not told goes rows. record {
         later = omega arith;
@@ -86,10 +105,7 @@ raid_runs_same p v x =
         after = rows;
       };
       truths = λ n low held. held;
-      images = λ n told goes traced. leaves_same x (λ c. IsBetween v.state v.state n (replayed x.sectors c));
-      logs = λ n told goes traced. leaves_same x (LogsBetween v.state v.state x.sectors);
-      framed = λ n told goes. refl;
-      frames = λ n told goes traced. leaves_same x (λ c. HasFrame (frame_of (v.arrays n).truth) n (replayed x.sectors c));
+      moments = moments_same v x;
     }
 
 between_sooner : (s t u : State) (n : ℕ) (r : Image) → IsAfter t u → IsBetween s t n r → IsBetween s u n r
@@ -117,6 +133,53 @@ between_later s t u n r after at = record {
 marked_still : (was is : Bool) → was ≡ false → (is ≡ true → was ≡ true) → is ≡ false
 marked_still was true gone before = absurd (both_ways was gone (before refl))
 marked_still was false gone before = refl
+
+-- calls in a row keep them so
+pub moments_then : (v w z : Raid) (a b c : Seen) → KeepsMoments v w a b → KeepsMoments w z b c → IsAfter v.state w.state → IsAfter w.state z.state
+    → ((d : ℕ) → b.sectors d ≡ a.sectors d) → (a.traced → b.traced) → KeepsMoments v z a c
+moments_then v w z a b c one two book after sectors_same still_traced = record {
+  still = λ n goes. one.still n (two.still n goes);
+  told = λ n told. two.told n (one.told n told);
+  images = λ n told goes traced.
+      leaves_then
+      (λ i. IsBetween v.state z.state n (replayed a.sectors i))
+      (leaves_weaker
+      (λ i. IsBetween v.state w.state n (replayed a.sectors i))
+      (λ i. IsBetween v.state z.state n (replayed a.sectors i))
+      (λ i at. between_sooner v.state w.state z.state n (replayed a.sectors i) after at)
+      (one.images n told (two.still n goes) traced))
+      (leaves_weaker
+      (λ i. IsBetween w.state z.state n (replayed b.sectors i))
+      (λ i. IsBetween v.state z.state n (replayed a.sectors i))
+      (λ i at.
+      subst (λ (sectors : ℕ → ℕ). IsBetween v.state z.state n (replayed sectors i)) (λ k d. sectors_same d k)
+      (between_later v.state w.state z.state n (replayed b.sectors i) book at))
+      (two.images n (one.told n told) goes (still_traced traced)));
+  logs = λ n told goes traced.
+      leaves_then (LogsBetween v.state z.state a.sectors)
+      (leaves_weaker (LogsBetween v.state w.state a.sectors) (LogsBetween v.state z.state a.sectors)
+      (λ i at. record { state = at.state; later = at.later; sooner = after_then at.state w.state z.state at.sooner after; says = at.says })
+      (one.logs n told (two.still n goes) traced))
+      (leaves_weaker (LogsBetween w.state z.state b.sectors) (LogsBetween v.state z.state a.sectors)
+      (λ i at.
+      subst (λ (sectors : ℕ → ℕ). LogsBetween v.state z.state sectors i) (λ k d. sectors_same d k)
+      (record { state = at.state; later = after_then v.state w.state at.state book at.later; sooner = at.sooner; says = at.says }))
+      (two.logs n (one.told n told) goes (still_traced traced)));
+  framed = λ n told goes. two.framed n (one.told n told) goes ∙ one.framed n told (two.still n goes);
+  frames = λ n told goes traced.
+      let g : Frame = frame_of (v.arrays n).truth in
+      leaves_then (λ i. HasFrame g n (replayed a.sectors i))
+      (one.frames n told (two.still n goes) traced)
+      (leaves_weaker (λ i. HasFrame (frame_of (w.arrays n).truth) n (replayed b.sectors i)) (λ i. HasFrame g n (replayed a.sectors i))
+      (λ i frame.
+      subst (λ (sectors : ℕ → ℕ). HasFrame g n (replayed sectors i)) (λ k d. sectors_same d k)
+      (subst (λ (k : Frame). HasFrame k n (replayed b.sectors i)) (one.framed n told (two.still n goes)) frame))
+      (two.frames n (one.told n told) goes (still_traced traced)));
+  since = λ n base told goes since holds.
+      let early = one.since n base told (two.still n goes) since holds in
+      since_then base a b c sectors_same still_traced early
+      (two.since n base (one.told n told) goes (after_then base v.state w.state since book) early.holds);
+}
 
 -- runs in a row are one
 pub raid_runs_then : (p q r : ℕ → Bool) (v w z : Raid) (a b c : Seen) → RaidRuns p q v w a b → RaidRuns q r w z b c → RaidRuns p r v z a c
@@ -154,46 +217,10 @@ raid_runs_then p q r v w z a b c one two =
               | inr early ↦ let fault = one.caused.cause place was early in (fault.0, fault.1, rose_before (two.faults fault.0) fault.2)
             ];
       };
-      still = λ n goes. one.still n (two.still n goes);
-      told = λ n told. two.told n (one.told n told);
       written = λ n not. one.written n (two.written n not);
       rows = λ n not told goes rows.
-          let first = one.rows n (two.written n not) told (two.still n goes) rows in
-          rows_then v w z a b c n one.sectors one.traced first (two.rows n not (one.told n told) goes first.after);
+          let first = one.rows n (two.written n not) told (two.moments.still n goes) rows in
+          rows_then v w z a b c n one.sectors one.traced first (two.rows n not (one.moments.told n told) goes first.after);
       truths = λ n low held. two.truths n (subst (λ k. n < k) (sym one.book.same.made) low) (one.truths n low held);
-      images = λ n told goes traced.
-          leaves_then
-          (λ i. IsBetween v.state z.state n (replayed a.sectors i))
-          (leaves_weaker
-          (λ i. IsBetween v.state w.state n (replayed a.sectors i))
-          (λ i. IsBetween v.state z.state n (replayed a.sectors i))
-          (λ i at. between_sooner v.state w.state z.state n (replayed a.sectors i) two.book at)
-          (one.images n told (two.still n goes) traced))
-          (leaves_weaker
-          (λ i. IsBetween w.state z.state n (replayed b.sectors i))
-          (λ i. IsBetween v.state z.state n (replayed a.sectors i))
-          (λ i at.
-          subst (λ (sectors : ℕ → ℕ). IsBetween v.state z.state n (replayed sectors i)) (λ k d. one.sectors d k)
-          (between_later v.state w.state z.state n (replayed b.sectors i) one.book at))
-          (two.images n (one.told n told) goes (one.traced traced)));
-      logs = λ n told goes traced.
-          leaves_then (LogsBetween v.state z.state a.sectors)
-          (leaves_weaker (LogsBetween v.state w.state a.sectors) (LogsBetween v.state z.state a.sectors)
-          (λ i at. record { state = at.state; later = at.later; sooner = after_then at.state w.state z.state at.sooner two.book; says = at.says })
-          (one.logs n told (two.still n goes) traced))
-          (leaves_weaker (LogsBetween w.state z.state b.sectors) (LogsBetween v.state z.state a.sectors)
-          (λ i at.
-          subst (λ (sectors : ℕ → ℕ). LogsBetween v.state z.state sectors i) (λ k d. one.sectors d k)
-          (record { state = at.state; later = after_then v.state w.state at.state one.book at.later; sooner = at.sooner; says = at.says }))
-          (two.logs n (one.told n told) goes (one.traced traced)));
-      framed = λ n told goes. two.framed n (one.told n told) goes ∙ one.framed n told (two.still n goes);
-      frames = λ n told goes traced.
-          let g : Frame = frame_of (v.arrays n).truth in
-          leaves_then (λ i. HasFrame g n (replayed a.sectors i))
-          (one.frames n told (two.still n goes) traced)
-          (leaves_weaker (λ i. HasFrame (frame_of (w.arrays n).truth) n (replayed b.sectors i)) (λ i. HasFrame g n (replayed a.sectors i))
-          (λ i frame.
-          subst (λ (sectors : ℕ → ℕ). HasFrame g n (replayed sectors i)) (λ k d. one.sectors d k)
-          (subst (λ (k : Frame). HasFrame k n (replayed b.sectors i)) (one.framed n told (two.still n goes)) frame))
-          (two.frames n (one.told n told) goes (one.traced traced)));
+      moments = moments_then v w z a b c one.moments two.moments one.book two.book one.sectors one.traced;
     }

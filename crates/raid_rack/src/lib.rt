@@ -19,6 +19,8 @@
 //! | `Losses` | the places that went, and the copies of a state in a log |
 //! | `Missing` | the state that marks some places missing |
 //! | `Marking` | a part of a call, seen from one array; superblocks that restate an array under a new state |
+//! | `Logs` | what the log slices say at each moment of a part of a call |
+//! | `Frames` | an array's size and its members' places, which no call changes |
 //! | `Rows` | rows that images leave to resync |
 //! | `Moves` | a part of a call that moves no value, for all arrays: what it keeps whatever the rack below tells, what each array that stands gives at each moment and after it; losses that are mended |
 //! | `Losing` | arrays of which nothing has changed but whom they lost, by calls in a row |
@@ -50,6 +52,13 @@
 //! **Rows to resync.** An array that isn't young and whose truth leaves just the rows that are left in it (`LeavesRows`) does so in
 //! every image at each moment of a call and after it (`KeepsRows`), unless the call writes it. The rack keeps which arrays a run has
 //! written, so all others do so in every image of the run (`RaidRuns`).
+//!
+//! **Stops inside calls.** At each moment of a call, of an array that was told and isn't over after it (`KeepsMoments`): no log is
+//! damaged; replayed contents say one state between those before and after the call, with each copy of it and no later one
+//! (`LogsBetween`), and by it superblocks that agree, of the size and places from before it. What is pending brings that state alone,
+//! and is for sectors that slices have. As it stands, each place that was current when a run began has a copy of a state that came of
+//! the one from then, which names its drive, and any other place an earlier copy at most (`AreSince`): so a stop is read on the same
+//! disks, whatever is replayed. Calls in a row keep all this (`moments_then` of specs/Runs.antt).
 //!
 //! **Works of maintenance.** A step of an array makes another array of it, by one commit: more rows that agree, or members that count
 //! further. It is a part of a call that writes no value (`Brings`): each array gives its values, by the array before the step or after

@@ -1,0 +1,55 @@
+-- The copies of states that stand in log slices, as calls leave them that began with one state: what stands, and not what replaying gives.
+use Rattle.std.proofs.Common.{◌≡◌, ℕ, ◌<◌, ◌≤◌, true, false, List, Ok, sym, subst}
+use Rattle.rack.specs.Moments.{Leaves}
+use Rattle.rack.specs.Joins.{leaves_same, leaves_then, leaves_weaker}
+use Rattle.rack.specs.Seen.{Image, Seen}
+use Rattle.rack.specs.Values.{MayLeave}
+use Rattle.pool_state.specs.declared.contents.Copied.{Copied}
+use Rattle.pool_state.specs.declared.contents.State.{State}
+use Rattle.pool_state.specs.Sector.{decoded}
+use Rattle.array_image.specs.Left.{IsInside}
+use Rattle.array_image.specs.Places.{log_slice}
+use Rattle.array_image.specs.States.{is_current}
+use Rattle.commit_log.specs.Kept.{id_of}
+use Rattle.raid_rack.specs.Book.{IsAfter}
+
+-- a copy that names a place's drive, of a state that came of s
+pub record HasOwnSince (s : State) (p : ℕ) (block : List ℕ) : Type 0 where
+  pub copy : Copied
+  pub is : decoded block ≡ Ok copy
+  pub after : IsAfter s copy.state
+  pub drive : id_of copy.state copy.own ≡ id_of s p
+
+-- the sector of a place's copy: one that was current by s has its own since then, one that wasn't an earlier copy at most
+pub record IsSince (s : State) (p : ℕ) (block : List ℕ) : Type 0 where
+  pub own : is_current s p ≡ true → HasOwnSince s p block
+  pub former : (copy : Copied) → is_current s p ≡ false → decoded block ≡ Ok copy → copy.state.epoch < s.epoch
+
+-- so it is in contents of log slices, on each place that has one
+abbrev pub AreSince : State → (ℕ → ℕ) → Image → Type 0
+AreSince s sectors c = (p : ℕ) → p < 16 → 0 < sectors (log_slice p) → IsSince s p (c (log_slice p) 0)
+
+-- and in whatever a stop now leaves of them
+abbrev pub HoldsSince : State → Seen → Type 0
+HoldsSince s x = (p : ℕ) (u : List ℕ) → p < 16 → 0 < x.sectors (log_slice p) → MayLeave (x.held (log_slice p) 0) u → IsSince s p u
+
+-- A part of a call keeps them so, at each moment and after it.
+pub record KeepsSince (s : State) (a b : Seen) : Type 0 where
+  pub leaves : a.traced → Leaves a b (λ c. IsInside a.sectors c → AreSince s a.sectors c)
+  pub holds : HoldsSince s b
+
+-- where nothing is called
+pub since_still : (s : State) (x : Seen) → HoldsSince s x → KeepsSince s x x
+since_still s x holds = record { leaves = λ traced. leaves_same x (λ c. IsInside x.sectors c → AreSince s x.sectors c); holds = holds }
+
+-- parts in a row
+pub since_then : (s : State) (a b c : Seen) → ((d : ℕ) → b.sectors d ≡ a.sectors d) → (a.traced → b.traced) → KeepsSince s a b → KeepsSince s b c → KeepsSince s a c
+since_then s a b c sectors traced one two = record {
+  leaves = λ was.
+      leaves_then (λ i. IsInside a.sectors i → AreSince s a.sectors i) (one.leaves was)
+      (leaves_weaker (λ i. IsInside b.sectors i → AreSince s b.sectors i) (λ i. IsInside a.sectors i → AreSince s a.sectors i)
+      (λ i says inside p few there.
+      says (λ d t out. inside d t (subst (λ k. k ≤ t) (sectors d) out)) p few (subst (λ k. 0 < k) (sym (sectors (log_slice p))) there))
+      (two.leaves (traced was)));
+  holds = two.holds;
+}
