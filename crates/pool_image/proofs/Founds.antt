@@ -60,7 +60,7 @@ module _ (f g : Found) (same : IsSamePool f g) where
   extent_same array first behind = ap (option_map (λ (t : Super). record { first = first; sectors = data_sector + t.size })) (truth_same array first behind)
 
 -- an array's slices begin behind the log slice
-first_behind : (f : Found) (n m : ℕ) → first_of f n ≡ Some m → arrays_first ≤ m
+pub first_behind : (f : Found) (n m : ℕ) → first_of f n ≡ Some m → arrays_first ≤ m
 unfolding first_of
 first_behind f zero m is = (let same : arrays_first ≡ m = ap (λ (o : Option ℕ). option_map_or (λ k. k) o 0) is in omega (arith, same))
 first_behind f (suc n) m is = of_first (λ first has. first_behind f n first has) (first_of f n) refl is

@@ -1,8 +1,6 @@
 -- What a stop between two calls of a pool leaves on its disks holds a sound pool again.
-use Rattle.std.proofs.Common.{◌≡◌, ℕ, ◌+◌, ◌<◌, ◌≤◌, Bool, true, false, if◌then◌else◌, [], Option, Some, None, unwrap_or, refl, sym, ap, subst, ◌∙◌, inl, inr, le-ltb, lt-ltb, arith}
+use Rattle.std.proofs.Common.{◌≡◌, ℕ, ◌+◌, ◌<◌, Bool, if◌then◌else◌, [], Option, Some, None, unwrap_or, refl, sym, ap, subst, ◌∙◌, le-ltb, lt-ltb, arith}
 use Rattle.std.specs.Option.{option_map_or}
-use Rattle.std.proofs.lemmas.Bool.{cases_Bool}
-use Rattle.std.proofs.lemmas.Option.{none-some}
 use Rattle.rack.specs.Values.{MayLeave}
 use Rattle.rack.specs.Seen.{Image, IsLive, IsPick, Seen}
 use Rattle.rack.specs.Sequences.{WritesOnly}
@@ -10,190 +8,48 @@ use Rattle.slice_rack.specs.Laws.{sector_below}
 use Rattle.slice_rack.specs.Runs.{IsSliced}
 use Rattle.slice_rack.specs.Slices.{Slices, disk_of, first_of as slice_first, place_of as slice_place, seat_of as slice_seat, sectors_of}
 use Rattle.slice_rack.specs.Sliced.{IsInside, sliced, slices_of as slices_shown}
-use Rattle.md_super.specs.declared.superblock.Super.{Super}
-use Rattle.pool_state.specs.declared.contents.Copied.{Copied}
 use Rattle.pool_state.specs.declared.contents.State.{State}
 use Rattle.array_image.specs.Arrays.{array_in, arrays_in, replayed}
 use Rattle.array_image.specs.Left.{Picks}
-use Rattle.array_image.specs.Places.{member_slice, super_sector}
-use Rattle.array_image.specs.SoundArray.{IsSoundArray}
-use Rattle.array_image.specs.States.{current_places, is_current, state_in}
-use Rattle.array_image.specs.Supers.{is_named, super_in, truth_in}
-use Rattle.array_image.proofs.Frames.{super_of_sector}
-use Rattle.array_core.proofs.Opened.{super_place}
-use Rattle.array_model.proofs.Renewed.{leads}
+use Rattle.array_image.specs.States.{state_in}
 use Rattle.commit_log.proofs.Kept.{live_after, live_on}
 use Rattle.raid_rack.specs.Raid.{Raid}
 use Rattle.pool_image.specs.Disks.{Disks, disks_of}
-use Rattle.pool_image.specs.Drives.{Found, extent_of, found, slices_from, slices_of}
-use Rattle.pool_image.specs.Meaning.{arrays_held, is_member}
-use Rattle.pool_image.specs.Sound.{IsSoundState}
-use Rattle.pool_image.proofs.Composed.{same_slices, seated}
-use Rattle.pool_image.proofs.Truths.{extent_found, slice_of_member, slice_sector}
+use Rattle.pool_image.specs.Drives.{Found, found}
+use Rattle.pool_image.specs.Meaning.{arrays_held}
 use Rattle.pool_model.specs.InService.{IsOutset}
 use Rattle.pool_model.specs.Pools.{IsSoundPool}
-use Rattle.pool_model.specs.Left.{AreAlone, AreAloneBy, HaveSlices, HoldAgain, HoldRest, IsLeftBy, IsPickOff, IsServed, AreElsewhere}
-use Rattle.pool_model.proofs.Copies.{IsKnown, known_of, c, copied_now, copy_now, no_later, quiet, s, seat_there, state_is}
-use Rattle.pool_model.proofs.Current.{SameCurrent, SameMembers, array_current, sound_current}
-use Rattle.pool_model.proofs.Extents.{alone, begins_now, disk_is, few, is, is_is, lies, lies_now, made_same, member_same, named_same, no_slice, place_is, reads_nothing, room, says, truth_is, truth_now, was_is}
+use Rattle.pool_model.specs.Left.{AreAlone, AreAloneBy, HoldAgain, HoldRest, IsLeftBy, IsPickOff, IsServed, AreElsewhere}
+use Rattle.pool_model.proofs.Copies.{IsKnown, known_of, c, quiet, seats_now, state_is}
 use Rattle.pool_model.proofs.Found.{found_is}
 use Rattle.pool_model.proofs.Outset.{outset_of}
-use Rattle.pool_model.proofs.Layers.{no_super, nothing_super}
-use Rattle.pool_model.proofs.Rested.{found_now, idle_now, now, sound_logs}
-use Rattle.pool_model.proofs.Seats.{none_former, seats_now}
+use Rattle.pool_model.proofs.Known.{says_pool}
+use Rattle.pool_model.proofs.Rested.{found_now, idle_now, now, sound_logs, stood}
+use Rattle.pool_model.proofs.Still.{alone_now, slices_now, sound_now, value_now}
 
 module _ (f : Found) (t : Slices) (v : Raid) (y : Seen) (i : Image) (known : IsKnown f t v y i) where
-  abbrev book : State
-  book = s f t v y i known
+  pub value_known : (n x : ℕ) → n < f.state.made → arrays_held (now f t v y i known) n x ≡ arrays_in (replayed (sectors_of t) (c f t v y i known)) n x
+  unfolding arrays_in
+  value_known n x low =
+      value_now f t v.state i (stood f t v y i known) (says_pool f t v y i known) n low x
+      ∙ sym (ap (λ (r : Image). option_map_or (λ (z : State). array_in z r n x) (state_in r) []) (λ j k u. quiet f t v y i known k u j)
+      ∙ ap (λ (o : Option State). option_map_or (λ z. array_in z (c f t v y i known) n x) o []) (state_is f t v y i known))
 
-  abbrev held : Image
-  held = c f t v y i known
-
-  abbrev g : Found
-  g = now f t v y i known
-
-  some_same : {X : Type 0} (a b : X) → Some a ≡ Some b → a ≡ b
-  some_same a b same = cc
-
-  -- ---- one array
-
-  module _ (n : ℕ) (low : n < f.state.made) where
-    -- a member's slice is that of the tables
-    slice_now : (p d u : ℕ) → is_current book p ≡ true → f.seats p ≡ Some d → is_member f n p ≡ true → slices_of g (member_slice p n) u ≡ held (member_slice p n) u
-    slice_now p d u counts seat member =
-        same_slices g t (member_slice p n) u
-        (seated
-        (ap g.seats (place_is f t v y i known n low p) ∙ seats_now f t v y i known p counts ∙ seat ∙ ap Some (sym (disk_is f t v y i known n low p d seat counts)))
-        (ap (extent_of g) (slice_of_member p n (few f t v y i known n low)) ∙ lies_now f t v y i known n low ∙ known.served.slices.members n p d low counts seat member)
-        (subst (λ e. slice_first t (member_slice p n) + sectors_of t (member_slice p n) ≤ f.disks.sectors e)
-        (sym (disk_is f t v y i known n low p d seat counts)) (room f t v y i known n low p d seat counts member)))
-
-    none_now : (p d : ℕ) → is_current book p ≡ true → f.seats p ≡ Some d → is_member f n p ≡ false → super_in book (slices_of g) n p ≡ None
-    none_now p d counts seat none =
-        super_of_sector book (slices_of g) (slices_from g (lies f t v y i known n low).first) n p
-        (slice_sector g (member_slice p n) super_sector (lies f t v y i known n low).first (2048 + (is f t v y i known n low).size)
-        (ap (extent_of g) (slice_of_member p n (few f t v y i known n low))
-        ∙ extent_found g n (lies f t v y i known n low).first (is f t v y i known n low) (begins_now f t v y i known n low) (truth_now f t v y i known n low))
-        (omega arith))
-        ∙ no_super book (slices_from g (lies f t v y i known n low).first) n p
-        (alone f t v y i known n low p d seat counts none (seats_now f t v y i known p counts ∙ seat))
-
-    pub same : SameCurrent book n (slices_of g) held
-    same p counts =
-        let one = seat_there f t v y i known p counts in
-        elim (cases_Bool (is_member f n p)) [
-          | inl member ↦ super_of_sector book (slices_of g) held n p (slice_now p one.0 super_sector counts one.1 member)
-          | inr none ↦
-              none_now p one.0 counts one.1 none
-              ∙ sym (nothing_super book held n p (reads_nothing f t v y i known n low p none super_sector))
-        ]
-
-    pub members : SameMembers book n (slices_of g) held
-    members p u counts super k =
-        let one = seat_there f t v y i known p counts in
-        elim (cases_Bool (is_member f n p)) [
-          | inl member ↦ slice_now p one.0 k counts one.1 member
-          | inr none ↦ absurd (none-some u (sym (nothing_super book held n p (reads_nothing f t v y i known n low p none super_sector)) ∙ super))
-        ]
-
-    array_now : IsSoundArray book (slices_of g) n (is f t v y i known n low)
-    array_now =
-        sound_current book (slices_of g) held n same members (is f t v y i known n low)
-        ((says f t v y i known n low).is_sound (is f t v y i known n low) (is_is f t v y i known n low))
-
-    pub value_now : (x : ℕ) → arrays_held g n x ≡ arrays_in (replayed (sectors_of t) held) n x
-    unfolding arrays_in
-    value_now x =
-        array_current book (slices_of g) held n same members x
-        ∙ sym (ap (λ (r : Image). option_map_or (λ (z : State). array_in z r n x) (state_in r) []) (λ j k u. quiet f t v y i known k u j)
-        ∙ ap (λ (o : Option State). option_map_or (λ z. array_in z held n x) o []) (state_is f t v y i known))
-
-    -- its truth names its own place
-    own : is_named (is f t v y i known n low) (is f t v y i known n low).dev_number ≡ true
-    unfolding truth_in
-    own =
-        let one = leads (super_in book held n) (current_places book) (is f t v y i known n low) (is_is f t v y i known n low) in
-        let place = super_place book held n one.place (is f t v y i known n low) one.is in
-        elim (cases_Bool (is_member f n one.place)) [
-          | inl member ↦
-              ap (is_named (is f t v y i known n low)) place
-              ∙ named_same f t v y i known n low one.place
-              ∙ sym (ap (λ (o : Option Super). option_map_or (λ u. is_named u one.place) o false) (was_is f t v y i known n low))
-              ∙ member
-          | inr none ↦
-              absurd (none-some (is f t v y i known n low)
-              (sym (nothing_super book held n one.place (reads_nothing f t v y i known n low one.place none super_sector)) ∙ one.is))
-        ]
-
-  -- ---- the pool
-
-  low_before : (n : ℕ) → n < g.state.made → n < f.state.made
-  low_before n low = let same = made_same f t v y i known in omega (arith, low, same)
-
-  -- who has a seat is current, and had it
-  seat_before : (p d : ℕ) → g.seats p ≡ Some d → (is_current book p ≡ true) × (f.seats p ≡ Some d)
-  seat_before p d seat = elim (cases_Bool (is_current book p)) [
-    | inl counts ↦ (counts, sym (seats_now f t v y i known p counts) ∙ seat)
-    | inr former ↦ absurd (none-some d (sym (none_former f t v y i known p former) ∙ seat))
-  ]
-
-  rules : IsSoundState g
-  rules = record {
-    arrays = λ n low. let less = low_before n low in (is f t v y i known n less, truth_is f t v y i known n less, array_now n less);
-    joined = λ none. known.served.after.same.joined ∙ known.served.joined ∙ sym known.served.after.same.made;
-    copies = λ d copy low here epoch. elim (no_later f t v y i known d copy low here) [
-      | inl less ↦ absurd (omega (arith, less, epoch))
-      | inr same ↦ same
-    ];
-    epochs = λ p d copy seat here.
-        let before = seat_before p d seat in
-        ap (λ (k : Copied). k.state.epoch)
-        (some_same copy (record { state = book; own = (copy_now f t v y i known p d before.1 before.0).own }) (sym here ∙ copied_now f t v y i known p d before.1 before.0));
-  }
-
-  pub sound_now : IsSoundPool g
-  sound_now = record {
-    rules = rules;
-    own = λ n u low truth.
-        let less = low_before n low in
-        subst (λ (z : Super). is_named z z.dev_number ≡ true) (some_same (is f t v y i known n less) u (sym (truth_is f t v y i known n less) ∙ truth)) (own n less);
-  }
-
-  pub slices_now : HaveSlices g t
-  unfolding extent_of
-  slices_now = record {
-    seats = λ p counts.
-        let one = seat_there f t v y i known p counts in
-        known.served.slices.seats p one.0 counts one.1 ∙ sym (seats_now f t v y i known p counts ∙ one.1);
-    logs = λ p counts. let one = seat_there f t v y i known p counts in known.served.slices.logs p one.0 counts one.1;
-    members = λ n p low counts member.
-        let less = low_before n low in
-        let one = seat_there f t v y i known p counts in
-        lies_now f t v y i known n less
-        ∙ known.served.slices.members n p one.0 less counts one.1 (sym (member_same f t v y i known n less p) ∙ member);
-    others = λ n p low none. let less = low_before n low in no_slice f t v y i known n less p (sym (member_same f t v y i known n less p) ∙ none);
-  }
-
-  pub alone_now : AreAlone g i
-  alone_now n p d first low seat none begins within =
-      let less = low_before n low in
-      let before = seat_before p d seat in
-      known.left.alone n p d first less before.0 before.1 (sym (member_same f t v y i known n less p) ∙ none)
-      ((lies f t v y i known n less).begins ∙ sym (begins_now f t v y i known n less) ∙ begins) within
-
-  unfoldable pub known_again : HoldAgain f t book i
+  unfoldable pub known_again : HoldAgain f t v.state i
   known_again = record {
-    now = g;
-    found_is = found_now f t v y i known;
-    sound = sound_now;
-    logs = sound_logs f t v y i known;
+    still = record {
+      now = now f t v y i known;
+      found_is = found_now f t v y i known;
+      sound = sound_now f t v.state i (stood f t v y i known) (says_pool f t v y i known);
+      logs = sound_logs f t v y i known;
+      state = refl;
+      seats = λ p counts. seats_now f t v y i known p counts;
+      slices = slices_now f t v.state i (stood f t v y i known) (says_pool f t v y i known);
+      joined = known.served.after.same.joined ∙ known.served.joined ∙ sym known.served.after.same.made;
+      alone = alone_now f t v.state i (stood f t v y i known) (says_pool f t v y i known) i known.left.alone;
+      values = value_known;
+    };
     idle = idle_now f t v y i known;
-    state = refl;
-    seats = λ p counts. seats_now f t v y i known p counts;
-    slices = slices_now;
-    joined = known.served.after.same.joined ∙ known.served.joined ∙ sym known.served.after.same.made;
-    alone = alone_now;
-    values = λ n x low. value_now n low x;
   }
 
 -- Where a pool that was found on disks, a sound one, is served, contents that it leaves hold a sound pool again.

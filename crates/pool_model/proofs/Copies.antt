@@ -1,5 +1,6 @@
 -- What the disks of a served pool say: each current place's drive has the book's state, and no other disk a later one.
-use Rattle.std.proofs.Common.{◌≡◌, ◌⊎◌, ℕ, suc, ◌+◌, ◌<◌, ◌≤◌, ◌&&◌, nat_lt, true, false, [], Option, Some, None, refl, sym, ap, subst, ◌∙◌, inl, inr, arith}
+use Rattle.std.proofs.Common.{◌≡◌, ◌⊎◌, ℕ, ◌+◌, ◌<◌, ◌≤◌, true, false, [], Option, Some, None, refl, sym, ap, subst, ◌∙◌, inl, inr, arith}
+use Rattle.std.specs.Option.{option_map_or}
 use Rattle.std.specs.Result.{result_ok}
 use Rattle.std.proofs.lemmas.Bool.{both_ways, cases_Bool}
 use Rattle.rack.specs.Seen.{Image, Seen}
@@ -10,9 +11,9 @@ use Rattle.pool_state.specs.declared.contents.Copied.{Copied}
 use Rattle.pool_state.specs.declared.contents.State.{State}
 use Rattle.pool_state.specs.Sector.{decoded}
 use Rattle.array_image.specs.Arrays.{replayed}
-use Rattle.array_image.specs.Places.{arrays_first, log_sectors, log_slice, member_slice, place_of, state_sector}
+use Rattle.array_image.specs.Places.{arrays_first, log_sectors, log_slice, place_of, state_sector}
 use Rattle.array_image.specs.Record.{pending}
-use Rattle.array_image.specs.States.{is_current, state_in}
+use Rattle.array_image.specs.States.{epoch_of, is_current, state_in}
 use Rattle.commit_log.specs.Commits.{Stands}
 use Rattle.commit_log.specs.Kept.{IsCopyOf, IsNoLater, LogKept}
 use Rattle.commit_log.specs.Standing.{LogsStand, deciding}
@@ -23,24 +24,17 @@ use Rattle.raid_rack.specs.Raid.{IsTold, Raid, Stood, held_in, is_over, spent_of
 use Rattle.raid_rack.proofs.Over.{number_room}
 use Rattle.raid_rack.proofs.Noted.{current_few}
 use Rattle.array_model.specs.View.{HasGeometry, shape_of}
-use Rattle.pool_image.specs.Disks.{Identities, Identity, identities_of, newest}
+use Rattle.pool_image.specs.Disks.{Identities, Identity, identities_of, newest, seat_of, stands_for}
 use Rattle.pool_image.specs.Drives.{Found, extent_of}
-use Rattle.pool_image.specs.Meaning.{is_member, truth_of}
-use Rattle.pool_model.specs.InService.{HasSeat, IsOutset}
+use Rattle.pool_image.specs.Meaning.{truth_of}
+use Rattle.pool_model.specs.InService.{HasSeat, IsOutset, epoch_at}
 use Rattle.pool_model.specs.Left.{IsLeftBy, IsServed}
 use Rattle.pool_model.specs.Pools.{extent_in}
+use Rattle.pool_model.specs.Stopped.{AreSlicesNow}
+use Rattle.pool_model.proofs.Said.{SaysSeats, slices_by}
+use Rattle.pool_model.proofs.Seats.{nowhere, seats_now as seats_by, stands_now as stands_by}
 use Rattle.pool_model.proofs.Found.{newest_latest, ok_of, seated_below}
 use Rattle.pool_model.proofs.Logs.{copied_in, many_in, reads_in, room_in, there_in}
-
--- Tables of slices are those of a pool's drives, for the places that are current by a state.
-pub record AreSlicesNow (f : Found) (t : Slices) (s : State) : Type 0 where
-  pub seats : (p d : ℕ) → is_current s p ≡ true → f.seats p ≡ Some d → slice_seat t p ≡ Some d
-  pub logs : (p d : ℕ) → is_current s p ≡ true → f.seats p ≡ Some d → extent_of f 0 ≡ Some (extent_in t (log_slice p))
-  pub members :
-      (n p d : ℕ) → n < f.state.made → is_current s p ≡ true → f.seats p ≡ Some d → is_member f n p ≡ true
-      → extent_of f (suc n) ≡ Some (extent_in t (member_slice p n))
-  pub others : (n p : ℕ) → n < 16 → (nat_lt n f.state.made && is_member f n p) ≡ false → sectors_of t (member_slice p n) ≡ 0
-  pub unseated : (k : ℕ) → f.seats (place_of k) ≡ None → sectors_of t k ≡ 0
 
 -- a served pool, of which no more is told than the slices of current places
 pub record IsServedNow (f : Found) (t : Slices) (v : Raid) (y : Seen) : Type 0 where
@@ -53,13 +47,7 @@ pub record IsServedNow (f : Found) (t : Slices) (v : Raid) (y : Seen) : Type 0 w
 
 pub served_now : (f : Found) (t : Slices) (v : Raid) (y : Seen) → IsServed f t v y → IsServedNow f t v y
 served_now f t v y served = record {
-  slices = record {
-    seats = λ p d now seat. served.slices.seats p ∙ seat;
-    logs = λ p d now seat. served.slices.logs p d seat;
-    members = λ n p d low now seat member. served.slices.members n p d low seat member;
-    others = served.slices.others;
-    unseated = served.slices.unseated;
-  };
+  slices = slices_by f t v.state served.slices;
   after = served.after;
   joined = served.joined;
   told = served.told;
@@ -88,9 +76,10 @@ known_of f t v y i is served left = record {
       let few = current_few f.state p is.places (is.seated p d seat).current in
       let on : slice_seat t p ≡ Some d = served.slices.seats p ∙ seat in
       let lies = served.slices.logs p d seat in
-      let there = there_in f t y i left p d on lies in
+      let there : 0 < y.sectors (log_slice p) =
+      (let some = there_in f t i left.inside p d on lies in let same = left.sectors (log_slice p) in omega (arith, some, same)) in
       log.copies.earlier p (sliced t i (log_slice p) 0) copy few former there (left.picks.picks (log_slice p) 0 (log.logs p 0 few there))
-      (ok_of (decoded (sliced t i (log_slice p) 0)) copy (sym (copied_in f t y i left p d on lies) ∙ here));
+      (ok_of (decoded (sliced t i (log_slice p) 0)) copy (sym (copied_in f t i left.inside p d on lies) ∙ here));
 }
 
 module _ (f : Found) (t : Slices) (v : Raid) (y : Seen) (i : Image) (known : IsKnown f t v y i) where
@@ -166,23 +155,24 @@ module _ (f : Found) (t : Slices) (v : Raid) (y : Seen) (i : Image) (known : IsK
 
     -- it has all of its log slice
     pub log_room : arrays_first ≤ f.disks.sectors d
-    log_room = room_in f t y i known.left p d on_place lies
+    log_room = room_in f t i known.left.inside p d on_place lies
 
     pub log_reads : (u : ℕ) → u < log_sectors → c (log_slice p) u ≡ i d (state_sector + u)
-    log_reads u low = reads_in f t y i known.left p d on_place lies u low
+    log_reads u low = reads_in f t i known.left.inside p d on_place lies u low
 
     pub log_many : y.sectors (log_slice p) ≡ log_sectors
-    log_many = many_in f t y i known.left p d on_place lies
+    log_many = known.left.sectors (log_slice p) ∙ many_in f t i known.left.inside p d on_place lies
 
     copy_may : MayLeave (y.held (log_slice p) 0) (c (log_slice p) 0)
-    copy_may = known.left.picks.picks (log_slice p) 0 (kept.logs p 0 (low_place p d seat) (there_in f t y i known.left p d on_place lies))
+    copy_may = known.left.picks.picks (log_slice p) 0 (kept.logs p 0 (low_place p d seat)
+        (let there = there_in f t i known.left.inside p d on_place lies in let same = known.left.sectors (log_slice p) in omega (arith, there, same)))
 
     -- its copy is of the book's state, and names its id
     pub copy_now : IsCopyOf s p (c (log_slice p) 0)
     copy_now = kept.copies.own p (c (log_slice p) 0) now refl copy_may
 
     pub copied_now : (ids d).copied ≡ Some (record { state = s; own = copy_now.own })
-    copied_now = copied_in f t y i known.left p d on_place lies ∙ ap result_ok copy_now.copy
+    copied_now = copied_in f t i known.left.inside p d on_place lies ∙ ap result_ok copy_now.copy
 
   -- that of a drive that was marked is earlier
   pub copied_before : (p d : ℕ) → f.seats p ≡ Some d → (copy : Copied) → is_current s p ≡ false → (ids d).copied ≡ Some copy → copy.state.epoch < s.epoch
@@ -242,3 +232,41 @@ module _ (f : Found) (t : Slices) (v : Raid) (y : Seen) (i : Image) (known : IsK
       let seat = seat_there one.0 one.1 in
       newest_latest (λ d. (ids d).copied) f.disks.count seat.0 (record { state = s; own = (copy_now one.0 seat.0 seat.1 one.1).own }) s
       (ahead_of one.0 seat.0 seat.1).low (copied_now one.0 seat.0 seat.1 one.1) refl no_later
+
+  -- ---- seats
+
+  -- a drive that was marked says an earlier state than those that weren't
+  former_low : (r q p d : ℕ) → f.seats r ≡ Some q → is_current s r ≡ false → f.seats p ≡ Some d → is_current s p ≡ true → epoch_at (ids q) < epoch_at (ids d)
+  former_low r q p d other former seat now = of (ids q).copied refl
+    where
+      here : epoch_at (ids d) ≡ s.epoch
+      here = ap (λ (o : Option Copied). option_map_or epoch_of o 0) (copied_now p d seat now)
+
+      of : (o : Option Copied) → (ids q).copied ≡ o → option_map_or epoch_of o 0 < epoch_at (ids d)
+      of None none = let first = known.is.epoch in let up = no_earlier in let same = here in omega (arith, first, up, same)
+      of (Some copy) some = let below = copied_before r q other copy former some in let same = here in omega (arith, below, same)
+
+  pub says_seats : SaysSeats f s i
+  says_seats = record {
+    is = known.is;
+    after = known.served.after;
+    drives = seat_there;
+    copies = λ p d now seat. record {
+      copy = record { state = s; own = (copy_now p d seat now).own };
+      is = copied_now p d seat now;
+      since = no_earlier;
+      drive = (copy_now p d seat now).drive;
+    };
+    former = λ r q p d other former seat now stands. former_low r q p d other former seat now;
+    others = other_same;
+  }
+
+  pub stands_now : (p d : ℕ) → is_current s p ≡ true → f.seats p ≡ Some d → stands_for s (ids d) ≡ Some p
+  stands_now p d now seat = stands_by f s i says_seats p d now seat
+
+  pub seats_now : (p : ℕ) → is_current s p ≡ true → seat_of s f.disks ids p ≡ f.seats p
+  seats_now p now = seats_by f s i says_seats p now
+
+  -- a place that isn't current has none
+  pub none_former : (p : ℕ) → is_current s p ≡ false → seat_of s f.disks ids p ≡ None
+  none_former p former = nowhere s f.disks ids p former

@@ -28,17 +28,19 @@ use Rattle.pool_image.specs.Book.{array_now, is_rebuilding_at, rebuilding_in, ro
 use Rattle.pool_image.specs.Disks.{stands_for}
 use Rattle.pool_image.specs.Drives.{Found, slices_of}
 use Rattle.pool_image.specs.Meaning.{is_dirty_degraded, is_member, is_too_few, lacking_of, shape_of as shape_found, super_at}
+use Rattle.pool_image.specs.Replay.{Standing}
 use Rattle.pool_model.specs.Absent.{AreClosed, AreLevel, AreOnly, EndsWhole}
-use Rattle.pool_model.proofs.Again.{same}
-use Rattle.pool_model.proofs.Copies.{IsKnown, c, kept, log_many, low_place, other_same, s, seat_there, seated_or, ahead_of}
+use Rattle.pool_model.proofs.Copies.{ahead_of, c, IsKnown, kept, log_many, low_place, none_former, other_same, s, seat_there, seated_or, seats_now, stands_now}
 use Rattle.pool_model.proofs.Away.{all_there, none_found}
 use Rattle.pool_model.proofs.Current.{shape_current}
-use Rattle.pool_model.proofs.Extents.{earlier, is, is_is, left, lies_in, made_same, reads_nothing, room, says, size_same, truth_is}
+use Rattle.pool_model.proofs.Extents.{is, is_is, lies_in, made_same, reads_nothing, room, size_same, truth_is}
+use Rattle.pool_model.proofs.Known.{earlier, left, says, says_pool}
 use Rattle.pool_model.proofs.Layers.{nothing_super}
 use Rattle.pool_model.proofs.Named.{same_length, stands_same}
-use Rattle.pool_model.proofs.Rested.{log_same, now}
+use Rattle.pool_model.proofs.Rested.{log_same, now, stood}
+use Rattle.pool_model.proofs.Said.{SaysPool}
 use Rattle.pool_model.proofs.Roles.{named_position}
-use Rattle.pool_model.proofs.Seats.{none_former, seats_now, stands_now}
+use Rattle.pool_model.proofs.Still.{same}
 use Rattle.pool_check.proofs.Valid.{valid_fit}
 
 abbrev one_unless : Bool → ℕ
@@ -63,11 +65,17 @@ module _ (f : Found) (t : Slices) (v : Raid) (y : Seen) (i : Image) (known : IsK
   abbrev pub g : Found
   g = now f t v y i known
 
+  abbrev pub rest : Standing
+  rest = stood f t v y i known
+
+  abbrev pub said : SaysPool f t v.state i
+  said = says_pool f t v y i known
+
   some_same : {X : Type 0} (a b : X) → Some a ≡ Some b → a ≡ b
   some_same a b same = cc
 
   pub low_before : (n : ℕ) → n < book.made → n < f.state.made
-  low_before n low = let same = made_same f t v y i known in omega (arith, low, same)
+  low_before n low = let same = made_same f t v.state i rest said in omega (arith, low, same)
 
   -- ---- its gates and superblocks
 
@@ -81,18 +89,18 @@ module _ (f : Found) (t : Slices) (v : Raid) (y : Seen) (i : Image) (known : IsK
 
   module _ (n : ℕ) (low : n < f.state.made) where
     abbrev pub u : Super
-    u = is f t v y i known n low
+    u = is f t v.state i rest said n low
 
     pub agreed : (p : ℕ) (w : Super) → is_current book p ≡ true → super_at g n p ≡ Some w → array_fields w ≡ array_fields u
     agreed p w counts at =
         let all = (ends.agree n held low (left f t v y i known)).agree in
-        let leads : all.truth ≡ u = some_same all.truth u (sym all.leads ∙ is_is f t v y i known n low) in
-        all.same p w counts (sym (same f t v y i known n low p counts) ∙ at) ∙ ap array_fields leads
+        let leads : all.truth ≡ u = some_same all.truth u (sym all.leads ∙ is_is f t v.state i rest said n low) in
+        all.same p w counts (sym (same f t v.state i rest said n low p counts) ∙ at) ∙ ap array_fields leads
 
   pub level_now : AreLevel g
   level_now n p tr w low truth counts at =
       let less = low_before n low in
-      let here : u n less ≡ tr = some_same (u n less) tr (sym (truth_is f t v y i known n less) ∙ truth) in
+      let here : u n less ≡ tr = some_same (u n less) tr (sym (truth_is f t v.state i rest said n less) ∙ truth) in
       ap (λ (z : Super). z.events) (agreed n less p w counts at ∙ ap array_fields here)
 
   -- ---- its disks
@@ -133,7 +141,7 @@ module _ (f : Found) (t : Slices) (v : Raid) (y : Seen) (i : Image) (known : IsK
     w = u n low
 
     pub w_is : truth_in book held n ≡ Some w
-    w_is = is_is f t v y i known n low
+    w_is = is_is f t v.state i rest said n low
 
     pub size_small : w.size < 2 ^ 48
     size_small =
@@ -142,14 +150,14 @@ module _ (f : Found) (t : Slices) (v : Raid) (y : Seen) (i : Image) (known : IsK
         let one = seat_there f t v y i known leads.at at.0 in
         elim (cases_Bool (is_member f n leads.at)) [
           | inl member ↦
-              let fits = room f t v y i known n low leads.at one.0 one.1 at.0 member in
-              let lies = (lies_in f t v y i known n low leads.at one.0 one.1 at.0 member).1 in
-              let size = size_same f t v y i known n low in
+              let fits = room f t v.state i rest said n low leads.at one.0 one.1 at.0 member in
+              let lies = (lies_in f t v.state i rest said n low leads.at one.0 one.1 at.0 member).1 in
+              let size = size_same f t v.state i rest said n low in
               let most = small one.0 (ahead_of f t v y i known leads.at one.0 one.1).low in
               omega (arith, fits, lies, size, most)
           | inr none ↦
               absurd (none-some w
-              (sym (nothing_super book held n leads.at (reads_nothing f t v y i known n low leads.at none super_sector)) ∙ at.1))
+              (sym (nothing_super book held n leads.at (reads_nothing f t v.state i rest said n low leads.at none super_sector)) ∙ at.1))
         ]
 
     pub facts : Truth w
@@ -173,7 +181,7 @@ module _ (f : Found) (t : Slices) (v : Raid) (y : Seen) (i : Image) (known : IsK
     member_here : (k : ℕ) → k < w.raid_disks → member_in book held n w k ≡ member_on its k
     unfolding shape_by shape_of
     member_here k less =
-        let disks : w.raid_disks ≡ its.truth.raid_disks = ap (λ (z : Super). z.raid_disks) (earlier f t v y i known n low).fields in
+        let disks : w.raid_disks ≡ its.truth.raid_disks = ap (λ (z : Super). z.raid_disks) (earlier f t v y i known n low (is f t v.state i rest said n low) (is_is f t v.state i rest said n low)).fields in
         some_same (member_in book held n w k) (member_on its k)
         (sym (member_at (member_in book held n w) w.raid_disks k less)
         ∙ ap (λ (z : Shape). slice_get z.members k) shape_here
@@ -190,7 +198,7 @@ module _ (f : Found) (t : Slices) (v : Raid) (y : Seen) (i : Image) (known : IsK
 
     had : (k q : ℕ) → k < w.raid_disks → place_with w.roles.items k ≡ Some q → IsHad q
     had k q less at =
-        let disks : w.raid_disks ≡ its.truth.raid_disks = ap (λ (z : Super). z.raid_disks) (earlier f t v y i known n low).fields in
+        let disks : w.raid_disks ≡ its.truth.raid_disks = ap (λ (z : Super). z.raid_disks) (earlier f t v y i known n low (is f t v.state i rest said n low) (is_is f t v.state i rest said n low)).fields in
         let here : unwrap_or (place_with w.roles.items k) 16 ≡ q = ap (λ o. unwrap_or o 16) at in
         by (is_current book q) refl (super_in book held n q) refl
         (sym (ap (λ p. (member_by w.size p (is_current book p) (super_in book held n p)).is_whole) here)
@@ -229,7 +237,7 @@ module _ (f : Found) (t : Slices) (v : Raid) (y : Seen) (i : Image) (known : IsK
         none_found (is_rebuilding_at g n) (named_places w) (λ q among. elim (cases_Bool (is_named w q)) [
           | inl named ↦
               let one = had_named q named in
-              ap₂ (λ b o. b && option_map_or is_rebuilding o false) one.current (same f t v y i known n low q one.current ∙ one.has) ∙ one.whole
+              ap₂ (λ b o. b && option_map_or is_rebuilding o false) one.current (same f t v.state i rest said n low q one.current ∙ one.has) ∙ one.whole
           | inr none ↦
               absurd (both_ways (names (named_places w) q)
               (any-filter_same (λ p. p == q) (is_named w) false (λ p is. ap (is_named w) (eqb-true p q is) ∙ none) (range_with_len 0 (length w.roles.items))) among)
@@ -252,10 +260,10 @@ module _ (f : Found) (t : Slices) (v : Raid) (y : Seen) (i : Image) (known : IsK
     super_there p = elim (cases_Bool (is_named w p)) [
       | inl named ↦
           let one = had_named p named in
-          ap (λ o. not (is_member g n p) || is_some o) (same f t v y i known n low p one.current ∙ one.has) ∙ or_true (not (is_member g n p))
+          ap (λ o. not (is_member g n p) || is_some o) (same f t v.state i rest said n low p one.current ∙ one.has) ∙ or_true (not (is_member g n p))
       | inr none ↦
           ap (λ b. not b || is_some (super_at g n p))
-          (ap (λ (o : Option Super). option_map_or (λ z. is_named z p) o false) (truth_is f t v y i known n low) ∙ none)
+          (ap (λ (o : Option Super). option_map_or (λ z. is_named z p) o false) (truth_is f t v.state i rest said n low) ∙ none)
     ]
       where
         or_true : (b : Bool) → (b || true) ≡ true
@@ -266,13 +274,13 @@ module _ (f : Found) (t : Slices) (v : Raid) (y : Seen) (i : Image) (known : IsK
     unfolding shape_of
     enough =
         ap (λ (o : Option Shape). option_map_or (λ shape. nat_lt 1 (lacking_of shape)) o true)
-        (shape_current book (slices_of g) held n (same f t v y i known n low) ∙ (says f t v y i known n low).shape_is)
+        (shape_current book (slices_of g) held n (same f t v.state i rest said n low) ∙ (says f t v y i known n low).shape_is)
         ∙ le-ltb 1 (lacking_of (shape_of its))
         (let none : lacking_of (shape_of its) ≡ 0 = none_lacks (member_on its) 0 its.truth.raid_disks (λ k less. whole_member k (omega (arith, less))) in omega (arith, none))
 
     pub in_sync : is_dirty_degraded g n ≡ false
     in_sync =
-        ap (λ o. nat_lt n book.joined && (option_map_or (λ shape. nat_lt 0 (lacking_of shape)) (shape_found g n) false && option_map_or is_unclean o false)) (truth_is f t v y i known n low)
+        ap (λ o. nat_lt n book.joined && (option_map_or (λ shape. nat_lt 0 (lacking_of shape)) (shape_found g n) false && option_map_or is_unclean o false)) (truth_is f t v.state i rest said n low)
         ∙ ap (λ b. nat_lt n book.joined && (option_map_or (λ shape. nat_lt 0 (lacking_of shape)) (shape_found g n) false && b)) clean
         ∙ no_and (nat_lt n book.joined) (option_map_or (λ shape. nat_lt 0 (lacking_of shape)) (shape_found g n) false)
       where

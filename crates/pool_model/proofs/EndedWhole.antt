@@ -34,18 +34,21 @@ use Rattle.pool_image.proofs.Groups.{AreWholeArrays, bad_alike}
 use Rattle.pool_image.proofs.Joined.{bad_same}
 use Rattle.pool_image.proofs.Parts.{held_in}
 use Rattle.pool_image.proofs.Wholes.{value_sized}
+use Rattle.pool_image.specs.Replay.{Standing}
 use Rattle.pool_model.specs.Absent.{EndsWhole, HoldAbsent, IsWholePool, volume_arrays}
 use Rattle.pool_model.specs.Grouped.{HoldGroup}
 use Rattle.pool_model.specs.Left.{HoldRest, IsServed}
 use Rattle.pool_model.specs.Pools.{IsSoundPool}
-use Rattle.pool_model.proofs.Again.{known_again, left_known, members, same, sound_now, value_now}
-use Rattle.pool_model.proofs.Copies.{IsKnown, ahead_of, c, copied_now, copy_now, other_same, s, seat_there, seated_or}
+use Rattle.pool_model.proofs.Again.{known_again, left_known, value_known}
+use Rattle.pool_model.proofs.Copies.{ahead_of, c, copied_now, copy_now, IsKnown, other_same, s, seat_there, seated_or, seats_now}
 use Rattle.pool_model.proofs.Current.{array_current, counts_there, shape_current}
-use Rattle.pool_model.proofs.Extents.{disk_is, earlier, few, lies_in, reads_nothing, room, says, size_same, truth_is}
+use Rattle.pool_model.proofs.Extents.{disk_is, few, is, is_is, lies_in, reads_nothing, room, size_same, truth_is}
+use Rattle.pool_model.proofs.Known.{earlier, says, says_pool}
 use Rattle.pool_model.proofs.Found.{found_is, valid as state_valid}
 use Rattle.pool_model.proofs.Layers.{nothing_super}
-use Rattle.pool_model.proofs.Rested.{found_now, now, stands_so}
-use Rattle.pool_model.proofs.Seats.{seats_now}
+use Rattle.pool_model.proofs.Rested.{found_now, now, stands_so, stood}
+use Rattle.pool_model.proofs.Said.{SaysPool}
+use Rattle.pool_model.proofs.Still.{members, same, sound_now}
 use Rattle.pool_model.proofs.Undamaged.{present_now, sound_parts}
 use Rattle.pool_model.proofs.Members.{among_range}
 use Rattle.pool_model.proofs.Spare.{is_array, whole_view}
@@ -68,6 +71,12 @@ module _ (f : Found) (t : Slices) (v : Raid) (y : Seen) (i : Image) (known : IsK
   abbrev g : Found
   g = now f t v y i known
 
+  abbrev rest : Standing
+  rest = stood f t v y i known
+
+  abbrev said : SaysPool f t v.state i
+  said = says_pool f t v y i known
+
   some_same : {X : Type 0} (a b : X) → Some a ≡ Some b → a ≡ b
   some_same a b same = cc
 
@@ -76,22 +85,22 @@ module _ (f : Found) (t : Slices) (v : Raid) (y : Seen) (i : Image) (known : IsK
   module _ (small : (d : ℕ) → d < f.disks.count → f.disks.sectors d < 2 ^ 48) (valid : (own : ℕ) × (is_valid f.state own ≡ true)) (sectors : (d k : ℕ) → d < f.disks.count → k < f.disks.sectors d → length (i d k) ≡ 512)
       (n : ℕ) (low : n < f.state.made) where
     size_is : (w f t v y i known ends small valid n low).size ≡ (its f t v y i known ends small valid n low).truth.size
-    size_is = ap (λ (z : Super). z.size) (earlier f t v y i known n low).fields
+    size_is = ap (λ (z : Super). z.size) (earlier f t v y i known n low (is f t v.state i rest said n low) (is_is f t v.state i rest said n low)).fields
 
     -- the data of a member
     data_sized : (q k : ℕ) → is_current book q ≡ true → is_member f n q ≡ true → k < (w f t v y i known ends small valid n low).size → length (held (member_slice q n) (data_sector + k)) ≡ 512
     data_sized q k counts member inside =
         let one = seat_there f t v y i known q counts in
         let e = one.0 in
-        let fits = room f t v y i known n low q e one.1 counts member in
-        let lies = (lies_in f t v y i known n low q e one.1 counts member).1 in
-        let size = size_same f t v y i known n low in
+        let fits = room f t v.state i rest said n low q e one.1 counts member in
+        let lies = (lies_in f t v.state i rest said n low q e one.1 counts member).1 in
+        let size = size_same f t v.state i rest said n low in
         let at = slice_first t (member_slice q n) + (data_sector + k) in
         let within : at < f.disks.sectors e = omega (arith, fits, lies, size, inside) in
         ap length
         (ap (λ (b : Bool). if b then i (disk_of t (member_slice q n)) at else [])
         (lt-ltb (data_sector + k) (sectors_of t (member_slice q n)) (omega (arith, lies, size, inside)))
-        ∙ ap (λ d. i d at) (disk_is f t v y i known n low q e one.1 counts))
+        ∙ ap (λ d. i d at) (disk_is f t v.state i rest said n low q e one.1 counts))
         ∙ sectors e at (ahead_of f t v y i known q e one.1).low within
 
     member_sized : (m : Member) (k : ℕ) → Among m (shape_of (its f t v y i known ends small valid n low)).members → k < m.reach → length (held (member_slice m.place n) (data_sector + k)) ≡ 512
@@ -106,20 +115,20 @@ module _ (f : Found) (t : Slices) (v : Raid) (y : Seen) (i : Image) (known : IsK
           | inl member ↦ data_sized m.place k there.0 member (let same = size_is in omega (arith, counts, reach, same))
           | inr none ↦
               absurd (none-some there.1
-              (sym (nothing_super book held n m.place (reads_nothing f t v y i known n low m.place none super_sector)) ∙ there.2))
+              (sym (nothing_super book held n m.place (reads_nothing f t v.state i rest said n low m.place none super_sector)) ∙ there.2))
         ]
 
     held_sized : (x : ℕ) → length (arrays_held g n x) ≡ 512
     held_sized x =
         ap length
-        (array_current book (slices_of g) held n (same f t v y i known n low) (members f t v y i known n low) x
+        (array_current book (slices_of g) held n (same f t v.state i rest said n low) (members f t v.state i rest said n low) x
         ∙ ap (λ (o : Option Shape). option_map_or (λ shape. value_by shape held n x) o []) (says f t v y i known n low).shape_is)
         ∙ value_sized (shape_of (its f t v y i known ends small valid n low)) held n x member_sized
 
     -- ---- its volume's arrays
 
     few_n : n < 16
-    few_n = few f t v y i known n low
+    few_n = few f t v.state i rest said n low
 
     long : 2048 < (w f t v y i known ends small valid n low).size
     long = truth_long book held n (w f t v y i known ends small valid n low) (w_is f t v y i known ends small valid n low)
@@ -128,14 +137,14 @@ module _ (f : Found) (t : Slices) (v : Raid) (y : Seen) (i : Image) (known : IsK
     unfolding shape_of
     sectors_here =
         ap (λ (o : Option Shape). option_map_or sectors_by o 0)
-        (shape_current book (slices_of g) held n (same f t v y i known n low) ∙ (says f t v y i known n low).shape_is)
+        (shape_current book (slices_of g) held n (same f t v.state i rest said n low) ∙ (says f t v y i known n low).shape_is)
 
     room_here : 4 ≤ array_sectors g n
     unfolding shape_by
     room_here =
         let is : array_sectors g n ≡ sectors_by (shape_by book held n (w f t v y i known ends small valid n low)) =
         ap (λ (o : Option Shape). option_map_or sectors_by o 0)
-        (shape_current book (slices_of g) held n (same f t v y i known n low) ∙ ap (option_map (shape_by book held n)) (w_is f t v y i known ends small valid n low)) in
+        (shape_current book (slices_of g) held n (same f t v.state i rest said n low) ∙ ap (option_map (shape_by book held n)) (w_is f t v y i known ends small valid n low)) in
         let layout = first_is (whole_view n (w f t v y i known ends small valid n low)) (is_array n (w f t v y i known ends small valid n low) few_n (facts f t v y i known ends small valid n low)) in
         let least = capacity_least (first_layout (w f t v y i known ends small valid n low)) (w f t v y i known ends small valid n low).size layout.least in
         let size = long in
@@ -159,7 +168,7 @@ module _ (f : Found) (t : Slices) (v : Raid) (y : Seen) (i : Image) (known : IsK
         (held_in (joined_arrays g)) (volume_arrays t v i)
         (λ n low. λ j x.
         let less = before_made n low in
-        ap₂ (λ (k : ℕ) (u : List ℕ). if nat_lt x k then u else []) (sectors_here small valid sectors n less) (value_now f t v y i known n less x) j)
+        ap₂ (λ (k : ℕ) (u : List ℕ). if nat_lt x k then u else []) (sectors_here small valid sectors n less) (value_known f t v y i known n x less) j)
 
   -- they have the values of the book's arrays
   module _ (group : HoldGroup v y) (alive : (n x : ℕ) → n < f.state.made → x < sectors_in (v.arrays n) → spent_of v n x ≡ false) where
@@ -167,8 +176,8 @@ module _ (f : Found) (t : Slices) (v : Raid) (y : Seen) (i : Image) (known : IsK
     value_left n x low inside =
         subst (MayLeave (raid_held v y n x))
         (sym (ap (λ (b : Bool). if b then arrays_in (replayed (sectors_of t) (sliced t i)) n x else []) (lt-ltb x (sectors_in (v.arrays n)) inside)
-        ∙ sym (value_now f t v y i known n low x)
-        ∙ array_current book (slices_of g) held n (same f t v y i known n low) (members f t v y i known n low) x
+        ∙ sym (value_known f t v y i known n x low)
+        ∙ array_current book (slices_of g) held n (same f t v.state i rest said n low) (members f t v.state i rest said n low) x
         ∙ ap (λ (o : Option Shape). option_map_or (λ shape. value_by shape held n x) o []) (says f t v y i known n low).shape_is))
         ((says f t v y i known n low).value x (alive n x low inside))
 
@@ -246,7 +255,7 @@ module _ (f : Found) (t : Slices) (v : Raid) (y : Seen) (i : Image) (known : IsK
               subst (λ (z : ArrayNow). (z.resync ≡ 0) × (z.rebuild ≡ 0) × (z.zero_rows ≡ 0))
               (some_same (array_now g n (w f t v y i known ends small valid n low)) at
               (sym (ap (λ (b : Bool). if b then option_map (array_now g n) (truth_of g n) else None) (lt-ltb n book.made inside)
-              ∙ ap (option_map (array_now g n)) (truth_is f t v y i known n low)) ∙ found_at))
+              ∙ ap (option_map (array_now g n)) (truth_is f t v.state i rest said n low)) ∙ found_at))
               (done f t v y i known ends small valid n low)
           | inr past ↦
               absurd (none-some at (sym (ap (λ (b : Bool). if b then option_map (array_now g n) (truth_of g n) else None) (le-ltb n book.made past)) ∙ found_at))
@@ -258,7 +267,7 @@ module _ (f : Found) (t : Slices) (v : Raid) (y : Seen) (i : Image) (known : IsK
       small = small;
       means = refusal_none;
       is_found = found_now f t v y i known;
-      sound = (sound_now f t v y i known).rules;
+      sound = (sound_now f t v.state i rest said).rules;
       whole = whole_now;
       present = present_now f t v y i known;
       only = only_now f t v y i known ends;

@@ -1,84 +1,56 @@
 -- The slices of the pool that such contents have lie where they lay.
-use Rattle.std.proofs.Common.{◌≡◌, ℕ, zero, suc, ◌+◌, ◌<◌, ◌≤◌, ◌&&◌, Bool, true, false, nat_lt, if◌then◌else◌, [], Option, Some, None, option_map, unwrap_or, refl, sym, ap, ap₂, subst, ◌∙◌, inl, inr, lt-ltb, le-ltb, ltb-true, arith}
+use Rattle.std.proofs.Common.{◌≡◌, ℕ, zero, suc, ◌+◌, ◌<◌, ◌≤◌, ◌&&◌, Bool, true, false, nat_lt, if◌then◌else◌, [], Option, Some, None, option_map, unwrap_or, refl, sym, ap, ap₂, ◌∙◌, inl, inr, lt-ltb, le-ltb, ltb-true, arith}
 use Rattle.std.specs.Option.{option_and_then, option_map_or}
 use Rattle.std.proofs.lemmas.Bool.{cases_Bool}
-use Rattle.rack.specs.Seen.{Image, Seen}
+use Rattle.rack.specs.Seen.{Image}
+use Rattle.slice_rack.specs.Sliced.{sliced}
 use Rattle.slice_rack.specs.Slices.{Slices, disk_of, first_of as slice_first, seat_of as slice_seat, sectors_of}
 use Rattle.md_super.specs.declared.superblock.Super.{Super}
 use Rattle.pool_state.specs.declared.contents.State.{State}
-use Rattle.array_image.specs.Left.{IsLeft}
 use Rattle.array_image.specs.Places.{data_sector, member_slice, place_of, super_sector}
 use Rattle.array_image.specs.States.{is_current}
 use Rattle.array_image.specs.Supers.{is_named, super_in, super_of, truth_in}
 use Rattle.array_image.proofs.Frames.{super_of_sector}
-use Rattle.array_model.specs.Says.{IsEarlier, Says}
-use Rattle.array_model.specs.View.{HasGeometry, shape_of}
-use Rattle.raid_rack.specs.Raid.{Raid, held_in, spent_of}
 use Rattle.pool_image.specs.Drives.{Found, drive_sector, end_of, extent_from, extent_of, first_of, slices_from, truth_from}
 use Rattle.pool_image.specs.Meaning.{is_member, truth_of}
-use Rattle.pool_image.specs.Replay.{Extent}
+use Rattle.pool_image.specs.Replay.{Extent, Standing}
 use Rattle.pool_image.proofs.Truths.{extent_found, truth_found}
-use Rattle.pool_model.proofs.Copies.{IsKnown, c, kept, s, seat_there, stands, stood}
-use Rattle.pool_model.proofs.Current.{shape_truth, truth_current}
+use Rattle.pool_model.proofs.Current.{truth_current}
 use Rattle.pool_model.proofs.Layers.{IsLaid, laid, no_super, none_there, nothing_super}
-use Rattle.pool_model.proofs.Rested.{now}
-use Rattle.pool_model.proofs.Seats.{seats_now}
+use Rattle.pool_model.proofs.Said.{SaysPool, pool_of}
 
-module _ (f : Found) (t : Slices) (v : Raid) (y : Seen) (i : Image) (known : IsKnown f t v y i) where
-  abbrev book : State
-  book = s f t v y i known
-
+module _ (f : Found) (t : Slices) (book : State) (i : Image) (before : Standing) (said : SaysPool f t book i) where
   abbrev held : Image
-  held = c f t v y i known
+  held = sliced t i
 
   abbrev g : Found
-  g = now f t v y i known
+  g = pool_of f book i before
 
-  pub made_same : v.state.made ≡ f.state.made
-  made_same = known.served.after.same.made
-
-  pub left : IsLeft y held
-  left = (held, known.left.picks, λ d u. sym ((kept f t v y i known).quiet held (stands f t v y i known) d u refl))
+  pub made_same : book.made ≡ f.state.made
+  made_same = said.after.same.made
 
   module _ (n : ℕ) (low : n < f.state.made) where
     pub few : n < 16
-    few = let most = known.is.made.1 in omega (arith, low, most)
-
-    -- what the slices say of the array
-    pub says : Says book n (shape_of (v.arrays n)) (held_in v y n) (spent_of v n) held
-    says =
-        subst (λ k. Says book k (shape_of (v.arrays n)) (held_in v y n) (spent_of v n) held) (stood f t v y i known n low).number
-        ((stood f t v y i known n low).holds.shape.says held left)
+    few = let most = said.is.made.1 in omega (arith, low, most)
 
     -- its truth before, and by the slices
     abbrev pub was : Super
-    was = (known.is.truths n low).0
+    was = (said.is.truths n low).0
 
     abbrev pub was_is : truth_of f n ≡ Some was
-    was_is = (known.is.truths n low).1
-
-    pub truth_there : (u : Super) × (truth_in book held n ≡ Some u)
-    truth_there = let one = shape_truth book held n (truth_in book held n) (shape_of (v.arrays n)) says.shape_is in (one.0, one.1)
+    was_is = (said.is.truths n low).1
 
     abbrev pub is : Super
-    is = truth_there.0
+    is = (said.arrays n low).truth
 
     pub is_is : truth_in book held n ≡ Some is
-    is_is = truth_there.1
-
-    pub earlier : IsEarlier is (v.arrays n).truth
-    earlier =
-        (stood f t v y i known n low).holds.truth held left is
-        (subst (λ k. truth_in book held k ≡ Some is) (sym (stood f t v y i known n low).number) is_is)
-
-    geometry : HasGeometry was (v.arrays n).truth
-    geometry = known.served.geometry n was low was_is
+    is_is = (said.arrays n low).is_truth
 
     pub size_same : is.size ≡ was.size
-    size_same = ap (λ (z : Super). z.size) earlier.fields ∙ geometry.size
+    size_same = (said.arrays n low).size was was_is
 
     pub named_same : (p : ℕ) → is_named is p ≡ is_named was p
-    named_same p = ap (λ roles. is_named (record is { roles = roles }) p) (ap (λ (z : Super). z.roles) earlier.fields ∙ geometry.roles)
+    named_same p = (said.arrays n low).named was p was_is
 
     pub lies : IsLaid f n was
     lies = laid f n was few was_is
@@ -97,7 +69,7 @@ module _ (f : Found) (t : Slices) (v : Raid) (y : Seen) (i : Image) (known : IsK
 
       -- a place that isn't a member has none
       pub no_slice : is_member f n p ≡ false → sectors_of t (member_slice p n) ≡ 0
-      no_slice none = known.served.slices.others n p few (ap₂ (λ a b. a && b) (lt-ltb n f.state.made low) none)
+      no_slice none = said.slices.others n p few (ap₂ (λ a b. a && b) (lt-ltb n f.state.made low) none)
 
       pub reads_nothing : is_member f n p ≡ false → (u : ℕ) → held (member_slice p n) u ≡ []
       reads_nothing none u =
@@ -106,7 +78,7 @@ module _ (f : Found) (t : Slices) (v : Raid) (y : Seen) (i : Image) (known : IsK
 
       module _ (d : ℕ) (seat : f.seats p ≡ Some d) (counts : is_current book p ≡ true) where
         pub seat_is : slice_seat t (place_of (member_slice p n)) ≡ Some d
-        seat_is = ap (slice_seat t) place_is ∙ known.served.slices.seats p d counts seat
+        seat_is = ap (slice_seat t) place_is ∙ said.slices.seats p d counts seat
 
         pub disk_is : disk_of t (member_slice p n) ≡ d
         disk_is = ap (λ o. unwrap_or o 0) seat_is
@@ -114,13 +86,13 @@ module _ (f : Found) (t : Slices) (v : Raid) (y : Seen) (i : Image) (known : IsK
         module _ (member : is_member f n p ≡ true) where
           pub lies_in : (slice_first t (member_slice p n) ≡ first) × (sectors_of t (member_slice p n) ≡ data_sector + was.size)
           lies_in =
-              let at = sym (known.served.slices.members n p d low counts seat member) ∙ extent_before in (
+              let at = sym (said.slices.members n p d low counts seat member) ∙ extent_before in (
                 ap (λ (o : Option Extent). option_map_or (λ e. e.first) o 0) at,
                 ap (λ (o : Option Extent). option_map_or (λ e. e.sectors) o 0) at,
               )
 
           pub room : slice_first t (member_slice p n) + sectors_of t (member_slice p n) ≤ f.disks.sectors d
-          room = known.left.inside (member_slice p n) d seat_is (let many = lies_in.1 in omega (arith, many))
+          room = said.inside (member_slice p n) d seat_is (let many = lies_in.1 in omega (arith, many))
 
           super_same : (now_seat : g.seats p ≡ Some d) → slices_from g first (member_slice p n) super_sector ≡ held (member_slice p n) super_sector
           super_same now_seat =
@@ -143,14 +115,14 @@ module _ (f : Found) (t : Slices) (v : Raid) (y : Seen) (i : Image) (known : IsK
           where
             of : (b : Bool) → nat_lt (first + super_sector) (f.disks.sectors d) ≡ b → super_of (if b then i d (first + super_sector) else []) ≡ None
             of true within =
-                known.left.alone n p d first low counts seat none lies.begins (ltb-true (first + super_sector) (f.disks.sectors d) within)
+                said.alone n p d first low counts seat none lies.begins (ltb-true (first + super_sector) (f.disks.sectors d) within)
             of false past = none_there
 
       -- its superblock is the one of the slices
       super_now : is_current book p ≡ true → super_in book (slices_from g first) n p ≡ super_in book held n p
       super_now counts =
-          let one = seat_there f t v y i known p counts in
-          let seat = seats_now f t v y i known p counts ∙ one.1 in
+          let one = said.drives p counts in
+          let seat = said.seats p counts ∙ one.1 in
           elim (cases_Bool (is_member f n p)) [
             | inl member ↦ super_of_sector book (slices_from g first) held n p (super_same one.0 one.1 counts member seat)
             | inr none ↦

@@ -36,7 +36,7 @@ use Rattle.raid_rack.specs.Enlisting.{enlisted}
 use Rattle.raid_rack.specs.Moves.{KeepsArrays}
 use Rattle.raid_rack.specs.Raid.{Raid, IsTold, is_over}
 use Rattle.pool_model.specs.InService.{HoldSaid, InService}
-use Rattle.pool_model.specs.Left.{HoldAgain, HoldRest, IsServed}
+use Rattle.pool_model.specs.Left.{HoldAgain, HoldRest, HoldStill, IsServed}
 use Rattle.pool_model.specs.Pools.{AreSlicesOf, IsSoundPool}
 use Rattle.pool_model.specs.Taken.{JoinsBook, KeepsOthers, KeepsRest, LacksDrive, SeatsNew, attached, taken}
 use Rattle.pool_model.proofs.Again.{known_again, left_by, left_known_by, off_later}
@@ -145,14 +145,13 @@ service_attached f t v w disk x z is keeps after arrays =
 
 -- ---- what it is left as
 
--- what disks say is no part of what it is to hold a pool again
-again_said : (f : Found) (e : Identities) (t : Slices) (v : Raid) (i : Image) → HoldAgain (record f { identities = e }) t v.state i → HoldAgain f t v.state i
-again_said f e t v i is = record {
+-- what disks say is no part of what it is to hold a pool
+unfoldable pub still_said : (f : Found) (e : Identities) (t : Slices) (s : State) (i : Image) → HoldStill (record f { identities = e }) t s i → HoldStill f t s i
+still_said f e t s i is = record {
   now = is.now;
   found_is = is.found_is;
   sound = is.sound;
   logs = is.logs;
-  idle = is.idle;
   state = is.state;
   seats = is.seats;
   slices = is.slices;
@@ -160,6 +159,9 @@ again_said f e t v i is = record {
   alone = is.alone;
   values = is.values;
 }
+
+again_said : (f : Found) (e : Identities) (t : Slices) (v : Raid) (i : Image) → HoldAgain (record f { identities = e }) t v.state i → HoldAgain f t v.state i
+again_said f e t v i is = record { still = still_said f e t v.state i is.still; idle = is.idle }
 
 -- Where its arrays are told and none is over, whatever the disks may be left with holds it again.
 pub service_again : (f : Found) (t : Slices) (v : Raid) (x : Seen) → InService f t v x → IsInside t x

@@ -3,11 +3,14 @@ pub mod Named
 pub mod Found
 pub mod Outset
 pub mod Logs
-pub mod Copies
+pub mod Said
 pub mod Seats
+pub mod Copies
 pub mod Rested
 pub mod Layers
 pub mod Extents
+pub mod Known
+pub mod Still
 pub mod Alike
 pub mod Before
 pub mod Joined
@@ -16,6 +19,10 @@ pub mod Taken
 pub mod TakenSlices
 pub mod Staying
 pub mod Again
+pub mod Stopped
+pub mod Brought
+pub mod Inside
+pub mod Pending
 pub mod Undamaged
 pub mod Values
 pub mod Refused
@@ -23,6 +30,7 @@ pub mod Skipped
 pub mod Lacking
 pub mod Spare
 pub mod Roles
+pub mod Framed
 pub mod Standing
 pub mod Away
 pub mod Unrefused
@@ -37,6 +45,8 @@ mod AbsentExamples
 pub mod Declined
 pub mod Vacant
 pub mod InService
+pub mod Amid
+pub mod Tables
 pub mod Lost
 pub mod Serials
 pub mod NewMembers

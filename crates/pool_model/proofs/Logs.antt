@@ -2,21 +2,20 @@
 use Rattle.std.proofs.Common.{◌≡◌, ℕ, ◌+◌, ◌<◌, ◌≤◌, Bool, if◌then◌else◌, [], Option, Some, None, unwrap_or, sym, ap, ap₂, ◌∙◌, lt-ltb, arith}
 use Rattle.std.specs.Option.{option_map_or}
 use Rattle.std.specs.Result.{result_ok}
-use Rattle.rack.specs.Seen.{Image, Seen}
+use Rattle.rack.specs.Seen.{Image}
 use Rattle.slice_rack.specs.Slices.{Slices, disk_of, first_of, seat_of, sectors_of}
 use Rattle.slice_rack.specs.Sliced.{sliced}
-use Rattle.pool_state.specs.declared.contents.State.{State}
 use Rattle.pool_state.specs.Sector.{decoded}
 use Rattle.array_image.specs.Places.{arrays_first, log_sectors, log_slice, place_of, state_sector}
 use Rattle.pool_image.specs.Disks.{identities_of}
 use Rattle.pool_image.specs.Drives.{Found, extent_of}
 use Rattle.pool_image.specs.Replay.{Extent}
-use Rattle.pool_model.specs.Left.{IsLeftBy}
+use Rattle.pool_model.proofs.Said.{AreInside}
 use Rattle.pool_model.specs.Pools.{extent_in}
 
-module _ (f : Found) (t : Slices) {s : State} (y : Seen) (i : Image) (left : IsLeftBy f t s y i) (p d : ℕ) (seat : seat_of t p ≡ Some d)
+module _ (f : Found) (t : Slices) (i : Image) (inside : AreInside f t) (p d : ℕ) (seat : seat_of t p ≡ Some d)
     (lies : extent_of f 0 ≡ Some (extent_in t (log_slice p))) where
-  log_lies : (first_of t (log_slice p) ≡ state_sector) × (sectors_of t (log_slice p) ≡ log_sectors)
+  pub log_lies : (first_of t (log_slice p) ≡ state_sector) × (sectors_of t (log_slice p) ≡ log_sectors)
   unfolding extent_of
   log_lies = (
     sym (ap (λ (o : Option Extent). option_map_or (λ e. e.first) o 0) lies),
@@ -32,10 +31,10 @@ module _ (f : Found) (t : Slices) {s : State} (y : Seen) (i : Image) (left : IsL
   -- it has all of its log slice
   pub room_in : arrays_first ≤ f.disks.sectors d
   room_in =
-      let inside = left.inside (log_slice p) d on_place (let many = log_lies.1 in omega (arith, many)) in
+      let within = inside (log_slice p) d on_place (let many = log_lies.1 in omega (arith, many)) in
       let first = log_lies.0 in
       let many = log_lies.1 in
-      omega (arith, inside, first, many)
+      omega (arith, within, first, many)
 
   pub reads_in : (u : ℕ) → u < log_sectors → sliced t i (log_slice p) u ≡ i d (state_sector + u)
   reads_in u low =
@@ -43,10 +42,10 @@ module _ (f : Found) (t : Slices) {s : State} (y : Seen) (i : Image) (left : IsL
       (lt-ltb u (sectors_of t (log_slice p)) (let many = log_lies.1 in omega (arith, low, many)))
       ∙ ap₂ (λ e first. i e (first + u)) log_disk log_lies.0
 
-  pub many_in : y.sectors (log_slice p) ≡ log_sectors
-  many_in = left.sectors (log_slice p) ∙ log_lies.1
+  pub many_in : sectors_of t (log_slice p) ≡ log_sectors
+  many_in = log_lies.1
 
-  pub there_in : 0 < y.sectors (log_slice p)
+  pub there_in : 0 < sectors_of t (log_slice p)
   there_in = let many = many_in in omega (arith, many)
 
   -- its copy of the state

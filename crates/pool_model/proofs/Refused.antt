@@ -23,12 +23,14 @@ use Rattle.pool_image.specs.Disks.{Identity}
 use Rattle.pool_image.specs.Drives.{Found, found}
 use Rattle.pool_image.specs.Meaning.{Part, Refusal, absent, absent_count, arrays_of, bad_volume, damage_of, damage_on, damaged, dirty_degraded, first_damaged, has_log, has_other_pool, has_supers, has_table, in_log, in_state, in_superblock, in_table, is_dirty_degraded, is_member, is_too_few, joined_arrays, lacking_of, no_pool, refusal_of, refused_at, refused_by, shape_of, super_at, too_few, truth_of, two_pools}
 use Rattle.pool_image.specs.Volumes.{first_bad}
+use Rattle.pool_image.specs.Replay.{Standing}
 use Rattle.pool_model.specs.Left.{LeavesClean}
-use Rattle.pool_model.proofs.Again.{same}
-use Rattle.pool_model.proofs.Copies.{IsKnown, ahead_of, c, copied_now, current_before, ids, other_same, s, seat_there, seated_or}
-use Rattle.pool_model.proofs.Extents.{is, is_is, left, made_same, member_same, truth_is, was, was_is}
+use Rattle.pool_model.proofs.Copies.{ahead_of, c, copied_now, current_before, ids, IsKnown, other_same, s, seat_there, seated_or, seats_now}
+use Rattle.pool_model.proofs.Extents.{is, is_is, made_same, member_same, truth_is, was, was_is}
+use Rattle.pool_model.proofs.Known.{left, says_pool}
 use Rattle.pool_model.proofs.Rested.{found_now, now, stands_so, stood}
-use Rattle.pool_model.proofs.Seats.{seats_now}
+use Rattle.pool_model.proofs.Said.{SaysPool}
+use Rattle.pool_model.proofs.Still.{same}
 use Rattle.pool_model.proofs.Undamaged.{find_false, present_now, sound_parts}
 use Rattle.pool_model.proofs.Values.{HoldValues, bad_same, shape_same}
 
@@ -175,6 +177,12 @@ module _ (f : Found) (t : Slices) (v : Raid) (y : Seen) (i : Image) (known : IsK
   abbrev g : Found
   g = now f t v y i known
 
+  abbrev at_rest : Standing
+  at_rest = stood f t v y i known
+
+  abbrev said : SaysPool f t v.state i
+  said = says_pool f t v y i known
+
   ready : (n : ℕ) → n < f.state.made → n < f.state.joined
   ready n low = omega (arith, low, all)
 
@@ -183,15 +191,15 @@ module _ (f : Found) (t : Slices) (v : Raid) (y : Seen) (i : Image) (known : IsK
   module _ (p : ℕ) (here : is_current book p ≡ true) where
     supers_now : has_supers g p ≡ true
     supers_now =
-        ap (λ m. list_all (λ n. not (is_member g n p) || is_some (super_at g n p)) (range_with_len 0 m)) (made_same f t v y i known)
+        ap (λ m. list_all (λ n. not (is_member g n p) || is_some (super_at g n p)) (range_with_len 0 m)) (made_same f t v.state i at_rest said)
         ∙ all_range (λ n. not (is_member g n p) || is_some (super_at g n p)) 0 f.state.made (λ n low. each n (omega (arith, low)))
       where
         each : (n : ℕ) → n < f.state.made → (not (is_member g n p) || is_some (super_at g n p)) ≡ true
         each n low = elim (cases_Bool (is_member f n p)) [
-          | inr none ↦ ap (λ b. not b || is_some (super_at g n p)) (member_same f t v y i known n low p ∙ none)
+          | inr none ↦ ap (λ b. not b || is_some (super_at g n p)) (member_same f t v.state i at_rest said n low p ∙ none)
           | inl member ↦
-              ap₂ (λ b o. not b || o) (member_same f t v y i known n low p ∙ member)
-              (ap is_some (same f t v y i known n low p here) ∙ supers.there n p held (ready n low) here member (left f t v y i known))
+              ap₂ (λ b o. not b || o) (member_same f t v.state i at_rest said n low p ∙ member)
+              (ap is_some (same f t v.state i at_rest said n low p here) ∙ supers.there n p held (ready n low) here member (left f t v y i known))
         ]
 
     undamaged : damage_of g p ≡ None
@@ -222,13 +230,13 @@ module _ (f : Found) (t : Slices) (v : Raid) (y : Seen) (i : Image) (known : IsK
   enough_now =
       find_none (is_too_few g) 0 book.made
       (λ n low.
-      let less : n < f.state.made = (let made = made_same f t v y i known in omega (arith, low, made)) in
+      let less : n < f.state.made = (let made = made_same f t v.state i at_rest said in omega (arith, low, made)) in
       ap (λ (o : Option Shape). option_map_or (λ shape. nat_lt 1 (lacking_of shape)) o true) (shape_same f t v y i known holds n (ready n less)) ∙ enough f passes n less)
 
   clean_now : find (is_dirty_degraded g) (arrays_of g) ≡ None
   clean_now =
       find_none (is_dirty_degraded g) 0 book.made
-      (λ n low. each n (let made = made_same f t v y i known in omega (arith, low, made)))
+      (λ n low. each n (let made = made_same f t v.state i at_rest said in omega (arith, low, made)))
     where
       either : (a b u w : Bool) → (a && (b && u)) ≡ false → a ≡ true → (u ≡ false → w ≡ false) → (a && (b && w)) ≡ false
       either true true u w none on clean = clean none
@@ -239,17 +247,17 @@ module _ (f : Found) (t : Slices) (v : Raid) (y : Seen) (i : Image) (known : IsK
       each n low =
           let less = ready n low in
           let joined : g.state.joined ≡ f.state.joined = known.served.after.same.joined in
-          let before : Super = was f t v y i known n low in
-          let after : Super = is f t v y i known n low in
+          let before : Super = was f t v.state i at_rest said n low in
+          let after : Super = is f t v.state i at_rest said n low in
           ap₂ (λ (k : ℕ) (o : Option Shape). nat_lt n k && (option_map_or (λ shape. nat_lt 0 (lacking_of shape)) o false && option_map_or is_unclean (truth_of g n) false)) joined
           (shape_same f t v y i known holds n less)
           ∙ ap (λ (o : Option Super). nat_lt n f.state.joined && (option_map_or (λ shape. nat_lt 0 (lacking_of shape)) (shape_of f n) false && option_map_or is_unclean o false))
-          (truth_is f t v y i known n low)
+          (truth_is f t v.state i at_rest said n low)
           ∙ either (nat_lt n f.state.joined) (option_map_or (λ shape. nat_lt 0 (lacking_of shape)) (shape_of f n) false) (option_map_or is_unclean (truth_of f n) false) (is_unclean after)
           (not_dirty f passes n low) (lt-ltb n f.state.joined less)
           (λ clean.
-          supers.clean n held less (left f t v y i known) before after (was_is f t v y i known n low)
-          (sym (ap (λ (o : Option Super). option_map_or is_unclean o false) (was_is f t v y i known n low)) ∙ clean) (is_is f t v y i known n low))
+          supers.clean n held less (left f t v y i known) before after (was_is f t v.state i at_rest said n low)
+          (sym (ap (λ (o : Option Super). option_map_or is_unclean o false) (was_is f t v.state i at_rest said n low)) ∙ clean) (is_is f t v.state i at_rest said n low))
 
   -- ---- its refusal
 

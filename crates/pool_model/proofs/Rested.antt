@@ -23,8 +23,7 @@ use Rattle.pool_image.specs.Drives.{Found, found, found_by}
 use Rattle.pool_image.specs.Replay.{Extent, Standing, brought_state, log_extent, logs_of, standing, standing_by, written}
 use Rattle.pool_image.proofs.Rested.{written_none}
 use Rattle.pool_rest.specs.SoundLogs.{HasSoundLogs}
-use Rattle.pool_model.proofs.Copies.{IsKnown, c, ids, kept, log_many, log_reads, log_room, newest_now, nothing_pending, s, seat_there, stands, state_is}
-use Rattle.pool_model.proofs.Seats.{none_former, seats_now}
+use Rattle.pool_model.proofs.Copies.{IsKnown, c, ids, kept, log_many, log_reads, log_room, newest_now, none_former, nothing_pending, s, seat_there, seats_now, stands, state_is}
 
 module _ (f : Found) (t : Slices) (v : Raid) (y : Seen) (i : Image) (known : IsKnown f t v y i) where
   abbrev pub book : State

@@ -1,99 +1,124 @@
--- Each current place has the drive that it had.
-use Rattle.std.proofs.Common.{◌≡◌, ℕ, ◌<◌, ◌≤◌, true, false, if◌then◌else◌, map, Option, Some, None, option_map, refl, sym, ap, ◌∙◌, inl, inr, arith}
-use Rattle.std.specs.Option.{option_map_or}
+-- Each current place has the drive that it had, where disks say so.
+use Rattle.std.proofs.Common.{◌≡◌, ◌⊎◌, ℕ, ◌<◌, ◌≤◌, true, false, bytes_eq, if◌then◌else◌, map, position, Option, Some, None, option_map, refl, sym, ap, subst, ◌∙◌, inl, inr, arith}
+use Rattle.std.specs.Option.{option_and_then, option_map_or}
 use Rattle.std.specs.List.{range_with_len}
 use Rattle.std.proofs.lemmas.Bool.{cases_Bool}
-use Rattle.rack.specs.Seen.{Image, Seen}
-use Rattle.slice_rack.specs.Slices.{Slices}
+use Rattle.rack.specs.Seen.{Image}
 use Rattle.pool_state.specs.declared.contents.Copied.{Copied}
 use Rattle.pool_state.specs.declared.contents.State.{State}
 use Rattle.array_image.specs.Foremost.{foremost}
 use Rattle.array_image.specs.States.{epoch_of, is_current}
 use Rattle.array_core.proofs.Leading.{Leads, leads_foremost}
-use Rattle.raid_rack.specs.Raid.{Raid}
-use Rattle.pool_image.specs.Disks.{Candidate, Identity, candidate, seat_of, stands_for}
+use Rattle.raid_rack.proofs.Noted.{current_few}
+use Rattle.pool_image.specs.Disks.{Candidate, Disks, Identities, Identity, candidate, identities_of, seat_of, stands_for}
 use Rattle.pool_image.specs.Drives.{Found}
-use Rattle.pool_model.specs.InService.{epoch_at}
-use Rattle.pool_model.proofs.Copies.{IsKnown, ahead_of, copied_before, copied_now, copy_now, ids, no_earlier, no_later, other_same, s, seat_there, seated_or}
-use Rattle.pool_model.proofs.Named.{IsNamed, candidate_is, id_same, is_candidate, named_stands, same_position, stands_named, stands_same}
+use Rattle.pool_model.specs.InService.{HasSeat, epoch_at}
+use Rattle.pool_model.proofs.Found.{seated_below}
+use Rattle.pool_model.proofs.Named.{IsNamed, candidate_is, id_same, is_candidate, same_position, stands_named, stands_same}
+use Rattle.pool_model.proofs.Outset.{no_later_epoch}
+use Rattle.pool_model.proofs.Said.{SaysSeats}
 
-module _ (f : Found) (t : Slices) (v : Raid) (y : Seen) (i : Image) (known : IsKnown f t v y i) where
-  abbrev book : State
-  book = s f t v y i known
+some_same : {X : Type 0} (a b : X) → Some a ≡ Some b → a ≡ b
+some_same a b same = cc
 
+module _ (f : Found) (book : State) (i : Image) (said : SaysSeats f book i) where
   abbrev says : ℕ → Identity
-  says = ids f t v y i known
+  says = identities_of f.disks i
 
-  some_same : {X : Type 0} (a b : X) → Some a ≡ Some b → a ≡ b
-  some_same a b same = cc
+  abbrev ahead_of : (p d : ℕ) → f.seats p ≡ Some d → HasSeat f p d
+  ahead_of p d seat = said.is.seated p d seat
 
-  first_book : 1 ≤ book.epoch
-  first_book = let first = known.is.epoch in let up = no_earlier f t v y i known in omega (arith, first, up)
+  low_place : (p d : ℕ) → f.seats p ≡ Some d → p < 16
+  low_place p d seat = current_few f.state p said.is.places (ahead_of p d seat).current
+
+  -- a disk of the pool is some place's, or none's
+  seated_or : (d : ℕ) → ((p : ℕ) × (f.seats p ≡ Some d)) ⊎ ((p : ℕ) → f.seats p ≡ Some d → ⊥)
+  seated_or d = elim (seated_below f.seats d 16) [
+    | inl one ↦ inl one
+    | inr none ↦ inr (λ p seat. none p (low_place p d seat) seat)
+  ]
 
   -- a current place's drive stands for it
   pub stands_now : (p d : ℕ) → is_current book p ≡ true → f.seats p ≡ Some d → stands_for book (says d) ≡ Some p
   stands_now p d now seat =
-      let copy = copy_now f t v y i known p d seat now in
-      let named : IsNamed f.state (f.identities d) p = stands_named f.state (f.identities d) p (ahead_of f t v y i known p d seat).stands in
-      ap (λ o. stands_for book (record { copied = o; table = (says d).table })) (copied_now f t v y i known p d seat now)
-      ∙ named_stands book (says d).table copy.own p named.id
-      (same_position named.id book.drives.items f.state.drives.items known.served.after.same.drives ∙ named.first)
-      (copy.drive ∙ id_same f.state book known.served.after.same p ∙ named.place)
+      let copy = said.copies p d now seat in
+      let named : IsNamed f.state (f.identities d) p = stands_named f.state (f.identities d) p (ahead_of p d seat).stands in
+      ap (λ o. stands_for book (record { copied = o; table = (says d).table })) copy.is
+      ∙ ap (option_and_then (λ id. position (λ drive. bytes_eq drive.id.0 id) book.drives.items)) (copy.drive ∙ id_same f.state book said.after.same p ∙ named.place)
+      ∙ same_position named.id book.drives.items f.state.drives.items said.after.same.drives ∙ named.first
 
-  epoch_now : (p d : ℕ) → is_current book p ≡ true → f.seats p ≡ Some d → epoch_at (says d) ≡ book.epoch
-  epoch_now p d now seat = ap (λ (o : Option Copied). option_map_or epoch_of o 0) (copied_now f t v y i known p d seat now)
+  epoch_now : (p d : ℕ) → is_current book p ≡ true → f.seats p ≡ Some d → f.state.epoch ≤ epoch_at (says d)
+  epoch_now p d now seat =
+      let copy = said.copies p d now seat in
+      let since = copy.since in
+      let same : epoch_at (says d) ≡ copy.copy.state.epoch = ap (λ (o : Option Copied). option_map_or epoch_of o 0) copy.is in
+      omega (arith, since, same)
 
-  -- no disk has a later state
-  epoch_low : (q : ℕ) → q < f.disks.count → epoch_at (says q) ≤ book.epoch
-  epoch_low q low = of (says q).copied refl
+  -- a disk that is none of the pool's says no later state than the pool's
+  other_low : (q : ℕ) → ((p : ℕ) → f.seats p ≡ Some q → ⊥) → q < f.disks.count → epoch_at (says q) ≤ f.state.epoch
+  other_low q none low = subst (λ (z : Identity). epoch_at z ≤ f.state.epoch) (sym (said.others q none low)) (of (f.identities q).copied refl)
     where
-      of : (o : Option Copied) → (says q).copied ≡ o → option_map_or epoch_of o 0 ≤ book.epoch
+      of : (o : Option Copied) → (f.identities q).copied ≡ o → option_map_or epoch_of o 0 ≤ f.state.epoch
       of None none = omega arith
-      of (Some copy) some = elim (no_later f t v y i known q copy low some) [
-        | inl less ↦ omega (arith, less)
-        | inr same ↦ (let epoch : copy.state.epoch ≡ book.epoch = ap (λ (z : State). z.epoch) same in omega (arith, epoch))
-      ]
+      of (Some copy) some = no_later_epoch f.state copy (said.is.copies q copy low some)
+
+  -- a seated disk that stands for a place is its drive, or says an earlier state
+  seated_there : (p d q r : ℕ) → is_current book p ≡ true → f.seats p ≡ Some d → f.seats r ≡ Some q → stands_for book (says q) ≡ Some p
+      → (q ≡ d) ⊎ (epoch_at (says q) < epoch_at (says d))
+  seated_there p d q r now seat other stands = elim (cases_Bool (is_current book r)) [
+    | inr former ↦ inr (said.former r q p d other former seat now stands)
+    | inl counts ↦
+        let same : r ≡ p = some_same r p (sym (stands_now r q counts other) ∙ stands) in
+        inl (some_same q d (sym other ∙ ap f.seats same ∙ seat))
+  ]
 
   -- of the disks that stand for it those before its drive have earlier states
-  before_it : (p d q : ℕ) (z : Candidate) → is_current book p ≡ true → f.seats p ≡ Some d → q < d → candidate book says p q ≡ Some z → z.epoch < book.epoch
+  before_it : (p d q : ℕ) (z : Candidate) → is_current book p ≡ true → f.seats p ≡ Some d → q < d → candidate book says p q ≡ Some z → z.epoch < epoch_at (says d)
   before_it p d q z now seat less at =
-      let ahead = ahead_of f t v y i known p d seat in
+      let ahead = ahead_of p d seat in
       let there = ahead.low in
       let low : q < f.disks.count = omega (arith, there, less) in
       let one = is_candidate book says p q z at in
       let epoch = one.epoch in
-      elim (seated_or f t v y i known q) [
+      elim (seated_or q) [
         | inr none ↦
-            let same : says q ≡ f.identities q = other_same f t v y i known q none low in
+            let same : says q ≡ f.identities q = said.others q none low in
             let stands : stands_for f.state (f.identities q) ≡ Some p =
-            sym (stands_same f.state book known.served.after.same (f.identities q)) ∙ ap (stands_for book) (sym same) ∙ one.stands in
+            sym (stands_same f.state book said.after.same (f.identities q)) ∙ ap (stands_for book) (sym same) ∙ one.stands in
             let earlier = ahead.before q less none stands in
-            let up = no_earlier f t v y i known in
+            let from = epoch_now p d now seat in
             let was : epoch_at (says q) ≡ epoch_at (f.identities q) = ap (λ (k : Identity). option_map_or epoch_of k.copied 0) same in
-            omega (arith, epoch, earlier, up, was)
-        | inl other ↦ elim (cases_Bool (is_current book other.0)) [
-          | inl counts ↦
-              let same : other.0 ≡ p = some_same other.0 p (sym (stands_now other.0 q counts other.1) ∙ one.stands) in
-              let disk : q ≡ d = some_same q d (sym other.1 ∙ ap f.seats same ∙ seat) in
-              absurd (omega (arith, less, disk))
-          | inr former ↦
-              let below : epoch_at (says q) < book.epoch = of other.0 other.1 former (says q).copied refl in
-              omega (arith, epoch, below)
+            omega (arith, epoch, earlier, from, was)
+        | inl other ↦ elim (seated_there p d q other.0 now seat other.1 one.stands) [
+          | inl same ↦ absurd (omega (arith, less, same))
+          | inr below ↦ omega (arith, epoch, below)
         ]
       ]
-    where
-      of : (r : ℕ) → f.seats r ≡ Some q → is_current book r ≡ false → (o : Option Copied) → (says q).copied ≡ o → option_map_or epoch_of o 0 < book.epoch
-      of r other former None none = (let first = first_book in omega (arith, first))
-      of r other former (Some copy) some = copied_before f t v y i known r q other copy former some
+
+  -- and those after it no later ones
+  after_it : (p d q : ℕ) (z : Candidate) → is_current book p ≡ true → f.seats p ≡ Some d → d < q → q < f.disks.count → candidate book says p q ≡ Some z
+      → z.epoch ≤ epoch_at (says d)
+  after_it p d q z now seat late low at =
+      let one = is_candidate book says p q z at in
+      let epoch = one.epoch in
+      elim (seated_or q) [
+        | inr none ↦
+            let most = other_low q none low in
+            let from = epoch_now p d now seat in
+            omega (arith, epoch, most, from)
+        | inl other ↦ elim (seated_there p d q other.0 now seat other.1 one.stands) [
+          | inl same ↦ absurd (omega (arith, late, same))
+          | inr below ↦ omega (arith, epoch, below)
+        ]
+      ]
 
   pub seats_now : (p : ℕ) → is_current book p ≡ true → seat_of book f.disks says p ≡ f.seats p
   unfolding seat_of
   seats_now p now =
-      let one = seat_there f t v y i known p now in
+      let one = said.drives p now in
       let d = one.0 in
       let seat = one.1 in
-      let low = (ahead_of f t v y i known p d seat).low in
-      let epoch = epoch_now p d now seat in
+      let low = (ahead_of p d seat).low in
       let here : Candidate = record { disk = d; epoch = epoch_at (says d) } in
       let leads : Leads (λ (k : Candidate). k.epoch) (candidate book says p) 0 f.disks.count here =
       record {
@@ -101,18 +126,15 @@ module _ (f : Found) (t : Slices) (v : Raid) (y : Seen) (i : Image) (known : IsK
         least = omega arith;
         most = omega (arith, low);
         here = candidate_is book says p d (stands_now p d now seat);
-        before = λ q z from less at. let earlier = before_it p d q z now seat less at in omega (arith, earlier, epoch);
-        after = λ q z late within at.
-            let most = epoch_low q (omega (arith, within)) in
-            let is = (is_candidate book says p q z at).epoch in
-            omega (arith, most, is, epoch);
+        before = λ q z from less at. before_it p d q z now seat less at;
+        after = λ q z late within at. after_it p d q z now seat late (omega (arith, within)) at;
       } in
       ap (λ b. if b then option_map (λ (k : Candidate). k.disk) (foremost (λ (k : Candidate). k.epoch) (map (candidate book says p) (range_with_len 0 f.disks.count))) else None) now
       ∙ ap (option_map (λ (k : Candidate). k.disk)) (leads_foremost (λ (k : Candidate). k.epoch) (candidate book says p) 0 f.disks.count here leads)
       ∙ sym seat
 
-  -- a place that isn't current has none
-  pub none_former : (p : ℕ) → is_current book p ≡ false → seat_of book f.disks says p ≡ None
-  unfolding seat_of
-  none_former p former =
-      ap (λ b. if b then option_map (λ (k : Candidate). k.disk) (foremost (λ (k : Candidate). k.epoch) (map (candidate book says p) (range_with_len 0 f.disks.count))) else None) former
+-- a place that isn't current has no drive
+pub nowhere : (s : State) (disks : Disks) (ids : Identities) (p : ℕ) → is_current s p ≡ false → seat_of s disks ids p ≡ None
+unfolding seat_of
+nowhere s disks ids p former =
+    ap (λ b. if b then option_map (λ (k : Candidate). k.disk) (foremost (λ (k : Candidate). k.epoch) (map (candidate s ids p) (range_with_len 0 disks.count))) else None) former

@@ -19,12 +19,14 @@ use Rattle.pool_image.specs.Alike.{drive_gate}
 use Rattle.pool_image.specs.Drives.{Found, extent_of, slices_of}
 use Rattle.pool_image.specs.Meaning.{absent_count, has_log, has_slice, has_slice_of, has_table, is_member, is_table, kind_of}
 use Rattle.pool_image.proofs.Rested.{gate_block}
+use Rattle.pool_image.specs.Replay.{Standing}
 use Rattle.pool_model.specs.Left.{HasSoundParts}
-use Rattle.pool_model.proofs.Copies.{IsKnown, c, copied_now, log_reads, log_room, s, seat_there}
+use Rattle.pool_model.proofs.Copies.{c, copied_now, IsKnown, log_reads, log_room, s, seat_there, seats_now}
 use Rattle.pool_model.proofs.Extents.{lies_now, made_same, member_same}
+use Rattle.pool_model.proofs.Known.{says_pool}
 use Rattle.pool_model.proofs.Named.{id_same}
-use Rattle.pool_model.proofs.Rested.{log_same, logs, logs_whole, now}
-use Rattle.pool_model.proofs.Seats.{seats_now}
+use Rattle.pool_model.proofs.Rested.{log_same, logs, logs_whole, now, stood}
+use Rattle.pool_model.proofs.Said.{SaysPool}
 
 -- ---- lists
 
@@ -69,6 +71,12 @@ module _ (f : Found) (t : Slices) (v : Raid) (y : Seen) (i : Image) (known : IsK
   abbrev g : Found
   g = now f t v y i known
 
+  abbrev rest : Standing
+  rest = stood f t v y i known
+
+  abbrev said : SaysPool f t v.state i
+  said = says_pool f t v y i known
+
   -- each current place has its drive
   pub present_now : absent_count g ≡ 0
   unfolding current_places
@@ -84,15 +92,15 @@ module _ (f : Found) (t : Slices) (v : Raid) (y : Seen) (i : Image) (known : IsK
     slice_same table k n low =
         let next : n + 1 ≡ suc n = omega arith in
         ap (λ o. option_map_or (has_slice k table (n + 1 + 1) (kind_of (n + 1))) o false)
-        (ap (extent_of g) next ∙ lies_now f t v y i known n low ∙ sym (ap (extent_of f) next))
+        (ap (extent_of g) next ∙ lies_now f t v.state i rest said n low ∙ sym (ap (extent_of f) next))
 
     members_same : (table : Table) (k : ℕ)
         → list_all (λ n. not (is_member g n p) || has_slice_of g k table (n + 1)) (range_with_len 0 book.made)
         ≡ list_all (λ n. not (is_member f n p) || has_slice_of f k table (n + 1)) (range_with_len 0 f.state.made)
     members_same table k =
-        ap (λ m. list_all (λ n. not (is_member g n p) || has_slice_of g k table (n + 1)) (range_with_len 0 m)) (made_same f t v y i known)
+        ap (λ m. list_all (λ n. not (is_member g n p) || has_slice_of g k table (n + 1)) (range_with_len 0 m)) (made_same f t v.state i rest said)
         ∙ all_below (λ n. not (is_member g n p) || has_slice_of g k table (n + 1)) (λ n. not (is_member f n p) || has_slice_of f k table (n + 1)) 0 f.state.made
-        (λ n low. let less : n < f.state.made = omega (arith, low) in ap₂ (λ a b. not a || b) (member_same f t v y i known n less p) (slice_same table k n less))
+        (λ n low. let less : n < f.state.made = omega (arith, low) in ap₂ (λ a b. not a || b) (member_same f t v.state i rest said n less p) (slice_same table k n less))
 
     is_table_same : (table : Table) (k : ℕ) → is_table g p k table ≡ is_table f p k table
     unfolding extent_of

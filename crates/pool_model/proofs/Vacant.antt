@@ -24,10 +24,11 @@ use Rattle.raid_rack.proofs.Noted.{current_few}
 use Rattle.pool_model.specs.InService.{IsOutset}
 use Rattle.pool_model.specs.Left.{IsLeftBy, IsPickOff}
 use Rattle.pool_model.specs.Pools.{AreSlicesOf, extent_in}
+use Rattle.pool_model.specs.Stopped.{AreSlicesNow}
 use Rattle.pool_model.specs.Taken.{KeepsOff, LacksDrive}
 use Rattle.pool_model.proofs.Again.{AreOnDisks, off_later}
 use Rattle.pool_model.proofs.Before.{off_before, was as image_before, was_other as image_other}
-use Rattle.pool_model.proofs.Copies.{AreSlicesNow, IsKnown, IsServedNow}
+use Rattle.pool_model.proofs.Copies.{IsKnown, IsServedNow}
 use Rattle.pool_model.proofs.Found.{ok_of}
 use Rattle.pool_model.proofs.Logs.{copied_in, there_in}
 
@@ -133,9 +134,9 @@ known_vacant f t u v x place i outset same slices lacks served left off = record
         let few = current_few f.state p outset.places (outset.seated p d seat).current in
         let on : seat_of u p ≡ Some d = seat_other t u place lacks.vacated p other ∙ slices.seats p ∙ seat in
         let lies = logs_other t u place lacks.vacated f slices v.state lacks.missing p d other seat in
-        let there = there_in f u (slices_of u x) i left p d on lies in
+        let there = there_in f u i left.inside p d on lies in
         log.copies.earlier p (sliced u i (log_slice p) 0) copy few former there (left.picks.picks (log_slice p) 0 (log.logs p 0 few there))
-        (ok_of (decoded (sliced u i (log_slice p) 0)) copy (sym (copied_in f u (slices_of u x) i left p d on lies) ∙ here)))
+        (ok_of (decoded (sliced u i (log_slice p) 0)) copy (sym (copied_in f u i left.inside p d on lies) ∙ here)))
   ];
 }
 

@@ -14,12 +14,15 @@ use Rattle.pool_image.specs.Meaning.{array_sectors, arrays_held, joined_arrays, 
 use Rattle.pool_image.specs.Volumes.{Arrays, first_bad}
 use Rattle.pool_image.proofs.Groups.{AreWholeArrays}
 use Rattle.pool_image.proofs.Joined.{AreAlike, bad_kept, group_kept, volumes_kept}
+use Rattle.pool_image.specs.Replay.{Standing}
 use Rattle.pool_model.specs.Left.{HoldSame}
-use Rattle.pool_model.proofs.Again.{known_again, members, same}
-use Rattle.pool_model.proofs.Copies.{IsKnown, c, s}
+use Rattle.pool_model.proofs.Again.{known_again}
+use Rattle.pool_model.proofs.Copies.{c, IsKnown, s}
+use Rattle.pool_model.proofs.Still.{members, same}
 use Rattle.pool_model.proofs.Current.{array_current, shape_current}
-use Rattle.pool_model.proofs.Extents.{says}
-use Rattle.pool_model.proofs.Rested.{now}
+use Rattle.pool_model.proofs.Known.{says, says_pool}
+use Rattle.pool_model.proofs.Rested.{now, stood}
+use Rattle.pool_model.proofs.Said.{SaysPool}
 use Rattle.pool_model.proofs.Undamaged.{present_now, sound_parts}
 
 -- No sector of the arrays that are ready for the volume is spent, and they have the sectors and the contents of the pool's, whole sectors with
@@ -42,6 +45,12 @@ module _ (f : Found) (t : Slices) (v : Raid) (y : Seen) (i : Image) (known : IsK
   abbrev g : Found
   g = now f t v y i known
 
+  abbrev rest : Standing
+  rest = stood f t v y i known
+
+  abbrev said : SaysPool f t v.state i
+  said = says_pool f t v y i known
+
   all_valid : (1 ≤ f.state.joined) × (f.state.joined ≤ f.state.made)
   all_valid = known.is.joined
 
@@ -51,7 +60,7 @@ module _ (f : Found) (t : Slices) (v : Raid) (y : Seen) (i : Image) (known : IsK
   module _ (n : ℕ) (low : n < f.state.joined) where
     shape_now : shape_found g n ≡ Some (shape_of (v.arrays n))
     shape_now =
-        shape_current book (slices_of g) held n (same f t v y i known n (made_low n low))
+        shape_current book (slices_of g) held n (same f t v.state i rest said n (made_low n low))
         ∙ (says f t v y i known n (made_low n low)).shape_is
 
     sectors_now : array_sectors g n ≡ array_sectors f n
@@ -62,7 +71,7 @@ module _ (f : Found) (t : Slices) (v : Raid) (y : Seen) (i : Image) (known : IsK
     values_now x inside =
         let less = made_low n low in
         let alive : live_of v n x = holds.live n x low (subst (λ k. x < k) (sym (holds.sectors n low)) inside) in
-        array_current book (slices_of g) held n (same f t v y i known n less) (members f t v y i known n less) x
+        array_current book (slices_of g) held n (same f t v.state i rest said n less) (members f t v.state i rest said n less) x
         ∙ ap (λ (o : Option Shape). option_map_or (λ shape. value_by shape held n x) o []) (says f t v y i known n less).shape_is
         ∙ holds.values n x (value_by (shape_of (v.arrays n)) held n x) low inside alive ((says f t v y i known n less).value x alive)
 

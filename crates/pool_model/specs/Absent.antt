@@ -76,4 +76,4 @@ volume_arrays t v i = λ n x. if nat_lt x (sectors_in (v.arrays n)) then arrays_
 -- Contents that such a pool leaves hold it again, and any one of its drives may be absent.
 pub record HoldAbsent (f : Found) (t : Slices) (s : State) (i : Image) : Type 0 where
   pub again : HoldAgain f t s i
-  pub safe : IsSafeInAbsence f.disks i again.now
+  pub safe : IsSafeInAbsence f.disks i again.still.now

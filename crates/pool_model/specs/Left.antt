@@ -78,20 +78,24 @@ pub record HaveSlices (g : Found) (t : Slices) : Type 0 where
       (n p : ℕ) → n < g.state.made → is_current g.state p ≡ true → is_member g n p ≡ true → extent_of g (suc n) ≡ Some (extent_in t (member_slice p n))
   pub others : (n p : ℕ) → n < g.state.made → is_member g n p ≡ false → sectors_of t (member_slice p n) ≡ 0
 
--- Contents of disks hold a sound pool again, by the state s: each of its places has the drive that it had in f. Nothing is pending, no
--- log is damaged, its slices are those of t, and its arrays hold what these give.
-pub record HoldAgain (f : Found) (t : Slices) (s : State) (i : Image) : Type 0 where
+-- Contents of disks hold a sound pool, by the state s, whatever stop left them: each of its places has the drive that it had in f. No log is damaged,
+-- what is pending brings just this state, its slices are those of t, and its arrays hold what these give once that is written.
+pub record HoldStill (f : Found) (t : Slices) (s : State) (i : Image) : Type 0 where
   pub now : Found
   pub found_is : found f.disks i ≡ Some now
   pub sound : IsSoundPool now
   pub logs : HasSoundLogs f.disks i
-  pub idle : (before : Standing) → standing f.disks i ≡ Some before → before.targets ≡ []
   pub state : now.state ≡ s
   pub seats : (p : ℕ) → is_current s p ≡ true → now.seats p ≡ f.seats p
   pub slices : HaveSlices now t
   pub joined : now.state.joined ≡ now.state.made
   pub alone : AreAlone now i
   pub values : (n x : ℕ) → n < f.state.made → arrays_held now n x ≡ arrays_in (replayed (sectors_of t) (sliced t i)) n x
+
+-- They hold it so, and nothing is pending.
+pub record HoldAgain (f : Found) (t : Slices) (s : State) (i : Image) : Type 0 where
+  pub still : HoldStill f t s i
+  pub idle : (before : Standing) → standing f.disks i ≡ Some before → before.targets ≡ []
 
 -- A drive of a pool g, which is found after f: its table is as good as it was, it has a copy of the state, and its log is well formed.
 pub record HasSoundParts (f g : Found) (p d : ℕ) : Type 0 where
@@ -108,11 +112,11 @@ LeavesClean f s n r = (t u : Super) → truth_of f n ≡ Some t → is_unclean t
 -- Each array that is ready for the volume has the shape that it had: the same members count, as far as they did, so it is too few just where it was.
 pub record HoldSame (f : Found) (t : Slices) (s : State) (i : Image) : Type 0 where
   pub again : HoldAgain f t s i
-  pub sectors : (n : ℕ) → n < f.state.joined → array_sectors again.now n ≡ array_sectors f n
-  pub values : (n x : ℕ) → n < f.state.joined → x < array_sectors f n → arrays_held again.now n x ≡ arrays_held f n x
-  pub group : group_of again.now ≡ group_of f
-  pub bad : first_bad (joined_arrays again.now) ≡ first_bad (joined_arrays f)
-  pub present : absent_count again.now ≡ 0
-  pub parts : (p d : ℕ) → is_current s p ≡ true → f.seats p ≡ Some d → HasSoundParts f again.now p d
-  pub shapes : (n : ℕ) → n < f.state.joined → shape_of again.now n ≡ shape_of f n
-  pub volumes : first_bad (joined_arrays f) ≡ None → AreSame (volumes_of f) (volumes_of again.now)
+  pub sectors : (n : ℕ) → n < f.state.joined → array_sectors again.still.now n ≡ array_sectors f n
+  pub values : (n x : ℕ) → n < f.state.joined → x < array_sectors f n → arrays_held again.still.now n x ≡ arrays_held f n x
+  pub group : group_of again.still.now ≡ group_of f
+  pub bad : first_bad (joined_arrays again.still.now) ≡ first_bad (joined_arrays f)
+  pub present : absent_count again.still.now ≡ 0
+  pub parts : (p d : ℕ) → is_current s p ≡ true → f.seats p ≡ Some d → HasSoundParts f again.still.now p d
+  pub shapes : (n : ℕ) → n < f.state.joined → shape_of again.still.now n ≡ shape_of f n
+  pub volumes : first_bad (joined_arrays f) ≡ None → AreSame (volumes_of f) (volumes_of again.still.now)

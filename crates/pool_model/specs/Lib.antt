@@ -1,5 +1,6 @@
 pub mod Pools
 pub mod Left
+pub mod Stopped
 pub mod Absent
 pub mod Taken
 pub mod InService

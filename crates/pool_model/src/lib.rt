@@ -1,4 +1,4 @@
-//! What the disks of a pool hold between two calls. The crate has definitions and lemmas alone, and no code.
+//! What the disks of a pool hold between two calls, and at a stop inside one. The crate has definitions and lemmas alone, and no code.
 //!
 //! **Its model.** `IsSoundPool f` says that the parts of a pool's drives agree, and `AreSlicesOf f t` that tables of slices are those of its
 //! drives (`specs/Pools.antt`). `IsServed f t v y` says of a pool `f` that its arrays stand by a book `v` on slices `y`, which lie as `t` has
@@ -13,6 +13,14 @@
 //! (`in_service`, `service_calls`, `service_attached`, `service_taken`, `service_again`, `vacant_again`).
 //! `proofs/Values.antt`: where no sector is spent and the arrays have the shapes of the pool's and hold what those did, their shapes, their group, the
 //! lowest bad array and the volumes are the same (`same_again`). `proofs/Named.antt`: which place a disk stands for goes by the ids of the drives (`seat_ahead`, `copy_names`).
+//! **Inside calls** (`specs/Stopped.antt`): `IsStopped f t base s i` says of contents `i` that a stop inside a call leaves, which began with the state
+//! `base`, what its slices and the rest of the disks say; then they hold the pool still, by the state `s`, once what is pending is written (`HoldStill`,
+//! `specs/Left.antt`; `stopped_still`, `proofs/Inside.antt`), and what is pending may be replayed by an opening that is stopped itself
+//! (`proofs/Pending.antt`). Of a call of a pool in service that writes slices alone, and that tells of its moments what a rack of arrays does
+//! (`KeepsMoments` of raid_rack), each stop leaves such contents, by a state between (`HoldAmid`; `service_amid`, `vacant_amid`, `proofs/Amid.antt`),
+//! where by them the drives' tables have the members' slices (`LieByTables`). Calls keep these tables (`HoldTables`, `tables_amid`; where drives were
+//! declined or taken in `proofs/Tables.antt`). What contents say of a pool, whatever made them so, stands in `proofs/Said.antt`.
+//!
 //! `proofs/Absent.antt`: any one drive of a whole pool may be absent, `IsWholePool` (`specs/Absent.antt`): the disks without its disk mean what all of
 //! them mean (`safe_in_absence`). `proofs/EndedWhole.antt`: so it is of all that disks may be left with by a pool that has ended whole, by its
 //! book and its slices, `EndsWhole` (`left_absent`). Which arrays are bad goes by what stands before their first extents (`proofs/Heads.antt`,

@@ -85,3 +85,22 @@ free_entry lower (Some f) e is = of_test (shares_any lower f) is
     of_test : (b : Bool) → (if b then None else Some f) ≡ Some e → Some f ≡ Some e
     of_test true at = absurd (none-some e at)
     of_test false at = at
+
+-- so the slices that a disk's table has share no sector
+pub extents_apart : (sectors : ℕ) (table : Option Table) (m n : ℕ) (a b : Extent) → m < n → extent_by sectors table (suc m) ≡ Some a → extent_by sectors table (suc n) ≡ Some b
+    → share b a ≡ false
+unfolding extent_by
+extents_apart sectors None m n a b low one two = absurd (none-some a one)
+extents_apart sectors (Some table) m n a b low one two = of (share b a) refl
+  where
+    by : (k : ℕ) (e : Extent) → extent_by sectors (Some table) (suc k) ≡ Some e → extent_at sectors table k ≡ Some e
+    by k e is = sym (extent_by_is sectors table k) ∙ ap (extent_by sectors (Some table)) (add-one k) ∙ is
+
+    of : (c : Bool) → share b a ≡ c → c ≡ false
+    of false is = refl
+    of true is =
+        let entry = free_entry (extents_below sectors table n) (entry_extent sectors table n) b (by n b two) in
+        let shares = below_shares sectors table b n m low (ap (λ (o : Option Extent). option_map_or (share b) o false) (by m a one) ∙ is) in
+        absurd (none-some b
+        (sym (ap (λ (c : Bool). if c then None else Some b) shares)
+        ∙ sym (ap (free_of (extents_below sectors table n)) entry) ∙ by n b two))

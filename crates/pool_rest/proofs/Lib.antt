@@ -2,8 +2,8 @@ mod Fewer
 mod Foremost
 mod GonePlaces
 mod Fronts
-mod Landings
-mod BroughtCopies
+pub mod Landings
+pub mod BroughtCopies
 pub mod Extents
 mod Cut
 mod CutDrives
@@ -13,6 +13,7 @@ mod OnDrives
 mod DriveReplays
 mod Agreeing
 mod Again
+pub mod SaidLogs
 mod SameMeaning
 mod Settled
 mod Sliced

@@ -13,7 +13,7 @@ use Rattle.array_image.specs.Record.{Gate, GateAt, gate_of, pending_at}
 use Rattle.array_image.specs.States.{current_places, is_current}
 use Rattle.array_image.specs.Places.{arrays_first, log_slice, place_of, slice_of}
 use Rattle.pool_image.specs.Alike.{drive_gate}
-use Rattle.pool_image.specs.Disks.{disks_of, seat_of as drive_of}
+use Rattle.pool_image.specs.Disks.{Disks, disks_of, seat_of as drive_of}
 use Rattle.pool_image.specs.Replay.{Standing, extent_by, standing}
 use Rattle.commit_log.specs.Standing.{IsAlike}
 use Rattle.commit_log.specs.View.{LogView, left_of}
@@ -31,13 +31,17 @@ BringsNoState x = (before : Standing) → standing (disks_of x) (now_in x) ≡ S
 abbrev pub IsGateBelow : ℕ → List ℕ → Type 0
 IsGateBelow number block = (g : Gate) × (gate_of block ≡ Some g) × (g.number < number)
 
--- each drive that the pending record takes in has a gate, of a lower number than the record's
-abbrev pub TakesLower : Seen → Type 0
-TakesLower x =
-    (before : Standing) → standing (disks_of x) (now_in x) ≡ Some before
+-- each drive that the record takes in that is pending on contents of disks has a gate, of a lower number than the record's
+abbrev pub TakesLowerIn : Disks → Image → Type 0
+TakesLowerIn disks c =
+    (before : Standing) → standing disks c ≡ Some before
     → (a : GateAt) (p d : ℕ) → pending_at (current_places before.state) before.logs ≡ Some a
-    → is_current before.state p ≡ false → drive_of (seated_state before.targets before.state) (disks_of x) before.identities p ≡ Some d
-    → arrays_first ≤ x.sectors d → IsGateBelow a.gate.number (now_in x d drive_gate)
+    → is_current before.state p ≡ false → drive_of (seated_state before.targets before.state) disks before.identities p ≡ Some d
+    → arrays_first ≤ disks.sectors d → IsGateBelow a.gate.number (c d drive_gate)
+
+-- so it is with what disks hold
+abbrev pub TakesLower : Seen → Type 0
+TakesLower x = TakesLowerIn (disks_of x) (now_in x)
 
 -- The record that a log found on these places brings the state s where s0 stands, or none. Its copies are of s. The places that are
 -- current by both keep their disks, that which the record is read from too; the others of s have gates of lower numbers.

@@ -5,10 +5,10 @@ use Rattle.rack.specs.Targets.{look}
 use Rattle.pool_state.specs.declared.contents.State.{State}
 use Rattle.pool_state.specs.Sector.{decoded}
 use Rattle.array_image.specs.Places.{log_slice, arrays_first}
-use Rattle.array_image.specs.Record.{Gate, GateAt, gate_of, pending_at, damaged_log}
+use Rattle.array_image.specs.Record.{Gate, GateAt, gate_of, gate_sector, pending_at, damaged_log}
 use Rattle.array_image.specs.States.{is_current, current_places}
-use Rattle.pool_image.specs.Disks.{Disks, disks_of, seat_of}
-use Rattle.pool_image.specs.Replay.{Standing, standing, standing_by}
+use Rattle.pool_image.specs.Disks.{Disks, disks_of, identities_of, newest, seat_of}
+use Rattle.pool_image.specs.Replay.{Standing, logs_of, standing, standing_by}
 use Rattle.pool_image.specs.Alike.{drive_gate, is_bad_block, MeansTheSame}
 use Rattle.pool_scan.specs.Scanning.{now_in}
 use Rattle.pool_rest.specs.Resting.{seated_state}
@@ -48,6 +48,19 @@ pub record HasSoundLogs (disks : Disks) (c : Image) : Type 0 where
   pub before : Standing
   pub stands : standing disks c ≡ Some before
   pub log : IsSoundLog disks c before (seated_state before.targets before.state)
+
+-- What contents i of the disks show of contents c of log slices, where these stand for the state s and the state t is brought: s is the newest state
+-- that a disk says, the drives of its current places hold these log slices, a place that is current by both states has one disk by both, and a place
+-- that t takes in has its gate on its disk.
+pub record ShowLogs (disks : Disks) (i c : Image) (s t : State) : Type 0 where
+  pub newest_is : newest disks (identities_of disks i) ≡ Some s
+  pub logs : (p u : ℕ) → is_current s p ≡ true → logs_of disks (seat_of s disks (identities_of disks i)) i (log_slice p) u ≡ c (log_slice p) u
+  pub seats :
+      (p : ℕ) → is_current s p ≡ true → is_current t p ≡ true
+      → seat_of t disks (identities_of disks i) p ≡ seat_of s disks (identities_of disks i) p
+  pub gates :
+      (p d : ℕ) → is_current s p ≡ false → seat_of t disks (identities_of disks i) p ≡ Some d → arrays_first ≤ disks.sectors d
+      → i d drive_gate ≡ c (log_slice p) gate_sector
 
 -- Nothing is pending and no log is damaged: the state is the one that the record brought, and the disks mean what they meant.
 pub record IsSettled (a b : Seen) (s : State) (is_pending : Bool) (damaged : Option ℕ) : Type 0 where

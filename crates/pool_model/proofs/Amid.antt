@@ -1,0 +1,297 @@
+-- What a stop inside a call of a pool in service leaves holds the pool still.
+--
+-- `service_amid` says it of a call that writes slices alone, from what the call tells of its moments (`KeepsMoments`); `vacant_amid` says it where a place
+-- whose drive is missing gave its disk up before. Beside `InService` they ask that the drives' tables in these contents have the members' slices
+-- (`LieByTables`): they have where the pool was found with such tables (`tables_begin`), and calls that write slices alone leave them so (`tables_calls`,
+-- `tables_amid`; for drives that were declined or taken in see proofs/Tables.antt).
+use Rattle.std.proofs.Common.{◌≡◌, ◌⊎◌, ℕ, ◌+◌, ◌<◌, ◌≤◌, ◌&&◌, Bool, false, nat_lt, if◌then◌else◌, List, [], length, Option, Some, unwrap_or, refl, sym, ap, ap₂, subst, ◌∙◌, inl, inr, add-one, le-ltb, ltb-true, arith}
+use Rattle.std.proofs.lemmas.Bool.{and_parts, cases_Bool, cases_eq}
+use Rattle.rack.specs.Moments.{Leaves}
+use Rattle.rack.specs.Seen.{Image, Seen}
+use Rattle.rack.specs.Sequences.{WritesOnly}
+use Rattle.slice_rack.specs.Runs.{IsSliced}
+use Rattle.slice_rack.specs.Slices.{IsOrderly, Slices, disk_of, first_of as slice_first, seat_of as slice_seat, sectors_of}
+use Rattle.slice_rack.specs.Sliced.{IsInside, sliced, slices_of}
+use Rattle.gpt_table.specs.declared.Table.{Table}
+use Rattle.md_super.specs.declared.superblock.Super.{Super}
+use Rattle.pool_state.specs.declared.contents.Copied.{Copied}
+use Rattle.pool_state.specs.declared.contents.State.{State}
+use Rattle.pool_state.specs.Sector.{decoded}
+use Rattle.array_image.specs.Arrays.{replayed}
+use Rattle.array_image.specs.Left.{IsInside as HasNothing}
+use Rattle.array_image.specs.Places.{log_slice}
+use Rattle.array_image.specs.SoundArray.{IsSoundArray}
+use Rattle.array_image.specs.States.{is_current}
+use Rattle.array_image.specs.Supers.{truth_in}
+use Rattle.array_model.specs.View.{HasGeometry}
+use Rattle.commit_log.proofs.Kept.{live_on}
+use Rattle.raid_rack.specs.Book.{IsAfter, after_same, after_then}
+use Rattle.raid_rack.specs.Frames.{Frame, frame_of}
+use Rattle.raid_rack.specs.Logs.{LogsBetween}
+use Rattle.raid_rack.specs.Raid.{IsTold, Raid, is_over}
+use Rattle.raid_rack.specs.Runs.{KeepsMoments}
+use Rattle.raid_rack.specs.Since.{AreSince}
+use Rattle.raid_rack.proofs.Frames.{geometry_frame}
+use Rattle.raid_rack.proofs.Noted.{current_few}
+use Rattle.raid_rack.proofs.Over.{number_room, someone_left}
+use Rattle.raid_rack.proofs.Since.{kept_since}
+use Rattle.pool_image.specs.Disks.{Disks, Identities, disks_of, identities_of}
+use Rattle.pool_image.specs.Drives.{Found, extent_of, slices_of as found_slices}
+use Rattle.pool_image.specs.Meaning.{is_member, truth_of}
+use Rattle.pool_image.specs.Replay.{extent_by}
+use Rattle.pool_model.specs.InService.{InService, IsArranged, IsSaid}
+use Rattle.pool_model.specs.Left.{AreAloneBy, HoldRest, IsPickOff}
+use Rattle.pool_model.specs.Pools.{AreSlicesOf, extent_in}
+use Rattle.pool_model.specs.Stopped.{AreSlicesNow, HaveTables, HoldAmid, HoldTables, IsStopped, LieByTables, SaysArray}
+use Rattle.pool_model.specs.Taken.{LacksDrive}
+use Rattle.pool_model.proofs.Again.{off_later}
+use Rattle.pool_model.proofs.Alike.{alone_said, has_truths, slices_said, truth_same}
+use Rattle.pool_model.proofs.Current.{shape_truth}
+use Rattle.pool_model.proofs.Found.{ok_of}
+use Rattle.pool_model.proofs.Framed.{named_same, truth_placed}
+use Rattle.pool_model.proofs.InService.{still_said}
+use Rattle.pool_model.proofs.Inside.{stopped_still}
+use Rattle.pool_model.proofs.Logs.{copied_in, there_in}
+use Rattle.pool_model.proofs.Named.{same_length}
+use Rattle.pool_model.proofs.Pending.{apart_now, lower_now, stood_now}
+use Rattle.pool_model.proofs.Said.{AreInside, slices_by}
+use Rattle.pool_model.proofs.Vacant.{logs_other, seat_other, sliced_before, slices_now}
+
+some_same : {X : Type 0} (a b : X) → Some a ≡ Some b → a ≡ b
+some_same a b same = cc
+
+-- ---- tables
+
+-- a pool that was found with the members' slices by its drives' tables
+pub tables_begin : (f : Found) (t : Slices) (s : State) (x : Seen) → HaveTables f → AreSlicesOf f t → HoldRest f t x → HoldTables f t s x
+tables_begin f t s x have slices rest i off p d now seat n few some =
+    let at : f.seats p ≡ Some d = sym (slices.seats p) ∙ seat in
+    elim (cases_Bool (nat_lt n f.state.made && is_member f n p)) [
+      | inr other ↦ (let none = slices.others n p few other in absurd (omega (arith, some, none)))
+      | inl both ↦
+          let parts = and_parts (nat_lt n f.state.made) (is_member f n p) both in
+          let low = ltb-true n f.state.made parts.0 in
+          ap₂ (λ (o : Option Table) (k : ℕ). extent_by (f.disks.sectors d) o k) ((rest.elsewhere i off).tables p d at) (add-one n)
+          ∙ have n p d low at parts.1 ∙ slices.members n p d low at parts.1
+    ]
+
+-- calls that write slices alone
+pub tables_calls : (f : Found) (t : Slices) (s r : State) (x y : Seen) → x.lasting → WritesOnly x y (IsSliced t) → IsAfter s r → HoldTables f t s x → HoldTables f t r y
+tables_calls f t s r x y lasting only after tables i off p d now = tables i (off_later t x y i lasting only off) p d (after.current p now)
+
+-- outside the slices a stop inside calls that write these alone leaves what the disks held
+off_amid : (t : Slices) (x y : Seen) → x.lasting → WritesOnly x y (IsSliced t) → x.traced → (k : ℕ) (i : Image) → x.clock < k → k ≤ y.clock → y.stops k i → IsPickOff t x i
+off_amid t x y lasting only traced k i late early stop d u live never =
+    elim ((only.stops traced).new k i late early stop d u (live_on lasting only.stays live)) [ inl may ↦ may | inr slice ↦ absurd (never (i d u) slice) ]
+
+-- so the tables have them at each stop inside such calls
+pub tables_amid : (f : Found) (t : Slices) (s : State) (x y : Seen) → x.lasting → WritesOnly x y (IsSliced t) → HoldTables f t s x → x.traced → Leaves x y (LieByTables f t s)
+tables_amid f t s x y lasting only tables traced =
+    let stops = only.stops traced in
+    record { later = stops.later; kept = stops.kept; past = stops.past; new = λ k i late early stop. tables i (off_amid t x y lasting only traced k i late early stop) }
+
+-- outside the slices of fewer places
+pub off_more : (t u : Slices) (x : Seen) → ((d s : ℕ) (w : List ℕ) → IsSliced u d s w → IsSliced t d s w) → (i : Image) → IsPickOff u x i → IsPickOff t x i
+off_more t u x before i off d s live never = off d s live (λ w is. never w (before d s w is))
+
+-- ---- a call
+
+-- What a call finds of a pool in service, by slices t that lie as those of its current places: no other drive says the book's state or a later one.
+record IsCalled (f : Found) (t : Slices) (v : Raid) (x : Seen) : Type 0 where
+  disks : f.disks ≡ disks_of x
+  arranged : IsArranged f
+  after : IsAfter f.state v.state
+  joined : f.state.joined ≡ f.state.made
+  geometry : (n : ℕ) (u : Super) → n < f.state.made → truth_of f n ≡ Some u → HasGeometry u (v.arrays n).truth
+  said : (i : Image) → IsPickOff t x i → IsSaid f i
+  alone : (i : Image) → IsPickOff t x i → AreAloneBy v.state f i
+  slices : (e : Identities) → AreSlicesNow (record f { identities = e }) t v.state
+  former :
+      (p d : ℕ) → f.seats p ≡ Some d → is_current v.state p ≡ false
+      → ((slice_seat t p ≡ Some d) × (extent_of f 0 ≡ Some (extent_in t (log_slice p))))
+      ⊎ ((i : Image) → IsPickOff t x i → (copy : Copied) → (identities_of (disks_of x) i d).copied ≡ Some copy → copy.state.epoch < v.state.epoch)
+
+module _ (f : Found) (t : Slices) (v w : Raid) (x y : Seen) (is : IsCalled f t v x) (orderly : IsOrderly t) (inside : IsInside t x)
+    (lasting : x.lasting) (only : WritesOnly x y (IsSliced t)) (keeps : KeepsMoments v w (slices_of t x) (slices_of t y))
+    (told : (n : ℕ) → n < f.state.made → IsTold v (slices_of t x) n) (lasts : (n : ℕ) → n < f.state.made → is_over w n ≡ false) where
+  few : f.state.made ≤ 16
+  few = is.arranged.made.1
+
+  first : 0 < f.state.made
+  first = (let made = is.arranged.made.0 in omega (arith, made))
+
+  within : AreInside f t
+  within j d seat some =
+      let disk : disk_of t j ≡ d = ap (λ o. unwrap_or o 0) seat in
+      let sectors : x.sectors d ≡ f.disks.sectors d = ap (λ (z : Disks). z.sectors d) (sym is.disks) in
+      let low = inside.slices j some in
+      let here : x.sectors (disk_of t j) ≡ x.sectors d = ap x.sectors disk in
+      omega (arith, low, sectors, here)
+
+  -- ---- contents of the slices
+
+  module _ (traced : x.traced) (k : ℕ) (i : Image) (late : x.clock < k) (early : k ≤ y.clock) (stop : y.stops k i)
+      (tables : LieByTables f t v.state i) where
+    abbrev c : Image
+    c = sliced t i
+
+    abbrev r : Image
+    r = replayed (sectors_of t) c
+
+    shown : (slices_of t y).stops k c
+    shown = (i, stop, λ d s. refl)
+
+    logs : LogsBetween v.state w.state (sectors_of t) c
+    logs = (keeps.logs 0 (told 0 first) (lasts 0 first) traced).new k c late early shown
+
+    abbrev s : State
+    s = logs.state
+
+    nothing : HasNothing (sectors_of t) c
+    nothing d u past = ap (λ (b : Bool). if b then i (disk_of t d) (slice_first t d + u) else []) (le-ltb u (sectors_of t d) past)
+
+    since : AreSince v.state (sectors_of t) c
+    since =
+        let stood = (told 0 first).stood (keeps.still 0 (lasts 0 first)) in
+        let kept = keeps.since 0 v.state (told 0 first) (lasts 0 first) (after_same v.state) (kept_since v.state v.number (slices_of t x) stood.log) in
+        (kept.leaves traced).new k c late early shown nothing
+
+    -- ---- the disks outside the slices
+
+    off : IsPickOff t x i
+    off = off_amid t x y lasting only traced k i late early stop
+
+    abbrev e : Identities
+    e = (is.said i off).identities
+
+    abbrev said : Found
+    said = record f { identities = e }
+
+    has : (n : ℕ) → n < f.state.made → (u : Super) × (truth_of f n ≡ Some u)
+    has = is.arranged.truths
+
+    truth_said : (n : ℕ) → n < f.state.made → truth_of said n ≡ truth_of f n
+    truth_said n low = truth_same f said few has (has_truths f e few has) n low
+
+    -- a drive whose place wasn't current
+    former : (p d : ℕ) (copy : Copied) → f.seats p ≡ Some d → is_current v.state p ≡ false → (identities_of f.disks i d).copied ≡ Some copy → copy.state.epoch < v.state.epoch
+    former p d copy seat past here = elim (is.former p d seat past) [
+      | inr low ↦ low i off copy (subst (λ disks. (identities_of disks i d).copied ≡ Some copy) is.disks here)
+      | inl has ↦
+          (since p (current_few f.state p is.arranged.places (is.arranged.seated p d seat).0) (there_in f t i within p d has.0 has.1)).former copy past
+          (ok_of (decoded (c (log_slice p) 0)) copy (sym (copied_in f t i within p d has.0 has.1) ∙ here))
+    ]
+
+    -- ---- arrays
+
+    places : length s.drives.items ≤ 16
+    places =
+        let same = same_length s.drives.items f.state.drives.items (after_then f.state v.state s is.after logs.later).same.drives in
+        let most = is.arranged.places in
+        omega (arith, same, most)
+
+    array_said : (n : ℕ) → n < f.state.made → SaysArray said s r n
+    array_said n low =
+        let between = (keeps.images n (told n low) (lasts n low) traced).new k c late early shown in
+        let state : between.state ≡ s = some_same between.state s (sym between.is_state ∙ logs.says.is_state) in
+        let one = shape_truth between.state r n (truth_in between.state r n) between.shape between.shape_is in
+        let truth : truth_in s r n ≡ Some one.0 = subst (λ (z : State). truth_in z r n ≡ Some one.0) state one.1 in
+        let frame : frame_of one.0 ≡ frame_of (v.arrays n).truth =
+        (keeps.frames n (told n low) (lasts n low) traced).new k c late early shown s one.0 logs.says.is_state truth in
+        record {
+          truth = one.0;
+          is_truth = truth;
+          sound = subst (λ (z : State). IsSoundArray z r n one.0) state (between.is_sound one.0 one.1);
+          size = λ u at. ap (λ (g : Frame). g.size) frame ∙ (is.geometry n u low (sym (truth_said n low) ∙ at)).size;
+          named = λ u p at.
+              named_same one.0 u (truth_placed s r n one.0 places truth) (truth_placed f.state (found_slices said) n u is.arranged.places at)
+              (frame ∙ geometry_frame u (v.arrays n).truth (is.geometry n u low (sym (truth_said n low) ∙ at))) p;
+        }
+
+    stopped : IsStopped said t v.state s i
+    stopped = record {
+      is = (is.said i off).outset;
+      begun = is.after;
+      after = logs.later;
+      room = (let most = (number_room w 0 (lasts 0 first)).1 in let up = logs.sooner.epoch in omega (arith, most, up));
+      joined = is.joined;
+      slices = is.slices e;
+      orderly = orderly;
+      inside = within;
+      there = λ p now. ((told 0 first).stood (keeps.still 0 (lasts 0 first))).log.there p now refl;
+      someone = (let one = someone_left w 0 (lasts 0 first) in (one.0, logs.sooner.current one.0 one.1));
+      tables = λ p d now. tables p d (logs.later.current p now);
+      former = former;
+      says = logs.says;
+      since = since;
+      arrays = array_said;
+      elsewhere = (is.said i off).elsewhere;
+      alone =
+          alone_said f e few has s i
+          (λ n p d begins low now. is.alone i off n p d begins low (logs.later.current p now));
+    }
+
+    amid : HoldAmid f t v.state w.state i
+    unfolding stopped_still still_said
+    amid = record {
+      state = s;
+      later = logs.later;
+      sooner = logs.sooner;
+      still = still_said f e t s i (stopped_still said t v.state s i stopped);
+      apart = apart_now said t v.state s i stopped;
+      stood = stood_now said t v.state s i stopped;
+      lower = lower_now said t v.state s i stopped;
+    }
+
+  called_amid : x.traced → Leaves x y (λ i. LieByTables f t v.state i → HoldAmid f t v.state w.state i)
+  called_amid traced =
+      let stops = only.stops traced in
+      record { later = stops.later; kept = stops.kept; past = stops.past; new = amid traced }
+
+-- ---- a pool in service
+
+-- Where the arrays are told when a call begins, and none is over when it ends, each stop inside it leaves contents that hold the pool still.
+pub service_amid : (f : Found) (t : Slices) (v w : Raid) (x y : Seen) → InService f t v x → IsOrderly t → IsInside t x
+    → x.lasting → WritesOnly x y (IsSliced t) → KeepsMoments v w (slices_of t x) (slices_of t y)
+    → ((n : ℕ) → n < f.state.made → IsTold v (slices_of t x) n) → ((n : ℕ) → n < f.state.made → is_over w n ≡ false)
+    → x.traced → Leaves x y (λ i. LieByTables f t v.state i → HoldAmid f t v.state w.state i)
+service_amid f t v w x y is orderly inside lasting only keeps told lasts =
+    called_amid f t v w x y (record {
+      disks = is.disks;
+      arranged = is.arranged;
+      after = is.after;
+      joined = is.joined;
+      geometry = is.geometry;
+      said = is.held.said;
+      alone = is.held.alone;
+      slices = λ e. slices_by (record f { identities = e }) t v.state (slices_said f e is.arranged.made.1 is.arranged.truths t is.slices);
+      former = λ p d seat past. inl (is.slices.seats p ∙ seat, is.slices.logs p d seat);
+    }) orderly inside lasting only keeps told lasts
+
+-- So it is where a place whose drive is missing has no disk any more.
+pub vacant_amid : (f : Found) (t u : Slices) (v w : Raid) (x y : Seen) (place : ℕ) → InService f t v x → LacksDrive f t u v place x
+    → IsOrderly u → IsInside u x
+    → x.lasting → WritesOnly x y (IsSliced u) → KeepsMoments v w (slices_of u x) (slices_of u y)
+    → ((n : ℕ) → n < f.state.made → IsTold v (slices_of u x) n) → ((n : ℕ) → n < f.state.made → is_over w n ≡ false)
+    → x.traced → Leaves x y (λ i. LieByTables f u v.state i → HoldAmid f u v.state w.state i)
+vacant_amid f t u v w x y place is lacks orderly inside lasting only keeps told lasts =
+    let few = is.arranged.made.1 in
+    let more = off_more t u x (sliced_before t u place lacks.vacated) in
+    called_amid f u v w x y (record {
+      disks = is.disks;
+      arranged = is.arranged;
+      after = is.after;
+      joined = is.joined;
+      geometry = is.geometry;
+      said = λ i off. is.held.said i (more i off);
+      alone = λ i off. is.held.alone i (more i off);
+      slices = λ e. slices_now t u place lacks.vacated (record f { identities = e }) (slices_said f e few is.arranged.truths t is.slices) v.state lacks.missing few;
+      former = λ p d seat past. elim (cases_eq p place) [
+        | inl at ↦ inr (λ i off copy here. lacks.earlier d (subst (λ q. f.seats q ≡ Some d) at seat) i off copy here)
+        | inr other ↦
+            inl (
+              seat_other t u place lacks.vacated p other ∙ is.slices.seats p ∙ seat,
+              logs_other t u place lacks.vacated f is.slices v.state lacks.missing p d other seat,
+            )
+      ];
+    }) orderly inside lasting only keeps told lasts

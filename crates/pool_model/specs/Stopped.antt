@@ -1,0 +1,118 @@
+-- What a stop inside a call of a pool leaves on its disks.
+use Rattle.std.specs.Prelude.{◌≡◌, ℕ, suc, ◌+◌, ◌-◌, ◌<◌, ◌≤◌, ◌^◌, ◌&&◌, true, false, nat_lt, None, Some}
+use Rattle.rack.specs.Seen.{Image, Seen}
+use Rattle.slice_rack.specs.Slices.{IsOrderly, Slices, first_of, place_of as slice_place, seat_of, sectors_of}
+use Rattle.slice_rack.specs.Sliced.{sliced}
+use Rattle.gpt_table.specs.Changes.{the_table}
+use Rattle.gpt_table.specs.Disk.{Contents}
+use Rattle.md_super.specs.declared.superblock.Super.{Super}
+use Rattle.pool_state.specs.declared.contents.Copied.{Copied}
+use Rattle.pool_state.specs.declared.contents.State.{State}
+use Rattle.array_image.specs.Arrays.{replayed}
+use Rattle.array_image.specs.Places.{log_slice, member_slice, place_of}
+use Rattle.array_image.specs.SoundArray.{IsSoundArray}
+use Rattle.array_image.specs.States.{is_current}
+use Rattle.array_image.specs.Supers.{is_named, truth_in}
+use Rattle.commit_log.specs.Kept.{IsNoLater}
+use Rattle.commit_log.specs.Saying.{SaysState}
+use Rattle.raid_rack.specs.Book.{IsAfter}
+use Rattle.raid_rack.specs.Since.{AreSince}
+use Rattle.pool_image.specs.Disks.{identities_of}
+use Rattle.pool_image.specs.Drives.{Found, extent_of}
+use Rattle.pool_image.specs.Meaning.{is_member, truth_of}
+use Rattle.pool_image.specs.Replay.{Extent, extent_by, share}
+use Rattle.pool_rest.specs.Moments.{TakesLowerIn}
+use Rattle.pool_model.specs.InService.{IsOutset}
+use Rattle.pool_model.specs.Left.{AreAloneBy, AreElsewhere, HoldStill, IsPickOff}
+use Rattle.pool_model.specs.Pools.{extent_in}
+
+-- Tables of slices are those of a pool's drives, for the places that are current by a state.
+pub record AreSlicesNow (f : Found) (t : Slices) (s : State) : Type 0 where
+  pub seats : (p d : ℕ) → is_current s p ≡ true → f.seats p ≡ Some d → seat_of t p ≡ Some d
+  pub logs : (p d : ℕ) → is_current s p ≡ true → f.seats p ≡ Some d → extent_of f 0 ≡ Some (extent_in t (log_slice p))
+  pub members :
+      (n p d : ℕ) → n < f.state.made → is_current s p ≡ true → f.seats p ≡ Some d → is_member f n p ≡ true
+      → extent_of f (suc n) ≡ Some (extent_in t (member_slice p n))
+  pub others : (n p : ℕ) → n < 16 → (nat_lt n f.state.made && is_member f n p) ≡ false → sectors_of t (member_slice p n) ≡ 0
+  pub unseated : (k : ℕ) → f.seats (place_of k) ≡ None → sectors_of t k ≡ 0
+
+-- contents of slices say an array soundly: its truth has the size and names the places that the pool's has
+pub record SaysArray (f : Found) (s : State) (c : Image) (n : ℕ) : Type 0 where
+  pub truth : Super
+  pub is_truth : truth_in s c n ≡ Some truth
+  pub sound : IsSoundArray s c n truth
+  pub size : (u : Super) → truth_of f n ≡ Some u → truth.size ≡ u.size
+  pub named : (u : Super) (p : ℕ) → truth_of f n ≡ Some u → is_named truth p ≡ is_named u p
+
+-- the table of a disk of so many sectors has a place's members' slices where they lie
+abbrev pub LieOn : Slices → (place sectors : ℕ) → Contents → Type 0
+LieOn t place sectors disk =
+    (n : ℕ) → n < 16 → 0 < sectors_of t (member_slice place n)
+    → extent_by sectors (the_table sectors disk) (n + 1) ≡ Some (extent_in t (member_slice place n))
+
+-- so have the tables of the drives of the places that are current by a state
+abbrev pub LieByTables : Found → Slices → State → Image → Type 0
+LieByTables f t s i = (p d : ℕ) → is_current s p ≡ true → seat_of t p ≡ Some d → LieOn t p (f.disks.sectors d) (i d)
+
+-- Contents of the disks of a pool f, as a stop inside a call leaves them that began with the state base: its slices t, once the pending record is
+-- written, say the state s and all arrays soundly, copies and targets are such as calls write, and outside the slices the disks are as the pool has them.
+pub record IsStopped (f : Found) (t : Slices) (base s : State) (i : Image) : Type 0 where
+  pub is : IsOutset f
+  pub begun : IsAfter f.state base
+  pub after : IsAfter base s
+  pub room : s.epoch < 2 ^ 63 - 1
+  pub joined : f.state.joined ≡ f.state.made
+  pub slices : AreSlicesNow f t base
+  pub orderly : IsOrderly t
+  pub inside : (k d : ℕ) → seat_of t (slice_place k) ≡ Some d → 0 < sectors_of t k → first_of t k + sectors_of t k ≤ f.disks.sectors d
+  pub there : (p : ℕ) → is_current base p ≡ true → 0 < sectors_of t (log_slice p)
+  pub someone : (p : ℕ) × (is_current s p ≡ true)
+  pub tables : LieByTables f t s i
+  -- a drive whose place wasn't current when the call began says an earlier state
+  pub former :
+      (p d : ℕ) (copy : Copied) → f.seats p ≡ Some d → is_current base p ≡ false → (identities_of f.disks i d).copied ≡ Some copy
+      → copy.state.epoch < base.epoch
+  pub says : SaysState s (sectors_of t) (sliced t i)
+  pub since : AreSince base (sectors_of t) (sliced t i)
+  pub arrays : (n : ℕ) → n < f.state.made → SaysArray f s (replayed (sectors_of t) (sliced t i)) n
+  pub elsewhere : AreElsewhere f i
+  pub alone : AreAloneBy s f i
+
+-- ---- inside calls
+
+-- by their tables a pool's drives have the members' slices where the pool has them
+abbrev pub HaveTables : Found → Type 0
+HaveTables f =
+    (n p d : ℕ) → n < f.state.made → f.seats p ≡ Some d → is_member f n p ≡ true
+    → extent_by (f.disks.sectors d) (f.identities d).table (suc n) ≡ extent_of f (suc n)
+
+-- so it is by the tables that the disks have, whatever they may be left with outside the slices, of the places that are current by a state
+abbrev pub HoldTables : Found → Slices → State → Seen → Type 0
+HoldTables f t s x = (i : Image) → IsPickOff t x i → LieByTables f t s i
+
+-- Of an array that a drive is no member of its table has no slice that shares a sector with that of a higher array which it is a member of:
+-- a replay passes over a slice that shares one with a lower one.
+abbrev pub LieApart : Found → Type 0
+LieApart f =
+    (m n p d : ℕ) (a b : Extent) → m < n → n < f.state.made → f.seats p ≡ Some d → is_member f m p ≡ false → is_member f n p ≡ true
+    → extent_by (f.disks.sectors d) (f.identities d).table (suc m) ≡ Some a → extent_of f (suc n) ≡ Some b → share b a ≡ false
+
+-- Before a pool's record was replayed one of its drives had the state that stood, and none another one that isn't earlier.
+pub record HaveStood (f : Found) : Type 0 where
+  pub place : ℕ
+  pub disk : ℕ
+  pub own : ℕ
+  pub seat : f.seats place ≡ Some disk
+  pub copy : (f.before.identities disk).copied ≡ Some (record { state = f.before.state; own = own })
+  pub latest : (p d : ℕ) (other : Copied) → f.seats p ≡ Some d → (f.before.identities d).copied ≡ Some other → IsNoLater f.before.state other
+
+-- Contents of disks hold the pool still, by a state between two. The record that is pending there lands where the slices are by the drives' tables; one of
+-- them has the state that stands, and those that are taken in have gates of lower numbers.
+pub record HoldAmid (f : Found) (t : Slices) (s u : State) (i : Image) : Type 0 where
+  pub state : State
+  pub later : IsAfter s state
+  pub sooner : IsAfter state u
+  pub still : HoldStill f t state i
+  pub apart : LieApart still.now
+  pub stood : HaveStood still.now
+  pub lower : TakesLowerIn f.disks i
