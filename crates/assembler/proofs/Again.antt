@@ -1,26 +1,41 @@
 -- Disks on which a pool left what holds a sound one again are such as an opening asks for.
-use Rattle.std.proofs.Common.{◌≡◌, inl, subst, sym, ap, ◌∙◌}
+use Rattle.std.proofs.Common.{◌≡◌, inl, inr, subst, sym, ap, ◌∙◌}
 use Rattle.rack.specs.Seen.{Seen}
 use Rattle.slice_rack.specs.Slices.{Slices}
 use Rattle.pool_state.specs.declared.contents.State.{State}
 use Rattle.pool_image.specs.Disks.{Disks, disks_of}
 use Rattle.pool_image.specs.Drives.{Found, found}
 use Rattle.pool_image.specs.Replay.{standing}
+use Rattle.pool_rest.specs.Moments.{TakesLowerIn}
 use Rattle.pool_rest.specs.SoundLogs.{HasSoundLogs}
 use Rattle.pool_scan.specs.Scanning.{now_in}
-use Rattle.pool_model.specs.Left.{HoldAgain}
+use Rattle.pool_model.specs.Left.{HoldAgain, HoldStill}
+use Rattle.pool_model.specs.Stopped.{HoldAmid}
 use Rattle.assembler.specs.Holding.{AreSteady}
 use Rattle.assembler.specs.Sound.{HoldSound, MayStop}
 
--- they hold a sound pool, and a stop inside an opening leaves what is told
+-- they hold a sound pool
+pub holds_still : (x : Seen) (f : Found) (t : Slices) (s : State) → AreSteady x → f.disks ≡ disks_of x → (still : HoldStill f t s (now_in x))
+    → HoldSound x still.now
+holds_still x f t s steady same still = record {
+  steady = steady;
+  found_is = ap (λ (disks : Disks). found disks (now_in x)) (sym same) ∙ still.found_is;
+  sound = still.sound;
+  logs = subst (λ (disks : Disks). HasSoundLogs disks (now_in x)) same still.logs;
+}
+
+-- and where nothing is pending a stop inside an opening leaves what is told
 pub holds_again : (x : Seen) (f : Found) (t : Slices) (s : State) → AreSteady x → f.disks ≡ disks_of x → (again : HoldAgain f t s (now_in x))
-    → HoldSound x again.now × MayStop x again.now
+    → HoldSound x again.still.now × MayStop x again.still.now
 holds_again x f t s steady same again = (
-  record {
-    steady = steady;
-    found_is = ap (λ (disks : Disks). found disks (now_in x)) (sym same) ∙ again.found_is;
-    sound = again.sound;
-    logs = subst (λ (disks : Disks). HasSoundLogs disks (now_in x)) same again.logs;
-  },
+  holds_still x f t s steady same again.still,
   inl (λ before at. again.idle before (ap (λ (disks : Disks). standing disks (now_in x)) same ∙ at)),
+)
+
+-- So it is where a call was stopped, and a record may be pending.
+pub holds_amid : (x : Seen) (f : Found) (t : Slices) (s u : State) → AreSteady x → f.disks ≡ disks_of x → (amid : HoldAmid f t s u (now_in x))
+    → HoldSound x amid.still.now × MayStop x amid.still.now
+holds_amid x f t s u steady same amid = (
+  holds_still x f t amid.state steady same amid.still,
+  inr (inr amid.apart, inr (amid.stood, subst (λ (disks : Disks). TakesLowerIn disks (now_in x)) same amid.lower)),
 )

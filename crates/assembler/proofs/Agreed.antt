@@ -21,7 +21,7 @@ module _ {R : Type 0} (seen : R → Seen) (runs : R → R → Type 0) (x y : Rai
   mid = opens.mid
 
   goes_on : is_over (raid_in mid) n ≡ false
-  goes_on = opens.agrees.kept.1.still n goes
+  goes_on = opens.agrees.kept.1.moments.still n goes
 
   -- what was agreed before the texts were brought up is so still, where nothing was written
   spared : ((k : ℕ) → written_in mid k ≡ false) → ((r : Image) → IsLeft (slices_seen seen x) r → SupersAgree (raid_in x).state r n)
@@ -35,7 +35,7 @@ module _ {R : Type 0} (seen : R → Seen) (runs : R → R → Type 0) (x y : Rai
   agree_opened was = elim opens.agrees.supers [
     | inl still ↦ subst (λ (k : RaidRack R). (r : Image) → IsLeft (slices_seen seen k) r → SupersAgree (raid_in k).state r n) (sym still.0) (spared still.1 was)
     | inr makes ↦
-        let later = opens.early.1.told n told in
+        let later = opens.early.1.moments.told n told in
         λ r left.
         (makes (λ place fault. none place (fault.0, fault.1, rose_since (opens.early.1.faults fault.0) fault.2)) n (held_in (raid_in mid) (slices_seen seen mid) n)
         (spent_of (raid_in y) n) later.joined (subst (λ k. n < k) (sym opens.early.1.book.same.made) made) goes

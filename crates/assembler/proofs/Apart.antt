@@ -33,17 +33,12 @@ use Rattle.pool_check.specs.Checking.{IsChecked}
 use Rattle.pool_check.specs.Refusing.{damage_by, damage_later, is_well}
 use Rattle.assembler.specs.Holding.{AreSteady, IsPoolOn}
 use Rattle.assembler.specs.Members.{AreMembers}
-use Rattle.assembler.specs.Sound.{LieApart}
+use Rattle.pool_model.specs.Stopped.{HaveTables}
+use Rattle.assembler.specs.Sound.{LieApart, TargetsLand}
 use Rattle.assembler.proofs.Copied.{undamaged}
 use Rattle.assembler.proofs.Lies.{made_same, member_same}
 use Rattle.assembler.proofs.Roles.{all_range}
 use Rattle.assembler.proofs.Shows.{got}
-
--- a replay finds the slices of the members where the pool has them
-abbrev pub HaveSlices : Found → Type 0
-HaveSlices f =
-    (n p d : ℕ) → n < f.state.made → f.seats p ≡ Some d → is_member f n p ≡ true
-    → extent_by (f.disks.sectors d) (f.identities d).table (suc n) ≡ extent_of f (suc n)
 
 -- ---- entries
 
@@ -236,7 +231,7 @@ module _ (f : Found) (t : Slices) (x : Seen) (checked : Checked) (absent : List 
       (sym (extent_by_is (f.disks.sectors d) h.table k) ∙ ap (extent_by (f.disks.sectors d) (Some h.table)) (add-one k) ∙ at) in
       no_share a b (before k n a b low made (there.2 ∙ sym entry ∙ own) is)
 
-  pub have_slices : LieApart f → HaveSlices f
+  pub have_slices : LieApart f → HaveTables f
   have_slices apart n p d made seat member =
       let h = drive_table p d seat in
       let b = lies n made in
@@ -296,3 +291,14 @@ module _ (f : Found) (t : Slices) (x : Seen) (checked : Checked) (absent : List 
         ∙ ap₂ (λ (i : Disks) (j : Identity). option_map_or (λ t. has_slice_of e (i.sectors d) t (k + 1)) j.table false) same.disks (same.identities p d was)
         ∙ plan.entries k p d joins was in
         entry_apart k n p d a b h low made has (ap (λ o. extent_by (f.disks.sectors d) o (suc k)) (sym h.table_is) ∙ at) is
+
+    -- so a replay finds the slices of the members where the pool has them, before and after the disks were brought to rest
+    pub slices_landed : TargetsLand e → HaveTables f
+    slices_landed (inl rules) = have_slices (apart_ruled rules.0 rules.1)
+    slices_landed (inr apart) = have_slices (apart_same apart)
+
+    pub tables_landed : TargetsLand e → HaveTables e
+    tables_landed lands n p d low seat member =
+        ap₂ (λ (i : Disks) (j : Identity). extent_by (i.sectors d) j.table (suc n)) (sym same.disks) (sym (same.identities p d seat))
+        ∙ slices_landed lands n p d (let equal = made_same e f same in omega (arith, low, equal)) (same.seats p ∙ seat) (member_same e f same n p ∙ member)
+        ∙ lies_same e f same (suc n)

@@ -28,7 +28,7 @@ use Rattle.assembler.specs.Holding.{HoldPool}
 use Rattle.assembler.specs.Members.{AreMembers}
 use Rattle.pool_model.specs.Pools.{AreSlicesOf}
 use Rattle.assembler.specs.Sound.{HoldSound, MayStop}
-use Rattle.assembler.proofs.Apart.{apart_ruled, apart_same, have_slices}
+use Rattle.assembler.proofs.Apart.{slices_landed}
 use Rattle.assembler.proofs.Before.{stood_state}
 use Rattle.assembler.proofs.Entry.{IsRested, f, pool_same, rest_found}
 use Rattle.assembler.proofs.Leaving.{IsAsRead}
@@ -77,11 +77,7 @@ module _ {R : Type 0} (seen : R → Seen) (a : Seen) (rest : AtRest R) (e : Foun
             of_drives x rest.scan.disks.items rest.state (tables rest.slices) rest.on.items rest.log rest.pending rest.damaged pool (rest_found seen a rest e sound rested)
             t y checked absent orderly m lie (inside_before t x y reads.stays m.fit.1)
             (none_past pool t y checked absent orderly m holds.steady holds.pool opened.opened)
-            (have_slices pool t y checked absent orderly m holds.steady holds.pool opened
-            (elim pending.0 [
-              | inl rules ↦ apart_ruled pool t y checked absent orderly m holds.steady holds.pool opened e same rules.0 rules.1
-              | inr apart ↦ apart_same pool t y checked absent orderly m holds.steady holds.pool opened e same apart
-            ])) in
+            (slices_landed pool t y checked absent orderly m holds.steady holds.pool opened e same pending.0) in
             let stands : state_in (sliced t (now_in x)) ≡ Some rest.state =
             read_state pool t y checked absent orderly m holds.steady holds.pool opened holds.sound 0 some log holds.log (sliced t (now_in x)) still ∙ ap Some state in
             let replayed : KeepsReplayed a x t =

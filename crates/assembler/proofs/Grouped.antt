@@ -121,7 +121,7 @@ module _ {R : Type 0} (seen : R → Seen) (runs : R → R → Type 0) (f : Found
       let live : IsLive q (raid_seen seen y) n s = record {
         disk = (let made = kept.1.book.same.made in omega (arith, less, all, made));
         sector = omega (arith, first, enough);
-        is_told = early.1.told n (holds.told n (low_of n less));
+        is_told = early.1.moments.told n (holds.told n (low_of n less));
         unspent = alive n s low (omega (arith, first, enough));
       } in
       brought.1 n s v less first ((opens.agrees.values.keeps.held n s live).within v left)

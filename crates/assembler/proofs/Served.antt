@@ -73,7 +73,7 @@ module _ {R : Type 0} (seen : R → Seen) (runs : R → R → Type 0) (e f : Fou
     slices = lie;
     after = later;
     joined = all;
-    told = λ n low. kept.1.told n (holds.told n (ready_low n low));
+    told = λ n low. kept.1.moments.told n (holds.told n (ready_low n low));
     lasts = λ n low. lasts n (ready_low n low);
     geometry = λ n u low truth.
         let less = ready_low n low in
@@ -129,7 +129,7 @@ module _ {R : Type 0} (seen : R → Seen) (runs : R → R → Type 0) (e f : Fou
       (none : NoneFails (slices_seen seen raid) y) where
     module _ (n : ℕ) (low : n < f.state.joined) where
       goes : is_over (raid_in raid) n ≡ false
-      goes = kept.1.still n (lasts n low)
+      goes = kept.1.moments.still n (lasts n low)
 
       agree : (r : Image) → IsLeft y r → SupersAgree v.state r n
       agree =
@@ -148,7 +148,7 @@ module _ {R : Type 0} (seen : R → Seen) (runs : R → R → Type 0) (e f : Fou
           let facts = truth_facts t usable in
           let at = named_position t p facts.positions facts.few named in
           let agrees = agree r left in
-          let earlier = earlier_told v y n (kept.1.told n (holds.told n low)) (lasts n low) r left agrees.truth agrees.leads in
+          let earlier = earlier_told v y n (kept.1.moments.told n (holds.told n low)) (lasts n low) r left agrees.truth agrees.leads in
           let of = array_later f n t ((raid_in raid).arrays n) (v.arrays n) (holds.arrays n t low truth) (kept.2.arrays n (made_low n low)) in
           let disks : agrees.truth.raid_disks ≡ t.raid_disks = ap (λ (z : Super). z.raid_disks) earlier.fields ∙ of.geometry.disks in
           let roles : agrees.truth.roles ≡ t.roles = ap (λ (z : Super). z.roles) earlier.fields ∙ of.geometry.roles in

@@ -23,13 +23,13 @@ use Rattle.pool_rest.specs.Moments.{AreOfDrives}
 use Rattle.assembler.specs.Holding.{IsFoundOn}
 use Rattle.assembler.specs.Members.{AreMembers}
 use Rattle.pool_model.specs.Pools.{AreSlicesOf, extent_in}
-use Rattle.assembler.proofs.Apart.{HaveSlices}
+use Rattle.pool_model.specs.Stopped.{HaveTables}
 use Rattle.assembler.proofs.Finding.{same}
 
 module _ (x : Seen) (known : List Known) (s : State) (r : Slices) (on : List ℕ) (l : LogView) (is_pending : Bool) (damaged : Option ℕ) (f : Found)
     (is : IsFoundOn x known s r on l is_pending damaged f)
     (t : Slices) (y : Seen) (checked : Checked) (absent : List ℕ) (orderly : IsOrderly t) (m : AreMembers f.state t y checked absent)
-    (lie : AreSlicesOf f t) (inside : IsInside t x) (beyond : (k : ℕ) → 272 ≤ k → sectors_of t k ≡ 0) (have : HaveSlices f) where
+    (lie : AreSlicesOf f t) (inside : IsInside t x) (beyond : (k : ℕ) → 272 ≤ k → sectors_of t k ≡ 0) (have : HaveTables f) where
   seated : (p : ℕ) → seat_of t p ≡ seat_by s known p
   seated p =
       lie.seats p

@@ -1,11 +1,10 @@
 -- Disks from which a pool is opened, and what an opening answers by what they mean.
-use Rattle.std.specs.Prelude.{◌≡◌, ◌⊎◌, ◌<◌, ◌&&◌, ℕ, suc, true, false, ◌∷◌, [], Some, is_some}
+use Rattle.std.specs.Prelude.{◌≡◌, ◌⊎◌, ◌<◌, ◌&&◌, ℕ, ◌∷◌, [], Some, is_some}
 use Rattle.rack.specs.Seen.{Image, IsPick, Seen}
 use Rattle.rack.specs.Moments.{Leaves}
 use Rattle.slice_rack.specs.Slices.{Slices}
 use Rattle.slice_rack.specs.SliceRack.{below_of, tables}
 use Rattle.pool_state.specs.declared.contents.Copied.{Copied}
-use Rattle.commit_log.specs.Kept.{IsNoLater}
 use Rattle.array_image.specs.Left.{IsLeft}
 use Rattle.array_image.specs.States.{is_current}
 use Rattle.md_super.specs.declared.superblock.Super.{Super}
@@ -13,9 +12,8 @@ use Rattle.pool_state.specs.declared.contents.State.{State}
 use Rattle.lvm_group.specs.Runs.{Linear}
 use Rattle.lvm_group.specs.Shown.{volume_of}
 use Rattle.pool_image.specs.Disks.{disks_of}
-use Rattle.pool_image.specs.Drives.{Found, extent_of, found}
-use Rattle.pool_image.specs.Meaning.{Volume, is_member, meaning, refusal_of, truth_of}
-use Rattle.pool_image.specs.Replay.{Extent, extent_by, share}
+use Rattle.pool_image.specs.Drives.{Found, found}
+use Rattle.pool_image.specs.Meaning.{Volume, meaning, refusal_of, truth_of}
 use Rattle.pool_image.specs.Sound.{HasSoundPlan, IsSoundList}
 use Rattle.pool_check.specs.Settling.{KeepsTable}
 use Rattle.pool_scan.specs.Scanning.{now_in}
@@ -32,6 +30,8 @@ use Rattle.assembler.specs.declared.refusal.Refusal.{Refusal}
 use Rattle.pool_model.specs.Grouped.{HaveOwnAreas, HoldGroup}
 use Rattle.pool_model.specs.Left.{AreAlone, AreElsewhere, HoldSame, IsPickOff}
 use Rattle.pool_model.specs.Pools.{AreSlicesOf, IsSoundPool}
+pub use Rattle.pool_model.specs.Stopped.{HaveStood, LieApart}
+use Rattle.pool_model.specs.Stopped.{HaveTables}
 use Rattle.assembler.specs.Holding.{AreSteady, IsArrayOf}
 use Rattle.assembler.specs.Refusing.{meant_by}
 use Rattle.assembler.specs.Moments.{GivesPool, HoldsAt}
@@ -45,21 +45,9 @@ pub record HoldSound (x : Seen) (f : Found) : Type 0 where
   pub sound : IsSoundPool f
   pub logs : HasSoundLogs (disks_of x) (now_in x)
 
--- Of an array that a drive is no member of its table has no slice that shares a sector with that of a higher array which it is a member of:
--- a replay passes over a slice that shares one with a lower one.
-abbrev pub LieApart : Found → Type 0
-LieApart f =
-    (m n p d : ℕ) (a b : Extent) → m < n → n < f.state.made → f.seats p ≡ Some d → is_member f m p ≡ false → is_member f n p ≡ true
-    → extent_by (f.disks.sectors d) (f.identities d).table (suc m) ≡ Some a → extent_of f (suc n) ≡ Some b → share b a ≡ false
-
--- Before a pool's record was replayed one of its drives had the state that stood, and none another one that isn't earlier.
-pub record HaveStood (f : Found) : Type 0 where
-  pub place : ℕ
-  pub disk : ℕ
-  pub own : ℕ
-  pub seat : f.seats place ≡ Some disk
-  pub copy : (f.before.identities disk).copied ≡ Some (record { state = f.before.state; own = own })
-  pub latest : (p d : ℕ) (other : Copied) → f.seats p ≡ Some d → (f.before.identities d).copied ≡ Some other → IsNoLater f.before.state other
+-- Targets land where a pool's slices are: by the rules on the list of drives and on the plan, or by the drives' tables alone.
+abbrev pub TargetsLand : Found → Type 0
+TargetsLand f = (IsSoundList f × HasSoundPlan f) ⊎ LieApart f
 
 -- Nothing is pending on the disks of a pool, or a record whose targets land where the pool's slices are: by the rules on the list of drives
 -- and on the plan, or by the drives' tables alone. It writes no state's sector, or else the drives had the state that stood, and those that it
@@ -67,7 +55,7 @@ pub record HaveStood (f : Found) : Type 0 where
 abbrev pub MayStop : Seen → Found → Type 0
 MayStop x f =
     IsIdle x
-    ⊎ (((IsSoundList f × HasSoundPlan f) ⊎ LieApart f)
+    ⊎ (TargetsLand f
     × (BringsNoState x ⊎ (HaveStood f × TakesLower x)))
 
 -- no disk had the state of another pool, once the pending record was replayed
@@ -90,6 +78,8 @@ pub record IsMeantBy {R : Type 0} (seen : R → Seen) (x : Seen) (f : Found) (ra
   pub one_pool : HaveOnePool f
   -- where all arrays are ready for the volume, and have the pool's metadata areas, they hold its group, whatever they may be left with
   pub group : f.state.joined ≡ f.state.made → HaveOwnAreas f → HoldGroup (raid_in rack) (slices_seen seen rack)
+  -- where targets land in the pool's slices a replay finds these by the drives' tables
+  pub landing : TargetsLand f → HaveTables f
   -- outside the slices the disks have each drive's table, and other disks say what they said
   pub elsewhere : (i : Image) → IsPickOff (tables (slices_in rack)) (seen (below_of (slices_in rack))) i → AreElsewhere f i
   -- what a stop leaves inside the opening holds that volume, where it may come amid the replay of the record that was pending

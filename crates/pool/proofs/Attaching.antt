@@ -107,6 +107,7 @@ module _ (x : View) (b : Seen) (s : Shelf) (name : List ℕ) (raw : Result ℕ A
     pub added_continues : Continues x m
     added_continues = record {
       fit = (added_arrays, inside_later x b s x.slices x.arrays fit refl (λ n. refl));
+      orderly = λ orderly. orderly;
       linear = refl;
       size = refl;
       disks = let more = adds.disks in omega (arith, more);
@@ -195,6 +196,7 @@ module _ (x : View) (b : Seen) (s : Shelf) (name : List ℕ) (raw : Result ℕ A
     pub same_continues : Continues x m
     same_continues = record {
       fit = (same_arrays, inside_later x b s x.slices x.arrays fit refl (λ n. refl));
+      orderly = λ orderly. orderly;
       linear = refl;
       size = refl;
       disks = let equal = same.disks in omega (arith, equal);

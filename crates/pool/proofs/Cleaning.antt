@@ -21,6 +21,7 @@ use Rattle.raid_rack.specs.Raid.{IsTold, StopsInside, held_in, live_of, spent_of
 use Rattle.raid_rack.specs.RaidRack.{IsFit, KeepsRack, SliceRuns, raid_by, raid_in, raid_seen, slices_in, slices_seen}
 use Rattle.raid_rack.proofs.Moving.{moves_bring}
 use Rattle.raid_rack.proofs.Serving.{whole_call}
+use Rattle.raid_rack.specs.Runs.{KeepsMoments}
 use Rattle.raid_rack.specs.Truths.{KeepsTruths}
 use Rattle.raid_rack.proofs.TruthAgrees.{cleans_settled, truth_agrees}
 use Rattle.raid_rack.proofs.Whole.{before_amid}
@@ -54,6 +55,7 @@ pub record IsCleaned {R : Type 0} (seen : R → Seen) (runs : R → R → Type 0
   pub raises : RaisesBy 288 (raid_in old) (raid_in new)
   pub ran : SliceRuns seen runs (slices_in old) (slices_in new)
   pub truths : KeepsTruths (raid_in old) (raid_in new) (slices_seen seen old) (slices_seen seen new)
+  pub moments : KeepsMoments (raid_in old) (raid_in new) (slices_seen seen old) (slices_seen seen new)
 
 -- where no disk of the bay has a new fault, no slice has one
 none_fails : (x y : View) → y.slices ≡ x.slices → ((d : ℕ) → Rose (x.bay.faults d) (y.bay.faults d) → ⊥) → NoneFails (slices_shown x) (slices_shown y)
@@ -74,7 +76,7 @@ end_done seen shelf runs laws names p raid fit cleaned =
     let moves = cleaned.cleans.moves in
     let stays = reached_stays seen shelf p raid fit cleaned.keeps in
     let keeps = book_lost (book x) (book y) (slices_shown y) stays.fit.0.running.set stays.fit.0.heeded moves.book.same.made moves.arrays in
-    let call = is_call seen shelf runs laws names 1 p q fit stays refl cleaned.ran moves.book (record { left = moves.left; cause = moves.cause }) keeps cleaned.truths
+    let call = is_call seen shelf runs laws names 1 p q fit stays refl cleaned.ran moves.book (record { left = moves.left; cause = moves.cause }) keeps cleaned.truths cleaned.moments
     (only_quiet (IsShown l) cleaned.keeps.stays cleaned.keeps.keeps)
     (raises_more 288 most_raised (book x) (book y) (omega arith) cleaned.raises) in
     record {

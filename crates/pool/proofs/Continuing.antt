@@ -5,7 +5,7 @@ use Rattle.rack.specs.Joins.{keeps_then}
 use Rattle.rack.specs.Seen.{IsLive, Seen}
 use Rattle.rack.specs.Sequences.{WritesOnly}
 use Rattle.slice_rack.specs.Runs.{IsSliced}
-use Rattle.slice_rack.specs.Slices.{Slices}
+use Rattle.slice_rack.specs.Slices.{IsOrderly, Slices}
 use Rattle.pool.specs.View.{View, volume}
 use Rattle.pool.specs.Calls.{Passes}
 use Rattle.pool.specs.Continuing.{Continues, IsOutside, KeepsOutside}
@@ -14,6 +14,7 @@ use Rattle.pool.specs.Continuing.{Continues, IsOutside, KeepsOutside}
 pub continues_same : (x : View) → (volume x).fit → Continues x x
 continues_same x fit = record {
   fit = fit;
+  orderly = λ orderly. orderly;
   linear = refl;
   size = refl;
   disks = omega arith;
@@ -38,6 +39,7 @@ continues_of x y passes =
     let bay = passes.apart.stays in
     record {
       fit = passes.stays.fit;
+      orderly = subst IsOrderly (sym passes.slices);
       linear = passes.linear;
       size = passes.stays.sectors 0;
       disks = let same = bay.disks in omega (arith, same);
@@ -62,6 +64,7 @@ continues_then x y z one two =
     let more = one.disks in
     record {
       fit = two.fit;
+      orderly = λ orderly. two.orderly (one.orderly orderly);
       linear = two.linear ∙ one.linear;
       size = two.size ∙ one.size;
       disks = let rest = two.disks in omega (arith, more, rest);

@@ -290,14 +290,14 @@ module _ (x : View) (b : Seen) (s : Shelf) (place disk units : ℕ) (t u : Slice
       let go = mid_goes x b s place disk t linear fit missing vacated empty now names ordered orderly admits in
       let carries = mid_carries x b s place disk t linear fit missing vacated empty now names ordered orderly admits in
       record {
-        continues = goes_on x b s place disk t linear fit missing vacated empty now names ordered orderly admits u z may enlists.only fit_now;
+        continues = goes_on x b s place disk t linear fit missing vacated empty now names ordered orderly admits u z may enlists.only fit_now orderly_now;
         carries = carries_then x mid y go carries new_carries;
         raises = raises_more 19 most_raised (book x) (raid_by z) (omega arith) enlists.raises;
         keeps =
             book_enlisted place units (Replace place) (joins x.arrays.all.items place (x.bay.sectors disk)) (book x) (raid_by z) (slices_of t x.bay) (slices_of u b) empty.running.set
             after.running.set after.heeded missing made enlists.is.arrays;
         outside =
-            outside_of_it x b s place disk t linear fit missing vacated empty now names ordered orderly admits u z may enlists.only fit_now
+            outside_of_it x b s place disk t linear fit missing vacated empty now names ordered orderly admits u z may enlists.only fit_now orderly_now
             (λ d k a at. elim at [ inl own ↦ inr own.0 | inr is ↦ new_sliced d k a is ]) new_sliced;
         retired =
             retired_by x b s place disk t linear fit missing vacated empty now names ordered orderly admits u may enlists.only

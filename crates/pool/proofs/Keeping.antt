@@ -7,7 +7,7 @@ use Rattle.rack.specs.Joins.{rose_before, rose_since, stays_same, stays_then}
 use Rattle.rack.specs.Sequences.{WritesOnly}
 use Rattle.rack.specs.Shelf.{KeepsShelf, keeps_shelf_same, keeps_shelf_then}
 use Rattle.rack.proofs.Writing.{only_none, only_then}
-use Rattle.slice_rack.specs.Slices.{Slices, disk_of, seat_of}
+use Rattle.slice_rack.specs.Slices.{Slices, disk_of, seat_of, sectors_of}
 use Rattle.slice_rack.specs.Runs.{IsSliced, Runs}
 use Rattle.array_image.specs.Places.{log_slice}
 use Rattle.array_image.specs.States.{is_current}
@@ -18,6 +18,7 @@ use Rattle.lvm_group.specs.Runs.{Linear}
 use Rattle.raid_rack.specs.Book.{IsAfter, after_same, after_then}
 use Rattle.raid_rack.specs.Moves.{AreCaused}
 use Rattle.raid_rack.specs.Raid.{Raid, gone_in, is_left}
+use Rattle.raid_rack.specs.Runs.{KeepsMoments, moments_same, moments_then}
 use Rattle.raid_rack.specs.Truths.{KeepsTruths}
 use Rattle.raid_rack.proofs.Truths.{truths_then}
 use Rattle.raid_rack.proofs.Whole.{heeded_left}
@@ -36,6 +37,7 @@ passes_same x fit = record {
   marks = after_same (book x).state;
   book = book_same (book x);
   truths = λ n low held. held;
+  moments = moments_same (book x) (slices_shown x);
   arrays = only_none (arrays_shown x) (IsShown x.linear) fit.0;
   apart = only_none x.bay (IsSliced x.slices) fit.0.running.set.fit.0;
   shelf = keeps_shelf_same x.shelf;
@@ -47,15 +49,16 @@ marks_same x lost place was now = absurd (both_ways (is_current (book x).state p
 -- the volume stays, and calls in a row of its slices run below it
 pub passes_of : {own : Type 0} (x y : View) → (volume x).fit → Stays (volume x) (volume y) → y.linear ≡ x.linear
     → Runs x.slices y.slices x.bay y.bay own → IsAfter (book x).state (book y).state → KeepsBook (book x) (book y)
-    → KeepsTruths (book x) (book y) (slices_shown x) (slices_shown y) → WritesOnly (arrays_shown x) (arrays_shown y) (IsShown x.linear)
-    → KeepsShelf x.shelf y.shelf → Passes x y
-passes_of x y fit stays same runs marks keeps truths arrays shelf = record {
+    → KeepsTruths (book x) (book y) (slices_shown x) (slices_shown y) → KeepsMoments (book x) (book y) (slices_shown x) (slices_shown y)
+    → WritesOnly (arrays_shown x) (arrays_shown y) (IsShown x.linear) → KeepsShelf x.shelf y.shelf → Passes x y
+passes_of x y fit stays same runs marks keeps truths moments arrays shelf = record {
   stays = stays;
   linear = same;
   slices = runs.tables;
   marks = marks;
   book = keeps;
   truths = truths;
+  moments = moments;
   arrays = arrays;
   apart = runs.apart fit.0.running.set.fit.0 fit.0.running.set.fit.1;
   shelf = shelf;
@@ -90,6 +93,9 @@ passes_then x y z one two = record {
   marks = after_then (book x).state (book y).state (book z).state one.marks two.marks;
   book = book_then (book x) (book y) (book z) one.marks.same.made two.marks one.book two.book;
   truths = truths_then (book x) (book y) (book z) (slices_shown x) (slices_shown y) (slices_shown z) one.marks.same.made one.truths two.truths;
+  moments =
+      moments_then (book x) (book y) (book z) (slices_shown x) (slices_shown y) (slices_shown z) one.moments two.moments one.marks two.marks
+      (λ d. ap (λ (t : Slices). sectors_of t d) one.slices) one.apart.stays.traced;
   arrays = only_then (IsShown x.linear) one.arrays (subst (λ (l : Linear). WritesOnly (arrays_shown y) (arrays_shown z) (IsShown l)) one.linear two.arrays);
   apart = only_then (IsSliced x.slices) one.apart (subst (λ (t : Slices). WritesOnly y.bay z.bay (IsSliced t)) one.slices two.apart);
   shelf = keeps_shelf_then x.shelf y.shelf z.shelf one.shelf two.shelf;

@@ -16,6 +16,7 @@ use Rattle.commit_log.proofs.Deciding.{names_first}
 use Rattle.array_model.specs.View.{has_gone}
 use Rattle.array_core.specs.Seats.{gone, names}
 use Rattle.lvm_group.specs.Framed.{IsShown}
+use Rattle.raid_rack.specs.Runs.{KeepsMoments}
 use Rattle.raid_rack.specs.Truths.{KeepsTruths}
 use Rattle.raid_rack.specs.Losses.{has_other}
 use Rattle.raid_rack.specs.Moves.{IsHeeded, IsSet, Mends, RaisesBy, noted_at}
@@ -112,6 +113,7 @@ pub record IsLost {R : Type 0} (seen : R → Seen) (runs : R → R → Type 0) (
   pub raises : RaisesBy 17 (raid_in old) (raid_in new)
   pub ran : SliceRuns seen runs (slices_in old) (slices_in new)
   pub truths : KeepsTruths (raid_in old) (raid_in new) (slices_seen seen old) (slices_seen seen new)
+  pub moments : KeepsMoments (raid_in old) (raid_in new) (slices_seen seen old) (slices_seen seen new)
 
 never_fault : (e : LoseFault) → ◌≡◌ {A = Result (Unit {0}) LoseFault} (Ok tt) (Err e) → ⊥
 never_fault e same = cc
@@ -131,7 +133,7 @@ lose_done seen shelf runs laws names p raid place fit current lost =
     let stays = reached_stays seen shelf p raid fit lost.keeps in
     let keeps = book_noted (book x) (book y) (slices_shown x) (slices_shown y) (place ∷ []) fit.0.running.set stays.fit.0.running.set
     stays.fit.0.heeded lost.mends.moves.book.same.made lost.mends.moves.arrays in
-    let passes = passes_of x y fit stays refl lost.ran lost.mends.moves.book keeps lost.truths
+    let passes = passes_of x y fit stays refl lost.ran lost.mends.moves.book keeps lost.truths lost.moments
     (only_quiet (IsShown x.linear) lost.keeps.stays lost.keeps.keeps) (names (bay_in p) (below_of (slices_in raid)) lost.ran.below) in
     record {
       passes = passes;

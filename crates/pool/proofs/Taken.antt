@@ -63,22 +63,22 @@ module _ (x : View) (b : Seen) (s : Shelf) (place disk : ℕ) (t : Slices) (line
   mid_fit = without_fit x place t linear fit missing vacated empty
 
   pub mid_goes : Continues x mid
-  mid_goes = without_continues x place t linear fit missing vacated empty
+  mid_goes = without_continues x place t linear fit missing vacated empty orderly
 
   pub mid_carries : Carries x mid
   mid_carries = without_carries x place t linear fit missing vacated empty
 
   -- ---- what the parts of the call say of the bay
 
-  pub goes_on : (u : Slices) (z : Arrays) (may : ℕ → ℕ → List ℕ → Type 0) → WritesOnly x.bay b may → (volume (later x b s u z)).fit → Continues x (later x b s u z)
-  goes_on u z may only after = continues_then x mid (later x b s u z) mid_goes (bay_continues mid (later x b s u z) may only names after refl)
+  pub goes_on : (u : Slices) (z : Arrays) (may : ℕ → ℕ → List ℕ → Type 0) → WritesOnly x.bay b may → (volume (later x b s u z)).fit → IsOrderly u → Continues x (later x b s u z)
+  goes_on u z may only after ordered_now = continues_then x mid (later x b s u z) mid_goes (bay_continues mid (later x b s u z) may only names after ordered_now refl)
 
-  pub outside_of_it : (u : Slices) (z : Arrays) (may : ℕ → ℕ → List ℕ → Type 0) → WritesOnly x.bay b may → (volume (later x b s u z)).fit
+  pub outside_of_it : (u : Slices) (z : Arrays) (may : ℕ → ℕ → List ℕ → Type 0) → WritesOnly x.bay b may → (volume (later x b s u z)).fit → IsOrderly u
       → ((d k : ℕ) (v : List ℕ) → may d k v → IsSliced t d k v ⊎ (d ≡ disk)) → ((d k : ℕ) (v : List ℕ) → IsSliced u d k v → IsSliced t d k v ⊎ (d ≡ disk))
       → KeepsOutside x.slices u (λ d. d ≡ disk) x.shelf.told x.bay b
-  outside_of_it u z may only after writes slices =
+  outside_of_it u z may only after ordered_now writes slices =
       outside_fewer x.slices u (λ d. NoDisk d ⊎ (d ≡ disk)) (λ d. d ≡ disk) x.shelf.told x.bay b (one_disk disk)
-      (outside_then x mid (later x b s u z) NoDisk (λ d. d ≡ disk) mid_goes (bay_continues mid (later x b s u z) may only names after refl)
+      (outside_then x mid (later x b s u z) NoDisk (λ d. d ≡ disk) mid_goes (bay_continues mid (later x b s u z) may only names after ordered_now refl)
       (without_outside x place t linear fit missing vacated empty NoDisk)
       (outside_writes t u (λ d. d ≡ disk) x.shelf.told x.bay b may only now.unspent writes slices))
 
@@ -145,11 +145,11 @@ module _ (x : View) (b : Seen) (s : Shelf) (place disk : ℕ) (t : Slices) (line
       let both = only_read mid b s linear mid_fit after reads in
       let fit_now : (volume y).fit = (after, inside_later x b s t x.arrays fit refl (λ n. refl)) in
       record {
-        continues = goes_on t x.arrays may only fit_now;
+        continues = goes_on t x.arrays may only fit_now orderly;
         carries = carries_then x mid y mid_goes mid_carries (carries_kept mid y both.0 both.1 refl (λ names all. truths_reads (book x) (slices_of t x.bay) (slices_of t b) empty.running.set reads));
         raises = raises_still 1 x;
         keeps = book_same (book x);
-        outside = outside_of_it t x.arrays may only fit_now (λ d k v at. inr at.0) (λ d k v is. inl is);
+        outside = outside_of_it t x.arrays may only fit_now orderly (λ d k v at. inr at.0) (λ d k v is. inl is);
         retired = retired_by t may only (λ d k v at. inr at.0) (λ d k v is. inl is);
         laid = laid_by t (only_weaker may (IsWrittenBy t disk (x.bay.sectors disk)) (λ d k v own. inl own) only);
         names = names.names;
@@ -188,11 +188,11 @@ module _ (x : View) (b : Seen) (s : Shelf) (place disk : ℕ) (t : Slices) (line
       let both = moved mid b s t z linear mid_fit after moves in
       let fit_now : (volume y).fit = (after, inside_later x b s t z fit moves.book.same.made moves.sectors) in
       record {
-        continues = goes_on t z may only fit_now;
+        continues = goes_on t z may only fit_now orderly;
         carries = carries_then x mid y mid_goes mid_carries (carries_kept mid y both.0 both.1 moves.book.same.made (λ names all. truths));
         raises = raises_more 18 most_raised (book x) (raid_by z) (omega arith) raises;
         keeps = book_lost (book x) (raid_by z) (slices_of t b) after.running.set after.heeded moves.book.same.made moves.arrays;
-        outside = outside_of_it t z may only fit_now (λ d k v at. elim at [ inl own ↦ inr own.0 | inr sliced ↦ inl sliced ]) (λ d k v is. inl is);
+        outside = outside_of_it t z may only fit_now orderly (λ d k v at. elim at [ inl own ↦ inr own.0 | inr sliced ↦ inl sliced ]) (λ d k v is. inl is);
         retired = retired_by t may only (λ d k v at. elim at [ inl own ↦ inr own.0 | inr sliced ↦ inl sliced ]) (λ d k v is. inl is);
         laid = laid_by t only;
         names = names.names;

@@ -6,7 +6,7 @@ use Rattle.rack.specs.Sequences.{WritesOnly}
 use Rattle.rack.specs.Shelf.{KeepsShelf}
 use Rattle.slice_rack.specs.Changes.{Seats}
 use Rattle.slice_rack.specs.Runs.{IsSliced}
-use Rattle.slice_rack.specs.Slices.{Slices, place_of}
+use Rattle.slice_rack.specs.Slices.{IsOrderly, Slices, place_of}
 use Rattle.slice_rack.specs.Sliced.{slices_of}
 use Rattle.array_image.specs.States.{is_current}
 use Rattle.lvm_group.specs.Laws.{array_below}
@@ -27,9 +27,10 @@ module _ (x : View) (place : ℕ) (t : Slices) (linear : IsOrderlyVolume x.linea
   pub without_fit : (volume without).fit
   without_fit = (after, inside_later x x.bay x.shelf t x.arrays fit refl (λ n. refl))
 
-  pub without_continues : Continues x without
-  without_continues = record {
+  pub without_continues : IsOrderly t → Continues x without
+  without_continues orderly = record {
     fit = without_fit;
+    orderly = λ before. orderly;
     linear = refl;
     size = refl;
     disks = omega arith;
@@ -87,12 +88,13 @@ module _ (x : View) (place : ℕ) (t : Slices) (linear : IsOrderlyVolume x.linea
   }
 
 -- a call that writes on the disks, by what it may write
-pub bay_continues : (x y : View) (may : ℕ → ℕ → List ℕ → Type 0) → WritesOnly x.bay y.bay may → KeepsShelf x.shelf y.shelf → (volume y).fit → y.linear ≡ x.linear
+pub bay_continues : (x y : View) (may : ℕ → ℕ → List ℕ → Type 0) → WritesOnly x.bay y.bay may → KeepsShelf x.shelf y.shelf → (volume y).fit → IsOrderly y.slices → y.linear ≡ x.linear
     → Continues x y
-bay_continues x y may only names fit same =
+bay_continues x y may only names fit orderly same =
     let bay = only.stays in
     record {
       fit = fit;
+      orderly = λ before. orderly;
       linear = same;
       size = ap (λ l. sectors_in l) same;
       disks = let equal = bay.disks in omega (arith, equal);

@@ -18,6 +18,7 @@ use Rattle.raid_rack.specs.Agreeing.{AgreeLeaving}
 use Rattle.raid_rack.specs.Book.{IsAfter}
 use Rattle.raid_rack.specs.Losses.{has_other}
 use Rattle.raid_rack.specs.Raid.{IsTold, is_over}
+use Rattle.raid_rack.specs.Runs.{KeepsMoments}
 use Rattle.raid_rack.specs.Truths.{KeepsTruths}
 use Rattle.pool.specs.declared.calls.LoseFault.{LoseFault}
 use Rattle.pool.specs.declared.calls.LoseFault.TheVariants.{LastDrive, NoSuchDrive}
@@ -30,7 +31,8 @@ use Rattle.pool.specs.Works.{HasRowsAlone, IsStuck, left_of}
 use Rattle.pool.specs.Volume.{Does, Holds, is_spent, size_of, unchanged}
 
 -- What each call keeps: the volume stays where it is, marks alone come to the state, or the end of its plan, arrays lose whom these marks
--- name and nobody else, of the arrays' sectors only the volume's are written and of the bay's disks only those of slices, and its names stay.
+-- name and nobody else, of the arrays' sectors only the volume's are written and of the bay's disks only those of slices, and its names stay. What stops
+-- in it leave of the logs, of the states and of the arrays' superblocks is such as an opening asks for.
 pub record Passes (x y : View) : Type 0 where
   pub stays : Stays (volume x) (volume y)
   pub linear : y.linear ≡ x.linear
@@ -38,6 +40,7 @@ pub record Passes (x y : View) : Type 0 where
   pub marks : IsAfter (book x).state (book y).state
   -- superblocks that said an array's truth do so after it
   pub truths : KeepsTruths (book x) (book y) (slices_shown x) (slices_shown y)
+  pub moments : KeepsMoments (book x) (book y) (slices_shown x) (slices_shown y)
   pub book : KeepsBook (book x) (book y)
   pub arrays : WritesOnly (arrays_shown x) (arrays_shown y) (IsShown x.linear)
   pub apart : WritesOnly x.bay y.bay (IsSliced x.slices)

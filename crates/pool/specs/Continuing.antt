@@ -3,7 +3,7 @@ use Rattle.std.specs.Prelude.{◌≡◌, ◌⊎◌, ℕ, ◌<◌, ◌≤◌, fal
 use Rattle.rack.specs.Values.{Keeps, MayLeave}
 use Rattle.rack.specs.Seen.{Image, Seen}
 use Rattle.slice_rack.specs.Runs.{IsSliced}
-use Rattle.slice_rack.specs.Slices.{Slices}
+use Rattle.slice_rack.specs.Slices.{IsOrderly, Slices}
 use Rattle.pool.specs.View.{View, volume}
 use Rattle.pool.specs.Volume.{size_of}
 
@@ -11,6 +11,8 @@ use Rattle.pool.specs.Volume.{size_of}
 -- waits stays, but for what was attached.
 pub record Continues (x y : View) : Type 0 where
   pub fit : (volume y).fit
+  -- slices that don't overlap don't afterwards
+  pub orderly : IsOrderly x.slices → IsOrderly y.slices
   pub linear : y.linear ≡ x.linear
   pub size : size_of y ≡ size_of x
   pub disks : x.bay.disks ≤ y.bay.disks

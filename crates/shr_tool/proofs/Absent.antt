@@ -117,7 +117,21 @@ module _ (x y : View) (f : Found) (passes : Passes x y) (on : IsRunOn f (ground_
         (subst (λ (k : Disks). (d : ℕ) → d < k.count → k.sectors d < 2 ^ 48) (sym same) inside.small)
         (group_last group) alive
 
--- After the end of a pool whose superblocks said their arrays' truths when the run began.
+-- Superblocks that said their arrays' truths when the run began agree after its end, where no disk's faults rose in the end.
+pub agreed_at :
+    (x m y : View) (f : Found) → Passes x m → Ends m y → ((d : ℕ) → Rose (m.bay.faults d) (y.bay.faults d) → ⊥)
+    → IsRunOn f (ground_of x) (moment_of x) x.bay
+    → ((n : ℕ) → n < x.linear.arrays → IsTold (book y) (slices_shown y) n)
+    → (n : ℕ) → n < f.state.made → is_over (book y) n ≡ false
+    → (r : Image) → IsLeft (slices_shown y) r → AgreeLeaving ((book y).arrays n) (book y).state r n
+agreed_at x m y f ran ends quiet on told_last n low goes r left =
+    let first = on.after.same.made in
+    let mid = ran.marks.same.made in
+    ends.agree quiet n (let less : n < (book m).state.made = omega (arith, low, first, mid) in less)
+    (ran.truths n (let less : n < (book x).state.made = omega (arith, low, first) in less) (on.truths n low))
+    (told_last n (let arrays = on.arrays in let joined = on.joined in omega (arith, low, arrays, joined))) goes r left
+
+-- After the end of such a pool, which is whole then.
 pub safe_at :
     (x m y : View) (f : Found) → Passes x m → Ends m y → ((d : ℕ) → Rose (m.bay.faults d) (y.bay.faults d) → ⊥)
     → IsRunOn f (ground_of x) (moment_of x) x.bay
@@ -126,9 +140,4 @@ pub safe_at :
     → (i : Image) → IsPick y.bay y.bay y.bay.held i → HasWholeSectors y.bay i → HoldAbsent f y.slices (book y).state i
 safe_at x m y f ran ends quiet on told_first told_last only own whole goes =
     absent_at x y f (passes_then x m y ran ends.passes) on told_first told_last goes whole only (on.group own)
-    (λ n r low left.
-    let first = on.after.same.made in
-    let mid = ran.marks.same.made in
-    ends.agree quiet n (let less : n < (book m).state.made = omega (arith, low, first, mid) in less)
-    (ran.truths n (let less : n < (book x).state.made = omega (arith, low, first) in less) (on.truths n low))
-    (told_last n (let arrays = on.arrays in let joined = on.joined in omega (arith, low, arrays, joined))) (goes n low) r left)
+    (λ n r low left. agreed_at x m y f ran ends quiet on told_last n low (goes n low) r left)

@@ -1,5 +1,6 @@
--- What a stop between two lines leaves holds a sound pool again: at a view, after one event more, and seen after calls more.
+-- What a stop between two lines and inside a line leaves holds a sound pool again: at a view, after one event more, and seen after calls more.
 use Rattle.std.proofs.Common.{◌≡◌, ℕ, ◌<◌, ◌≤◌, true, false, List, [], ◌∷◌, ◌++◌, append_assoc, sym, ◌∙◌, ap, subst, inl, inr, arith}
+use Rattle.std.proofs.lemmas.List.{append-nil}
 use Rattle.rack.specs.Moments.{IsSound}
 use Rattle.rack.specs.Seen.{Image}
 use Rattle.slice_rack.specs.Sliced.{slices_of}
@@ -12,13 +13,13 @@ use Rattle.pool.specs.Continuing.{Continues}
 use Rattle.pool.specs.Moment.{Moment, moment_of}
 use Rattle.pool.specs.View.{View, book, spent_by}
 use Rattle.pool.specs.Volume.{Holds}
-use Rattle.shr_tool.specs.Between.{HoldsEach, HoldsThen}
-use Rattle.shr_tool.specs.Events.{Event, any_takes, becomes}
+use Rattle.shr_tool.specs.Between.{HoldsEach, HoldsInside, HoldsThen}
+use Rattle.shr_tool.specs.Events.{Event, any_takes, becomes, takes_disk}
 use Rattle.shr_tool.specs.Service.{AreFit, GoesBy, IsServed, pool_after, pool_by}
 use Rattle.shr_tool.specs.Serving.{IsServing}
 use Rattle.shr_tool.specs.Timeline.{Ground, Steps, Timeline, ground_of, steps_of}
 use Rattle.shr_tool.proofs.Chains.{steps_more}
-use Rattle.shr_tool.proofs.Serviced.{goes_again}
+use Rattle.shr_tool.proofs.Serviced.{goes_again, goes_amid}
 
 -- each of the volume's arrays is told after calls, where no drive was to be replaced or a sector of the volume can be had
 pub told_after :
@@ -39,14 +40,14 @@ told_after x y a b events continues passes serving holds (inr some) n inside =
 
 -- a stop now leaves values that the disks hold, so the pool by which the run goes
 pub holds_then :
-    (x y : View) (a b : FlatArray) (events : List Event) (Serial : Type 0) (f : Found)
+    {L : Type 0} (x y : View) (a b : FlatArray) (events : List Event) (Serial : Type 0) (f : Found)
     → Continues x y
     → (any_takes events ≡ false → Passes x y)
     → IsServing x a
     → Holds y b
     → x.bay.traced
     → (y.bay.fit → y.bay.traced → IsSound y.bay)
-    → (IsServed (ground_of x) (moment_of y) events → (any_takes events ≡ true → Serial) → GoesBy f y)
+    → (IsServed (ground_of x) (moment_of y) events → (any_takes events ≡ true → Serial) → GoesBy L f y)
     → HoldsThen y.bay.stops (ground_of x) Serial events f (moment_of y)
 holds_then x y a b events Serial f continues passes serving holds traced sound goes = λ served serial lasts i stopped.
     let going = goes served serial in
@@ -55,6 +56,24 @@ holds_then x y a b events Serial f continues passes serving holds traced sound g
     (λ n low. told_after x y a b events continues passes serving holds served n
     (subst (λ k. n < k) (sym going.arrays ∙ ap (λ (l : Linear). l.arrays) continues.linear) low))
     lasts i ((sound fit.0 (continues.traced serving.0.shelf traced)).only_held i stopped)
+
+-- a stop inside calls that take no disk leaves what holds the pool still
+pub holds_inside :
+    {L : Type 0} (x y z : View) (a b : FlatArray) (events : List Event) (Serial : Type 0) (f : Found)
+    → Continues x y
+    → (any_takes events ≡ false → Passes x y)
+    → IsServing x a
+    → Holds y b
+    → x.bay.traced
+    → Passes y z
+    → (IsServed (ground_of x) (moment_of y) events → (any_takes events ≡ true → Serial) → GoesBy L f y)
+    → HoldsInside z.bay.stops (ground_of x) Serial L events f (moment_of y) (moment_of z)
+holds_inside x y z a b events Serial f continues passes serving holds traced calls goes = λ served serial lands lasts.
+    let going = goes served serial in
+    (goes_amid y z f continues.fit.0.running.set.fit.1 calls going lands
+    (λ n low. told_after x y a b events continues passes serving holds served n
+    (subst (λ k. n < k) (sym going.arrays ∙ ap (λ (l : Linear). l.arrays) continues.linear) low))
+    lasts (continues.traced serving.0.shelf traced)).new
 
 -- ---- in a row
 
@@ -75,41 +94,60 @@ then_kept :
     → ((i : Image) → new p.clock i → old p.clock i) → HoldsThen old g Serial done f p → HoldsThen new g Serial done f p
 then_kept old new g Serial done f p past holds = λ served serial lasts i stopped. holds served serial lasts i (past i stopped)
 
+inside_kept :
+    (old new : ℕ → Image → Type 0) (g : Ground) (Serial Landing : Type 0) (done : List Event) (f : Found) (p q : Moment)
+    → ((k : ℕ) (i : Image) → k ≤ q.clock → new k i → old k i) → HoldsInside old g Serial Landing done f p q → HoldsInside new g Serial Landing done f p q
+inside_kept old new g Serial Landing done f p q past holds = λ served serial lands lasts k i since until stopped.
+    holds served serial lands lasts k i since until (past k i until stopped)
+
 -- later calls leave the past as it was
 pub each_kept :
-    (Traced : Type 0) (old new : ℕ → Image → Type 0) (g : Ground) (Serial : Type 0) (limit : ℕ)
+    (Traced : Type 0) (old new : ℕ → Image → Type 0) (g : Ground) (Serial Landing : Type 0) (limit : ℕ)
     → Traced
     → ((k : ℕ) (i : Image) → k ≤ limit → new k i → old k i)
     → (done : List Event) (f : Found) (p : Moment) (a : FlatArray) (events : List Event) (q : Moment)
     → q.clock ≤ limit
     → (line : Timeline Traced old g p a events q)
-    → HoldsEach old g Serial done f p events q (steps_of Traced old g p a events q line)
-    → HoldsEach new g Serial done f p events q (steps_of Traced old g p a events q line)
-each_kept Traced old new g Serial limit traced past done f p a [] q within line holds =
+    → HoldsEach old g Serial Landing done f p events q (steps_of Traced old g p a events q line)
+    → HoldsEach new g Serial Landing done f p events q (steps_of Traced old g p a events q line)
+each_kept Traced old new g Serial Landing limit traced past done f p a [] q within line holds =
     let order = timeline_order Traced old g p a [] q traced line in
     then_kept old new g Serial done f p (λ i. past p.clock i (omega arith)) holds
-each_kept Traced old new g Serial limit traced past done f p a (event ∷ events) q within line holds =
-    let order = timeline_order Traced old g p a (event ∷ events) q traced line in (
+each_kept Traced old new g Serial Landing limit traced past done f p a (event ∷ events) q within line holds =
+    let order = timeline_order Traced old g p a (event ∷ events) q traced line in
+    let rest = timeline_order Traced old g line.0 (becomes a event) events q traced line.2 in (
       then_kept old new g Serial done f p (λ i. past p.clock i (omega arith)) holds.0,
+      λ none. inside_kept old new g Serial Landing done f p line.0 (λ k i until. past k i (omega (arith, until, rest, within))) (holds.1 none),
       λ fit.
-          each_kept Traced old new g Serial limit traced past (done ++ event ∷ []) (pool_after f p line.0 event) line.0 (becomes a event) events q within line.2
-          (holds.1 fit),
+          each_kept Traced old new g Serial Landing limit traced past (done ++ event ∷ []) (pool_after f p line.0 event) line.0 (becomes a event) events q within line.2
+          (holds.2 fit),
     )
 
 -- one event more
 pub each_more :
-    (stops : ℕ → Image → Type 0) (g : Ground) (Serial : Type 0) (done : List Event) (f : Found) (p : Moment) (events : List Event) (mid : Moment)
+    (stops : ℕ → Image → Type 0) (g : Ground) (Serial Landing : Type 0) (done : List Event) (f : Found) (p : Moment) (events : List Event) (mid : Moment)
     (event : Event) (q : Moment) (steps : Steps p events mid)
-    → HoldsEach stops g Serial done f p events mid steps
+    → HoldsEach stops g Serial Landing done f p events mid steps
+    → (AreFit f p events mid steps → takes_disk event ≡ false → HoldsInside stops g Serial Landing (done ++ events) (pool_by f p events mid steps) mid q)
     → (AreFit f p (events ++ event ∷ []) q (steps_more p events mid event q steps)
     → HoldsThen stops g Serial (done ++ (events ++ event ∷ [])) (pool_by f p (events ++ event ∷ []) q (steps_more p events mid event q steps)) q)
-    → HoldsEach stops g Serial done f p (events ++ event ∷ []) q (steps_more p events mid event q steps)
-each_more stops g Serial done f p [] mid event q steps holds last = (holds, λ fit. last (fit, tt))
-each_more stops g Serial done f p (first ∷ events) mid event q steps holds last = (
+    → HoldsEach stops g Serial Landing done f p (events ++ event ∷ []) q (steps_more p events mid event q steps)
+each_more stops g Serial Landing done f p [] mid event q steps holds inside last = (
+  holds,
+  λ none.
+      subst (λ (m : Moment). HoldsInside stops g Serial Landing done f m q) (sym steps)
+      (subst (λ (all : List Event). HoldsInside stops g Serial Landing all f mid q) (append-nil done) (inside tt none)),
+  λ fit. last (fit, tt),
+)
+each_more stops g Serial Landing done f p (first ∷ events) mid event q steps holds inside last = (
   holds.0,
+  holds.1,
   λ fit.
       let after = pool_after f p steps.0 first in
-      each_more stops g Serial (done ++ first ∷ []) after steps.0 events mid event q steps.1 (holds.1 fit)
+      each_more stops g Serial Landing (done ++ first ∷ []) after steps.0 events mid event q steps.1 (holds.2 fit)
+      (λ rest none.
+      subst (λ (all : List Event). HoldsInside stops g Serial Landing all (pool_by after steps.0 events mid steps.1) mid q)
+      (sym (append_assoc done (first ∷ []) events)) (inside (fit, rest) none))
       (λ rest.
       subst
       (λ (all : List Event). HoldsThen stops g Serial all (pool_by after steps.0 (events ++ event ∷ []) q (steps_more steps.0 events mid event q steps.1)) q)

@@ -1,5 +1,5 @@
 -- The pool by which a run goes after one event more.
-use Rattle.std.proofs.Common.{◌≡◌, Bool, false, true, if◌then◌else◌, List, [], ◌∷◌, ◌++◌, refl, ap, subst, ◌∙◌}
+use Rattle.std.proofs.Common.{◌≡◌, Bool, false, true, if◌then◌else◌, List, [], ◌∷◌, ◌++◌, refl, ap, subst}
 use Rattle.std.proofs.lemmas.Bool.{both_ways}
 use Rattle.pool_image.specs.Drives.{Found}
 use Rattle.pool_model.specs.Taken.{attached}
@@ -53,13 +53,7 @@ fit_still f p (stepped count left) none = tt
 fit_still f p (stuck count array) none = tt
 fit_still f p (shown text) none = tt
 
--- where none does it is the pool of the beginning, and of no disk anything is to be known
-pub none_taken : (f : Found) (p : Moment) (events : List Event) (q : Moment) (steps : Steps p events q) → any_takes events ≡ false → pool_by f p events q steps ≡ f
-none_taken f p [] q steps none = refl
-none_taken f p (event ∷ events) q steps none =
-    let parts = or_parts (takes_disk event) (any_takes events) none in
-    none_taken (pool_after f p steps.0 event) steps.0 events q steps.1 parts.1 ∙ pool_still f p steps.0 event parts.0
-
+-- where none does nothing is to be known of a disk
 pub none_fit : (f : Found) (p : Moment) (events : List Event) (q : Moment) (steps : Steps p events q) → any_takes events ≡ false → AreFit f p events q steps
 none_fit f p [] q steps none = tt
 none_fit f p (event ∷ events) q steps none =

@@ -2,6 +2,7 @@
 use Rattle.std.proofs.Common.{◌≡◌, ◌⊎◌, ℕ, ◌<◌, true, false, List, [], ◌∷◌, ◌++◌, refl, sym, ◌∙◌, ap, subst, inl, inr, arith}
 use Rattle.rack.specs.Seen.{Image, IsPick}
 use Rattle.slice_rack.specs.Sliced.{slices_of}
+use Rattle.assembler.specs.Sound.{TargetsLand}
 use Rattle.pool_image.specs.Drives.{Found}
 use Rattle.pool_model.specs.Left.{HoldAgain}
 use Rattle.pool_model.specs.Taken.{AreSerial}
@@ -22,17 +23,17 @@ use Rattle.shr_tool.specs.Events.{AnyTakes, Event, any_takes, array_by}
 use Rattle.pool.specs.Moment.{moment_of}
 use Rattle.shr_tool.specs.Timeline.{Steps, Timeline, ground_of, steps_of}
 use Rattle.shr_tool.specs.Serving.{HasStopCause, IsServing, Ran, Serves, StopsAtEnd}
-use Rattle.shr_tool.specs.Between.{HoldsEach}
+use Rattle.shr_tool.specs.Between.{HoldsEach, HoldsInside}
 use Rattle.shr_tool.specs.Service.{AreFit, IsServed, pool_by}
 use Rattle.shr_tool.specs.Outcome.{DoneOutcome, EndsAt, HasStatusCause, IsRunOn, Lasts, LeavesItsRows, Outcome, status_by}
-use Rattle.shr_tool.proofs.Between.{told_after}
+use Rattle.shr_tool.proofs.Between.{holds_inside, told_after}
 use Rattle.shr_tool.proofs.History.{IsUnspent, each_before, ran_before, slices_kept, standing, steps_before}
 use Rattle.shr_tool.proofs.Serviced.{goes_again, goes_calls, goes_run}
 use Rattle.shr_tool.proofs.Joined.{means_at}
 use Rattle.shr_tool.proofs.Told.{outside_told, steps_for, timeline_for}
 use Rattle.pool.proofs.Continuing.{continues_of, continues_then, outside_fewer, outside_of, outside_then}
 use Rattle.pool.proofs.Keeping.{passes_then}
-use Rattle.shr_tool.proofs.Absent.{safe_at}
+use Rattle.shr_tool.proofs.Absent.{agreed_at, safe_at}
 
 -- what can be had after the end of a pool could be had before it
 served_before :
@@ -148,6 +149,20 @@ again_at x m y a events ran ends serving served f on serials fit lasts i pick =
     (λ n low. lasts n (omega (arith, low, made, linear, arrays)))
     i pick
 
+-- what a stop inside the end leaves holds it
+closing_at :
+    (x m y : View) (a : FlatArray) (events : List Event) (ran : Ran x m events)
+    → Ends m y
+    → IsServing x a
+    → x.bay.traced
+    → (f : Found)
+    → IsRunOn f (ground_of x) (moment_of x) x.bay
+    → AreFit f (moment_of x) events (moment_of m) ran.steps
+    → HoldsInside y.bay.stops (ground_of x) (AreSerial f.state) (TargetsLand f) events (pool_by f (moment_of x) events (moment_of m) ran.steps) (moment_of m) (moment_of y)
+closing_at x m y a events ran ends serving traced f on fit =
+    holds_inside x m y a (array_by a events) events (AreSerial f.state) (pool_by f (moment_of x) events (moment_of m) ran.steps) ran.continues ran.passes serving
+    (ran.holds a serving.0) traced ends.passes (λ served serials. (ran.service a serving.0 served f (goes_run x f on) serials fit).goes)
+
 -- outside the slices those disks alone are written that a line named
 outside_at :
     (x m y : View) (a : FlatArray) (events : List Event)
@@ -187,9 +202,18 @@ lasts_of x m y a events unspent ran ends =
       told = told_at x m y a events ran ends;
       rows = rows_at x m y a events ran ends;
       between = λ serving traced f on.
-          subst (HoldsEach y.bay.stops (ground_of x) (AreSerial f.state) [] f (moment_of x) events (moment_of m))
+          subst (HoldsEach y.bay.stops (ground_of x) (AreSerial f.state) (TargetsLand f) [] f (moment_of x) events (moment_of m))
           (sym (steps_told x m y a events ran (continues_of m y ends.passes)))
           (each_before x m y events a f ran (continues_of m y ends.passes) serving traced (goes_run x f on));
+      closing = λ serving traced f on fit.
+          let same = steps_told x m y a events ran (continues_of m y ends.passes) in
+          subst
+          (λ (steps : Steps (moment_of x) events (moment_of m)).
+          HoldsInside y.bay.stops (ground_of x) (AreSerial f.state) (TargetsLand f) events (pool_by f (moment_of x) events (moment_of m) steps) (moment_of m) (moment_of y))
+          (sym same)
+          (closing_at x m y a events ran ends serving traced f on (subst (AreFit f (moment_of x) events (moment_of m)) same fit));
+      agreed = λ serving none quiet f on n low goes r left.
+          agreed_at x m y f (ran.passes none) ends quiet on (told_at x m y a events ran ends serving (inl none)) n low goes r left;
       safe = λ serving none quiet f on.
           safe_at x m y f (ran.passes none) ends quiet on (λ n low. serving.1 n low) (told_at x m y a events ran ends serving (inl none));
       again = λ serving served f on known fit lasts i pick.

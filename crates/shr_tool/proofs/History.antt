@@ -19,9 +19,10 @@ use Rattle.pool.specs.Moment.{Moment, moment_of}
 use Rattle.shr_tool.specs.Timeline.{Ground, KeepsDisks, KeepsSlices, KeepsStanding, Happens, Performs, Steps, Timeline, ground_of, steps_of}
 use Rattle.shr_tool.specs.Between.{HoldsEach}
 use Rattle.shr_tool.specs.Service.{AreFit, GoesBy, GoesOn, IsServed, pool_by}
+use Rattle.assembler.specs.Sound.{TargetsLand}
 use Rattle.pool_image.specs.Drives.{Found}
 use Rattle.pool_model.specs.Taken.{AreSerial}
-use Rattle.shr_tool.proofs.Between.{each_kept, each_more, holds_then, timeline_order}
+use Rattle.shr_tool.proofs.Between.{each_kept, each_more, holds_inside, holds_then, timeline_order}
 use Rattle.shr_tool.proofs.Chains.{fit_parts, pool_by-snoc, steps_more}
 use Rattle.shr_tool.proofs.Serviced.{goes_performed, served_first, served_last}
 use Rattle.shr_tool.specs.Serving.{Answered, IsServing, Ran, Replies}
@@ -239,19 +240,19 @@ steps_before x y z events a ran continues =
     (ran.timeline a)
     ∙ ran.steps_are a
 
--- and what stops left between the lines
+-- and what stops left between the lines and inside them
 pub each_before :
     (x y z : View) (events : List Event) (a : FlatArray) (f : Found) (ran : Ran x y events)
     → Continues y z
     → IsServing x a
     → x.bay.traced
-    → GoesBy f x
-    → HoldsEach z.bay.stops (ground_of x) (AreSerial f.state) [] f (moment_of x) events (moment_of y) ran.steps
+    → GoesBy (TargetsLand f) f x
+    → HoldsEach z.bay.stops (ground_of x) (AreSerial f.state) (TargetsLand f) [] f (moment_of x) events (moment_of y) ran.steps
 each_before x y z events a f ran continues serving traced goes =
-    let each = HoldsEach y.bay.stops (ground_of x) (AreSerial f.state) [] f (moment_of x) events (moment_of y) in
-    let later = HoldsEach z.bay.stops (ground_of x) (AreSerial f.state) [] f (moment_of x) events (moment_of y) in
+    let each = HoldsEach y.bay.stops (ground_of x) (AreSerial f.state) (TargetsLand f) [] f (moment_of x) events (moment_of y) in
+    let later = HoldsEach z.bay.stops (ground_of x) (AreSerial f.state) (TargetsLand f) [] f (moment_of x) events (moment_of y) in
     subst later (ran.steps_are a)
-    (each_kept (x.bay.traced × Holds x a) y.bay.stops z.bay.stops (ground_of x) (AreSerial f.state) y.bay.clock (traced, serving.0)
+    (each_kept (x.bay.traced × Holds x a) y.bay.stops z.bay.stops (ground_of x) (AreSerial f.state) (TargetsLand f) y.bay.clock (traced, serving.0)
     (continues.past (ran.continues.told serving.0.shelf) (ran.continues.traced serving.0.shelf traced))
     [] f (moment_of x) a events (moment_of y) (omega arith) (ran.timeline a)
     (subst each (sym (ran.steps_are a)) (ran.between a serving traced f goes)))
@@ -292,10 +293,10 @@ service_more :
     → Performs y z event text
     → Holds x a
     → IsServed (ground_of x) (moment_of z) (events ++ event ∷ [])
-    → GoesBy f x
+    → GoesBy (TargetsLand f) f x
     → (any_takes (events ++ event ∷ []) ≡ true → AreSerial f.state)
     → AreFit f (moment_of x) (events ++ event ∷ []) (moment_of z) (steps_more (moment_of x) events (moment_of y) event (moment_of z) ran.steps)
-    → GoesOn f (pool_by f (moment_of x) (events ++ event ∷ []) (moment_of z) (steps_more (moment_of x) events (moment_of y) event (moment_of z) ran.steps)) z
+    → GoesOn (TargetsLand f) f (pool_by f (moment_of x) (events ++ event ∷ []) (moment_of z) (steps_more (moment_of x) events (moment_of y) event (moment_of z) ran.steps)) z
 service_more x y z events event text a f unspent ran performs holds served goes serials fit =
     let parts = fit_parts f (moment_of x) events (moment_of y) event (moment_of z) ran.steps fit in
     let linear = ran.continues.linear in
@@ -304,10 +305,10 @@ service_more x y z events event text a f unspent ran performs holds served goes 
     let after =
     goes_performed y z event text (array_by a events) unspent ran.continues.fit performs (ran.holds a holds) (served_last x y z events event linear served)
     (pool_by f (moment_of x) events (moment_of y) ran.steps) before.goes (λ takes. before.serials (serials (takes_last events event takes))) parts.1 in
-    subst (λ h. GoesOn f h z) (sym (pool_by-snoc f (moment_of x) events (moment_of y) event (moment_of z) ran.steps))
+    subst (λ h. GoesOn (TargetsLand f) f h z) (sym (pool_by-snoc f (moment_of x) events (moment_of y) event (moment_of z) ran.steps))
     (record { goes = after.goes; serials = λ serial. after.serials (before.serials serial) })
 
--- what a stop at the event's end leaves holds it
+-- what a stop inside the event and at its end leaves holds it
 between_more :
     (x y z : View) (events : List Event) (event : Event) (text : List ℕ) (a : FlatArray) (f : Found)
     → IsLawful z
@@ -315,14 +316,17 @@ between_more :
     → Performs y z event text
     → IsServing x a
     → x.bay.traced
-    → GoesBy f x
-    → HoldsEach z.bay.stops (ground_of x) (AreSerial f.state) [] f (moment_of x) (events ++ event ∷ []) (moment_of z)
+    → GoesBy (TargetsLand f) f x
+    → HoldsEach z.bay.stops (ground_of x) (AreSerial f.state) (TargetsLand f) [] f (moment_of x) (events ++ event ∷ []) (moment_of z)
     (steps_more (moment_of x) events (moment_of y) event (moment_of z) ran.steps)
 between_more x y z events event text a f laws ran performs serving traced goes =
     let all = events ++ event ∷ [] in
     let steps = steps_more (moment_of x) events (moment_of y) event (moment_of z) ran.steps in
-    each_more z.bay.stops (ground_of x) (AreSerial f.state) [] f (moment_of x) events (moment_of y) event (moment_of z) ran.steps
+    each_more z.bay.stops (ground_of x) (AreSerial f.state) (TargetsLand f) [] f (moment_of x) events (moment_of y) event (moment_of z) ran.steps
     (each_before x y z events a f ran performs.continues serving traced goes)
+    (λ fit none.
+    holds_inside x y z a (array_by a events) events (AreSerial f.state) (pool_by f (moment_of x) events (moment_of y) ran.steps) ran.continues ran.passes serving
+    (ran.holds a serving.0) traced (performs.passes none) (λ served serials. (ran.service a serving.0 served f goes serials fit).goes))
     (λ fit.
     holds_then x z a (array_by a all) all (AreSerial f.state) (pool_by f (moment_of x) all (moment_of z) steps)
     (continues_then x y z ran.continues performs.continues) (passes_more x y z events event text ran performs) serving

@@ -2,6 +2,7 @@ mod Absent
 mod Attached
 mod Between
 pub mod Chains
+mod DriveTable
 mod Examined
 mod Exported
 mod Filled
@@ -13,6 +14,7 @@ mod Joined
 mod LayoutLemmas
 mod Limits
 mod Meanings
+mod NewTable
 mod Performing
 mod Pieces
 mod Putting
@@ -23,6 +25,7 @@ mod Stepped
 mod Stopping
 mod Taking
 mod TakenIn
+mod TakenTables
 mod Through
 mod Told
 mod TurnedDown

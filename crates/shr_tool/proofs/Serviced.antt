@@ -1,17 +1,24 @@
 -- A pool by which a run goes is one after a line, too.
 use Rattle.std.proofs.Common.{◌≡◌, ◌⊎◌, ℕ, ◌<◌, true, false, List, [], ◌∷◌, ◌++◌, length, refl, sym, ◌∙◌, ap, subst, inl, inr, arith}
 use Rattle.std.proofs.lemmas.Bool.{both_ways, cases_Bool}
+use Rattle.rack.specs.Moments.{Leaves}
 use Rattle.rack.specs.Seen.{Image, IsPick}
 use Rattle.rack.proofs.Writing.{only_weaker}
 use Rattle.slice_rack.specs.Runs.{IsSliced}
-use Rattle.slice_rack.specs.Slices.{Slices}
+use Rattle.slice_rack.specs.Slices.{IsOrderly, Slices}
 use Rattle.slice_rack.specs.Sliced.{IsInside, slices_of}
 use Rattle.flat_array.specs.Array.{FlatArray}
 use Rattle.lvm_group.specs.Runs.{Linear}
 use Rattle.raid_rack.specs.Raid.{IsTold, is_over}
+use Rattle.raid_rack.specs.Runs.{KeepsMoments}
+use Rattle.assembler.specs.Sound.{TargetsLand}
 use Rattle.pool_image.specs.Drives.{Found}
+use Rattle.pool_model.specs.InService.{InService}
 use Rattle.pool_model.specs.Left.{HoldAgain}
+use Rattle.pool_model.specs.Stopped.{HoldAmid, HoldTables, LieByTables}
 use Rattle.pool_model.specs.Taken.{AreSerial, LacksDrive}
+use Rattle.pool_model.proofs.Amid.{service_amid, tables_amid, tables_begin, tables_calls, vacant_amid}
+use Rattle.pool_model.proofs.Tables.{tables_vacant}
 use Rattle.pool_model.proofs.InService.{in_service, service_again, service_calls, vacant_again}
 use Rattle.pool_model.proofs.Named.{same_length}
 use Rattle.pool_model.proofs.Vacant.{lacks_calls, sliced_before}
@@ -30,24 +37,26 @@ use Rattle.shr_tool.proofs.TakenIn.{on_replaced}
 use Rattle.shr_tool.proofs.TurnedDown.{on_declined}
 
 -- at the beginning
-pub goes_run : (x : View) (f : Found) → IsRunOn f (ground_of x) (moment_of x) x.bay → GoesBy f x
+pub goes_run : (x : View) (f : Found) → IsRunOn f (ground_of x) (moment_of x) x.bay → GoesBy (TargetsLand f) f x
 goes_run x f on = record {
   tables = x.slices;
   service = in_service on.before f x.slices (book x) x.bay on.found_is on.sound on.slices on.after on.joined on.geometry on.rest;
   vacant = inl refl;
   lasting = on.lasting;
   arrays = on.arrays ∙ on.joined;
+  orderly = on.orderly;
+  laid = λ lands. tables_begin f x.slices (book x).state x.bay (on.landing lands) on.slices on.rest;
 }
 
 -- a sector of a slice is one by the pool's tables
-pub sliced_was : (x : View) (f : Found) (goes : GoesBy f x) (d s : ℕ) (w : List ℕ) → IsSliced x.slices d s w → IsSliced goes.tables d s w
+pub sliced_was : {L : Type 0} (x : View) (f : Found) (goes : GoesBy L f x) (d s : ℕ) (w : List ℕ) → IsSliced x.slices d s w → IsSliced goes.tables d s w
 sliced_was x f goes d s w is = elim goes.vacant [
   | inl same ↦ subst (λ t. IsSliced t d s w) same is
   | inr one ↦ sliced_before goes.tables x.slices one.0 one.2.vacated d s w is
 ]
 
 -- after calls that take no disk
-pub goes_calls : (x y : View) (f : Found) → Passes x y → GoesBy f x → GoesBy f y
+pub goes_calls : {L : Type 0} (x y : View) (f : Found) → Passes x y → GoesBy L f x → GoesBy L f y
 goes_calls x y f passes goes = record {
   tables = goes.tables;
   service =
@@ -66,11 +75,15 @@ goes_calls x y f passes goes = record {
   ];
   lasting = passes.apart.stays.lasting goes.lasting;
   arrays = ap (λ (l : Linear). l.arrays) passes.linear ∙ goes.arrays;
+  orderly = subst IsOrderly (sym passes.slices) goes.orderly;
+  laid = λ lands.
+      tables_calls f goes.tables (book x).state (book y).state x.bay y.bay goes.lasting
+      (only_weaker (IsSliced x.slices) (IsSliced goes.tables) (sliced_was x f goes) passes.apart) passes.marks (goes.laid lands);
 }
 
 -- whatever the disks may be left with holds it again
 pub goes_again :
-    (x : View) (f : Found) → IsInside x.slices x.bay → GoesBy f x
+    {L : Type 0} (x : View) (f : Found) → IsInside x.slices x.bay → GoesBy L f x
     → ((n : ℕ) → n < f.state.made → IsTold (book x) (slices_of x.slices x.bay) n) → ((n : ℕ) → n < f.state.made → is_over (book x) n ≡ false)
     → (i : Image) → IsPick x.bay x.bay x.bay.held i → HoldAgain f x.slices (book x).state i
 goes_again x f inside goes told lasts i pick = elim goes.vacant [
@@ -81,6 +94,38 @@ goes_again x f inside goes told lasts i pick = elim goes.vacant [
   | inr one ↦ vacant_again f goes.tables x.slices (book x) x.bay one.0 goes.service one.2 inside told lasts i pick
 ]
 
+-- the tables have the members' slices where the run has them
+tables_now : {L : Type 0} (x : View) (f : Found) → GoesBy L f x → L → HoldTables f x.slices (book x).state x.bay
+tables_now x f goes lands = elim goes.vacant [
+  | inl same ↦ subst (λ (t : Slices). HoldTables f t (book x).state x.bay) (sym same) (goes.laid lands)
+  | inr one ↦ tables_vacant f goes.tables x.slices one.0 (book x).state x.bay one.2.vacated one.2.missing (goes.laid lands)
+]
+
+-- What a stop leaves inside calls that take no disk holds it too.
+pub goes_amid :
+    {L : Type 0} (x y : View) (f : Found) → IsInside x.slices x.bay → Passes x y → GoesBy L f x → L
+    → ((n : ℕ) → n < f.state.made → IsTold (book x) (slices_of x.slices x.bay) n) → ((n : ℕ) → n < f.state.made → is_over (book y) n ≡ false)
+    → x.bay.traced → Leaves x.bay y.bay (HoldAmid f x.slices (book x).state (book y).state)
+goes_amid x y f inside passes goes lands told lasts traced =
+    let moments : KeepsMoments (book x) (book y) (slices_of x.slices x.bay) (slices_of x.slices y.bay) =
+    subst (λ (t : Slices). KeepsMoments (book x) (book y) (slices_of x.slices x.bay) (slices_of t y.bay)) passes.slices passes.moments in
+    let amid : Leaves x.bay y.bay (λ i. LieByTables f x.slices (book x).state i → HoldAmid f x.slices (book x).state (book y).state i) =
+    elim goes.vacant [
+      | inl same ↦
+          service_amid f x.slices (book x) (book y) x.bay y.bay (subst (λ (t : Slices). InService f t (book x) x.bay) (sym same) goes.service) goes.orderly inside
+          goes.lasting passes.apart moments told lasts traced
+      | inr one ↦
+          vacant_amid f goes.tables x.slices (book x) (book y) x.bay y.bay one.0 goes.service one.2 goes.orderly inside
+          goes.lasting passes.apart moments told lasts traced
+    ] in
+    let lie = tables_amid f x.slices (book x).state x.bay y.bay goes.lasting passes.apart (tables_now x f goes lands) traced in
+    record {
+      later = amid.later;
+      kept = amid.kept;
+      past = amid.past;
+      new = λ k i since until stopped. amid.new k i since until stopped (lie.new k i since until stopped);
+    }
+
 -- ---- a line
 
 -- a sector that can be had after an event that takes a disk could be had before
@@ -89,7 +134,7 @@ spent_changes x y (answered line) takes changes s = absurd (both_ways false refl
 spent_changes x y (spent line sector) takes changes s = absurd (both_ways false refl takes)
 spent_changes x y (lost place) takes changes s = absurd (both_ways false refl takes)
 spent_changes x y (last place) takes changes s = absurd (both_ways false refl takes)
-spent_changes x y (replaced place name) takes changes s = changes.spent s
+spent_changes x y (replaced place name) takes changes s = changes.0.spent s
 spent_changes x y (declined place name fault) takes changes s = changes.spent s
 spent_changes x y (stepped count left) takes changes s = absurd (both_ways false refl takes)
 spent_changes x y (stuck count array) takes changes s = absurd (both_ways false refl takes)
@@ -126,13 +171,13 @@ served_last x y z events event same (inr some) =
     inr (subst (λ (l : Linear). (s : ℕ) × (s < size_of (record y { linear = l })) × (spent_by l (book z) s ≡ false)) (sym same) (some.0, some.1, some.2))
 
 pub goes_performed :
-    (x y : View) (event : Event) (text : List ℕ) (b : FlatArray)
+    {L : Type 0} (x y : View) (event : Event) (text : List ℕ) (b : FlatArray)
     → ((d s : ℕ) → y.bay.spent d s ≡ false) → (volume x).fit → Performs x y event text → Holds x b → IsServedBy x y event
-    → (f : Found) → GoesBy f x → (takes_disk event ≡ true → AreSerial f.state) → IsFitFor f (moment_of x) event
-    → GoesOn f (pool_after f (moment_of x) (moment_of y) event) y
-goes_performed x y event text b unspent fit performs holds served f goes serials fitting = elim (cases_Bool (takes_disk event)) [
+    → (f : Found) → GoesBy L f x → (takes_disk event ≡ true → AreSerial f.state) → IsFitFor f (moment_of x) event
+    → GoesOn L f (pool_after f (moment_of x) (moment_of y) event) y
+goes_performed {L} x y event text b unspent fit performs holds served f goes serials fitting = elim (cases_Bool (takes_disk event)) [
   | inr none ↦
-      subst (λ h. GoesOn f h y) (sym (pool_still f (moment_of x) (moment_of y) event none))
+      subst (λ h. GoesOn L f h y) (sym (pool_still f (moment_of x) (moment_of y) event none))
       (record { goes = goes_calls x y f (performs.passes none) goes; serials = λ serial. serial })
   | inl takes ↦ taking event takes performs (serials takes) fitting (served_taking event takes served)
 ]
@@ -142,7 +187,7 @@ goes_performed x y event text b unspent fit performs holds served f goes serials
     served_taking e takes (inr some) = some
 
     taking : (e : Event) → takes_disk e ≡ true → Performs x y e text → AreSerial f.state → IsFitFor f (moment_of x) e
-        → (s : ℕ) × (s < size_of x) × (spent_by x.linear (book y) s ≡ false) → GoesOn f (pool_after f (moment_of x) (moment_of y) e) y
+        → (s : ℕ) × (s < size_of x) × (spent_by x.linear (book y) s ≡ false) → GoesOn L f (pool_after f (moment_of x) (moment_of y) e) y
     taking (answered line) takes does serial fits some = absurd (both_ways false refl takes)
     taking (spent line sector) takes does serial fits some = absurd (both_ways false refl takes)
     taking (lost place) takes does serial fits some = absurd (both_ways false refl takes)

@@ -38,6 +38,7 @@ use Rattle.pool_model.proofs.Lost.{epoch_room, lost_before}
 use Rattle.pool_model.proofs.Named.{same_length}
 use Rattle.pool_model.proofs.NewMembers.{joins_member, positions_of}
 use Rattle.pool_model.proofs.Serials.{serial_after, serial_enlisted, serial_fresh}
+use Rattle.pool_model.proofs.Tables.{tables_taken}
 use Rattle.pool_model.proofs.Taken.{IsKnownBefore}
 use Rattle.pool_model.proofs.Unsliced.{free_super, laid_super, past_log}
 use Rattle.pool_model.proofs.Vacant.{lacks_still, seat_other, seats_through, sliced_before}
@@ -53,15 +54,16 @@ use Rattle.pool.proofs.Admitted.{IsAdmitted, admitted, others_current, reaches_e
 use Rattle.shr_tool.specs.Events.Event.{replaced}
 use Rattle.shr_tool.specs.Service.{GoesBy, GoesOn, IsFitDrive, disk_in, pool_after, units_in}
 use Rattle.shr_tool.specs.Timeline.{Performs}
+use Rattle.shr_tool.proofs.TakenTables.{lies_taken}
 
 some_same : {X : Type 0} (a b : X) → Some a ≡ Some b → a ≡ b
 some_same a b same = cc
 
 -- ---- what holds of each line that names a disk
 
-module _ (x y : View) (place : ℕ) (name : List ℕ) (unspent : (d s : ℕ) → y.bay.spent d s ≡ false) (continues : Continues x y)
+module _ {L : Type 0} (x y : View) (place : ℕ) (name : List ℕ) (unspent : (d s : ℕ) → y.bay.spent d s ≡ false) (continues : Continues x y)
     (outside : KeepsOutside x.slices y.slices (λ d. slice_get y.shelf.names d ≡ Some name) x.shelf.told x.bay y.bay) (changes : ChangesDrive x y place name)
-    (told : (d : ℕ) → d < y.bay.disks → y.bay.told d) (f : Found) (goes : GoesBy f x) where
+    (told : (d : ℕ) → d < y.bay.disks → y.bay.told d) (f : Found) (goes : GoesBy L f x) where
   pub count_is : f.disks.count ≡ x.bay.disks
   count_is = ap (λ (z : Disks). z.count) goes.service.disks
 
@@ -143,9 +145,9 @@ log_lies f t place d slices seat =
     )
 
 -- the drive that a place had, which has no slices any more and wasn't written, says a state that is earlier than the book's
-module _ (x y : View) (place : ℕ) (name : List ℕ) (unspent : (d s : ℕ) → y.bay.spent d s ≡ false) (fit : (volume x).fit) (continues : Continues x y)
+module _ {L : Type 0} (x y : View) (place : ℕ) (name : List ℕ) (unspent : (d s : ℕ) → y.bay.spent d s ≡ false) (fit : (volume x).fit) (continues : Continues x y)
     (outside : KeepsOutside x.slices y.slices (λ d. slice_get y.shelf.names d ≡ Some name) x.shelf.told x.bay y.bay) (changes : ChangesDrive x y place name)
-    (told : (d : ℕ) → d < y.bay.disks → y.bay.told d) (f : Found) (goes : GoesBy f x) (d : ℕ) (seat : f.seats place ≡ Some d) (same : x.slices ≡ goes.tables)
+    (told : (d : ℕ) → d < y.bay.disks → y.bay.told d) (f : Found) (goes : GoesBy L f x) (d : ℕ) (seat : f.seats place ≡ Some d) (same : x.slices ≡ goes.tables)
     (on : seat_of x.slices place ≡ Some d) (unnamed : IsNamed (moment_of y) name d → ⊥) (bare : (s : ℕ) (w : List ℕ) → IsSliced y.slices d s w → ⊥) {b : FlatArray}
     (holds : Holds x b) (s : ℕ) (within : s < size_of x) (alive : is_spent x s ≡ false) (listed : place < length (book x).state.drives.items)
     (missing : is_current (book x).state place ≡ false) where
@@ -222,11 +224,11 @@ reached_of arrays place sectors n each = by (slice_get arrays n) refl
         of false none = refl
         of true has = each u at has
 
-module _ (x y : View) (place : ℕ) (name text : List ℕ) (b : FlatArray) (unspent : (d s : ℕ) → y.bay.spent d s ≡ false) (fit : (volume x).fit)
+module _ {L : Type 0} (x y : View) (place : ℕ) (name text : List ℕ) (b : FlatArray) (unspent : (d s : ℕ) → y.bay.spent d s ≡ false) (fit : (volume x).fit)
     (performs : Performs x y (replaced place name) text) (holds : Holds x b) (some : (s : ℕ) × (s < size_of x) × (spent_by x.linear (book y) s ≡ false))
-    (f : Found) (goes : GoesBy f x) (fitting : IsFitDrive f (moment_of x) place name) (serials : AreSerial f.state) where
+    (f : Found) (goes : GoesBy L f x) (fitting : IsFitDrive f (moment_of x) place name) (serials : AreSerial f.state) where
   abbrev pub changes : ChangesDrive x y place name
-  changes = performs.changes refl
+  changes = (performs.changes refl).0
 
   abbrev pub cause : HasGrowCause x.linear (moment_of x) (moment_of y) place name (Ok tt)
   cause = performs.cause.0
@@ -399,8 +401,8 @@ module _ (x y : View) (place : ℕ) (name text : List ℕ) (b : FlatArray) (unsp
   pool_is : pool_after f (moment_of x) (moment_of y) (replaced place name) ≡ taken f (disks_of y.bay) place disk (enlisted place is.units (Replacing place) (book x).state)
   pool_is = ap₂ (λ (d n : ℕ). taken f (disks_of y.bay) place d (enlisted place n (Replacing place) (book x).state)) disk_is units_is
 
-  goes_replaced : GoesBy (pool_after f (moment_of x) (moment_of y) (replaced place name)) y
-  goes_replaced = subst (λ h. GoesBy h y) (sym pool_is) (record {
+  goes_replaced : GoesBy L (pool_after f (moment_of x) (moment_of y) (replaced place name)) y
+  goes_replaced = subst (λ h. GoesBy L h y) (sym pool_is) (record {
     tables = y.slices;
     service =
         service_taken f t y.slices (book x) (book y) x.bay y.bay place disk is.units (Replacing place) (joins (views_of (book x)) place (y.bay.sectors disk)) goes.service
@@ -408,9 +410,13 @@ module _ (x y : View) (place : ℕ) (name text : List ℕ) (b : FlatArray) (unsp
     vacant = inl refl;
     lasting = performs.continues.lasting goes.lasting;
     arrays = ap (λ (l : Linear). l.arrays) performs.continues.linear ∙ goes.arrays ∙ sym goes.service.after.same.made;
+    orderly = performs.continues.orderly goes.orderly;
+    laid = λ lands.
+        tables_taken f t y.slices (book x) (book y).state x.bay y.bay place disk is.units (Replacing place) goes.service seats_new keeps_rest is.marks
+        (lies_taken x y place name text b unspent performs holds goes.orderly disk named) (goes.laid lands);
   })
 
-  pub on_replaced : GoesOn f (pool_after f (moment_of x) (moment_of y) (replaced place name)) y
+  pub on_replaced : GoesOn L f (pool_after f (moment_of x) (moment_of y) (replaced place name)) y
   on_replaced = record {
     goes = goes_replaced;
     serials = λ serial.

@@ -20,6 +20,7 @@ use Rattle.pool_scan.specs.Scanning.{IsUnfaulted, now_in}
 use Rattle.pool_image.specs.Disks.{Disks, disks_of}
 use Rattle.pool_model.specs.Left.{AreAlone, IsPickOff}
 use Rattle.pool_model.proofs.Unrefused.{tables_meant}
+use Rattle.slice_rack.specs.Slices.{IsOrderly}
 use Rattle.slice_rack.specs.Sliced.{slices_of}
 use Rattle.pool_rest.specs.Resting.{WritesDrives}
 use Rattle.assembler.specs.declared.refusal.Refusal.{Refusal}
@@ -203,7 +204,7 @@ pub opened_as :
     → IsOpenedAs f (view shown shelf pool).bay (ground_of (view shown shelf pool)) (moment_of (view shown shelf pool))
 opened_as pool shown shelf x opens marks f sound unfaulted =
     let by = opens f sound unfaulted in
-    record { lies = by.lies; slices = by.slices; after = by.after; told = by.told; arrays = by.arrays; live = by.live; group = by.group; elsewhere = by.elsewhere; marks = marks f sound unfaulted }
+    record { lies = by.lies; slices = by.slices; after = by.after; told = by.told; arrays = by.arrays; live = by.live; group = by.group; elsewhere = by.elsewhere; landing = by.landing; marks = marks f sound unfaulted }
 
 -- contents that mean volumes aren't refused
 meant_unrefused : (disks : Disks) (c : Image) (volumes : List Volume) → meaning disks c ≡ Some volumes → refusal_of disks c ≡ None
@@ -219,18 +220,20 @@ pub runs_on :
     (bay opened : Seen) (g : Ground) (from : Moment) (f : Found)
     → HoldSound bay f → IsOpenedAs f opened g from → (volumes : List Volume) → meaning (disks_of bay) (now_in bay) ≡ Some volumes → HaveOnePool f
     → SayTruths f from.book (slices_of from.slices opened) → Stays bay opened → f.state.joined ≡ f.state.made
-    → ((i : Image) → IsPickOff from.slices opened i → AreAlone f i) → IsRunOn f g from opened
-runs_on bay opened g from f sound meant volumes means one_pool truths stays joined alone = record {
+    → IsOrderly from.slices → ((i : Image) → IsPickOff from.slices opened i → AreAlone f i) → IsRunOn f g from opened
+runs_on bay opened g from f sound meant volumes means one_pool truths stays joined orderly alone = record {
   lasting = stays.lasting sound.steady.lasts.lasting;
   before = now_in bay;
   found_is = ap (λ (disks : Disks). found disks (now_in bay)) same ∙ sound.found_is;
   sound = sound.sound;
   slices = meant.slices;
+  orderly = orderly;
   after = meant.after;
   joined = joined;
   arrays = ap (λ (l : Linear). l.arrays) meant.lies.linear;
   geometry = λ n t low truth. (meant.arrays n t (omega (arith, low, joined)) truth).geometry;
   tables = tables_meant (disks_of bay) (now_in bay) f sound.found_is (meant_unrefused (disks_of bay) (now_in bay) volumes means);
+  landing = meant.landing;
   one_pool = one_pool;
   truths = λ n low. truths n (omega (arith, low, joined));
   group = meant.group joined;

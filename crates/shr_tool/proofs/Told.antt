@@ -16,9 +16,10 @@ use Rattle.shr_tool.specs.Tasks.{TaskOutcome}
 use Rattle.pool.specs.Moment.{Moment}
 use Rattle.shr_tool.specs.Timeline.{Ground, Happens, Steps, Timeline, steps_of}
 use Rattle.shr_tool.specs.Service.{AreFit, pool_by}
+use Rattle.assembler.specs.Sound.{TargetsLand}
 use Rattle.pool_model.specs.Left.{HoldAgain}
 use Rattle.pool_model.specs.Taken.{AreSerial}
-use Rattle.shr_tool.specs.Between.{HoldsEach}
+use Rattle.shr_tool.specs.Between.{HoldsEach, HoldsInside}
 
 pub outside_told :
     (t u : Slices) (named : ℕ → Type 0) (T U : Type 0) (a b : Seen) → (U → T) → KeepsOutside t u named T a b → KeepsOutside t u named U a b
@@ -92,9 +93,15 @@ lasts_for T U S R x y g from a events told traced lasts = record {
   told = λ is. lasts.told (told is);
   rows = λ is. lasts.rows (told is);
   between = λ is so f on.
-      subst (HoldsEach y.stops g (AreSerial f.state) [] f from events lasts.last)
+      subst (HoldsEach y.stops g (AreSerial f.state) (TargetsLand f) [] f from events lasts.last)
       (sym (steps_for (S × T) (R × U) y.stops g from a events lasts.last (λ is. (traced is.0, told is.1)) lasts.timeline))
       (lasts.between (told is) (traced so) f on);
+  closing = λ is so f on fit.
+      let same =
+      steps_for (S × T) (R × U) y.stops g from a events lasts.last (λ is. (traced is.0, told is.1)) lasts.timeline in
+      subst (λ (steps : Steps from events lasts.last). HoldsInside y.stops g (AreSerial f.state) (TargetsLand f) events (pool_by f from events lasts.last steps) lasts.last lasts.final) (sym same)
+      (lasts.closing (told is) (traced so) f on (subst (AreFit f from events lasts.last) same fit));
+  agreed = λ is. lasts.agreed (told is);
   safe = λ is. lasts.safe (told is);
   again = λ is served f on known fit goes i pick.
       let same =

@@ -25,6 +25,7 @@ use Rattle.pool_model.proofs.Found.{ok_of, seated_below}
 use Rattle.pool_model.proofs.InService.{one_seat, service_attached}
 use Rattle.pool_model.proofs.Lost.{lost_value}
 use Rattle.pool_model.proofs.Named.{same_length}
+use Rattle.pool_model.proofs.Tables.{tables_attached}
 use Rattle.pool_model.proofs.Unsliced.{free_stranger, laid_state}
 use Rattle.pool_model.proofs.Vacant.{lacks_still, lacks_value, sliced_before, vacant_free}
 use Rattle.pool.specs.declared.replacing.GrowFault.{GrowFault}
@@ -92,10 +93,10 @@ twice_or TooManyLayers = inr (λ same. let e : TooManyLayers ≡ Twice = same in
 twice_or TooManySegments = inr (λ same. let e : TooManySegments ≡ Twice = same in cc e)
 twice_or Gone = inr (λ same. let e : Gone ≡ Twice = same in cc e)
 
-module _ (x y : View) (place : ℕ) (name : List ℕ) (fault : GrowFault) (text : List ℕ) (b : FlatArray) (looks : looks_at fault ≡ true)
+module _ {L : Type 0} (x y : View) (place : ℕ) (name : List ℕ) (fault : GrowFault) (text : List ℕ) (b : FlatArray) (looks : looks_at fault ≡ true)
     (unspent : (d s : ℕ) → y.bay.spent d s ≡ false) (fit : (volume x).fit)
     (performs : Performs x y (declined place name fault) text) (holds : Holds x b) (some : (s : ℕ) × (s < size_of x) × (spent_by x.linear (book y) s ≡ false))
-    (f : Found) (goes : GoesBy f x) (fits : IsFitDisk f (moment_of x) name) where
+    (f : Found) (goes : GoesBy L f x) (fits : IsFitDisk f (moment_of x) name) where
   abbrev pub changes : ChangesDrive x y place name
   changes = performs.changes looks
 
@@ -261,20 +262,22 @@ module _ (x y : View) (place : ℕ) (name : List ℕ) (fault : GrowFault) (text 
             ])
       ]
 
+  -- it isn't a current drive's
+  not_current : (p : ℕ) → is_current (book x).state p ≡ true → f.seats p ≡ Some disk → ⊥
+  not_current p current seat = elim one.1.or [
+    | inl named ↦
+        (let on = seat_now x y place name unspent performs.continues (performs.outside looks) changes told f goes p disk seat current in
+        named.1 (disk, p, changes.names.old disk (seat_disk p disk seat) named.0, on, vacant_not (book x).state p current))
+    | inr past ↦ (let there = seat_disk p disk seat in let more = performs.continues.disks in omega (arith, past, there, more))
+  ]
+
   keeps_others : KeepsOthers f t (book x).state disk x.bay y.bay
   keeps_others = record {
     disks = disks_more x y place name unspent performs.continues (performs.outside looks) changes told f goes;
     sectors = sectors_kept x y place name unspent performs.continues (performs.outside looks) changes told f goes;
     drive = elim (seats_or disk) [ inl at ↦ inr at | inr none ↦ inl none ];
     outside = one.1.off t old_slices;
-    alone = λ i off n p first low current seat none begins within.
-        elim one.1.or [
-          | inl named ↦
-              (let on = seat_now x y place name unspent performs.continues (performs.outside looks) changes told f goes p disk seat current in
-              absurd (named.1 (disk, p, changes.names.old disk (seat_disk p disk seat) named.0, on, vacant_not (book x).state p current)))
-          | inr past ↦
-              (let there = seat_disk p disk seat in let more = performs.continues.disks in absurd (omega (arith, past, there, more)))
-        ];
+    alone = λ i off n p first low current seat none begins within. absurd (not_current p current seat);
     earlier = λ i off d low past copy here.
         let same = count in
         let new : x.bay.disks ≤ d = omega (arith, past, same) in
@@ -440,19 +443,23 @@ module _ (x y : View) (place : ℕ) (name : List ℕ) (fault : GrowFault) (text 
     ]
   ]
 
-  goes_declined : GoesBy (pool_after f (moment_of x) (moment_of y) (declined place name fault)) y
-  goes_declined = subst (λ k. GoesBy k y) (sym pool_is) (record {
+  goes_declined : GoesBy L (pool_after f (moment_of x) (moment_of y) (declined place name fault)) y
+  goes_declined = subst (λ k. GoesBy L k y) (sym pool_is) (record {
     tables = t;
     service = service_attached f t (book x) (book y) disk x.bay y.bay goes.service keeps_others is.marks is.arrays;
     vacant = vacant_now;
     lasting = performs.continues.lasting goes.lasting;
     arrays = ap (λ (l : Linear). l.arrays) performs.continues.linear ∙ goes.arrays;
+    orderly = performs.continues.orderly goes.orderly;
+    laid = λ lands i off p d now.
+        tables_attached f t (book x).state disk x.bay y.bay goes.service.arranged goes.service.slices keeps_others
+        (λ j left q current seat. absurd (not_current q current seat)) (goes.laid lands) i off p d (is.marks.current p now);
   })
     where
       pool_is : pool_after f (moment_of x) (moment_of y) (declined place name fault) ≡ h
       pool_is = ap (λ (c : Bool). if c then h else f) looks
 
-  pub on_declined : GoesOn f (pool_after f (moment_of x) (moment_of y) (declined place name fault)) y
+  pub on_declined : GoesOn L f (pool_after f (moment_of x) (moment_of y) (declined place name fault)) y
   on_declined = record { goes = goes_declined; serials = λ serial. by (looks_at fault) serial }
     where
       by : (c : Bool) → AreSerial f.state → AreSerial (if c then attached f (disks_of y.bay) else f).state

@@ -25,7 +25,8 @@ use Rattle.assembler.specs.Refusing.{is_early}
 use Rattle.pool_model.specs.Grouped.{HaveOwnAreas, HoldGroup}
 use Rattle.pool_model.specs.Left.{AreAlone, AreElsewhere, IsPickOff}
 use Rattle.pool_model.specs.Pools.{AreSlicesOf}
-use Rattle.assembler.specs.Sound.{HaveAgreed, HoldSound, IsMeantRefusal, KeepsPool, MayStop, SayTruths}
+use Rattle.pool_model.specs.Stopped.{HaveTables}
+use Rattle.assembler.specs.Sound.{HaveAgreed, HoldSound, IsMeantRefusal, KeepsPool, MayStop, SayTruths, TargetsLand}
 use Rattle.assembler.specs.Volume.{AllLive, IsVolumeOf}
 use Rattle.assembler.specs.Wanting.{LeavesPool}
 use Rattle.assembler.specs.Writing.{WritesPool}
@@ -75,6 +76,8 @@ pub record IsOpenedAs (f : Found) (y : Seen) (g : Ground) (from : Moment) : Type
   pub group : f.state.joined ≡ f.state.made → HaveOwnAreas f → HoldGroup from.book (slices_of from.slices y)
   -- outside the slices the disks have each drive's table, and other disks say what they said
   pub elsewhere : (i : Image) → IsPickOff from.slices y i → AreElsewhere f i
+  -- where targets land in the pool's slices a replay finds these by the drives' tables
+  pub landing : TargetsLand f → HaveTables f
   -- just those drives are marked missing that were, or that have no disk
   pub marks : (p : ℕ) → is_current from.book.state p ≡ (is_current f.state p && is_some (f.seats p))
 

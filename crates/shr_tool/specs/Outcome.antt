@@ -17,13 +17,15 @@ use Rattle.pool_model.specs.Absent.{AreOnly, HoldAbsent, IsWholeRaid}
 use Rattle.pool_model.specs.Grouped.{HaveOwnAreas, HoldGroup}
 use Rattle.pool_model.specs.Left.{HoldAgain, HoldRest}
 use Rattle.pool_model.specs.Pools.{AreSlicesOf, IsSoundPool}
+use Rattle.pool_model.specs.Stopped.{HaveTables}
 use Rattle.pool_model.specs.Taken.{AreSerial}
-use Rattle.slice_rack.specs.Slices.{disk_of}
+use Rattle.slice_rack.specs.Slices.{IsOrderly, disk_of}
 use Rattle.slice_rack.specs.Sliced.{slices_of}
 use Rattle.array_core.specs.TruthHeld.{HoldTruth}
+use Rattle.raid_rack.specs.Agreeing.{AgreeLeaving}
 use Rattle.raid_rack.specs.Book.{IsAfter}
 use Rattle.raid_rack.specs.Raid.{IsTold, is_over}
-use Rattle.assembler.specs.Sound.{HaveOnePool}
+use Rattle.assembler.specs.Sound.{HaveOnePool, TargetsLand}
 use Rattle.shr_script.specs.Line.{Line}
 use Rattle.flat_array.specs.Array.{FlatArray, flushed}
 use Rattle.shr_script.specs.Script.{script_of, cut_script_of}
@@ -41,7 +43,7 @@ use Rattle.rack.specs.Shelf.{Shelf}
 use Rattle.slice_rack.specs.Runs.{IsSliced}
 use Rattle.shr_tool.specs.Timeline.{Ground, KeepsSlices, KeepsStanding, MeansAt, Timeline, steps_of}
 use Rattle.shr_tool.specs.Service.{AreFit, IsServed, pool_by}
-use Rattle.shr_tool.specs.Between.{HoldsEach}
+use Rattle.shr_tool.specs.Between.{HoldsEach, HoldsInside}
 
 -- no disk's faults rose since they were counted so
 abbrev pub NoneRose : (ℕ → ℕ) → (ℕ → ℕ) → Type 0
@@ -88,11 +90,15 @@ pub record IsRunOn (f : Found) (g : Ground) (from : Moment) (x : Seen) : Type 0 
   pub found_is : found (disks_of x) before ≡ Some f
   pub sound : IsSoundPool f
   pub slices : AreSlicesOf f from.slices
+  -- these don't overlap
+  pub orderly : IsOrderly from.slices
   pub after : IsAfter f.state from.book.state
   pub joined : f.state.joined ≡ f.state.made
   pub arrays : g.linear.arrays ≡ f.state.joined
   pub geometry : (n : ℕ) (t : Super) → n < f.state.made → truth_of f n ≡ Some t → HasGeometry t (from.book.arrays n).truth
   pub tables : (p d : ℕ) → f.seats p ≡ Some d → has_table f p d ≡ true
+  -- where targets land in its slices a replay finds these by the tables
+  pub landing : TargetsLand f → HaveTables f
   pub one_pool : HaveOnePool f
   pub truths : (n : ℕ) → n < f.state.made → HoldTruth (from.book.arrays n) (slices_of from.slices x)
   pub group : HaveOwnAreas f → HoldGroup from.book (slices_of from.slices x)
@@ -102,7 +108,7 @@ pub record IsRunOn (f : Found) (g : Ground) (from : Moment) (x : Seen) : Type 0 
 -- told its volume to hold an array, each of the volume's arrays is told by the last book. Outside the slices of drives no disk is written
 -- but one that a line named to replace a drive. Where none did, sectors of slices alone are written. All that the disks may be left
 -- with holds a sound pool again, by the last book's state and with the drives that were taken in, unless an array is over; and so does what a stop between
--- lines leaves. Where lines named images stops are to be told, the pool's drives to have ids of serials, and the images to be fit for it, by what they held before.
+-- lines leaves, and inside the end or a line that isn't to replace a drive, once what is pending is written. Where lines named images stops are to be told, the pool's drives to have ids of serials, and the images to be fit for it, by what they held before.
 pub record Lasts (Told Traced : Type 0) (x y : Seen) (g : Ground) (from : Moment) (a : FlatArray) (events : List Event) : Type 0 where
   pub last : Moment
   pub timeline : Timeline (Traced × Told) y.stops g from a events last
@@ -117,10 +123,22 @@ pub record Lasts (Told Traced : Type 0) (x y : Seen) (g : Ground) (from : Moment
   pub apart : any_takes events ≡ false → WritesOnly x y (IsSliced from.slices)
   pub told : Told → IsServed g final events → (n : ℕ) → n < g.linear.arrays → IsTold final.book (slices_of final.slices y) n
   pub rows : Told → IsServed g final events → LeavesItsRows y g last final
-  -- what a stop leaves before the first line, and at the end of each, holds a sound pool again, by the book of that moment
+  -- What a stop leaves before the first line, and at the end of each, holds a sound pool again, by the book of that moment. What one inside a line leaves
+  -- that isn't to replace a drive holds it once what is pending is written, by a state between.
   pub between :
       Told → Traced → (f : Found) → IsRunOn f g from x
-      → HoldsEach y.stops g (AreSerial f.state) [] f from events last (steps_of (Traced × Told) y.stops g from a events last timeline)
+      → HoldsEach y.stops g (AreSerial f.state) (TargetsLand f) [] f from events last (steps_of (Traced × Told) y.stops g from a events last timeline)
+  -- and so what one inside the end leaves
+  pub closing :
+      Told → Traced → (f : Found) → IsRunOn f g from x
+      → AreFit f from events last (steps_of (Traced × Told) y.stops g from a events last timeline)
+      → HoldsInside y.stops g (AreSerial f.state) (TargetsLand f) events (pool_by f from events last (steps_of (Traced × Told) y.stops g from a events last timeline)) last final
+  -- Where no line named a drive to replace and no disk's faults rose in the end, the superblocks of each array that isn't over agree in whatever a stop
+  -- leaves afterwards, and leave just the rows to resync that are left in the array, also where they said so before the end.
+  pub agreed :
+      Told → any_takes events ≡ false → NoneRose last.faults final.faults → (f : Found) → IsRunOn f g from x
+      → (n : ℕ) → n < f.state.made → is_over final.book n ≡ false
+      → (r : Image) → IsLeft (slices_of final.slices y) r → AgreeLeaving (final.book.arrays n) final.book.state r n
   -- Any one drive may be absent after a clean whole end: where no line named a drive to replace, no disk's faults rose in the end, no array is over, and
   -- all drives of the pool are then there, with nothing left to resync, to rebuild or to zero, contents of whole sectors that the disks may be left with
   -- hold a sound pool again, and mean without any one of its drives what they mean with it. Of the pool that the run began on (`IsRunOn`) that asks

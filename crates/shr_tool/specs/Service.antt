@@ -3,7 +3,7 @@ use Rattle.std.specs.Prelude.{◌≡◌, ◌⊎◌, ℕ, ◌+◌, ◌<◌, false
 use Rattle.std.specs.Option.{option_map_or}
 use Rattle.rack.specs.Values.{MayLeave, Values}
 use Rattle.rack.specs.Shelf.{Waiting}
-use Rattle.slice_rack.specs.Slices.{Slices, seat_of}
+use Rattle.slice_rack.specs.Slices.{IsOrderly, Slices, seat_of}
 use Rattle.pool_state.specs.declared.contents.Copied.{Copied}
 use Rattle.pool_state.specs.declared.contents.Plan.TheVariants.{Replace as Replacing}
 use Rattle.pool_state.specs.Sector.{decoded}
@@ -15,6 +15,7 @@ use Rattle.pool_image.specs.Disks.{Disks}
 use Rattle.pool_image.specs.Drives.{Found, first_of}
 use Rattle.pool_image.specs.Meaning.{is_member}
 use Rattle.pool_model.specs.InService.{InService}
+use Rattle.pool_model.specs.Stopped.{HoldTables}
 use Rattle.pool_model.specs.Taken.{AreDistinct, AreSerial, LacksDrive, attached, taken}
 use Rattle.pool.specs.Moment.{IsImage, IsNamed, Moment}
 use Rattle.pool.specs.View.{View, book, spent_by}
@@ -98,16 +99,19 @@ AreFit f p (event ∷ events) q steps = IsFitFor f p event × AreFit (pool_after
 
 -- ---- how a run goes by a pool
 
--- A pool by which a run goes: its slices are those of the run, unless a place whose drive is missing has given its disk up since.
-pub record GoesBy (f : Found) (x : View) : Type 0 where
+-- A pool by which a run goes: its slices are those of the run, unless a place whose drive is missing has given its disk up since. The run's slices don't
+-- overlap. Where `Landing` holds the partition tables of the pool's drives have the members' slices, whatever the disks may be left with outside them.
+pub record GoesBy (Landing : Type 0) (f : Found) (x : View) : Type 0 where
   pub tables : Slices
   pub service : InService f tables (book x) x.bay
   pub vacant :
       (x.slices ≡ tables) ⊎ ((place : ℕ) × (place < length (book x).state.drives.items) × LacksDrive f tables x.slices (book x) place x.bay)
   pub lasting : x.bay.lasting
   pub arrays : x.linear.arrays ≡ f.state.made
+  pub orderly : IsOrderly x.slices
+  pub laid : Landing → HoldTables f tables (book x).state x.bay
 
 -- The run goes on by another pool, h in place of f, which has drives with ids of serials where f has.
-pub record GoesOn (f h : Found) (x : View) : Type 0 where
-  pub goes : GoesBy h x
+pub record GoesOn (Landing : Type 0) (f h : Found) (x : View) : Type 0 where
+  pub goes : GoesBy Landing h x
   pub serials : AreSerial f.state → AreSerial h.state

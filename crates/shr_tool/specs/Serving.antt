@@ -19,6 +19,7 @@ use Rattle.pool.specs.Moment.{moment_of}
 use Rattle.shr_tool.specs.Timeline.{Timeline, Performs, Steps, ground_of, steps_of}
 use Rattle.shr_tool.specs.Service.{AreFit, GoesBy, GoesOn, IsServed, pool_by}
 use Rattle.shr_tool.specs.Between.{HoldsEach}
+use Rattle.assembler.specs.Sound.{TargetsLand}
 use Rattle.pool_image.specs.Drives.{Found}
 use Rattle.pool_model.specs.Taken.{AreSerial}
 
@@ -88,12 +89,12 @@ pub record Ran (x y : View) (events : List Event) : Type 0 where
       → steps_of (x.bay.traced × Holds x a) y.bay.stops (ground_of x) (moment_of x) a events (moment_of y) (timeline a) ≡ steps
   -- a pool by which the run goes, with the drives that it took in
   pub service :
-      (a : FlatArray) → Holds x a → IsServed (ground_of x) (moment_of y) events → (f : Found) → GoesBy f x → (any_takes events ≡ true → AreSerial f.state)
-      → AreFit f (moment_of x) events (moment_of y) steps → GoesOn f (pool_by f (moment_of x) events (moment_of y) steps) y
-  -- what a stop between two of them leaves holds that pool again
+      (a : FlatArray) → Holds x a → IsServed (ground_of x) (moment_of y) events → (f : Found) → GoesBy (TargetsLand f) f x → (any_takes events ≡ true → AreSerial f.state)
+      → AreFit f (moment_of x) events (moment_of y) steps → GoesOn (TargetsLand f) f (pool_by f (moment_of x) events (moment_of y) steps) y
+  -- what a stop between two of them or inside one leaves holds that pool again
   pub between :
-      (a : FlatArray) → IsServing x a → x.bay.traced → (f : Found) → GoesBy f x
-      → HoldsEach y.bay.stops (ground_of x) (AreSerial f.state) [] f (moment_of x) events (moment_of y) steps
+      (a : FlatArray) → IsServing x a → x.bay.traced → (f : Found) → GoesBy (TargetsLand f) f x
+      → HoldsEach y.bay.stops (ground_of x) (AreSerial f.state) (TargetsLand f) [] f (moment_of x) events (moment_of y) steps
 
 -- all these were done, and their replies put
 pub record Answered (x y : View) (events : List Event) (out out' : List ℕ) : Type 0 where

@@ -46,7 +46,7 @@ use Rattle.assembler.proofs.Meaning.{check_fails}
 use Rattle.assembler.proofs.Mended.{opening_settled}
 use Rattle.assembler.proofs.Volumes.{volume_opened, volume_refused}
 use Rattle.assembler.proofs.Lies.{slices_same, volume_same}
-use Rattle.assembler.proofs.opening.assemble.Answers.Assembling.{a, x, y, z, t, known, ax, ay, yz, says_so, ready, marked, drives_only, tables_kept, from_y, rested, f, same, checked, state, members, holds, lie, passes, early, arrays, made, opened, texts, own_texts, first_quiet, nobody_failed, live_first, live_last, marks_made, off_slices}
+use Rattle.assembler.proofs.opening.assemble.Answers.Assembling.{a, x, y, z, t, known, ax, ay, yz, says_so, ready, marked, drives_only, tables_kept, from_y, rested, f, same, checked, state, members, holds, lie, passes, early, arrays, made, opened, texts, own_texts, first_quiet, nobody_failed, live_first, live_last, marks_made, off_slices, landing}
 use Rattle.assembler.proofs.opening.assemble.Answers.Unopened.{built, own_calls, arrays_for, pool_for, made_quiet, live_still, numbers_ended, pool_kept}
 use Rattle.assembler.proofs.opening.assemble.Goals as goal
 
@@ -113,7 +113,7 @@ returns-in-Ok-open_volume-clause-meant g c e sound quiet =
           (subst (AreSlicesOf pool) (sym (opens.kept.0.tables ∙ c.make_rack.ensures.tables)) (lie g k before e sound));
       after = after_then e.state (raid_in raid).state (raid_in (rack_in volume)).state
           (subst (λ (s : State). IsAfter s (raid_in raid).state) same_pool.state held_arrays.after) opens.kept.1.book;
-      told = λ n low. opens.kept.1.told n (held_arrays.told n (small n low));
+      told = λ n low. opens.kept.1.moments.told n (held_arrays.told n (small n low));
       arrays = λ n z low truth.
           let less = small n low in
           let joined = held_arrays.after.same.joined in
@@ -134,6 +134,7 @@ returns-in-Ok-open_volume-clause-meant g c e sound quiet =
           (λ n low.
           subst (λ (h : Image). HasOwnArea (h n)) (sym (ap (λ (k : Arrays). k.contents) (joined_same e pool same_pool)))
           (own n (subst (λ (s : State). n < s.joined) same_pool.state low)));
+      landing = landing g k before e sound;
       elsewhere = λ i off.
           off_slices g k before e sound (seen (below_of (slices_in (rack_in volume)))) (own_texts g c) i
           (subst (λ (u : Slices). IsPickOff u (seen (below_of (slices_in (rack_in volume)))) i) (opens.kept.0.tables ∙ c.make_rack.ensures.tables) off);
@@ -288,7 +289,7 @@ returns-in-Ok-open_volume-clause-agreed g c e sound quiet n joined =
     let goes : is_over (raid_in (rack_in volume)) n ≡ false =
     (live_parts (raid_in (rack_in volume)) n 0 (live_last g c quiet n 0 (let same = opens.kept.1.book.same.joined in omega (arith, low, same)) some)).0 in
     agree_opened g.R.Rack.seen g.R.Rack.runs raid (rack_in volume) (linear volume) (seqno_of volume) opens c.make_rack.ensures.fit (nobody_failed g c quiet)
-    n (omega (arith, low, most)) (held.told n less) goes (held.agree n less (opens.kept.1.still n goes))
+    n (omega (arith, low, most)) (held.told n less) goes (held.agree n less (opens.kept.1.moments.still n goes))
 
 pub returns-in-Ok-open_volume-clause-truths : goal.returns-in-Ok-open_volume-clause-truths
 returns-in-Ok-open_volume-clause-truths g c e sound quiet n joined =
@@ -307,7 +308,7 @@ returns-in-Ok-open_volume-clause-truths g c e sound quiet n joined =
     (let room = held.room n less in let is = held.sectors n less in let later = opens.kept.2.sectors n in omega (arith, room, is, later)) in
     let goes : is_over (raid_in (rack_in volume)) n ≡ false =
     (live_parts (raid_in (rack_in volume)) n 0 (live_last g c quiet n 0 (let same = opens.kept.1.book.same.joined in omega (arith, low, same)) some)).0 in
-    opens.kept.1.truths n (omega (arith, low, most)) (held.truths n less (opens.kept.1.still n goes))
+    opens.kept.1.truths n (omega (arith, low, most)) (held.truths n less (opens.kept.1.moments.still n goes))
 
 pub returns-in-Err-clause-cause : goal.returns-in-Err-clause-cause
 returns-in-Err-clause-cause g c = inl (record { fault = c.in-Err.back.why; said = c.by_finding.ensures; cause = c.in-Err.ensures.refused })

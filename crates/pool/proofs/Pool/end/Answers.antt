@@ -11,4 +11,4 @@ returns-clause-ended g c =
     let own = c.clean.ensures in
     end_done g.R.Rack.seen g.R.Bay.shelf g.R.Rack.runs g.met.R.Rack.sound g.met.R.Bay.runs_shelf c.args.self.now c.clean.new.self c.requires
     (subst (λ old. IsCleaned g.R.Rack.seen g.R.Rack.runs old c.clean.new.self) c.inner.ensures.value
-    (record { cleans = own.cleans; images = own.images; keeps = own.keeps; raises = own.raises; ran = own.runs; truths = own.book.truths }))
+    (record { cleans = own.cleans; images = own.images; keeps = own.keeps; raises = own.raises; ran = own.runs; truths = own.book.truths; moments = own.book.moments }))

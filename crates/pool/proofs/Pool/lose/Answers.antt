@@ -23,7 +23,7 @@ returns-in-Ok-clause-lost g c =
     lose_done g.R.Rack.seen g.R.Bay.shelf g.R.Rack.runs g.met.R.Rack.sound g.met.R.Bay.runs_shelf c.args.self.now c.lose.new.self c.args.place c.requires
     (sym c.has_drive.ensures ∙ c.if-not-has_drive.false)
     (subst (λ old. IsLost g.R.Rack.seen g.R.Rack.runs old c.lose.new.self c.args.place) c.inner.ensures.value
-    (record { other = own.served; mends = own.mends; keeps = own.keeps; raises = c.lose.ensures.raises; ran = c.lose.ensures.runs; truths = c.lose.ensures.truths }))
+    (record { other = own.served; mends = own.mends; keeps = own.keeps; raises = c.lose.ensures.raises; ran = c.lose.ensures.runs; truths = c.lose.ensures.truths; moments = own.moments }))
 
 pub returns-in-Err-clause-lost : goal.returns-in-Err-clause-lost
 returns-in-Err-clause-lost g c =

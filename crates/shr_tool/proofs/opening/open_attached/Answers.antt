@@ -1,7 +1,8 @@
 -- The pool holds the bay's reference, and gives the bay back as it left it.
 use Rattle.std.proofs.Common.{◌≡◌, ℕ, List, ◌∷◌, ◌∙◌, ap, sym, subst, refl, inl, inr}
 use Rattle.rack.specs.Joins.{stays_then}
-use Rattle.pool.specs.View.{bay_in, book, slices_shown, view}
+use Rattle.raid_rack.specs.RaidRack.{slices_in}
+use Rattle.pool.specs.View.{arrays_of, bay_in, book, slices_shown, view}
 use Rattle.pool.proofs.Booked.{book_seated}
 use Rattle.shr_tool.specs.Opened.{NotOpened, OpenedOn}
 use Rattle.shr_tool.proofs.Through.{marks_through, pool_through, refused_through, wanting_through, written_through, ground_in, held_by_meant, moment_in, opened_as, stops_mean, traced_through, runs_on}
@@ -54,7 +55,7 @@ returns-in-Ok-clause-outcome g c =
       moments = λ a meant calm traced. stops_mean pool (λ r. seen r.now) (λ r. shelf r.now) _ a opens.meant meant calm traced;
       run_on = λ f sound quiet joined alone.
           runs_on _ _ _ _ f sound (opened_as pool (λ r. seen r.now) (λ r. shelf r.now) _ opens.meant opens.marks f sound quiet)
-          _ (opens.meant f sound quiet).meant (opens.meant f sound quiet).one_pool (opens.truths f sound quiet) (stays_then opens.drives.early.only.stays opens.drives.late.stays) joined alone;
+          _ (opens.meant f sound quiet).meant (opens.meant f sound quiet).one_pool (opens.truths f sound quiet) (stays_then opens.drives.early.only.stays opens.drives.late.stays) joined (slices_in (arrays_of pool)).orderly alone;
       outcome = λ a.
           task_for c.args.task c.do_on-status.result _ _ _ _ _ _ _ _ a _ _ _ _
           (λ meant. held_by_meant pool (λ r. seen r.now) (λ r. shelf r.now) _ a opens.meant

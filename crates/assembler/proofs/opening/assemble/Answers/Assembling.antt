@@ -34,10 +34,12 @@ use Rattle.assembler.specs.Holding.{HoldPool, HoldsArrays}
 use Rattle.assembler.specs.Members.{AreMembers}
 use Rattle.pool_model.specs.Left.{AreElsewhere, IsPickOff}
 use Rattle.pool_model.specs.Pools.{AreSlicesOf}
+use Rattle.pool_model.specs.Stopped.{HaveTables}
 use Rattle.pool_model.proofs.Found.{found_is}
-use Rattle.assembler.specs.Sound.{HoldSound, MayStop}
+use Rattle.assembler.specs.Sound.{HoldSound, MayStop, TargetsLand}
 use Rattle.assembler.specs.Volume.{AllLive}
 use Rattle.assembler.specs.Writing.{IsDriveOrTable}
+use Rattle.assembler.proofs.Apart.{tables_landed}
 use Rattle.assembler.proofs.Causes.{loses_since, marked_since}
 use Rattle.assembler.proofs.Drives.{members_drives}
 use Rattle.assembler.proofs.Early.{early_leaves}
@@ -206,6 +208,12 @@ module _ (g : Over) (c : After-make_rack g) where
           c.in-Ok-check.members.slices.orderly c.in-Ok-check.members.log members holds checked.1 lie c.in-Ok-check.ensures.only (state ∙ c.in-Ok-check.ensures.state)
           (is.idle told lasts to_x) (λ none. is.keeps told lasts to_x sound.logs none sound.steady.single)
           (λ lower. is.brought told lasts to_x sound.logs lower sound.steady.single)
+
+      -- where targets land in the pool's slices a replay finds these by the tables
+      pub landing : TargetsLand e → HaveTables e
+      landing =
+          tables_landed f t y c.in-Ok-check.members.checked c.in-Ok-check.members.absent.items c.in-Ok-check.members.slices.orderly members holds.steady holds.pool
+          checked.1 e same
 
       pub arrays : HoldsArrays f (raid_in c.make_rack.result) (slices_of t y) (slices_seen g.R.Rack.seen c.make_rack.result)
       arrays = c.make_rack.ensures.holds f checked.0 checked.1 from_y
