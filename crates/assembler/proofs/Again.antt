@@ -1,5 +1,5 @@
 -- Disks on which a pool left what holds a sound one again are such as an opening asks for.
-use Rattle.std.proofs.Common.{◌≡◌, inl, inr, subst, sym, ap, ◌∙◌}
+use Rattle.std.proofs.Common.{◌≡◌, ℕ, inl, inr, subst, sym, ap, ◌∙◌}
 use Rattle.rack.specs.Seen.{Seen}
 use Rattle.slice_rack.specs.Slices.{Slices}
 use Rattle.pool_state.specs.declared.contents.State.{State}
@@ -10,6 +10,7 @@ use Rattle.pool_rest.specs.Moments.{TakesLowerIn}
 use Rattle.pool_rest.specs.SoundLogs.{HasSoundLogs}
 use Rattle.pool_scan.specs.Scanning.{now_in}
 use Rattle.pool_model.specs.Left.{HoldAgain, HoldStill}
+use Rattle.pool_model.specs.Openings.{HoldOpened}
 use Rattle.pool_model.specs.Stopped.{HoldAmid}
 use Rattle.assembler.specs.Holding.{AreSteady}
 use Rattle.assembler.specs.Sound.{HoldSound, MayStop}
@@ -38,4 +39,20 @@ pub holds_amid : (x : Seen) (f : Found) (t : Slices) (s u : State) → AreSteady
 holds_amid x f t s u steady same amid = (
   holds_still x f t amid.state steady same amid.still,
   inr (inr amid.apart, inr (amid.stood, subst (λ (disks : Disks). TakesLowerIn disks (now_in x)) same amid.lower)),
+)
+
+-- And so it is where an opening was stopped.
+pub holds_opened : (x : Seen) (f : Found) (from : ℕ) → AreSteady x → f.disks ≡ disks_of x → (opened : HoldOpened f from (now_in x))
+    → HoldSound x opened.now × MayStop x opened.now
+holds_opened x f from steady same opened = (
+  record {
+    steady = steady;
+    found_is = ap (λ (disks : Disks). found disks (now_in x)) (sym same) ∙ opened.found_is;
+    sound = opened.sound;
+    logs = subst (λ (disks : Disks). HasSoundLogs disks (now_in x)) same opened.logs;
+  },
+  elim opened.stops [
+    | inl idle ↦ inl (λ before at. idle before (ap (λ (disks : Disks). standing disks (now_in x)) same ∙ at))
+    | inr amid ↦ inr (inr amid.0, inr (amid.1, subst (λ (disks : Disks). TakesLowerIn disks (now_in x)) same amid.2))
+  ],
 )

@@ -43,3 +43,7 @@ mod Whole
 mod Written
 mod Grouped
 mod TruthFound
+pub mod Settling
+pub mod Bringing
+pub mod Rereading
+pub mod Absences

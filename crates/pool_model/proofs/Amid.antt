@@ -4,8 +4,10 @@
 -- whose drive is missing gave its disk up before. Beside `InService` they ask that the drives' tables in these contents have the members' slices
 -- (`LieByTables`): they have where the pool was found with such tables (`tables_begin`), and calls that write slices alone leave them so (`tables_calls`,
 -- `tables_amid`; for drives that were declined or taken in see proofs/Tables.antt).
-use Rattle.std.proofs.Common.{◌≡◌, ◌⊎◌, ℕ, ◌+◌, ◌<◌, ◌≤◌, ◌&&◌, Bool, false, nat_lt, if◌then◌else◌, List, [], length, Option, Some, unwrap_or, refl, sym, ap, ap₂, subst, ◌∙◌, inl, inr, add-one, le-ltb, ltb-true, arith}
+use Rattle.std.proofs.Common.{◌≡◌, ◌⊎◌, ℕ, ◌+◌, ◌-◌, ◌<◌, ◌≤◌, ◌^◌, ◌&&◌, Bool, true, false, nat_lt, if◌then◌else◌, List, [], length, Option, Some, None, unwrap_or, refl, sym, ap, ap₂, subst, ◌∙◌, inl, inr, add-one, le-ltb, ltb-true, arith}
 use Rattle.std.proofs.lemmas.Bool.{and_parts, cases_Bool, cases_eq}
+use Rattle.std.proofs.lemmas.Option.{none-some}
+use Rattle.rack.specs.Joins.{leaves_weaker}
 use Rattle.rack.specs.Moments.{Leaves}
 use Rattle.rack.specs.Seen.{Image, Seen}
 use Rattle.rack.specs.Sequences.{WritesOnly}
@@ -19,30 +21,30 @@ use Rattle.pool_state.specs.declared.contents.State.{State}
 use Rattle.pool_state.specs.Sector.{decoded}
 use Rattle.array_image.specs.Arrays.{replayed}
 use Rattle.array_image.specs.Left.{IsInside as HasNothing}
-use Rattle.array_image.specs.Places.{log_slice}
+use Rattle.array_image.specs.Places.{log_slice, place_of}
 use Rattle.array_image.specs.SoundArray.{IsSoundArray}
 use Rattle.array_image.specs.States.{is_current}
 use Rattle.array_image.specs.Supers.{truth_in}
 use Rattle.array_model.specs.View.{HasGeometry}
 use Rattle.commit_log.proofs.Kept.{live_on}
 use Rattle.raid_rack.specs.Book.{IsAfter, after_same, after_then}
-use Rattle.raid_rack.specs.Frames.{Frame, frame_of}
+use Rattle.raid_rack.specs.Frames.{Frame, HasFrame, frame_of}
 use Rattle.raid_rack.specs.Logs.{LogsBetween}
 use Rattle.raid_rack.specs.Raid.{IsTold, Raid, is_over}
-use Rattle.raid_rack.specs.Runs.{KeepsMoments}
+use Rattle.raid_rack.specs.Runs.{IsBetween, KeepsMoments}
 use Rattle.raid_rack.specs.Since.{AreSince}
 use Rattle.raid_rack.proofs.Frames.{geometry_frame}
 use Rattle.raid_rack.proofs.Noted.{current_few}
 use Rattle.raid_rack.proofs.Over.{number_room, someone_left}
 use Rattle.raid_rack.proofs.Since.{kept_since}
-use Rattle.pool_image.specs.Disks.{Disks, Identities, disks_of, identities_of}
+use Rattle.pool_image.specs.Disks.{Disks, Identities, disks_of, identities_of, stands_for}
 use Rattle.pool_image.specs.Drives.{Found, extent_of, slices_of as found_slices}
 use Rattle.pool_image.specs.Meaning.{is_member, truth_of}
 use Rattle.pool_image.specs.Replay.{extent_by}
 use Rattle.pool_model.specs.InService.{InService, IsArranged, IsSaid}
 use Rattle.pool_model.specs.Left.{AreAloneBy, HoldRest, IsPickOff}
 use Rattle.pool_model.specs.Pools.{AreSlicesOf, extent_in}
-use Rattle.pool_model.specs.Stopped.{AreSlicesNow, HaveTables, HoldAmid, HoldTables, IsStopped, LieByTables, SaysArray}
+use Rattle.pool_model.specs.Stopped.{AreSlicesNow, HaveTables, HoldAmid, HoldTables, IsStopped, LieByTables, SaysArray, TellsStops}
 use Rattle.pool_model.specs.Taken.{LacksDrive}
 use Rattle.pool_model.proofs.Again.{off_later}
 use Rattle.pool_model.proofs.Alike.{alone_said, has_truths, slices_said, truth_same}
@@ -96,6 +98,15 @@ off_more t u x before i off d s live never = off d s live (λ w is. never w (bef
 
 -- ---- a call
 
+-- slices lie inside the pool's disks
+inside_of : (f : Found) (t : Slices) (x : Seen) → f.disks ≡ disks_of x → IsInside t x → AreInside f t
+inside_of f t x disks inside j d seat some =
+    let disk : disk_of t j ≡ d = ap (λ o. unwrap_or o 0) seat in
+    let sectors : x.sectors d ≡ f.disks.sectors d = ap (λ (z : Disks). z.sectors d) (sym disks) in
+    let low = inside.slices j some in
+    let here : x.sectors (disk_of t j) ≡ x.sectors d = ap x.sectors disk in
+    omega (arith, low, sectors, here)
+
 -- What a call finds of a pool in service, by slices t that lie as those of its current places: no other drive says the book's state or a later one.
 record IsCalled (f : Found) (t : Slices) (v : Raid) (x : Seen) : Type 0 where
   disks : f.disks ≡ disks_of x
@@ -112,21 +123,15 @@ record IsCalled (f : Found) (t : Slices) (v : Raid) (x : Seen) : Type 0 where
       ⊎ ((i : Image) → IsPickOff t x i → (copy : Copied) → (identities_of (disks_of x) i d).copied ≡ Some copy → copy.state.epoch < v.state.epoch)
 
 module _ (f : Found) (t : Slices) (v w : Raid) (x y : Seen) (is : IsCalled f t v x) (orderly : IsOrderly t) (inside : IsInside t x)
-    (lasting : x.lasting) (only : WritesOnly x y (IsSliced t)) (keeps : KeepsMoments v w (slices_of t x) (slices_of t y))
-    (told : (n : ℕ) → n < f.state.made → IsTold v (slices_of t x) n) (lasts : (n : ℕ) → n < f.state.made → is_over w n ≡ false) where
+    (lasting : x.lasting) (only : WritesOnly x y (IsSliced t)) (tells : x.traced → TellsStops f.state.made v w (slices_of t x) (slices_of t y))
+    (absent : (i : Image) → IsPickOff t x i → AreSince v.state (sectors_of t) (sliced t i) → (p d : ℕ) → is_current v.state p ≡ true → f.seats p ≡ None → d < f.disks.count
+    → stands_for v.state (identities_of f.disks i d) ≡ Some p → ⊥)
+    (enough : w.state.epoch < 2 ^ 63 - 1) (someone : (s : State) → IsAfter v.state s → IsAfter s w.state → (p d : ℕ) × (is_current s p ≡ true) × (f.seats p ≡ Some d)) where
   few : f.state.made ≤ 16
   few = is.arranged.made.1
 
-  first : 0 < f.state.made
-  first = (let made = is.arranged.made.0 in omega (arith, made))
-
   within : AreInside f t
-  within j d seat some =
-      let disk : disk_of t j ≡ d = ap (λ o. unwrap_or o 0) seat in
-      let sectors : x.sectors d ≡ f.disks.sectors d = ap (λ (z : Disks). z.sectors d) (sym is.disks) in
-      let low = inside.slices j some in
-      let here : x.sectors (disk_of t j) ≡ x.sectors d = ap x.sectors disk in
-      omega (arith, low, sectors, here)
+  within = inside_of f t x is.disks inside
 
   -- ---- contents of the slices
 
@@ -141,20 +146,17 @@ module _ (f : Found) (t : Slices) (v w : Raid) (x y : Seen) (is : IsCalled f t v
     shown : (slices_of t y).stops k c
     shown = (i, stop, λ d s. refl)
 
+    nothing : HasNothing (sectors_of t) c
+    nothing d u past = ap (λ (b : Bool). if b then i (disk_of t d) (slice_first t d + u) else []) (le-ltb u (sectors_of t d) past)
+
     logs : LogsBetween v.state w.state (sectors_of t) c
-    logs = (keeps.logs 0 (told 0 first) (lasts 0 first) traced).new k c late early shown
+    logs = (tells traced).logs.new k c late early shown nothing
 
     abbrev s : State
     s = logs.state
 
-    nothing : HasNothing (sectors_of t) c
-    nothing d u past = ap (λ (b : Bool). if b then i (disk_of t d) (slice_first t d + u) else []) (le-ltb u (sectors_of t d) past)
-
     since : AreSince v.state (sectors_of t) c
-    since =
-        let stood = (told 0 first).stood (keeps.still 0 (lasts 0 first)) in
-        let kept = keeps.since 0 v.state (told 0 first) (lasts 0 first) (after_same v.state) (kept_since v.state v.number (slices_of t x) stood.log) in
-        (kept.leaves traced).new k c late early shown nothing
+    since = (tells traced).since.new k c late early shown nothing
 
     -- ---- the disks outside the slices
 
@@ -192,12 +194,12 @@ module _ (f : Found) (t : Slices) (v w : Raid) (x y : Seen) (is : IsCalled f t v
 
     array_said : (n : ℕ) → n < f.state.made → SaysArray said s r n
     array_said n low =
-        let between = (keeps.images n (told n low) (lasts n low) traced).new k c late early shown in
+        let between = ((tells traced).arrays n low).new k c late early shown nothing in
         let state : between.state ≡ s = some_same between.state s (sym between.is_state ∙ logs.says.is_state) in
         let one = shape_truth between.state r n (truth_in between.state r n) between.shape between.shape_is in
         let truth : truth_in s r n ≡ Some one.0 = subst (λ (z : State). truth_in z r n ≡ Some one.0) state one.1 in
         let frame : frame_of one.0 ≡ frame_of (v.arrays n).truth =
-        (keeps.frames n (told n low) (lasts n low) traced).new k c late early shown s one.0 logs.says.is_state truth in
+        ((tells traced).frames n low).new k c late early shown nothing s one.0 logs.says.is_state truth in
         record {
           truth = one.0;
           is_truth = truth;
@@ -213,13 +215,13 @@ module _ (f : Found) (t : Slices) (v w : Raid) (x y : Seen) (is : IsCalled f t v
       is = (is.said i off).outset;
       begun = is.after;
       after = logs.later;
-      room = (let most = (number_room w 0 (lasts 0 first)).1 in let up = logs.sooner.epoch in omega (arith, most, up));
+      room = (let up = logs.sooner.epoch in omega (arith, enough, up));
       joined = is.joined;
       slices = is.slices e;
       orderly = orderly;
       inside = within;
-      there = λ p now. ((told 0 first).stood (keeps.still 0 (lasts 0 first))).log.there p now refl;
-      someone = (let one = someone_left w 0 (lasts 0 first) in (one.0, logs.sooner.current one.0 one.1));
+      absent = absent i off since;
+      someone = someone s logs.later logs.sooner;
       tables = λ p d now. tables p d (logs.later.current p now);
       former = former;
       says = logs.says;
@@ -248,7 +250,80 @@ module _ (f : Found) (t : Slices) (v w : Raid) (x y : Seen) (is : IsCalled f t v
       let stops = only.stops traced in
       record { later = stops.later; kept = stops.kept; past = stops.past; new = amid traced }
 
+-- ---- calls of a rack of arrays
+
+-- Where the arrays are told when calls begin, and none is over when they end, the calls tell of their stops; each place that is current has its log slice, so it
+-- has a drive.
+module _ (f : Found) (t : Slices) (v w : Raid) (x y : Seen) (is : IsCalled f t v x) (keeps : KeepsMoments v w (slices_of t x) (slices_of t y))
+    (told : (n : ℕ) → n < f.state.made → IsTold v (slices_of t x) n) (lasts : (n : ℕ) → n < f.state.made → is_over w n ≡ false) where
+  first : 0 < f.state.made
+  first = (let made = is.arranged.made.0 in omega (arith, made))
+
+  calls_tell : x.traced → TellsStops f.state.made v w (slices_of t x) (slices_of t y)
+  calls_tell traced =
+      let stood = (told 0 first).stood (keeps.still 0 (lasts 0 first)) in
+      let kept = keeps.since 0 v.state (told 0 first) (lasts 0 first) (after_same v.state) (kept_since v.state v.number (slices_of t x) stood.log) in
+      record {
+        logs =
+            leaves_weaker (LogsBetween v.state w.state (sectors_of t)) (λ c. HasNothing (sectors_of t) c → LogsBetween v.state w.state (sectors_of t) c)
+            (λ c says none. says) (keeps.logs 0 (told 0 first) (lasts 0 first) traced);
+        since = kept.leaves traced;
+        arrays = λ n low.
+            leaves_weaker (λ c. IsBetween v.state w.state n (replayed (sectors_of t) c)) (λ c. HasNothing (sectors_of t) c → IsBetween v.state w.state n (replayed (sectors_of t) c))
+            (λ c says none. says) (keeps.images n (told n low) (lasts n low) traced);
+        frames = λ n low.
+            leaves_weaker (λ c. HasFrame (frame_of (v.arrays n).truth) n (replayed (sectors_of t) c))
+            (λ c. HasNothing (sectors_of t) c → HasFrame (frame_of (v.arrays n).truth) n (replayed (sectors_of t) c))
+            (λ c says none. says) (keeps.frames n (told n low) (lasts n low) traced);
+      }
+
+  has_drive : (p : ℕ) → is_current v.state p ≡ true → (d : ℕ) × (f.seats p ≡ Some d)
+  has_drive p now = by (f.seats p) refl
+    where
+      by : (o : Option ℕ) → f.seats p ≡ o → (d : ℕ) × (f.seats p ≡ Some d)
+      by (Some d) seat = (d, seat)
+      by None free =
+          let at : place_of (log_slice p) ≡ p = omega arith in
+          let nothing = (is.slices f.identities).unseated (log_slice p) (ap f.seats at ∙ free) in
+          let some = ((told 0 first).stood (keeps.still 0 (lasts 0 first))).log.there p now refl in
+          absurd (omega (arith, nothing, some))
+
+  told_amid : IsOrderly t → IsInside t x → x.lasting → WritesOnly x y (IsSliced t) → x.traced
+      → Leaves x y (λ i. LieByTables f t v.state i → HoldAmid f t v.state w.state i)
+  told_amid orderly inside lasting only =
+      called_amid f t v w x y is orderly inside lasting only calls_tell
+      (λ i off since p d now free low stands. let one = has_drive p now in none-some one.0 (sym free ∙ one.1))
+      (let most = (number_room w 0 (lasts 0 first)).1 in omega (arith, most))
+      (λ s later sooner.
+      let one = someone_left w 0 (lasts 0 first) in
+      let now = sooner.current one.0 one.1 in
+      let drive = has_drive one.0 (later.current one.0 now) in (one.0, drive.0, now, drive.1))
+
 -- ---- a pool in service
+
+-- what a call finds of it
+service_called : (f : Found) (t : Slices) (v : Raid) (x : Seen) → InService f t v x → IsCalled f t v x
+service_called f t v x is = record {
+  disks = is.disks;
+  arranged = is.arranged;
+  after = is.after;
+  joined = is.joined;
+  geometry = is.geometry;
+  said = is.held.said;
+  alone = is.held.alone;
+  slices = λ e. slices_by (record f { identities = e }) t v.state (slices_said f e is.arranged.made.1 is.arranged.truths t is.slices);
+  former = λ p d seat past. inl (is.slices.seats p ∙ seat, is.slices.logs p d seat);
+}
+
+-- Where calls tell of their stops, and no disk stands for a current place without a drive, each stop inside them leaves contents that hold the pool still.
+pub service_tells : (f : Found) (t : Slices) (v w : Raid) (x y : Seen) → InService f t v x → IsOrderly t → IsInside t x → x.lasting → WritesOnly x y (IsSliced t)
+    → (x.traced → TellsStops f.state.made v w (slices_of t x) (slices_of t y))
+    → (AreInside f t → (i : Image) → IsPickOff t x i → AreSince v.state (sectors_of t) (sliced t i) → (p d : ℕ) → is_current v.state p ≡ true → f.seats p ≡ None
+    → d < f.disks.count → stands_for v.state (identities_of f.disks i d) ≡ Some p → ⊥)
+    → w.state.epoch < 2 ^ 63 - 1 → ((s : State) → IsAfter v.state s → IsAfter s w.state → (p d : ℕ) × (is_current s p ≡ true) × (f.seats p ≡ Some d))
+    → x.traced → Leaves x y (λ i. LieByTables f t v.state i → HoldAmid f t v.state w.state i)
+service_tells f t v w x y is orderly inside lasting only tells absent enough someone =
+    called_amid f t v w x y (service_called f t v x is) orderly inside lasting only tells (absent (inside_of f t x is.disks inside)) enough someone
 
 -- Where the arrays are told when a call begins, and none is over when it ends, each stop inside it leaves contents that hold the pool still.
 pub service_amid : (f : Found) (t : Slices) (v w : Raid) (x y : Seen) → InService f t v x → IsOrderly t → IsInside t x
@@ -256,17 +331,7 @@ pub service_amid : (f : Found) (t : Slices) (v w : Raid) (x y : Seen) → InServ
     → ((n : ℕ) → n < f.state.made → IsTold v (slices_of t x) n) → ((n : ℕ) → n < f.state.made → is_over w n ≡ false)
     → x.traced → Leaves x y (λ i. LieByTables f t v.state i → HoldAmid f t v.state w.state i)
 service_amid f t v w x y is orderly inside lasting only keeps told lasts =
-    called_amid f t v w x y (record {
-      disks = is.disks;
-      arranged = is.arranged;
-      after = is.after;
-      joined = is.joined;
-      geometry = is.geometry;
-      said = is.held.said;
-      alone = is.held.alone;
-      slices = λ e. slices_by (record f { identities = e }) t v.state (slices_said f e is.arranged.made.1 is.arranged.truths t is.slices);
-      former = λ p d seat past. inl (is.slices.seats p ∙ seat, is.slices.logs p d seat);
-    }) orderly inside lasting only keeps told lasts
+    told_amid f t v w x y (service_called f t v x is) keeps told lasts orderly inside lasting only
 
 -- So it is where a place whose drive is missing has no disk any more.
 pub vacant_amid : (f : Found) (t u : Slices) (v w : Raid) (x y : Seen) (place : ℕ) → InService f t v x → LacksDrive f t u v place x
@@ -277,7 +342,7 @@ pub vacant_amid : (f : Found) (t u : Slices) (v w : Raid) (x y : Seen) (place : 
 vacant_amid f t u v w x y place is lacks orderly inside lasting only keeps told lasts =
     let few = is.arranged.made.1 in
     let more = off_more t u x (sliced_before t u place lacks.vacated) in
-    called_amid f u v w x y (record {
+    told_amid f u v w x y (record {
       disks = is.disks;
       arranged = is.arranged;
       after = is.after;
@@ -294,4 +359,4 @@ vacant_amid f t u v w x y place is lacks orderly inside lasting only keeps told 
               logs_other t u place lacks.vacated f is.slices v.state lacks.missing p d other seat,
             )
       ];
-    }) orderly inside lasting only keeps told lasts
+    }) keeps told lasts orderly inside lasting only

@@ -47,7 +47,14 @@ pub mod Vacant
 pub mod InService
 pub mod Amid
 pub mod Tables
+pub mod AbsentCopies
+pub mod Marking
 pub mod Lost
 pub mod Serials
 pub mod NewMembers
 pub mod Unsliced
+pub mod TableRoom
+pub mod SameLogs
+pub mod Settled
+pub mod Openings
+pub mod Rereading

@@ -30,7 +30,7 @@ use Rattle.pool_model.proofs.Extents.{lies_now, member_same}
 use Rattle.pool_model.proofs.Inside.{now, says_pool, table_same}
 use Rattle.pool_model.proofs.Layers.{IsLaid, laid}
 use Rattle.pool_model.proofs.Seats.{nowhere}
-use Rattle.pool_model.proofs.Stopped.{IsLeader, before, c, copied_is, decoded_there, drive_there, few, ids, later_base, leader, many, no_later, on_place, show, u}
+use Rattle.pool_model.proofs.Stopped.{IsLeader, before, c, copied_is, decoded_seat, decoded_there, few, ids, later_base, leader, many, no_later, on_place, show, u}
 
 module _ (f : Found) (t : Slices) (base s : State) (i : Image) (stop : IsStopped f t base s i) where
   some_same : {X : Type 0} (a b : X) → Some a ≡ Some b → a ≡ b
@@ -105,7 +105,7 @@ module _ (f : Found) (t : Slices) (base s : State) (i : Image) (stop : IsStopped
         let current = brought.copy.2 in
         let copy = brought.copy.3 in
         let was = stop.after.current p current in
-        let drive = drive_there f t base s i stop p was in
+        let drive = decoded_seat f t base s i stop p (record { state = u f t base s i stop; own = copy.own }) copy.copy in
         record {
           place = p;
           disk = drive.0;

@@ -70,12 +70,11 @@ pub record IsLeftBy (f : Found) (t : Slices) (s : State) (y : Seen) (i : Image) 
   pub elsewhere : AreElsewhere f i
   pub alone : AreAloneBy s f i
 
--- Slices of the drives of a pool that are current: those of other places don't matter to it.
+-- Slices of the drives of a pool, which are those of current places: those of other places don't matter to it.
 pub record HaveSlices (g : Found) (t : Slices) : Type 0 where
-  pub seats : (p : ℕ) → is_current g.state p ≡ true → seat_of t p ≡ g.seats p
-  pub logs : (p : ℕ) → is_current g.state p ≡ true → extent_of g 0 ≡ Some (extent_in t (log_slice p))
-  pub members :
-      (n p : ℕ) → n < g.state.made → is_current g.state p ≡ true → is_member g n p ≡ true → extent_of g (suc n) ≡ Some (extent_in t (member_slice p n))
+  pub seats : (p d : ℕ) → g.seats p ≡ Some d → seat_of t p ≡ Some d
+  pub logs : (p d : ℕ) → g.seats p ≡ Some d → extent_of g 0 ≡ Some (extent_in t (log_slice p))
+  pub members : (n p d : ℕ) → n < g.state.made → g.seats p ≡ Some d → is_member g n p ≡ true → extent_of g (suc n) ≡ Some (extent_in t (member_slice p n))
   pub others : (n p : ℕ) → n < g.state.made → is_member g n p ≡ false → sectors_of t (member_slice p n) ≡ 0
 
 -- Contents of disks hold a sound pool, by the state s, whatever stop left them: each of its places has the drive that it had in f. No log is damaged,

@@ -5,3 +5,4 @@ pub mod Absent
 pub mod Taken
 pub mod InService
 pub mod Grouped
+pub mod Openings
