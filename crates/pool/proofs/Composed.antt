@@ -240,6 +240,8 @@ module _ (x : View) (b : Seen) (s : Shelf) (place : ℕ) (name : List ℕ) (list
           let one = at.image told d named in
           (one.0, one.1, λ k v within unsliced left. inl (subst (λ h. MayLeave h v) (one.2 k within) left));
       spent = at.carries.spent;
+      truths = at.carries.truths;
+      held = at.carries.held;
     };
     cause = record {
       missing = (λ same. absurd (not_listed (same_fault e NoSuchDrive same) at.err), λ past. absurd (omega (arith, listed, past)));
@@ -347,6 +349,8 @@ module _ (x : View) (b : Seen) (s : Shelf) (place : ℕ) (name : List ℕ) (list
             current = λ of. absurd (not_drive of);
             image = λ told all d named. subst (λ e. IsKept y e) (sym (only y by d named)) (kept y by told all);
             spent = λ s alive. carries.spent s alive;
+            truths = carries.truths;
+            held = carries.held;
           };
           cause = record {
             missing = (λ same. absurd ((late by NoSuchDrive same).listed refl), λ past. absurd (omega (arith, listed, past)));

@@ -26,6 +26,7 @@ use Rattle.pool.specs.declared.replacing.GrowFault.{GrowFault}
 use Rattle.pool.specs.declared.replacing.GrowFault.TheVariants.{NoSuchDrive, Attach, Twice, Memory, NotWhole, Gone}
 use Rattle.lvm_group.specs.Runs.{Linear}
 use Rattle.pool.specs.Continuing.{Continues, KeepsDisk, KeepsOutside, NoDisk}
+use Rattle.pool.specs.Held.{KeepsHeld}
 use Rattle.pool.specs.Keeping.{KeepsBook, Raises}
 use Rattle.pool.specs.Moment.{IsImage, IsNamed, Moment, moment_of, views_of}
 use Rattle.pool.specs.Replacing.{refusal_of}
@@ -188,6 +189,9 @@ pub record ChangesDrive (x y : View) (place : ℕ) (name : List ℕ) : Type 0 wh
   pub current : IsOfDrive (moment_of x) name → KeepsOutside x.slices y.slices NoDisk x.shelf.told x.bay y.bay
   pub image : x.shelf.told → ((d : ℕ) → d < x.bay.disks → x.bay.told d) → KeepsImage x.linear (moment_of x) (moment_of y) place name
   pub spent : (s : ℕ) → is_spent y s ≡ false → is_spent x s ≡ false
+  -- superblocks that said an array's truth do so, and sectors of the arrays keep their values, also those that are none of the volume's
+  pub truths : x.shelf.told → ((d : ℕ) → d < x.bay.disks → x.bay.told d) → KeepsTruths (book x) (book y) (slices_shown x) (slices_shown y)
+  pub held : x.shelf.told → ((d : ℕ) → d < x.bay.disks → x.bay.told d) → KeepsHeld (book x) (book y) (slices_shown x) (slices_shown y)
 
 -- The drive of a place is replaced by the disk of a name, which is attached where it isn't yet. No value moves. `name` is the one disk
 -- that is written outside the slices of drives.

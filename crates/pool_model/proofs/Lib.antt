@@ -51,3 +51,5 @@ pub mod Lost
 pub mod Serials
 pub mod NewMembers
 pub mod Unsliced
+pub mod Alone
+pub mod ServiceWhole

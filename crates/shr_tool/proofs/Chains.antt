@@ -6,7 +6,7 @@ use Rattle.pool_model.specs.Taken.{attached}
 use Rattle.pool.specs.Moment.{Moment}
 use Rattle.shr_tool.specs.Events.{Event, any_takes, looks_at, takes_disk}
 use Rattle.shr_tool.specs.Events.Event.{answered, spent, lost, last, replaced, declined, stepped, stuck, shown}
-use Rattle.shr_tool.specs.Service.{AreFit, IsFitFor, disks_at, pool_after, pool_by}
+use Rattle.shr_tool.specs.Service.{AreFit, AreLone, IsFitFor, IsLoneFor, disks_at, pool_after, pool_by}
 use Rattle.shr_tool.specs.Timeline.{Steps}
 use Rattle.shr_tool.proofs.Taking.{or_parts}
 
@@ -29,6 +29,16 @@ fit_parts f p [] mid event q same fit = (tt, subst (λ m. IsFitFor f m event) sa
 fit_parts f p (first ∷ events) mid event q steps fit =
     let rest = fit_parts (pool_after f p steps.0 first) steps.0 events mid event q steps.1 fit.1 in
     ((fit.0, rest.0), rest.1)
+
+-- so it is of what is known so that it stands alone
+pub lone_parts :
+    (f : Found) (p : Moment) (events : List Event) (mid : Moment) (event : Event) (q : Moment) (steps : Steps p events mid)
+    → AreLone f p (events ++ event ∷ []) q (steps_more p events mid event q steps)
+    → AreLone f p events mid steps × IsLoneFor (pool_by f p events mid steps) mid event
+lone_parts f p [] mid event q same lone = (tt, subst (λ m. IsLoneFor f m event) same lone.0)
+lone_parts f p (first ∷ events) mid event q steps lone =
+    let rest = lone_parts (pool_after f p steps.0 first) steps.0 events mid event q steps.1 lone.1 in
+    ((lone.0, rest.0), rest.1)
 
 -- an event that takes no disk leaves it, and nothing is to be known then
 pub pool_still : (f : Found) (p q : Moment) (event : Event) → takes_disk event ≡ false → pool_after f p q event ≡ f

@@ -8,13 +8,17 @@ mod Exported
 mod Filled
 mod Finishing
 mod FormLemmas
+mod GroupKept
+mod Heads
 mod History
+mod Lone
 mod Imported
 mod Joined
 mod LayoutLemmas
 mod Limits
 mod Meanings
 mod NewTable
+mod NewTabled
 mod Performing
 mod Pieces
 mod Putting

@@ -13,10 +13,13 @@ use Rattle.raid_rack.specs.Raid.{IsTold, is_over}
 use Rattle.raid_rack.specs.Runs.{KeepsMoments}
 use Rattle.assembler.specs.Sound.{TargetsLand}
 use Rattle.pool_image.specs.Drives.{Found}
+use Rattle.pool_model.specs.Absent.{AreOnly}
+use Rattle.pool_model.specs.Alone.{HoldAlone}
 use Rattle.pool_model.specs.InService.{InService}
 use Rattle.pool_model.specs.Left.{HoldAgain}
 use Rattle.pool_model.specs.Stopped.{HoldAmid, HoldTables, LieByTables}
 use Rattle.pool_model.specs.Taken.{AreSerial, LacksDrive}
+use Rattle.pool_model.proofs.Alone.{alone_begins, alone_calls}
 use Rattle.pool_model.proofs.Amid.{service_amid, tables_amid, tables_begin, tables_calls, vacant_amid}
 use Rattle.pool_model.proofs.Tables.{tables_vacant}
 use Rattle.pool_model.proofs.InService.{in_service, service_again, service_calls, vacant_again}
@@ -29,16 +32,17 @@ use Rattle.pool.specs.Volume.{Holds, is_spent, size_of}
 use Rattle.shr_tool.specs.Events.{Event, takes_disk}
 use Rattle.shr_tool.specs.Events.Event.{answered, spent, lost, last, replaced, declined, stepped, stuck, shown}
 use Rattle.shr_tool.specs.Outcome.{IsRunOn}
-use Rattle.shr_tool.specs.Service.{GoesBy, GoesOn, IsFitFor, IsServed, pool_after}
+use Rattle.shr_tool.specs.Service.{AreUngiven, GoesBy, GoesOn, IsFitFor, IsLoneFor, IsServed, pool_after}
 use Rattle.shr_tool.specs.Timeline.{Changes, Performs, ground_of}
+use Rattle.shr_tool.proofs.Absent.{stands_first}
 use Rattle.shr_tool.proofs.Chains.{pool_still}
 use Rattle.shr_tool.proofs.Taking.{none_takes}
 use Rattle.shr_tool.proofs.TakenIn.{on_replaced}
 use Rattle.shr_tool.proofs.TurnedDown.{on_declined}
 
 -- at the beginning
-pub goes_run : (x : View) (f : Found) → IsRunOn f (ground_of x) (moment_of x) x.bay → GoesBy (TargetsLand f) f x
-goes_run x f on = record {
+goes_first : {A : Type 0} (x : View) (f : Found) → IsRunOn f (ground_of x) (moment_of x) x.bay → (A → HoldAlone f x.slices x.bay) → GoesBy (TargetsLand f) A f x
+goes_first x f on alone = record {
   tables = x.slices;
   service = in_service on.before f x.slices (book x) x.bay on.found_is on.sound on.slices on.after on.joined on.geometry on.rest;
   vacant = inl refl;
@@ -46,17 +50,27 @@ goes_run x f on = record {
   arrays = on.arrays ∙ on.joined;
   orderly = on.orderly;
   laid = λ lands. tables_begin f x.slices (book x).state x.bay (on.landing lands) on.slices on.rest;
+  alone = alone;
 }
 
+pub goes_run : (x : View) (f : Found) → IsRunOn f (ground_of x) (moment_of x) x.bay → GoesBy (TargetsLand f) ⊥ f x
+goes_run x f on = goes_first x f on (λ never. absurd never)
+
+-- where no second disk stood for a place of a drive, and none had an id that is given later
+pub goes_lone : (x : View) (f : Found) → IsRunOn f (ground_of x) (moment_of x) x.bay → AreOnly f → AreUngiven f → GoesBy (TargetsLand f) (Unit {0}) f x
+goes_lone x f on only ungiven =
+    goes_first x f on
+    (λ _. alone_begins f x.slices x.bay (stands_first f (ground_of x) (moment_of x) x.bay on only) ungiven on.rest)
+
 -- a sector of a slice is one by the pool's tables
-pub sliced_was : {L : Type 0} (x : View) (f : Found) (goes : GoesBy L f x) (d s : ℕ) (w : List ℕ) → IsSliced x.slices d s w → IsSliced goes.tables d s w
+pub sliced_was : {L A : Type 0} (x : View) (f : Found) (goes : GoesBy L A f x) (d s : ℕ) (w : List ℕ) → IsSliced x.slices d s w → IsSliced goes.tables d s w
 sliced_was x f goes d s w is = elim goes.vacant [
   | inl same ↦ subst (λ t. IsSliced t d s w) same is
   | inr one ↦ sliced_before goes.tables x.slices one.0 one.2.vacated d s w is
 ]
 
 -- after calls that take no disk
-pub goes_calls : {L : Type 0} (x y : View) (f : Found) → Passes x y → GoesBy L f x → GoesBy L f y
+pub goes_calls : {L A : Type 0} (x y : View) (f : Found) → Passes x y → GoesBy L A f x → GoesBy L A f y
 goes_calls x y f passes goes = record {
   tables = goes.tables;
   service =
@@ -79,11 +93,13 @@ goes_calls x y f passes goes = record {
   laid = λ lands.
       tables_calls f goes.tables (book x).state (book y).state x.bay y.bay goes.lasting
       (only_weaker (IsSliced x.slices) (IsSliced goes.tables) (sliced_was x f goes) passes.apart) passes.marks (goes.laid lands);
+  alone = λ lone.
+      alone_calls f goes.tables x.bay y.bay goes.lasting (only_weaker (IsSliced x.slices) (IsSliced goes.tables) (sliced_was x f goes) passes.apart) (goes.alone lone);
 }
 
 -- whatever the disks may be left with holds it again
 pub goes_again :
-    {L : Type 0} (x : View) (f : Found) → IsInside x.slices x.bay → GoesBy L f x
+    {L A : Type 0} (x : View) (f : Found) → IsInside x.slices x.bay → GoesBy L A f x
     → ((n : ℕ) → n < f.state.made → IsTold (book x) (slices_of x.slices x.bay) n) → ((n : ℕ) → n < f.state.made → is_over (book x) n ≡ false)
     → (i : Image) → IsPick x.bay x.bay x.bay.held i → HoldAgain f x.slices (book x).state i
 goes_again x f inside goes told lasts i pick = elim goes.vacant [
@@ -95,7 +111,7 @@ goes_again x f inside goes told lasts i pick = elim goes.vacant [
 ]
 
 -- the tables have the members' slices where the run has them
-tables_now : {L : Type 0} (x : View) (f : Found) → GoesBy L f x → L → HoldTables f x.slices (book x).state x.bay
+tables_now : {L A : Type 0} (x : View) (f : Found) → GoesBy L A f x → L → HoldTables f x.slices (book x).state x.bay
 tables_now x f goes lands = elim goes.vacant [
   | inl same ↦ subst (λ (t : Slices). HoldTables f t (book x).state x.bay) (sym same) (goes.laid lands)
   | inr one ↦ tables_vacant f goes.tables x.slices one.0 (book x).state x.bay one.2.vacated one.2.missing (goes.laid lands)
@@ -103,7 +119,7 @@ tables_now x f goes lands = elim goes.vacant [
 
 -- What a stop leaves inside calls that take no disk holds it too.
 pub goes_amid :
-    {L : Type 0} (x y : View) (f : Found) → IsInside x.slices x.bay → Passes x y → GoesBy L f x → L
+    {L A : Type 0} (x y : View) (f : Found) → IsInside x.slices x.bay → Passes x y → GoesBy L A f x → L
     → ((n : ℕ) → n < f.state.made → IsTold (book x) (slices_of x.slices x.bay) n) → ((n : ℕ) → n < f.state.made → is_over (book y) n ≡ false)
     → x.bay.traced → Leaves x.bay y.bay (HoldAmid f x.slices (book x).state (book y).state)
 goes_amid x y f inside passes goes lands told lasts traced =
@@ -171,29 +187,29 @@ served_last x y z events event same (inr some) =
     inr (subst (λ (l : Linear). (s : ℕ) × (s < size_of (record y { linear = l })) × (spent_by l (book z) s ≡ false)) (sym same) (some.0, some.1, some.2))
 
 pub goes_performed :
-    {L : Type 0} (x y : View) (event : Event) (text : List ℕ) (b : FlatArray)
+    {L A : Type 0} (x y : View) (event : Event) (text : List ℕ) (b : FlatArray)
     → ((d s : ℕ) → y.bay.spent d s ≡ false) → (volume x).fit → Performs x y event text → Holds x b → IsServedBy x y event
-    → (f : Found) → GoesBy L f x → (takes_disk event ≡ true → AreSerial f.state) → IsFitFor f (moment_of x) event
-    → GoesOn L f (pool_after f (moment_of x) (moment_of y) event) y
-goes_performed {L} x y event text b unspent fit performs holds served f goes serials fitting = elim (cases_Bool (takes_disk event)) [
+    → (f : Found) → GoesBy L A f x → (takes_disk event ≡ true → AreSerial f.state) → IsFitFor f (moment_of x) event → (A → IsLoneFor f (moment_of x) event)
+    → GoesOn L A f (pool_after f (moment_of x) (moment_of y) event) y
+goes_performed {L} {A} x y event text b unspent fit performs holds served f goes serials fitting lone = elim (cases_Bool (takes_disk event)) [
   | inr none ↦
-      subst (λ h. GoesOn L f h y) (sym (pool_still f (moment_of x) (moment_of y) event none))
+      subst (λ h. GoesOn L A f h y) (sym (pool_still f (moment_of x) (moment_of y) event none))
       (record { goes = goes_calls x y f (performs.passes none) goes; serials = λ serial. serial })
-  | inl takes ↦ taking event takes performs (serials takes) fitting (served_taking event takes served)
+  | inl takes ↦ taking event takes performs (serials takes) fitting lone (served_taking event takes served)
 ]
   where
     served_taking : (e : Event) → takes_disk e ≡ true → IsServedBy x y e → (s : ℕ) × (s < size_of x) × (spent_by x.linear (book y) s ≡ false)
     served_taking e takes (inl none) = absurd (both_ways (takes_disk e) none takes)
     served_taking e takes (inr some) = some
 
-    taking : (e : Event) → takes_disk e ≡ true → Performs x y e text → AreSerial f.state → IsFitFor f (moment_of x) e
-        → (s : ℕ) × (s < size_of x) × (spent_by x.linear (book y) s ≡ false) → GoesOn L f (pool_after f (moment_of x) (moment_of y) e) y
-    taking (answered line) takes does serial fits some = absurd (both_ways false refl takes)
-    taking (spent line sector) takes does serial fits some = absurd (both_ways false refl takes)
-    taking (lost place) takes does serial fits some = absurd (both_ways false refl takes)
-    taking (last place) takes does serial fits some = absurd (both_ways false refl takes)
-    taking (replaced place name) takes does serial fits some = on_replaced x y place name text b unspent fit does holds some f goes fits serial
-    taking (declined place name fault) takes does serial fits some = on_declined x y place name fault text b takes unspent fit does holds some f goes (fits takes)
-    taking (stepped count left) takes does serial fits some = absurd (both_ways false refl takes)
-    taking (stuck count array) takes does serial fits some = absurd (both_ways false refl takes)
-    taking (shown text') takes does serial fits some = absurd (both_ways false refl takes)
+    taking : (e : Event) → takes_disk e ≡ true → Performs x y e text → AreSerial f.state → IsFitFor f (moment_of x) e → (A → IsLoneFor f (moment_of x) e)
+        → (s : ℕ) × (s < size_of x) × (spent_by x.linear (book y) s ≡ false) → GoesOn L A f (pool_after f (moment_of x) (moment_of y) e) y
+    taking (answered line) takes does serial fits lone some = absurd (both_ways false refl takes)
+    taking (spent line sector) takes does serial fits lone some = absurd (both_ways false refl takes)
+    taking (lost place) takes does serial fits lone some = absurd (both_ways false refl takes)
+    taking (last place) takes does serial fits lone some = absurd (both_ways false refl takes)
+    taking (replaced place name) takes does serial fits lone some = on_replaced x y place name text b unspent fit does holds some f goes fits serial lone
+    taking (declined place name fault) takes does serial fits lone some = on_declined x y place name fault text b takes unspent fit does holds some f goes (fits takes) lone
+    taking (stepped count left) takes does serial fits lone some = absurd (both_ways false refl takes)
+    taking (stuck count array) takes does serial fits lone some = absurd (both_ways false refl takes)
+    taking (shown text') takes does serial fits lone some = absurd (both_ways false refl takes)

@@ -28,11 +28,14 @@ use Rattle.raid_rack.proofs.Over.{number_room, or_parts}
 use Rattle.pool_image.specs.Disks.{Disks, disks_of, identities_of}
 use Rattle.pool_image.specs.Drives.{Found, extent_of, first_of as first_in}
 use Rattle.pool_image.specs.Replay.{Extent}
-use Rattle.pool_image.specs.Meaning.{is_member}
+use Rattle.pool_image.specs.Meaning.{is_member, is_table}
+use Rattle.pool_model.specs.Alone.{TakesAlone}
 use Rattle.pool_model.specs.Left.{IsPickOff}
 use Rattle.pool_model.specs.Pools.{AreSlicesOf}
 use Rattle.raid_rack.specs.Missing.{raised}
 use Rattle.pool_model.specs.Taken.{AreSerial, KeepsOff, KeepsRest, SeatsNew, taken}
+use Rattle.pool_model.proofs.Alone.{alone_taken}
+use Rattle.shr_tool.proofs.NewTabled.{tabled_new}
 use Rattle.pool_model.proofs.InService.{service_taken}
 use Rattle.pool_model.proofs.Lost.{epoch_room, lost_before}
 use Rattle.pool_model.proofs.Named.{same_length}
@@ -54,16 +57,16 @@ use Rattle.pool.proofs.Admitted.{IsAdmitted, admitted, others_current, reaches_e
 use Rattle.shr_tool.specs.Events.Event.{replaced}
 use Rattle.shr_tool.specs.Service.{GoesBy, GoesOn, IsFitDrive, disk_in, pool_after, units_in}
 use Rattle.shr_tool.specs.Timeline.{Performs}
-use Rattle.shr_tool.proofs.TakenTables.{lies_taken}
+use Rattle.shr_tool.proofs.TakenTables.{lies_taken, table_taken}
 
 some_same : {X : Type 0} (a b : X) → Some a ≡ Some b → a ≡ b
 some_same a b same = cc
 
 -- ---- what holds of each line that names a disk
 
-module _ {L : Type 0} (x y : View) (place : ℕ) (name : List ℕ) (unspent : (d s : ℕ) → y.bay.spent d s ≡ false) (continues : Continues x y)
+module _ {L A : Type 0} (x y : View) (place : ℕ) (name : List ℕ) (unspent : (d s : ℕ) → y.bay.spent d s ≡ false) (continues : Continues x y)
     (outside : KeepsOutside x.slices y.slices (λ d. slice_get y.shelf.names d ≡ Some name) x.shelf.told x.bay y.bay) (changes : ChangesDrive x y place name)
-    (told : (d : ℕ) → d < y.bay.disks → y.bay.told d) (f : Found) (goes : GoesBy L f x) where
+    (told : (d : ℕ) → d < y.bay.disks → y.bay.told d) (f : Found) (goes : GoesBy L A f x) where
   pub count_is : f.disks.count ≡ x.bay.disks
   count_is = ap (λ (z : Disks). z.count) goes.service.disks
 
@@ -145,9 +148,9 @@ log_lies f t place d slices seat =
     )
 
 -- the drive that a place had, which has no slices any more and wasn't written, says a state that is earlier than the book's
-module _ {L : Type 0} (x y : View) (place : ℕ) (name : List ℕ) (unspent : (d s : ℕ) → y.bay.spent d s ≡ false) (fit : (volume x).fit) (continues : Continues x y)
+module _ {L A : Type 0} (x y : View) (place : ℕ) (name : List ℕ) (unspent : (d s : ℕ) → y.bay.spent d s ≡ false) (fit : (volume x).fit) (continues : Continues x y)
     (outside : KeepsOutside x.slices y.slices (λ d. slice_get y.shelf.names d ≡ Some name) x.shelf.told x.bay y.bay) (changes : ChangesDrive x y place name)
-    (told : (d : ℕ) → d < y.bay.disks → y.bay.told d) (f : Found) (goes : GoesBy L f x) (d : ℕ) (seat : f.seats place ≡ Some d) (same : x.slices ≡ goes.tables)
+    (told : (d : ℕ) → d < y.bay.disks → y.bay.told d) (f : Found) (goes : GoesBy L A f x) (d : ℕ) (seat : f.seats place ≡ Some d) (same : x.slices ≡ goes.tables)
     (on : seat_of x.slices place ≡ Some d) (unnamed : IsNamed (moment_of y) name d → ⊥) (bare : (s : ℕ) (w : List ℕ) → IsSliced y.slices d s w → ⊥) {b : FlatArray}
     (holds : Holds x b) (s : ℕ) (within : s < size_of x) (alive : is_spent x s ≡ false) (listed : place < length (book x).state.drives.items)
     (missing : is_current (book x).state place ≡ false) where
@@ -224,9 +227,10 @@ reached_of arrays place sectors n each = by (slice_get arrays n) refl
         of false none = refl
         of true has = each u at has
 
-module _ {L : Type 0} (x y : View) (place : ℕ) (name text : List ℕ) (b : FlatArray) (unspent : (d s : ℕ) → y.bay.spent d s ≡ false) (fit : (volume x).fit)
+module _ {L A : Type 0} (x y : View) (place : ℕ) (name text : List ℕ) (b : FlatArray) (unspent : (d s : ℕ) → y.bay.spent d s ≡ false) (fit : (volume x).fit)
     (performs : Performs x y (replaced place name) text) (holds : Holds x b) (some : (s : ℕ) × (s < size_of x) × (spent_by x.linear (book y) s ≡ false))
-    (f : Found) (goes : GoesBy L f x) (fitting : IsFitDrive f (moment_of x) place name) (serials : AreSerial f.state) where
+    (f : Found) (goes : GoesBy L A f x) (fitting : IsFitDrive f (moment_of x) place name) (serials : AreSerial f.state)
+    (lone : A → (d : ℕ) → f.seats place ≡ Some d → IsNamed (moment_of x) name d) where
   abbrev pub changes : ChangesDrive x y place name
   changes = (performs.changes refl).0
 
@@ -398,11 +402,28 @@ module _ {L : Type 0} (x y : View) (place : ℕ) (name text : List ℕ) (b : Fla
     ];
   }
 
+  -- it has its table, and no other disk came
+  takes_alone : A → TakesAlone f (taken f (disks_of y.bay) place disk (enlisted place is.units (Replacing place) (book x).state)) y.slices place disk y.bay
+  takes_alone so = record {
+    own = λ i pick.
+        ap (λ o. option_map_or (is_table (taken f (disks_of y.bay) place disk (enlisted place is.units (Replacing place) (book x).state)) place (y.bay.sectors disk)) o false)
+        (table_taken x y place name text b unspent performs holds goes.orderly disk named i pick)
+        ∙ tabled_new f t y.slices (book x) (disks_of y.bay) place disk is.units (Replacing place) seats_new known
+        (sectors_kept x y place name unspent performs.continues (performs.outside refl) changes told f goes)
+        (reaches_each (views_of (book x)) place (y.bay.sectors disk) free.reaches).0;
+    strangers = λ i pick d low other why. elim why [
+      | inl past ↦
+          (let same = count_is x y place name unspent performs.continues (performs.outside refl) changes told f goes in
+          absurd (only d other (changes.names.came d (omega (arith, past, same)) low)))
+      | inr seat ↦ absurd (only d other (performs.continues.names d name (lone so d seat)))
+    ];
+  }
+
   pool_is : pool_after f (moment_of x) (moment_of y) (replaced place name) ≡ taken f (disks_of y.bay) place disk (enlisted place is.units (Replacing place) (book x).state)
   pool_is = ap₂ (λ (d n : ℕ). taken f (disks_of y.bay) place d (enlisted place n (Replacing place) (book x).state)) disk_is units_is
 
-  goes_replaced : GoesBy L (pool_after f (moment_of x) (moment_of y) (replaced place name)) y
-  goes_replaced = subst (λ h. GoesBy L h y) (sym pool_is) (record {
+  goes_replaced : GoesBy L A (pool_after f (moment_of x) (moment_of y) (replaced place name)) y
+  goes_replaced = subst (λ h. GoesBy L A h y) (sym pool_is) (record {
     tables = y.slices;
     service =
         service_taken f t y.slices (book x) (book y) x.bay y.bay place disk is.units (Replacing place) (joins (views_of (book x)) place (y.bay.sectors disk)) goes.service
@@ -414,9 +435,11 @@ module _ {L : Type 0} (x y : View) (place : ℕ) (name text : List ℕ) (b : Fla
     laid = λ lands.
         tables_taken f t y.slices (book x) (book y).state x.bay y.bay place disk is.units (Replacing place) goes.service seats_new keeps_rest is.marks
         (lies_taken x y place name text b unspent performs holds goes.orderly disk named) (goes.laid lands);
+    alone = λ so.
+        alone_taken f t y.slices (book x) x.bay y.bay place disk is.units (Replacing place) goes.service seats_new keeps_rest (takes_alone so) (goes.alone so);
   })
 
-  pub on_replaced : GoesOn L f (pool_after f (moment_of x) (moment_of y) (replaced place name)) y
+  pub on_replaced : GoesOn L A f (pool_after f (moment_of x) (moment_of y) (replaced place name)) y
   on_replaced = record {
     goes = goes_replaced;
     serials = λ serial.

@@ -93,10 +93,10 @@ twice_or TooManyLayers = inr (λ same. let e : TooManyLayers ≡ Twice = same in
 twice_or TooManySegments = inr (λ same. let e : TooManySegments ≡ Twice = same in cc e)
 twice_or Gone = inr (λ same. let e : Gone ≡ Twice = same in cc e)
 
-module _ {L : Type 0} (x y : View) (place : ℕ) (name : List ℕ) (fault : GrowFault) (text : List ℕ) (b : FlatArray) (looks : looks_at fault ≡ true)
+module _ {L A : Type 0} (x y : View) (place : ℕ) (name : List ℕ) (fault : GrowFault) (text : List ℕ) (b : FlatArray) (looks : looks_at fault ≡ true)
     (unspent : (d s : ℕ) → y.bay.spent d s ≡ false) (fit : (volume x).fit)
     (performs : Performs x y (declined place name fault) text) (holds : Holds x b) (some : (s : ℕ) × (s < size_of x) × (spent_by x.linear (book y) s ≡ false))
-    (f : Found) (goes : GoesBy L f x) (fits : IsFitDisk f (moment_of x) name) where
+    (f : Found) (goes : GoesBy L A f x) (fits : IsFitDisk f (moment_of x) name) (lone : A → looks_at fault ≡ false) where
   abbrev pub changes : ChangesDrive x y place name
   changes = performs.changes looks
 
@@ -443,8 +443,8 @@ module _ {L : Type 0} (x y : View) (place : ℕ) (name : List ℕ) (fault : Grow
     ]
   ]
 
-  goes_declined : GoesBy L (pool_after f (moment_of x) (moment_of y) (declined place name fault)) y
-  goes_declined = subst (λ k. GoesBy L k y) (sym pool_is) (record {
+  goes_declined : GoesBy L A (pool_after f (moment_of x) (moment_of y) (declined place name fault)) y
+  goes_declined = subst (λ k. GoesBy L A k y) (sym pool_is) (record {
     tables = t;
     service = service_attached f t (book x) (book y) disk x.bay y.bay goes.service keeps_others is.marks is.arrays;
     vacant = vacant_now;
@@ -454,12 +454,13 @@ module _ {L : Type 0} (x y : View) (place : ℕ) (name : List ℕ) (fault : Grow
     laid = λ lands i off p d now.
         tables_attached f t (book x).state disk x.bay y.bay goes.service.arranged goes.service.slices keeps_others
         (λ j left q current seat. absurd (not_current q current seat)) (goes.laid lands) i off p d (is.marks.current p now);
+    alone = λ so. absurd (both_ways (looks_at fault) (lone so) looks);
   })
     where
       pool_is : pool_after f (moment_of x) (moment_of y) (declined place name fault) ≡ h
       pool_is = ap (λ (c : Bool). if c then h else f) looks
 
-  pub on_declined : GoesOn L f (pool_after f (moment_of x) (moment_of y) (declined place name fault)) y
+  pub on_declined : GoesOn L A f (pool_after f (moment_of x) (moment_of y) (declined place name fault)) y
   on_declined = record { goes = goes_declined; serials = λ serial. by (looks_at fault) serial }
     where
       by : (c : Bool) → AreSerial f.state → AreSerial (if c then attached f (disks_of y.bay) else f).state

@@ -42,7 +42,7 @@ use Rattle.rack.specs.Sequences.{WritesOnly}
 use Rattle.rack.specs.Shelf.{Shelf}
 use Rattle.slice_rack.specs.Runs.{IsSliced}
 use Rattle.shr_tool.specs.Timeline.{Ground, KeepsSlices, KeepsStanding, MeansAt, Timeline, steps_of}
-use Rattle.shr_tool.specs.Service.{AreFit, IsServed, pool_by}
+use Rattle.shr_tool.specs.Service.{AreFit, AreLone, AreUngiven, IsServed, pool_by}
 use Rattle.shr_tool.specs.Between.{HoldsEach, HoldsInside}
 
 -- no disk's faults rose since they were counted so
@@ -148,6 +148,16 @@ pub record Lasts (Told Traced : Type 0) (x y : Seen) (g : Ground) (from : Moment
       → (f : Found) → IsRunOn f g from x → AreOnly f → HaveOwnAreas f
       → IsWholeRaid f.state.made final.book → ((n : ℕ) → n < f.state.made → is_over final.book n ≡ false)
       → (i : Image) → IsPick y y y.held i → HasWholeSectors y i → HoldAbsent f final.slices final.book.state i
+  -- So it is where lines replaced drives, of places that had no disk (`AreLone`), by the pool with these drives, where the outset's other disks don't have ids
+  -- that it gives to drives later (`AreUngiven`).
+  pub safe_by :
+      Told → IsServed g final events → NoneRose last.faults final.faults
+      → (f : Found) → IsRunOn f g from x → AreOnly f → AreUngiven f → HaveOwnAreas f → (any_takes events ≡ true → AreSerial f.state)
+      → AreFit f from events last (steps_of (Traced × Told) y.stops g from a events last timeline)
+      → AreLone f from events last (steps_of (Traced × Told) y.stops g from a events last timeline)
+      → IsWholeRaid f.state.made final.book → ((n : ℕ) → n < f.state.made → is_over final.book n ≡ false)
+      → (i : Image) → IsPick y y y.held i → HasWholeSectors y i
+      → HoldAbsent (pool_by f from events last (steps_of (Traced × Told) y.stops g from a events last timeline)) final.slices final.book.state i
   pub again :
       Told → IsServed g final events → (f : Found) → IsRunOn f g from x → (any_takes events ≡ true → Traced × AreSerial f.state)
       → AreFit f from events last (steps_of (Traced × Told) y.stops g from a events last timeline)

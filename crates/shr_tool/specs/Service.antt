@@ -14,6 +14,7 @@ use Rattle.raid_rack.specs.Enlisting.{enlisted}
 use Rattle.pool_image.specs.Disks.{Disks}
 use Rattle.pool_image.specs.Drives.{Found, first_of}
 use Rattle.pool_image.specs.Meaning.{is_member}
+use Rattle.pool_model.specs.Alone.{HoldAlone, IsUngiven}
 use Rattle.pool_model.specs.InService.{InService}
 use Rattle.pool_model.specs.Stopped.{HoldTables}
 use Rattle.pool_model.specs.Taken.{AreDistinct, AreSerial, LacksDrive, attached, taken}
@@ -97,11 +98,36 @@ abbrev pub AreFit : Found → (p : Moment) → (events : List Event) → (q : Mo
 AreFit f p [] q steps = Unit {0}
 AreFit f p (event ∷ events) q steps = IsFitFor f p event × AreFit (pool_after f p steps.0 event) steps.0 events q steps.1
 
+-- ---- that it stands alone
+
+-- What is to be known of a line so that a pool stands alone on its disks after it, where it did so before: a place whose drive is replaced had no disk, or
+-- the named one, and no line was declined that looked at a disk.
+abbrev pub IsLoneFor : Found → Moment → Event → Type 0
+IsLoneFor f p (answered line) = Unit {0}
+IsLoneFor f p (spent line sector) = Unit {0}
+IsLoneFor f p (lost place) = Unit {0}
+IsLoneFor f p (last place) = Unit {0}
+IsLoneFor f p (replaced place name) = (d : ℕ) → f.seats place ≡ Some d → IsNamed p name d
+IsLoneFor f p (declined place name fault) = looks_at fault ≡ false
+IsLoneFor f p (stepped count left) = Unit {0}
+IsLoneFor f p (stuck count array) = Unit {0}
+IsLoneFor f p (shown text) = Unit {0}
+
+-- of lines in a row
+abbrev pub AreLone : Found → (p : Moment) → (events : List Event) → (q : Moment) → Steps p events q → Type 0
+AreLone f p [] q steps = Unit {0}
+AreLone f p (event ∷ events) q steps = IsLoneFor f p event × AreLone (pool_after f p steps.0 event) steps.0 events q steps.1
+
+-- disks that are no drives of a pool don't have an id that it gives to a drive later
+abbrev pub AreUngiven : Found → Type 0
+AreUngiven f = (d : ℕ) → ((p : ℕ) → f.seats p ≡ Some d → ⊥) → d < f.disks.count → IsUngiven f.state (f.identities d)
+
 -- ---- how a run goes by a pool
 
 -- A pool by which a run goes: its slices are those of the run, unless a place whose drive is missing has given its disk up since. The run's slices don't
--- overlap. Where `Landing` holds the partition tables of the pool's drives have the members' slices, whatever the disks may be left with outside them.
-pub record GoesBy (Landing : Type 0) (f : Found) (x : View) : Type 0 where
+-- overlap. Where `Landing` holds the partition tables of the pool's drives have the members' slices, whatever the disks may be left with outside them, and
+-- where `Lone` holds the pool stands alone on its disks.
+pub record GoesBy (Landing Lone : Type 0) (f : Found) (x : View) : Type 0 where
   pub tables : Slices
   pub service : InService f tables (book x) x.bay
   pub vacant :
@@ -110,8 +136,9 @@ pub record GoesBy (Landing : Type 0) (f : Found) (x : View) : Type 0 where
   pub arrays : x.linear.arrays ≡ f.state.made
   pub orderly : IsOrderly x.slices
   pub laid : Landing → HoldTables f tables (book x).state x.bay
+  pub alone : Lone → HoldAlone f tables x.bay
 
 -- The run goes on by another pool, h in place of f, which has drives with ids of serials where f has.
-pub record GoesOn (Landing : Type 0) (f h : Found) (x : View) : Type 0 where
-  pub goes : GoesBy Landing h x
+pub record GoesOn (Landing Lone : Type 0) (f h : Found) (x : View) : Type 0 where
+  pub goes : GoesBy Landing Lone h x
   pub serials : AreSerial f.state → AreSerial h.state
