@@ -1,6 +1,6 @@
 //! Texts of replies: one line each, ended by a line feed.
 
-ghost use Rattle.std.specs.Prelude.{◌≡◌, ◌+◌, ◌*◌, ◌≤◌, ◌<◌, ◌++◌, [], ◌∷◌, length, take, codes, decimal};
+ghost use Rattle.std.specs.Prelude.{◌≡◌, ◌+◌, ◌*◌, ◌≤◌, ◌<◌, ◌++◌, [], ◌∷◌, length, take, replicate, bytes_eq, codes, decimal};
 ghost use Rattle.arrayvec.specs.ArrayVec.{array_vec_len};
 ghost use Rattle.hex.specs.Hex.{encode_lower};
 ghost use Rattle.shr_script.specs.Reply.{without_zeros, digits_or_dash, data_line, refused_line, as_line, left_line};
@@ -10,6 +10,9 @@ use itoa::Buffer;
 
 /// Room for the longest reply, that of `status` with 16 drives and 16 arrays.
 pub const REPLY_ROOM: usize = 4096;
+
+// Zeros at a sector's end are passed over in groups of so many.
+const ZEROS: [u8; 64] = [0; 64];
 
 /// The text of a reply.
 pub type ReplyText = ArrayVec<u8, REPLY_ROOM>;
@@ -135,9 +138,28 @@ fn significant(bytes: &[u8; 512]) -> usize
     ensures bytes { take result bytes.now ≡ without_zeros bytes.now }
     ensures within { result ≤ 512 }
 {
-    let mut count = 512;
+    let mut count = without_zero_groups(bytes);
     while count > 0 && bytes[count - 1] == 0 {
         count -= 1;
     }
     count
+}
+
+// The number of bytes that are left once whole groups of zeros at the end are dropped.
+fn without_zero_groups(bytes: &[u8; 512]) -> usize
+    ensures bytes { without_zeros (take result bytes.now) ≡ without_zeros bytes.now }
+    ensures within { result ≤ 512 }
+{
+    let mut count = 512;
+    while count >= 64 && are_zeros(&bytes[count - 64..count]) {
+        count -= 64;
+    }
+    count
+}
+
+// Whether these are a group of zeros.
+fn are_zeros(bytes: &[u8]) -> bool
+    ensures { result ≡ bytes_eq bytes.now (replicate 64 0) }
+{
+    bytes == ZEROS.as_slice()
 }

@@ -1,13 +1,11 @@
 -- Zeros at the end are passed over one by one.
-use Rattle.std.proofs.Common.{arith, ap}
-use Rattle.std.proofs.lemmas.List.{take_all}
-use Rattle.shr_script.specs.Reply.{without_zeros}
+use Rattle.std.proofs.Common.{arith}
 use Rattle.shr_script.specs.Trimming.{trimmed-zero, trimmed-other}
 use Rattle.shr_script.proofs.reply.significant.Goals as goal
 
 pub loop-count-init : goal.loop-count-init
 loop-count-init c =
-    record { same = ap without_zeros (take_all 512 c.args.bytes.now (omega arith)); within = omega arith }
+    record { same = c.without_zero_groups-count.ensures.bytes; within = c.without_zero_groups-count.ensures.within }
 
 pub loop-count-preserved : goal.loop-count-preserved
 loop-count-preserved c =
