@@ -39,3 +39,4 @@ pub mod Epochs
 pub mod Replayable
 pub mod RestKept
 pub mod Saying
+pub mod ReplaySays

@@ -1,6 +1,6 @@
 -- Lists of places.
 use Rattle.std.proofs.Common.{◌≡◌, ℕ, zero, suc, ◌+◌, ◌<◌, ◌≤◌, Bool, true, false, ◌==◌, ◌&&◌, ◌||◌, cond, [], ◌∷◌, ◌++◌, filter, refl, sym, ap, ◌∙◌, inl, inr, arith, add-zero, eq-eqb, eqb-true}
-use Rattle.std.proofs.lemmas.Bool.{cases_eq, cases_lt}
+use Rattle.std.proofs.lemmas.Bool.{both_ways, cases_eq, cases_lt, ne_eqb}
 use Rattle.std.proofs.lemmas.List.Elements.{filter-append}
 use Rattle.std.proofs.lemmas.Map.Views.{any-filter_same}
 use Rattle.std.specs.List.{range_with_len}
@@ -32,6 +32,16 @@ names_range a (suc n) p from below =
     or_true : (b c : Bool) → c ≡ true → (b || c) ≡ true
     or_true true c is = refl
     or_true false c is = is
+
+pub range_below : (a n p : ℕ) → names (range_with_len a n) p ≡ true → p < a + n
+range_below a zero p named = absurd (both_ways false refl named)
+range_below a (suc n) p named =
+    elim (cases_eq a p) [
+      | inl here ↦ omega (arith, here)
+      | inr other ↦
+          let later = range_below (a + 1) n p (sym (ap (λ b. b || names (range_with_len (a + 1) n) p) (ne_eqb a p other)) ∙ named) in
+          omega (arith, later)
+    ]
 
 -- a list of the places below 16 that pass a test names just these
 pub names_listed : (f : ℕ → Bool) → ((p : ℕ) → 16 ≤ p → f p ≡ false) → (p : ℕ) → names (filter f (range_with_len 0 16)) p ≡ f p

@@ -13,14 +13,14 @@ use Rattle.commit_log.specs.View.{LogView, names, in_order}
 use Rattle.commit_log.specs.Standing.{IsLogPart, IsInside, LogsStand, SomeoneDecides}
 use Rattle.commit_log.specs.Commits.{Stands, Rests}
 use Rattle.commit_log.specs.Phases.{Calls, Settles, IsLogOf, IsWanted, IsTargeted, AllLeft, IsClosing}
-use Rattle.commit_log.specs.Opening.{CanReplay, Replays, HasWork, IsShut, IsShutting, ReplayCall}
+use Rattle.commit_log.specs.Opening.{CanReplay, Replays, StandsReplaying, HasWork, IsShut, IsShutting, ReplayCall}
 use Rattle.commit_log.proofs.Calling.{calls_weaker, calls_then, calls_none}
 use Rattle.commit_log.proofs.Amid.{slice_of_log, log_of_place}
 use Rattle.commit_log.proofs.Story.{log_named, named_log, log_is_slice, payload_is, payload_look, valid_apart, each_no_other}
 use Rattle.commit_log.proofs.Since.{live_to, live_between}
 use Rattle.commit_log.proofs.Committing.{off_log, rests_by_logs, off_log_pick, on_log, has_of_place}
 use Rattle.commit_log.proofs.Restored.{restored, restored_there}
-use Rattle.commit_log.proofs.Replaying.{IsSound, can_sound, IsClosed, IsAmid, AreWritten, replays_of, rests_amid}
+use Rattle.commit_log.proofs.Replaying.{IsSound, can_sound, IsClosed, IsAmid, HavePayloads, replaying_of, replays_of, rests_amid}
 
 pub shuts_all : {a b : Seen} (l : LogView) (went now : ℕ → Bool) (on : List ℕ) (block : List ℕ) → HasWork l
     → Settles a b (IsLogOf on (length on)) (IsClosing went on block) (IsClosing went on block) went now
@@ -47,6 +47,7 @@ pub record Replayed (l : LogView) (on lost : List ℕ) (closed : List ℕ) (a t 
   pub lost_are : (p : ℕ) → names lost p ≡ w2 p
   pub ordered : lost ≡ in_order lost
   pub none_before : AllLeft w0
+  pub disks : a.disks ≡ 272
 
 -- ---- all calls as one
 
@@ -103,7 +104,7 @@ IsEnding l on closed a t w1 c = (d s : ℕ) → IsLive a a d s → MayLeave (t.h
 
 -- where gates are closed all targets were written
 ending_written : (l : LogView) (on lost : List ℕ) (closed : List ℕ) (a t b : Seen) (w0 w1 w2 : ℕ → Bool) (c : Image) → Replayed l on lost closed a t b w0 w1 w2
-    → CanReplay l a → IsEnding l on closed a t w1 c → AllLeft w1 → AreWritten a l.pending c
+    → CanReplay l a → IsEnding l on closed a t w1 c → AllLeft w1 → HavePayloads a l.pending c
 ending_written l on lost closed a t b w0 w1 w2 c done can ending all d s w is there =
     let live : IsLive a a d s = can.targets d s w is there in
     let sound : IsSound l.pending = can_sound l a can in
@@ -182,26 +183,36 @@ shut_after l on lost closed a t b w0 w1 w2 c done can picks work none p named =
 
 -- ---- the clauses
 
-stops_of : (l : LogView) (on lost : List ℕ) (closed : List ℕ) (a t b : Seen) (w0 w1 w2 : ℕ → Bool) → Replayed l on lost closed a t b w0 w1 w2
-    → a.traced → CanReplay l a → Leaves a b (λ c. IsInside a.sectors c → Replays a c)
-stops_of l on lost closed a t b w0 w1 w2 done traced can =
-    let P : Image → Type 0 = λ c. IsInside a.sectors c → Replays a c in
+amid_leaves : (l : LogView) (on lost : List ℕ) (closed : List ℕ) (a t b : Seen) (w0 w1 w2 : ℕ → Bool) → Replayed l on lost closed a t b w0 w1 w2
+    → a.traced → CanReplay l a → Leaves a b (λ c. IsInside a.sectors c → IsAmid l closed a c)
+amid_leaves l on lost closed a t b w0 w1 w2 done traced can =
+    let P : Image → Type 0 = λ c. IsInside a.sectors c → IsAmid l closed a c in
     let to_t : Stays a t = done.writes.calls.only.stays in
     leaves_then P
     (leaves_weaker _ P
     (λ c mix inside.
-    replays_of l closed a c can
-    (amid_at_targets l closed a c can inside
+    amid_at_targets l closed a c can inside
     (λ d s live. elim (mix d s (live_to d s to_t can.lasting live)) [ inl old ↦ inl old | inr new ↦ inr new.1 ]))
-    done.closed_is)
     (done.writes.calls.only.stops traced))
     (leaves_weaker _ P
     (λ c mix inside.
-    replays_of l closed a c can
-    (amid_at_end l on lost closed a t b w0 w1 w2 c done can inside
+    amid_at_end l on lost closed a t b w0 w1 w2 c done can inside
     (λ d s live. elim (mix d s (live_between d s to_t done.closes.calls.only.stays can.lasting live)) [ inl old ↦ inl old | inr new ↦ inr new.1 ]))
-    done.closed_is)
     (done.closes.calls.only.stops (to_t.traced traced)))
+
+stops_of : (l : LogView) (on lost : List ℕ) (closed : List ℕ) (a t b : Seen) (w0 w1 w2 : ℕ → Bool) → Replayed l on lost closed a t b w0 w1 w2
+    → a.traced → CanReplay l a → Leaves a b (λ c. IsInside a.sectors c → Replays a c)
+stops_of l on lost closed a t b w0 w1 w2 done traced can =
+    leaves_weaker (λ c. IsInside a.sectors c → IsAmid l closed a c) (λ c. IsInside a.sectors c → Replays a c)
+    (λ c amid inside. replays_of l closed a c can (amid inside) done.closed_is)
+    (amid_leaves l on lost closed a t b w0 w1 w2 done traced can)
+
+midway_of : (l : LogView) (on lost : List ℕ) (closed : List ℕ) (a t b : Seen) (w0 w1 w2 : ℕ → Bool) → Replayed l on lost closed a t b w0 w1 w2
+    → a.traced → CanReplay l a → Leaves a b (λ c. IsInside a.sectors c → StandsReplaying l.pending a c)
+midway_of l on lost closed a t b w0 w1 w2 done traced can =
+    leaves_weaker (λ c. IsInside a.sectors c → IsAmid l closed a c) (λ c. IsInside a.sectors c → StandsReplaying l.pending a c)
+    (λ c amid inside. replaying_of l closed a c done.disks can (amid inside) done.closed_is)
+    (amid_leaves l on lost closed a t b w0 w1 w2 done traced can)
 
 after_of : (l : LogView) (on lost : List ℕ) (closed : List ℕ) (a t b : Seen) (w0 w1 w2 : ℕ → Bool) (c : Image) → Replayed l on lost closed a t b w0 w1 w2
     → Stays a b → CanReplay l a → Stands b c → IsAmid l closed a c
@@ -255,6 +266,7 @@ replay_call l on lost closed a t b w0 w1 w2 done =
       };
       leaves = λ traced. leaves_weaker _ (λ c. Unit {0}) (λ c mix. tt) (all.only.stops traced);
       stops = λ traced can. stops_of l on lost closed a t b w0 w1 w2 done traced can;
+      midway = λ traced can. midway_of l on lost closed a t b w0 w1 w2 done traced can;
       after = λ can c stands. replays_of l closed a c can (after_of l on lost closed a t b w0 w1 w2 c done stays can stands) done.closed_is;
       rests = λ can someone c stands. rests_of l on lost closed a t b w0 w1 w2 c done stays can someone stands;
       gates = λ work none p v named live left. ap gate_of (shut work none p named live v left) ∙ done.closed_is;

@@ -17,7 +17,8 @@ use Rattle.array_image.proofs.Frames.{state_same}
 use Rattle.commit_log.specs.View.{LogView, names}
 use Rattle.commit_log.specs.Standing.{IsLogPart, IsInside, StatesStand, deciding, IsWhole, Decides, SomeoneDecides}
 use Rattle.commit_log.specs.Commits.{Stands, Rests}
-use Rattle.commit_log.specs.Opening.{StandsAmid, CanReplay, Replays, HasWork}
+use Rattle.commit_log.specs.Opening.{AreWritten, StandsAmid, StandsReplaying, CanReplay, Replays, HasWork}
+use Rattle.commit_log.proofs.Naming.{names_range, range_below}
 use Rattle.commit_log.proofs.Deciding.{IsTop, top, gate_at, gate_at_is, all_at, nothing_pending, none_of_top}
 use Rattle.commit_log.proofs.Restored.{restored, restored_there, restored_picks, restored_inside, pending_at_by, pending_by}
 use Rattle.commit_log.proofs.Undamaged.{whole_from, whole_by}
@@ -93,13 +94,13 @@ can_sound l x can =
 -- ---- in the midst
 
 -- each target has its payload, where the rack has it
-abbrev pub AreWritten : Seen → List Target → Image → Type 0
-AreWritten x xs c = (d t : ℕ) (w : List ℕ) → look xs d t ≡ Some w → t < x.sectors d → c d t ≡ w
+abbrev pub HavePayloads : Seen → List Target → Image → Type 0
+HavePayloads x xs c = (d t : ℕ) (w : List ℕ) → look xs d t ≡ Some w → t < x.sectors d → c d t ≡ w
 
 -- a gate that was closed, with all targets written
 pub record IsClosed (l : LogView) (closed : List ℕ) (a : Seen) (c : Image) (p : ℕ) : Type 0 where
   pub gate : c (log_slice p) gate_sector ≡ closed
-  pub written : AreWritten a l.pending c
+  pub written : HavePayloads a l.pending c
 
 pub record IsAmid (l : LogView) (closed : List ℕ) (a : Seen) (c : Image) : Type 0 where
   pub inside : IsInside a.sectors c
@@ -124,7 +125,7 @@ pub record IsStill (l : LogView) (c : Image) : Type 0 where
 pub record IsDone (l : LogView) (a : Seen) (c : Image) : Type 0 where
   pub none : pending_at (deciding c) c ≡ None
   pub whole : IsWhole c
-  pub written : AreWritten a l.pending c
+  pub written : HavePayloads a l.pending c
 
 -- ---- all gates that decide are as they were
 
@@ -296,6 +297,40 @@ still_or_done l closed a c can amid closed_is =
       | inr done ↦ inr done
     ]
 
+-- a place's gate is as it was
+abbrev HasOldGate : Seen → Image → ℕ → Type 0
+HasOldGate a c p = IsLive a a (log_slice p) gate_sector → MayLeave (a.held (log_slice p) gate_sector) (c (log_slice p) gate_sector)
+
+-- As they stand, all gates are as they were, or all targets are written.
+pub replaying_of : (l : LogView) (closed : List ℕ) (a : Seen) (c : Image) → a.disks ≡ 272 → CanReplay l a → IsAmid l closed a c
+    → gate_of closed ≡ Some (record { is_open = false; number = l.number })
+    → StandsReplaying l.pending a c
+replaying_of l closed a c disks can amid closed_is =
+    elim (each_or (HasOldGate a c) (HavePayloads a l.pending c) (range_with_len 0 16) (λ p among. gate p (range_below 0 16 p among))) [
+      | inr done ↦ inr (record { all = done; halves = λ p t more live. amid.parts p t (omega (arith, more)) (λ same. absurd (omega (arith, more, same))) live; pends = pends })
+      | inl olds ↦
+          inl (record {
+            states = amid_states l closed a c amid;
+            parts = λ p t some live. elim (cases_eq t gate_sector) [
+              | inr other ↦ amid.parts p t some other live
+              | inl is ↦
+                  subst (λ k. MayLeave (a.held (log_slice p) k) (c (log_slice p) k)) (sym is)
+                  (olds p (names_range 0 16 p (omega arith) (let disk = live.disk in omega (arith, disk, disks)))
+                  (subst (λ k. IsLive a a (log_slice p) k) is live))
+            ];
+            inside = amid.inside;
+          })
+    ]
+  where
+    gate : (p : ℕ) → p < 16 → HasOldGate a c p ⊎ HavePayloads a l.pending c
+    gate p few = elim (cases_lt gate_sector (a.sectors (log_slice p))) [
+      | inr none ↦ inl (λ live. absurd (omega (arith, live.sector, none)))
+      | inl there ↦ elim (amid.gates p (can.logs p gate_sector few there)) [ inl old ↦ inl (λ live. old) | inr shut ↦ inr shut.written ]
+    ]
+
+    pends : (pending (deciding c) c ≡ l.pending) ⊎ (pending (deciding c) c ≡ [])
+    pends = elim (still_or_done l closed a c can amid closed_is) [ inl still ↦ inl still.same | inr done ↦ inr (nothing_pending c (deciding c) done.none) ]
+
 -- ---- contents from before
 
 -- the gates, and the targets that the rack has
@@ -348,7 +383,7 @@ put_where sectors xs c e d t same = by (nat_lt t (sectors d)) (look xs d t) same
     by true (Some w) same = refl
 
 -- where they are written, putting them changes nothing
-put_done : (x : Seen) (xs : List Target) (c : Image) (d t : ℕ) → ((w : List ℕ) → look xs d t ≡ Some w → t < x.sectors d → c d t ≡ w) → put x.sectors xs c d t ≡ c d t
+pub put_done : (x : Seen) (xs : List Target) (c : Image) (d t : ℕ) → ((w : List ℕ) → look xs d t ≡ Some w → t < x.sectors d → c d t ≡ w) → put x.sectors xs c d t ≡ c d t
 put_done x xs c d t done =
     elim (cases_lt t (x.sectors d)) [
       | inr past ↦ ap (λ b. if b then unwrap_or (look xs d t) (c d t) else c d t) (le-ltb t (x.sectors d) past)

@@ -36,7 +36,7 @@ states_of : {x : Seen} (xs : List Target) (c : Image) → LogsStand x c → Stat
 states_of xs c stand = record { picks = λ p live. inl (stand.picks p 0 live); inside = λ p none. stand.inside p 0 (omega (arith, none)) }
 
 -- no target is for nothing
-no_look : (d t : ℕ) (u : List ℕ) → look [] d t ≡ Some u → ⊥
+pub no_look : (d t : ℕ) (u : List ℕ) → look [] d t ≡ Some u → ⊥
 unfolding look
 no_look d t u is = none-some u is
 

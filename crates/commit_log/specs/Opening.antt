@@ -47,6 +47,16 @@ pub record StandsAmid (xs : List Target) (x : Seen) (c : Image) : Type 0 where
   pub parts : (p t : ℕ) → 0 < t → IsLive x x (log_slice p) t → MayLeave (x.held (log_slice p) t) (c (log_slice p) t)
   pub inside : IsInside x.sectors c
 
+-- all targets are written that the rack has, halves of logs are as before, and the record is pending yet, or nothing is
+pub record AreWritten (xs : List Target) (x : Seen) (c : Image) : Type 0 where
+  pub all : (d t : ℕ) (w : List ℕ) → look xs d t ≡ Some w → t < x.sectors d → c d t ≡ w
+  pub halves : (p t : ℕ) → gate_sector < t → IsLive x x (log_slice p) t → MayLeave (x.held (log_slice p) t) (c (log_slice p) t)
+  pub pends : (pending (deciding c) c ≡ xs) ⊎ (pending (deciding c) c ≡ [])
+
+-- Contents as they stand when a stop comes in a replay: as a stop leaves them while targets are written, or with all of them written.
+abbrev pub StandsReplaying : List Target → Seen → Image → Type 0
+StandsReplaying xs x c = StandsAmid xs x c ⊎ AreWritten xs x c
+
 -- What the clauses on stops need of the slices before a replay: whatever copies of the state a stop in it leaves, the log's
 -- pending record is the one that these contents have, none where it has none, it is well formed as all gates are that decide, and
 -- none of these has a greater number.
@@ -91,6 +101,8 @@ pub record ReplayCall (l : LogView) (on lost : List ℕ) (a b : Seen) : Type 0 w
   -- replayed, contents are what they were, at each moment and at the return: so doing it again gives the same
   pub stops : a.traced → CanReplay l a → Leaves a b (λ c. IsInside a.sectors c → Replays a c)
   pub after : CanReplay l a → (c : Image) → Stands b c → Replays a c
+  -- what the log slices say meanwhile, as they stand
+  pub midway : a.traced → CanReplay l a → Leaves a b (λ c. IsInside a.sectors c → StandsReplaying l.pending a c)
   -- where nobody went nothing is pending any more, and contents are as they are replayed
   pub rests : CanReplay l a → SomeoneDecides l.pending on lost a → (c : Image) → LogsStand b c → Rests l.number l.pending lost c
   -- and each gate of `on` is closed with the log's number, durably

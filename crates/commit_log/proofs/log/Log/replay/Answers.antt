@@ -34,6 +34,7 @@ returns-clause-replays g c =
       lost_are = λ p. ap (λ (xs : List ℕ). names xs p) listed ∙ names_listed w2 c.list.ensures.beyond p;
       ordered = listed ∙ listed_in_order w2 c.list.ensures.beyond ∙ ap in_order (sym listed);
       none_before = c.none-lost.ensures;
+      disks = c.requires.disks;
     } in
     subst (λ (xs : List ℕ). ReplayCall l xs c.list.result.items a b) items
     (replay_call l on c.list.result.items c.encode.result a t b w0 w1 w2 done)
