@@ -84,7 +84,7 @@ stands_agree disks c e s agree stands =
     (newest_same disks (identities_of disks e) (identities_of disks c) (agree_identities disks e c agree) ∙ by.1 ∙ ap Some (sym same))
 
 -- a target lands where it does
-landed_agree : (disks : Disks) (i j : Identities) (s : State) → ((d : ℕ) → d < disks.count → i d ≡ j d)
+pub landed_agree : (disks : Disks) (i j : Identities) (s : State) → ((d : ℕ) → d < disks.count → i d ≡ j d)
     → landed disks i (seat_of s disks i) ≡ landed disks j (seat_of s disks j)
 landed_agree disks i j s same = λ k z. each z k
   where

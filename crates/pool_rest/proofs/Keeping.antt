@@ -1,10 +1,13 @@
 -- Replayed contents stay over the reads round a replay too, and over all of bringing a pool to rest.
-use Rattle.std.proofs.Common.{◌≡◌, ◌≢◌, ℕ, ◌+◌, ◌<◌, ◌≤◌, ◌^◌, Bool, true, false, nat_le, if◌then◌else◌, List, [], Option, Some, None, inl, inr, refl, sym, ap, subst, ◌∙◌, arith}
+use Rattle.std.proofs.Common.{◌≡◌, ◌≢◌, ◌⊎◌, ℕ, ◌+◌, ◌<◌, ◌≤◌, ◌^◌, Bool, true, false, nat_le, if◌then◌else◌, List, [], Option, Some, None, inl, inr, refl, sym, ap, subst, ◌∙◌, arith}
 use Rattle.std.proofs.lemmas.Bool.{cases_lt}
 use Rattle.rack.specs.Values.{MayLeave}
+use Rattle.std.specs.List.{list_all}
 use Rattle.rack.specs.Seen.{Image, Seen, IsLive, IsPick, Stays}
 use Rattle.rack.specs.Joins.{leaves_then, leaves_weaker, rose_early, stays_then}
+use Rattle.rack.specs.Moments.{Leaves}
 use Rattle.rack.specs.Sequences.{OnlyReads}
+use Rattle.rack.specs.Targets.{Target}
 use Rattle.gpt_table.specs.declared.Table.{Table}
 use Rattle.gpt_table.specs.Changes.{the_table}
 use Rattle.slice_rack.specs.Slices.{Slices, IsOrderly, disk_of, first_of, seat_of, sectors_of}
@@ -15,8 +18,10 @@ use Rattle.pool_state.specs.declared.contents.State.{State}
 use Rattle.array_image.specs.Arrays.{replayed}
 use Rattle.array_image.specs.Left.{reading}
 use Rattle.array_image.specs.Places.{arrays_first, log_sectors, log_slice, place_of, slice_of, state_sector}
+use Rattle.array_image.specs.Record.{is_target}
 use Rattle.array_image.specs.States.{state_in}
 use Rattle.array_image.proofs.Frames.{state_same}
+use Rattle.pool_image.specs.Alike.{Agree}
 use Rattle.pool_image.specs.Disks.{Disks, disks_of, identities_of}
 use Rattle.pool_image.specs.Disks as disks
 use Rattle.pool_image.specs.Replay.{extent_by, standing_by}
@@ -29,12 +34,15 @@ use Rattle.pool_scan.specs.Scanning.{AllTold, IsScan, IsUnfaulted, now_in}
 use Rattle.pool_scan.proofs.Meant.{scan_meant}
 use Rattle.pool_scan.proofs.Seated.{seat_by_is}
 use Rattle.pool_rest.specs.Members.{Lies}
-use Rattle.pool_rest.specs.Moments.{AreOfDrives, BringsNoState, BringsState, GivesNow, KeepsReplayed, TakesLower}
+use Rattle.pool_rest.specs.Moments.{AreOfDrives, BringsNoState, BringsState, GivesNow, KeepsReplayed, StandsMidway, StandsReplaying, TakesLower}
 use Rattle.pool_rest.specs.Resting.{AreSingle, Rests, seated_state}
 use Rattle.pool_rest.specs.SoundLogs.{HasSoundLogs}
 use Rattle.pool_rest.specs.Standing.{FindsAll, HasLooked, IsLaid, IsLasting, StandsAs}
 use Rattle.pool_rest.proofs.Again.{laid_later}
 use Rattle.pool_rest.proofs.Agreeing.{disks_same, lasting_later, reads_agree, told_later}
+use Rattle.pool_rest.proofs.Meanwhile.{Meanwhile, reads_stop, replaying_moves}
+use Rattle.pool_rest.proofs.Midway.{still_stands}
+use Rattle.pool_rest.proofs.SameMeaning.{are_later, targets_valid}
 use Rattle.pool_rest.proofs.Sliced.{sliced_inside, sliced_outside}
 use Rattle.pool_rest.proofs.Quiet.{brings_state, lower_still, seats_now, sector_still, state_still, tables_now, whole_before}
 use Rattle.pool_rest.proofs.Stood.{found_still, same_reading}
@@ -243,6 +251,52 @@ module _ (a x b : Seen) (known : List Known) (st : State) (m : LogView) (is_pend
         lower))
         (subst (λ (z : State). AreOfDrives x (seat_by z known) u) here drives)
         (ap state_in (shown_later a x reads told lasts u drives.orderly drives.inside) ∙ is))
+
+    -- What stands on the disks meanwhile, and in the end.
+    pub rest_stands : TakesLower a
+        → (AreOf (disks_of x) (identities_of (disks_of x) (now_in x)) known → list_all is_target m.pending ≡ true → Meanwhile x b known st (seated_state m.pending st) m
+        (λ i. StandsReplaying (disks_of x) st (seated_state m.pending st) m.pending (now_in x) i ⊎ Agree (disks_of x) i (now_in b)))
+        → (u : Slices) → AreOfDrives b (seat_by s again) u → state_in (sliced u (now_in a)) ≡ Some st
+        → a.traced → Leaves a b (λ i. StandsMidway (disks_of a) (now_in a) i ⊎ Agree (disks_of a) i (now_in b))
+    rest_stands lower meanwhile u of is traced =
+        let P : Image → Type 0 = λ i. StandsMidway (disks_of a) (now_in a) i ⊎ Agree (disks_of a) i (now_in b) in
+        let Q : Image → Type 0 = λ i. StandsReplaying (disks_of x) st (seated_state m.pending st) m.pending (now_in x) i ⊎ Agree (disks_of x) i (now_in b) in
+        let here : brought ≡ seated_state m.pending st = ap (λ xs. seated_state xs st) (sym (stands.targets lasts)) in
+        let drives = drives_before u of in
+        let same : disks_of x ≡ disks_of a = disks_same a x reads.stays in
+        let agree : Agree (disks_of a) (now_in x) (now_in a) = reads_agree a x reads told lasts in
+        let moves : (i : Image) → StandsReplaying (disks_of x) st (seated_state m.pending st) m.pending (now_in x) i → StandsMidway (disks_of a) (now_in a) i = λ i stop.
+        record {
+          before = standing_by (disks_of a) (now_in a) st;
+          stands = stands.stands;
+          is =
+              subst (λ (xs : List Target). StandsReplaying (disks_of a) st (seated_state xs st) xs (now_in a) i) (stands.targets lasts)
+              (replaying_moves (disks_of a) st (seated_state m.pending st) m.pending (now_in x) (now_in a) i agree
+              (subst (λ (dk : Disks). StandsReplaying dk st (seated_state m.pending st) m.pending (now_in x) i) same stop));
+        } in
+        leaves_then P
+        (leaves_weaker (IsPick a x a.held) P
+        (λ i pick. inl (record {
+          before = standing_by (disks_of a) (now_in a) st;
+          stands = stands.stands;
+          is =
+              still_stands (disks_of a) st brought (standing_by (disks_of a) (now_in a) st).targets (now_in a) i
+              (λ d j there within. reads_stop a x reads told lasts single i pick d j there within ∙ agree d j there within);
+        }))
+        (reads.keeps.stops traced))
+        (leaves_weaker Q P
+        (λ i stop. elim stop [
+          | inl midway ↦ inl (moves i midway)
+          | inr end ↦ inr (subst (λ (dk : Disks). Agree dk i (now_in b)) same end)
+        ])
+        (meanwhile (are_later a x known reads told lasts are) (targets_valid a st m.pending (stands.targets lasts))
+        t u on is_pending laid_now finds_now
+        (subst (λ (z : State). BringsState x known st z m on (reading (slices_of t x))) here
+        (brings_state a x b known st m is_pending damaged t reads stays scan some told lasts free stands rests sound on laid_now
+        (λ k j few. ap (λ (c : Image). c k j) (same_reading t a x orderly fit.1 told lasts reads) ∙ stands.logs k j few)
+        lower))
+        (subst (λ (z : State). AreOfDrives x (seat_by z known) u) here drives)
+        (ap state_in (shown_later a x reads told lasts u drives.orderly drives.inside) ∙ is) (reads.stays.traced traced)))
 
     -- a log slice of a drive begins with the state's sector
     state_at : (u : Slices) → AreOfDrives b (seat_by s again) u → (p : ℕ) → 0 < sectors_of u (log_slice p) → first_of u (log_slice p) + 0 ≡ state_sector

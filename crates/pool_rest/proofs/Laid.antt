@@ -247,7 +247,7 @@ laid_shows x a known s t on same laid c k u few =
         ∙ sym (logs_are first (Some d) seat)
 
 -- a place with a log slice is current, and its log slice is whole
-has_log : (x : Seen) (known : List Known) (s : State) (t : Slices) (on : List ℕ) (p : ℕ) → IsLaidBelow x known s 16 t on → 0 < sectors_of t (log_slice p)
+pub has_log : (x : Seen) (known : List Known) (s : State) (t : Slices) (on : List ℕ) (p : ℕ) → IsLaidBelow x known s 16 t on → 0 < sectors_of t (log_slice p)
     → (p < 16) × (is_current s p ≡ true) × (sectors_of t (log_slice p) ≡ log_sectors)
 has_log x known s t on p laid some =
     elim (cases_lt p 16) [

@@ -4,6 +4,7 @@ mod GonePlaces
 mod Fronts
 pub mod Landings
 pub mod BroughtCopies
+pub mod LaterCopies
 pub mod Extents
 mod Cut
 mod CutDrives
@@ -27,4 +28,9 @@ mod Laid
 mod Stood
 pub mod Meant
 mod Moments
+pub mod Midway
+mod Meanwhile
+pub mod SameLogs
+pub mod MidwayDisks
+pub mod MidwayPool
 pub mod Unwritten

@@ -15,7 +15,7 @@ use Rattle.array_image.specs.Foremost.{foremost}
 use Rattle.array_image.specs.Places.{log_slice, state_sector}
 use Rattle.array_image.specs.States.{epoch_of, is_current, current_places}
 use Rattle.array_image.specs.Left.{reading}
-use Rattle.pool_image.specs.Disks.{disks_of, newest, identities_of, seat_of}
+use Rattle.pool_image.specs.Disks.{Disks, disks_of, newest, identities_of, seat_of}
 use Rattle.pool_image.specs.Replay.{logs_of, standing, standing_by}
 use Rattle.pool_image.specs.Meaning.{no_pool, two_pools, has_other_pool, refused_by, refused_at, refusal_of}
 use Rattle.pool_image.specs.Drives.{found}
@@ -60,23 +60,26 @@ cause_meant a b TwoPools cause told free =
 cause_meant a b Memory cause told free = tt
 
 -- a state has at most 16 drives
-pub few_newest : (a : Seen) (s : State) → newest (disks_of a) (identities_of (disks_of a) (now_in a)) ≡ Some s → length s.drives.items ≤ 16
-few_newest a s is = of_front (foremost epoch_of (map (λ d. (identities_of (disks_of a) (now_in a) d).copied) (range_with_len 0 a.disks))) refl is
+pub few_stood : (disks : Disks) (c : Image) (s : State) → newest disks (identities_of disks c) ≡ Some s → length s.drives.items ≤ 16
+few_stood disks c s is = of_front (foremost epoch_of (map (λ d. (identities_of disks c d).copied) (range_with_len 0 disks.count))) refl is
   where
     some_state : (x y : State) → Some x ≡ Some y → x ≡ y
     some_state x y same = (cc)
 
-    of_disk : (d : ℕ) (copy : Copied) (b : Bool) → (if b then result_ok (decoded (now_in a d state_sector)) else None) ≡ Some copy → length copy.state.drives.items ≤ 16
-    of_disk d copy true has = few_drives (now_in a d state_sector) copy has
+    of_disk : (d : ℕ) (copy : Copied) (b : Bool) → (if b then result_ok (decoded (c d state_sector)) else None) ≡ Some copy → length copy.state.drives.items ≤ 16
+    of_disk d copy true has = few_drives (c d state_sector) copy has
     of_disk d copy false has = absurd (none-some copy has)
 
-    of_front : (o : Option Copied) → foremost epoch_of (map (λ d. (identities_of (disks_of a) (now_in a) d).copied) (range_with_len 0 a.disks)) ≡ o
+    of_front : (o : Option Copied) → foremost epoch_of (map (λ d. (identities_of disks c d).copied) (range_with_len 0 disks.count)) ≡ o
         → option_map (λ copy. copy.state) o ≡ Some s → length s.drives.items ≤ 16
     of_front None front same = absurd (none-some s same)
     of_front (Some copy) front same =
-        let at = foremost_from epoch_of (λ d. (identities_of (disks_of a) (now_in a) d).copied) 0 a.disks copy front in
+        let at = foremost_from epoch_of (λ d. (identities_of disks c d).copied) 0 disks.count copy front in
         subst (λ (u : State). length u.drives.items ≤ 16) (some_state copy.state s same)
-        (of_disk at.0 copy (nat_lt state_sector (a.sectors at.0)) at.2)
+        (of_disk at.0 copy (nat_lt state_sector (disks.sectors at.0)) at.2)
+
+pub few_newest : (a : Seen) (s : State) → newest (disks_of a) (identities_of (disks_of a) (now_in a)) ≡ Some s → length s.drives.items ≤ 16
+few_newest a s is = few_stood (disks_of a) (now_in a) s is
 
 -- ---- the places that were asked are the current ones
 

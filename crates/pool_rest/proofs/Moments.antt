@@ -80,7 +80,7 @@ module _ {x w y : Seen} {known : List Known} {s : State} {t v : Slices} {on unre
         record { sectors = there ∙ sym here; first = λ more. absurd (omega (arith, more, here)); disk = λ more. absurd (omega (arith, more, here)) }
   ]
 
-  same_logs : (i : Image) → SameLogs (sliced u i) (sliced v i)
+  pub same_logs : (i : Image) → SameLogs (sliced u i) (sliced v i)
   same_logs i p j = same_sliced u v i (log_slice p) j (logs_same p)
 
   few_of : (k j : ℕ) → j < sectors_of u k → k < 272
@@ -101,7 +101,7 @@ module _ {x w y : Seen} {known : List Known} {s : State} {t v : Slices} {on unre
   unspent_w : (d j : ℕ) → w.spent d j ≡ false
   unspent_w d j = parts.reads.stays.lasts lasts.lasting d j (lasts.unspent d j)
 
-  live_w : (k j : ℕ) → j < sectors_of v k → IsLive (slices_of v w) (slices_of v w) k j
+  pub live_w : (k j : ℕ) → j < sectors_of v k → IsLive (slices_of v w) (slices_of v w) k j
   live_w k j low = record {
     disk = elim (cases_lt k 272) [ inl few ↦ few | inr past ↦ (let none = past_none parts k past in absurd (omega (arith, low, none))) ];
     sector = low;
@@ -118,7 +118,7 @@ module _ {x w y : Seen} {known : List Known} {s : State} {t v : Slices} {on unre
   }
 
   -- each sector has one value, which no read has changed
-  one_value : (d j : ℕ) (b : List ℕ) → d < w.disks → j < w.sectors d → MayLeave (w.held d j) b → b ≡ (x.held d j).current
+  pub one_value : (d j : ℕ) (b : List ℕ) → d < w.disks → j < w.sectors d → MayLeave (w.held d j) b → b ≡ (x.held d j).current
   one_value d j b disk sector may =
       single d j (subst (λ n. d < n) parts.reads.stays.disks disk) (subst (λ n. j < n) (parts.reads.stays.sectors d) sector) b
       ((parts.reads.keeps.held d j (live_x d j disk sector)).within b may)
@@ -148,7 +148,7 @@ module _ {x w y : Seen} {known : List Known} {s : State} {t v : Slices} {on unre
 
   module _ (can : CanReplay l (slices_of v w)) where
     -- what replaying gives
-    abbrev given : Image
+    abbrev pub given : Image
     given = put (sectors_of v) l.pending held
 
     before_gives : (c : Image) → Stands (slices_of v w) c → (k j : ℕ) → j < sectors_of v k → replayed (sectors_of v) c k j ≡ given k j
@@ -156,7 +156,7 @@ module _ {x w y : Seen} {known : List Known} {s : State} {t v : Slices} {on unre
         replayed_as (slices_of v w) c l.pending k j (can.same c (stands_amid l.pending (slices_of v w) c stands))
         ∙ ap (λ b. if nat_lt j (sectors_of v k) then unwrap_or (look l.pending k j) b else b) (stands_held c stands k j low)
 
-    amid_gives : (c : Image) → Replays (slices_of v w) c → (k j : ℕ) → (IsLogPart k j → ⊥) → j < sectors_of v k → replayed (sectors_of v) c k j ≡ given k j
+    pub amid_gives : (c : Image) → Replays (slices_of v w) c → (k j : ℕ) → (IsLogPart k j → ⊥) → j < sectors_of v k → replayed (sectors_of v) c k j ≡ given k j
     amid_gives c replays k j part low = replays.same k j part ∙ before_gives replays.before replays.stands k j low
 
     -- what a stop leaves after it
@@ -354,9 +354,13 @@ module _ {x w y : Seen} {known : List Known} {s : State} {t v : Slices} {on unre
         by true room is = (leb-true arrays_first (x.sectors (disk_of v (log_slice p))) room, is ∙ ap (λ b. if b then log_sectors else 0) room)
         by false short is = absurd (let none = is ∙ ap (λ b. if b then log_sectors else 0) short in omega (arith, some, none))
 
-    pub brought_keeps : KeepsReplayed x y u
-    brought_keeps =
-        replay_keeps (joining_can_replay l both s0 s (slices_of v w) is_pending brings.at
+    pub source_there : 0 < sectors_of v (log_slice brings.at.place)
+    source_there = (was brings.at.place at_kept).1
+
+    -- so it may be replayed, whichever state stands meanwhile
+    pub brought_can : CanReplay l (slices_of v w)
+    brought_can =
+        joining_can_replay l both s0 s (slices_of v w) is_pending brings.at
         (parts.reads.stays.lasting lasts.lasting) (λ k j low. live_w k j low)
         (λ p j low b may.
         let disk = disk_below v w (log_slice p) j parts.orderly parts.inside low in
@@ -372,4 +376,7 @@ module _ {x w y : Seen} {known : List Known} {s : State} {t v : Slices} {on unre
         gate_joins
         (finds_fewer l on0 both (reading (slices_of t0 x)) (reading (slices_of v w)) is_pending brings.at few_named fewer agree brings.source at_kept finds)
         (at_fewer l on0 both (reading (slices_of t0 x)) (reading (slices_of v w)) is_pending brings.at few_named fewer agree brings.source at_kept finds)
-        at_kept brings.next brings.copies)
+        at_kept brings.next brings.copies
+
+    pub brought_keeps : KeepsReplayed x y u
+    brought_keeps = replay_keeps brought_can

@@ -96,7 +96,7 @@ none_at ps c whole none = of_pending (pending_at ps c) refl
         absurd (record_some a.gate.number (c (log_slice a.place)) (has.1 ∙ ap Some empty))
 
 -- where a target is, a record is
-some_at : (ps : List ℕ) (c : Image) → (pending ps c ≡ [] → ⊥) → (a : GateAt) × (pending_at ps c ≡ Some a)
+pub some_at : (ps : List ℕ) (c : Image) → (pending ps c ≡ [] → ⊥) → (a : GateAt) × (pending_at ps c ≡ Some a)
 some_at ps c some = of_pending (pending_at ps c) refl
   where
     of_pending : (o : Option GateAt) → pending_at ps c ≡ o → (a : GateAt) × (pending_at ps c ≡ Some a)
@@ -246,6 +246,11 @@ module _ (a x b : Seen) (known : List Known) (st : State) (m : LogView) (is_pend
           (sym (ap (λ ps. names ps source.0.place) (current_of_all st few_before)) ∙ (pending_named (current_places st) before.logs source.0 source.1).0)).0
       | inr later ↦ later.source source.0 source.1
     ];
+    copy = elim log.next [
+      | inl same ↦ inl same
+      | inr later ↦
+          let copy = later.copy source.0 source.1 in inr (copy.0, ap (λ xs. look xs (log_slice source.0.place) 0) targets ∙ copy.1)
+    ];
     joins = λ p d not seat room.
         let at : seat_of brought disks (identities_of disks c) p ≡ Some d = sym (seat_by_is disks (identities_of disks c) known are brought p) ∙ seat in
         let there : arrays_first ≤ a.sectors d = subst (λ n. arrays_first ≤ n) (reads.stays.sectors d) room in
@@ -327,7 +332,7 @@ module _ (a x b : Seen) (known : List Known) (st : State) (m : LogView) (is_pend
 
 -- ---- nothing was to be replayed
 
-none_brought : (s : State) → s ≡ seated_state [] s
+pub none_brought : (s : State) → s ≡ seated_state [] s
 unfolding foremost
 none_brought s = refl
 

@@ -37,7 +37,7 @@ and_false : (b : Bool) → (b && false) ≡ false
 and_false true = refl
 and_false false = refl
 
-bad_log_none : (s : State) (logs : Image) → damaged_log (current_places s) logs ≡ None → length s.drives.items ≤ 16
+pub bad_log_none : (s : State) (logs : Image) → damaged_log (current_places s) logs ≡ None → length s.drives.items ≤ 16
     → ((p : ℕ) → is_current s p ≡ false → logs (log_slice p) gate_sector ≡ [])
     → (p : ℕ) → is_bad_log (current_places s) logs p ≡ false
 bad_log_none s logs whole few nothing p = ap₂ (λ a b. a || b) gate (of_pending (pending_at (current_places s) logs) refl)
@@ -57,7 +57,7 @@ bad_log_none s logs whole few nothing p = ap₂ (λ a b. a || b) gate (of_pendin
     of_pending None is = refl
     of_pending (Some a) is = ap (λ (o : Option (List Target)). (a.place == p) && is_none o) (whole_record logs (current_places s) whole a is).1 ∙ and_false (a.place == p)
 
-seat_none : (disks : Disks) (s : State) (i : Identities) (p : ℕ) → is_current s p ≡ false → seat_of s disks i p ≡ None
+pub seat_none : (disks : Disks) (s : State) (i : Identities) (p : ℕ) → is_current s p ≡ false → seat_of s disks i p ≡ None
 unfolding seat_of
 seat_none disks s i p out =
     ap (λ (b : Bool). if b then option_map (λ k. k.disk) (foremost (λ k. k.epoch) (map (candidate s i p) (all_disks disks))) else None) out
@@ -74,11 +74,11 @@ log_read disks s i c p =
     ∙ ap (λ q. log_gate disks c (seat_of s disks i q)) of_place
 
 -- a place that isn't current has none
-no_log : (disks : Disks) (s : State) (i : Identities) (c : Image) (p : ℕ) → is_current s p ≡ false → logs_of disks (seat_of s disks i) c (log_slice p) gate_sector ≡ []
+pub no_log : (disks : Disks) (s : State) (i : Identities) (c : Image) (p : ℕ) → is_current s p ≡ false → logs_of disks (seat_of s disks i) c (log_slice p) gate_sector ≡ []
 no_log disks s i c p out = log_read disks s i c p ∙ ap (log_gate disks c) (seat_none disks s i p out)
 
 -- a seated place's gate is read from its disk
-seat_gate : (disks : Disks) (s : State) (i : Identities) (c : Image) (p d : ℕ) → seat_of s disks i p ≡ Some d → arrays_first ≤ disks.sectors d
+pub seat_gate : (disks : Disks) (s : State) (i : Identities) (c : Image) (p d : ℕ) → seat_of s disks i p ≡ Some d → arrays_first ≤ disks.sectors d
     → logs_of disks (seat_of s disks i) c (log_slice p) gate_sector ≡ c d drive_gate
 seat_gate disks s i c p d seat room =
     log_read disks s i c p ∙ ap (log_gate disks c) seat

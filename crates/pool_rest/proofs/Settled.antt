@@ -47,7 +47,8 @@ use Rattle.commit_log.proofs.Undamaged.{whole_from}
 use Rattle.commit_log.proofs.Replaying.{pending_sound}
 use Rattle.pool_rest.specs.Resting.{replayed_on}
 use Rattle.pool_rest.specs.SoundLogs.{IsSoundLog}
-use Rattle.pool_rest.proofs.BroughtCopies.{newest_latest, seats_still, newest_still, newest_later}
+use Rattle.pool_rest.proofs.BroughtCopies.{seats_still, newest_still, newest_later}
+use Rattle.pool_rest.proofs.LaterCopies.{newest_latest}
 use Rattle.pool_rest.proofs.SameMeaning.{log_read, log_gate}
 
 -- ---- gates that decide

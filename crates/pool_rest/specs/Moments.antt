@@ -1,20 +1,21 @@
--- What a stop inside a replay leaves, by slices of the drives.
-use Rattle.std.specs.Prelude.{◌≡◌, ◌⊎◌, ℕ, ◌<◌, ◌≤◌, true, false, List, [], Option, Some, None, Ok}
+-- What a stop inside a replay leaves, as it stands on the disks, and by slices of the drives once it is replayed.
+use Rattle.std.specs.Prelude.{◌≡◌, ◌≢◌, ◌⊎◌, ℕ, ◌<◌, ◌≤◌, true, false, List, [], Option, Some, None, Ok}
+use Rattle.std.specs.List.{filter_map}
 use Rattle.rack.specs.Seen.{Image, Seen, IsPick}
 use Rattle.rack.specs.Moments.{Leaves}
-use Rattle.rack.specs.Targets.{look}
+use Rattle.rack.specs.Targets.{Target, look}
 use Rattle.gpt_table.specs.Changes.{the_table}
 use Rattle.slice_rack.specs.Slices.{IsOrderly, Slices, seat_of, sectors_of}
 use Rattle.slice_rack.specs.Sliced.{IsInside, sliced}
 use Rattle.pool_state.specs.declared.contents.State.{State}
 use Rattle.pool_state.specs.Sector.{decoded}
 use Rattle.array_image.specs.Arrays.{replayed}
-use Rattle.array_image.specs.Record.{Gate, GateAt, gate_of, pending_at}
+use Rattle.array_image.specs.Record.{Gate, GateAt, damaged_log, gate_of, pending, pending_at}
 use Rattle.array_image.specs.States.{current_places, is_current}
-use Rattle.array_image.specs.Places.{arrays_first, log_slice, place_of, slice_of}
+use Rattle.array_image.specs.Places.{arrays_first, log_slice, place_of, slice_of, state_sector}
 use Rattle.pool_image.specs.Alike.{drive_gate}
-use Rattle.pool_image.specs.Disks.{Disks, disks_of, seat_of as drive_of}
-use Rattle.pool_image.specs.Replay.{Standing, extent_by, standing}
+use Rattle.pool_image.specs.Disks.{Disks, disks_of, identities_of, seat_of as drive_of}
+use Rattle.pool_image.specs.Replay.{Standing, extent_by, landed, logs_of, standing}
 use Rattle.commit_log.specs.Standing.{IsAlike}
 use Rattle.commit_log.specs.View.{LogView, left_of}
 use Rattle.pool_scan.specs.declared.Known.{Known}
@@ -44,7 +45,8 @@ abbrev pub TakesLower : Seen → Type 0
 TakesLower x = TakesLowerIn (disks_of x) (now_in x)
 
 -- The record that a log found on these places brings the state s where s0 stands, or none. Its copies are of s. The places that are
--- current by both keep their disks, that which the record is read from too; the others of s have gates of lower numbers.
+-- current by both keep their disks, that which the record is read from too, for which it has a copy where s is a later state; the others of s have gates
+-- of lower numbers.
 pub record BringsState (x : Seen) (known : List Known) (s0 s : State) (l : LogView) (on : List ℕ) (c : Image) : Type 0 where
   pub seats : (p : ℕ) → is_current s0 p ≡ true → is_current s p ≡ true → seat_by s known p ≡ seat_by s0 known p
   pub copies : (p : ℕ) (u : List ℕ) → look l.pending (log_slice p) 0 ≡ Some u → decoded u ≡ Ok (record { state = s; own = p })
@@ -52,6 +54,7 @@ pub record BringsState (x : Seen) (known : List Known) (s0 s : State) (l : LogVi
   pub at : GateAt
   pub source : pending_at (left_of on []) c ≡ Some at
   pub left : is_current s at.place ≡ true
+  pub copy : (s ≡ s0) ⊎ ((u : List ℕ) × (look l.pending (log_slice at.place) 0 ≡ Some u))
   pub joins :
       (p d : ℕ) → is_current s0 p ≡ false → seat_by s known p ≡ Some d → arrays_first ≤ x.sectors d
       → IsGateBelow at.gate.number (now_in x d drive_gate)
@@ -65,6 +68,57 @@ pub record AreOfDrives (x : Seen) (seats : ℕ → Option ℕ) (t : Slices) : Ty
   pub lies :
       (k d : ℕ) → k < 272 → seat_of t (place_of k) ≡ Some d → (slice_of k ≡ 0) ⊎ (0 < sectors_of t k)
       → Lies t k (extent_by (x.sectors d) (the_table (x.sectors d) (now_in x d)) (slice_of k))
+
+-- where a record's targets land on the drives of the state that it is for, by what contents of disks say
+abbrev pub landed_on : Disks → State → List Target → Image → List Target
+landed_on disks s xs c = filter_map (landed disks (identities_of disks c) (drive_of s disks (identities_of disks c))) xs
+
+-- all of these targets are written
+abbrev pub AreAllWritten : Disks → List Target → Image → Type 0
+AreAllWritten disks xs i = (d t : ℕ) (w : List ℕ) → d < disks.count → t < disks.sectors d → look xs d t ≡ Some w → i d t ≡ w
+
+-- gates of logs are as they were
+abbrev pub AreGatesKept : Disks → Image → Image → Type 0
+AreGatesKept disks c i = (d : ℕ) → d < disks.count → drive_gate < disks.sectors d → i d drive_gate ≡ c d drive_gate
+
+-- so are the copies of the state
+abbrev pub AreStatesKept : Disks → Image → Image → Type 0
+AreStatesKept disks c i = (d : ℕ) → d < disks.count → state_sector < disks.sectors d → i d state_sector ≡ c d state_sector
+
+-- one of the targets that are a copy of the state is written
+pub record IsCopyWritten (disks : Disks) (xs : List Target) (i : Image) : Type 0 where
+  pub disk : ℕ
+  pub there : disk < disks.count
+  pub room : state_sector < disks.sectors disk
+  pub copy : look xs disk state_sector ≡ Some (i disk state_sector)
+
+-- Contents i where the state s stands already that the targets are for: it stood before, or one drive has got its copy. On its drives the record is pending
+-- yet, or all of it is written and nothing is pending, and no log is damaged.
+pub record StandsBrought (disks : Disks) (s0 s : State) (xs : List Target) (c i : Image) : Type 0 where
+  pub copied : (s ≡ s0) ⊎ IsCopyWritten disks (landed_on disks s xs c) i
+  pub gates : AreGatesKept disks c i ⊎ AreAllWritten disks (landed_on disks s xs c) i
+  pub pends :
+      (pending (current_places s) (logs_of disks (drive_of s disks (identities_of disks c)) i) ≡ xs)
+      ⊎ (AreAllWritten disks (landed_on disks s xs c) i × (pending (current_places s) (logs_of disks (drive_of s disks (identities_of disks c)) i) ≡ []))
+  pub whole : damaged_log (current_places s) (logs_of disks (drive_of s disks (identities_of disks c)) i) ≡ None
+
+-- Contents i of disks as a stop in the replay of these targets leaves them, where by contents c the state s0 stood and the targets are for drives of the
+-- state s: sectors without a target are as they were, but for gates of logs, and each copy of the state is too, or as its target has it. No copy and no gate
+-- has changed yet, or s stands already.
+pub record StandsReplaying (disks : Disks) (s0 s : State) (xs : List Target) (c i : Image) : Type 0 where
+  pub others :
+      (d t : ℕ) → d < disks.count → t < disks.sectors d → (t ≢ drive_gate) ⊎ (disks.sectors d < arrays_first)
+      → look (landed_on disks s xs c) d t ≡ None → i d t ≡ c d t
+  pub copies :
+      (d : ℕ) → d < disks.count → state_sector < disks.sectors d
+      → (i d state_sector ≡ c d state_sector) ⊎ (look (landed_on disks s xs c) d state_sector ≡ Some (i d state_sector))
+  pub says : (AreStatesKept disks c i × AreGatesKept disks c i) ⊎ StandsBrought disks s0 s xs c i
+
+-- so it is of the record that is pending in contents c
+pub record StandsMidway (disks : Disks) (c i : Image) : Type 0 where
+  pub before : Standing
+  pub stands : standing disks c ≡ Some before
+  pub is : StandsReplaying disks before.state (seated_state before.targets before.state) before.targets c i
 
 -- contents, once the pending record is replayed, give by slices what the disks do now, but for gates and halves of logs
 abbrev pub GivesNow : Slices → Seen → Image → Type 0

@@ -17,7 +17,8 @@
 //! meant (`MeansTheSame` of pool_image). Nothing is pending where the logs were as commits leave them (`HasSoundLogs` and `IsSettled` of
 //! specs/SoundLogs.antt). What a stop inside leaves gives then, once the record is replayed, what the disks hold in the end, where this
 //! brings no state, or else the drives had the state that stood and those that it takes in lower gates (`KeepsReplayed` of
-//! specs/Moments.antt). What the log found is what its slices hold at the end (`FindsAll`), but for places whose disk refused a call
+//! specs/Moments.antt). As the disks stand then, no copy of the state and no gate has changed yet, or the state that the record is for
+//! stands already, and on its drives the record is pending yet or all of it is written (`StandsMidway`). What the log found is what its slices hold at the end (`FindsAll`), but for places whose disk refused a call
 //! (`FindsLeft`). Where there is nothing to replay nothing is written (`IsIdle`), and sectors that were durable stay so, but for gates that
 //! were closed (`AreSteady`). A place counts as gone only by its disk's faults, and always where its disk refused a call of the scan. A
 //! refusal has its cause in what was read, before anything was written or after the replay (`IsRefused`).

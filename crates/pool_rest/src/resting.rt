@@ -3,6 +3,7 @@
 ghost use Rattle.std.specs.Prelude.{◌≡◌, ◌≢◌, ◌<◌, ◌⊎◌, ◌^◌, ◌==◌, ◌&&◌, ◌||◌, not, ℕ, Bool, List, true, false, length, [], Some, None, unwrap_or, IfOk, IfErr};
 ghost use Rattle.std.specs.List.{list_all};
 ghost use Rattle.rack.specs.Values.{Keeps};
+ghost use Rattle.rack.specs.Moments.{Leaves};
 ghost use Rattle.rack.specs.Seen.{IsLive, Rose};
 ghost use Rattle.rack.specs.Sequences.{OnlyReads, WritesOnly};
 ghost use Rattle.slice_rack.specs.Slices.{Slices, seat_of as has_seat};
@@ -18,10 +19,10 @@ ghost use Rattle.pool_scan.specs.Scanning.{AllTold, IsUnfaulted, now_in};
 ghost use Rattle.pool_scan.specs.Choosing.{AreOf, seat_by};
 ghost use Rattle.pool_rest.specs.Standing.{IsLasting, IsLaid, IsNewest, IsOnePool, FindsAll, FindsLeft, IsCause, IsMeant, since};
 ghost use Rattle.pool_state.specs.Valid.{is_valid};
-ghost use Rattle.pool_image.specs.Alike.{drive_gate, MeansTheSame};
+ghost use Rattle.pool_image.specs.Alike.{Agree, drive_gate, MeansTheSame};
 ghost use Rattle.pool_image.specs.Replay.{Standing as Stood, brought_state, standing, standing_by};
 ghost use Rattle.pool_image.specs.Meaning.{has_other_pool};
-ghost use Rattle.pool_rest.specs.Moments.{AreOfDrives, BringsNoState, BringsState, KeepsReplayed, TakesLower};
+ghost use Rattle.pool_rest.specs.Moments.{AreOfDrives, BringsNoState, BringsState, KeepsReplayed, StandsMidway, StandsReplaying, TakesLower};
 ghost use Rattle.pool_rest.specs.SoundLogs.{HasSoundLogs, IsSettled};
 ghost use Rattle.pool_rest.specs.Resting.{IsOfDrive, IsReplayed, AreShut, HaveCause, IsFlagged, HasDisk, HasRefused, StandsNow, RestsSo, AreSingle, AreSectors, AreSteady, IsIdle, WritesDrives, IsRefused, seated_state};
 
@@ -289,6 +290,13 @@ pub(crate) fn replay_on<R: Rack>(
         → BringsState (R.seen rack) scan.now.disks.items before.now state.now log on (reading (slices_of t (R.seen rack)))
         → AreOfDrives (R.seen rack) (seat_by state.now scan.now.disks.items) u → state_in (sliced u (now_in (R.seen rack))) ≡ Some before.now
         → KeepsReplayed (R.seen rack) (R.seen result.rack) u }
+    // What stands meanwhile is what stood, or the state that the record is for stands already.
+    ensures midway { AllTold (R.seen rack) → IsLasting (R.seen rack) → IsUnfaulted (R.seen rack) (R.seen result.rack) → AreSingle (R.seen rack)
+        → AreOf (disks_of (R.seen rack)) (identities_of (disks_of (R.seen rack)) (now_in (R.seen rack))) scan.now.disks.items → list_all is_target log.pending ≡ true
+        → (t u : Slices) (on : List ℕ) (is_pending : Bool) → IsLaid (R.seen rack) scan.now.disks.items before.now t on → FindsAll (R.seen rack) t on log is_pending None
+        → BringsState (R.seen rack) scan.now.disks.items before.now state.now log on (reading (slices_of t (R.seen rack)))
+        → AreOfDrives (R.seen rack) (seat_by state.now scan.now.disks.items) u → state_in (sliced u (now_in (R.seen rack))) ≡ Some before.now
+        → (R.seen rack).traced → Leaves (R.seen rack) (R.seen result.rack) (StandsReplaying (disks_of (R.seen rack)) before.now state.now log.pending (now_in (R.seen rack))) }
     ensures lost { HaveCause (R.seen rack) (R.seen result.rack) scan.now.disks.items state.now result.lost.items }
     ensures log { result.log ≡ settled log }
     ensures runs { R.runs rack result.rack }
@@ -404,6 +412,19 @@ fn replay_found<R: Rack>(found: Standing<R>, room: Scan) -> Result<AtRest<R>, Ba
         → AreOfDrives (R.seen (below_of found.slices)) (seat_by (seated_state found.log.pending found.state) found.scan.disks.items) u
         → state_in (sliced u (now_in (R.seen (below_of found.slices)))) ≡ Some found.state
         → KeepsReplayed (R.seen (below_of found.slices)) (R.seen (below_of r.slices)) u) }
+    // What stands meanwhile is what stood, or the state that the record is for stands already; and then what the disks hold in the end.
+    ensures midway { IfOk result (λ r. AllTold (R.seen (below_of found.slices)) → IsLasting (R.seen (below_of found.slices))
+        → IsUnfaulted (R.seen (below_of found.slices)) (R.seen (below_of r.slices)) → AreSingle (R.seen (below_of found.slices))
+        → AreOf (disks_of (R.seen (below_of found.slices))) (identities_of (disks_of (R.seen (below_of found.slices))) (now_in (R.seen (below_of found.slices)))) found.scan.disks.items
+        → list_all is_target found.log.pending ≡ true
+        → (t u : Slices) (on : List ℕ) (is_pending : Bool) → IsLaid (R.seen (below_of found.slices)) found.scan.disks.items found.state t on
+        → FindsAll (R.seen (below_of found.slices)) t on found.log is_pending None
+        → BringsState (R.seen (below_of found.slices)) found.scan.disks.items found.state (seated_state found.log.pending found.state) found.log on (reading (slices_of t (R.seen (below_of found.slices))))
+        → AreOfDrives (R.seen (below_of found.slices)) (seat_by (seated_state found.log.pending found.state) found.scan.disks.items) u
+        → state_in (sliced u (now_in (R.seen (below_of found.slices)))) ≡ Some found.state
+        → (R.seen (below_of found.slices)).traced → Leaves (R.seen (below_of found.slices)) (R.seen (below_of r.slices))
+        (λ i. StandsReplaying (disks_of (R.seen (below_of found.slices))) found.state (seated_state found.log.pending found.state) found.log.pending (now_in (R.seen (below_of found.slices))) i
+        ⊎ Agree (disks_of (R.seen (below_of found.slices))) i (now_in (R.seen (below_of r.slices))))) }
     // A place counts as gone by its disk's faults, or by those that were known.
     ensures gone { IfOk result (λ r. (p d : ℕ) → names r.gone.items p ≡ true → seat_by r.state r.scan.disks.items p ≡ Some d
         → Rose ((R.seen (below_of found.slices)).faults d) ((R.seen (below_of r.slices)).faults d)
@@ -502,6 +523,13 @@ pub fn bring_to_rest<R: Rack>(alloc: Global, rack: R) -> Result<AtRest<R>, Back<
         → (u : Slices) → AreOfDrives (R.seen (below_of r.slices)) (seat_by r.state r.scan.disks.items) u
         → ((before : Stood) → standing (disks_of (R.seen rack)) (now_in (R.seen rack)) ≡ Some before → state_in (sliced u (now_in (R.seen rack))) ≡ Some before.state)
         → KeepsReplayed (R.seen rack) (R.seen (below_of r.slices)) u) }
+    // What stands meanwhile is what stood, or the state that the record is for stands already; and then what the disks hold in the end.
+    ensures midway { IfOk result (λ r. AllTold (R.seen rack) → IsLasting (R.seen rack) → IsUnfaulted (R.seen rack) (R.seen (below_of r.slices))
+        → HasSoundLogs (disks_of (R.seen rack)) (now_in (R.seen rack)) → TakesLower (R.seen rack) → AreSingle (R.seen rack)
+        → (u : Slices) → AreOfDrives (R.seen (below_of r.slices)) (seat_by r.state r.scan.disks.items) u
+        → ((before : Stood) → standing (disks_of (R.seen rack)) (now_in (R.seen rack)) ≡ Some before → state_in (sliced u (now_in (R.seen rack))) ≡ Some before.state)
+        → (R.seen rack).traced → Leaves (R.seen rack) (R.seen (below_of r.slices))
+        (λ i. StandsMidway (disks_of (R.seen rack)) (now_in (R.seen rack)) i ⊎ Agree (disks_of (R.seen rack)) i (now_in (R.seen (below_of r.slices))))) }
     // A place counts as gone only where its disk refused a call.
     ensures gone { IfOk result (λ r. (p d : ℕ) → names r.gone.items p ≡ true → seat_by r.state r.scan.disks.items p ≡ Some d
         → Rose ((R.seen rack).faults d) ((R.seen (below_of r.slices)).faults d)) }

@@ -1,10 +1,10 @@
-use Rattle.std.proofs.Common.{◌≡◌, Some, sym, ap, subst, ◌∙◌, inl, inr, length}
-use Rattle.rack.specs.Seen.{Stays, Rose}
+use Rattle.std.proofs.Common.{◌≡◌, ◌⊎◌, Some, sym, ap, subst, ◌∙◌, inl, inr, length}
+use Rattle.rack.specs.Seen.{IsPick, Stays, Rose}
 use Rattle.rack.specs.Sequences.{OnlyReads}
-use Rattle.rack.specs.Joins.{rose_early, rose_later, stays_then}
+use Rattle.rack.specs.Joins.{leaves_weaker, rose_early, rose_later, stays_then}
 use Rattle.slice_rack.specs.SliceRack.{tables, below_of}
 use Rattle.pool_image.specs.Disks.{disks_of}
-use Rattle.pool_image.specs.Alike.{MeansTheSame}
+use Rattle.pool_image.specs.Alike.{Agree, MeansTheSame}
 use Rattle.pool_scan.specs.Scanning.{IsUnfaulted, now_in}
 use Rattle.pool_rest.specs.Standing.{IsLaid, IsNewest, IsOnePool, FindsAll, FindsLeft, since}
 use Rattle.pool_rest.specs.Resting.{IsFlagged, RestsSo, StandsNow, WritesDrives, seated_state}
@@ -20,7 +20,9 @@ use Rattle.pool_scan.specs.Choosing.{seat_by}
 use Rattle.pool_rest.proofs.Quiet.{none_flagged, no_cause, settled_after, settled_idle}
 use Rattle.pool_rest.proofs.Joined.{no_elements, writes_idle, writes_since, free_before, free_after, since_rests, since_so, since_stands, since_means, not_idle, idle_so, idle_stands, idle_same}
 use Rattle.pool_scan.proofs.Meant.{scan_meant}
-use Rattle.pool_rest.proofs.Keeping.{keeps_read, rest_brought, rest_keeps, single_later}
+use Rattle.pool_rest.specs.Moments.{StandsMidway}
+use Rattle.pool_rest.proofs.Keeping.{keeps_read, rest_brought, rest_keeps, rest_stands, single_later}
+use Rattle.pool_rest.proofs.Meanwhile.{reads_stop}
 use Rattle.pool_rest.proofs.resting.bring_to_rest.Goals as goal
 
 pub returns-then-pending_count-eq0-clause-only : goal.returns-then-pending_count-eq0-clause-only
@@ -388,6 +390,43 @@ returns-then-pending_count-eq0-clause-brought g c = λ told lasts free sound bri
     let same = c.as_it_stands.ensures.slices in
     keeps_read (seen c.args.rack) (seen (below_of c.as_it_stands.result.slices))
     (subst (λ k. OnlyReads (seen c.args.rack) (seen (below_of k))) (sym same) c.in-Ok-stand.ensures.only) told lasts u single of.orderly of.inside
+
+pub returns-in-Ok-replay_found-clause-midway : goal.returns-in-Ok-replay_found-clause-midway
+returns-in-Ok-replay_found-clause-midway g c = λ told lasts free sound brings single u of is traced.
+    let seen = g.R.Rack.seen in
+    let a = seen c.args.rack in
+    let rest = c.in-Ok-replay_found.rest in
+    let found = c.in-Ok-stand.found in
+    let x = seen (below_of found.slices) in
+    let b = seen (below_of rest.slices) in
+    let only = c.in-Ok-stand.ensures.only in
+    let stays = c.in-Ok-replay_found.ensures.only.stays in
+    let early = free_before a x b found.scan.disks.items found.state (tables found.slices) found.log found.looked.pending found.looked.damaged
+    only stays c.in-Ok-stand.ensures.newest.scan c.in-Ok-stand.ensures.meant free in
+    let later = free_after a x b found.scan.disks.items found.state (tables found.slices) found.log found.looked.pending found.looked.damaged
+    only stays c.in-Ok-stand.ensures.newest.scan c.in-Ok-stand.ensures.meant free in
+    let stands = c.in-Ok-stand.ensures.meant told early in
+    let settled = returns-in-Ok-replay_found-clause-settled g c told lasts free sound in
+    let newest = returns-in-Ok-replay_found-clause-newest g c told lasts in
+    rest_stands a x b found.scan.disks.items found.state found.log found.looked.pending found.looked.damaged (tables found.slices)
+    only stays c.in-Ok-stand.ensures.newest.scan (λ none. c.if-pending_count-eq0.false (c.pending_count.ensures ∙ ap length none)) told lasts early stands
+    (since_rests a x b found.scan.disks.items found.state (tables found.slices) found.log found.looked.pending found.looked.damaged
+    only stays c.in-Ok-stand.ensures.newest.scan c.in-Ok-stand.ensures.meant c.in-Ok-replay_found.ensures.replayed told lasts free)
+    sound single rest.state rest.scan.disks.items
+    (scan_meant (since a b) b rest.scan.disks.items newest.scan (told_later a b (stays_then only.stays stays) told) free)
+    (settled.state _ stands.stands)
+    found.on.items found.looked.gone.items found.slices.orderly c.in-Ok-stand.ensures.fit c.in-Ok-stand.ensures.laid c.in-Ok-stand.ensures.looked brings
+    (c.in-Ok-replay_found.ensures.midway (told_later a x only.stays told) (lasting_later a x only.stays lasts) later (single_later a x only told lasts single))
+    u of (is _ stands.stands) traced
+
+pub returns-then-pending_count-eq0-clause-midway : goal.returns-then-pending_count-eq0-clause-midway
+returns-then-pending_count-eq0-clause-midway g c = λ told lasts free sound brings single u of is traced.
+    let seen = g.R.Rack.seen in
+    let a = seen c.args.rack in
+    let b = seen (below_of c.as_it_stands.result.slices) in
+    let reads : OnlyReads a b = subst (λ k. OnlyReads a (seen (below_of k))) (sym c.as_it_stands.ensures.slices) c.in-Ok-stand.ensures.only in
+    leaves_weaker (IsPick a b a.held) (λ i. StandsMidway (disks_of a) (now_in a) i ⊎ Agree (disks_of a) i (now_in b))
+    (λ i pick. inr (reads_stop a b reads told lasts single i pick)) (reads.keeps.stops traced)
 
 pub returns-then-pending_count-eq0-clause-unread : goal.returns-then-pending_count-eq0-clause-unread
 returns-then-pending_count-eq0-clause-unread g c = λ p d low seat flagged.

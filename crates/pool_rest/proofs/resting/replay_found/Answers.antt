@@ -14,7 +14,10 @@ use Rattle.pool_rest.proofs.Agreeing.{told_later, lasting_later}
 use Rattle.pool_rest.proofs.Again.{replay_only, again_only, again_replayed, again_stands, again_finds, again_shut, laid_later, newest_since, cause_since}
 use Rattle.pool_rest.proofs.GonePlaces.{stands_rose, again_rose, found_left, left_since}
 use Rattle.pool_rest.proofs.Listed.{or_true}
+use Rattle.pool_image.specs.Alike.{Agree}
+use Rattle.pool_rest.specs.Moments.{StandsReplaying}
 use Rattle.pool_rest.proofs.Keeping.{KeepsBrought, again_brought}
+use Rattle.pool_rest.proofs.Meanwhile.{StandsFound, again_stands as again_midway}
 use Rattle.pool_rest.proofs.resting.replay_found.Goals as goal
 
 pub returns-in-Err-clause-back : goal.returns-in-Err-clause-back
@@ -190,3 +193,16 @@ returns-clause-finds g c =
     (left_since a d b again.scan.disks.items again.state (tables again.slices) again.on.items again.log again.looked.pending again.looked.damaged first
     (found_left d b again.scan.disks.items again.state (tables again.slices) again.on.items again.looked.gone.items again.log again.looked.pending again.looked.damaged
     again.slices.orderly c.in-Ok.ensures.fit c.in-Ok.ensures.only c.in-Ok.ensures.laid c.in-Ok.ensures.looked))))))))
+
+pub returns-clause-midway : goal.returns-clause-midway
+returns-clause-midway g c =
+    let seen = g.R.Rack.seen in
+    let found = c.args.found in
+    let x = seen (below_of found.slices) in
+    let again = below_of c.in-Ok.again.slices in
+    let z = seated_state found.log.pending found.state in
+    subst (λ k. StandsFound x (seen (below_of k)) found.scan.disks.items found.state z found.log
+    (λ i. StandsReplaying (disks_of x) found.state z found.log.pending (now_in x) i ⊎ Agree (disks_of x) i (now_in (seen (below_of k)))))
+    (sym c.as_it_stands-rest.ensures.slices)
+    (again_midway seen (below_of found.slices) c.into_inner.result c.replay_on-done.result.rack again c.into_inner.ensures found.scan.disks.items found.state c.seated_by-seated.result found.log
+    c.seated_by-seated.ensures c.replay_on-done.ensures.only.stays c.in-Ok.ensures.only c.replay_on-done.ensures.replayed c.replay_on-done.ensures.midway)

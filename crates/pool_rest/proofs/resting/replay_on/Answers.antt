@@ -2,6 +2,7 @@ use Rattle.std.proofs.Common.{sym, subst, ◌∙◌}
 use Rattle.slice_rack.specs.SliceRack.{tables, below_of}
 use Rattle.pool_rest.specs.Members.{IsCutBelow}
 use Rattle.pool_rest.proofs.DriveReplays.{on_drives, unread_none, shut_drives, closing_logs, only_drives, halves_kept, lost_cause, replayed_drives}
+use Rattle.pool_rest.proofs.Midway.{brought_midway}
 use Rattle.pool_rest.proofs.Moments.{brought_keeps}
 use Rattle.pool_rest.proofs.resting.replay_on.Goals as goal
 
@@ -50,3 +51,10 @@ returns-clause-brought g c = λ told lasts free single t u on is_pending laid fi
     c.new-slices.ensures.below c.seat_drives-on.ensures.below c.into_inner.ensures c.seat_drives-on.ensures.laid c.lay_drives-unread.ensures.only c.lay_drives-unread.ensures.cut
     c.lay_drives-unread.new.slices.orderly c.lay_drives-unread.ensures.fit c.replay-gone.ensures.runs c.replay-gone.ensures.replays in
     brought_keeps parts free told lasts single u of c.args.before.now t on is_pending laid finds brings state
+
+pub returns-clause-midway : goal.returns-clause-midway
+returns-clause-midway g c = λ told lasts free single are valid t u on is_pending laid finds brings of state traced.
+    let parts = on_drives g.R.Rack.seen c.args.rack _ _ _ _ c.into_inner.result _ c.args.scan.now.disks.items c.args.state.now _ _ _ _ _ _ _ c.args.log
+    c.new-slices.ensures.below c.seat_drives-on.ensures.below c.into_inner.ensures c.seat_drives-on.ensures.laid c.lay_drives-unread.ensures.only c.lay_drives-unread.ensures.cut
+    c.lay_drives-unread.new.slices.orderly c.lay_drives-unread.ensures.fit c.replay-gone.ensures.runs c.replay-gone.ensures.replays in
+    brought_midway parts free told lasts single u of are valid c.args.before.now t on is_pending laid finds brings state traced
