@@ -1,8 +1,9 @@
 -- Disks on which a pool left what holds a sound one again are such as an opening asks for.
-use Rattle.std.proofs.Common.{◌≡◌, inl, inr, subst, sym, ap, ◌∙◌}
-use Rattle.rack.specs.Seen.{Seen}
+use Rattle.std.proofs.Common.{◌≡◌, ℕ, inl, inr, subst, sym, ap, ◌∙◌}
+use Rattle.rack.specs.Seen.{Image, Seen}
 use Rattle.slice_rack.specs.Slices.{Slices}
 use Rattle.pool_state.specs.declared.contents.State.{State}
+use Rattle.pool_image.specs.Alike.{Agree}
 use Rattle.pool_image.specs.Disks.{Disks, disks_of}
 use Rattle.pool_image.specs.Drives.{Found, found}
 use Rattle.pool_image.specs.Replay.{standing}
@@ -10,7 +11,9 @@ use Rattle.pool_rest.specs.Moments.{TakesLowerIn}
 use Rattle.pool_rest.specs.SoundLogs.{HasSoundLogs}
 use Rattle.pool_scan.specs.Scanning.{now_in}
 use Rattle.pool_model.specs.Left.{HoldAgain, HoldStill}
-use Rattle.pool_model.specs.Stopped.{HoldAmid}
+use Rattle.pool_model.specs.Openings.{HoldOpened, MayReplay}
+use Rattle.pool_model.specs.Stopped.{HoldBetween}
+use Rattle.pool_model.proofs.Agreeing.{agree_opened}
 use Rattle.assembler.specs.Holding.{AreSteady}
 use Rattle.assembler.specs.Sound.{HoldSound, MayStop}
 
@@ -33,9 +36,32 @@ holds_again x f t s steady same again = (
 )
 
 -- So it is where a call was stopped, and a record may be pending.
-pub holds_amid : (x : Seen) (f : Found) (t : Slices) (s u : State) → AreSteady x → f.disks ≡ disks_of x → (amid : HoldAmid f t s u (now_in x))
+pub holds_amid : (x : Seen) (f : Found) (t : Slices) (s u : State) → AreSteady x → f.disks ≡ disks_of x → (amid : HoldBetween f t s u (now_in x))
     → HoldSound x amid.still.now × MayStop x amid.still.now
 holds_amid x f t s u steady same amid = (
   holds_still x f t amid.state steady same amid.still,
-  inr (inr amid.apart, inr (amid.stood, subst (λ (disks : Disks). TakesLowerIn disks (now_in x)) same amid.lower)),
+  inr (inr amid.apart, inr (amid.stood.stood, subst (λ (disks : Disks). TakesLowerIn disks (now_in x)) same amid.lower)),
 )
+
+-- And so it is where an opening was stopped.
+pub holds_opened : (x : Seen) (f : Found) (from : ℕ) → AreSteady x → f.disks ≡ disks_of x → (opened : HoldOpened f from (now_in x))
+    → HoldSound x opened.now × MayStop x opened.now
+holds_opened x f from steady same opened = (
+  record {
+    steady = steady;
+    found_is = ap (λ (disks : Disks). found disks (now_in x)) (sym same) ∙ opened.found_is;
+    sound = opened.sound;
+    logs = subst (λ (disks : Disks). HasSoundLogs disks (now_in x)) same opened.logs;
+  },
+  elim opened.stops [
+    | inl idle ↦ inl (λ before at. idle before (ap (λ (disks : Disks). standing disks (now_in x)) same ∙ at))
+    | inr amid ↦ inr (inr amid.0, inr (amid.1.stood, subst (λ (disks : Disks). TakesLowerIn disks (now_in x)) same amid.2))
+  ],
+)
+
+-- Disks that are attached with what it left, inside them, hold the pool that it left, which is opened again so that stops are told of that opening too.
+pub holds_left : (x : Seen) (f : Found) (from : ℕ) (i : Image) → AreSteady x → f.disks ≡ disks_of x → HoldOpened f from i → Agree f.disks (now_in x) i
+    → (opened : HoldOpened f from (now_in x)) × HoldSound x opened.now × MayReplay (disks_of x) (now_in x) opened.now
+holds_left x f from i steady same holds agree =
+    let opened = agree_opened f from i (now_in x) holds agree in
+    (opened, (holds_opened x f from steady same opened).0, subst (λ (disks : Disks). MayReplay disks (now_in x) opened.now) same opened.stops)

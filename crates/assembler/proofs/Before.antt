@@ -24,7 +24,7 @@ use Rattle.assembler.proofs.Finding.{some_same}
 use Rattle.assembler.proofs.Rest.{nothing_decodes, ok_of, state_of_latest}
 
 -- how disks stood is part of the pool that they have
-before_is : (disks : Disks) (c : Image) (e : Found) (b : Standing) → found disks c ≡ Some e → standing disks c ≡ Some b → e.before ≡ b
+pub before_is : (disks : Disks) (c : Image) (e : Found) (b : Standing) → found disks c ≡ Some e → standing disks c ≡ Some b → e.before ≡ b
 unfolding found
 before_is disks c e b is stands =
     by (newest disks (identities_of disks (written disks b c)))

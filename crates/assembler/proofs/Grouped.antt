@@ -1,19 +1,23 @@
 -- Arrays on which a volume was opened hold its group, whatever they may be left with: their texts were brought up to it.
-use Rattle.std.proofs.Common.{◌≡◌, ℕ, ◌<◌, ◌≤◌, Bool, if◌then◌else◌, List, [], None, refl, sym, ap, subst, ◌∙◌, lt-ltb, arith}
+use Rattle.std.proofs.Common.{◌≡◌, ℕ, ◌<◌, ◌≤◌, Bool, if◌then◌else◌, List, [], map, None, Some, refl, sym, ap, subst, ◌∙◌, lt-ltb, arith}
 use Rattle.rack.specs.Values.{MayLeave}
-use Rattle.rack.specs.Seen.{Image, IsLive, Seen}
+use Rattle.rack.specs.Joins.{leaves_then, leaves_weaker}
+use Rattle.rack.specs.Moments.{Leaves}
+use Rattle.rack.specs.Seen.{Image, IsLive, IsPick, Seen}
 use Rattle.lvm_group.specs.Brought.{IsEven}
-use Rattle.lvm_group.specs.Group.{first_bad}
-use Rattle.lvm_group.specs.Images.{HoldOnly, IsSettled, MeansVolume, over}
+use Rattle.lvm_group.specs.Group.{first_bad, group_in, highest}
+use Rattle.lvm_group.specs.Images.{HasOwnArea, HoldOnly, IsSettled, MeansVolume, over}
 use Rattle.lvm_group.specs.Opening.{AreNow, AreServed, Means, within_sectors}
+use Rattle.lvm_group.specs.Parts.{part_of}
 use Rattle.lvm_group.specs.Runs.{Linear, data_start}
 use Rattle.lvm_group.proofs.OwnGroup.{own_sized}
-use Rattle.lvm_group.proofs.SameParts.{area_below}
+use Rattle.lvm_group.proofs.SameParts.{area_below, part_below}
 use Rattle.array_model.specs.View.{sectors_of}
 use Rattle.shr_base.specs.declared.Id.{Id}
 use Rattle.pool_image.specs.Drives.{Found}
 use Rattle.pool_image.specs.Meaning.{arrays_held}
-use Rattle.pool_image.proofs.Joined.{bad_same}
+use Rattle.pool_image.proofs.Groups.{map_below}
+use Rattle.pool_image.proofs.Joined.{bad_by_parts, bad_same}
 use Rattle.raid_rack.specs.declared.arrays.RaidRack.{RaidRack}
 use Rattle.raid_rack.specs.AllRuns.{AreCalls}
 use Rattle.raid_rack.specs.Raid.{Raid, held_in}
@@ -142,3 +146,56 @@ module _ {R : Type 0} (seen : R → Seen) (runs : R → R → Type 0) (f : Found
 
   pub group_opened : HoldGroup (raid_in y) (slices_seen seen y)
   group_opened = group_left (raid_in y) (slices_seen seen y) brought.0 room_now (λ n low. brought.2.areas n (low_now n low)) held_now sound
+
+  -- ---- at each moment
+
+  -- contents that agree with these before the first extents mean the volume, by the arrays' sizes
+  means_below : (m c : Image) → ((n : ℕ) → n < joined → HasOwnArea (m n)) → MeansVolume u.state.pool.0 joined p.sectors l seqno m
+      → ((n s : ℕ) → n < joined → s < data_start → c n s ≡ m n s) → MeansVolume u.state.pool.0 joined p.sectors l seqno c
+  means_below m c areas is same =
+      let parts : (n : ℕ) → n < joined → part_of (c n) (p.sectors n) ≡ part_of (m n) (p.sectors n) =
+      λ n low. part_below (m n) (c n) (p.sectors n) (areas n low) (λ s first. same n s low first) in
+      record {
+        group = is.group;
+        found =
+            ap (λ parts. highest (map (λ part. part.group) parts))
+            (map_below (λ n. part_of (c n) (p.sectors n)) (λ n. part_of (m n) (p.sectors n)) 0 joined (λ n low. parts n (omega (arith, low))))
+            ∙ is.found;
+        own = is.own;
+        sound = bad_by_parts u.state.pool.0 l.extent joined p.sectors p.sectors (λ n low. refl) c m parts ∙ is.sound;
+        volume = is.volume;
+        numbered = is.numbered;
+      }
+
+  -- so do those that have the pool's own sectors there
+  pub given_means : (c : Image) → ((n s : ℕ) → n < joined → s < data_start → c n s ≡ arrays_held f n s) → MeansVolume u.state.pool.0 joined p.sectors l seqno c
+  given_means c same = means_below before c settled.areas means (λ n s low first. same n s low first ∙ sym (reads n s low first))
+
+  -- texts are brought up to date
+  mid_means : p.traced → Leaves p q (MeansVolume u.state.pool.0 joined p.sectors l seqno)
+  mid_means traced =
+      let right = opens.brings.right before settled (λ n low. served n (subst (λ k. n < k) (sym all) low)) in
+      leaves_weaker
+      (λ c. (k : Image) → IsSettled u.state.pool.0 joined l seqno p q k → group_in k p.sectors joined ≡ Some opens.opens.runs.group → MeansVolume u.state.pool.0 joined p.sectors l seqno c)
+      (MeansVolume u.state.pool.0 joined p.sectors l seqno) (λ c means. means before settled right) (opens.brings.images traced)
+
+  -- and then superblocks are made to agree
+  last_means : q.traced → Leaves q (raid_seen seen y) (MeansVolume u.state.pool.0 joined p.sectors l seqno)
+  last_means traced =
+      leaves_weaker (IsPick q (raid_seen seen y) q.held) (MeansVolume u.state.pool.0 joined p.sectors l seqno)
+      (λ c pick.
+      means_below brought.0 c brought.2.areas brought.2.means
+      (λ n s low first.
+      let enough = room n low in
+      let size = kept.2.sectors n in
+      brought.1 n s (c n s) low first (pick n s (record {
+        disk = (let made = kept.1.book.same.made in omega (arith, low, all, made));
+        sector = omega (arith, first, enough, size);
+        is_told = early.1.moments.told n (holds.told n (low_of n low));
+        unspent = alive n s (let same = kept.1.book.same.joined in omega (arith, low, same)) (omega (arith, first, enough, size));
+      }))))
+      (opens.agrees.values.keeps.stops traced)
+
+  pub brought_means : p.traced → Leaves p (raid_seen seen y) (MeansVolume u.state.pool.0 joined p.sectors l seqno)
+  brought_means traced =
+      leaves_then (MeansVolume u.state.pool.0 joined p.sectors l seqno) (mid_means traced) (last_means (opens.brings.writes.stays.traced traced))

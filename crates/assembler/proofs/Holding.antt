@@ -116,7 +116,7 @@ module _ (f : Found) (t : Slices) (x : Seen) (checked : Checked) (absent : List 
       let low = few_place f t x checked absent orderly m steady pool found.opened p current in
       sym (went_is 0 p made_some low) ∙ gone_not v p 0 low made_some left
 
-  not_gone : (p : ℕ) → names absent p ≡ false → gone_in v p ≡ false
+  pub not_gone : (p : ℕ) → names absent p ≡ false → gone_in v p ≡ false
   not_gone p here = elim (cases_Bool (gone_in v p)) [
     | inr left ↦ left
     | inl is ↦
@@ -131,7 +131,7 @@ module _ (f : Found) (t : Slices) (x : Seen) (checked : Checked) (absent : List 
       let whole = whole_member f.state (seat_of t) 0 at.0 (m.founded.each 0 at.0 at.1) (rules 0 at.0 at.1) in
       (whole.0, whole.1, whole.3)
 
-  seated_here : (p d : ℕ) → seat_of t p ≡ Some d → names absent p ≡ false
+  pub seated_here : (p d : ℕ) → seat_of t p ≡ Some d → names absent p ≡ false
   seated_here p d seat = m.absent_is p ∙ ap (λ o. is_none o && is_current f.state p) seat
 
   low_joined : (n : ℕ) → n < f.state.joined → n < f.state.made
@@ -272,7 +272,7 @@ module _ (f : Found) (t : Slices) (x : Seen) (checked : Checked) (absent : List 
   -- ---- after the marks
 
   -- an array's sectors have one value, which is that of the pool
-  value_held : (b : Seen) → OpensRaid v b
+  pub value_held : (b : Seen) → OpensRaid v b
       → ((n place s : ℕ) → n < 16 → IsLive (slices_seen t x) (slices_seen t x) (member_slice place n) s
       → (b.held (member_slice place n) s).current ≡ ((slices_seen t x).held (member_slice place n) s).current)
       → (n y : ℕ) (u : List ℕ) → n < f.state.joined → MayLeave (held_in v b n y) u → u ≡ array_in f.state (slices_of f) n y
@@ -347,25 +347,25 @@ module _ (f : Found) (s : State) (t : Slices) (x : Seen) (checked : Checked) (ab
   same : s ≡ f.state
   same = sym holds.pool.state
 
-  m : AreMembers f.state t x checked absent
+  pub m : AreMembers f.state t x checked absent
   m = subst (λ k. AreMembers k t x checked absent) same members
 
-  pool : IsPoolOn f.state t x f
+  pub pool : IsPoolOn f.state t x f
   pool = subst (λ k. IsPoolOn k t x f) same holds.pool
 
-  log : IsIdle f.state t x l
+  pub log : IsIdle f.state t x l
   log = subst (λ k. IsIdle k t x l) same holds.log
 
-  abbrev before : Raid
+  abbrev pub before : Raid
   before = record { state = f.state; arrays = v.arrays; number = v.number }
 
-  before_is : v ≡ before
+  pub before_is : v ≡ before
   before_is = ap (λ k. record { state = k; arrays = v.arrays; number = v.number }) (state ∙ same)
 
   ready : before.state.joined ≤ before.state.made
   ready = (valid_arrays f.state 0 m.valid).3
 
-  founds : gone_now ≡ absent → (w : Raid) → KeepsArrays v w → (n : ℕ) (z : Super) → n < f.state.joined → truth_of f n ≡ Some z → IsArrayOf f n z (w.arrays n)
+  pub founds : gone_now ≡ absent → (w : Raid) → KeepsArrays v w → (n : ℕ) (z : Super) → n < f.state.joined → truth_of f n ≡ Some z → IsArrayOf f n z (w.arrays n)
   founds nobody w keeps n z less truth =
       let made : n < f.state.made = (let least = ready in omega (arith, least, less)) in
       let at = got checked.arrays.items n (let count = m.founded.count in omega (arith, made, count)) in

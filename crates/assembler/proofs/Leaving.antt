@@ -1,5 +1,5 @@
 -- What stops inside an opening leave, part by part: the drives as they were checked, the arrays made, the texts brought up.
-use Rattle.std.proofs.Common.{◌≡◌, ℕ, ◌<◌, ◌≤◌, List, None, sym, ap, subst, ◌∙◌, arith}
+use Rattle.std.proofs.Common.{◌≡◌, ℕ, ◌<◌, ◌≤◌, List, None, refl, sym, ap, subst, ◌∙◌, arith}
 use Rattle.rack.specs.Seen.{Image, Seen}
 use Rattle.rack.specs.Joins.{leaves_then, leaves_weaker}
 use Rattle.rack.specs.Moments.{Leaves}
@@ -7,11 +7,11 @@ use Rattle.rack.specs.Sequences.{OnlyReads, WritesOnly}
 use Rattle.slice_rack.specs.Slices.{Slices, IsOrderly, sectors_of}
 use Rattle.slice_rack.specs.Sliced.{sliced, slices_of as slices_seen}
 use Rattle.slice_rack.specs.SliceRack.{below_of, tables}
-use Rattle.array_image.specs.Arrays.{replayed}
+use Rattle.array_image.specs.Arrays.{arrays_in, replayed}
 use Rattle.commit_log.specs.View.{LogView}
 use Rattle.commit_log.specs.Standing.{IsAlike}
 use Rattle.lvm_group.specs.Brought.{IsBefore}
-use Rattle.lvm_group.specs.Runs.{IsOrderly as AreOrderly, Linear}
+use Rattle.lvm_group.specs.Runs.{IsOrderly as AreOrderly, Linear, data_start}
 use Rattle.lvm_group.specs.Shown.{IsInside}
 use Rattle.pool_state.specs.declared.contents.State.{State}
 use Rattle.pool_image.specs.Alike.{IsSamePool}
@@ -72,6 +72,44 @@ module _ (f : Found) (t : Slices) (y : Seen) (checked : Checked) (absent : List 
       leaves_then (HoldsAt (tables (slices_in last)) l volume)
       (subst (λ u. Leaves a z (HoldsAt u l volume)) (sym there) (leaves_then (HoldsAt t l volume) one two))
       three
+
+  -- and what holds of contents that before their first extents have what the pool's arrays hold there, where it holds while texts are brought up
+  pub saying_leaves : {R : Type 0} (seen : R → Seen) (a : Seen) (raid last : RaidRack R) (P : Image → Type 0)
+      (may : ℕ → ℕ → List ℕ → Type 0) (later : ℕ → ℕ → List ℕ → Type 0)
+      → Leaves a y IsAsRead
+      → HoldsArrays f (raid_in raid) (slices_seen t y) (slices_shown seen raid) → AllLive (raid_in raid)
+      → tables (slices_in raid) ≡ t → tables (slices_in last) ≡ t → WritesOnly y (seen (below_of (slices_in raid))) may → y.traced
+      → ((c : Image) → ((n s : ℕ) → n < f.state.joined → s < data_start → c n s ≡ arrays_held f n s) → P c)
+      → Leaves (raid_seen seen raid) (raid_seen seen last) P
+      → WritesOnly (seen (below_of (slices_in raid))) (seen (below_of (slices_in last))) later → (seen (below_of (slices_in raid))).traced
+      → Leaves a (seen (below_of (slices_in last))) (λ i. P (arrays_in (replayed (sectors_of (tables (slices_in last))) (sliced (tables (slices_in last)) i))))
+  saying_leaves seen a raid last P may later early holds made same there writes traced given late written after =
+      let v : Raid = raid_in raid in
+      let z : Seen = seen (below_of (slices_in raid)) in
+      let w : Seen = seen (below_of (slices_in last)) in
+      let says : Slices → Image → Type 0 = λ u i. P (arrays_in (replayed (sectors_of u) (sliced u i))) in
+      let stops = written.stops after in
+      let one : Leaves a y (says t) =
+      leaves_weaker IsAsRead (says t)
+      (λ i alike.
+      given (arrays_in (replayed (sectors_of t) (sliced t i)))
+      (λ n s joined first. alike_values f t y checked absent orderly m steady pool found sound n joined log idle (replayed (sectors_of t) (sliced t i)) alike s)) early in
+      let two : Leaves y z (says t) =
+      leaves_weaker (GivesArrays f v t) (says t)
+      (λ i gives.
+      given (arrays_in (replayed (sectors_of t) (sliced t i)))
+      (λ n s joined first. gives n s joined (let room = holds.room n joined in let size = holds.sectors n joined in omega (arith, room, size, first))))
+      (made_leave f v t y z may (subst (λ u. HoldsArrays f v (slices_seen t y) (slices_seen u z)) same holds) made writes traced) in
+      let three : Leaves z w (says (tables (slices_in last))) =
+      record {
+        later = stops.later;
+        kept = stops.kept;
+        past = stops.past;
+        new = λ k i since until stop.
+            late.new k (arrays_in (replayed (sectors_of (tables (slices_in last))) (sliced (tables (slices_in last)) i))) since until
+            (sliced (tables (slices_in last)) i, (i, stop, λ j u. refl), λ j u. refl);
+      } in
+      leaves_then (says (tables (slices_in last))) (subst (λ u. Leaves a z (says u)) (sym there) (leaves_then (says t) one two)) three
 
   -- and where an array is bad, and nothing is written any more, the arrays
   pub refused_leaves : {R : Type 0} (seen : R → Seen) (runs : R → R → Type 0) (a : Seen) (raid last : RaidRack R) (g : Found)

@@ -4,6 +4,7 @@ mod Agreeing
 mod Amid
 mod Apart
 mod Arrays
+mod AtRest
 mod Before
 mod Causes
 mod Clean
@@ -43,3 +44,13 @@ mod Whole
 mod Written
 mod Grouped
 mod TruthFound
+pub mod Settling
+pub mod Bringing
+pub mod Rereading
+pub mod Replaying
+pub mod Absences
+pub mod Closed
+pub mod Gates
+pub mod Marked
+pub mod Stopping
+pub mod Rested

@@ -1,5 +1,5 @@
 -- Which places are marked missing once a rack of arrays is made.
-use Rattle.std.proofs.Common.{◌≡◌, ℕ, ◌<◌, ◌⊎◌, ◌&&◌, ◌||◌, Bool, true, false, not, is_none, List, [], ◌∷◌, slice_get, Some, inl, inr, refl, sym, ap, subst, ◌∙◌, arith}
+use Rattle.std.proofs.Common.{◌≡◌, ℕ, ◌<◌, ◌⊎◌, ◌&&◌, ◌||◌, Bool, true, false, not, is_none, is_some, List, [], ◌∷◌, slice_get, Option, Some, None, inl, inr, refl, sym, ap, subst, ◌∙◌, arith}
 use Rattle.std.proofs.lemmas.Bool.{and_from, and_parts, both_ways, cases_Bool}
 use Rattle.rack.specs.Seen.{Seen}
 use Rattle.slice_rack.specs.Slices.{Slices, seat_of}
@@ -19,6 +19,19 @@ use Rattle.raid_rack.proofs.Noted.{current_few, gone_not, gone_some}
 use Rattle.raid_rack.proofs.Seated.{names_joined}
 use Rattle.assembler.specs.Members.{AreMembers}
 use Rattle.assembler.proofs.Shows.{got}
+
+-- current places that aren't absent are those that have a disk
+pub marks_of : (current none absent : Bool) → absent ≡ (none && current) → (current && not absent) ≡ (current && not none)
+marks_of true none absent is = ap not (is ∙ of none)
+  where
+    of : (b : Bool) → (b && true) ≡ b
+    of true = refl
+    of false = refl
+marks_of false none absent is = refl
+
+pub some_is : (o : Option ℕ) → not (is_none o) ≡ is_some o
+some_is None = refl
+some_is (Some d) = refl
 
 -- a place that isn't current isn't left
 pub lost_so : (current there : Bool) → current ≡ false → (current && there) ≡ false

@@ -38,7 +38,8 @@ module _ (s : State) (l : LogView) (on : List ℕ) (a : Seen) (opened : Opened s
     inside = stand.inside;
   }
 
-  none_pending : (c : Image) → LogsStand a c → pending (deciding c) c ≡ []
+  -- nothing is pending there
+  pub none_pending : (c : Image) → LogsStand a c → pending (deciding c) c ≡ []
   none_pending c stand = (opened_can_replay s s l on a opened).same c (amid c stand) ∙ idle
 
   pub replays_nothing : (c : Image) (d k : ℕ) → LogsStand a c → replayed a.sectors c d k ≡ c d k

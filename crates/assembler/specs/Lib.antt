@@ -5,6 +5,7 @@ pub mod Members
 pub mod Mending
 pub mod Moments
 pub mod Refusing
+pub mod Rested
 pub mod Sound
 pub mod Volume
 pub mod Wanting

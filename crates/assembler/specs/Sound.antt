@@ -29,12 +29,13 @@ use Rattle.raid_rack.specs.RaidRack.{raid_in, raid_seen, slices_in, slices_seen}
 use Rattle.assembler.specs.declared.refusal.Refusal.{Refusal}
 use Rattle.pool_model.specs.Grouped.{HaveOwnAreas, HoldGroup}
 use Rattle.pool_model.specs.Left.{AreAlone, AreElsewhere, HoldSame, IsPickOff}
+use Rattle.pool_model.specs.Openings.{HoldOpened, MayReplay}
 use Rattle.pool_model.specs.Pools.{AreSlicesOf, IsSoundPool}
 pub use Rattle.pool_model.specs.Stopped.{HaveStood, LieApart}
 use Rattle.pool_model.specs.Stopped.{HaveTables}
 use Rattle.assembler.specs.Holding.{AreSteady, IsArrayOf}
 use Rattle.assembler.specs.Refusing.{meant_by}
-use Rattle.assembler.specs.Moments.{GivesPool, HoldsAt}
+use Rattle.assembler.specs.Moments.{GivesPool, HoldsAt, SaysVolume}
 use Rattle.assembler.specs.Volume.{AllLive, HoldsVolume, IsVolumeOf}
 
 -- Disks that hold a sound pool: they are told, each sector of them has one value, and by these the pool's logs, states and
@@ -57,6 +58,14 @@ MayStop x f =
     IsIdle x
     ⊎ (TargetsLand f
     × (BringsNoState x ⊎ (HaveStood f × TakesLower x)))
+
+-- At each moment from x to y what a stop leaves holds the pool f still, its arrays from a sector of theirs on: where nothing was pending, or a record that may
+-- be replayed, targets land where the pool's slices are, all its arrays are ready for the volume, and no superblock stands where a drive that is no member of an
+-- array would have its slice, in the pool's contents and in those that the stop leaves.
+abbrev pub StopsHold : Seen → Seen → Found → ℕ → Type 0
+StopsHold x y f from =
+    MayReplay (disks_of x) (now_in x) f → TargetsLand f → f.state.joined ≡ f.state.made → AreAlone f f.contents → x.traced
+    → Leaves x y (λ i. AreAlone f i → HoldOpened f from i)
 
 -- no disk had the state of another pool, once the pending record was replayed
 abbrev pub HaveOnePool : Found → Type 0
@@ -84,6 +93,10 @@ pub record IsMeantBy {R : Type 0} (seen : R → Seen) (x : Seen) (f : Found) (ra
   pub elsewhere : (i : Image) → IsPickOff (tables (slices_in rack)) (seen (below_of (slices_in rack))) i → AreElsewhere f i
   -- what a stop leaves inside the opening holds that volume, where it may come amid the replay of the record that was pending
   pub moments : MayStop x f → x.traced → Leaves x (seen (below_of (slices_in rack))) (HoldsAt (tables (slices_in rack)) l volume)
+  -- and where all arrays are ready for the volume, and have the pool's metadata areas, they say that volume at each moment
+  pub says :
+      f.state.joined ≡ f.state.made → HaveOwnAreas f → MayStop x f → x.traced
+      → Leaves x (seen (below_of (slices_in rack))) (SaysVolume (raid_in rack) (tables (slices_in rack)) l)
 
 -- The superblocks of each array that is ready for the volume agree by this state, durably: in whatever a stop leaves of the slices, once it
 -- is replayed.

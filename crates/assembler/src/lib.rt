@@ -13,7 +13,8 @@
 //! pool_rest). Where the disks hold a sound pool (`HoldSound` of specs/Sound.antt) and none refuses a call, the volume is the one that
 //! they mean, over the slices of their pool's drives (`IsMeantBy`), and they are refused only as their meaning is (`IsMeantRefusal`), or for
 //! want of memory; both copies of each drive's partition table are the table that its disk had, and the superblocks of each array agree,
-//! durably (`HaveAgreed`). In all, only drives are written (`WritesPool` of specs/Writing.antt).
+//! durably (`HaveAgreed`). In all, only drives are written (`WritesPool` of specs/Writing.antt). At each moment of it what a stop leaves holds the pool still, so that
+//! it may be opened again (`StopsHold`, `HoldOpened` of pool_model), and says its volume (`IsMeantBy.says`).
 //!
 //! Whatever the disks tell and whoever goes, a refusal has its cause in what was read of them (`HasRefusalCause` of specs/Causes.antt): no pool or two by the
 //! copies of the state (`FindsNoPool`); the first refusal of the pool that the disks left make, where a place has lost its disk only where that refused a call,
@@ -25,7 +26,8 @@
 //! specs/Wanting.antt). Whoever goes, a drive is marked missing only where it had no disk, or that refused a call (`MarksDrives` of specs/Marking.antt).
 //!
 //! Inside the crate the arrays are those of the superblocks that were read, over the slices of the drives (`AreMembers` of
-//! specs/Members.antt), and they hold what the pool's contents give (`HoldsArrays` of specs/Holding.antt).
+//! specs/Members.antt), and they hold what the pool's contents give (`HoldsArrays` of specs/Holding.antt). While they are made of disks at rest
+//! (`HoldRested` of specs/Rested.antt), what a stop leaves holds the pool still (`making_leaves`, proofs/Stopping.antt).
 #![tactic(auto)]
 
 mod checks;

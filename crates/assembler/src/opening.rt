@@ -10,12 +10,13 @@ ghost use Rattle.assembler.specs.declared.refusal.Refusal.TheVariants.{BadVolume
 ghost use Rattle.raid_rack.specs.Raid.{is_used_up};
 ghost use Rattle.slice_rack.specs.SliceRack.{below_of, tables};
 ghost use Rattle.slice_rack.specs.Slices.{seat_of};
+ghost use Rattle.lvm_group.specs.Runs.{data_start};
 ghost use Rattle.lvm_group.specs.Shown.{total, volume_of};
 ghost use Rattle.lvm_group.specs.Volume.{below_of as rack_in, linear, seqno_of};
-ghost use Rattle.assembler.specs.Sound.{HaveAgreed, HoldSound, IsMeantBy, IsMeantRefusal, KeepsPool, SayTruths};
+ghost use Rattle.assembler.specs.Sound.{HaveAgreed, HoldSound, IsMeantBy, IsMeantRefusal, KeepsPool, SayTruths, StopsHold};
 ghost use Rattle.assembler.specs.Volume.{Agrees, OpensVolume, RefusesVolume};
 ghost use Rattle.array_image.specs.States.{is_current};
-ghost use Rattle.assembler.specs.Wanting.{LeavesPool};
+ghost use Rattle.assembler.specs.Wanting.{HasUsedUp, LeavesPool};
 ghost use Rattle.assembler.specs.Writing.{WritesPool};
 ghost use Rattle.pool_check.specs.Settling.{IsSettled, KeepsTable};
 ghost use Rattle.pool_image.specs.Alike.{MeansTheSame};
@@ -168,6 +169,12 @@ pub fn assemble<R: Rack>(
         → SayTruths f (raid_in (rack_in volume)) (slices_seen R.seen (rack_in volume))) }
     ensures exact { IfErr result (λ back. (f : Found) → HoldSound (R.seen rack) f → IsUnfaulted (R.seen rack) (R.seen back.rack)
         → back.why ≢ Memory → IsMeantRefusal (R.seen rack) back.why) }
+    // What a stop inside the opening leaves holds the pool still, so that it may be opened again: its arrays from their first extents on, and in whole where no
+    // volume was opened, unless numbers are used up.
+    ensures stops { IfOk result (λ volume. (f : Found) → HoldSound (R.seen rack) f → IsUnfaulted (R.seen rack) (R.seen (below_of (slices_in (rack_in volume))))
+        → StopsHold (R.seen rack) (R.seen (below_of (slices_in (rack_in volume)))) f data_start) }
+    ensures stopped { IfErr result (λ back. (f : Found) → HoldSound (R.seen rack) f → IsUnfaulted (R.seen rack) (R.seen back.rack)
+        → StopsHold (R.seen rack) (R.seen back.rack) f 0 ⊎ HasUsedUp R.seen R.runs rack back.rack) }
     // Whatever the disks tell and whoever goes, a refusal has its cause in what was read of them.
     ensures cause { IfErr result (λ back. HasRefusalCause R.seen R.runs rack back.rack back.why) }
     // Sound disks that refuse no call mean what they meant, where they are refused before the arrays are made.

@@ -25,8 +25,12 @@ ghost use Rattle.pool_check.specs.Refusing.{is_well};
 ghost use Rattle.assembler.specs.Holding.{HoldPool, HoldsArrays};
 ghost use Rattle.assembler.specs.Marking.{AreMarkedFor};
 ghost use Rattle.assembler.specs.Members.{AreMembers};
-ghost use Rattle.assembler.specs.Volume.{MarksAbsent};
+ghost use Rattle.assembler.specs.Rested.{HoldRested};
+ghost use Rattle.assembler.specs.Volume.{AllLive, MarksAbsent};
 ghost use Rattle.assembler.specs.Writing.{IsSlicedOrTable};
+ghost use Rattle.pool_model.specs.Left.{AreAlone};
+ghost use Rattle.pool_model.specs.Openings.{HoldOpened};
+ghost use Rattle.rack.specs.Moments.{Leaves};
 ghost use Rattle.rack.specs.Sequences.{WritesOnly};
 
 use crate::checks::Members;
@@ -139,6 +143,15 @@ pub(crate) fn make_rack<R: Rack>(members: Members<R>, seconds: u64) -> RaidRack<
         → IsChecked (is_well None) f members.checked
         → IsUnfaulted (R.seen (below_of members.slices)) (R.seen (below_of (slices_in result)))
         → HoldsArrays f (raid_in result) (slices_of (tables members.slices) (R.seen (below_of members.slices))) (slices_seen R.seen result) }
+    // And what a stop leaves meanwhile holds the pool still, where no superblock stands in it where a drive that is no member of an array would have
+    // its slice, and no sector of the arrays is spent in the end.
+    ensures moments { (f e : Found) → HoldPool members.state (tables members.slices) (R.seen (below_of members.slices)) members.log f
+        → IsChecked (is_well None) f members.checked
+        → HoldRested (R.seen (below_of members.slices)) f e
+        → IsUnfaulted (R.seen (below_of members.slices)) (R.seen (below_of (slices_in result)))
+        → AllLive (raid_in result)
+        → (R.seen (below_of members.slices)).traced
+        → Leaves (R.seen (below_of members.slices)) (R.seen (below_of (slices_in result))) (λ i. AreAlone e i → HoldOpened e 0 i) }
 {
     let Members {
         slices,

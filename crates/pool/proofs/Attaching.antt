@@ -25,6 +25,9 @@ use Rattle.pool.specs.Taking.{AreTold, AttachesDisk, Carries, IsOfPlace}
 use Rattle.pool.specs.View.{View, book, slices_shown, volume}
 use Rattle.pool.specs.Volume.{is_spent}
 use Rattle.pool.proofs.Carrying.{carries_kept}
+use Rattle.pool.specs.Held.{KeepsHeld}
+use Rattle.pool.proofs.Held.{held_reads, live_disk}
+use Rattle.raid_rack.specs.Raid.{live_of}
 use Rattle.pool.proofs.Later.{disks_fit, inside_later, later, only_read, some_disk}
 use Rattle.rack.specs.Sequences.{OnlyReads}
 use Rattle.array_model.specs.Members.{slice_on}
@@ -142,6 +145,7 @@ module _ (x : View) (b : Seen) (s : Shelf) (name : List ℕ) (raw : Result ℕ A
       keeps = λ names all k low alive told. (kept names k alive).keeps names all k low alive told;
       made = refl;
       truths = truths_kept;
+      held = held_kept;
     }
       where
         reads : x.shelf.told → 0 < x.bay.disks → OnlyReads (slices_of x.slices x.bay) (slices_of x.slices b)
@@ -154,10 +158,21 @@ module _ (x : View) (b : Seen) (s : Shelf) (name : List ℕ) (raw : Result ℕ A
             let disk = old_disk d (omega (arith, long)) in
             truths_reads (book x) (slices_of x.slices x.bay) (slices_of x.slices b) fit.0.running.set (reads names (omega (arith, disk))) n low held k within there
 
+        held_at : x.shelf.told → (n k : ℕ) → live_of (book x) n k → KeepsHeld (book x) (book m) (slices_shown x) (slices_shown m)
+        held_at names n k alive = held_reads x b fit added_arrays (reads names (live_disk x n k orderly fit alive))
+
+        held_kept : x.shelf.told → AreTold x → KeepsHeld (book x) (book m) (slices_shown x) (slices_shown m)
+        held_kept names all = record {
+          sectors = λ n. refl;
+          live = λ n k low alive. alive;
+          told = λ n k low alive told. (held_at names n k alive).told n k low alive told;
+          keeps = λ n k low within alive told. (held_at names n k alive).keeps n k low within alive told;
+        }
+
         kept : x.shelf.told → (k : ℕ) → is_spent m k ≡ false → Carries x m
         kept names k alive =
             let both = only_read x b s linear fit added_arrays (reads names (some_disk x k orderly fit alive)) in
-            carries_kept x m both.0 both.1 refl truths_kept
+            carries_kept x m both.0 both.1 refl truths_kept held_kept
 
     pub added_outside : KeepsOutside x.slices x.slices NoDisk x.shelf.told x.bay b
     added_outside = record {
@@ -220,6 +235,7 @@ module _ (x : View) (b : Seen) (s : Shelf) (name : List ℕ) (raw : Result ℕ A
         let reads = unattached_reads x.slices x.bay b x.shelf s same inside now.fit now.lasting was.unspent now.unspent in
         let both = only_read x b s linear fit same_arrays reads in
         carries_kept x m both.0 both.1 refl (λ names all. truths_reads (book x) (slices_of x.slices x.bay) (slices_of x.slices b) fit.0.running.set reads)
+        (λ names all. held_reads x b fit same_arrays reads)
 
     pub same_outside : KeepsOutside x.slices x.slices NoDisk x.shelf.told x.bay b
     same_outside = record {

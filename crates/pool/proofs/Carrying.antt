@@ -11,6 +11,8 @@ use Rattle.pool.specs.View.{View, book, contents_in, slices_shown, volume}
 use Rattle.pool.specs.Volume.{Holds, Means}
 use Rattle.pool.specs.Continuing.{Continues}
 use Rattle.pool.specs.Taking.{AreTold, Carries}
+use Rattle.pool.specs.Held.{KeepsHeld}
+use Rattle.pool.proofs.Held.{held_same, held_then}
 use Rattle.pool.proofs.Doing.{stopped_in}
 
 pub carries_same : (x : View) → Carries x x
@@ -20,6 +22,7 @@ carries_same x = record {
   keeps = λ names all s low alive told. keeps_same ((volume x).held 0 s);
   made = refl;
   truths = λ names all n low held. held;
+  held = λ names all. held_same (book x) (slices_shown x);
 }
 
 pub carries_then : (x y z : View) → Continues x y → Carries x y → Carries y z → Carries x z
@@ -34,18 +37,22 @@ carries_then x y z go one two = record {
   made = two.made ∙ one.made;
   truths = λ names all.
       truths_then (book x) (book y) (book z) (slices_shown x) (slices_shown y) (slices_shown z) one.made (one.truths names all) (two.truths (go.told names) (go.known names all));
+  held = λ names all.
+      held_then (book x) (book y) (book z) (slices_shown x) (slices_shown y) (slices_shown z) one.made (one.held names all) (two.held (go.told names) (go.known names all));
 }
 
 -- a call in which no value comes to the volume
 pub carries_kept : (x y : View) → Stays (volume x) (volume y) → KeepsAll (volume x) (volume y) → (book y).state.made ≡ (book x).state.made
-    → (x.shelf.told → AreTold x → KeepsTruths (book x) (book y) (slices_shown x) (slices_shown y)) → Carries x y
-carries_kept x y stays keeps made truths = record {
+    → (x.shelf.told → AreTold x → KeepsTruths (book x) (book y) (slices_shown x) (slices_shown y))
+    → (x.shelf.told → AreTold x → KeepsHeld (book x) (book y) (slices_shown x) (slices_shown y)) → Carries x y
+carries_kept x y stays keeps made truths held = record {
   spent = λ s alive. stays.spent 0 s alive;
   told = λ names all s low alive told. stays.told 0 told;
   keeps = λ names all s low alive told.
       keeps.held 0 s (record { disk = omega arith; sector = subst (λ n. s < n) (sym (stays.sectors 0)) low; is_told = told; unspent = alive });
   made = made;
   truths = truths;
+  held = held;
 }
 
 -- the volume holds what it held

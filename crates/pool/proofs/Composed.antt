@@ -145,15 +145,15 @@ still_disk Told a b d held clock = record {
 
 -- nothing was called
 declined_none : (x y : View) (place : ℕ) (fault : GrowFault) → book y ≡ book x → y.slices ≡ x.slices → y.bay.clock ≡ x.bay.clock
-    → IsDeclined (moment_of x) (moment_of y) place fault
-declined_none x y place fault same slices clock = record {
+    → ((d : ℕ) → d < x.bay.disks → (s : ℕ) → y.bay.held d s ≡ x.bay.held d s) → IsDeclined (moment_of x) (moment_of y) place fault
+declined_none x y place fault same slices clock held = record {
   marks = subst (λ (v : Raid). IsAfter (book x).state v.state) (sym same) (after_same (book x).state);
   plan = ap (λ (v : Raid). v.state.plan) same;
   arrays = subst (λ (v : Raid). KeepsArrays (book x) v) (sym same) (arrays_same (book x));
   cause = λ k was now. absurd (both_ways (is_current (book x).state k) (subst (λ (v : Raid). is_current v.state k ≡ false) same now) was);
   slices = inl slices;
   unmarked = λ is. same;
-  quiet = λ other none. (same, slices, clock);
+  quiet = λ other none. (same, slices, clock, held);
 }
 
 pub replaced_unlisted : (x : View) (place : ℕ) (name : List ℕ) → (volume x).fit → (x.bay.traced → IsSound (volume x))
@@ -178,7 +178,7 @@ replaced_unlisted x place name fit sound past = record {
     gone = λ same. absurd (let e : NoSuchDrive ≡ Gone = same_fault NoSuchDrive Gone same in cc e);
     not_whole = λ same. absurd (let e : NoSuchDrive ≡ NotWhole = same_fault NoSuchDrive NotWhole same in cc e);
   };
-  declined = declined_none x x place NoSuchDrive refl refl refl;
+  declined = declined_none x x place NoSuchDrive refl refl refl (λ d low s. refl);
   replaced = tt;
   table = tt;
   moments = tt;
@@ -210,7 +210,7 @@ nothing_done x place disk e fit is = record {
   answer = subst (λ o. IsAnswer o (Err e)) (sym is) refl;
   gone = λ same. absurd ((refusal_late x.linear (book x) place (x.bay.sectors disk) e is).1 (same_fault e Gone same));
   not_whole = λ same. inl (is ∙ ap Some (same_fault e NotWhole same));
-  declined = declined_none x x place e refl refl refl;
+  declined = declined_none x x place e refl refl refl (λ d low s. refl);
   replaced = tt;
   table = tt;
   moments = tt;
@@ -240,6 +240,8 @@ module _ (x : View) (b : Seen) (s : Shelf) (place : ℕ) (name : List ℕ) (list
           let one = at.image told d named in
           (one.0, one.1, λ k v within unsliced left. inl (subst (λ h. MayLeave h v) (one.2 k within) left));
       spent = at.carries.spent;
+      truths = at.carries.truths;
+      held = at.carries.held;
     };
     cause = record {
       missing = (λ same. absurd (not_listed (same_fault e NoSuchDrive same) at.err), λ past. absurd (omega (arith, listed, past)));
@@ -254,7 +256,7 @@ module _ (x : View) (b : Seen) (s : Shelf) (place : ℕ) (name : List ℕ) (list
       gone = λ same. absurd (not_gone (same_fault e Gone same) at.err);
       not_whole = λ same. absurd (not_whole (same_fault e NotWhole same) at.err);
     };
-    declined = declined_none x m place e refl refl at.clock;
+    declined = declined_none x m place e refl refl at.clock at.held;
     replaced = tt;
     table = tt;
     moments = tt;
@@ -347,6 +349,8 @@ module _ (x : View) (b : Seen) (s : Shelf) (place : ℕ) (name : List ℕ) (list
             current = λ of. absurd (not_drive of);
             image = λ told all d named. subst (λ e. IsKept y e) (sym (only y by d named)) (kept y by told all);
             spent = λ s alive. carries.spent s alive;
+            truths = carries.truths;
+            held = carries.held;
           };
           cause = record {
             missing = (λ same. absurd ((late by NoSuchDrive same).listed refl), λ past. absurd (omega (arith, listed, past)));
@@ -429,7 +433,9 @@ module _ (x : View) (b : Seen) (s : Shelf) (place : ℕ) (name : List ℕ) (list
           cause = λ k was now. went_since y k (declined.cause k was now);
           slices = declined.slices;
           unmarked = declined.unmarked;
-          quiet = λ other none. let still = declined.quiet other none in (still.0, still.1, still.2 ∙ at.clock);
+          quiet = λ other none.
+              let still = declined.quiet other none in
+              (still.0, still.1, still.2 ∙ at.clock, λ d low s. still.3 d (let more = at.continues.disks in omega (arith, low, more)) s ∙ at.held d low s);
         }
 
         replaced_since : (y : View) (r : Answer) → ((d : ℕ) → IsNamed (moment_of y) name d → d ≡ disk) → OnOk r (IsReplaced (moment_of m) (moment_of y) place disk)

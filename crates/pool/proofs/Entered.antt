@@ -31,7 +31,7 @@ use Rattle.raid_rack.specs.Moves.{KeepsArrays}
 use Rattle.raid_rack.specs.Laws.{live_parts, says_value}
 use Rattle.raid_rack.specs.Losses.{has_other}
 use Rattle.raid_rack.specs.NewDrive.{SeatsDrive, drive_table, joins}
-use Rattle.raid_rack.specs.Raid.{held_in, is_left, is_over, raid_of, spent_of}
+use Rattle.raid_rack.specs.Raid.{held_in, is_left, is_over, live_of, raid_of, spent_of}
 use Rattle.raid_rack.specs.RaidRack.{IsFit, raid_by}
 use Rattle.raid_rack.proofs.Ended.{none_past}
 use Rattle.raid_rack.proofs.Over.{or_from}
@@ -117,6 +117,17 @@ module _ (x : View) (b : Seen) (s : Shelf) (place disk units : ℕ) (t u : Slice
             after.running.set after.heeded missing made enlists.is.arrays alone (array_of x.linear k) (alive_array k alive) (sector_of x.linear k)))
       ]
 
+  live_other : (n k : ℕ) → n < x.arrays.state.made → live_of (raid_by z) n k → has_other z.state place ≡ true
+  live_other n k low alive =
+      elim (cases_Bool (has_other z.state place)) [
+        | inl other ↦ other
+        | inr alone ↦
+            absurd
+            (both_ways (spent_in ((raid_by z).arrays n) k) (live_parts (raid_by z) n k alive).1
+            (all_spent place units (Replace place) (joins x.arrays.all.items place (x.bay.sectors disk)) (book x) (raid_by z) (slices_of t x.bay) (slices_of u b) empty.running.set
+            after.running.set after.heeded missing made enlists.is.arrays alone n low k))
+      ]
+
   tells : AreTold x → (k : ℕ) → is_spent y k ≡ false → (n : ℕ) → n < x.arrays.state.made → (volume mid).told 0 → n < x.linear.arrays
       → KeepsTold t u place disk units (Replace place) (new_table x.arrays.state x.arrays.all.items place (x.bay.sectors disk)) (book x) (raid_by z) x.bay b enlists.mid n
   tells all k alive n below told inside = enlists.told n below (told n inside) (opened all) (alive_other k alive)
@@ -142,6 +153,14 @@ module _ (x : View) (b : Seen) (s : Shelf) (place disk units : ℕ) (t u : Slice
         (tells all k alive n (low_array n below) told below).keeps (sector_of x.linear k) alive;
     made = made;
     truths = λ names all. enlists.truths (opened all);
+    held = λ names all. record {
+      sectors = enlists.is.sectors;
+      live = λ n k low alive.
+          let parts = live_parts (raid_by z) n k alive in
+          or_from (is_over (book x) n) (spent_in ((book x).arrays n) k) (enlists.is.still n low (live_other n k low alive) parts.0) (enlists.is.spent n k low parts.1);
+      told = λ n k low alive told. (enlists.told n low told (opened all) (live_other n k low alive)).told;
+      keeps = λ n k low within alive told. (enlists.told n low told (opened all) (live_other n k low alive)).keeps k alive;
+    };
   }
 
   -- ---- its table

@@ -26,3 +26,4 @@ mod Quiet
 mod Counting
 mod Counted
 mod Stepping
+mod Held

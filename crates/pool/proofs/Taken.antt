@@ -35,6 +35,7 @@ use Rattle.pool.specs.Taking.{AreTold, Carries, ReplacesBy}
 use Rattle.pool.specs.View.{View, book, volume}
 use Rattle.pool.proofs.Attaching.{IsBay}
 use Rattle.pool.proofs.Booked.{book_lost, book_same, raises_still}
+use Rattle.pool.proofs.Held.{held_moves, held_reads}
 use Rattle.pool.proofs.Carrying.{carries_kept, carries_then, holds_of, means_kept}
 use Rattle.pool.proofs.Continuing.{continues_then, outside_fewer, outside_then, outside_writes}
 use Rattle.pool.proofs.Keeping.{not_left, went}
@@ -146,7 +147,8 @@ module _ (x : View) (b : Seen) (s : Shelf) (place disk : ℕ) (t : Slices) (line
       let fit_now : (volume y).fit = (after, inside_later x b s t x.arrays fit refl (λ n. refl)) in
       record {
         continues = goes_on t x.arrays may only fit_now orderly;
-        carries = carries_then x mid y mid_goes mid_carries (carries_kept mid y both.0 both.1 refl (λ names all. truths_reads (book x) (slices_of t x.bay) (slices_of t b) empty.running.set reads));
+        carries = carries_then x mid y mid_goes mid_carries (carries_kept mid y both.0 both.1 refl (λ names all. truths_reads (book x) (slices_of t x.bay) (slices_of t b) empty.running.set reads)
+            (λ names all. held_reads mid b mid_fit after reads));
         raises = raises_still 1 x;
         keeps = book_same (book x);
         outside = outside_of_it t x.arrays may only fit_now orderly (λ d k v at. inr at.0) (λ d k v is. inl is);
@@ -189,7 +191,7 @@ module _ (x : View) (b : Seen) (s : Shelf) (place disk : ℕ) (t : Slices) (line
       let fit_now : (volume y).fit = (after, inside_later x b s t z fit moves.book.same.made moves.sectors) in
       record {
         continues = goes_on t z may only fit_now orderly;
-        carries = carries_then x mid y mid_goes mid_carries (carries_kept mid y both.0 both.1 moves.book.same.made (λ names all. truths));
+        carries = carries_then x mid y mid_goes mid_carries (carries_kept mid y both.0 both.1 moves.book.same.made (λ names all. truths) (λ names all. held_moves mid b t z mid_fit after moves));
         raises = raises_more 18 most_raised (book x) (raid_by z) (omega arith) raises;
         keeps = book_lost (book x) (raid_by z) (slices_of t b) after.running.set after.heeded moves.book.same.made moves.arrays;
         outside = outside_of_it t z may only fit_now orderly (λ d k v at. elim at [ inl own ↦ inr own.0 | inr sliced ↦ inl sliced ]) (λ d k v is. inl is);

@@ -64,6 +64,13 @@ module _ (x : View) (place : ℕ) (t : Slices) (linear : IsOrderlyVolume x.linea
         (sector_of x.linear k) alive;
     made = refl;
     truths = λ names all. vacated_truths place x.slices t x.bay vacated (book x) fit.0.heeded missing fit.0.running.set;
+    held = λ names all. record {
+      sectors = λ n. refl;
+      live = λ n k low alive. alive;
+      told = λ n k low alive told. vacated_told place x.slices t x.bay vacated (book x) fit.0.heeded missing fit.0.running.set after.running.set.fit n low told;
+      keeps = λ n k low within alive told.
+          vacated_keeps place x.slices t x.bay vacated (book x) fit.0.heeded missing fit.0.running.set after.running.set.fit n low told k alive;
+    };
   }
 
   -- a sector of a slice was one

@@ -6,6 +6,7 @@ pub mod Calls
 pub mod Replacing
 pub mod Continuing
 pub mod Replaced
+pub mod Held
 pub mod Taking
 pub mod Made
 pub mod Keeping

@@ -26,6 +26,7 @@ use Rattle.pool.specs.declared.replacing.GrowFault.{GrowFault}
 use Rattle.pool.specs.declared.replacing.GrowFault.TheVariants.{NoSuchDrive, Attach, Twice, Memory, NotWhole, Gone}
 use Rattle.lvm_group.specs.Runs.{Linear}
 use Rattle.pool.specs.Continuing.{Continues, KeepsDisk, KeepsOutside, NoDisk}
+use Rattle.pool.specs.Held.{KeepsHeld}
 use Rattle.pool.specs.Keeping.{KeepsBook, Raises}
 use Rattle.pool.specs.Moment.{IsImage, IsNamed, Moment, moment_of, views_of}
 use Rattle.pool.specs.Replacing.{refusal_of}
@@ -96,7 +97,7 @@ abbrev pub DriveWentSince : Moment → Moment → ℕ → Type 0
 DriveWentSince p q k = Rose (faults_before p (disk_of q.slices (log_slice k))) (q.faults (disk_of q.slices (log_slice k)))
 
 -- The drive isn't replaced. Marks alone come to the book, each of a drive that refused a call. Where the new disk itself refused one, nobody
--- is marked; and where nobody is marked and it refused none, nothing is called. The place has the disk that it had, or none.
+-- is marked; and where nobody is marked and it refused none, nothing is called, and disks hold what they held. The place has the disk that it had, or none.
 pub record IsDeclined (p q : Moment) (place : ℕ) (fault : GrowFault) : Type 0 where
   pub marks : IsAfter p.book.state q.book.state
   pub plan : q.book.state.plan ≡ p.book.state.plan
@@ -104,7 +105,9 @@ pub record IsDeclined (p q : Moment) (place : ℕ) (fault : GrowFault) : Type 0 
   pub cause : (k : ℕ) → is_current p.book.state k ≡ true → is_current q.book.state k ≡ false → DriveWentSince p q k
   pub slices : (q.slices ≡ p.slices) ⊎ Seats p.slices q.slices place None
   pub unmarked : fault ≡ Gone → q.book ≡ p.book
-  pub quiet : fault ≢ Gone → (HasMarked p q → ⊥) → (q.book ≡ p.book) × (q.slices ≡ p.slices) × (q.clock ≡ p.clock)
+  pub quiet :
+      fault ≢ Gone → (HasMarked p q → ⊥)
+      → (q.book ≡ p.book) × (q.slices ≡ p.slices) × (q.clock ≡ p.clock) × ((d : ℕ) → d < p.disks → (s : ℕ) → q.held d s ≡ p.held d s)
 
 -- The drive is replaced by this disk: one of so many units is in the list, its place has the disk, and it is current but where it refused a
 -- call since.
@@ -188,6 +191,9 @@ pub record ChangesDrive (x y : View) (place : ℕ) (name : List ℕ) : Type 0 wh
   pub current : IsOfDrive (moment_of x) name → KeepsOutside x.slices y.slices NoDisk x.shelf.told x.bay y.bay
   pub image : x.shelf.told → ((d : ℕ) → d < x.bay.disks → x.bay.told d) → KeepsImage x.linear (moment_of x) (moment_of y) place name
   pub spent : (s : ℕ) → is_spent y s ≡ false → is_spent x s ≡ false
+  -- superblocks that said an array's truth do so, and sectors of the arrays keep their values, also those that are none of the volume's
+  pub truths : x.shelf.told → ((d : ℕ) → d < x.bay.disks → x.bay.told d) → KeepsTruths (book x) (book y) (slices_shown x) (slices_shown y)
+  pub held : x.shelf.told → ((d : ℕ) → d < x.bay.disks → x.bay.told d) → KeepsHeld (book x) (book y) (slices_shown x) (slices_shown y)
 
 -- The drive of a place is replaced by the disk of a name, which is attached where it isn't yet. No value moves. `name` is the one disk
 -- that is written outside the slices of drives.

@@ -10,6 +10,7 @@ use Rattle.pool.specs.declared.replacing.GrowFault.{GrowFault}
 use Rattle.pool.specs.declared.replacing.GrowFault.TheVariants.{Attach, Twice, Memory, NotWhole, Gone}
 use Rattle.raid_rack.specs.NewDrive.{IsOfDrive as IsLaid}
 use Rattle.pool.specs.Continuing.{Continues, KeepsDisk, KeepsOutside, NoDisk}
+use Rattle.pool.specs.Held.{KeepsHeld}
 use Rattle.pool.specs.Keeping.{KeepsBook, Raises}
 use Rattle.pool.specs.Moment.{IsImage, IsNamed, Moment, moment_of}
 use Rattle.pool.specs.Replaced.{HasMarked, HasTable, IsAnswer, IsDeclined, IsOfDrive, IsReplaced, LeavesNew, MeansWith, MeansWithout, NamesDisk, faults_before, is_vacant}
@@ -31,6 +32,8 @@ pub record Carries (x y : View) : Type 0 where
   -- superblocks that said an array's truth do so
   pub made : (book y).state.made ≡ (book x).state.made
   pub truths : x.shelf.told → AreTold x → KeepsTruths (book x) (book y) (slices_shown x) (slices_shown y)
+  -- and sectors of the arrays keep their values, also those that are none of the volume's
+  pub held : x.shelf.told → AreTold x → KeepsHeld (book x) (book y) (slices_shown x) (slices_shown y)
 
 -- a disk is that of a place that isn't missing
 abbrev pub IsOfPlace : Moment → ℕ → Type 0

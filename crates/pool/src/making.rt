@@ -15,9 +15,10 @@ ghost use Rattle.pool_rest.specs.Resting.{WritesDrives};
 ghost use Rattle.assembler.specs.Causes.{HasRefusalCause};
 ghost use Rattle.assembler.specs.Marking.{MarksDrives};
 ghost use Rattle.assembler.specs.Refusing.{is_early};
-ghost use Rattle.assembler.specs.Sound.{HaveAgreed, HoldSound, IsMeantBy, IsMeantRefusal, KeepsPool, SayTruths};
-ghost use Rattle.assembler.specs.Wanting.{LeavesPool};
+ghost use Rattle.assembler.specs.Sound.{HaveAgreed, HoldSound, IsMeantBy, IsMeantRefusal, KeepsPool, SayTruths, StopsHold};
+ghost use Rattle.assembler.specs.Wanting.{HasUsedUp, LeavesPool};
 ghost use Rattle.assembler.specs.Writing.{WritesPool};
+ghost use Rattle.lvm_group.specs.Runs.{data_start};
 ghost use Rattle.raid_rack.specs.RaidRack.{arrays_in};
 ghost use Rattle.pool_format.specs.Plan.{IsUnplanned, units_on};
 ghost use Rattle.pool_format.specs.Format.{IsRefusedFor};
@@ -58,6 +59,11 @@ impl<R: Bay> Pool<R> {
             → SayTruths f (book (view R.seen R.shelf pool)) (slices_shown (view R.seen R.shelf pool))) }
         ensures exact { IfErr result (λ back. (f : Found) → HoldSound (R.seen bay) f → IsUnfaulted (R.seen bay) (R.seen back.rack)
             → back.why ≢ Refusal.Memory → IsMeantRefusal (R.seen bay) back.why) }
+        // What a stop inside the opening leaves holds the pool still, so that it may be opened again.
+        ensures stops { IfOk result (λ pool. (f : Found) → HoldSound (R.seen bay) f → IsUnfaulted (R.seen bay) (R.seen (bay_in pool))
+            → StopsHold (R.seen bay) (R.seen (bay_in pool)) f data_start) }
+        ensures stopped { IfErr result (λ back. (f : Found) → HoldSound (R.seen bay) f → IsUnfaulted (R.seen bay) (R.seen back.rack)
+            → StopsHold (R.seen bay) (R.seen back.rack) f 0 ⊎ HasUsedUp R.seen R.runs bay back.rack) }
         // Whatever the disks tell and whoever goes, a refusal has its cause in what was read of them.
         ensures cause { IfErr result (λ back. HasRefusalCause R.seen R.runs bay back.rack back.why) }
         // Sound disks that refuse no call mean what they meant, or hold the arrays that the pool had.

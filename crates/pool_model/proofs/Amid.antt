@@ -4,8 +4,10 @@
 -- whose drive is missing gave its disk up before. Beside `InService` they ask that the drives' tables in these contents have the members' slices
 -- (`LieByTables`): they have where the pool was found with such tables (`tables_begin`), and calls that write slices alone leave them so (`tables_calls`,
 -- `tables_amid`; for drives that were declined or taken in see proofs/Tables.antt).
-use Rattle.std.proofs.Common.{◌≡◌, ◌⊎◌, ℕ, ◌+◌, ◌<◌, ◌≤◌, ◌&&◌, Bool, false, nat_lt, if◌then◌else◌, List, [], length, Option, Some, unwrap_or, refl, sym, ap, ap₂, subst, ◌∙◌, inl, inr, add-one, le-ltb, ltb-true, arith}
+use Rattle.std.proofs.Common.{◌≡◌, ◌⊎◌, ℕ, ◌+◌, ◌-◌, ◌<◌, ◌≤◌, ◌^◌, ◌&&◌, Bool, true, false, nat_lt, if◌then◌else◌, List, [], length, Option, Some, None, unwrap_or, refl, sym, ap, ap₂, subst, ◌∙◌, inl, inr, add-one, le-ltb, ltb-true, arith}
 use Rattle.std.proofs.lemmas.Bool.{and_parts, cases_Bool, cases_eq}
+use Rattle.std.proofs.lemmas.Option.{none-some}
+use Rattle.rack.specs.Joins.{leaves_weaker}
 use Rattle.rack.specs.Moments.{Leaves}
 use Rattle.rack.specs.Seen.{Image, Seen}
 use Rattle.rack.specs.Sequences.{WritesOnly}
@@ -19,30 +21,30 @@ use Rattle.pool_state.specs.declared.contents.State.{State}
 use Rattle.pool_state.specs.Sector.{decoded}
 use Rattle.array_image.specs.Arrays.{replayed}
 use Rattle.array_image.specs.Left.{IsInside as HasNothing}
-use Rattle.array_image.specs.Places.{log_slice}
+use Rattle.array_image.specs.Places.{log_slice, place_of}
 use Rattle.array_image.specs.SoundArray.{IsSoundArray}
 use Rattle.array_image.specs.States.{is_current}
 use Rattle.array_image.specs.Supers.{truth_in}
 use Rattle.array_model.specs.View.{HasGeometry}
 use Rattle.commit_log.proofs.Kept.{live_on}
 use Rattle.raid_rack.specs.Book.{IsAfter, after_same, after_then}
-use Rattle.raid_rack.specs.Frames.{Frame, frame_of}
+use Rattle.raid_rack.specs.Frames.{Frame, HasFrame, frame_of}
 use Rattle.raid_rack.specs.Logs.{LogsBetween}
 use Rattle.raid_rack.specs.Raid.{IsTold, Raid, is_over}
-use Rattle.raid_rack.specs.Runs.{KeepsMoments}
+use Rattle.raid_rack.specs.Runs.{IsBetween, KeepsMoments}
 use Rattle.raid_rack.specs.Since.{AreSince}
 use Rattle.raid_rack.proofs.Frames.{geometry_frame}
 use Rattle.raid_rack.proofs.Noted.{current_few}
 use Rattle.raid_rack.proofs.Over.{number_room, someone_left}
 use Rattle.raid_rack.proofs.Since.{kept_since}
-use Rattle.pool_image.specs.Disks.{Disks, Identities, disks_of, identities_of}
+use Rattle.pool_image.specs.Disks.{Disks, Identities, disks_of, identities_of, stands_for}
 use Rattle.pool_image.specs.Drives.{Found, extent_of, slices_of as found_slices}
 use Rattle.pool_image.specs.Meaning.{is_member, truth_of}
 use Rattle.pool_image.specs.Replay.{extent_by}
-use Rattle.pool_model.specs.InService.{InService, IsArranged, IsSaid}
-use Rattle.pool_model.specs.Left.{AreAloneBy, HoldRest, IsPickOff}
+use Rattle.pool_model.specs.InService.{InService, IsArranged, IsOutset, IsSaid}
+use Rattle.pool_model.specs.Left.{AreAloneBy, AreElsewhere, HoldRest, IsPickOff}
 use Rattle.pool_model.specs.Pools.{AreSlicesOf, extent_in}
-use Rattle.pool_model.specs.Stopped.{AreSlicesNow, HaveTables, HoldAmid, HoldTables, IsStopped, LieByTables, SaysArray}
+use Rattle.pool_model.specs.Stopped.{AreSlicesNow, HaveTables, HoldAmid, HoldBetween, HoldTables, IsStopped, LieByTables, SaysArray, TellsStops}
 use Rattle.pool_model.specs.Taken.{LacksDrive}
 use Rattle.pool_model.proofs.Again.{off_later}
 use Rattle.pool_model.proofs.Alike.{alone_said, has_truths, slices_said, truth_same}
@@ -53,7 +55,8 @@ use Rattle.pool_model.proofs.InService.{still_said}
 use Rattle.pool_model.proofs.Inside.{stopped_still}
 use Rattle.pool_model.proofs.Logs.{copied_in, there_in}
 use Rattle.pool_model.proofs.Named.{same_length}
-use Rattle.pool_model.proofs.Pending.{apart_now, lower_now, stood_now}
+use Rattle.pool_model.proofs.Outset.{arranged_of}
+use Rattle.pool_model.proofs.Pending.{apart_now, lower_now, stood_in_log}
 use Rattle.pool_model.proofs.Said.{AreInside, slices_by}
 use Rattle.pool_model.proofs.Vacant.{logs_other, seat_other, sliced_before, slices_now}
 
@@ -62,18 +65,22 @@ some_same a b same = cc
 
 -- ---- tables
 
--- a pool that was found with the members' slices by its drives' tables
-pub tables_begin : (f : Found) (t : Slices) (s : State) (x : Seen) → HaveTables f → AreSlicesOf f t → HoldRest f t x → HoldTables f t s x
-tables_begin f t s x have slices rest i off p d now seat n few some =
+-- the drives' tables have the members' slices where they had them, and outside the slices they are as they were
+pub tables_lie : (f : Found) (t : Slices) (s : State) (x : Seen) → HaveTables f → AreSlicesOf f t → ((i : Image) → IsPickOff t x i → AreElsewhere f i) → HoldTables f t s x
+tables_lie f t s x have slices elsewhere i off p d now seat n few some =
     let at : f.seats p ≡ Some d = sym (slices.seats p) ∙ seat in
     elim (cases_Bool (nat_lt n f.state.made && is_member f n p)) [
       | inr other ↦ (let none = slices.others n p few other in absurd (omega (arith, some, none)))
       | inl both ↦
           let parts = and_parts (nat_lt n f.state.made) (is_member f n p) both in
           let low = ltb-true n f.state.made parts.0 in
-          ap₂ (λ (o : Option Table) (k : ℕ). extent_by (f.disks.sectors d) o k) ((rest.elsewhere i off).tables p d at) (add-one n)
+          ap₂ (λ (o : Option Table) (k : ℕ). extent_by (f.disks.sectors d) o k) ((elsewhere i off).tables p d at) (add-one n)
           ∙ have n p d low at parts.1 ∙ slices.members n p d low at parts.1
     ]
+
+-- a pool that was found with the members' slices by its drives' tables
+pub tables_begin : (f : Found) (t : Slices) (s : State) (x : Seen) → HaveTables f → AreSlicesOf f t → HoldRest f t x → HoldTables f t s x
+tables_begin f t s x have slices rest = tables_lie f t s x have slices rest.elsewhere
 
 -- calls that write slices alone
 pub tables_calls : (f : Found) (t : Slices) (s r : State) (x y : Seen) → x.lasting → WritesOnly x y (IsSliced t) → IsAfter s r → HoldTables f t s x → HoldTables f t r y
@@ -96,6 +103,15 @@ off_more t u x before i off d s live never = off d s live (λ w is. never w (bef
 
 -- ---- a call
 
+-- slices lie inside the pool's disks
+inside_of : (f : Found) (t : Slices) (x : Seen) → f.disks ≡ disks_of x → IsInside t x → AreInside f t
+inside_of f t x disks inside j d seat some =
+    let disk : disk_of t j ≡ d = ap (λ o. unwrap_or o 0) seat in
+    let sectors : x.sectors d ≡ f.disks.sectors d = ap (λ (z : Disks). z.sectors d) (sym disks) in
+    let low = inside.slices j some in
+    let here : x.sectors (disk_of t j) ≡ x.sectors d = ap x.sectors disk in
+    omega (arith, low, sectors, here)
+
 -- What a call finds of a pool in service, by slices t that lie as those of its current places: no other drive says the book's state or a later one.
 record IsCalled (f : Found) (t : Slices) (v : Raid) (x : Seen) : Type 0 where
   disks : f.disks ≡ disks_of x
@@ -104,7 +120,6 @@ record IsCalled (f : Found) (t : Slices) (v : Raid) (x : Seen) : Type 0 where
   joined : f.state.joined ≡ f.state.made
   geometry : (n : ℕ) (u : Super) → n < f.state.made → truth_of f n ≡ Some u → HasGeometry u (v.arrays n).truth
   said : (i : Image) → IsPickOff t x i → IsSaid f i
-  alone : (i : Image) → IsPickOff t x i → AreAloneBy v.state f i
   slices : (e : Identities) → AreSlicesNow (record f { identities = e }) t v.state
   former :
       (p d : ℕ) → f.seats p ≡ Some d → is_current v.state p ≡ false
@@ -112,26 +127,20 @@ record IsCalled (f : Found) (t : Slices) (v : Raid) (x : Seen) : Type 0 where
       ⊎ ((i : Image) → IsPickOff t x i → (copy : Copied) → (identities_of (disks_of x) i d).copied ≡ Some copy → copy.state.epoch < v.state.epoch)
 
 module _ (f : Found) (t : Slices) (v w : Raid) (x y : Seen) (is : IsCalled f t v x) (orderly : IsOrderly t) (inside : IsInside t x)
-    (lasting : x.lasting) (only : WritesOnly x y (IsSliced t)) (keeps : KeepsMoments v w (slices_of t x) (slices_of t y))
-    (told : (n : ℕ) → n < f.state.made → IsTold v (slices_of t x) n) (lasts : (n : ℕ) → n < f.state.made → is_over w n ≡ false) where
+    (lasting : x.lasting) (only : WritesOnly x y (IsSliced t)) (tells : x.traced → TellsStops f.state.made v w (slices_of t x) (slices_of t y))
+    (absent : (i : Image) → IsPickOff t x i → AreSince v.state (sectors_of t) (sliced t i) → (p d : ℕ) → is_current v.state p ≡ true → f.seats p ≡ None → d < f.disks.count
+    → stands_for v.state (identities_of f.disks i d) ≡ Some p → ⊥)
+    (enough : w.state.epoch < 2 ^ 63 - 1) (someone : (s : State) → IsAfter v.state s → IsAfter s w.state → (p d : ℕ) × (is_current s p ≡ true) × (f.seats p ≡ Some d)) where
   few : f.state.made ≤ 16
   few = is.arranged.made.1
 
-  first : 0 < f.state.made
-  first = (let made = is.arranged.made.0 in omega (arith, made))
-
   within : AreInside f t
-  within j d seat some =
-      let disk : disk_of t j ≡ d = ap (λ o. unwrap_or o 0) seat in
-      let sectors : x.sectors d ≡ f.disks.sectors d = ap (λ (z : Disks). z.sectors d) (sym is.disks) in
-      let low = inside.slices j some in
-      let here : x.sectors (disk_of t j) ≡ x.sectors d = ap x.sectors disk in
-      omega (arith, low, sectors, here)
+  within = inside_of f t x is.disks inside
 
   -- ---- contents of the slices
 
   module _ (traced : x.traced) (k : ℕ) (i : Image) (late : x.clock < k) (early : k ≤ y.clock) (stop : y.stops k i)
-      (tables : LieByTables f t v.state i) where
+      (tables : LieByTables f t v.state i) (alone : AreAloneBy v.state f i) where
     abbrev c : Image
     c = sliced t i
 
@@ -141,20 +150,17 @@ module _ (f : Found) (t : Slices) (v w : Raid) (x y : Seen) (is : IsCalled f t v
     shown : (slices_of t y).stops k c
     shown = (i, stop, λ d s. refl)
 
+    nothing : HasNothing (sectors_of t) c
+    nothing d u past = ap (λ (b : Bool). if b then i (disk_of t d) (slice_first t d + u) else []) (le-ltb u (sectors_of t d) past)
+
     logs : LogsBetween v.state w.state (sectors_of t) c
-    logs = (keeps.logs 0 (told 0 first) (lasts 0 first) traced).new k c late early shown
+    logs = (tells traced).logs.new k c late early shown nothing
 
     abbrev s : State
     s = logs.state
 
-    nothing : HasNothing (sectors_of t) c
-    nothing d u past = ap (λ (b : Bool). if b then i (disk_of t d) (slice_first t d + u) else []) (le-ltb u (sectors_of t d) past)
-
     since : AreSince v.state (sectors_of t) c
-    since =
-        let stood = (told 0 first).stood (keeps.still 0 (lasts 0 first)) in
-        let kept = keeps.since 0 v.state (told 0 first) (lasts 0 first) (after_same v.state) (kept_since v.state v.number (slices_of t x) stood.log) in
-        (kept.leaves traced).new k c late early shown nothing
+    since = (tells traced).since.new k c late early shown nothing
 
     -- ---- the disks outside the slices
 
@@ -192,12 +198,12 @@ module _ (f : Found) (t : Slices) (v w : Raid) (x y : Seen) (is : IsCalled f t v
 
     array_said : (n : ℕ) → n < f.state.made → SaysArray said s r n
     array_said n low =
-        let between = (keeps.images n (told n low) (lasts n low) traced).new k c late early shown in
+        let between = ((tells traced).arrays n low).new k c late early shown nothing in
         let state : between.state ≡ s = some_same between.state s (sym between.is_state ∙ logs.says.is_state) in
         let one = shape_truth between.state r n (truth_in between.state r n) between.shape between.shape_is in
         let truth : truth_in s r n ≡ Some one.0 = subst (λ (z : State). truth_in z r n ≡ Some one.0) state one.1 in
         let frame : frame_of one.0 ≡ frame_of (v.arrays n).truth =
-        (keeps.frames n (told n low) (lasts n low) traced).new k c late early shown s one.0 logs.says.is_state truth in
+        ((tells traced).frames n low).new k c late early shown nothing s one.0 logs.says.is_state truth in
         record {
           truth = one.0;
           is_truth = truth;
@@ -213,13 +219,13 @@ module _ (f : Found) (t : Slices) (v w : Raid) (x y : Seen) (is : IsCalled f t v
       is = (is.said i off).outset;
       begun = is.after;
       after = logs.later;
-      room = (let most = (number_room w 0 (lasts 0 first)).1 in let up = logs.sooner.epoch in omega (arith, most, up));
+      room = (let up = logs.sooner.epoch in omega (arith, enough, up));
       joined = is.joined;
       slices = is.slices e;
       orderly = orderly;
       inside = within;
-      there = λ p now. ((told 0 first).stood (keeps.still 0 (lasts 0 first))).log.there p now refl;
-      someone = (let one = someone_left w 0 (lasts 0 first) in (one.0, logs.sooner.current one.0 one.1));
+      absent = absent i off since;
+      someone = someone s logs.later logs.sooner;
       tables = λ p d now. tables p d (logs.later.current p now);
       former = former;
       says = logs.says;
@@ -228,10 +234,10 @@ module _ (f : Found) (t : Slices) (v w : Raid) (x y : Seen) (is : IsCalled f t v
       elsewhere = (is.said i off).elsewhere;
       alone =
           alone_said f e few has s i
-          (λ n p d begins low now. is.alone i off n p d begins low (logs.later.current p now));
+          (λ n p d begins low now. alone n p d begins low (logs.later.current p now));
     }
 
-    amid : HoldAmid f t v.state w.state i
+    amid : HoldBetween f t v.state w.state i
     unfolding stopped_still still_said
     amid = record {
       state = s;
@@ -239,34 +245,153 @@ module _ (f : Found) (t : Slices) (v w : Raid) (x y : Seen) (is : IsCalled f t v
       sooner = logs.sooner;
       still = still_said f e t s i (stopped_still said t v.state s i stopped);
       apart = apart_now said t v.state s i stopped;
-      stood = stood_now said t v.state s i stopped;
+      stood = stood_in_log said t v.state s i stopped;
       lower = lower_now said t v.state s i stopped;
     }
 
-  called_amid : x.traced → Leaves x y (λ i. LieByTables f t v.state i → HoldAmid f t v.state w.state i)
+  called_amid : x.traced → Leaves x y (λ i. LieByTables f t v.state i → AreAloneBy v.state f i → HoldBetween f t v.state w.state i)
   called_amid traced =
       let stops = only.stops traced in
       record { later = stops.later; kept = stops.kept; past = stops.past; new = amid traced }
 
+-- ---- calls of a rack of arrays
+
+-- Where the arrays are told when calls begin, and none is over when they end, the calls tell of their stops; each place that is current has its log slice, so it
+-- has a drive.
+module _ (f : Found) (t : Slices) (v w : Raid) (x y : Seen) (is : IsCalled f t v x) (keeps : KeepsMoments v w (slices_of t x) (slices_of t y))
+    (told : (n : ℕ) → n < f.state.made → IsTold v (slices_of t x) n) (lasts : (n : ℕ) → n < f.state.made → is_over w n ≡ false) where
+  first : 0 < f.state.made
+  first = (let made = is.arranged.made.0 in omega (arith, made))
+
+  calls_tell : x.traced → TellsStops f.state.made v w (slices_of t x) (slices_of t y)
+  calls_tell traced =
+      let stood = (told 0 first).stood (keeps.still 0 (lasts 0 first)) in
+      let kept = keeps.since 0 v.state (told 0 first) (lasts 0 first) (after_same v.state) (kept_since v.state v.number (slices_of t x) stood.log) in
+      record {
+        logs =
+            leaves_weaker (LogsBetween v.state w.state (sectors_of t)) (λ c. HasNothing (sectors_of t) c → LogsBetween v.state w.state (sectors_of t) c)
+            (λ c says none. says) (keeps.logs 0 (told 0 first) (lasts 0 first) traced);
+        since = kept.leaves traced;
+        arrays = λ n low.
+            leaves_weaker (λ c. IsBetween v.state w.state n (replayed (sectors_of t) c)) (λ c. HasNothing (sectors_of t) c → IsBetween v.state w.state n (replayed (sectors_of t) c))
+            (λ c says none. says) (keeps.images n (told n low) (lasts n low) traced);
+        frames = λ n low.
+            leaves_weaker (λ c. HasFrame (frame_of (v.arrays n).truth) n (replayed (sectors_of t) c))
+            (λ c. HasNothing (sectors_of t) c → HasFrame (frame_of (v.arrays n).truth) n (replayed (sectors_of t) c))
+            (λ c says none. says) (keeps.frames n (told n low) (lasts n low) traced);
+      }
+
+  has_drive : (p : ℕ) → is_current v.state p ≡ true → (d : ℕ) × (f.seats p ≡ Some d)
+  has_drive p now = by (f.seats p) refl
+    where
+      by : (o : Option ℕ) → f.seats p ≡ o → (d : ℕ) × (f.seats p ≡ Some d)
+      by (Some d) seat = (d, seat)
+      by None free =
+          let at : place_of (log_slice p) ≡ p = omega arith in
+          let nothing = (is.slices f.identities).unseated (log_slice p) (ap f.seats at ∙ free) in
+          let some = ((told 0 first).stood (keeps.still 0 (lasts 0 first))).log.there p now refl in
+          absurd (omega (arith, nothing, some))
+
+  told_amid : IsOrderly t → IsInside t x → x.lasting → WritesOnly x y (IsSliced t) → x.traced
+      → Leaves x y (λ i. LieByTables f t v.state i → AreAloneBy v.state f i → HoldAmid f t v.state w.state i)
+  told_amid orderly inside lasting only traced =
+      leaves_weaker (λ i. LieByTables f t v.state i → AreAloneBy v.state f i → HoldBetween f t v.state w.state i)
+      (λ i. LieByTables f t v.state i → AreAloneBy v.state f i → HoldAmid f t v.state w.state i)
+      (λ i holds lie alone.
+      let between = holds lie alone in
+      record {
+        between = between;
+        present = λ p counts. let one = has_drive p (between.later.current p counts) in (one.0, between.still.seats p counts ∙ one.1);
+      })
+      (called_amid f t v w x y is orderly inside lasting only calls_tell
+      (λ i off since p d now free low stands. let one = has_drive p now in none-some one.0 (sym free ∙ one.1))
+      (let most = (number_room w 0 (lasts 0 first)).1 in omega (arith, most))
+      (λ s later sooner.
+      let one = someone_left w 0 (lasts 0 first) in
+      let now = sooner.current one.0 one.1 in
+      let drive = has_drive one.0 (later.current one.0 now) in (one.0, drive.0, now, drive.1))
+      traced)
+
+-- where outside the slices no superblock stands where none is to be, stops inside calls that write these alone leave none there
+alone_amid : (f : Found) (t : Slices) (s r : State) (x y : Seen) → x.lasting → WritesOnly x y (IsSliced t) → x.traced → ((i : Image) → IsPickOff t x i → AreAloneBy s f i)
+    → Leaves x y (λ i. LieByTables f t s i → AreAloneBy s f i → HoldAmid f t s r i) → Leaves x y (λ i. LieByTables f t s i → HoldAmid f t s r i)
+alone_amid f t s r x y lasting only traced alone stops = record {
+  later = stops.later;
+  kept = stops.kept;
+  past = stops.past;
+  new = λ k i late early stop lie. stops.new k i late early stop lie (alone i (off_amid t x y lasting only traced k i late early stop));
+}
+
+-- ---- a pool before it is in service
+
+-- A pool that was found on the disks: its arrays stand by the book over slices that lie as it has them, with the members and the sizes that they had, and outside
+-- the slices its disks say what they said.
+pub record IsReady (f : Found) (t : Slices) (v : Raid) (x : Seen) : Type 0 where
+  pub disks : f.disks ≡ disks_of x
+  pub outset : IsOutset f
+  pub slices : AreSlicesOf f t
+  pub after : IsAfter f.state v.state
+  pub joined : f.state.joined ≡ f.state.made
+  pub geometry : (n : ℕ) (u : Super) → n < f.state.made → truth_of f n ≡ Some u → HasGeometry u (v.arrays n).truth
+  pub elsewhere : (i : Image) → IsPickOff t x i → AreElsewhere f i
+
+-- what a call finds of it
+ready_called : (f : Found) (t : Slices) (v : Raid) (x : Seen) → IsReady f t v x → IsCalled f t v x
+ready_called f t v x is =
+    let arranged = arranged_of f is.outset in
+    record {
+      disks = is.disks;
+      arranged = arranged;
+      after = is.after;
+      joined = is.joined;
+      geometry = is.geometry;
+      said = λ i off. record { identities = f.identities; outset = is.outset; elsewhere = is.elsewhere i off };
+      slices = λ e. slices_by (record f { identities = e }) t v.state (slices_said f e arranged.made.1 arranged.truths t is.slices);
+      former = λ p d seat past. inl (is.slices.seats p ∙ seat, is.slices.logs p d seat);
+    }
+
+-- Where calls tell of their stops, and no disk stands for a current place without a drive, each stop inside them that leaves no superblock where none is to
+-- be leaves contents that hold the pool still.
+pub found_tells : (f : Found) (t : Slices) (v w : Raid) (x y : Seen) → IsReady f t v x → IsOrderly t → IsInside t x → x.lasting → WritesOnly x y (IsSliced t)
+    → (x.traced → TellsStops f.state.made v w (slices_of t x) (slices_of t y))
+    → (AreInside f t → (i : Image) → IsPickOff t x i → AreSince v.state (sectors_of t) (sliced t i) → (p d : ℕ) → is_current v.state p ≡ true → f.seats p ≡ None
+    → d < f.disks.count → stands_for v.state (identities_of f.disks i d) ≡ Some p → ⊥)
+    → w.state.epoch < 2 ^ 63 - 1 → ((s : State) → IsAfter v.state s → IsAfter s w.state → (p d : ℕ) × (is_current s p ≡ true) × (f.seats p ≡ Some d))
+    → x.traced → Leaves x y (λ i. LieByTables f t v.state i → AreAloneBy v.state f i → HoldBetween f t v.state w.state i)
+found_tells f t v w x y is orderly inside lasting only tells absent enough someone =
+    called_amid f t v w x y (ready_called f t v x is) orderly inside lasting only tells (absent (inside_of f t x is.disks inside)) enough someone
+
+-- So it is where the arrays are told when calls begin, and none is over when they end.
+pub ready_amid : (f : Found) (t : Slices) (v w : Raid) (x y : Seen) → IsReady f t v x → IsOrderly t → IsInside t x
+    → x.lasting → WritesOnly x y (IsSliced t) → KeepsMoments v w (slices_of t x) (slices_of t y)
+    → ((n : ℕ) → n < f.state.made → IsTold v (slices_of t x) n) → ((n : ℕ) → n < f.state.made → is_over w n ≡ false)
+    → x.traced → Leaves x y (λ i. LieByTables f t v.state i → AreAloneBy v.state f i → HoldAmid f t v.state w.state i)
+ready_amid f t v w x y is orderly inside lasting only keeps told lasts =
+    told_amid f t v w x y (ready_called f t v x is) keeps told lasts orderly inside lasting only
+
 -- ---- a pool in service
+
+-- what a call finds of it
+service_called : (f : Found) (t : Slices) (v : Raid) (x : Seen) → InService f t v x → IsCalled f t v x
+service_called f t v x is = record {
+  disks = is.disks;
+  arranged = is.arranged;
+  after = is.after;
+  joined = is.joined;
+  geometry = is.geometry;
+  said = is.held.said;
+  slices = λ e. slices_by (record f { identities = e }) t v.state (slices_said f e is.arranged.made.1 is.arranged.truths t is.slices);
+  former = λ p d seat past. inl (is.slices.seats p ∙ seat, is.slices.logs p d seat);
+}
 
 -- Where the arrays are told when a call begins, and none is over when it ends, each stop inside it leaves contents that hold the pool still.
 pub service_amid : (f : Found) (t : Slices) (v w : Raid) (x y : Seen) → InService f t v x → IsOrderly t → IsInside t x
     → x.lasting → WritesOnly x y (IsSliced t) → KeepsMoments v w (slices_of t x) (slices_of t y)
     → ((n : ℕ) → n < f.state.made → IsTold v (slices_of t x) n) → ((n : ℕ) → n < f.state.made → is_over w n ≡ false)
     → x.traced → Leaves x y (λ i. LieByTables f t v.state i → HoldAmid f t v.state w.state i)
-service_amid f t v w x y is orderly inside lasting only keeps told lasts =
-    called_amid f t v w x y (record {
-      disks = is.disks;
-      arranged = is.arranged;
-      after = is.after;
-      joined = is.joined;
-      geometry = is.geometry;
-      said = is.held.said;
-      alone = is.held.alone;
-      slices = λ e. slices_by (record f { identities = e }) t v.state (slices_said f e is.arranged.made.1 is.arranged.truths t is.slices);
-      former = λ p d seat past. inl (is.slices.seats p ∙ seat, is.slices.logs p d seat);
-    }) orderly inside lasting only keeps told lasts
+service_amid f t v w x y is orderly inside lasting only keeps told lasts traced =
+    alone_amid f t v.state w.state x y lasting only traced is.held.alone
+    (told_amid f t v w x y (service_called f t v x is) keeps told lasts orderly inside lasting only traced)
 
 -- So it is where a place whose drive is missing has no disk any more.
 pub vacant_amid : (f : Found) (t u : Slices) (v w : Raid) (x y : Seen) (place : ℕ) → InService f t v x → LacksDrive f t u v place x
@@ -274,17 +399,17 @@ pub vacant_amid : (f : Found) (t u : Slices) (v w : Raid) (x y : Seen) (place : 
     → x.lasting → WritesOnly x y (IsSliced u) → KeepsMoments v w (slices_of u x) (slices_of u y)
     → ((n : ℕ) → n < f.state.made → IsTold v (slices_of u x) n) → ((n : ℕ) → n < f.state.made → is_over w n ≡ false)
     → x.traced → Leaves x y (λ i. LieByTables f u v.state i → HoldAmid f u v.state w.state i)
-vacant_amid f t u v w x y place is lacks orderly inside lasting only keeps told lasts =
+vacant_amid f t u v w x y place is lacks orderly inside lasting only keeps told lasts traced =
     let few = is.arranged.made.1 in
     let more = off_more t u x (sliced_before t u place lacks.vacated) in
-    called_amid f u v w x y (record {
+    alone_amid f u v.state w.state x y lasting only traced (λ i off. is.held.alone i (more i off))
+    (told_amid f u v w x y (record {
       disks = is.disks;
       arranged = is.arranged;
       after = is.after;
       joined = is.joined;
       geometry = is.geometry;
       said = λ i off. is.held.said i (more i off);
-      alone = λ i off. is.held.alone i (more i off);
       slices = λ e. slices_now t u place lacks.vacated (record f { identities = e }) (slices_said f e few is.arranged.truths t is.slices) v.state lacks.missing few;
       former = λ p d seat past. elim (cases_eq p place) [
         | inl at ↦ inr (λ i off copy here. lacks.earlier d (subst (λ q. f.seats q ≡ Some d) at seat) i off copy here)
@@ -294,4 +419,4 @@ vacant_amid f t u v w x y place is lacks orderly inside lasting only keeps told 
               logs_other t u place lacks.vacated f is.slices v.state lacks.missing p d other seat,
             )
       ];
-    }) orderly inside lasting only keeps told lasts
+    }) keeps told lasts orderly inside lasting only traced)

@@ -3,6 +3,7 @@ use Rattle.std.proofs.Common.{◌≡◌, ◌⊎◌, ℕ, ◌+◌, ◌<◌, ◌�
 use Rattle.std.specs.Option.{option_map_or}
 use Rattle.std.specs.Result.{result_ok}
 use Rattle.std.proofs.lemmas.Bool.{both_ways, cases_Bool}
+use Rattle.std.proofs.lemmas.Option.{none-some}
 use Rattle.rack.specs.Seen.{Image, Seen}
 use Rattle.rack.specs.Values.{MayLeave}
 use Rattle.slice_rack.specs.Slices.{Slices, seat_of as slice_seat, sectors_of}
@@ -250,7 +251,7 @@ module _ (f : Found) (t : Slices) (v : Raid) (y : Seen) (i : Image) (known : IsK
   says_seats = record {
     is = known.is;
     after = known.served.after;
-    drives = seat_there;
+    absent = λ p d now free low stands. let one = seat_there p now in none-some one.0 (sym free ∙ one.1);
     copies = λ p d now seat. record {
       copy = record { state = s; own = (copy_now p d seat now).own };
       is = copied_now p d seat now;

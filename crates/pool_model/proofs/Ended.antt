@@ -121,7 +121,7 @@ module _ (f : Found) (t : Slices) (v : Raid) (y : Seen) (i : Image) (known : IsK
         elim (seated_or f t v y i known e) [
           | inr none ↦
               let same : g.identities e ≡ f.identities e = other_same f t v y i known e none low in
-              ends.alone.only p d e was low (sym (stands_same f.state book known.served.after.same (f.identities e)) ∙ ap (stands_for book) (sym same) ∙ stands)
+              absurd ((ends.alone.others e none low).stands p d was (sym (stands_same f.state book known.served.after.same (f.identities e)) ∙ ap (stands_for book) (sym same) ∙ stands))
           | inl one ↦ elim (cases_Bool (is_current book one.0)) [
             | inl now ↦
                 let place : one.0 ≡ p = some_same one.0 p (sym (stands_now f t v y i known one.0 e now one.1) ∙ stands) in
@@ -133,7 +133,7 @@ module _ (f : Found) (t : Slices) (v : Raid) (y : Seen) (i : Image) (known : IsK
 
   -- ---- one array
 
-  module _ (small : (d : ℕ) → d < f.disks.count → f.disks.sectors d < 2 ^ 48) (good : (own : ℕ) × (is_valid f.state own ≡ true)) (n : ℕ) (low : n < f.state.made) where
+  module _ (small : (d : ℕ) → d < f.disks.count → f.disks.sectors d < 2 ^ 48) (good : (own : ℕ) × (is_valid book own ≡ true)) (n : ℕ) (low : n < f.state.made) where
     abbrev pub its : View
     its = v.arrays n
 
@@ -164,10 +164,8 @@ module _ (f : Found) (t : Slices) (v : Raid) (y : Seen) (i : Image) (known : IsK
     facts =
         let leads = truth_leads book held n w w_is in
         let at = current_is book held n leads.at w leads.here in
-        let fit = valid_fit f.state good.0 good.1 in
-        truth_facts w
-        (super_truth book held n leads.at fit.chunks w at.1 (known.served.after.same.extent ∙ fit.extent)
-        (let few = fit.few in let same = same_length book.drives.items f.state.drives.items known.served.after.same.drives in omega (arith, few, same)) size_small)
+        let fit = valid_fit book good.0 good.1 in
+        truth_facts w (super_truth book held n leads.at fit.chunks w at.1 fit.extent fit.few size_small)
 
     -- its members are those of the book's array
     pub shape_here : shape_by book held n w ≡ shape_of its

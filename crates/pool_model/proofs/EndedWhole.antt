@@ -1,8 +1,8 @@
 -- Contents that a pool leaves that has ended whole: they aren't refused, and any one of its drives may be absent.
-use Rattle.std.proofs.Common.{◌≡◌, ℕ, zero, suc, ◌+◌, ◌<◌, ◌≤◌, ◌^◌, Bool, true, false, ◌||◌, not, bytes_eq, is_ok, is_some, nat_lt, if◌then◌else◌, List, [], length, Option, Some, None, option_map, refl, sym, ap, ap₂, subst, ◌∙◌, inl, inr, le-ltb, lt-ltb, ltb-true, arith}
+use Rattle.std.proofs.Common.{◌≡◌, ℕ, zero, suc, ◌+◌, ◌<◌, ◌≤◌, ◌^◌, Bool, true, false, ◌||◌, not, bytes_eq, is_some, nat_lt, if◌then◌else◌, List, [], length, Option, Some, None, option_map, refl, sym, ap, ap₂, subst, ◌∙◌, inl, inr, le-ltb, lt-ltb, arith}
 use Rattle.std.specs.Option.{option_map_or}
 use Rattle.std.specs.List.{list_all, range_with_len}
-use Rattle.std.proofs.lemmas.Bool.{and_from, and_parts, cases_Bool, cases_lt}
+use Rattle.std.proofs.lemmas.Bool.{and_from, cases_Bool, cases_lt}
 use Rattle.std.proofs.lemmas.Option.{none-some}
 use Rattle.std.proofs.lemmas.Slice.Eq.{bytes_eq-Decides}
 use Rattle.rack.specs.Seen.{Image, IsPick, Seen}
@@ -10,7 +10,6 @@ use Rattle.rack.specs.Values.{MayLeave}
 use Rattle.slice_rack.specs.Slices.{Slices, disk_of, first_of as slice_first, sectors_of}
 use Rattle.slice_rack.specs.Sliced.{IsInside, sliced, slices_of as slices_shown}
 use Rattle.md_super.specs.declared.superblock.Super.{Super}
-use Rattle.md_super.specs.Profile.{is_height_of, profiled, rules}
 use Rattle.pool_state.specs.declared.contents.Copied.{Copied}
 use Rattle.pool_state.specs.declared.contents.State.{State}
 use Rattle.pool_state.specs.Valid.{is_valid}
@@ -18,8 +17,6 @@ use Rattle.array_image.specs.Arrays.{Member, Shape, arrays_in, first_layout, rep
 use Rattle.array_image.specs.Held.{Among}
 use Rattle.array_image.specs.Places.{data_sector, member_slice, super_sector}
 use Rattle.array_image.specs.States.{is_current}
-use Rattle.array_core.proofs.Opened.{current_is, super_passes, truth_leads}
-use Rattle.array_core.proofs.Truths.{rule_holds}
 use Rattle.array_model.specs.declared.Seat.{Seat}
 use Rattle.array_model.specs.View.{member_on, seat_reach, sectors_of as sectors_in, shape_of}
 use Rattle.array_model.proofs.Noting.{first_is}
@@ -82,7 +79,7 @@ module _ (f : Found) (t : Slices) (v : Raid) (y : Seen) (i : Image) (known : IsK
 
   -- ---- what its arrays hold
 
-  module _ (small : (d : ℕ) → d < f.disks.count → f.disks.sectors d < 2 ^ 48) (valid : (own : ℕ) × (is_valid f.state own ≡ true)) (sectors : (d k : ℕ) → d < f.disks.count → k < f.disks.sectors d → length (i d k) ≡ 512)
+  module _ (small : (d : ℕ) → d < f.disks.count → f.disks.sectors d < 2 ^ 48) (valid : (own : ℕ) × (is_valid book own ≡ true)) (sectors : (d k : ℕ) → d < f.disks.count → k < f.disks.sectors d → length (i d k) ≡ 512)
       (n : ℕ) (low : n < f.state.made) where
     size_is : (w f t v y i known ends small valid n low).size ≡ (its f t v y i known ends small valid n low).truth.size
     size_is = ap (λ (z : Super). z.size) (earlier f t v y i known n low (is f t v.state i rest said n low) (is_is f t v.state i rest said n low)).fields
@@ -151,7 +148,7 @@ module _ (f : Found) (t : Slices) (v : Raid) (y : Seen) (i : Image) (known : IsK
         omega (arith, is, least, size)
 
   -- The arrays are as bad as lvm_group finds the contents of the slices' arrays.
-  module _ (small : (d : ℕ) → d < f.disks.count → f.disks.sectors d < 2 ^ 48) (valid : (own : ℕ) × (is_valid f.state own ≡ true)) (sectors : (d k : ℕ) → d < f.disks.count → k < f.disks.sectors d → length (i d k) ≡ 512) where
+  module _ (small : (d : ℕ) → d < f.disks.count → f.disks.sectors d < 2 ^ 48) (valid : (own : ℕ) × (is_valid book own ≡ true)) (sectors : (d k : ℕ) → d < f.disks.count → k < f.disks.sectors d → length (i d k) ≡ 512) where
     before_made : (n : ℕ) → n < book.joined → n < f.state.made
     before_made n low = (let joined = known.served.after.same.joined in let all = known.served.joined in omega (arith, low, joined, all))
 
@@ -189,11 +186,11 @@ module _ (f : Found) (t : Slices) (v : Raid) (y : Seen) (i : Image) (known : IsK
 
   -- ---- the pool
 
-  supers_now : (p : ℕ) → ((d : ℕ) → d < f.disks.count → f.disks.sectors d < 2 ^ 48) → (own : ℕ) × (is_valid f.state own ≡ true) → has_supers g p ≡ true
+  supers_now : (p : ℕ) → ((d : ℕ) → d < f.disks.count → f.disks.sectors d < 2 ^ 48) → (own : ℕ) × (is_valid book own ≡ true) → has_supers g p ≡ true
   supers_now p small valid =
       all_hold (λ n. not (is_member g n p) || is_some (super_at g n p)) 0 book.made (λ n low. super_there f t v y i known ends small valid n (low_before f t v y i known ends n (omega (arith, low))) p)
 
-  undamaged_now : (p : ℕ) → ((d : ℕ) → d < f.disks.count → f.disks.sectors d < 2 ^ 48) → (own : ℕ) × (is_valid f.state own ≡ true) → is_current book p ≡ true → damage_of g p ≡ None
+  undamaged_now : (p : ℕ) → ((d : ℕ) → d < f.disks.count → f.disks.sectors d < 2 ^ 48) → (own : ℕ) × (is_valid book own ≡ true) → is_current book p ≡ true → damage_of g p ≡ None
   undamaged_now p small valid counts =
       let one = seat_there f t v y i known p counts in
       let parts = sound_parts f t v y i known p one.0 counts one.1 in
@@ -210,7 +207,7 @@ module _ (f : Found) (t : Slices) (v : Raid) (y : Seen) (i : Image) (known : IsK
       pool_is : (copy : Copied) → (g.identities d).copied ≡ Some copy → copy.state.pool ≡ book.pool
       pool_is copy here = elim (seated_or f t v y i known d) [
         | inr none ↦
-            ends.alone.one_pool d copy low (sym (ap (λ (z : Identity). z.copied) (other_same f t v y i known d none low)) ∙ here)
+            (ends.alone.others d none low).pool copy (sym (ap (λ (z : Identity). z.copied) (other_same f t v y i known d none low)) ∙ here)
             ∙ sym known.served.after.same.pool
         | inl one ↦ elim (cases_Bool (is_current book one.0)) [
           | inl counts ↦
@@ -224,7 +221,7 @@ module _ (f : Found) (t : Slices) (v : Raid) (y : Seen) (i : Image) (known : IsK
       of None none = refl
       of (Some copy) here = alike copy (pool_is copy here)
 
-  module _ (small : (d : ℕ) → d < f.disks.count → f.disks.sectors d < 2 ^ 48) (valid : (own : ℕ) × (is_valid f.state own ≡ true)) (sectors : (d k : ℕ) → d < f.disks.count → k < f.disks.sectors d → length (i d k) ≡ 512)
+  module _ (small : (d : ℕ) → d < f.disks.count → f.disks.sectors d < 2 ^ 48) (valid : (own : ℕ) × (is_valid book own ≡ true)) (sectors : (d k : ℕ) → d < f.disks.count → k < f.disks.sectors d → length (i d k) ≡ 512)
       (good : bad_in book.pool.0 book.extent (λ n. sectors_in (v.arrays n)) book.joined (volume_arrays t v i) ≡ None) where
     refused_none : refused_by g ≡ None
     refused_none =
@@ -275,6 +272,22 @@ module _ (f : Found) (t : Slices) (v : Raid) (y : Seen) (i : Image) (known : IsK
       level = level_now f t v y i known ends;
     }
 
+-- Of what a pool that has ended whole leaves, and whose arrays hold its group, the meaning without any one drive is the meaning with it.
+unfoldable pub known_absent : (f : Found) (t : Slices) (v : Raid) (y : Seen) (i : Image) → IsKnown f t v y i → EndsWhole f v y
+    → ((d k : ℕ) → d < f.disks.count → k < f.disks.sectors d → length (i d k) ≡ 512)
+    → ((d : ℕ) → d < f.disks.count → f.disks.sectors d < 2 ^ 48)
+    → HoldGroup v y
+    → ((n k : ℕ) → n < f.state.made → k < sectors_in (v.arrays n) → spent_of v n k ≡ false)
+    → HoldAbsent f t v.state i
+unfolding known_again
+known_absent f t v y i known ends sectors small group alive = record {
+  again = known_again f t v y i known;
+  safe =
+      safe_in_absence f.disks i (now f t v y i known)
+      (ended_whole f t v y i known ends small (state_valid (now f t v y i known) (found_is f.disks i (now f t v y i known) (found_now f t v y i known)).0) sectors
+      (none_bad f t v y i known ends group alive));
+}
+
 -- Disks of a served pool that has ended whole, which outside its slices are as they were, and whose arrays hold the pool's group: of what they may be
 -- left with the meaning without any one drive is the meaning with it.
 pub left_absent : (f : Found) (t : Slices) (x : Seen) (v : Raid) → IsServed f t v (slices_shown t x) → IsInside t x
@@ -285,12 +298,7 @@ pub left_absent : (f : Found) (t : Slices) (x : Seen) (v : Raid) → IsServed f 
     → HoldGroup v (slices_shown t x)
     → ((n k : ℕ) → n < f.state.made → k < sectors_in (v.arrays n) → spent_of v n k ≡ false)
     → HoldAbsent f t v.state i
-unfolding known_again
 left_absent f t x v served inside disks before i found_before same sound rest pick ends sectors small group alive =
-    let known = left_known f t x v served inside disks before i found_before same sound (rest.elsewhere i (λ d u live never. pick d u live)) (rest.alone i (λ d u live never. pick d u live)) pick in
-    record {
-      again = known_again f t v (slices_shown t x) i known;
-      safe =
-          safe_in_absence f.disks i (now f t v (slices_shown t x) i known)
-          (ended_whole f t v (slices_shown t x) i known ends small (state_valid f (found_is disks before f found_before).0) sectors (none_bad f t v (slices_shown t x) i known ends group alive));
-    }
+    known_absent f t v (slices_shown t x) i
+    (left_known f t x v served inside disks before i found_before same sound (rest.elsewhere i (λ d u live never. pick d u live)) (rest.alone i (λ d u live never. pick d u live)) pick)
+    ends sectors small group alive

@@ -76,6 +76,12 @@ module _ (f : Found) (t : Slices) (book : State) (i : Image) (before : Standing)
           ap (λ (b : Bool). if b then i (disk_of t (member_slice p n)) (slice_first t (member_slice p n) + u) else [])
           (le-ltb u (sectors_of t (member_slice p n)) (let nothing = no_slice none in omega (arith, nothing)))
 
+      -- nor has one without a drive
+      pub reads_absent : f.seats p ≡ None → (u : ℕ) → held (member_slice p n) u ≡ []
+      reads_absent free u =
+          ap (λ (b : Bool). if b then i (disk_of t (member_slice p n)) (slice_first t (member_slice p n) + u) else [])
+          (le-ltb u (sectors_of t (member_slice p n)) (let nothing = said.slices.unseated (member_slice p n) (ap f.seats place_is ∙ free) in omega (arith, nothing)))
+
       module _ (d : ℕ) (seat : f.seats p ≡ Some d) (counts : is_current book p ≡ true) where
         pub seat_is : slice_seat t (place_of (member_slice p n)) ≡ Some d
         seat_is = ap (slice_seat t) place_is ∙ said.slices.seats p d counts seat
@@ -121,14 +127,22 @@ module _ (f : Found) (t : Slices) (book : State) (i : Image) (before : Standing)
       -- its superblock is the one of the slices
       super_now : is_current book p ≡ true → super_in book (slices_from g first) n p ≡ super_in book held n p
       super_now counts =
-          let one = said.drives p counts in
-          let seat = said.seats p counts ∙ one.1 in
-          elim (cases_Bool (is_member f n p)) [
-            | inl member ↦ super_of_sector book (slices_from g first) held n p (super_same one.0 one.1 counts member seat)
-            | inr none ↦
-                no_super book (slices_from g first) n p (alone one.0 one.1 counts none seat)
-                ∙ sym (nothing_super book held n p (reads_nothing none super_sector))
-          ]
+          by (f.seats p) refl
+        where
+          by : (o : Option ℕ) → f.seats p ≡ o → super_in book (slices_from g first) n p ≡ super_in book held n p
+          by None free =
+              nothing_super book (slices_from g first) n p
+              (ap (λ q. drive_sector g q (first + super_sector)) place_is
+              ∙ ap (λ o. option_map_or (λ e. if nat_lt (first + super_sector) (f.disks.sectors e) then i e (first + super_sector) else []) o []) (said.seats p counts ∙ free))
+              ∙ sym (nothing_super book held n p (reads_absent free super_sector))
+          by (Some d) has =
+              let seat = said.seats p counts ∙ has in
+              elim (cases_Bool (is_member f n p)) [
+                | inl member ↦ super_of_sector book (slices_from g first) held n p (super_same d has counts member seat)
+                | inr none ↦
+                    no_super book (slices_from g first) n p (alone d has counts none seat)
+                    ∙ sym (nothing_super book held n p (reads_nothing none super_sector))
+              ]
 
     pub truth_now : truth_from g n first ≡ Some is
     truth_now = truth_current book (slices_from g first) held n super_now ∙ is_is

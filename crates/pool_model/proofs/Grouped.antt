@@ -1,5 +1,5 @@
 -- The volume group on arrays: it goes by the sectors before their first extents. Arrays whose members are all whole have each sector.
-use Rattle.std.proofs.Common.{◌≡◌, ℕ, zero, suc, ◌+◌, ◌/◌, ◌<◌, ◌≤◌, Bool, false, true, nat_lt, if◌then◌else◌, List, map, slice_get, Some, None, refl, is_ok, ap, ◌∙◌, lt-ltb, ltb-true, arith}
+use Rattle.std.proofs.Common.{◌≡◌, ℕ, zero, suc, ◌+◌, ◌/◌, ◌<◌, ◌≤◌, Bool, false, nat_lt, if◌then◌else◌, List, map, slice_get, Some, None, refl, is_ok, ap, ◌∙◌, lt-ltb, ltb-true, arith}
 use Rattle.std.proofs.lemmas.Bool.{and_parts}
 use Rattle.std.specs.Option.{option_map_or}
 use Rattle.std.specs.List.{range_with_len}
@@ -14,10 +14,8 @@ use Rattle.array_image.specs.Stripes.{sector_in}
 use Rattle.array_image.specs.Supers.{truth_in}
 use Rattle.array_core.proofs.Opened.{current_is, super_passes, truth_leads}
 use Rattle.array_core.proofs.Truths.{rule_holds}
-use Rattle.array_model.specs.declared.Seat.{Seat}
 use Rattle.array_model.specs.declared.Seat.TheVariants.{Whole}
-use Rattle.array_model.specs.View.{View, IsArray, member_on, rows_of, seat_reach, sectors_of, shape_of, spent_in}
-use Rattle.array_model.specs.Members.{members_of}
+use Rattle.array_model.specs.View.{View, IsArray, member_on, seat_reach, sectors_of, shape_of, spent_in}
 use Rattle.array_model.proofs.Layouts.{sector_inside}
 use Rattle.array_model.proofs.Views.{shape_members}
 use Rattle.lvm_group.specs.Group.{first_bad}

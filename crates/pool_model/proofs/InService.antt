@@ -160,8 +160,9 @@ still_said f e t s i is = record {
   values = is.values;
 }
 
-again_said : (f : Found) (e : Identities) (t : Slices) (v : Raid) (i : Image) → HoldAgain (record f { identities = e }) t v.state i → HoldAgain f t v.state i
-again_said f e t v i is = record { still = still_said f e t v.state i is.still; idle = is.idle }
+unfoldable pub again_said : (f : Found) (e : Identities) (t : Slices) (s : State) (i : Image) → HoldAgain (record f { identities = e }) t s i → HoldAgain f t s i
+unfolding still_said
+again_said f e t s i is = record { still = still_said f e t s i is.still; present = is.present; idle = is.idle }
 
 -- Where its arrays are told and none is over, whatever the disks may be left with holds it again.
 pub service_again : (f : Found) (t : Slices) (v : Raid) (x : Seen) → InService f t v x → IsInside t x
@@ -173,7 +174,7 @@ service_again f t v x is inside told lasts i pick =
     let served : IsServed f t v (slices_of t x) =
     record { slices = is.slices; after = is.after; joined = is.joined; told = told; lasts = lasts; geometry = is.geometry } in
     let here = served_said f e is.arranged.made.1 is.arranged.truths t v (slices_of t x) served in
-    again_said f e t v i
+    again_said f e t v.state i
     (known_again (record f { identities = e }) t v (slices_of t x) i
     (left_known_by (record f { identities = e }) t x v here inside i said.outset is.disks said.elsewhere
     (alone_said f e is.arranged.made.1 is.arranged.truths v.state i (is.held.alone i (λ d s live never. pick d s live))) pick))
@@ -202,5 +203,5 @@ vacant_again f t u v x place is lacks inside told lasts i pick =
     let left =
     left_by u x inside (on_disks t u place lacks.vacated g slices) g v.state i is.disks said.elsewhere (alone_said f e few has v.state i (is.held.alone i (λ d s live never. pick d s live)))
     pick in
-    again_said f e u v i
+    again_said f e u v.state i
     (known_again g u v (slices_of u x) i (known_vacant g t u v x place i said.outset is.disks slices still served left (λ d s live never. pick d s live)))

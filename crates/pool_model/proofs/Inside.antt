@@ -1,5 +1,5 @@
 -- What a stop inside a call leaves says the pool once its record is written.
-use Rattle.std.proofs.Common.{◌≡◌, ◌⊎◌, ℕ, zero, suc, ◌+◌, ◌-◌, ◌<◌, ◌≤◌, ◌&&◌, Bool, true, false, nat_lt, if◌then◌else◌, List, [], slice_get, Option, Some, None, option_map, unwrap_or, refl, sym, ap, ap₂, subst, ◌∙◌, inl, inr, ltb-true, arith}
+use Rattle.std.proofs.Common.{◌≡◌, ◌⊎◌, ℕ, zero, suc, ◌+◌, ◌-◌, ◌<◌, ◌≤◌, ◌&&◌, Bool, true, false, bytes_eq, nat_lt, if◌then◌else◌, List, [], position, slice_get, Option, Some, None, option_map, unwrap_or, refl, sym, ap, ap₂, subst, ◌∙◌, inl, inr, ltb-true, arith}
 use Rattle.std.specs.Option.{option_and_then, option_map_or}
 use Rattle.std.specs.Result.{result_ok}
 use Rattle.std.proofs.lemmas.Bool.{both_ways, cases_Bool, cases_eq, cases_lt}
@@ -40,11 +40,12 @@ use Rattle.pool_model.proofs.Current.{SameCurrent, SameMembers, array_current, s
 use Rattle.pool_model.proofs.Found.{newest_latest}
 use Rattle.pool_model.proofs.Layers.{IsLaid, laid}
 use Rattle.pool_model.proofs.Logs.{log_lies}
+use Rattle.pool_model.proofs.Named.{IsNamed, id_same, same_position, stands_named, stands_same}
 use Rattle.pool_model.proofs.Outset.{no_later_epoch}
 use Rattle.pool_model.proofs.Said.{SaysPool, SaysSeats, pool_of}
 use Rattle.pool_model.proofs.Seats.{nowhere, seats_now}
 use Rattle.pool_model.proofs.Still.{alone_now, slices_now, sound_now, value_now}
-use Rattle.pool_model.proofs.Stopped.{before, c, copied_is, drive_there, few, former_low, ids, later_base, logs_sound, many, no_later, on_place, own, own_copied, seated_or, seats_by, stands, stood_early, targets, u}
+use Rattle.pool_model.proofs.Stopped.{before, c, copied_is, few, former_low, ids, later_base, logs_sound, many, no_later, on_place, own, own_copied, seated_or, seats_by, stands, stood_early, targets, u}
 
 some_same : {X : Type 0} (a b : X) → Some a ≡ Some b → a ≡ b
 some_same a b same = cc
@@ -102,9 +103,6 @@ module _ (f : Found) (t : Slices) (base s : State) (i : Image) (stop : IsStopped
 
   -- ---- copies
 
-  current_seat : (p : ℕ) → is_current s p ≡ true → (d : ℕ) × (f.seats p ≡ Some d)
-  current_seat p now = drive_there f t base s i stop p (stop.after.current p now)
-
   own_now : (p d : ℕ) → is_current s p ≡ true → f.seats p ≡ Some d
       → (k : ℕ) × ((says d).copied ≡ Some (record { state = s; own = k })) × (option_map (λ drive. drive.id.0) (slice_get s.drives.items k) ≡ option_map (λ drive. drive.id.0) (slice_get s.drives.items p))
   own_now p d now seat =
@@ -152,11 +150,38 @@ module _ (f : Found) (t : Slices) (base s : State) (i : Image) (stop : IsStopped
       let still : epoch_at (says q) ≡ epoch_at (ids f t base s i stop q) = ap epoch_at same in
       omega (arith, was, here, most, new, still)
 
+  -- a current place's drive stands for it
+  stands_own : (p d : ℕ) → is_current s p ≡ true → f.seats p ≡ Some d → stands_for s (says d) ≡ Some p
+  stands_own p d now seat =
+      let is = own_now p d now seat in
+      let after = later_base f t base s i stop in
+      let named : IsNamed f.state (f.identities d) p = stands_named f.state (f.identities d) p (stop.is.seated p d seat).stands in
+      ap (λ o. stands_for s (record { copied = o; table = (says d).table })) is.1
+      ∙ ap (option_and_then (λ id. position (λ drive. bytes_eq drive.id.0 id) s.drives.items)) (is.2 ∙ id_same f.state s after.same p ∙ named.place)
+      ∙ same_position named.id s.drives.items f.state.drives.items after.same.drives ∙ named.first
+
+  -- and no disk for one without a drive
+  absent_now : (p d : ℕ) → is_current s p ≡ true → f.seats p ≡ None → d < f.disks.count → stands_for s (says d) ≡ Some p → ⊥
+  absent_now p d now free low stands = elim (seated_or f t base s i stop d) [
+    | inr none ↦ still (λ q here seat. none q seat)
+    | inl one ↦ elim (cases_Bool (is_current s one.0)) [
+      | inr past ↦ still (λ q here seat. both_ways (is_current s one.0) past (ap (is_current s) (one_place one.0 q d one.1 seat) ∙ here))
+      | inl here ↦
+          let same : one.0 ≡ p = some_same one.0 p (sym (stands_own one.0 d here one.1) ∙ stands) in
+          none-some d (sym free ∙ ap f.seats (sym same) ∙ one.1)
+    ]
+  ]
+    where
+      still : ((q : ℕ) → is_current s q ≡ true → f.seats q ≡ Some d → ⊥) → ⊥
+      still none =
+          stop.absent p d (stop.after.current p now) free low
+          (sym (stands_same base s stop.after.same (ids f t base s i stop d)) ∙ ap (stands_for s) (sym (same_says d none)) ∙ stands)
+
   pub says_seats : SaysSeats f s after
   says_seats = record {
     is = stop.is;
     after = later_base f t base s i stop;
-    drives = current_seat;
+    absent = absent_now;
     copies = λ p d now seat.
         let is = own_now p d now seat in
         record { copy = record { state = s; own = is.0 }; is = is.1; since = (later_base f t base s i stop).epoch; drive = is.2 };
@@ -167,10 +192,10 @@ module _ (f : Found) (t : Slices) (base s : State) (i : Image) (stop : IsStopped
   newest_now : newest f.disks says ≡ Some s
   newest_now =
       let p = stop.someone.0 in
-      let now = stop.someone.1 in
-      let one = current_seat p now in
-      let is = own_now p one.0 now one.1 in
-      newest_latest (λ d. (says d).copied) f.disks.count one.0 (record { state = s; own = is.0 }) s (stop.is.seated p one.0 one.1).low is.1 refl latest_now
+      let d = stop.someone.1 in
+      let seat = stop.someone.3 in
+      let is = own_now p d stop.someone.2 seat in
+      newest_latest (λ q. (says q).copied) f.disks.count d (record { state = s; own = is.0 }) s (stop.is.seated p d seat).low is.1 refl latest_now
 
   -- ---- arrays
 
@@ -322,7 +347,6 @@ module _ (f : Found) (t : Slices) (base s : State) (i : Image) (stop : IsStopped
     inside = stop.inside;
     newest_is = newest_now;
     seats = seats_now f s after says_seats;
-    drives = current_seat;
     own = λ p d now seat. let is = own_now p d now seat in (is.0, is.1);
     latest = latest_now;
     arrays = array_now;

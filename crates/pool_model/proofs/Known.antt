@@ -10,7 +10,7 @@ use Rattle.array_model.specs.View.{shape_of}
 use Rattle.raid_rack.specs.Raid.{Raid, held_in, spent_of}
 use Rattle.pool_image.specs.Drives.{Found}
 use Rattle.pool_model.specs.Stopped.{SaysArray}
-use Rattle.pool_model.proofs.Copies.{IsKnown, c, copied_now, copy_now, kept, newest_now, no_later, seat_there, seats_now, stands, stood}
+use Rattle.pool_model.proofs.Copies.{IsKnown, c, copied_now, copy_now, kept, newest_now, no_later, seats_now, stands, stood}
 use Rattle.pool_model.proofs.Current.{shape_truth}
 use Rattle.pool_model.proofs.Said.{SaysPool}
 
@@ -54,7 +54,6 @@ module _ (f : Found) (t : Slices) (v : Raid) (y : Seen) (i : Image) (known : IsK
     inside = known.left.inside;
     newest_is = newest_now f t v y i known;
     seats = seats_now f t v y i known;
-    drives = seat_there f t v y i known;
     own = λ p d now seat. ((copy_now f t v y i known p d seat now).own, copied_now f t v y i known p d seat now);
     latest = no_later f t v y i known;
     arrays = says_array;

@@ -25,12 +25,12 @@ use Rattle.pool_rest.specs.Moments.{TakesLowerIn}
 use Rattle.pool_rest.proofs.Extents.{extents_apart}
 use Rattle.pool_rest.proofs.SaidLogs.{says_lower}
 use Rattle.pool_model.specs.Pools.{extent_in}
-use Rattle.pool_model.specs.Stopped.{HaveStood, IsStopped, LieApart}
+use Rattle.pool_model.specs.Stopped.{HaveStood, IsStopped, LieApart, StoodInLog}
 use Rattle.pool_model.proofs.Extents.{lies_now, member_same}
 use Rattle.pool_model.proofs.Inside.{now, says_pool, table_same}
 use Rattle.pool_model.proofs.Layers.{IsLaid, laid}
 use Rattle.pool_model.proofs.Seats.{nowhere}
-use Rattle.pool_model.proofs.Stopped.{IsLeader, before, c, copied_is, decoded_there, drive_there, few, ids, later_base, leader, many, no_later, on_place, show, u}
+use Rattle.pool_model.proofs.Stopped.{IsLeader, before, c, copied_is, decoded_seat, decoded_there, few, ids, later_base, leader, many, no_later, on_place, room, show, u}
 
 module _ (f : Found) (t : Slices) (base s : State) (i : Image) (stop : IsStopped f t base s i) where
   some_same : {X : Type 0} (a b : X) → Some a ≡ Some b → a ≡ b
@@ -84,8 +84,8 @@ module _ (f : Found) (t : Slices) (base s : State) (i : Image) (stop : IsStopped
           stop.says.copies.earlier k (record { state = s; own = k }) (few f t base s i stop k q leads.seat) past (ap decoded (put_as (Some w) some) ∙ own) in
           omega (arith, less))
 
-  -- A drive has the state that stands, and none a later one.
-  pub stood_now : HaveStood g
+  -- A drive has the state that stands and a log slice, and none has a later state.
+  stood_now : HaveStood g
   stood_now = elim stop.says.next [
     | inl same ↦
         let one = leader f t base s i stop in
@@ -105,7 +105,7 @@ module _ (f : Found) (t : Slices) (base s : State) (i : Image) (stop : IsStopped
         let current = brought.copy.2 in
         let copy = brought.copy.3 in
         let was = stop.after.current p current in
-        let drive = drive_there f t base s i stop p was in
+        let drive = decoded_seat f t base s i stop p (record { state = u f t base s i stop; own = copy.own }) copy.copy in
         record {
           place = p;
           disk = drive.0;
@@ -115,6 +115,12 @@ module _ (f : Found) (t : Slices) (base s : State) (i : Image) (stop : IsStopped
           latest = latest_now;
         }
   ]
+
+  pub stood_in_log : StoodInLog g
+  stood_in_log =
+      let had = stood_now in
+      let at = seat_now had.place had.disk had.seat in
+      record { stood = had; room = room f t base s i stop had.place had.disk at.seat (stop.after.current had.place at.current) }
 
   -- Drives that are taken in have gates of lower numbers.
   pub lower_now : TakesLowerIn f.disks i

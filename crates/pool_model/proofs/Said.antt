@@ -1,5 +1,5 @@
 -- What contents of the disks say of a pool that they had, whatever made them so.
-use Rattle.std.proofs.Common.{◌≡◌, ℕ, ◌+◌, ◌<◌, ◌≤◌, true, false, Some, ◌∙◌}
+use Rattle.std.proofs.Common.{◌≡◌, ℕ, ◌+◌, ◌<◌, ◌≤◌, true, false, None, Some, ◌∙◌}
 use Rattle.rack.specs.Seen.{Image}
 use Rattle.slice_rack.specs.Slices.{Slices, first_of as slice_first, place_of as slice_place, seat_of as slice_seat, sectors_of}
 use Rattle.slice_rack.specs.Sliced.{sliced}
@@ -38,20 +38,21 @@ pub record HasCopyOf (f : Found) (u : State) (p : ℕ) (z : Identity) : Type 0 w
   pub since : f.state.epoch ≤ copy.state.epoch
   pub drive : id_of copy.state copy.own ≡ id_of u p
 
--- What disks say of the drives of a pool, by a state that has come from its own. Each current place has a drive, with a copy that names it. A drive of
+-- What disks say of the drives of a pool, by a state that has come from its own. The drive of a current place has a copy that names it, and for a current place
+-- without a drive no disk stands. A drive of
 -- a place that was current says an earlier state than a drive for which it stands too, and other disks say what they said.
 pub record SaysSeats (f : Found) (u : State) (i : Image) : Type 0 where
   pub is : IsOutset f
   pub after : IsAfter f.state u
-  pub drives : (p : ℕ) → is_current u p ≡ true → (d : ℕ) × (f.seats p ≡ Some d)
+  pub absent : (p d : ℕ) → is_current u p ≡ true → f.seats p ≡ None → d < f.disks.count → stands_for u (identities_of f.disks i d) ≡ Some p → ⊥
   pub copies : (p d : ℕ) → is_current u p ≡ true → f.seats p ≡ Some d → HasCopyOf f u p (identities_of f.disks i d)
   pub former :
       (r q p d : ℕ) → f.seats r ≡ Some q → is_current u r ≡ false → f.seats p ≡ Some d → is_current u p ≡ true
       → stands_for u (identities_of f.disks i q) ≡ Some p → epoch_at (identities_of f.disks i q) < epoch_at (identities_of f.disks i d)
   pub others : (d : ℕ) → ((p : ℕ) → f.seats p ≡ Some d → ⊥) → d < f.disks.count → identities_of f.disks i d ≡ f.identities d
 
--- What contents e of the disks, the pending record written, say of the pool f, by the state s: it is the newest, each current place has its drive, with
--- a copy of s, no disk has a later one or another one of its epoch, and all arrays are said soundly by the slices t.
+-- What contents e of the disks, the pending record written, say of the pool f, by the state s: it is the newest, each current place has the drive that it had, if
+-- it had one, with a copy of s, no disk has a later one or another one of its epoch, and all arrays are said soundly by the slices t.
 pub record SaysPool (f : Found) (t : Slices) (s : State) (e : Image) : Type 0 where
   pub is : IsOutset f
   pub after : IsAfter f.state s
@@ -60,7 +61,6 @@ pub record SaysPool (f : Found) (t : Slices) (s : State) (e : Image) : Type 0 wh
   pub inside : AreInside f t
   pub newest_is : newest f.disks (identities_of f.disks e) ≡ Some s
   pub seats : (p : ℕ) → is_current s p ≡ true → seat_of s f.disks (identities_of f.disks e) p ≡ f.seats p
-  pub drives : (p : ℕ) → is_current s p ≡ true → (d : ℕ) × (f.seats p ≡ Some d)
   pub own : (p d : ℕ) → is_current s p ≡ true → f.seats p ≡ Some d → (k : ℕ) × ((identities_of f.disks e d).copied ≡ Some (record { state = s; own = k }))
   pub latest : (d : ℕ) (copy : Copied) → d < f.disks.count → (identities_of f.disks e d).copied ≡ Some copy → IsNoLater s copy
   pub arrays : (n : ℕ) → n < f.state.made → SaysArray f s (sliced t e) n

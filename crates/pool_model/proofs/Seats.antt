@@ -1,5 +1,5 @@
 -- Each current place has the drive that it had, where disks say so.
-use Rattle.std.proofs.Common.{◌≡◌, ◌⊎◌, ℕ, ◌<◌, ◌≤◌, true, false, bytes_eq, if◌then◌else◌, map, position, Option, Some, None, option_map, refl, sym, ap, subst, ◌∙◌, inl, inr, arith}
+use Rattle.std.proofs.Common.{◌≡◌, ◌⊎◌, ℕ, zero, suc, ◌+◌, ◌<◌, ◌≤◌, ◌==◌, ◌∷◌, Bool, true, false, bytes_eq, if◌then◌else◌, map, position, Option, Some, None, option_map, refl, sym, ap, subst, ◌∙◌, inl, inr, eqb-true, arith}
 use Rattle.std.specs.Option.{option_and_then, option_map_or}
 use Rattle.std.specs.List.{range_with_len}
 use Rattle.std.proofs.lemmas.Bool.{cases_Bool}
@@ -20,6 +20,28 @@ use Rattle.pool_model.proofs.Said.{SaysSeats}
 
 some_same : {X : Type 0} (a b : X) → Some a ≡ Some b → a ≡ b
 some_same a b same = cc
+
+-- where there is nothing, nothing is foremost
+none_foremost : {X : Type 0} (measure : X → ℕ) (h : ℕ → Option X) (a n : ℕ) → ((k : ℕ) → a ≤ k → k < a + n → h k ≡ None) → foremost measure (map h (range_with_len a n)) ≡ None
+unfolding foremost
+none_foremost measure h a zero none = refl
+none_foremost {X} measure h a (suc n) none =
+    ap (λ (o : Option X). foremost measure (o ∷ map h (range_with_len (a + 1) n))) (none a (omega arith) (omega arith))
+    ∙ none_foremost measure h (a + 1) n (λ k from below. none k (omega (arith, from)) (omega (arith, below)))
+
+-- a disk that doesn't stand for a place is no candidate
+no_candidate : (s : State) (ids : Identities) (p d : ℕ) → (stands_for s (ids d) ≡ Some p → ⊥) → candidate s ids p d ≡ None
+no_candidate s ids p d never = of (stands_for s (ids d)) refl
+  where
+    of_test : (q : ℕ) → stands_for s (ids d) ≡ Some q → (b : Bool) → (q == p) ≡ b
+        → (if b then Some (let k : Candidate = record { disk = d; epoch = option_map_or epoch_of (ids d).copied 0 } in k) else None) ≡ None
+    of_test q stands false other = refl
+    of_test q stands true same = absurd (never (stands ∙ ap Some (eqb-true q p same)))
+
+    of : (o : Option ℕ) → stands_for s (ids d) ≡ o
+        → (if option_map_or (λ q. q == p) o false then Some (let k : Candidate = record { disk = d; epoch = option_map_or epoch_of (ids d).copied 0 } in k) else None) ≡ None
+    of None stands = refl
+    of (Some q) stands = of_test q stands (q == p) refl
 
 module _ (f : Found) (book : State) (i : Image) (said : SaysSeats f book i) where
   abbrev says : ℕ → Identity
@@ -114,24 +136,31 @@ module _ (f : Found) (book : State) (i : Image) (said : SaysSeats f book i) wher
 
   pub seats_now : (p : ℕ) → is_current book p ≡ true → seat_of book f.disks says p ≡ f.seats p
   unfolding seat_of
-  seats_now p now =
-      let one = said.drives p now in
-      let d = one.0 in
-      let seat = one.1 in
-      let low = (ahead_of p d seat).low in
-      let here : Candidate = record { disk = d; epoch = epoch_at (says d) } in
-      let leads : Leads (λ (k : Candidate). k.epoch) (candidate book says p) 0 f.disks.count here =
-      record {
-        at = d;
-        least = omega arith;
-        most = omega (arith, low);
-        here = candidate_is book says p d (stands_now p d now seat);
-        before = λ q z from less at. before_it p d q z now seat less at;
-        after = λ q z late within at. after_it p d q z now seat late (omega (arith, within)) at;
-      } in
-      ap (λ b. if b then option_map (λ (k : Candidate). k.disk) (foremost (λ (k : Candidate). k.epoch) (map (candidate book says p) (range_with_len 0 f.disks.count))) else None) now
-      ∙ ap (option_map (λ (k : Candidate). k.disk)) (leads_foremost (λ (k : Candidate). k.epoch) (candidate book says p) 0 f.disks.count here leads)
-      ∙ sym seat
+  seats_now p now = by (f.seats p) refl
+    where
+      none_stands : f.seats p ≡ None → foremost (λ (k : Candidate). k.epoch) (map (candidate book says p) (range_with_len 0 f.disks.count)) ≡ None
+      none_stands free = none_foremost (λ (k : Candidate). k.epoch) (candidate book says p) 0 f.disks.count (λ d from low. no_candidate book says p d (said.absent p d now free (omega (arith, low))))
+
+      by : (o : Option ℕ) → f.seats p ≡ o
+          → (if is_current book p then option_map (λ (k : Candidate). k.disk) (foremost (λ (k : Candidate). k.epoch) (map (candidate book says p) (range_with_len 0 f.disks.count))) else None) ≡ f.seats p
+      by None free =
+          ap (λ b. if b then option_map (λ (k : Candidate). k.disk) (foremost (λ (k : Candidate). k.epoch) (map (candidate book says p) (range_with_len 0 f.disks.count))) else None) now
+          ∙ ap (option_map (λ (k : Candidate). k.disk)) (none_stands free) ∙ sym free
+      by (Some d) seat =
+          let low = (ahead_of p d seat).low in
+          let here : Candidate = record { disk = d; epoch = epoch_at (says d) } in
+          let leads : Leads (λ (k : Candidate). k.epoch) (candidate book says p) 0 f.disks.count here =
+          record {
+            at = d;
+            least = omega arith;
+            most = omega (arith, low);
+            here = candidate_is book says p d (stands_now p d now seat);
+            before = λ q z from less at. before_it p d q z now seat less at;
+            after = λ q z late within at. after_it p d q z now seat late (omega (arith, within)) at;
+          } in
+          ap (λ b. if b then option_map (λ (k : Candidate). k.disk) (foremost (λ (k : Candidate). k.epoch) (map (candidate book says p) (range_with_len 0 f.disks.count))) else None) now
+          ∙ ap (option_map (λ (k : Candidate). k.disk)) (leads_foremost (λ (k : Candidate). k.epoch) (candidate book says p) 0 f.disks.count here leads)
+          ∙ sym seat
 
 -- a place that isn't current has no drive
 pub nowhere : (s : State) (disks : Disks) (ids : Identities) (p : ℕ) → is_current s p ≡ false → seat_of s disks ids p ≡ None

@@ -1,5 +1,5 @@
 -- Contents that say a pool hold it, a sound one.
-use Rattle.std.proofs.Common.{◌≡◌, ℕ, ◌+◌, ◌<◌, ◌≤◌, true, false, Option, Some, None, sym, ap, subst, ◌∙◌, inl, inr, arith}
+use Rattle.std.proofs.Common.{◌≡◌, ℕ, ◌+◌, ◌<◌, ◌≤◌, Bool, true, false, nat_lt, if◌then◌else◌, [], Option, Some, None, refl, sym, ap, subst, ◌∙◌, inl, inr, arith}
 use Rattle.std.specs.Option.{option_map_or}
 use Rattle.std.proofs.lemmas.Bool.{cases_Bool}
 use Rattle.std.proofs.lemmas.Option.{none-some}
@@ -10,7 +10,7 @@ use Rattle.md_super.specs.declared.superblock.Super.{Super}
 use Rattle.pool_state.specs.declared.contents.Copied.{Copied}
 use Rattle.pool_state.specs.declared.contents.State.{State}
 use Rattle.array_image.specs.Arrays.{array_in}
-use Rattle.array_image.specs.Places.{member_slice, super_sector}
+use Rattle.array_image.specs.Places.{member_slice, slice_of, super_sector}
 use Rattle.array_image.specs.SoundArray.{IsSoundArray}
 use Rattle.array_image.specs.States.{current_places, is_current}
 use Rattle.array_image.specs.Supers.{is_named, super_in, truth_in}
@@ -19,14 +19,14 @@ use Rattle.array_core.proofs.Opened.{super_place}
 use Rattle.array_model.proofs.Renewed.{leads}
 use Rattle.pool_image.specs.Drives.{Found, extent_of, slices_from, slices_of}
 use Rattle.pool_image.specs.Meaning.{arrays_held, is_member}
-use Rattle.pool_image.specs.Replay.{Standing}
+use Rattle.pool_image.specs.Replay.{Extent, Standing}
 use Rattle.pool_image.specs.Sound.{IsSoundState}
 use Rattle.pool_image.proofs.Composed.{same_slices, seated}
 use Rattle.pool_image.proofs.Truths.{extent_found, slice_of_member, slice_sector}
 use Rattle.pool_model.specs.Pools.{IsSoundPool}
 use Rattle.pool_model.specs.Left.{AreAlone, AreAloneBy, HaveSlices}
 use Rattle.pool_model.proofs.Current.{SameCurrent, SameMembers, array_current, sound_current}
-use Rattle.pool_model.proofs.Extents.{alone as alone_there, begins_now, disk_is, few, is, is_is, lies, lies_now, made_same, member_same, named_same, no_slice, place_is, reads_nothing, room, truth_is, truth_now, was_is}
+use Rattle.pool_model.proofs.Extents.{alone as alone_there, begins_now, disk_is, few, is, is_is, lies, lies_now, made_same, member_same, named_same, no_slice, place_is, reads_absent, reads_nothing, room, truth_is, truth_now, was_is}
 use Rattle.pool_model.proofs.Layers.{no_super, nothing_super}
 use Rattle.pool_model.proofs.Said.{SaysPool, pool_of}
 use Rattle.pool_model.proofs.Seats.{nowhere}
@@ -64,21 +64,45 @@ module _ (f : Found) (t : Slices) (book : State) (e : Image) (before : Standing)
         ∙ no_super book (slices_from g (lies f t book e before said n low).first) n p
         (alone_there f t book e before said n low p d seat counts none (said.seats p counts ∙ seat))
 
+    -- a place without a drive has no slice
+    absent_now : (p : ℕ) → is_current book p ≡ true → f.seats p ≡ None → (k : ℕ) → slices_of g (member_slice p n) k ≡ []
+    unfolding slices_of
+    absent_now p counts free k = of (extent_of g (slice_of (member_slice p n)))
+      where
+        nothing : (first : ℕ) → slices_from g first (member_slice p n) k ≡ []
+        nothing first =
+            ap (λ o. option_map_or (λ d. if nat_lt (first + k) (f.disks.sectors d) then e d (first + k) else []) o [])
+            (ap g.seats (place_is f t book e before said n low p) ∙ said.seats p counts ∙ free)
+
+        of_test : (first : ℕ) (b : Bool) → (if b then slices_from g first (member_slice p n) k else []) ≡ []
+        of_test first true = nothing first
+        of_test first false = refl
+
+        of : (o : Option Extent) → option_map_or (λ (x : Extent). if nat_lt k x.sectors then slices_from g x.first (member_slice p n) k else []) o [] ≡ []
+        of None = refl
+        of (Some x) = of_test x.first (nat_lt k x.sectors)
+
     pub same : SameCurrent book n (slices_of g) held
-    same p counts =
-        let one = said.drives p counts in
-        elim (cases_Bool (is_member f n p)) [
-          | inl member ↦ super_of_sector book (slices_of g) held n p (slice_now p one.0 super_sector counts one.1 member)
+    same p counts = by (f.seats p) refl
+      where
+        by : (o : Option ℕ) → f.seats p ≡ o → super_in book (slices_of g) n p ≡ super_in book held n p
+        by None free =
+            nothing_super book (slices_of g) n p (absent_now p counts free super_sector)
+            ∙ sym (nothing_super book held n p (reads_absent f t book e before said n low p free super_sector))
+        by (Some d) has = elim (cases_Bool (is_member f n p)) [
+          | inl member ↦ super_of_sector book (slices_of g) held n p (slice_now p d super_sector counts has member)
           | inr none ↦
-              none_now p one.0 counts one.1 none
+              none_now p d counts has none
               ∙ sym (nothing_super book held n p (reads_nothing f t book e before said n low p none super_sector))
         ]
 
     pub members : SameMembers book n (slices_of g) held
-    members p u counts super k =
-        let one = said.drives p counts in
-        elim (cases_Bool (is_member f n p)) [
-          | inl member ↦ slice_now p one.0 k counts one.1 member
+    members p u counts super k = by (f.seats p) refl
+      where
+        by : (o : Option ℕ) → f.seats p ≡ o → slices_of g (member_slice p n) k ≡ held (member_slice p n) k
+        by None free = absent_now p counts free k ∙ sym (reads_absent f t book e before said n low p free k)
+        by (Some d) has = elim (cases_Bool (is_member f n p)) [
+          | inl member ↦ slice_now p d k counts has member
           | inr none ↦ absurd (none-some u (sym (nothing_super book held n p (reads_nothing f t book e before said n low p none super_sector)) ∙ super))
         ]
 
@@ -144,15 +168,13 @@ module _ (f : Found) (t : Slices) (book : State) (e : Image) (before : Standing)
   pub slices_now : HaveSlices g t
   unfolding extent_of
   slices_now = record {
-    seats = λ p counts.
-        let one = said.drives p counts in
-        said.slices.seats p one.0 counts one.1 ∙ sym (said.seats p counts ∙ one.1);
-    logs = λ p counts. let one = said.drives p counts in said.slices.logs p one.0 counts one.1;
-    members = λ n p low counts member.
+    seats = λ p d seat. let was = seat_before p d seat in said.slices.seats p d was.0 was.1;
+    logs = λ p d seat. let was = seat_before p d seat in said.slices.logs p d was.0 was.1;
+    members = λ n p d low seat member.
         let less = low_before n low in
-        let one = said.drives p counts in
+        let was = seat_before p d seat in
         lies_now f t book e before said n less
-        ∙ said.slices.members n p one.0 less counts one.1 (sym (member_same f t book e before said n less p) ∙ member);
+        ∙ said.slices.members n p d less was.0 was.1 (sym (member_same f t book e before said n less p) ∙ member);
     others = λ n p low none. let less = low_before n low in no_slice f t book e before said n less p (sym (member_same f t book e before said n less p) ∙ none);
   }
 

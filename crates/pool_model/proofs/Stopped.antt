@@ -1,5 +1,5 @@
 -- What contents that a stop inside a call leaves say as they stand: who is seated, the newest state, and what is pending.
-use Rattle.std.proofs.Common.{◌≡◌, ◌⊎◌, ℕ, ◌+◌, ◌-◌, ◌<◌, ◌≤◌, ◌^◌, ◌==◌, ◌&&◌, Bool, true, false, bytes_eq, if◌then◌else◌, map, position, List, [], Option, Some, None, Ok, option_map, refl, sym, ap, ap₂, subst, ◌∙◌, inl, inr, le-leb, le-ltb, lt-ltb, arith}
+use Rattle.std.proofs.Common.{◌≡◌, ◌⊎◌, ℕ, ◌+◌, ◌-◌, ◌<◌, ◌≤◌, ◌^◌, ◌==◌, ◌&&◌, Bool, true, false, bytes_eq, nat_lt, if◌then◌else◌, map, position, List, [], Option, Some, None, Ok, option_map, refl, sym, ap, ap₂, subst, ◌∙◌, inl, inr, le-leb, le-ltb, lt-ltb, arith}
 use Rattle.std.specs.List.{range_with_len}
 use Rattle.std.specs.Option.{option_and_then, option_map_or}
 use Rattle.std.specs.Result.{result_ok}
@@ -34,7 +34,7 @@ use Rattle.pool_model.specs.Pools.{extent_in}
 use Rattle.pool_model.specs.Stopped.{IsStopped}
 use Rattle.pool_model.proofs.Found.{newest_latest, ok_of, seated_below}
 use Rattle.pool_model.proofs.Logs.{copied_in, many_in, reads_in, room_in, there_in}
-use Rattle.pool_model.proofs.Named.{IsNamed, id_same, same_position, stands_named}
+use Rattle.pool_model.proofs.Named.{IsNamed, id_same, same_position, stands_named, stands_same}
 use Rattle.pool_model.proofs.Outset.{no_later_epoch}
 use Rattle.pool_model.proofs.Said.{SaysSeats}
 use Rattle.pool_model.proofs.Seats.{nowhere, seats_now}
@@ -67,17 +67,27 @@ module _ (f : Found) (t : Slices) (base s : State) (i : Image) (stop : IsStopped
   pub later_base : IsAfter f.state s
   later_base = after_then f.state base s stop.begun stop.after
 
-  -- a place that is current when the call begins has its drive
-  pub drive_there : (p : ℕ) → is_current base p ≡ true → (d : ℕ) × (f.seats p ≡ Some d)
-  drive_there p now = by (f.seats p) refl
+  -- a place that has a slice has a drive
+  pub drive_there : (k j : ℕ) → j < sectors_of t k → (d : ℕ) × (f.seats (place_of k) ≡ Some d)
+  drive_there k j within = by (f.seats (place_of k)) refl
     where
-      by : (o : Option ℕ) → f.seats p ≡ o → (d : ℕ) × (f.seats p ≡ Some d)
+      by : (o : Option ℕ) → f.seats (place_of k) ≡ o → (d : ℕ) × (f.seats (place_of k) ≡ Some d)
       by (Some d) seat = (d, seat)
-      by None seat =
-          let at : place_of (log_slice p) ≡ p = omega arith in
-          let nothing = stop.slices.unseated (log_slice p) (ap f.seats at ∙ seat) in
-          let some = stop.there p now in
-          absurd (omega (arith, nothing, some))
+      by None free = (let nothing = stop.slices.unseated k free in absurd (omega (arith, nothing, within)))
+
+  -- where it has no log slice nothing is there
+  reads_none : (k j : ℕ) → sectors_of t (log_slice k) ≤ j → c (log_slice k) j ≡ []
+  reads_none k j past = ap (λ (b : Bool). if b then i (disk_of t (log_slice k)) (slice_first t (log_slice k) + j) else []) (le-ltb j (sectors_of t (log_slice k)) past)
+
+  -- a place where a copy is read has a drive
+  pub decoded_seat : (k : ℕ) (copy : Copied) → decoded (c (log_slice k) 0) ≡ Ok copy → (q : ℕ) × (f.seats k ≡ Some q)
+  decoded_seat k copy is = elim (cases_lt 0 (sectors_of t (log_slice k))) [
+    | inl some ↦
+        let one = drive_there (log_slice k) 0 some in
+        let at : place_of (log_slice k) ≡ k = omega arith in
+        (one.0, ap f.seats (sym at) ∙ one.1)
+    | inr none ↦ absurd (nothing_decodes copy (ap decoded (sym (reads_none k 0 none)) ∙ is))
+  ]
 
   module _ (p d : ℕ) (seat : f.seats p ≡ Some d) (now : is_current base p ≡ true) where
     pub on_place : slice_seat t p ≡ Some d
@@ -145,7 +155,8 @@ module _ (f : Found) (t : Slices) (base s : State) (i : Image) (stop : IsStopped
   says_seats v after = record {
     is = stop.is;
     after = after_then f.state base v stop.begun after;
-    drives = λ p now. drive_there p (after.current p now);
+    absent = λ p d now free low stands.
+        stop.absent p d (after.current p now) free low (sym (stands_same base v after.same (ids d)) ∙ stands);
     copies = λ p d now seat.
         let one = own p d seat (after.current p now) in
         record {
@@ -172,11 +183,12 @@ module _ (f : Found) (t : Slices) (base s : State) (i : Image) (stop : IsStopped
   stands_late : base.epoch ≤ u.epoch
   stands_late =
       let p = stop.someone.0 in
-      let now = stop.after.current p stop.someone.1 in
-      let drive = drive_there p now in
-      let one = own p drive.0 drive.1 now in
+      let d = stop.someone.1 in
+      let seat = stop.someone.3 in
+      let now = stop.after.current p stop.someone.2 in
+      let one = own p d seat now in
       let from = one.after.epoch in
-      let most = no_later_epoch u one.copy (stop.says.latest p one.copy (few p drive.0 drive.1) one.is) in
+      let most = no_later_epoch u one.copy (stop.says.latest p one.copy (few p d seat) one.is) in
       omega (arith, from, most)
 
   -- a place that wasn't current when the call began has an earlier copy at most: where it has no log slice nothing is decoded
@@ -184,8 +196,7 @@ module _ (f : Found) (t : Slices) (base s : State) (i : Image) (stop : IsStopped
   former_less k copy low old is = elim (cases_lt 0 (sectors_of t (log_slice k))) [
     | inl has ↦ (stop.since k low has).former copy old is
     | inr none ↦
-        absurd (nothing_decodes copy
-        (ap decoded (sym (ap (λ (b : Bool). if b then i (disk_of t (log_slice k)) (slice_first t (log_slice k) + 0) else []) (le-ltb 0 (sectors_of t (log_slice k)) none))) ∙ is))
+        absurd (nothing_decodes copy (ap decoded (sym (reads_none k 0 none)) ∙ is))
   ]
 
   leads : (k : ℕ) (copy : Copied) → k < 16 → copy_in c k ≡ Some copy → copy.state ≡ u → (q : ℕ) × IsLeader k q copy
@@ -196,7 +207,7 @@ module _ (f : Found) (t : Slices) (base s : State) (i : Image) (stop : IsStopped
         let late = stands_late in
         absurd (omega (arith, less, same, late))
     | inl now ↦
-        let drive = drive_there k now in
+        let drive = decoded_seat k copy block in
         let one = own k drive.0 drive.1 now in
         let same : one.copy ≡ copy = some_same one.copy copy (sym (ap result_ok one.is) ∙ ap result_ok block) in (
           drive.0,
@@ -279,27 +290,42 @@ module _ (f : Found) (t : Slices) (base s : State) (i : Image) (stop : IsStopped
 
   -- the log slices of current places are those of the tables
   log_same : (p k : ℕ) → is_current u p ≡ true → logs_of f.disks (seat_of u f.disks ids) i (log_slice p) k ≡ c (log_slice p) k
-  log_same p k now =
-      let was = stood_after.current p now in
-      let one = drive_there p was in
-      let d = one.0 in
-      let of_log : slice_of (log_slice p) ≡ 0 = omega arith in
-      let of_place : place_of (log_slice p) ≡ p = omega arith in
-      let seats = seat_of u f.disks ids in
-      let read : Option ℕ → List ℕ = λ o. option_map_or (λ e. option_map_or (λ (x : Extent). i e (x.first + k)) (log_extent (f.disks.sectors e)) []) o [] in
-      elim (cases_lt k log_sectors) [
-        | inl low ↦
-            ap₂ (λ (n : ℕ) (b : Bool). if (n == 0) && b then read (seats (place_of (log_slice p))) else []) of_log (lt-ltb k log_sectors low)
-            ∙ ap (λ q. read (seats q)) of_place
-            ∙ ap read (seats_by u stood_after p now ∙ one.1)
-            ∙ ap (λ (b : Bool). option_map_or (λ (x : Extent). i d (x.first + k)) (if b then Some (record { first = state_sector; sectors = log_sectors }) else None) [])
-            (le-leb arrays_first (f.disks.sectors d) (room p d one.1 was))
-            ∙ sym (reads p d one.1 was k low)
-        | inr past ↦
-            ap₂ (λ (n : ℕ) (b : Bool). if (n == 0) && b then read (seats (place_of (log_slice p))) else []) of_log (le-ltb k log_sectors past)
-            ∙ sym (ap (λ (b : Bool). if b then i (disk_of t (log_slice p)) (slice_first t (log_slice p) + k) else [])
-            (le-ltb k (sectors_of t (log_slice p)) (let size = many p d one.1 was in omega (arith, past, size))))
-      ]
+  log_same p k now = by (f.seats p) refl
+    where
+      was : is_current base p ≡ true
+      was = stood_after.current p now
+
+      seats : ℕ → Option ℕ
+      seats = seat_of u f.disks ids
+
+      read : Option ℕ → List ℕ
+      read o = option_map_or (λ e. option_map_or (λ (x : Extent). i e (x.first + k)) (log_extent (f.disks.sectors e)) []) o []
+
+      of_place : place_of (log_slice p) ≡ p
+      of_place = omega arith
+
+      of_test : (b : Bool) → read (seats (place_of (log_slice p))) ≡ [] → (if b then read (seats (place_of (log_slice p))) else []) ≡ []
+      of_test true none = none
+      of_test false none = refl
+
+      by : (o : Option ℕ) → f.seats p ≡ o → logs_of f.disks seats i (log_slice p) k ≡ c (log_slice p) k
+      by None free =
+          of_test ((slice_of (log_slice p) == 0) && nat_lt k log_sectors) (ap (λ q. read (seats q)) of_place ∙ ap read (seats_by u stood_after p now ∙ free))
+          ∙ sym (reads_none p k (let nothing = stop.slices.unseated (log_slice p) (ap f.seats of_place ∙ free) in omega (arith, nothing)))
+      by (Some d) has =
+          let of_log : slice_of (log_slice p) ≡ 0 = omega arith in
+          elim (cases_lt k log_sectors) [
+            | inl low ↦
+                ap₂ (λ (n : ℕ) (b : Bool). if (n == 0) && b then read (seats (place_of (log_slice p))) else []) of_log (lt-ltb k log_sectors low)
+                ∙ ap (λ q. read (seats q)) of_place
+                ∙ ap read (seats_by u stood_after p now ∙ has)
+                ∙ ap (λ (b : Bool). option_map_or (λ (x : Extent). i d (x.first + k)) (if b then Some (record { first = state_sector; sectors = log_sectors }) else None) [])
+                (le-leb arrays_first (f.disks.sectors d) (room p d has was))
+                ∙ sym (reads p d has was k low)
+            | inr past ↦
+                ap₂ (λ (n : ℕ) (b : Bool). if (n == 0) && b then read (seats (place_of (log_slice p))) else []) of_log (le-ltb k log_sectors past)
+                ∙ sym (reads_none p k (let size = many p d has was in omega (arith, past, size)))
+          ]
 
   pub show : ShowLogs f.disks i c u s
   show = record {

@@ -1,5 +1,5 @@
 -- A pool that any one of its drives may be taken from.
-use Rattle.std.specs.Prelude.{◌≡◌, ℕ, ◌<◌, ◌^◌, true, false, not, nat_lt, if◌then◌else◌, List, [], length, slice_get, Some, None}
+use Rattle.std.specs.Prelude.{◌≡◌, ◌≢◌, ℕ, ◌<◌, ◌^◌, true, false, not, nat_lt, if◌then◌else◌, [], length, slice_get, Some, None}
 use Rattle.std.specs.List.{list_all}
 use Rattle.rack.specs.Seen.{Image, Seen}
 use Rattle.slice_rack.specs.Slices.{Slices, sectors_of}
@@ -16,7 +16,7 @@ use Rattle.array_model.specs.View.{rows_of, sectors_of as sectors_in}
 use Rattle.raid_rack.specs.Agreeing.{AgreeLeaving}
 use Rattle.raid_rack.specs.Raid.{Raid}
 use Rattle.pool_image.specs.Book.{IsWhole, book_of}
-use Rattle.pool_image.specs.Disks.{Disks, stands_for}
+use Rattle.pool_image.specs.Disks.{Disks, Identity, stands_for}
 use Rattle.pool_image.specs.Drives.{Found, found}
 use Rattle.pool_image.specs.Meaning.{absent_count, has_table, refusal_of, super_at, truth_of}
 use Rattle.pool_image.specs.Sound.{IsSafeInAbsence, IsSoundState}
@@ -50,11 +50,15 @@ pub record IsWholePool (disks : Disks) (c : Image) (f : Found) : Type 0 where
   pub closed : AreClosed f
   pub level : AreLevel f
 
--- What disks had of a pool: each of its drives had a table with its slices, and no other disk was of another pool or stood for one of its places.
+-- A disk that is no drive of a pool: it stands for no place that has a drive, and it says no other pool's state.
+pub record IsApart (f : Found) (z : Identity) : Type 0 where
+  pub stands : (p d : ℕ) → f.seats p ≡ Some d → stands_for f.state z ≢ Some p
+  pub pool : (copy : Copied) → z.copied ≡ Some copy → copy.state.pool ≡ f.state.pool
+
+-- What disks had of a pool: each of its drives had a table with its slices, and all other disks were apart from it.
 pub record StandsAlone (f : Found) : Type 0 where
   pub tables : (p d : ℕ) → f.seats p ≡ Some d → has_table f p d ≡ true
-  pub only : AreOnly f
-  pub one_pool : (d : ℕ) (copy : Copied) → d < f.disks.count → (f.identities d).copied ≡ Some copy → copy.state.pool ≡ f.state.pool
+  pub others : (d : ℕ) → ((p : ℕ) → f.seats p ≡ Some d → ⊥) → d < f.disks.count → IsApart f (f.identities d)
 
 -- The book of a pool of so many arrays is whole: all drives are current, each member of an array is whole, none is young, and no row is left to resync.
 pub record IsWholeRaid (made : ℕ) (v : Raid) : Type 0 where

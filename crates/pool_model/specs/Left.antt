@@ -70,13 +70,16 @@ pub record IsLeftBy (f : Found) (t : Slices) (s : State) (y : Seen) (i : Image) 
   pub elsewhere : AreElsewhere f i
   pub alone : AreAloneBy s f i
 
--- Slices of the drives of a pool that are current: those of other places don't matter to it.
+-- Slices of the drives of a pool, which are those of current places: those of other places don't matter to it.
 pub record HaveSlices (g : Found) (t : Slices) : Type 0 where
-  pub seats : (p : ℕ) → is_current g.state p ≡ true → seat_of t p ≡ g.seats p
-  pub logs : (p : ℕ) → is_current g.state p ≡ true → extent_of g 0 ≡ Some (extent_in t (log_slice p))
-  pub members :
-      (n p : ℕ) → n < g.state.made → is_current g.state p ≡ true → is_member g n p ≡ true → extent_of g (suc n) ≡ Some (extent_in t (member_slice p n))
+  pub seats : (p d : ℕ) → g.seats p ≡ Some d → seat_of t p ≡ Some d
+  pub logs : (p d : ℕ) → g.seats p ≡ Some d → extent_of g 0 ≡ Some (extent_in t (log_slice p))
+  pub members : (n p d : ℕ) → n < g.state.made → g.seats p ≡ Some d → is_member g n p ≡ true → extent_of g (suc n) ≡ Some (extent_in t (member_slice p n))
   pub others : (n p : ℕ) → n < g.state.made → is_member g n p ≡ false → sectors_of t (member_slice p n) ≡ 0
+
+-- each place that is current by a state has a drive of the pool
+abbrev pub HavePlaces : State → Found → Type 0
+HavePlaces s g = (p : ℕ) → is_current s p ≡ true → (d : ℕ) × (g.seats p ≡ Some d)
 
 -- Contents of disks hold a sound pool, by the state s, whatever stop left them: each of its places has the drive that it had in f. No log is damaged,
 -- what is pending brings just this state, its slices are those of t, and its arrays hold what these give once that is written.
@@ -92,9 +95,10 @@ pub record HoldStill (f : Found) (t : Slices) (s : State) (i : Image) : Type 0 w
   pub alone : AreAlone now i
   pub values : (n x : ℕ) → n < f.state.made → arrays_held now n x ≡ arrays_in (replayed (sectors_of t) (sliced t i)) n x
 
--- They hold it so, and nothing is pending.
+-- They hold it so, nothing is pending, and each current place has its drive.
 pub record HoldAgain (f : Found) (t : Slices) (s : State) (i : Image) : Type 0 where
   pub still : HoldStill f t s i
+  pub present : HavePlaces s still.now
   pub idle : (before : Standing) → standing f.disks i ≡ Some before → before.targets ≡ []
 
 -- A drive of a pool g, which is found after f: its table is as good as it was, it has a copy of the state, and its log is well formed.

@@ -1,5 +1,6 @@
 -- What a stop inside a call of a pool leaves on its disks.
 use Rattle.std.specs.Prelude.{◌≡◌, ℕ, suc, ◌+◌, ◌-◌, ◌<◌, ◌≤◌, ◌^◌, ◌&&◌, true, false, nat_lt, None, Some}
+use Rattle.rack.specs.Moments.{Leaves}
 use Rattle.rack.specs.Seen.{Image, Seen}
 use Rattle.slice_rack.specs.Slices.{IsOrderly, Slices, first_of, place_of as slice_place, seat_of, sectors_of}
 use Rattle.slice_rack.specs.Sliced.{sliced}
@@ -9,21 +10,26 @@ use Rattle.md_super.specs.declared.superblock.Super.{Super}
 use Rattle.pool_state.specs.declared.contents.Copied.{Copied}
 use Rattle.pool_state.specs.declared.contents.State.{State}
 use Rattle.array_image.specs.Arrays.{replayed}
-use Rattle.array_image.specs.Places.{log_slice, member_slice, place_of}
+use Rattle.array_image.specs.Left.{IsInside as HasNothing}
+use Rattle.array_image.specs.Places.{arrays_first, log_slice, member_slice, place_of}
 use Rattle.array_image.specs.SoundArray.{IsSoundArray}
 use Rattle.array_image.specs.States.{is_current}
 use Rattle.array_image.specs.Supers.{is_named, truth_in}
 use Rattle.commit_log.specs.Kept.{IsNoLater}
 use Rattle.commit_log.specs.Saying.{SaysState}
 use Rattle.raid_rack.specs.Book.{IsAfter}
+use Rattle.raid_rack.specs.Frames.{HasFrame, frame_of}
+use Rattle.raid_rack.specs.Logs.{LogsBetween}
+use Rattle.raid_rack.specs.Raid.{Raid}
+use Rattle.raid_rack.specs.Runs.{IsBetween}
 use Rattle.raid_rack.specs.Since.{AreSince}
-use Rattle.pool_image.specs.Disks.{identities_of}
+use Rattle.pool_image.specs.Disks.{identities_of, stands_for}
 use Rattle.pool_image.specs.Drives.{Found, extent_of}
 use Rattle.pool_image.specs.Meaning.{is_member, truth_of}
 use Rattle.pool_image.specs.Replay.{Extent, extent_by, share}
 use Rattle.pool_rest.specs.Moments.{TakesLowerIn}
 use Rattle.pool_model.specs.InService.{IsOutset}
-use Rattle.pool_model.specs.Left.{AreAloneBy, AreElsewhere, HoldStill, IsPickOff}
+use Rattle.pool_model.specs.Left.{AreAloneBy, AreElsewhere, HavePlaces, HoldStill, IsPickOff}
 use Rattle.pool_model.specs.Pools.{extent_in}
 
 -- Tables of slices are those of a pool's drives, for the places that are current by a state.
@@ -65,8 +71,10 @@ pub record IsStopped (f : Found) (t : Slices) (base s : State) (i : Image) : Typ
   pub slices : AreSlicesNow f t base
   pub orderly : IsOrderly t
   pub inside : (k d : ℕ) → seat_of t (slice_place k) ≡ Some d → 0 < sectors_of t k → first_of t k + sectors_of t k ≤ f.disks.sectors d
-  pub there : (p : ℕ) → is_current base p ≡ true → 0 < sectors_of t (log_slice p)
-  pub someone : (p : ℕ) × (is_current s p ≡ true)
+  -- a place that is current when the call begins and has no drive: no disk stands for it
+  pub absent :
+      (p d : ℕ) → is_current base p ≡ true → f.seats p ≡ None → d < f.disks.count → stands_for base (identities_of f.disks i d) ≡ Some p → ⊥
+  pub someone : (p d : ℕ) × (is_current s p ≡ true) × (f.seats p ≡ Some d)
   pub tables : LieByTables f t s i
   -- a drive whose place wasn't current when the call began says an earlier state
   pub former :
@@ -79,6 +87,15 @@ pub record IsStopped (f : Found) (t : Slices) (base s : State) (i : Image) : Typ
   pub alone : AreAloneBy s f i
 
 -- ---- inside calls
+
+-- What calls on the slices of a pool's drives tell of their stops, from the book v to the book w, of so many arrays: the log slices say a state between the two,
+-- with copies that are such as calls leave which began with v's; and by a state between each array's superblocks agree, with the size and the members'
+-- places that they had.
+pub record TellsStops (made : ℕ) (v w : Raid) (a b : Seen) : Type 0 where
+  pub logs : Leaves a b (λ c. HasNothing a.sectors c → LogsBetween v.state w.state a.sectors c)
+  pub since : Leaves a b (λ c. HasNothing a.sectors c → AreSince v.state a.sectors c)
+  pub arrays : (n : ℕ) → n < made → Leaves a b (λ c. HasNothing a.sectors c → IsBetween v.state w.state n (replayed a.sectors c))
+  pub frames : (n : ℕ) → n < made → Leaves a b (λ c. HasNothing a.sectors c → HasFrame (frame_of (v.arrays n).truth) n (replayed a.sectors c))
 
 -- by their tables a pool's drives have the members' slices where the pool has them
 abbrev pub HaveTables : Found → Type 0
@@ -106,13 +123,23 @@ pub record HaveStood (f : Found) : Type 0 where
   pub copy : (f.before.identities disk).copied ≡ Some (record { state = f.before.state; own = own })
   pub latest : (p d : ℕ) (other : Copied) → f.seats p ≡ Some d → (f.before.identities d).copied ≡ Some other → IsNoLater f.before.state other
 
+-- And that drive has a log slice.
+pub record StoodInLog (f : Found) : Type 0 where
+  pub stood : HaveStood f
+  pub room : arrays_first ≤ f.disks.sectors stood.disk
+
 -- Contents of disks hold the pool still, by a state between two. The record that is pending there lands where the slices are by the drives' tables; one of
--- them has the state that stands, and those that are taken in have gates of lower numbers.
-pub record HoldAmid (f : Found) (t : Slices) (s u : State) (i : Image) : Type 0 where
+-- them, which has a log slice, has the state that stands, and those that are taken in have gates of lower numbers.
+pub record HoldBetween (f : Found) (t : Slices) (s u : State) (i : Image) : Type 0 where
   pub state : State
   pub later : IsAfter s state
   pub sooner : IsAfter state u
   pub still : HoldStill f t state i
   pub apart : LieApart still.now
-  pub stood : HaveStood still.now
+  pub stood : StoodInLog still.now
   pub lower : TakesLowerIn f.disks i
+
+-- So it is of a pool in service, of which each place that is current by that state has its drive.
+pub record HoldAmid (f : Found) (t : Slices) (s u : State) (i : Image) : Type 0 where
+  pub between : HoldBetween f t s u i
+  pub present : HavePlaces between.state between.still.now

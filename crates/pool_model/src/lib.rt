@@ -18,8 +18,15 @@
 //! `specs/Left.antt`; `stopped_still`, `proofs/Inside.antt`), and what is pending may be replayed by an opening that is stopped itself
 //! (`proofs/Pending.antt`). Of a call of a pool in service that writes slices alone, and that tells of its moments what a rack of arrays does
 //! (`KeepsMoments` of raid_rack), each stop leaves such contents, by a state between (`HoldAmid`; `service_amid`, `vacant_amid`, `proofs/Amid.antt`),
-//! where by them the drives' tables have the members' slices (`LieByTables`). Calls keep these tables (`HoldTables`, `tables_amid`; where drives were
+//! where by them the drives' tables have the members' slices (`LieByTables`); each place that is current by that state has its drive. Before a pool is
+//! in service a place may be absent: `HoldBetween` says the rest of it, for calls that tell of their stops (`TellsStops`, `found_tells`). Calls keep these tables (`HoldTables`, `tables_amid`; where drives were
 //! declined or taken in `proofs/Tables.antt`). What contents say of a pool, whatever made them so, stands in `proofs/Said.antt`.
+//!
+//! **Inside an opening** (`specs/Openings.antt`): `HoldOpened f from i` says of contents `i` that a stop inside it leaves that they hold the pool still, and may
+//! be replayed where a record is pending. So it is while disks are read (`proofs/Rereading.antt`), while gates are closed (`idle_holds`, `proofs/GatesSame.antt`),
+//! while the copies of tables are made to agree (`settled_holds`, `proofs/Settled.antt`), and while places without a disk are marked (`marking_amid`,
+//! `proofs/Marking.antt`; `amid_opened`, `proofs/Openings.antt`), where no superblock stands in them where a drive that is no member of an array would have its
+//! slice (`AreAlone`).
 //!
 //! `proofs/Absent.antt`: any one drive of a whole pool may be absent, `IsWholePool` (`specs/Absent.antt`): the disks without its disk mean what all of
 //! them mean (`safe_in_absence`). `proofs/EndedWhole.antt`: so it is of all that disks may be left with by a pool that has ended whole, by its

@@ -1,16 +1,13 @@
 -- Disks that a run has left whole: any one drive may be absent.
-use Rattle.std.proofs.Common.{◌≡◌, ℕ, ◌+◌, ◌<◌, ◌≤◌, ◌^◌, false, List, length, refl, sym, ap, ap₂, subst, ◌∙◌, arith}
-use Rattle.rack.specs.Seen.{Image, IsLive, IsPick, Rose}
+use Rattle.std.proofs.Common.{◌≡◌, ℕ, ◌+◌, ◌<◌, ◌≤◌, ◌^◌, false, List, length, Some, refl, sym, ap, ap₂, subst, ◌∙◌, arith}
+use Rattle.rack.specs.Seen.{Image, IsLive, IsPick, Rose, Seen}
 use Rattle.rack.specs.Values.{MayLeave}
 use Rattle.array_image.specs.Left.{IsLeft}
 use Rattle.array_model.specs.View.{sectors_of}
-use Rattle.lvm_group.specs.Group.{first_bad}
 use Rattle.lvm_group.specs.Runs.{data_start}
-use Rattle.shr_base.specs.declared.Id.{Id}
 use Rattle.pool_image.specs.Disks.{Disks, disks_of}
 use Rattle.pool_image.specs.Drives.{Found}
-use Rattle.pool_image.proofs.Joined.{bad_same}
-use Rattle.pool_model.specs.Absent.{AreOnly, HoldAbsent, IsWholeRaid}
+use Rattle.pool_model.specs.Absent.{AreOnly, HoldAbsent, IsWholeRaid, StandsAlone}
 use Rattle.pool_model.specs.Grouped.{HaveOwnAreas, HoldGroup}
 use Rattle.pool_model.specs.Left.{HoldRest, IsServed}
 use Rattle.pool_model.specs.Pools.{AreSlicesOf}
@@ -18,17 +15,28 @@ use Rattle.pool_model.proofs.Again.{off_later}
 use Rattle.pool_model.proofs.EndedWhole.{left_absent}
 use Rattle.pool_model.proofs.Found.{found_is}
 use Rattle.pool_model.proofs.Grouped.{whole_unspent}
+use Rattle.shr_tool.proofs.GroupKept.{group_kept}
 use Rattle.raid_rack.specs.Agreeing.{AgreeLeaving}
 use Rattle.raid_rack.specs.Book.{after_then}
 use Rattle.raid_rack.specs.Losing.{geometry_then}
 use Rattle.raid_rack.specs.Raid.{IsTold, held_in, is_over, spent_of}
 use Rattle.raid_rack.proofs.Over.{or_from}
 use Rattle.pool.specs.Calls.{Ends, Passes}
-use Rattle.pool.specs.Moment.{moment_of}
+use Rattle.pool.specs.Moment.{Moment, moment_of}
 use Rattle.pool.specs.View.{View, arrays_shown, book, slices_shown}
 use Rattle.pool.proofs.Keeping.{passes_then}
 use Rattle.shr_tool.specs.Outcome.{HasWholeSectors, IsRunOn}
-use Rattle.shr_tool.specs.Timeline.{ground_of}
+use Rattle.shr_tool.specs.Timeline.{Ground, ground_of}
+
+-- the pool of a run stands alone on its disks where no second disk stands for the place of a drive
+pub stands_first : (f : Found) (g : Ground) (from : Moment) (x : Seen) → IsRunOn f g from x → AreOnly f → StandsAlone f
+stands_first f g from x on only = record {
+  tables = on.tables;
+  others = λ d never low. record {
+    stands = λ p e seat stands. never p (seat ∙ ap Some (sym (only p e d seat low stands)));
+    pool = λ copy here. on.one_pool d copy low here;
+  };
+}
 
 module _ (x y : View) (f : Found) (passes : Passes x y) (on : IsRunOn f (ground_of x) (moment_of x) x.bay)
     (told_first : (n : ℕ) → n < x.linear.arrays → IsTold (book x) (slices_shown x) n)
@@ -77,20 +85,9 @@ module _ (x y : View) (f : Found) (passes : Passes x y) (on : IsRunOn f (ground_
         not_shown s extent rest first is = absurd (omega (arith, first, is))
 
     group_last : HoldGroup (book x) (slices_shown x) → HoldGroup (book y) (slices_shown y)
-    group_last group c picks past =
+    group_last =
         let same = passes.marks.same in
-        let sectors = λ (n : ℕ). passes.arrays.stays.sectors n in
-        bad_same (book y).state.pool.0 (book y).state.extent (book y).state.joined (λ n. sectors_of ((book y).arrays n)) (λ n. sectors_of ((book x).arrays n)) (λ n low. sectors n)
-        c c (λ n low. refl)
-        ∙ ap (λ (k : Id). first_bad k.0 (book y).state.extent (λ n. sectors_of ((book x).arrays n)) (book y).state.joined c) same.pool
-        ∙ ap (λ k. first_bad (book x).state.pool.0 k (λ n. sectors_of ((book x).arrays n)) (book y).state.joined c) same.extent
-        ∙ ap (λ k. first_bad (book x).state.pool.0 (book x).state.extent (λ n. sectors_of ((book x).arrays n)) k c) same.joined
-        ∙ group c
-        (λ n s low inside first.
-        let less : n < (book y).state.joined = (let joined = same.joined in omega (arith, low, joined)) in
-        let within : s < sectors_of ((book y).arrays n) = subst (λ k. s < k) (sym (sectors n)) inside in
-        kept n s (c n s) less within first (picks n s less within first))
-        (λ n s low out. past n s (let joined = same.joined in omega (arith, low, joined)) (subst (λ k. k ≤ s) (sym (sectors n)) out))
+        group_kept (book x) (book y) (slices_shown x) (slices_shown y) same.pool same.extent same.joined (λ n. passes.arrays.stays.sectors n) kept
 
     -- the disks are those that the run began on, and outside the slices as the pool has them
     disks_last : disks_of x.bay ≡ disks_of y.bay
@@ -112,7 +109,7 @@ module _ (x y : View) (f : Found) (passes : Passes x y) (on : IsRunOn f (ground_
         let same : f.disks ≡ disks_of y.bay = (found_is (disks_of x.bay) on.before f on.found_is).1 ∙ disks_last in
         let inside = passes.stays.fit.0.running.set.fit.1 in
         left_absent f y.slices y.bay (book y) served inside (disks_of x.bay) on.before i on.found_is disks_last on.sound rest_last pick
-        (record { alone = record { tables = on.tables; only = only; one_pool = on.one_pool }; book = whole; agree = agree })
+        (record { alone = stands_first f (ground_of x) (moment_of x) x.bay on only; book = whole; agree = agree })
         (subst (λ (k : Disks). (d s : ℕ) → d < k.count → s < k.sectors d → length (i d s) ≡ 512) (sym same) sized)
         (subst (λ (k : Disks). (d : ℕ) → d < k.count → k.sectors d < 2 ^ 48) (sym same) inside.small)
         (group_last group) alive

@@ -1,5 +1,5 @@
 -- What a stop between two lines and inside a line leaves holds a sound pool again: at a view, after one event more, and seen after calls more.
-use Rattle.std.proofs.Common.{◌≡◌, ℕ, ◌<◌, ◌≤◌, true, false, List, [], ◌∷◌, ◌++◌, append_assoc, sym, ◌∙◌, ap, subst, inl, inr, arith}
+use Rattle.std.proofs.Common.{◌≡◌, ℕ, ◌<◌, ◌≤◌, true, false, List, [], ◌∷◌, ◌++◌, Option, append_assoc, sym, ◌∙◌, ap, subst, inl, inr, arith}
 use Rattle.std.proofs.lemmas.List.{append-nil}
 use Rattle.rack.specs.Moments.{IsSound}
 use Rattle.rack.specs.Seen.{Image}
@@ -15,7 +15,7 @@ use Rattle.pool.specs.View.{View, book, spent_by}
 use Rattle.pool.specs.Volume.{Holds}
 use Rattle.shr_tool.specs.Between.{HoldsEach, HoldsInside, HoldsThen}
 use Rattle.shr_tool.specs.Events.{Event, any_takes, becomes, takes_disk}
-use Rattle.shr_tool.specs.Service.{AreFit, GoesBy, IsServed, pool_after, pool_by}
+use Rattle.shr_tool.specs.Service.{AreFit, GoesBy, IsServed, Lone, pool_after, pool_by}
 use Rattle.shr_tool.specs.Serving.{IsServing}
 use Rattle.shr_tool.specs.Timeline.{Ground, Steps, Timeline, ground_of, steps_of}
 use Rattle.shr_tool.proofs.Chains.{steps_more}
@@ -40,14 +40,14 @@ told_after x y a b events continues passes serving holds (inr some) n inside =
 
 -- a stop now leaves values that the disks hold, so the pool by which the run goes
 pub holds_then :
-    {L : Type 0} (x y : View) (a b : FlatArray) (events : List Event) (Serial : Type 0) (f : Found)
+    {L : Type 0} {o : Option Lone} (x y : View) (a b : FlatArray) (events : List Event) (Serial : Type 0) (f : Found)
     → Continues x y
     → (any_takes events ≡ false → Passes x y)
     → IsServing x a
     → Holds y b
     → x.bay.traced
     → (y.bay.fit → y.bay.traced → IsSound y.bay)
-    → (IsServed (ground_of x) (moment_of y) events → (any_takes events ≡ true → Serial) → GoesBy L f y)
+    → (IsServed (ground_of x) (moment_of y) events → (any_takes events ≡ true → Serial) → GoesBy L o f y)
     → HoldsThen y.bay.stops (ground_of x) Serial events f (moment_of y)
 holds_then x y a b events Serial f continues passes serving holds traced sound goes = λ served serial lasts i stopped.
     let going = goes served serial in
@@ -59,14 +59,14 @@ holds_then x y a b events Serial f continues passes serving holds traced sound g
 
 -- a stop inside calls that take no disk leaves what holds the pool still
 pub holds_inside :
-    {L : Type 0} (x y z : View) (a b : FlatArray) (events : List Event) (Serial : Type 0) (f : Found)
+    {L : Type 0} {o : Option Lone} (x y z : View) (a b : FlatArray) (events : List Event) (Serial : Type 0) (f : Found)
     → Continues x y
     → (any_takes events ≡ false → Passes x y)
     → IsServing x a
     → Holds y b
     → x.bay.traced
     → Passes y z
-    → (IsServed (ground_of x) (moment_of y) events → (any_takes events ≡ true → Serial) → GoesBy L f y)
+    → (IsServed (ground_of x) (moment_of y) events → (any_takes events ≡ true → Serial) → GoesBy L o f y)
     → HoldsInside z.bay.stops (ground_of x) Serial L events f (moment_of y) (moment_of z)
 holds_inside x y z a b events Serial f continues passes serving holds traced calls goes = λ served serial lands lasts.
     let going = goes served serial in

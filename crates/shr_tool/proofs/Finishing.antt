@@ -24,8 +24,8 @@ use Rattle.pool.specs.Moment.{moment_of}
 use Rattle.shr_tool.specs.Timeline.{Steps, Timeline, ground_of, steps_of}
 use Rattle.shr_tool.specs.Serving.{HasStopCause, IsServing, Ran, Serves, StopsAtEnd}
 use Rattle.shr_tool.specs.Between.{HoldsEach, HoldsInside}
-use Rattle.shr_tool.specs.Service.{AreFit, IsServed, pool_by}
-use Rattle.shr_tool.specs.Outcome.{DoneOutcome, EndsAt, HasStatusCause, IsRunOn, Lasts, LeavesItsRows, Outcome, status_by}
+use Rattle.shr_tool.specs.Service.{AreFit, AreLone, IsServed, pool_by}
+use Rattle.shr_tool.specs.Outcome.{DoneOutcome, EndsAt, HasStatusCause, IsRunOn, Lasts, LeavesItsRows, Outcome, lone_from, status_by}
 use Rattle.shr_tool.proofs.Between.{holds_inside, told_after}
 use Rattle.shr_tool.proofs.History.{IsUnspent, each_before, ran_before, slices_kept, standing, steps_before}
 use Rattle.shr_tool.proofs.Serviced.{goes_again, goes_calls, goes_run}
@@ -34,6 +34,8 @@ use Rattle.shr_tool.proofs.Told.{outside_told, steps_for, timeline_for}
 use Rattle.pool.proofs.Continuing.{continues_of, continues_then, outside_fewer, outside_of, outside_then}
 use Rattle.pool.proofs.Keeping.{passes_then}
 use Rattle.shr_tool.proofs.Absent.{agreed_at, safe_at}
+use Rattle.shr_tool.proofs.Lone.{lone_at}
+use Rattle.pool_model.specs.Absent.{HoldAbsent}
 
 -- what can be had after the end of a pool could be had before it
 served_before :
@@ -140,7 +142,7 @@ again_at :
 again_at x m y a events ran ends serving served f on serials fit lasts i pick =
     let h = pool_by f (moment_of x) events (moment_of m) ran.steps in
     let at_end = (ran.service a serving.0 (served_before x m y events ran.continues ends.passes served) f (goes_run x f on) serials fit).goes in
-    let goes = goes_calls m y h ends.passes at_end in
+    let goes = goes_calls m y h (array_by a events) ran.continues.fit (ran.holds a serving.0) ends.passes at_end in
     let made = goes.arrays in
     let linear = ap (λ (l : Linear). l.arrays) (ends.passes.linear ∙ ran.continues.linear) in
     let arrays = on.arrays ∙ on.joined in
@@ -216,6 +218,11 @@ lasts_of x m y a events unspent ran ends =
           agreed_at x m y f (ran.passes none) ends quiet on (told_at x m y a events ran ends serving (inl none)) n low goes r left;
       safe = λ serving none quiet f on.
           safe_at x m y f (ran.passes none) ends quiet on (λ n low. serving.1 n low) (told_at x m y a events ran ends serving (inl none));
+      safe_by = λ serving served quiet f on only ungiven own serials fit lone whole lasts i pick sized.
+          let same = steps_told x m y a events ran (continues_of m y ends.passes) in
+          subst (λ (steps : Steps (moment_of x) events (moment_of m)). HoldAbsent (pool_by f (moment_of x) events (moment_of m) steps) y.slices (book y).state i) (sym same)
+          (lone_at x m y a events ran ends serving (served_before x m y events ran.continues ends.passes served) quiet (told_at x m y a events ran ends serving served) f on only ungiven own
+          serials (subst (AreFit f (moment_of x) events (moment_of m)) same fit) (subst (AreLone f (lone_from (moment_of x) (moment_of m)) (moment_of x) events (moment_of m)) same lone) whole lasts i pick sized);
       again = λ serving served f on known fit lasts i pick.
           let same = steps_told x m y a events ran (continues_of m y ends.passes) in
           subst (λ (steps : Steps (moment_of x) events (moment_of m)). HoldAgain (pool_by f (moment_of x) events (moment_of m) steps) y.slices (book y).state i) (sym same)

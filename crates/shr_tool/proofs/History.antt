@@ -1,7 +1,8 @@
 -- What a script's answering has done so far, and what one line more does.
-use Rattle.std.proofs.Common.{◌≡◌, ◌⊎◌, ℕ, ◌≤◌, true, false, List, [], ◌∷◌, ◌++◌, length, append_assoc, refl, sym, ◌∙◌, ap, subst, inl, inr, arith}
+use Rattle.std.proofs.Common.{◌≡◌, ◌⊎◌, ℕ, ◌≤◌, true, false, List, [], ◌∷◌, ◌++◌, length, Option, Some, None, append_assoc, refl, sym, ◌∙◌, ap, subst, inl, inr, arith}
 use Rattle.std.proofs.lemmas.Bool.{cases_Bool}
 use Rattle.std.proofs.lemmas.List.{append-nil}
+use Rattle.std.proofs.lemmas.Option.{none-some}
 use Rattle.rack.specs.Seen.{Image}
 use Rattle.rack.specs.Moments.{IsSound}
 use Rattle.shr_script.specs.Line.{Line}
@@ -18,12 +19,14 @@ use Rattle.shr_tool.specs.Events.{AnyTakes, Event, Takes, answer_of, any_takes, 
 use Rattle.pool.specs.Moment.{Moment, moment_of}
 use Rattle.shr_tool.specs.Timeline.{Ground, KeepsDisks, KeepsSlices, KeepsStanding, Happens, Performs, Steps, Timeline, ground_of, steps_of}
 use Rattle.shr_tool.specs.Between.{HoldsEach}
-use Rattle.shr_tool.specs.Service.{AreFit, GoesBy, GoesOn, IsServed, pool_by}
+use Rattle.shr_tool.specs.Service.{AreFit, AreLone, GoesBy, GoesOn, IsFitFor, IsLoneFor, IsServed, Lone, lone_by, lone_then, pool_by}
 use Rattle.assembler.specs.Sound.{TargetsLand}
 use Rattle.pool_image.specs.Drives.{Found}
 use Rattle.pool_model.specs.Taken.{AreSerial}
 use Rattle.shr_tool.proofs.Between.{each_kept, each_more, holds_inside, holds_then, timeline_order}
-use Rattle.shr_tool.proofs.Chains.{fit_parts, pool_by-snoc, steps_more}
+use Rattle.shr_tool.proofs.Chains.{bound_by, fit_parts, lone_by-snoc, lone_parts, pool_by-snoc, steps_more}
+use Rattle.shr_tool.proofs.Heads.{heads_performed, heads_same, heads_then}
+use Rattle.shr_tool.proofs.Serial.{serial_performed}
 use Rattle.shr_tool.proofs.Serviced.{goes_performed, served_first, served_last}
 use Rattle.shr_tool.specs.Serving.{Answered, IsServing, Ran, Replies}
 use Rattle.pool.proofs.Continuing.{continues_same, continues_then, outside_fewer, outside_of, outside_then}
@@ -246,7 +249,7 @@ pub each_before :
     → Continues y z
     → IsServing x a
     → x.bay.traced
-    → GoesBy (TargetsLand f) f x
+    → GoesBy (TargetsLand f) None f x
     → HoldsEach z.bay.stops (ground_of x) (AreSerial f.state) (TargetsLand f) [] f (moment_of x) events (moment_of y) ran.steps
 each_before x y z events a f ran continues serving traced goes =
     let each = HoldsEach y.bay.stops (ground_of x) (AreSerial f.state) (TargetsLand f) [] f (moment_of x) events (moment_of y) in
@@ -260,6 +263,7 @@ each_before x y z events a f ran continues serving traced goes =
 -- nothing is done yet
 pub ran_none : (x : View) → (volume x).fit → IsLawful x → Ran x x []
 ran_none x fit laws = record {
+  fit = fit;
   continues = continues_same x fit;
   passes = λ none. passes_same x fit;
   outside = outside_of x x (AnyTakes x.shelf.names []) (passes_same x fit) laws.0;
@@ -268,6 +272,8 @@ ran_none x fit laws = record {
   steps = refl;
   steps_are = λ a. refl;
   service = λ a holds served f goes serials fit. record { goes = goes; serials = λ serial. serial };
+  lone = λ a holds served f l goes early serials fit lone. record { goes = goes; serials = λ serial. serial };
+  heads = λ names all. heads_same (book x) (slices_shown x);
   between = λ a serving traced f goes.
       holds_then x x a a [] (AreSerial f.state) f (continues_same x fit) (λ none. passes_same x fit) serving serving.0 traced laws.1 (λ served serials. goes);
 }
@@ -285,6 +291,28 @@ holds_more : (x y z : View) (events : List Event) (event : Event) (text : List �
 holds_more x y z events event text a ran performs holds =
     subst (λ b. Holds z b) (sym (array_by-snoc a events event)) (performs.holds (array_by a events) (ran.holds a holds))
 
+-- the pool after one event more
+on_more :
+    {o : Option Lone} (x y z : View) (events : List Event) (event : Event) (text : List ℕ) (a : FlatArray) (f : Found)
+    → IsUnspent z
+    → (ran : Ran x y events)
+    → Performs y z event text
+    → Holds x a
+    → IsServed (ground_of x) (moment_of z) (events ++ event ∷ [])
+    → (any_takes (events ++ event ∷ []) ≡ true → AreSerial f.state)
+    → IsFitFor (pool_by f (moment_of x) events (moment_of y) ran.steps) (moment_of y) event
+    → ((l : Lone) → o ≡ Some l → IsLoneFor (pool_by f (moment_of x) events (moment_of y) ran.steps) l (moment_of y) (moment_of z) event)
+    → ((l : Lone) → o ≡ Some l → (book z).state.serial ≤ l.bound)
+    → GoesOn (TargetsLand f) o f (pool_by f (moment_of x) events (moment_of y) ran.steps) y
+    → GoesOn (TargetsLand f) (lone_then o (moment_of z) event) f
+    (pool_by f (moment_of x) (events ++ event ∷ []) (moment_of z) (steps_more (moment_of x) events (moment_of y) event (moment_of z) ran.steps)) z
+on_more {o} x y z events event text a f unspent ran performs holds served serials fit lone early before =
+    let after =
+    goes_performed y z event text (array_by a events) unspent ran.continues.fit performs (ran.holds a holds) (served_last x y z events event ran.continues.linear served)
+    (pool_by f (moment_of x) events (moment_of y) ran.steps) before.goes (λ takes. before.serials (serials (takes_last events event takes))) fit lone early in
+    subst (λ h. GoesOn (TargetsLand f) (lone_then o (moment_of z) event) f h z) (sym (pool_by-snoc f (moment_of x) events (moment_of y) event (moment_of z) ran.steps))
+    (record { goes = after.goes; serials = λ serial. after.serials (before.serials serial) })
+
 -- a pool by which the run goes
 service_more :
     (x y z : View) (events : List Event) (event : Event) (text : List ℕ) (a : FlatArray) (f : Found)
@@ -293,20 +321,49 @@ service_more :
     → Performs y z event text
     → Holds x a
     → IsServed (ground_of x) (moment_of z) (events ++ event ∷ [])
-    → GoesBy (TargetsLand f) f x
+    → GoesBy (TargetsLand f) None f x
     → (any_takes (events ++ event ∷ []) ≡ true → AreSerial f.state)
     → AreFit f (moment_of x) (events ++ event ∷ []) (moment_of z) (steps_more (moment_of x) events (moment_of y) event (moment_of z) ran.steps)
-    → GoesOn (TargetsLand f) f (pool_by f (moment_of x) (events ++ event ∷ []) (moment_of z) (steps_more (moment_of x) events (moment_of y) event (moment_of z) ran.steps)) z
+    → GoesOn (TargetsLand f) None f (pool_by f (moment_of x) (events ++ event ∷ []) (moment_of z) (steps_more (moment_of x) events (moment_of y) event (moment_of z) ran.steps)) z
 service_more x y z events event text a f unspent ran performs holds served goes serials fit =
     let parts = fit_parts f (moment_of x) events (moment_of y) event (moment_of z) ran.steps fit in
-    let linear = ran.continues.linear in
-    let before =
-    ran.service a holds (served_first x y z events event text linear performs served) f goes (λ takes. serials (takes_first events event takes)) parts.0 in
-    let after =
-    goes_performed y z event text (array_by a events) unspent ran.continues.fit performs (ran.holds a holds) (served_last x y z events event linear served)
-    (pool_by f (moment_of x) events (moment_of y) ran.steps) before.goes (λ takes. before.serials (serials (takes_last events event takes))) parts.1 in
-    subst (λ h. GoesOn (TargetsLand f) f h z) (sym (pool_by-snoc f (moment_of x) events (moment_of y) event (moment_of z) ran.steps))
-    (record { goes = after.goes; serials = λ serial. after.serials (before.serials serial) })
+    on_more x y z events event text a f unspent ran performs holds served serials parts.1 (λ l none. absurd (none-some l none)) (λ l none. absurd (none-some l none))
+    (ran.service a holds (served_first x y z events event text ran.continues.linear performs served) f goes (λ takes. serials (takes_first events event takes)) parts.0)
+
+some_same : {X : Type 0} (a b : X) → Some a ≡ Some b → a ≡ b
+some_same a b same = cc
+
+-- one that stands alone on its disks
+lone_more :
+    (x y z : View) (events : List Event) (event : Event) (text : List ℕ) (a : FlatArray) (f : Found) (l : Lone)
+    → IsUnspent z
+    → (ran : Ran x y events)
+    → Performs y z event text
+    → Holds x a
+    → IsServed (ground_of x) (moment_of z) (events ++ event ∷ [])
+    → GoesBy (TargetsLand f) (Some l) f x
+    → (book z).state.serial ≤ l.bound
+    → (any_takes (events ++ event ∷ []) ≡ true → AreSerial f.state)
+    → AreFit f (moment_of x) (events ++ event ∷ []) (moment_of z) (steps_more (moment_of x) events (moment_of y) event (moment_of z) ran.steps)
+    → AreLone f l (moment_of x) (events ++ event ∷ []) (moment_of z) (steps_more (moment_of x) events (moment_of y) event (moment_of z) ran.steps)
+    → GoesOn (TargetsLand f)
+    (Some (lone_by l (moment_of x) (events ++ event ∷ []) (moment_of z) (steps_more (moment_of x) events (moment_of y) event (moment_of z) ran.steps))) f
+    (pool_by f (moment_of x) (events ++ event ∷ []) (moment_of z) (steps_more (moment_of x) events (moment_of y) event (moment_of z) ran.steps)) z
+lone_more x y z events event text a f l unspent ran performs holds served goes early serials fit lone =
+    let parts = fit_parts f (moment_of x) events (moment_of y) event (moment_of z) ran.steps fit in
+    let lones = lone_parts f l (moment_of x) events (moment_of y) event (moment_of z) ran.steps lone in
+    let pool = pool_by f (moment_of x) events (moment_of y) ran.steps in
+    let before : Lone = lone_by l (moment_of x) events (moment_of y) ran.steps in
+    let more : Found = pool_by f (moment_of x) (events ++ event ∷ []) (moment_of z) (steps_more (moment_of x) events (moment_of y) event (moment_of z) ran.steps) in
+    let up = serial_performed y z event text performs in
+    let bounded : (book z).state.serial ≤ before.bound = subst (λ k. (book z).state.serial ≤ k) (sym (bound_by l (moment_of x) events (moment_of y) ran.steps)) early in
+    subst (λ (k : Lone). GoesOn (TargetsLand f) (Some k) f more z)
+    (sym (lone_by-snoc l (moment_of x) events (moment_of y) event (moment_of z) ran.steps))
+    (on_more x y z events event text a f unspent ran performs holds served serials parts.1
+    (λ k same. subst (λ (m : Lone). IsLoneFor pool m (moment_of y) (moment_of z) event) (some_same before k same) lones.1)
+    (λ k same. subst (λ (m : Lone). (book z).state.serial ≤ m.bound) (some_same before k same) bounded)
+    (ran.lone a holds (served_first x y z events event text ran.continues.linear performs served) f l goes (omega (arith, up, early))
+    (λ takes. serials (takes_first events event takes)) parts.0 lones.0))
 
 -- what a stop inside the event and at its end leaves holds it
 between_more :
@@ -316,7 +373,7 @@ between_more :
     → Performs y z event text
     → IsServing x a
     → x.bay.traced
-    → GoesBy (TargetsLand f) f x
+    → GoesBy (TargetsLand f) None f x
     → HoldsEach z.bay.stops (ground_of x) (AreSerial f.state) (TargetsLand f) [] f (moment_of x) (events ++ event ∷ []) (moment_of z)
     (steps_more (moment_of x) events (moment_of y) event (moment_of z) ran.steps)
 between_more x y z events event text a f laws ran performs serving traced goes =
@@ -340,6 +397,7 @@ pub ran_more :
     → Performs y z event text
     → Ran x z (events ++ event ∷ [])
 ran_more x y z events event text laws ran performs = record {
+  fit = ran.fit;
   continues = continues_then x y z ran.continues performs.continues;
   passes = passes_more x y z events event text ran performs;
   outside =
@@ -370,6 +428,10 @@ ran_more x y z events event text laws ran performs = record {
       (λ told. ran.holds a told.1))
       ∙ ap (steps_more (moment_of x) events (moment_of y) event (moment_of z)) (steps_before x y z events a ran performs.continues);
   service = λ a holds served f goes serials fit. service_more x y z events event text a f laws.0 ran performs holds served goes serials fit;
+  lone = λ a holds served f l goes early serials fit lone. lone_more x y z events event text a f l laws.0 ran performs holds served goes early serials fit lone;
+  heads = λ names all.
+      heads_then (book x) (book y) (book z) (slices_shown x) (slices_shown y) (slices_shown z) (ran.heads names all)
+      (heads_performed y z event text performs (ran.continues.told names) (ran.continues.known names all));
   between = λ a serving traced f goes. between_more x y z events event text a f laws ran performs serving traced goes;
 }
 

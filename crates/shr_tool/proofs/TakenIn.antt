@@ -1,41 +1,42 @@
 -- A pool by which a run goes is one after a line that took a drive in.
-use Rattle.std.proofs.Common.{◌≡◌, ◌≢◌, ℕ, zero, suc, ◌+◌, ◌-◌, ◌*◌, ◌/◌, ◌<◌, ◌≤◌, ◌^◌, ◌||◌, not, nat_lt, if◌then◌else◌, Bool, true, false, is_some, List, length, slice_get, Option, Some, None, unwrap_or, option_map, Result, Ok, Err, refl, sym, ◌∙◌, ap, ap₂, subst, inl, inr, eq-eqb, arith}
+use Rattle.std.proofs.Common.{◌≡◌, ◌≢◌, ◌⊎◌, ℕ, ◌+◌, ◌-◌, ◌<◌, ◌≤◌, ◌^◌, ◌||◌, not, nat_lt, if◌then◌else◌, Bool, true, false, is_some, List, length, slice_get, Option, Some, None, unwrap_or, option_map, Result, Ok, Err, refl, sym, ◌∙◌, ap, ap₂, subst, inl, inr, eq-eqb, arith}
 use Rattle.std.specs.Option.{option_map_or}
 use Rattle.std.proofs.lemmas.Bool.{both_ways, cases_eq, cases_lt}
-use Rattle.std.proofs.lemmas.Nat.{div_below}
 use Rattle.std.proofs.lemmas.Option.{none-some}
 use Rattle.rack.specs.Seen.{Image, IsLive}
 use Rattle.slice_rack.specs.Changes.{Seats}
 use Rattle.slice_rack.specs.Runs.{IsSliced}
-use Rattle.slice_rack.specs.Slices.{Slices, disk_of, first_of, place_of, seat_of, sectors_of}
+use Rattle.slice_rack.specs.Slices.{Slices, seat_of}
 use Rattle.slice_rack.specs.Sliced.{slices_of}
 use Rattle.flat_array.specs.Array.{FlatArray}
-use Rattle.lvm_group.specs.Runs.{Linear, array_of, extents_of, sector_of}
+use Rattle.lvm_group.specs.Runs.{Linear, array_of}
+use Rattle.shr_base.specs.declared.Id.{Id}
 use Rattle.pool_state.specs.declared.contents.Copied.{Copied}
 use Rattle.pool_state.specs.declared.contents.Drive.{Drive}
 use Rattle.pool_state.specs.declared.contents.Plan.TheVariants.{Replace as Replacing}
 use Rattle.pool_state.specs.declared.contents.State.{State}
-use Rattle.array_image.specs.Places.{log_sectors, log_slice, state_sector, super_sector}
+use Rattle.array_image.specs.Places.{super_sector}
 use Rattle.array_image.specs.Supers.{super_of}
 use Rattle.array_image.specs.States.{is_current}
 use Rattle.array_core.proofs.Opened.{current_below}
 use Rattle.array_core.specs.Seats.{seat_of as slot_of}
-use Rattle.array_model.specs.View.{View as ArrayView, spent_in}
+use Rattle.array_model.specs.View.{View as ArrayView}
+use Rattle.raid_rack.specs.Book.{after_same}
 use Rattle.raid_rack.specs.Enlisting.{enlisted}
 use Rattle.raid_rack.specs.NewDrive.{SeatsDrive, is_reached, joins}
-use Rattle.raid_rack.specs.Raid.{IsTold, Raid, is_over}
-use Rattle.raid_rack.proofs.Over.{number_room, or_parts}
+use Rattle.raid_rack.proofs.Over.{number_room}
 use Rattle.pool_image.specs.Disks.{Disks, disks_of, identities_of}
-use Rattle.pool_image.specs.Drives.{Found, extent_of, first_of as first_in}
-use Rattle.pool_image.specs.Replay.{Extent}
-use Rattle.pool_image.specs.Meaning.{is_member}
+use Rattle.pool_image.specs.Drives.{Found, first_of as first_in}
+use Rattle.pool_image.specs.Meaning.{is_member, is_table}
+use Rattle.pool_model.specs.Alone.{IsStranger, TakesAlone}
 use Rattle.pool_model.specs.Left.{IsPickOff}
-use Rattle.pool_model.specs.Pools.{AreSlicesOf}
 use Rattle.raid_rack.specs.Missing.{raised}
-use Rattle.pool_model.specs.Taken.{AreSerial, KeepsOff, KeepsRest, SeatsNew, taken}
+use Rattle.pool_model.specs.Taken.{AreDistinct, AreSerial, KeepsOff, KeepsRest, SeatsNew, taken}
+use Rattle.pool_model.proofs.Alone.{alone_taken, stranger_former}
+use Rattle.shr_tool.proofs.NewTabled.{tabled_new}
 use Rattle.pool_model.proofs.InService.{service_taken}
-use Rattle.pool_model.proofs.Lost.{epoch_room, lost_before}
-use Rattle.pool_model.proofs.Named.{same_length}
+use Rattle.pool_model.proofs.Lost.{epoch_room}
+use Rattle.pool_model.proofs.Named.{id_same, same_length}
 use Rattle.pool_model.proofs.NewMembers.{joins_member, positions_of}
 use Rattle.pool_model.proofs.Serials.{serial_after, serial_enlisted, serial_fresh}
 use Rattle.pool_model.proofs.Tables.{tables_taken}
@@ -52,18 +53,20 @@ use Rattle.pool.specs.View.{View, book, spent_by, volume}
 use Rattle.pool.specs.Volume.{Holds, is_spent, size_of}
 use Rattle.pool.proofs.Admitted.{IsAdmitted, admitted, others_current, reaches_each}
 use Rattle.shr_tool.specs.Events.Event.{replaced}
-use Rattle.shr_tool.specs.Service.{GoesBy, GoesOn, IsFitDrive, disk_in, pool_after, units_in}
+use Rattle.shr_tool.specs.Service.{GoesBy, GoesOn, IsFitDrive, Lone, StandsLone, disk_in, lone_then, pool_after, units_in}
 use Rattle.shr_tool.specs.Timeline.{Performs}
-use Rattle.shr_tool.proofs.TakenTables.{lies_taken}
+use Rattle.shr_tool.proofs.Chains.{lone_before}
+use Rattle.shr_tool.proofs.Former.{former_copy, lost_below, not_over, since_now}
+use Rattle.shr_tool.proofs.TakenTables.{lies_taken, table_taken}
 
 some_same : {X : Type 0} (a b : X) → Some a ≡ Some b → a ≡ b
 some_same a b same = cc
 
 -- ---- what holds of each line that names a disk
 
-module _ {L : Type 0} (x y : View) (place : ℕ) (name : List ℕ) (unspent : (d s : ℕ) → y.bay.spent d s ≡ false) (continues : Continues x y)
+module _ {L : Type 0} {o : Option Lone} (x y : View) (place : ℕ) (name : List ℕ) (unspent : (d s : ℕ) → y.bay.spent d s ≡ false) (continues : Continues x y)
     (outside : KeepsOutside x.slices y.slices (λ d. slice_get y.shelf.names d ≡ Some name) x.shelf.told x.bay y.bay) (changes : ChangesDrive x y place name)
-    (told : (d : ℕ) → d < y.bay.disks → y.bay.told d) (f : Found) (goes : GoesBy L f x) where
+    (told : (d : ℕ) → d < y.bay.disks → y.bay.told d) (f : Found) (goes : GoesBy L o f x) where
   pub count_is : f.disks.count ≡ x.bay.disks
   count_is = ap (λ (z : Disks). z.count) goes.service.disks
 
@@ -116,70 +119,6 @@ module _ {L : Type 0} (x y : View) (place : ℕ) (name : List ℕ) (unspent : (d
       let many = same_length (book x).state.drives.items f.state.drives.items goes.service.after.same.drives in
       omega (arith, low, many)
 
--- ---- an array that is told, of a sector that can be had
-
-sized : (s n e : ℕ) → s < n * e → 0 < e
-sized s n zero within = (let none : n * zero ≡ 0 = omega arith in absurd (omega (arith, within, none)))
-sized s n (suc e) within = omega arith
-
-pub array_low : (x : View) (s : ℕ) → (volume x).fit → s < size_of x → array_of x.linear s < x.linear.arrays
-array_low x s fit within =
-    fit.1.placed (s / x.linear.extent)
-    (div_below s x.linear.extent (extents_of x.linear.runs) (sized s (extents_of x.linear.runs) x.linear.extent within) within)
-
-pub not_over : (l : Linear) (v : Raid) (s : ℕ) → spent_by l v s ≡ false → is_over v (array_of l s) ≡ false
-not_over l v s alive = (or_parts (is_over v (array_of l s)) (spent_in (v.arrays (array_of l s)) (sector_of l s)) alive).0
-
-pub told_by : (x : View) (b : FlatArray) (s : ℕ) → (volume x).fit → Holds x b → s < size_of x → is_spent x s ≡ false
-    → IsTold (book x) (slices_of x.slices x.bay) (array_of x.linear s)
-told_by x b s fit holds within alive = holds.told s (let same = holds.size in omega (arith, within, same)) alive (array_of x.linear s) (array_low x s fit within)
-
--- the log slice of a place
-log_lies : (f : Found) (t : Slices) (place d : ℕ) → AreSlicesOf f t → f.seats place ≡ Some d
-    → (first_of t (log_slice place) ≡ state_sector) × (sectors_of t (log_slice place) ≡ log_sectors)
-unfolding extent_of
-log_lies f t place d slices seat =
-    let lies = slices.logs place d seat in (
-      sym (ap (λ (o : Option Extent). option_map_or (λ e. e.first) o 0) lies),
-      sym (ap (λ (o : Option Extent). option_map_or (λ e. e.sectors) o 0) lies),
-    )
-
--- the drive that a place had, which has no slices any more and wasn't written, says a state that is earlier than the book's
-module _ {L : Type 0} (x y : View) (place : ℕ) (name : List ℕ) (unspent : (d s : ℕ) → y.bay.spent d s ≡ false) (fit : (volume x).fit) (continues : Continues x y)
-    (outside : KeepsOutside x.slices y.slices (λ d. slice_get y.shelf.names d ≡ Some name) x.shelf.told x.bay y.bay) (changes : ChangesDrive x y place name)
-    (told : (d : ℕ) → d < y.bay.disks → y.bay.told d) (f : Found) (goes : GoesBy L f x) (d : ℕ) (seat : f.seats place ≡ Some d) (same : x.slices ≡ goes.tables)
-    (on : seat_of x.slices place ≡ Some d) (unnamed : IsNamed (moment_of y) name d → ⊥) (bare : (s : ℕ) (w : List ℕ) → IsSliced y.slices d s w → ⊥) {b : FlatArray}
-    (holds : Holds x b) (s : ℕ) (within : s < size_of x) (alive : is_spent x s ≡ false) (listed : place < length (book x).state.drives.items)
-    (missing : is_current (book x).state place ≡ false) where
-  there : d < x.bay.disks
-  there = fit.0.running.set.fit.1.seats place d on
-
-  sector : state_sector < x.bay.sectors d
-  sector =
-      let lies = log_lies f goes.tables place d goes.service.slices seat in
-      let first = ap (λ (u : Slices). first_of u (log_slice place)) same ∙ lies.0 in
-      let many = ap (λ (u : Slices). sectors_of u (log_slice place)) same ∙ lies.1 in
-      let on_place : place_of (log_slice place) ≡ place = omega arith in
-      let disk : disk_of x.slices (log_slice place) ≡ d = ap (λ o. unwrap_or o 0) (ap (seat_of x.slices) on_place ∙ on) in
-      let room = fit.0.running.set.fit.1.slices (log_slice place) (omega (arith, many)) in
-      let here : x.bay.sectors (disk_of x.slices (log_slice place)) ≡ x.bay.sectors d = ap x.bay.sectors disk in
-      omega (arith, room, first, many, here)
-
-  live : IsLive y.bay y.bay d state_sector
-  live =
-      let low : d < y.bay.disks = (let at = there in let more = continues.disks in omega (arith, at, more)) in
-      record { disk = low; sector = subst (λ n. state_sector < n) (sym (continues.sectors d there)) sector; is_told = told d low; unspent = unspent d state_sector }
-
-  small : place < 16
-  small = let few = fit.0.running.set.few in omega (arith, listed, few)
-
-  pub lost_below : (i : Image) → IsPickOff y.slices y.bay i → (copy : Copied) → (identities_of (disks_of y.bay) i d).copied ≡ Some copy
-      → copy.state.epoch < (book x).state.epoch
-  lost_below =
-      lost_before f goes.tables y.slices (book x) x.bay y.bay place d d goes.service.slices seat small missing (array_of x.linear s)
-      (subst (λ (u : Slices). IsTold (book x) (slices_of u x.bay) (array_of x.linear s)) same (told_by x b s fit holds within alive)) (not_over x.linear (book x) s alive) live
-      ((changes.retired d on unnamed).held state_sector sector (holds.disks d there)) (λ w is. bare state_sector w is)
-
 -- an epoch that is below one is below the next
 up_of : (n k : ℕ) → k < n → k < raised n
 up_of n k less = by (nat_lt n (2 ^ 63 - 1))
@@ -224,9 +163,11 @@ reached_of arrays place sectors n each = by (slice_get arrays n) refl
         of false none = refl
         of true has = each u at has
 
-module _ {L : Type 0} (x y : View) (place : ℕ) (name text : List ℕ) (b : FlatArray) (unspent : (d s : ℕ) → y.bay.spent d s ≡ false) (fit : (volume x).fit)
+module _ {L : Type 0} {o : Option Lone} (x y : View) (place : ℕ) (name text : List ℕ) (b : FlatArray) (unspent : (d s : ℕ) → y.bay.spent d s ≡ false) (fit : (volume x).fit)
     (performs : Performs x y (replaced place name) text) (holds : Holds x b) (some : (s : ℕ) × (s < size_of x) × (spent_by x.linear (book y) s ≡ false))
-    (f : Found) (goes : GoesBy L f x) (fitting : IsFitDrive f (moment_of x) place name) (serials : AreSerial f.state) where
+    (f : Found) (goes : GoesBy L o f x) (fitting : IsFitDrive f (moment_of x) place name) (serials : AreSerial f.state)
+    (lone : (l : Lone) → o ≡ Some l → (d : ℕ) → f.seats place ≡ Some d → IsNamed (moment_of x) name d ⊎ (is_current l.base place ≡ true))
+    (early : (l : Lone) → o ≡ Some l → (book y).state.serial ≤ l.bound) where
   abbrev pub changes : ChangesDrive x y place name
   changes = (performs.changes refl).0
 
@@ -354,23 +295,26 @@ module _ {L : Type 0} (x y : View) (place : ℕ) (name text : List ℕ) (b : Fla
         | inr laid ↦ absurd (laid_super disk (y.bay.sectors disk) sector (i disk sector) (omega (arith, past)) fit.0 laid.value)
       ]
 
+  -- where it gave up no disk before, its drive's has no slices any more
+  bare_now : (d : ℕ) → d ≢ disk → seat_of x.slices place ≡ Some d → (s : ℕ) (w : List ℕ) → IsSliced y.slices d s w → ⊥
+  bare_now d other on = elim (changes.bare d on (only d other)) [
+    | inl still ↦
+        absurd
+        (other
+        (some_same d disk
+        (sym on ∙ ap (λ (u : Slices). seat_of u place) (sym still) ∙ is.seats.seats place
+        ∙ ap (λ (c : Bool). if c then Some disk else seat_of x.slices place) (eq-eqb place place refl))))
+    | inr bare ↦ bare
+  ]
+
   -- the drive that the place had says an earlier state
   lost_says : (d : ℕ) → d ≢ disk → f.seats place ≡ Some d → (i : Image) → IsPickOff y.slices y.bay i
       → (copy : Copied) → (identities_of (disks_of y.bay) i d).copied ≡ Some copy → copy.state.epoch < raised (book x).state.epoch
   lost_says d other seat i pick copy here = elim goes.vacant [
     | inl same ↦
         (let on : seat_of x.slices place ≡ Some d = ap (λ (u : Slices). seat_of u place) same ∙ goes.service.slices.seats place ∙ seat in
-        up_of (book x).state.epoch copy.state.epoch (lost_below x y place name unspent fit performs.continues (performs.outside refl) changes told f goes d seat same on (only d other)
-        (elim (changes.bare d on (only d other)) [
-          | inl still ↦
-              absurd
-              (other
-              (some_same d disk
-              (sym on ∙ ap (λ (u : Slices). seat_of u place) (sym still) ∙ is.seats.seats place
-              ∙ ap (λ (c : Bool). if c then Some disk else seat_of x.slices place) (eq-eqb place place refl))))
-          | inr bare ↦ bare
-        ])
-        holds some.0 some.1 alive listed free.missing i pick copy here))
+        up_of (book x).state.epoch copy.state.epoch
+        (lost_below x y place name unspent fit performs.continues (performs.outside refl) changes told f goes d seat same on (only d other) (bare_now d other on) holds some.0 some.1 alive listed free.missing i pick copy here))
     | inr one ↦
         (let now : place ≡ one.0 = sym (vacant_is one.0 one.1 one.2.missing) in
         let less =
@@ -398,11 +342,70 @@ module _ {L : Type 0} (x y : View) (place : ℕ) (name text : List ℕ) (b : Fla
     ];
   }
 
+  below : (l : Lone) → o ≡ Some l → f.state.serial < l.bound
+  below l so =
+      let given = is.marks.same.serial in
+      let before = goes.service.after.same.serial in
+      let most = early l so in
+      omega (arith, given, before, most)
+
+  -- The drive that the place had is a stranger: it was current by the base, and its copy is its own and of a state since.
+  former : (l : Lone) (so : o ≡ Some l) (d : ℕ) → d ≢ disk → f.seats place ≡ Some d → is_current l.base place ≡ true → (i : Image) → IsPickOff y.slices y.bay i
+      → IsStranger (taken f (disks_of y.bay) place disk (enlisted place is.units (Replacing place) (book x).state)) l.bound (identities_of (disks_of y.bay) i d)
+  former l so d other seat current i pick =
+      let stands = goes.alone l so in
+      let on : seat_of x.slices place ≡ Some d = ap (λ (u : Slices). seat_of u place) stands.slices ∙ goes.service.slices.seats place ∙ seat in
+      let own =
+      former_copy x y place name unspent fit performs.continues (performs.outside refl) changes told f goes d seat stands.slices on (only d other) (bare_now d other on) holds some.0
+      some.1 alive listed free.missing l.base (stands.since some.0 some.1 alive) current i pick in
+      stranger_former f t y.slices (book x) x.bay y.bay place disk is.units (Replacing place) goes.service seats_new keeps_rest l.bound (below l so) serials stands.distinct d seat
+      (identities_of (disks_of y.bay) i d) own.0 own.1 (own.2.same.pool ∙ stands.after.same.pool) (own.3 ∙ id_same f.state l.base stands.after.same place)
+
+  -- it has its table, and no other disk came
+  takes_alone : (l : Lone) → o ≡ Some l
+      → TakesAlone f (taken f (disks_of y.bay) place disk (enlisted place is.units (Replacing place) (book x).state)) l.bound y.slices place disk y.bay
+  takes_alone l so = record {
+    own = λ i pick.
+        ap (λ o. option_map_or (is_table (taken f (disks_of y.bay) place disk (enlisted place is.units (Replacing place) (book x).state)) place (y.bay.sectors disk)) o false)
+        (table_taken x y place name text b unspent performs holds goes.orderly disk named i pick)
+        ∙ tabled_new f t y.slices (book x) (disks_of y.bay) place disk is.units (Replacing place) seats_new known
+        (sectors_kept x y place name unspent performs.continues (performs.outside refl) changes told f goes)
+        (reaches_each (views_of (book x)) place (y.bay.sectors disk) free.reaches).0;
+    strangers = λ i pick d low other why. elim why [
+      | inl past ↦
+          (let same = count_is x y place name unspent performs.continues (performs.outside refl) changes told f goes in
+          absurd (only d other (changes.names.came d (omega (arith, past, same)) low)))
+      | inr seat ↦ elim (lone l so d seat) [
+        | inl before ↦ absurd (only d other (performs.continues.names d name before))
+        | inr current ↦ former l so d other seat current i pick
+      ]
+    ];
+  }
+
+  -- and stands alone then
+  stands_taken : (l : Lone) → lone_then o (moment_of y) (replaced place name) ≡ Some l
+      → StandsLone l (taken f (disks_of y.bay) place disk (enlisted place is.units (Replacing place) (book x).state)) y.slices y
+  stands_taken l so =
+      let was = lone_before o (moment_of y) (replaced place name) l so in
+      let k = was.0 in
+      let stands = goes.alone k was.1 in
+      subst (λ (m : Lone). StandsLone m (taken f (disks_of y.bay) place disk (enlisted place is.units (Replacing place) (book x).state)) y.slices y) was.2
+      (record {
+        alone =
+            alone_taken f t y.slices (book x) x.bay y.bay place disk is.units (Replacing place) goes.service seats_new keeps_rest k.bound (below k was.1) (takes_alone k was.1)
+            stands.alone;
+        slices = refl;
+        distinct = subst (λ (pool : Id). AreDistinct pool.0 k.bound) (sym goes.service.after.same.pool) stands.distinct;
+        after = is.marks;
+        before = after_same (book y).state;
+        since = λ s within left. since_now y b s performs.continues.fit (performs.holds b holds) within left;
+      })
+
   pool_is : pool_after f (moment_of x) (moment_of y) (replaced place name) ≡ taken f (disks_of y.bay) place disk (enlisted place is.units (Replacing place) (book x).state)
   pool_is = ap₂ (λ (d n : ℕ). taken f (disks_of y.bay) place d (enlisted place n (Replacing place) (book x).state)) disk_is units_is
 
-  goes_replaced : GoesBy L (pool_after f (moment_of x) (moment_of y) (replaced place name)) y
-  goes_replaced = subst (λ h. GoesBy L h y) (sym pool_is) (record {
+  goes_replaced : GoesBy L (lone_then o (moment_of y) (replaced place name)) (pool_after f (moment_of x) (moment_of y) (replaced place name)) y
+  goes_replaced = subst (λ h. GoesBy L (lone_then o (moment_of y) (replaced place name)) h y) (sym pool_is) (record {
     tables = y.slices;
     service =
         service_taken f t y.slices (book x) (book y) x.bay y.bay place disk is.units (Replacing place) (joins (views_of (book x)) place (y.bay.sectors disk)) goes.service
@@ -414,9 +417,10 @@ module _ {L : Type 0} (x y : View) (place : ℕ) (name text : List ℕ) (b : Fla
     laid = λ lands.
         tables_taken f t y.slices (book x) (book y).state x.bay y.bay place disk is.units (Replacing place) goes.service seats_new keeps_rest is.marks
         (lies_taken x y place name text b unspent performs holds goes.orderly disk named) (goes.laid lands);
+    alone = stands_taken;
   })
 
-  pub on_replaced : GoesOn L f (pool_after f (moment_of x) (moment_of y) (replaced place name)) y
+  pub on_replaced : GoesOn L (lone_then o (moment_of y) (replaced place name)) f (pool_after f (moment_of x) (moment_of y) (replaced place name)) y
   on_replaced = record {
     goes = goes_replaced;
     serials = λ serial.

@@ -28,8 +28,8 @@ use Rattle.assembler.specs.declared.refusal.Refusal.TheVariants as refusal
 use Rattle.assembler.specs.Causes.{ArraysOn, HasRefusalCause, RefusesArrays, RefusesPool}
 use Rattle.assembler.specs.Marking.{MarksDrives}
 use Rattle.assembler.specs.Moments.{HoldsAt}
-use Rattle.assembler.specs.Sound.{HaveOnePool, HoldSound, IsMeantBy, MayStop, SayTruths}
-use Rattle.assembler.specs.Wanting.{LeavesPool}
+use Rattle.assembler.specs.Sound.{HaveOnePool, HoldSound, IsMeantBy, MayStop, SayTruths, StopsHold}
+use Rattle.assembler.specs.Wanting.{HasUsedUp, LeavesPool}
 use Rattle.assembler.specs.Writing.{WritesPool}
 use Rattle.pool_format.specs.declared.formatting.CreateFault.{CreateFault}
 use Rattle.pool_format.specs.declared.formatting.CreateFault.TheVariants.{Layout, Gone, Memory}
@@ -119,17 +119,26 @@ module _ {R B : Type 0} (shown : B → Seen) (runs : R → R → Type 0) (does :
   refused_through why (inl none) = inl none
   refused_through why (inr pool) = inr (pool_refused why pool)
 
+  -- its numbers are used up
+  pub used_through : HasUsedUp (λ q. shown (to q)) runs r s → HasUsedUp shown does (to r) (to s)
+  unfolding pool_refused arrays_refused
+  used_through used = record {
+    pool = pool_refused refusal.Memory used.pool;
+    arrays = arrays_refused refusal.Memory used.pool.mid used.pool.known used.pool.state used.arrays;
+    used_up = used.used_up;
+  }
+
   -- what want of memory leaves of it
   pub wanting_through : (f : Found) → LeavesPool (λ q. shown (to q)) runs r s f → LeavesPool shown does (to r) (to s) f
-  unfolding pool_refused arrays_refused
   wanting_through f (inl means) = inl means
   wanting_through f (inr (inl kept)) = inr (inl kept)
-  wanting_through f (inr (inr used)) =
-      inr (inr (record {
-        pool = pool_refused refusal.Memory used.pool;
-        arrays = arrays_refused refusal.Memory used.pool.mid used.pool.known used.pool.state used.arrays;
-        used_up = used.used_up;
-      }))
+  wanting_through f (inr (inr used)) = inr (inr (used_through used))
+
+  -- and what a stop inside its opening leaves, where no volume was opened
+  pub stops_through : (f : Found) → StopsHold (shown (to r)) (shown (to s)) f 0 ⊎ HasUsedUp (λ q. shown (to q)) runs r s
+      → StopsHold (shown (to r)) (shown (to s)) f 0 ⊎ HasUsedUp shown does (to r) (to s)
+  stops_through f (inl holds) = inl holds
+  stops_through f (inr used) = inr (used_through used)
 
   -- and who is marked in its opening
   pub marks_through : (now : State) → MarksDrives (λ q. shown (to q)) runs r s now → MarksDrives shown does (to r) (to s) now

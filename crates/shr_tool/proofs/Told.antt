@@ -11,12 +11,13 @@ use Rattle.slice_rack.specs.Slices.{Slices}
 use Rattle.shr_tool.specs.Events.{AnyTakes, Event, becomes}
 use Rattle.shr_tool.specs.Exporting.{ExportOutcome}
 use Rattle.shr_tool.specs.Importing.{ImportOutcome}
-use Rattle.shr_tool.specs.Outcome.{EndsAt, Lasts, Outcome}
+use Rattle.shr_tool.specs.Outcome.{EndsAt, Lasts, Outcome, lone_from}
 use Rattle.shr_tool.specs.Tasks.{TaskOutcome}
 use Rattle.pool.specs.Moment.{Moment}
 use Rattle.shr_tool.specs.Timeline.{Ground, Happens, Steps, Timeline, steps_of}
-use Rattle.shr_tool.specs.Service.{AreFit, pool_by}
+use Rattle.shr_tool.specs.Service.{AreFit, AreLone, pool_by}
 use Rattle.assembler.specs.Sound.{TargetsLand}
+use Rattle.pool_model.specs.Absent.{HoldAbsent}
 use Rattle.pool_model.specs.Left.{HoldAgain}
 use Rattle.pool_model.specs.Taken.{AreSerial}
 use Rattle.shr_tool.specs.Between.{HoldsEach, HoldsInside}
@@ -103,6 +104,12 @@ lasts_for T U S R x y g from a events told traced lasts = record {
       (lasts.closing (told is) (traced so) f on (subst (AreFit f from events lasts.last) same fit));
   agreed = λ is. lasts.agreed (told is);
   safe = λ is. lasts.safe (told is);
+  safe_by = λ is served quiet f on only ungiven own serials fit lone whole goes i pick sized.
+      let same =
+      steps_for (S × T) (R × U) y.stops g from a events lasts.last (λ is. (traced is.0, told is.1)) lasts.timeline in
+      subst (λ (steps : Steps from events lasts.last). HoldAbsent (pool_by f from events lasts.last steps) lasts.final.slices lasts.final.book.state i) (sym same)
+      (lasts.safe_by (told is) served quiet f on only ungiven own serials (subst (AreFit f from events lasts.last) same fit) (subst (AreLone f (lone_from from lasts.last) from events lasts.last) same lone) whole goes i
+      pick sized);
   again = λ is served f on known fit goes i pick.
       let same =
       steps_for (S × T) (R × U) y.stops g from a events lasts.last (λ is. (traced is.0, told is.1)) lasts.timeline in

@@ -1,9 +1,8 @@
 -- A pool by which a run goes is one after a line that took no drive in.
-use Rattle.std.proofs.Common.{◌≡◌, ◌≢◌, ◌⊎◌, ℕ, zero, suc, ◌<◌, ◌≤◌, ◌==◌, bytes_eq, nat_lt, if◌then◌else◌, Bool, true, false, List, [], ◌∷◌, length, slice_get, Some, None, Result, Ok, Err, refl, sym, ◌∙◌, ap, subst, inl, inr, eq-eqb, ltb-true, arith}
+use Rattle.std.proofs.Common.{◌≡◌, ◌⊎◌, ℕ, ◌<◌, ◌≤◌, ◌==◌, nat_lt, if◌then◌else◌, Bool, true, false, List, length, Option, Some, None, Ok, Err, refl, sym, ◌∙◌, ap, subst, inl, inr, eq-eqb, ltb-true, arith}
 use Rattle.std.specs.Result.{result_ok}
-use Rattle.std.proofs.lemmas.Bool.{both_ways, cases_Bool, cases_eq, cases_lt}
+use Rattle.std.proofs.lemmas.Bool.{both_ways, cases_Bool, cases_eq}
 use Rattle.std.proofs.lemmas.Option.{none-some}
-use Rattle.std.proofs.lemmas.Slice.Eq.{bytes_eq-Decides}
 use Rattle.rack.specs.Seen.{Image}
 use Rattle.rack.specs.Values.{MayLeave, Values}
 use Rattle.slice_rack.specs.Changes.{Seats}
@@ -29,7 +28,7 @@ use Rattle.pool_model.proofs.Tables.{tables_attached}
 use Rattle.pool_model.proofs.Unsliced.{free_stranger, laid_state}
 use Rattle.pool_model.proofs.Vacant.{lacks_still, lacks_value, sliced_before, vacant_free}
 use Rattle.pool.specs.declared.replacing.GrowFault.{GrowFault}
-use Rattle.pool.specs.declared.replacing.GrowFault.TheVariants.{NoSuchDrive, Attach, Twice, Memory, PlanPending, NotWhole, NotResynced, Unbuilt, Size, Smaller, TooManyDrives, TooManyLayers, TooManySegments, Gone}
+use Rattle.pool.specs.declared.replacing.GrowFault.TheVariants.{Twice}
 use Rattle.pool.specs.Continuing.{NoDisk}
 use Rattle.pool.specs.Moment.{IsNamed, moment_of, views_of}
 use Rattle.pool.specs.Replaced.{ChangesDrive, IsDeclined, IsOfDrive}
@@ -38,30 +37,15 @@ use Rattle.pool.specs.Volume.{Holds, is_spent, size_of}
 use Rattle.pool.proofs.Admitted.{IsAdmitted, admitted, others_current, reaches_each}
 use Rattle.shr_tool.specs.Events.{looks_at}
 use Rattle.shr_tool.specs.Events.Event.{declined}
-use Rattle.shr_tool.specs.Service.{GoesBy, GoesOn, IsFitDisk, pool_after}
+use Rattle.shr_tool.specs.Service.{GoesBy, GoesOn, IsFitDisk, LaysNothing, Lone, StandsLone, lone_then, pool_after}
 use Rattle.shr_tool.specs.Timeline.{Performs}
-use Rattle.shr_tool.proofs.TakenIn.{count_is, disks_more, keeps_but, keeps_off, live_at, lost_below, not_over, seat_low, seat_now, sectors_kept, sliced_old, told_by, vacant_not}
+use Rattle.shr_tool.proofs.Chains.{lone_before}
+use Rattle.shr_tool.proofs.Former.{lost_below, not_over, told_by}
+use Rattle.shr_tool.proofs.Quiet.{listed_of, named_or, same_fault, stands_declined, twice_or}
+use Rattle.shr_tool.proofs.TakenIn.{count_is, disks_more, keeps_but, keeps_off, live_at, seat_low, seat_now, sectors_kept, sliced_old, vacant_not}
 
 some_same : {X : Type 0} (a b : X) → Some a ≡ Some b → a ≡ b
 some_same a b same = cc
-
-same_fault : (e f : GrowFault) → ◌≡◌ {A = Result (Unit {0}) GrowFault} (Err e) (Err f) → e ≡ f
-same_fault e f same = cc
-
--- a name is that of a disk, or of none
-named_or : (names : List (List ℕ)) (name : List ℕ) → ((d : ℕ) × (slice_get names d ≡ Some name)) ⊎ ((d : ℕ) → slice_get names d ≡ Some name → ⊥)
-named_or [] name = inr (λ d is. none-some name is)
-named_or (first ∷ names) name = elim (cases_Bool (bytes_eq first name)) [
-  | inl same ↦ inl (zero, ap Some ((bytes_eq-Decides first name).0 same))
-  | inr other ↦ elim (named_or names name) [
-    | inl one ↦ inl (suc one.0, one.1)
-    | inr none ↦ inr (λ d is. never d is other none)
-  ]
-]
-  where
-    never : (d : ℕ) → slice_get (first ∷ names) d ≡ Some name → bytes_eq first name ≡ false → ((k : ℕ) → slice_get names k ≡ Some name → ⊥) → ⊥
-    never zero is other none = both_ways (bytes_eq first name) other ((bytes_eq-Decides first name).1 (some_same first name is))
-    never (suc d) is other none = none d is
 
 -- places that give their disk up one after the other
 seats_both : (t u w : Slices) (place : ℕ) → Seats t u place None → Seats u w place None → Seats t w place None
@@ -76,27 +60,10 @@ seats_both t u w place one two = record {
     by p true same = ap (λ (c : Bool). if c then None else seat_of u p) same ∙ sym (ap (λ (c : Bool). if c then None else seat_of t p) same)
     by p false other = ap (λ (c : Bool). if c then None else seat_of u p) other ∙ one.seats p
 
--- whether a fault says that the disk is a drive's
-twice_or : (fault : GrowFault) → (fault ≡ Twice) ⊎ (fault ≢ Twice)
-twice_or NoSuchDrive = inr (λ same. let e : NoSuchDrive ≡ Twice = same in cc e)
-twice_or Attach = inr (λ same. let e : Attach ≡ Twice = same in cc e)
-twice_or Twice = inl refl
-twice_or Memory = inr (λ same. let e : Memory ≡ Twice = same in cc e)
-twice_or PlanPending = inr (λ same. let e : PlanPending ≡ Twice = same in cc e)
-twice_or NotWhole = inr (λ same. let e : NotWhole ≡ Twice = same in cc e)
-twice_or NotResynced = inr (λ same. let e : NotResynced ≡ Twice = same in cc e)
-twice_or Unbuilt = inr (λ same. let e : Unbuilt ≡ Twice = same in cc e)
-twice_or Size = inr (λ same. let e : Size ≡ Twice = same in cc e)
-twice_or Smaller = inr (λ same. let e : Smaller ≡ Twice = same in cc e)
-twice_or TooManyDrives = inr (λ same. let e : TooManyDrives ≡ Twice = same in cc e)
-twice_or TooManyLayers = inr (λ same. let e : TooManyLayers ≡ Twice = same in cc e)
-twice_or TooManySegments = inr (λ same. let e : TooManySegments ≡ Twice = same in cc e)
-twice_or Gone = inr (λ same. let e : Gone ≡ Twice = same in cc e)
-
-module _ {L : Type 0} (x y : View) (place : ℕ) (name : List ℕ) (fault : GrowFault) (text : List ℕ) (b : FlatArray) (looks : looks_at fault ≡ true)
+module _ {L : Type 0} {o : Option Lone} (x y : View) (place : ℕ) (name : List ℕ) (fault : GrowFault) (text : List ℕ) (b : FlatArray) (looks : looks_at fault ≡ true)
     (unspent : (d s : ℕ) → y.bay.spent d s ≡ false) (fit : (volume x).fit)
     (performs : Performs x y (declined place name fault) text) (holds : Holds x b) (some : (s : ℕ) × (s < size_of x) × (spent_by x.linear (book y) s ≡ false))
-    (f : Found) (goes : GoesBy L f x) (fits : IsFitDisk f (moment_of x) name) where
+    (f : Found) (goes : GoesBy L o f x) (fits : IsFitDisk f (moment_of x) name) (lone : (l : Lone) → o ≡ Some l → looks_at fault ≡ true → LaysNothing f l.bound (moment_of x) (moment_of y) name fault) where
   abbrev pub changes : ChangesDrive x y place name
   changes = performs.changes looks
 
@@ -129,10 +96,7 @@ module _ {L : Type 0} (x y : View) (place : ℕ) (name : List ℕ) (fault : Grow
   ]
 
   listed : place < length (book x).state.drives.items
-  listed = elim (cases_lt place (length (book x).state.drives.items)) [
-    | inl low ↦ low
-    | inr past ↦ absurd (both_ways (looks_at fault) (ap looks_at (same_fault fault NoSuchDrive (performs.cause.0.missing.1 past))) looks)
-  ]
+  listed = listed_of x y place name fault text looks performs
 
   -- the name is that of a drive, or it isn't
   of_drive : IsOfDrive (moment_of x) name ⊎ (IsOfDrive (moment_of x) name → ⊥)
@@ -443,8 +407,15 @@ module _ {L : Type 0} (x y : View) (place : ℕ) (name : List ℕ) (fault : Grow
     ]
   ]
 
-  goes_declined : GoesBy L (pool_after f (moment_of x) (moment_of y) (declined place name fault)) y
-  goes_declined = subst (λ k. GoesBy L k y) (sym pool_is) (record {
+  -- it stands alone after it as before
+  stands_now : (l : Lone) → lone_then o (moment_of y) (declined place name fault) ≡ Some l → StandsLone l h t y
+  stands_now l so =
+      let was = lone_before o (moment_of y) (declined place name fault) l so in
+      subst (λ (k : Lone). StandsLone k h t y) was.2
+      (stands_declined x y place name fault text b looks unspent fit performs holds f goes was.0 was.1 (lone was.0 was.1 looks))
+
+  goes_declined : GoesBy L (lone_then o (moment_of y) (declined place name fault)) (pool_after f (moment_of x) (moment_of y) (declined place name fault)) y
+  goes_declined = subst (λ k. GoesBy L (lone_then o (moment_of y) (declined place name fault)) k y) (sym pool_is) (record {
     tables = t;
     service = service_attached f t (book x) (book y) disk x.bay y.bay goes.service keeps_others is.marks is.arrays;
     vacant = vacant_now;
@@ -454,12 +425,13 @@ module _ {L : Type 0} (x y : View) (place : ℕ) (name : List ℕ) (fault : Grow
     laid = λ lands i off p d now.
         tables_attached f t (book x).state disk x.bay y.bay goes.service.arranged goes.service.slices keeps_others
         (λ j left q current seat. absurd (not_current q current seat)) (goes.laid lands) i off p d (is.marks.current p now);
+    alone = stands_now;
   })
     where
       pool_is : pool_after f (moment_of x) (moment_of y) (declined place name fault) ≡ h
       pool_is = ap (λ (c : Bool). if c then h else f) looks
 
-  pub on_declined : GoesOn L f (pool_after f (moment_of x) (moment_of y) (declined place name fault)) y
+  pub on_declined : GoesOn L (lone_then o (moment_of y) (declined place name fault)) f (pool_after f (moment_of x) (moment_of y) (declined place name fault)) y
   on_declined = record { goes = goes_declined; serials = λ serial. by (looks_at fault) serial }
     where
       by : (c : Bool) → AreSerial f.state → AreSerial (if c then attached f (disks_of y.bay) else f).state

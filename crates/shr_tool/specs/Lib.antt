@@ -5,6 +5,7 @@ pub mod Timeline
 pub mod Service
 pub mod Between
 pub mod Filling
+pub mod Heads
 pub mod Serving
 pub mod Forms
 pub mod StatusCode

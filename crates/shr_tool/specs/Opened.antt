@@ -6,6 +6,7 @@ use Rattle.rack.specs.Sequences.{OnlyReads}
 use Rattle.flat_array.specs.Array.{FlatArray, fresh}
 use Rattle.md_super.specs.declared.superblock.Super.{Super}
 use Rattle.array_image.specs.States.{is_current}
+use Rattle.lvm_group.specs.Runs.{data_start}
 use Rattle.slice_rack.specs.Sliced.{slices_of}
 use Rattle.raid_rack.specs.Book.{IsAfter}
 use Rattle.raid_rack.specs.Raid.{IsTold}
@@ -26,9 +27,10 @@ use Rattle.pool_model.specs.Grouped.{HaveOwnAreas, HoldGroup}
 use Rattle.pool_model.specs.Left.{AreAlone, AreElsewhere, IsPickOff}
 use Rattle.pool_model.specs.Pools.{AreSlicesOf}
 use Rattle.pool_model.specs.Stopped.{HaveTables}
-use Rattle.assembler.specs.Sound.{HaveAgreed, HoldSound, IsMeantRefusal, KeepsPool, MayStop, SayTruths, TargetsLand}
+use Rattle.assembler.specs.Moments.{SaysVolume}
+use Rattle.assembler.specs.Sound.{HaveAgreed, HoldSound, IsMeantRefusal, KeepsPool, MayStop, SayTruths, StopsHold, TargetsLand}
 use Rattle.assembler.specs.Volume.{AllLive, IsVolumeOf}
-use Rattle.assembler.specs.Wanting.{LeavesPool}
+use Rattle.assembler.specs.Wanting.{HasUsedUp, LeavesPool}
 use Rattle.assembler.specs.Writing.{WritesPool}
 use Rattle.pool.specs.Keeping.{HasMarkedSeats}
 use Rattle.shr_script.specs.Reply.{refused_line}
@@ -61,6 +63,8 @@ pub record NotOpened {R : Type 0} (seen : R → Seen) (runs : R → R → Type 0
       (f : Found) → HoldSound (seen bay) f → IsUnfaulted (seen bay) (seen after) → (array : ℕ) → why ≡ BadVolume array
       → KeepsPool (seen bay) (seen after) f
   pub wanting : (f : Found) → HoldSound (seen bay) f → IsUnfaulted (seen bay) (seen after) → why ≡ Memory → LeavesPool seen runs bay after f
+  -- what a stop inside the opening leaves holds the sound pool still that the disks had, so that it may be opened again, unless numbers are used up
+  pub stops : (f : Found) → HoldSound (seen bay) f → IsUnfaulted (seen bay) (seen after) → StopsHold (seen bay) (seen after) f 0 ⊎ HasUsedUp seen runs bay after
 
 -- A pool was opened as its disks had it: its volume is that of the group of what they held, over the slices of its drives; marks alone
 -- have come to its state. Each of the volume's arrays is told, and no sector of these is spent. `y` is what the disks show then.
@@ -128,6 +132,14 @@ pub record OpenedOn {R : Type 0} (seen : R → Seen) (shelf : R → Shelf) (runs
   pub moments :
       (a : FlatArray) → (meant : IsMeant (seen bay) (seen opened) a) → MayStop (seen bay) meant.pool → (seen bay).traced
       → Leaves (seen bay) (seen opened) (MeansAt ground from a)
+  -- and says its volume, by the sizes of the arrays, where these all are ready for it and have the pool's metadata areas
+  pub says :
+      (f : Found) → HoldSound (seen bay) f → IsUnfaulted (seen bay) (seen opened) → f.state.joined ≡ f.state.made → HaveOwnAreas f
+      → MayStop (seen bay) f → (seen bay).traced → Leaves (seen bay) (seen opened) (SaysVolume from.book from.slices ground.linear)
+  -- And it holds the sound pool still that the disks had, so that a run which is killed inside its opening may be opened again: by its state or one to which
+  -- just marks of places have come that have no disk, with the same disks for its places, and its arrays hold what they held from their first extents on.
+  pub stops :
+      (f : Found) → HoldSound (seen bay) f → IsUnfaulted (seen bay) (seen opened) → StopsHold (seen bay) (seen opened) f data_start
   -- The run is one on that pool, where all its arrays are ready for the volume and no superblock stands on a drive that is no member of an
   -- array, where its slice would be.
   pub run_on :

@@ -42,7 +42,7 @@ use Rattle.rack.specs.Sequences.{WritesOnly}
 use Rattle.rack.specs.Shelf.{Shelf}
 use Rattle.slice_rack.specs.Runs.{IsSliced}
 use Rattle.shr_tool.specs.Timeline.{Ground, KeepsSlices, KeepsStanding, MeansAt, Timeline, steps_of}
-use Rattle.shr_tool.specs.Service.{AreFit, IsServed, pool_by}
+use Rattle.shr_tool.specs.Service.{AreFit, AreLone, AreUngiven, IsServed, Lone, pool_by}
 use Rattle.shr_tool.specs.Between.{HoldsEach, HoldsInside}
 
 -- no disk's faults rose since they were counted so
@@ -104,6 +104,10 @@ pub record IsRunOn (f : Found) (g : Ground) (from : Moment) (x : Seen) : Type 0 
   pub group : HaveOwnAreas f → HoldGroup from.book (slices_of from.slices x)
   pub rest : HoldRest f from.slices x
 
+-- how the pool of a run stands alone when it begins, where ids are given until a later moment
+abbrev pub lone_from : Moment → Moment → Lone
+lone_from from last = record { base = from.book.state; bound = last.book.state.serial }
+
 -- Events of a script from a moment on, when the disks showed x, and the end of the pool: the disks show it afterwards, and where the pool
 -- told its volume to hold an array, each of the volume's arrays is told by the last book. Outside the slices of drives no disk is written
 -- but one that a line named to replace a drive. Where none did, sectors of slices alone are written. All that the disks may be left
@@ -148,6 +152,16 @@ pub record Lasts (Told Traced : Type 0) (x y : Seen) (g : Ground) (from : Moment
       → (f : Found) → IsRunOn f g from x → AreOnly f → HaveOwnAreas f
       → IsWholeRaid f.state.made final.book → ((n : ℕ) → n < f.state.made → is_over final.book n ≡ false)
       → (i : Image) → IsPick y y y.held i → HasWholeSectors y i → HoldAbsent f final.slices final.book.state i
+  -- So it is where lines replaced drives that were lost in the run, or that were absent (`AreLone`), by the pool with these drives, where ids differ and the
+  -- outset's other disks have none that it gives to drives later (`AreUngiven`).
+  pub safe_by :
+      Told → IsServed g final events → NoneRose last.faults final.faults
+      → (f : Found) → IsRunOn f g from x → AreOnly f → AreUngiven f last.book.state.serial → HaveOwnAreas f → (any_takes events ≡ true → AreSerial f.state)
+      → AreFit f from events last (steps_of (Traced × Told) y.stops g from a events last timeline)
+      → AreLone f (lone_from from last) from events last (steps_of (Traced × Told) y.stops g from a events last timeline)
+      → IsWholeRaid f.state.made final.book → ((n : ℕ) → n < f.state.made → is_over final.book n ≡ false)
+      → (i : Image) → IsPick y y y.held i → HasWholeSectors y i
+      → HoldAbsent (pool_by f from events last (steps_of (Traced × Told) y.stops g from a events last timeline)) final.slices final.book.state i
   pub again :
       Told → IsServed g final events → (f : Found) → IsRunOn f g from x → (any_takes events ≡ true → Traced × AreSerial f.state)
       → AreFit f from events last (steps_of (Traced × Told) y.stops g from a events last timeline)

@@ -1,24 +1,34 @@
 -- The pool by which a run goes as lines take drives in, and what is to be known of the images that they name, by what these held before.
-use Rattle.std.specs.Prelude.{◌≡◌, ◌⊎◌, ℕ, ◌+◌, ◌<◌, false, true, if◌then◌else◌, List, [], ◌∷◌, length, slice_get, Some, None, Ok, unwrap_or}
+use Rattle.std.specs.Prelude.{◌≡◌, ◌≢◌, ◌⊎◌, ℕ, ◌+◌, ◌<◌, false, true, if◌then◌else◌, List, [], ◌∷◌, length, slice_get, Option, Some, None, Ok, option_map, unwrap_or}
 use Rattle.std.specs.Option.{option_map_or}
 use Rattle.rack.specs.Values.{MayLeave, Values}
 use Rattle.rack.specs.Shelf.{Waiting}
 use Rattle.slice_rack.specs.Slices.{IsOrderly, Slices, seat_of}
+use Rattle.gpt_table.specs.Disk.{Contents}
 use Rattle.pool_state.specs.declared.contents.Copied.{Copied}
 use Rattle.pool_state.specs.declared.contents.Plan.TheVariants.{Replace as Replacing}
+use Rattle.pool_state.specs.declared.contents.State.{State}
 use Rattle.pool_state.specs.Sector.{decoded}
 use Rattle.array_image.specs.Places.{state_sector, super_sector}
+use Rattle.array_image.specs.States.{is_current}
 use Rattle.array_image.specs.Supers.{super_of}
 use Rattle.lvm_group.specs.Runs.{sectors_in}
+use Rattle.raid_rack.specs.Book.{IsAfter}
 use Rattle.raid_rack.specs.Enlisting.{enlisted}
-use Rattle.pool_image.specs.Disks.{Disks}
+use Rattle.raid_rack.specs.Since.{HoldsSince}
+use Rattle.pool_image.specs.Disks.{Disks, Identity, identities_of}
 use Rattle.pool_image.specs.Drives.{Found, first_of}
 use Rattle.pool_image.specs.Meaning.{is_member}
+use Rattle.pool_model.specs.Alone.{HoldAlone, IsStranger, IsUngiven}
 use Rattle.pool_model.specs.InService.{InService}
 use Rattle.pool_model.specs.Stopped.{HoldTables}
 use Rattle.pool_model.specs.Taken.{AreDistinct, AreSerial, LacksDrive, attached, taken}
+use Rattle.pool.specs.declared.replacing.GrowFault.{GrowFault}
+use Rattle.pool.specs.declared.replacing.GrowFault.TheVariants.{Attach, Gone, Memory}
 use Rattle.pool.specs.Moment.{IsImage, IsNamed, Moment}
-use Rattle.pool.specs.View.{View, book, spent_by}
+use Rattle.pool.specs.Replaced.{HasMarked}
+use Rattle.pool.specs.View.{View, book, slices_shown, spent_by}
+use Rattle.pool.specs.Volume.{is_spent, size_of}
 use Rattle.shr_tool.specs.Events.{Event, any_takes, looks_at}
 use Rattle.shr_tool.specs.Events.Event.{answered, spent, lost, last, replaced, declined, stepped, stuck, shown}
 use Rattle.shr_tool.specs.Timeline.{Ground, Steps}
@@ -97,11 +107,89 @@ abbrev pub AreFit : Found → (p : Moment) → (events : List Event) → (q : Mo
 AreFit f p [] q steps = Unit {0}
 AreFit f p (event ∷ events) q steps = IsFitFor f p event × AreFit (pool_after f p steps.0 event) steps.0 events q steps.1
 
+-- ---- that it stands alone
+
+-- How a pool stands alone: the base is the state with which the run began, or with which the last line ended that replaced a drive; and a serial before
+-- which ids are given.
+pub record Lone : Type 0 where
+  pub base : State
+  pub bound : ℕ
+
+-- after an event
+abbrev pub lone_after : Lone → Moment → Event → Lone
+lone_after l q (answered line) = l
+lone_after l q (spent line sector) = l
+lone_after l q (lost place) = l
+lone_after l q (last place) = l
+lone_after l q (replaced place name) = record l { base = q.book.state }
+lone_after l q (declined place name fault) = l
+lone_after l q (stepped count left) = l
+lone_after l q (stuck count array) = l
+lone_after l q (shown text) = l
+
+-- after events in a row
+abbrev pub lone_by : Lone → (p : Moment) → (events : List Event) → (q : Moment) → Steps p events q → Lone
+lone_by l p [] q steps = l
+lone_by l p (event ∷ events) q steps = lone_by (lone_after l steps.0 event) steps.0 events q steps.1
+
+-- what a disk of so many sectors says
+abbrev pub said_by : (sectors : ℕ) → Contents → Identity
+said_by sectors contents = identities_of (record { count = 1; sectors = λ d. sectors }) (λ d. contents) 0
+
+-- A line was declined that laid nothing on the disk that it named: neither this disk nor the drive of another place was found gone in it. If the disk came
+-- with the line it was attached, and it is a stranger to the pool by what its image said.
+pub record LaysNothing (f : Found) (bound : ℕ) (p q : Moment) (name : List ℕ) (fault : GrowFault) : Type 0 where
+  pub stayed : fault ≢ Gone
+  pub unmarked : HasMarked p q → ⊥
+  pub attached : p.disks < q.disks → (fault ≢ Attach) × (fault ≢ Memory)
+  pub stranger :
+      ((d : ℕ) → IsNamed p name d → ⊥) → (w : Waiting) → p.ready name ≡ Some w
+      → (c : Contents) → ((s : ℕ) → s < w.sectors → c s ≡ w.contents s) → IsStranger f bound (said_by w.sectors c)
+
+-- What is to be known of a line so that a pool stands alone on its disks after it, where it did so before. A place whose drive is replaced was current by
+-- the base, so that the drive was lost since, or had no disk, or the named one. A line that was declined laid nothing on a disk.
+abbrev pub IsLoneFor : Found → Lone → (p q : Moment) → Event → Type 0
+IsLoneFor f l p q (answered line) = Unit {0}
+IsLoneFor f l p q (spent line sector) = Unit {0}
+IsLoneFor f l p q (lost place) = Unit {0}
+IsLoneFor f l p q (last place) = Unit {0}
+IsLoneFor f l p q (replaced place name) = (d : ℕ) → f.seats place ≡ Some d → IsNamed p name d ⊎ (is_current l.base place ≡ true)
+IsLoneFor f l p q (declined place name fault) = looks_at fault ≡ true → LaysNothing f l.bound p q name fault
+IsLoneFor f l p q (stepped count left) = Unit {0}
+IsLoneFor f l p q (stuck count array) = Unit {0}
+IsLoneFor f l p q (shown text) = Unit {0}
+
+-- of lines in a row
+abbrev pub AreLone : Found → Lone → (p : Moment) → (events : List Event) → (q : Moment) → Steps p events q → Type 0
+AreLone f l p [] q steps = Unit {0}
+AreLone f l p (event ∷ events) q steps =
+    IsLoneFor f l p steps.0 event × AreLone (pool_after f p steps.0 event) (lone_after l steps.0 event) steps.0 events q steps.1
+
+-- The ids differ that a pool gives before its serial is `bound`, and disks that are no drives of it have none that it gives later.
+pub record AreUngiven (f : Found) (bound : ℕ) : Type 0 where
+  pub distinct : AreDistinct f.state.pool.0 bound
+  pub others : (d : ℕ) → ((p : ℕ) → f.seats p ≡ Some d → ⊥) → d < f.disks.count → IsUngiven f.state bound (f.identities d)
+
 -- ---- how a run goes by a pool
 
+-- after an event, where it stands alone
+abbrev pub lone_then : Option Lone → Moment → Event → Option Lone
+lone_then lone q event = option_map (λ l. lone_after l q event) lone
+
+-- A pool stands alone on its disks, with the run's slices. Marks alone have come to its state until the base, and to that since. Where a sector of the
+-- volume can be had, each place that was current by the base has its own copy of a state since.
+pub record StandsLone (l : Lone) (f : Found) (t : Slices) (x : View) : Type 0 where
+  pub alone : HoldAlone f l.bound t x.bay
+  pub slices : x.slices ≡ t
+  pub distinct : AreDistinct f.state.pool.0 l.bound
+  pub after : IsAfter f.state l.base
+  pub before : IsAfter l.base (book x).state
+  pub since : (s : ℕ) → s < size_of x → is_spent x s ≡ false → HoldsSince l.base (slices_shown x)
+
 -- A pool by which a run goes: its slices are those of the run, unless a place whose drive is missing has given its disk up since. The run's slices don't
--- overlap. Where `Landing` holds the partition tables of the pool's drives have the members' slices, whatever the disks may be left with outside them.
-pub record GoesBy (Landing : Type 0) (f : Found) (x : View) : Type 0 where
+-- overlap. Where `Landing` holds the partition tables of the pool's drives have the members' slices, whatever the disks may be left with outside them, and
+-- where it is `lone` the pool stands alone on its disks.
+pub record GoesBy (Landing : Type 0) (lone : Option Lone) (f : Found) (x : View) : Type 0 where
   pub tables : Slices
   pub service : InService f tables (book x) x.bay
   pub vacant :
@@ -110,8 +198,9 @@ pub record GoesBy (Landing : Type 0) (f : Found) (x : View) : Type 0 where
   pub arrays : x.linear.arrays ≡ f.state.made
   pub orderly : IsOrderly x.slices
   pub laid : Landing → HoldTables f tables (book x).state x.bay
+  pub alone : (l : Lone) → lone ≡ Some l → StandsLone l f tables x
 
 -- The run goes on by another pool, h in place of f, which has drives with ids of serials where f has.
-pub record GoesOn (Landing : Type 0) (f h : Found) (x : View) : Type 0 where
-  pub goes : GoesBy Landing h x
+pub record GoesOn (Landing : Type 0) (lone : Option Lone) (f h : Found) (x : View) : Type 0 where
+  pub goes : GoesBy Landing lone h x
   pub serials : AreSerial f.state → AreSerial h.state

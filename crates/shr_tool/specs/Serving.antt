@@ -8,7 +8,7 @@ use Rattle.flat_array.specs.Array.{FlatArray}
 use Rattle.shr_script.specs.Script.{script_of, cut_script_of}
 use Rattle.pool.specs.Calls.{Passes}
 use Rattle.pool.specs.Continuing.{Continues, KeepsOutside}
-use Rattle.pool.specs.View.{View, volume}
+use Rattle.pool.specs.View.{View, book, slices_shown, volume}
 use Rattle.pool.specs.Volume.{Holds}
 use Rattle.shr_tool.specs.declared.perform.Answer.{Answer}
 use Rattle.shr_tool.specs.declared.perform.Answer.TheVariants.{Given}
@@ -17,7 +17,8 @@ use Rattle.shr_tool.specs.declared.serve.Stop.TheVariants.{Quit as AtQuit, Input
 use Rattle.shr_tool.specs.Events.{AnyTakes, Event, answer_of, any_takes, array_by, line_of, lines_of, text_of, texts, worse, worst_of}
 use Rattle.pool.specs.Moment.{moment_of}
 use Rattle.shr_tool.specs.Timeline.{Timeline, Performs, Steps, ground_of, steps_of}
-use Rattle.shr_tool.specs.Service.{AreFit, GoesBy, GoesOn, IsServed, pool_by}
+use Rattle.shr_tool.specs.Heads.{KeepsHeads}
+use Rattle.shr_tool.specs.Service.{AreFit, AreLone, GoesBy, GoesOn, IsServed, Lone, lone_by, pool_by}
 use Rattle.shr_tool.specs.Between.{HoldsEach}
 use Rattle.assembler.specs.Sound.{TargetsLand}
 use Rattle.pool_image.specs.Drives.{Found}
@@ -78,6 +79,7 @@ LineAnswers shown (Err SinkFault) line p q out out' =
 -- Events were done in a row: what the pool keeps, the array that it holds, and the events at their moments. What stops leave is told of
 -- an array that the pool held.
 pub record Ran (x y : View) (events : List Event) : Type 0 where
+  pub fit : (volume x).fit
   pub continues : Continues x y
   pub passes : any_takes events ≡ false → Passes x y
   pub outside : KeepsOutside x.slices y.slices (AnyTakes y.shelf.names events) x.shelf.told x.bay y.bay
@@ -89,11 +91,18 @@ pub record Ran (x y : View) (events : List Event) : Type 0 where
       → steps_of (x.bay.traced × Holds x a) y.bay.stops (ground_of x) (moment_of x) a events (moment_of y) (timeline a) ≡ steps
   -- a pool by which the run goes, with the drives that it took in
   pub service :
-      (a : FlatArray) → Holds x a → IsServed (ground_of x) (moment_of y) events → (f : Found) → GoesBy (TargetsLand f) f x → (any_takes events ≡ true → AreSerial f.state)
-      → AreFit f (moment_of x) events (moment_of y) steps → GoesOn (TargetsLand f) f (pool_by f (moment_of x) events (moment_of y) steps) y
+      (a : FlatArray) → Holds x a → IsServed (ground_of x) (moment_of y) events → (f : Found) → GoesBy (TargetsLand f) None f x → (any_takes events ≡ true → AreSerial f.state)
+      → AreFit f (moment_of x) events (moment_of y) steps → GoesOn (TargetsLand f) None f (pool_by f (moment_of x) events (moment_of y) steps) y
+  -- one that stands alone on its disks
+  pub lone :
+      (a : FlatArray) → Holds x a → IsServed (ground_of x) (moment_of y) events → (f : Found) → (l : Lone) → GoesBy (TargetsLand f) (Some l) f x
+      → (book y).state.serial ≤ l.bound → (any_takes events ≡ true → AreSerial f.state) → AreFit f (moment_of x) events (moment_of y) steps
+      → AreLone f l (moment_of x) events (moment_of y) steps
+      → GoesOn (TargetsLand f) (Some (lone_by l (moment_of x) events (moment_of y) steps)) f (pool_by f (moment_of x) events (moment_of y) steps) y
+  pub heads : x.shelf.told → ((d : ℕ) → d < x.bay.disks → x.bay.told d) → KeepsHeads (book x) (book y) (slices_shown x) (slices_shown y)
   -- what a stop between two of them or inside one leaves holds that pool again
   pub between :
-      (a : FlatArray) → IsServing x a → x.bay.traced → (f : Found) → GoesBy (TargetsLand f) f x
+      (a : FlatArray) → IsServing x a → x.bay.traced → (f : Found) → GoesBy (TargetsLand f) None f x
       → HoldsEach y.bay.stops (ground_of x) (AreSerial f.state) (TargetsLand f) [] f (moment_of x) events (moment_of y) steps
 
 -- all these were done, and their replies put

@@ -1,9 +1,11 @@
 use Rattle.std.proofs.Common.{◌<◌, sym, subst}
 use Rattle.rack.specs.Sequences.{WritesOnly}
 use Rattle.slice_rack.specs.SliceRack.{tables, below_of}
+use Rattle.slice_rack.specs.Slices.{seat_of}
 use Rattle.pool_check.specs.Drives.{Loses, flag_by, seats_by}
 use Rattle.pool_check.specs.Settling.{IsSettled, IsTableSector, IsTrueOf, KeepsTable}
 use Rattle.assembler.proofs.LeftOut.{left_distinct, left_inside, mends_so}
+use Rattle.assembler.proofs.Settling.{settling_leaves}
 use Rattle.assembler.proofs.mending.mend_tables.Goals as goal
 
 pub settle_tables-requires-clause-inside : goal.settle_tables-requires-clause-inside
@@ -35,3 +37,9 @@ returns-clause-mends g c =
     (λ p d few seat.
     subst (λ r. IsTrueOf (seen r) d (flag_by c.args.agreed.now p) → IsSettled (seen r) y d) same (c.settle_tables.ensures.settled p d few seat))
     c.args.state.now c.absent_of.result.items c.absent_of.ensures
+
+pub returns-clause-moments : goal.returns-clause-moments
+returns-clause-moments g c f sound idle good same alone traced =
+    let slices = c.args.slices.now in
+    settling_leaves (g.R.Rack.seen (below_of slices)) (g.R.Rack.seen c.settle_tables.new.rack) f c.args.state.now (seat_of (tables slices)) c.args.agreed.now c.args.gone.now.items
+    c.absent_of.result.items sound idle good same (returns-clause-mends g c) alone traced

@@ -1,4 +1,5 @@
 mod Assembling
+mod Stopping
 mod Unopened
 use Rattle.slice_rack.specs.SliceRack.{below_of, tables}
 use Rattle.slice_rack.specs.Sliced.{slices_of}
@@ -9,7 +10,7 @@ use Rattle.std.proofs.lemmas.Bool.{both_ways}
 use Rattle.std.proofs.lemmas.Slice.Eq.{bytes_eq-Decides}
 use Rattle.shr_base.specs.declared.Id.{Id}
 use Rattle.rack.specs.Seen.{Image, Seen, Stays}
-use Rattle.rack.specs.Joins.{stays_then}
+use Rattle.rack.specs.Joins.{leaves_weaker, stays_then}
 use Rattle.rack.specs.Sequences.{WritesOnly}
 use Rattle.slice_rack.specs.Runs.{IsSliced}
 use Rattle.slice_rack.specs.Slices.{Slices, seat_of}
@@ -28,11 +29,13 @@ use Rattle.raid_rack.specs.Raid.{is_over}
 use Rattle.array_model.specs.View.{sectors_of}
 use Rattle.assembler.specs.Marking.{AreMarkedFor}
 use Rattle.assembler.specs.Refusing.{is_early, meant_by}
-use Rattle.pool_model.specs.Left.{IsPickOff}
+use Rattle.pool_model.specs.Left.{AreAlone, IsPickOff}
+use Rattle.pool_model.specs.Openings.{HoldOpened}
 use Rattle.pool_model.specs.Pools.{AreSlicesOf}
 use Rattle.assembler.proofs.Agreed.{agree_opened}
 use Rattle.assembler.proofs.Grouped.{group_opened}
 use Rattle.assembler.proofs.Causes.{refuses_drives}
+use Rattle.assembler.proofs.Rereading.{rereading_leaves}
 use Rattle.assembler.proofs.Refusals.{check_early, finding_sound, meant_finding, memory_sound}
 use Rattle.assembler.proofs.Written.{writes_then_reads}
 use Rattle.pool_image.proofs.Founds.{joined_same, super_same, truths_same}
@@ -41,12 +44,12 @@ use Rattle.assembler.proofs.Founded.{array_later, array_same}
 use Rattle.assembler.proofs.Entry.{meaning_entry, means_still, only_pool, quiet_first, quiet_last, refusal_entry, rest_found, rested_so}
 use Rattle.assembler.proofs.Leaving.{opening_leaves}
 use Rattle.assembler.proofs.Making.{marked_calls, marked_then}
-use Rattle.assembler.proofs.Marks.{marks_still}
 use Rattle.assembler.proofs.Meaning.{check_fails}
 use Rattle.assembler.proofs.Mended.{opening_settled}
 use Rattle.assembler.proofs.Volumes.{volume_opened, volume_refused}
 use Rattle.assembler.proofs.Lies.{slices_same, volume_same}
 use Rattle.assembler.proofs.opening.assemble.Answers.Assembling.{a, x, y, z, t, known, ax, ay, yz, says_so, ready, marked, drives_only, tables_kept, from_y, rested, f, same, checked, state, members, holds, lie, passes, early, arrays, made, opened, texts, own_texts, first_quiet, nobody_failed, live_first, live_last, marks_made, off_slices, landing}
+use Rattle.assembler.proofs.opening.assemble.Answers.Stopping.{checked_leaves, marks_last, opened_leaves, opened_says, refused_leaves}
 use Rattle.assembler.proofs.opening.assemble.Answers.Unopened.{built, own_calls, arrays_for, pool_for, made_quiet, live_still, numbers_ended, pool_kept}
 use Rattle.assembler.proofs.opening.assemble.Goals as goal
 
@@ -138,6 +141,7 @@ returns-in-Ok-open_volume-clause-meant g c e sound quiet =
       elsewhere = λ i off.
           off_slices g k before e sound (seen (below_of (slices_in (rack_in volume)))) (own_texts g c) i
           (subst (λ (u : Slices). IsPickOff u (seen (below_of (slices_in (rack_in volume)))) i) (opens.kept.0.tables ∙ c.make_rack.ensures.tables) off);
+      says = λ all own calm traced. opened_says g c quiet e sound all own calm traced;
       moments = λ calm traced.
           let later = (ay g k).traced traced in
           opening_leaves pool (t g k) (y g k) m.checked m.absent.items m.slices.orderly (members g k before e sound) has.steady has.pool (checked g k before e sound).1 has.sound
@@ -219,14 +223,7 @@ returns-in-Err-open_volume-clause-written g c =
     }))
 
 pub returns-in-Ok-open_volume-clause-marks : goal.returns-in-Ok-open_volume-clause-marks
-returns-in-Ok-open_volume-clause-marks g c e sound quiet p =
-    let raid = c.make_rack.result in
-    let volume = c.in-Ok-open_volume.volume in
-    let k = made g c in
-    let before = first_quiet g c quiet in
-    marks_still (written_in raid) (written_in (rack_in volume)) (raid_in raid) (raid_in (rack_in volume)) (slices_seen g.R.Rack.seen raid) (slices_seen g.R.Rack.seen (rack_in volume))
-    c.in-Ok-open_volume.ensures.opens.kept.1 c.make_rack.ensures.fit.heeded c.in-Ok-open_volume.ensures.fit.0.heeded (nobody_failed g c quiet) p
-    ∙ marks_made g k before e sound p
+returns-in-Ok-open_volume-clause-marks g c e sound quiet p = marks_last g c quiet e sound p
 
 pub returns-in-Ok-open_volume-clause-caused : goal.returns-in-Ok-open_volume-clause-caused
 returns-in-Ok-open_volume-clause-caused g c =
@@ -392,5 +389,30 @@ returns-in-Err-open_volume-clause-wanting g c e sound quiet memory =
       | inl short ↦ elim short.1 [
         | inl still ↦ inr (inl (pool_kept g c quiet e sound still))
         | inr used ↦ inr (inr (numbers_ended g c used))
+      ]
+    ]
+
+pub returns-in-Ok-open_volume-clause-stops : goal.returns-in-Ok-open_volume-clause-stops
+returns-in-Ok-open_volume-clause-stops g c e sound quiet may lands all alone traced = opened_leaves g c quiet e sound may lands all alone traced
+
+pub returns-in-Err-clause-stopped : goal.returns-in-Err-clause-stopped
+returns-in-Err-clause-stopped g c e sound quiet =
+    inl (λ may lands all alone traced.
+    leaves_weaker (HoldOpened e 0) (λ i. AreAlone e i → HoldOpened e 0 i) (λ i holds alone_now. holds)
+    (rereading_leaves (g.R.Rack.seen c.args.rack) (g.R.Rack.seen c.in-Err.back.rack) e sound may
+    (c.in-Err.ensures.found sound.steady.told sound.steady.lasts quiet sound.logs).0 traced))
+
+pub returns-in-Err-check-clause-stopped : goal.returns-in-Err-check-clause-stopped
+returns-in-Err-check-clause-stopped g c e sound quiet =
+    inl (λ may lands all alone traced.
+    leaves_weaker (HoldOpened e 0) (λ i. AreAlone e i → HoldOpened e 0 i) (λ i holds alone_now. holds) (checked_leaves g c quiet e sound may traced))
+
+pub returns-in-Err-open_volume-clause-stopped : goal.returns-in-Err-open_volume-clause-stopped
+returns-in-Err-open_volume-clause-stopped g c e sound quiet =
+    elim c.in-Err-open_volume.ensures.refused.cause [
+      | inr bad ↦ inl (λ may lands all alone traced. refused_leaves g c quiet e sound bad.2.still may lands all alone traced)
+      | inl short ↦ elim short.1 [
+        | inl still ↦ inl (λ may lands all alone traced. refused_leaves g c quiet e sound still may lands all alone traced)
+        | inr used ↦ inr (numbers_ended g c used)
       ]
     ]

@@ -10,9 +10,11 @@ use Rattle.slice_rack.specs.SliceRack.{tables, below_of}
 use Rattle.slice_rack.specs.Sliced.{slices_of}
 use Rattle.slice_rack.specs.Runs.{inside_still}
 use Rattle.pool_state.specs.declared.contents.State.{State}
+use Rattle.array_image.specs.States.{current_places}
 use Rattle.pool_scan.proofs.Valid.{valid_arrays}
 use Rattle.array_model.specs.View.{View, HasFault, IsArray, sectors_of}
 use Rattle.array_core.specs.Seats.{gone, restarted}
+use Rattle.commit_log.specs.Opening.{ReplayCall}
 use Rattle.commit_log.specs.View.{names}
 use Rattle.raid_rack.specs.RaidRack.{IsRunning, SliceRuns, arrays_in, no_array, raid_in, slices_in, slices_seen}
 use Rattle.raid_rack.specs.Agreeing.{MakesAgree}
@@ -21,15 +23,17 @@ use Rattle.raid_rack.specs.Cleaning.{NoneFails}
 use Rattle.raid_rack.specs.Moves.{AreMarked, IsSet, Mends}
 use Rattle.raid_rack.specs.Truths.{KeepsTruths, MakesTruths}
 use Rattle.raid_rack.proofs.Mended.{each_items}
+use Rattle.assembler.specs.Holding.{HoldsArrays}
 use Rattle.assembler.proofs.Causes.{made_array}
 use Rattle.assembler.proofs.Holding.{rack_closed, rack_still}
 use Rattle.assembler.proofs.Live.{opened_live}
-use Rattle.assembler.proofs.Making.{by_list, keeps, marked_so, mended as making_mended, parts as making_parts, replayed, same as making_same, settled}
+use Rattle.assembler.proofs.Making.{by_list, keeps, marked as making_marked, marked_so, mended as making_mended, parts as making_parts, replayed, same as making_same, settled}
 use Rattle.assembler.proofs.Mended.{absent_still, closed_members, marking_so, mended_members, mended_reads, mended_so, rack_writes, reads_agree, reads_makes, reads_mend, reads_move}
 use Rattle.assembler.proofs.Entry.{quiet_last}
 use Rattle.assembler.proofs.Marks.{all_marked, marked_for, some_unmarked}
 use Rattle.assembler.proofs.Running.{array_now, current_logs, rack_running, twice}
 use Rattle.assembler.proofs.Sizes.{total_small}
+use Rattle.assembler.proofs.Stopping.{making_leaves}
 use Rattle.assembler.proofs.Whole.{whole_member}
 use Rattle.assembler.proofs.raid.make_rack.Goals as goal
 
@@ -403,3 +407,62 @@ returns-clause-caused g c =
     (raid_in c.mark_gone.new.raid) (slices_of (tables mended) d) (slices_seen seen c.mark_gone.new.raid)
     (subst (λ k. Mends (raid_in c.new-raid.result) (raid_in c.mark_gone.new.raid) (slices_of (tables k) (seen (below_of k))) (slices_seen seen c.mark_gone.new.raid))
     c.new-raid.ensures.slices c.mark_gone.ensures.mends))
+
+pub returns-clause-moments : goal.returns-clause-moments
+returns-clause-moments g c f e holds found rest quiet alive traced =
+    let m = c.args.members in
+    let seen = g.R.Rack.seen in
+    let runs = g.R.Rack.runs in
+    let t : Slices = tables m.slices in
+    let y : Seen = seen (below_of m.slices) in
+    let closed = c.close_gates-gone.new.slices in
+    let mended = c.mend_tables-left_out.new.slices in
+    let last = slices_in c.mark_gone.new.raid in
+    let b : Seen = seen (below_of closed) in
+    let d : Seen = seen (below_of mended) in
+    let z : Seen = seen (below_of last) in
+    let went = c.close_gates-gone.result.items in
+    let places = c.mend_tables-left_out.result.items in
+    let members = c.requires.members in
+    let marking = subst (λ k. SliceRuns seen runs k last) c.new-raid.ensures.slices c.mark_gone.ensures.runs in
+    let first = (each_items m.checked.arrays c.as_mut_slice.result.now c.restart_rebuilds.new.arrays restarted c.as_mut_slice.ensures.value c.restart_rebuilds.ensures).0 in
+    let second = (each_items (with_items m.checked.arrays c.restart_rebuilds.new.arrays) c.as_mut_slice-2.result.now c.note_gone.new.arrays (gone places) c.as_mut_slice-2.ensures.value c.note_gone.ensures).0 in
+    let items = c.new-raid.result.arrays.all.items in
+    let all : (n : ℕ) → slice_get items n ≡ option_map (λ v. gone places (restarted v)) (slice_get m.checked.arrays.items n) = λ n.
+    ap (λ xs. slice_get xs n) c.new-raid.ensures.arrays ∙ second n
+    ∙ ap (option_map (gone places)) (first n) ∙ twice places (slice_get m.checked.arrays.items n) in
+    let are : (n : ℕ) (u : View) → slice_get m.checked.arrays.items n ≡ Some u → (raid_in c.new-raid.result).arrays n ≡ gone places (restarted u) =
+    λ n u at. get_or_from_slice_get items n (gone places (restarted u)) no_array (all n ∙ ap (option_map (λ v. gone places (restarted v))) at) in
+    let rules : (n : ℕ) (v : View) → slice_get m.checked.arrays.items n ≡ Some v → IsArray v =
+    λ n v at. c.rules.ensures n v (ap (λ xs. slice_get xs n) c.as_slice.ensures.value ∙ at) in
+    let is = making_mended m.state t (tables closed) (tables mended) (tables last) y b d z went places m.checked m.absent.items m.slices.orderly members m.log
+    (runs (below_of m.slices) (below_of closed)) (runs (below_of mended) (below_of last)) c.close_gates-gone.ensures.runs c.close_gates-gone.ensures.closes
+    c.close_gates-gone.ensures.same c.mend_tables-left_out.ensures.mends c.mend_tables-left_out.ensures.tables marking in
+    let same : places ≡ m.absent.items = making_same m.state t (tables closed) (tables mended) (tables last) y b d z went places m.checked m.absent.items m.slices.orderly members m.log
+    (runs (below_of m.slices) (below_of closed)) (runs (below_of mended) (below_of last)) c.close_gates-gone.ensures.runs c.close_gates-gone.ensures.closes
+    c.close_gates-gone.ensures.same c.mend_tables-left_out.ensures.mends c.mend_tables-left_out.ensures.tables marking quiet in
+    let raid = raid_in c.new-raid.result in
+    let w = raid_in c.mark_gone.new.raid in
+    let to_t : tables mended ≡ t = c.mend_tables-left_out.ensures.tables ∙ c.close_gates-gone.ensures.runs.tables in
+    let running : IsRunning (arrays_in c.new-raid.result) (slices_of t b) =
+    rack_running m.state t b m.checked m.absent.items (closed_members m.state t y b d went places m.checked m.absent.items m.slices.orderly members is) rules places
+    (absent_still m.state t y m.checked m.absent.items m.slices.orderly members b d went places is.mends) (arrays_in c.new-raid.result) c.new-raid.ensures.state all in
+    making_leaves f e m.state t y b d z went places m.checked m.absent.items m.slices.orderly m.log holds found members rest rules raid w c.new-raid.ensures.state
+    (c.new-raid.ensures.number ∙ c.close_gates-gone.ensures.number) are same is
+    (λ none.
+    subst (λ lost. ReplayCall m.log (current_places m.state) lost (slices_of t y) (slices_of t b)) (same ∙ none)
+    (replayed m.state t (tables closed) (tables mended) (tables last) y b d z went places m.checked m.absent.items m.slices.orderly members m.log
+    (runs (below_of m.slices) (below_of closed)) (runs (below_of mended) (below_of last)) c.close_gates-gone.ensures.runs c.close_gates-gone.ensures.closes
+    c.close_gates-gone.ensures.same c.mend_tables-left_out.ensures.mends c.mend_tables-left_out.ensures.tables marking quiet none))
+    (λ some. ap (λ k. seen (below_of k)) (c.close_gates-gone.ensures.still some))
+    (λ h sound idle good seats alone told.
+    c.mend_tables-left_out.ensures.moments h sound idle good (λ p. ap (λ u. seat_of u p) c.close_gates-gone.ensures.runs.tables ∙ seats p) alone told)
+    (making_marked m.state t (tables closed) (tables mended) (tables last) y b d z went places m.checked m.absent.items m.slices.orderly members m.log
+    (runs (below_of m.slices) (below_of closed)) (runs (below_of mended) (below_of last)) c.close_gates-gone.ensures.runs c.close_gates-gone.ensures.closes
+    c.close_gates-gone.ensures.same c.mend_tables-left_out.ensures.mends c.mend_tables-left_out.ensures.tables marking)
+    running.set
+    (subst (λ u. Mends raid w (slices_of t d) (slices_of u z)) (marking.tables ∙ to_t)
+    (subst (λ u. Mends raid w (slices_of u d) (slices_of (tables last) z)) to_t
+    (subst (λ k. Mends raid w (slices_of (tables k) (seen (below_of k))) (slices_of (tables last) z)) c.new-raid.ensures.slices c.mark_gone.ensures.mends)))
+    (subst (λ u. HoldsArrays f w (slices_of t y) (slices_of u z)) (marking.tables ∙ to_t) (returns-clause-holds g c f holds found quiet))
+    alive (returns-clause-marks g c quiet).marks traced

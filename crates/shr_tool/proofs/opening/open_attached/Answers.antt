@@ -5,7 +5,7 @@ use Rattle.raid_rack.specs.RaidRack.{slices_in}
 use Rattle.pool.specs.View.{arrays_of, bay_in, book, slices_shown, view}
 use Rattle.pool.proofs.Booked.{book_seated}
 use Rattle.shr_tool.specs.Opened.{NotOpened, OpenedOn}
-use Rattle.shr_tool.proofs.Through.{marks_through, pool_through, refused_through, wanting_through, written_through, ground_in, held_by_meant, moment_in, opened_as, stops_mean, traced_through, runs_on}
+use Rattle.shr_tool.proofs.Through.{marks_through, pool_through, refused_through, wanting_through, written_through, ground_in, held_by_meant, moment_in, opened_as, stops_mean, stops_through, traced_through, runs_on}
 use Rattle.shr_tool.proofs.Told.{task_for}
 use Rattle.shr_tool.proofs.opening.open_attached.Goals as goal
 
@@ -53,6 +53,8 @@ returns-in-Ok-clause-outcome g c =
       agreed = opens.agreed;
       truths = opens.truths;
       moments = λ a meant calm traced. stops_mean pool (λ r. seen r.now) (λ r. shelf r.now) _ a opens.meant meant calm traced;
+      says = λ f sound quiet. (opens.meant f sound quiet).says;
+      stops = opens.stops;
       run_on = λ f sound quiet joined alone.
           runs_on _ _ _ _ f sound (opened_as pool (λ r. seen r.now) (λ r. shelf r.now) _ opens.meant opens.marks f sound quiet)
           _ (opens.meant f sound quiet).meant (opens.meant f sound quiet).one_pool (opens.truths f sound quiet) (stays_then opens.drives.early.only.stays opens.drives.late.stays) joined (slices_in (arrays_of pool)).orderly alone;
@@ -90,4 +92,5 @@ returns-in-Err-clause-outcome g c =
       unmoved = refuses.unmoved;
       still = refuses.still;
       wanting = λ f sound quiet memory. wanting_through seen _ runs (λ r. r.now) (λ r s ran. ran.1) _ back.rack f (refuses.wanting f sound quiet memory);
+      stops = λ f sound quiet. stops_through seen _ runs (λ r. r.now) (λ r s ran. ran.1) _ back.rack f (refuses.stopped f sound quiet);
     }))

@@ -5,7 +5,7 @@ use Rattle.raid_rack.specs.RaidRack.{raid_in, slices_in, slices_seen}
 use Rattle.array_image.specs.States.{is_current}
 use Rattle.commit_log.specs.View.{names}
 use Rattle.pool_state.specs.declared.contents.State.{State}
-use Rattle.std.proofs.Common.{◌≡◌, ◌≤◌, ◌&&◌, ℕ, Bool, true, false, not, is_none, is_some, List, Option, Some, None, option_map, refl, sym, ap, ap₂, subst, ◌∙◌, arith}
+use Rattle.std.proofs.Common.{◌≡◌, ◌≤◌, ◌&&◌, ℕ, is_none, is_some, List, Option, Some, None, option_map, sym, ap, ap₂, subst, ◌∙◌, arith}
 use Rattle.rack.specs.Seen.{Image, Rose, Seen, Stays}
 use Rattle.rack.specs.Moments.{Leaves}
 use Rattle.rack.specs.Joins.{stays_then}
@@ -47,6 +47,7 @@ use Rattle.assembler.proofs.Elsewhere.{elsewhere}
 use Rattle.assembler.proofs.Finding.{same as found_by_rest}
 use Rattle.assembler.proofs.Entry.{IsRested, quiet_first, quiet_last, pool_same, rest_found, rested_so}
 use Rattle.assembler.proofs.Leaving.{IsAsRead}
+use Rattle.assembler.proofs.Marks.{marks_of, some_is}
 use Rattle.assembler.proofs.Meaning.{check_passes}
 use Rattle.assembler.proofs.Mended.{opening_keeps}
 use Rattle.assembler.proofs.Volumes.{live_later}
@@ -56,18 +57,6 @@ use Rattle.assembler.proofs.opening.assemble.Goals.{After-make_rack, In-Ok-open_
 
 pub disks_still : (a b : Seen) → Stays a b → disks_of a ≡ disks_of b
 disks_still a b stays = ap₂ (λ count sectors. record { count = count; sectors = sectors }) (sym stays.disks) (λ i d. sym (stays.sectors d) i)
-
-some_is : (o : Option ℕ) → not (is_none o) ≡ is_some o
-some_is None = refl
-some_is (Some d) = refl
-
-marks_of : (current none absent : Bool) → absent ≡ (none && current) → (current && not absent) ≡ (current && not none)
-marks_of true none absent is = ap not (is ∙ of none)
-  where
-    of : (b : Bool) → (b && true) ≡ b
-    of true = refl
-    of false = refl
-marks_of false none absent is = refl
 
 -- ---- once arrays are made
 

@@ -1,0 +1,147 @@
+-- While a volume is opened on a pool's arrays, and their texts are brought up to date, what a stop leaves holds the pool, if no superblock stands where none
+-- is to be.
+use Rattle.std.proofs.Common.{◌≡◌, ℕ, ◌<◌, ◌≤◌, ◌&&◌, false, is_some, List, Some, inl, inr, refl, sym, ap, subst, ◌∙◌, arith}
+use Rattle.rack.specs.Moments.{Leaves}
+use Rattle.rack.specs.Seen.{Image, IsLive, Seen}
+use Rattle.rack.specs.Sequences.{WritesOnly}
+use Rattle.slice_rack.specs.Runs.{IsSliced}
+use Rattle.slice_rack.specs.Slices.{IsOrderly, Slices, sectors_of}
+use Rattle.slice_rack.specs.Sliced.{IsInside, sliced, slices_of}
+use Rattle.slice_rack.specs.SliceRack.{below_of, tables}
+use Rattle.pool_state.specs.declared.contents.State.{State}
+use Rattle.array_image.specs.Arrays.{arrays_in, replayed}
+use Rattle.array_image.specs.States.{is_current}
+use Rattle.array_model.specs.View.{sectors_of as sectors_in}
+use Rattle.pool_image.specs.Alike.{IsSamePool}
+use Rattle.pool_image.specs.Disks.{disks_of}
+use Rattle.pool_image.specs.Drives.{Found, found}
+use Rattle.pool_image.specs.Meaning.{array_sectors, arrays_held}
+use Rattle.pool_image.specs.Volumes.{Arrays}
+use Rattle.pool_image.proofs.Founds.{joined_same, truths_same}
+use Rattle.raid_rack.specs.declared.arrays.RaidRack.{RaidRack}
+use Rattle.raid_rack.specs.AllRuns.{AreCalls}
+use Rattle.raid_rack.specs.Book.{IsAfter}
+use Rattle.raid_rack.specs.Laws.{live_parts}
+use Rattle.raid_rack.specs.Raid.{Raid, is_over}
+use Rattle.raid_rack.specs.RaidRack.{raid_in, raid_seen, slices_in, slices_seen as slices_shown}
+use Rattle.raid_rack.specs.Runs.{KeepsMoments}
+use Rattle.pool_model.specs.Left.{AreAlone, AreAloneBy, AreElsewhere, IsPickOff}
+use Rattle.pool_model.specs.Openings.{HoldOpened}
+use Rattle.pool_model.specs.Pools.{AreSlicesOf, IsSoundPool}
+use Rattle.pool_model.specs.Stopped.{HaveTables, HoldAmid, LieByTables}
+use Rattle.pool_model.proofs.Amid.{IsReady, ready_amid, tables_amid, tables_lie}
+use Rattle.pool_model.proofs.Found.{found_is}
+use Rattle.pool_model.proofs.Openings.{amid_opened}
+use Rattle.pool_model.proofs.Outset.{outset_of}
+use Rattle.assembler.specs.Holding.{HoldsArrays}
+use Rattle.assembler.specs.Volume.{AllLive}
+
+-- The arrays `raid` were made over the slices t of a pool e, which is f at rest, all of them ready for the volume; calls from then on write no sector of the
+-- arrays but before `from`, and in the end just the places without a disk are marked.
+module _ {R : Type 0} (seen : R → Seen) (runs : R → R → Type 0) (e f : Found) (pool : IsSamePool e f) (a : Seen) (raid last : RaidRack R)
+    (holds : HoldsArrays f (raid_in raid) a (slices_shown seen raid)) (alive : AllLive (raid_in last)) (kept : AreCalls seen runs raid last)
+    (from : ℕ) (may : ℕ → ℕ → List ℕ → Type 0) (writes : WritesOnly (raid_seen seen raid) (raid_seen seen last) may) (low_only : (n x : ℕ) (v : List ℕ) → may n x v → x < from)
+    (ready : (raid_in raid).state.joined ≤ (raid_in raid).state.made) (all : e.state.joined ≡ e.state.made)
+    (before : Image) (found_before : found (disks_of (seen (below_of (slices_in raid)))) before ≡ Some e) (sound : IsSoundPool e)
+    (slices : AreSlicesOf e (tables (slices_in raid))) (have : HaveTables e)
+    (elsewhere : (i : Image) → IsPickOff (tables (slices_in raid)) (seen (below_of (slices_in raid))) i → AreElsewhere e i)
+    (marks : (p : ℕ) → is_current (raid_in last).state p ≡ (is_current e.state p && is_some (e.seats p)))
+    (orderly : IsOrderly (tables (slices_in raid))) (inside : IsInside (tables (slices_in raid)) (seen (below_of (slices_in raid))))
+    (lasting : (seen (below_of (slices_in raid))).lasting)
+    (only : WritesOnly (seen (below_of (slices_in raid))) (seen (below_of (slices_in last))) (IsSliced (tables (slices_in raid))))
+    (traced : (seen (below_of (slices_in raid))).traced) where
+  abbrev t : Slices
+  t = tables (slices_in raid)
+
+  abbrev v : Raid
+  v = raid_in raid
+
+  abbrev w : Raid
+  w = raid_in last
+
+  abbrev z : Seen
+  z = seen (below_of (slices_in raid))
+
+  abbrev y : Seen
+  y = seen (below_of (slices_in last))
+
+  there : tables (slices_in last) ≡ t
+  there = kept.0.tables
+
+  joined_is : f.state.joined ≡ e.state.joined
+  joined_is = ap (λ (s : State). s.joined) pool.state
+
+  small : (n : ℕ) → n < e.state.made → n < f.state.joined
+  small n low = omega (arith, low, all, joined_is)
+
+  few : f.state.joined ≤ w.state.made
+  few = (let one = holds.after.same.joined in let two = kept.1.book.same.made in omega (arith, one, two, ready))
+
+  now_low : (n : ℕ) → n < f.state.joined → n < w.state.joined
+  now_low n low = subst (λ k. n < k) (sym (kept.1.book.same.joined ∙ holds.after.same.joined)) low
+
+  sizes : (n : ℕ) → n < f.state.joined → sectors_in (w.arrays n) ≡ array_sectors f n
+  sizes n low = kept.2.sectors n ∙ holds.sectors n low
+
+  size_same : (n : ℕ) → array_sectors f n ≡ array_sectors e n
+  size_same n = ap (λ (k : Arrays). k.sectors n) (joined_same e f pool)
+
+  lasts : (n : ℕ) → n < e.state.made → is_over w n ≡ false
+  lasts n low =
+      let less = small n low in
+      let some : 0 < sectors_in (w.arrays n) = (let room = holds.room n less in let is = sizes n less in omega (arith, room, is)) in
+      (live_parts w n 0 (alive n 0 (now_low n less) some)).0
+
+  begun : IsAfter e.state v.state
+  begun = subst (λ (s : State). IsAfter s v.state) pool.state holds.after
+
+  is_ready : IsReady e t v z
+  is_ready =
+      let at = found_is (disks_of z) before e found_before in
+      record {
+        disks = at.1;
+        outset = outset_of e at.0 sound;
+        slices = slices;
+        after = begun;
+        joined = all;
+        geometry = λ n u low truth. (holds.arrays n u (small n low) (truths_same e f pool n ∙ truth)).geometry;
+        elsewhere = elsewhere;
+      }
+
+  moments : KeepsMoments v w (slices_of t z) (slices_of t y)
+  moments = subst (λ (u : Slices). KeepsMoments v w (slices_of t z) (slices_of u y)) there kept.1.moments
+
+  amid : Leaves z y (λ i. LieByTables e t v.state i → AreAloneBy v.state e i → HoldAmid e t v.state w.state i)
+  amid = ready_amid e t v w z y is_ready orderly inside lasting only moments (λ n low. holds.told n (small n low)) lasts traced
+
+  lie : Leaves z y (LieByTables e t v.state)
+  lie = tables_amid e t v.state z y lasting only (tables_lie e t v.state z have slices elsewhere) traced
+
+  module _ (k : ℕ) (i : Image) (late : z.clock < k) (early : k ≤ y.clock) (stop : y.stops k i) where
+    value_in : (u : Slices) → u ≡ tables (slices_in last) → (n x : ℕ) → n < e.state.made → from ≤ x → x < array_sectors e n
+        → arrays_in (replayed (sectors_of u) (sliced u i)) n x ≡ arrays_held e n x
+    value_in u is n x low behind within =
+        let less = small n low in
+        let here : x < sectors_in (w.arrays n) = (let one = sizes n less in let two = size_same n in omega (arith, one, two, within)) in
+        let unspent = alive n x (now_low n less) here in
+        let live : IsLive (raid_seen seen raid) (raid_seen seen last) n x = record {
+          disk = (let most = few in omega (arith, most, less));
+          sector = here;
+          is_told = holds.told n less;
+          unspent = unspent;
+        } in
+        ap (λ (s : Slices). arrays_in (replayed (sectors_of s) (sliced s i)) n x) is
+        ∙ elim ((writes.stops traced).new k (arrays_in (replayed (sectors_of (tables (slices_in last))) (sliced (tables (slices_in last)) i))) late early
+        (sliced (tables (slices_in last)) i, (i, stop, λ j v. refl), λ j v. refl) n x live) [
+          | inl left ↦ holds.values n x (arrays_in (replayed (sectors_of (tables (slices_in last))) (sliced (tables (slices_in last)) i)) n x) less (writes.stays.spent n x unspent) left
+          | inr before ↦ absurd (let early = low_only n x _ before in omega (arith, early, behind))
+        ]
+        ∙ ap (λ (k : Arrays). k.contents n x) (joined_same e f pool)
+
+    opened : AreAlone e i → HoldOpened e from i
+    opened alone =
+        amid_opened e t v.state w.state from i begun marks (value_in t (sym there))
+        (amid.new k i late early stop (lie.new k i late early stop) (λ n p d first low counts seat. alone n p d first low seat)).between
+
+  pub bringing_leaves : Leaves z y (λ i. AreAlone e i → HoldOpened e from i)
+  bringing_leaves = record { later = amid.later; kept = amid.kept; past = amid.past; new = opened }

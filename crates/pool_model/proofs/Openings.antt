@@ -1,0 +1,75 @@
+-- What holds a pool again as a stop inside an opening leaves it.
+use Rattle.std.proofs.Common.{◌≡◌, ℕ, ◌<◌, ◌≤◌, ◌&&◌, Bool, true, false, is_some, Option, Some, None, refl, sym, ap, ap₂, subst, ◌∙◌, inr, arith}
+use Rattle.std.proofs.lemmas.Bool.{both_ways}
+use Rattle.rack.specs.Seen.{Image}
+use Rattle.slice_rack.specs.Slices.{Slices, sectors_of}
+use Rattle.slice_rack.specs.Sliced.{sliced}
+use Rattle.pool_state.specs.declared.contents.State.{State}
+use Rattle.array_image.specs.Arrays.{arrays_in, replayed}
+use Rattle.array_image.specs.States.{is_current}
+use Rattle.raid_rack.specs.Book.{IsAfter, after_then}
+use Rattle.pool_image.specs.Alike.{IsSamePool}
+use Rattle.pool_image.specs.Disks.{Disks}
+use Rattle.pool_image.specs.Drives.{Found, found}
+use Rattle.pool_image.specs.Meaning.{array_sectors, arrays_held}
+use Rattle.pool_image.specs.Volumes.{Arrays}
+use Rattle.pool_image.proofs.Founds.{joined_same}
+use Rattle.pool_rest.specs.SoundLogs.{HasSoundLogs}
+use Rattle.pool_model.specs.Openings.{HoldOpened, MayReplay}
+use Rattle.pool_model.specs.Stopped.{HoldBetween}
+
+-- from a later sector on
+pub opened_from : (f : Found) (from later : ℕ) (i : Image) → from ≤ later → HoldOpened f from i → HoldOpened f later i
+opened_from f from later i before holds = record {
+  now = holds.now;
+  found_is = holds.found_is;
+  sound = holds.sound;
+  logs = holds.logs;
+  after = holds.after;
+  marks = holds.marks;
+  seats = holds.seats;
+  values = λ n x low behind inside. holds.values n x low (omega (arith, before, behind)) inside;
+  stops = holds.stops;
+}
+
+-- of the same pool, but for gates of its log
+pub opened_same : (e f : Found) (from : ℕ) (i : Image) → IsSamePool e f → HoldOpened f from i → HoldOpened e from i
+opened_same e f from i same holds = record {
+  now = holds.now;
+  found_is = ap (λ (d : Disks). found d i) (sym same.disks) ∙ holds.found_is;
+  sound = holds.sound;
+  logs = subst (λ (d : Disks). HasSoundLogs d i) same.disks holds.logs;
+  after = subst (λ (s : State). IsAfter s holds.now.state) same.state holds.after;
+  marks = λ p counts past. sym (same.seats p) ∙ holds.marks p (ap (λ (s : State). is_current s p) same.state ∙ counts) past;
+  seats = λ p counts. holds.seats p counts ∙ same.seats p;
+  values = λ n x low behind inside.
+      holds.values n x (subst (λ (s : State). n < s.made) (sym same.state) low) behind (subst (λ (k : Arrays). x < k.sectors n) (sym (joined_same e f same)) inside)
+      ∙ ap (λ (k : Arrays). k.contents n x) (joined_same e f same);
+  stops = subst (λ (d : Disks). MayReplay d i holds.now) same.disks holds.stops;
+}
+
+-- What a stop inside a call of a pool in service leaves does so, where just the places without a disk are marked by the call's end, and the replayed slices
+-- give what the pool's arrays held.
+pub amid_opened : (f : Found) (t : Slices) (s u : State) (from : ℕ) (i : Image) → IsAfter f.state s
+    → ((p : ℕ) → is_current u p ≡ (is_current f.state p && is_some (f.seats p)))
+    → ((n x : ℕ) → n < f.state.made → from ≤ x → x < array_sectors f n → arrays_in (replayed (sectors_of t) (sliced t i)) n x ≡ arrays_held f n x)
+    → HoldBetween f t s u i → HoldOpened f from i
+amid_opened f t s u from i begun marks values amid =
+    let still = amid.still in
+    record {
+      now = still.now;
+      found_is = still.found_is;
+      sound = still.sound;
+      logs = still.logs;
+      after = subst (λ (z : State). IsAfter f.state z) (sym still.state) (after_then f.state s amid.state begun amid.later);
+      marks = λ p counts past. none p counts (sym (ap (λ (z : State). is_current z p) still.state) ∙ past) (f.seats p) refl;
+      seats = λ p counts. still.seats p (sym (ap (λ (z : State). is_current z p) still.state) ∙ counts);
+      values = λ n x low behind inside. still.values n x low ∙ values n x low behind inside;
+      stops = inr (amid.apart, amid.stood, amid.lower);
+    }
+  where
+    none : (p : ℕ) → is_current f.state p ≡ true → is_current amid.state p ≡ false → (o : Option ℕ) → f.seats p ≡ o → f.seats p ≡ None
+    none p counts past None seat = seat
+    none p counts past (Some d) seat =
+        absurd (both_ways (is_current amid.state p) past
+        (amid.sooner.current p (marks p ∙ ap₂ (λ (b : Bool) (o : Option ℕ). b && is_some o) counts seat)))

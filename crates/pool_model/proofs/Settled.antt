@@ -1,0 +1,355 @@
+-- Contents of a pool at rest that differ in sectors of partition tables alone, where each disk has the table that it had, hold the same pool.
+use Rattle.std.proofs.Common.{◌≡◌, ℕ, zero, suc, ◌+◌, ◌<◌, ◌≤◌, Bool, true, false, nat_lt, if◌then◌else◌, List, [], Option, Some, None, option_map, refl, sym, ap, ap₂, subst, ◌∙◌, inl, inr, ltb-true, arith}
+use Rattle.std.specs.Option.{option_and_then, option_map_or}
+use Rattle.std.specs.Result.{result_ok}
+use Rattle.std.proofs.lemmas.Bool.{both_ways, cases_Bool}
+use Rattle.std.proofs.lemmas.Option.{none-some}
+use Rattle.rack.specs.Seen.{Image}
+use Rattle.rack.specs.Targets.{Target, look}
+use Rattle.gpt_table.specs.declared.Table.{Table}
+use Rattle.md_super.specs.declared.superblock.Super.{Super}
+use Rattle.pool_state.specs.declared.contents.Copied.{Copied}
+use Rattle.pool_state.specs.declared.contents.State.{State}
+use Rattle.pool_state.specs.Sector.{decoded}
+use Rattle.array_image.specs.Arrays.{Shape, sectors_by}
+use Rattle.array_image.specs.Foremost.{foremost}
+use Rattle.array_image.specs.Places.{arrays_first, data_sector, log_slice, member_slice, place_of, state_sector, super_sector}
+use Rattle.array_image.specs.Record.{damaged_log, pending}
+use Rattle.array_image.specs.States.{current_places, is_current}
+use Rattle.array_image.specs.Supers.{super_in, super_of}
+use Rattle.array_image.proofs.Frames.{super_of_sector}
+use Rattle.raid_rack.specs.Book.{after_same}
+use Rattle.pool_image.specs.Disks.{Disks, identities_of, newest, seat_of}
+use Rattle.pool_image.specs.Drives.{Found, drive_sector, end_of, extent_from, extent_of, first_of, found, found_by, slices_from, slices_of, truth_from}
+use Rattle.pool_image.specs.Meaning.{array_sectors, arrays_held, is_member, truth_of}
+use Rattle.pool_image.specs.Replay.{Extent, Standing, logs_of, standing, standing_by, written}
+use Rattle.pool_image.proofs.Founds.{first_behind}
+use Rattle.pool_image.proofs.Identities.{newest_same, seat_inside, seat_same}
+use Rattle.pool_image.proofs.Rested.{stood_by, written_none}
+use Rattle.pool_image.proofs.Truths.{extent_found, slice_of_member, slice_sector, truth_found}
+use Rattle.pool_rest.specs.Resting.{seated_state}
+use Rattle.pool_rest.specs.SoundLogs.{HasSoundLogs, IsSoundLog}
+use Rattle.pool_model.specs.Left.{AreAlone}
+use Rattle.pool_model.specs.Openings.{HaveGoodTables, HoldOpened, IsButTables, IsIdleIn}
+use Rattle.pool_model.specs.Pools.{IsSoundPool}
+use Rattle.pool_model.proofs.Current.{SameCurrent, SameMembers, array_current, shape_current, sound_current, truth_current}
+use Rattle.pool_model.proofs.Found.{found_is, some_made}
+use Rattle.pool_model.proofs.Layers.{IsLaid, laid, no_super, none_there}
+use Rattle.pool_rest.proofs.SameLogs.{logs_same}
+use Rattle.pool_model.proofs.Seats.{nowhere}
+use Rattle.pool_model.proofs.TableRoom.{log_room, member_room}
+
+some_same : {X : Type 0} (x y : X) → Some x ≡ Some y → x ≡ y
+some_same x y same = cc
+
+-- the pool of contents in which nothing is pending
+abbrev pub pool_at : Disks → Image → State → Found
+pool_at disks c s = record {
+  disks = disks;
+  before = standing_by disks c s;
+  contents = c;
+  identities = identities_of disks c;
+  state = s;
+  seats = seat_of s disks (identities_of disks c);
+}
+
+-- contents are found so
+pub idle_found : (disks : Disks) (c : Image) (s : State) → newest disks (identities_of disks c) ≡ Some s → (standing_by disks c s).targets ≡ []
+    → found disks c ≡ Some (pool_at disks c s)
+unfolding found standing
+idle_found disks c s newest_is none =
+    ap (λ o. option_and_then (λ x. found_by disks x (written disks x c)) (option_map (standing_by disks c) o)) newest_is
+    ∙ ap (found_by disks (standing_by disks c s)) (written_none disks (standing_by disks c s) c none)
+    ∙ ap (option_map (λ (z : State). record { disks = disks; before = standing_by disks c s; contents = c; identities = identities_of disks c; state = z; seats = seat_of z disks (identities_of disks c) })) newest_is
+
+pub idle_stands : (disks : Disks) (c : Image) (s : State) → newest disks (identities_of disks c) ≡ Some s → standing disks c ≡ Some (standing_by disks c s)
+unfolding standing
+idle_stands disks c s newest_is = ap (option_map (standing_by disks c)) newest_is
+
+-- no target brings another state
+seated_none : (s : State) → seated_state [] s ≡ s
+unfolding foremost
+seated_none s = refl
+
+-- logs in which nothing is pending and none is damaged are sound
+pub idle_logs : (disks : Disks) (c : Image) (s : State) → newest disks (identities_of disks c) ≡ Some s → (standing_by disks c s).targets ≡ []
+    → damaged_log (current_places s) (standing_by disks c s).logs ≡ None → HasSoundLogs disks c
+unfolding look
+idle_logs disks c s newest_is none whole =
+    let seated : seated_state (standing_by disks c s).targets s ≡ s = ap (λ (xs : List Target). seated_state xs s) none ∙ seated_none s in
+    record {
+      before = standing_by disks c s;
+      stands = idle_stands disks c s newest_is;
+      log = subst (λ (z : State). IsSoundLog disks c (standing_by disks c s) z) (sym seated) (record {
+        whole = whole;
+        next = inl refl;
+        pool = refl;
+        copies = λ p u at. absurd (none-some u (sym (ap (λ (xs : List Target). look xs (log_slice p) 0) none) ∙ at));
+        seats = λ p here there. refl;
+        joining = λ a p d at former seat. absurd (none-some d (sym (nowhere s disks (identities_of disks c) p former) ∙ seat));
+      });
+    }
+
+module _ (disks : Disks) (c i : Image) (s : State) (newest_is : newest disks (identities_of disks c) ≡ Some s) (idle : (standing_by disks c s).targets ≡ [])
+    (whole : damaged_log (current_places s) (standing_by disks c s).logs ≡ None) (sound : IsSoundPool (pool_at disks c s)) (tables : HaveGoodTables (pool_at disks c s))
+    (but : IsButTables (pool_at disks c s) c i) (alone : AreAlone (pool_at disks c s) c) (alone_now : AreAlone (pool_at disks c s) i) where
+  abbrev f : Found
+  f = pool_at disks c s
+
+  abbrev g : Found
+  g = pool_at disks i s
+
+  -- ---- sectors that are no table's
+
+  kept : (d u : ℕ) → d < disks.count → u < disks.sectors d → 34 ≤ u → ((p : ℕ) → f.seats p ≡ Some d → u + 33 < disks.sectors d) → i d u ≡ c d u
+  kept d u low within behind before = but.others d u low within (λ of. elim of.at_end [
+    | inl first ↦ omega (arith, first, behind)
+    | inr last ↦ (let room = before of.place of.seat in omega (arith, last, room))
+  ])
+
+  long : (p d : ℕ) → f.seats p ≡ Some d → arrays_first + 32 < disks.sectors d
+  long p d seat = log_room f p d (tables p d seat)
+
+  below : (p d : ℕ) → f.seats p ≡ Some d → d < disks.count
+  below p d seat = seat_inside s disks f.identities p d seat
+
+  -- ---- what the disks say
+
+  copied : (d : ℕ) → d < disks.count → (identities_of disks i d).copied ≡ (identities_of disks c d).copied
+  copied d low = of (nat_lt state_sector (disks.sectors d)) refl
+    where
+      of : (b : Bool) → nat_lt state_sector (disks.sectors d) ≡ b
+          → (if b then result_ok (decoded (i d state_sector)) else None) ≡ (if b then result_ok (decoded (c d state_sector)) else None)
+      of true within =
+          ap (λ (v : List ℕ). result_ok (decoded v))
+          (kept d state_sector low (ltb-true state_sector (disks.sectors d) within) (omega arith) (λ p seat. let room = long p d seat in omega (arith, room)))
+      of false past = refl
+
+  ids : (d : ℕ) → d < disks.count → identities_of disks i d ≡ identities_of disks c d
+  ids d low = ap₂ (λ (k : Option Copied) (z : Option Table). record { copied = k; table = z }) (copied d low) (but.tables d low)
+
+  newest_now : newest disks (identities_of disks i) ≡ Some s
+  newest_now = newest_same disks (identities_of disks i) (identities_of disks c) ids ∙ newest_is
+
+  seats_kept : (p : ℕ) → g.seats p ≡ f.seats p
+  seats_kept p = seat_same disks (identities_of disks i) (identities_of disks c) ids s p
+
+  -- ---- logs
+
+  logs_kept : logs_of disks g.seats i ≡ logs_of disks f.seats c
+  logs_kept =
+      logs_same disks c i f.seats g.seats seats_kept
+      (λ p d u seat size low.
+      kept d (state_sector + u) (below p d seat) (omega (arith, low, size)) (omega arith) (λ q there. let more = long q d there in omega (arith, more, low)))
+
+  none_now : (standing_by disks i s).targets ≡ []
+  none_now = ap (pending (current_places s)) logs_kept ∙ idle
+
+  idle_now : IsIdleIn disks i
+  idle_now before at =
+      ap (λ (x : Standing). x.targets) (some_same before (standing_by disks i s) (sym at ∙ idle_stands disks i s newest_now)) ∙ none_now
+
+  -- ---- sectors of drives
+
+  drive_kept : (p u : ℕ) → 34 ≤ u → ((d : ℕ) → f.seats p ≡ Some d → u + 33 < disks.sectors d) → drive_sector g p u ≡ drive_sector f p u
+  drive_kept p u behind before =
+      ap (λ o. option_map_or (λ d. if nat_lt u (disks.sectors d) then i d u else []) o []) (seats_kept p) ∙ of (f.seats p) refl
+    where
+      of_test : (d : ℕ) → f.seats p ≡ Some d → (b : Bool) → nat_lt u (disks.sectors d) ≡ b → (if b then i d u else []) ≡ (if b then c d u else [])
+      of_test d seat true within = kept d u (below p d seat) (ltb-true u (disks.sectors d) within) behind (λ q there. before d seat)
+      of_test d seat false past = refl
+
+      of : (o : Option ℕ) → f.seats p ≡ o
+          → option_map_or (λ d. if nat_lt u (disks.sectors d) then i d u else []) o [] ≡ option_map_or (λ d. if nat_lt u (disks.sectors d) then c d u else []) o []
+      of None seat = refl
+      of (Some d) seat = of_test d seat (nat_lt u (disks.sectors d)) refl
+
+  few : f.state.made ≤ 16
+  few = (some_made f (found_is disks c f (idle_found disks c s newest_is idle)).0).1
+
+  -- ---- one array
+
+  module _ (n : ℕ) (low : n < f.state.made) where
+    small : n < 16
+    small = let most = few in omega (arith, low, most)
+
+    abbrev truth : Super
+    truth = (sound.rules.arrays n low).0
+
+    truth_before : truth_of f n ≡ Some truth
+    truth_before = (sound.rules.arrays n low).1
+
+    lie : IsLaid f n truth
+    lie = laid f n truth small truth_before
+
+    abbrev first : ℕ
+    first = lie.first
+
+    behind_log : arrays_first ≤ first
+    behind_log = first_behind f n first lie.begins
+
+    extent_before : extent_of f (suc n) ≡ Some (record { first = first; sectors = data_sector + truth.size })
+    extent_before = extent_found f n first truth lie.begins lie.is
+
+    room : (p d : ℕ) → is_member f n p ≡ true → f.seats p ≡ Some d → first + (data_sector + truth.size) + 32 < disks.sectors d
+    room p d member seat = member_room f p d (tables p d seat) n (record { first = first; sectors = data_sector + truth.size }) low member extent_before
+
+    -- a place that is no member has no superblock there
+    none_on : (j : Image) → AreAlone f j → (p : ℕ) → is_member f n p ≡ false
+        → super_of (option_map_or (λ d. if nat_lt (first + super_sector) (disks.sectors d) then j d (first + super_sector) else []) (f.seats p) []) ≡ None
+    none_on j is p none = of (f.seats p) refl
+      where
+        of_test : (d : ℕ) → f.seats p ≡ Some d → (b : Bool) → nat_lt (first + super_sector) (disks.sectors d) ≡ b → super_of (if b then j d (first + super_sector) else []) ≡ None
+        of_test d seat true within = is n p d first low seat none lie.begins (ltb-true (first + super_sector) (disks.sectors d) within)
+        of_test d seat false past = none_there
+
+        of : (o : Option ℕ) → f.seats p ≡ o
+            → super_of (option_map_or (λ d. if nat_lt (first + super_sector) (disks.sectors d) then j d (first + super_sector) else []) o []) ≡ None
+        of None seat = none_there
+        of (Some d) seat = of_test d seat (nat_lt (first + super_sector) (disks.sectors d)) refl
+
+    place_is : (p : ℕ) → place_of (member_slice p n) ≡ p
+    place_is p = let inside = small in omega (arith, inside)
+
+    none_before : (p : ℕ) → is_member f n p ≡ false → super_in s (slices_from f first) n p ≡ None
+    none_before p none =
+        no_super s (slices_from f first) n p (ap (λ q. super_of (drive_sector f q (first + super_sector))) (place_is p) ∙ none_on c alone p none)
+
+    none_after : (p : ℕ) → is_member f n p ≡ false → super_in s (slices_from g first) n p ≡ None
+    none_after p none =
+        no_super s (slices_from g first) n p
+        (ap (λ q. super_of (drive_sector g q (first + super_sector))) (place_is p)
+        ∙ ap (λ o. super_of (option_map_or (λ d. if nat_lt (first + super_sector) (disks.sectors d) then i d (first + super_sector) else []) o [])) (seats_kept p)
+        ∙ none_on i alone_now p none)
+
+    -- sectors of a member's slice
+    sector_kept : (p u : ℕ) → is_member f n p ≡ true → u < data_sector + truth.size → drive_sector g (place_of (member_slice p n)) (first + u) ≡ drive_sector f (place_of (member_slice p n)) (first + u)
+    sector_kept p u member within =
+        drive_kept (place_of (member_slice p n)) (first + u) (let low = behind_log in omega (arith, low))
+        (λ d seat. let end = room p d member (ap f.seats (sym (place_is p)) ∙ seat) in omega (arith, end, within))
+
+    super_from : (p : ℕ) → is_current s p ≡ true → super_in s (slices_from g first) n p ≡ super_in s (slices_from f first) n p
+    super_from p counts = elim (cases_Bool (is_member f n p)) [
+      | inl member ↦ super_of_sector s (slices_from g first) (slices_from f first) n p (sector_kept p super_sector member (omega arith))
+      | inr none ↦ none_after p none ∙ sym (none_before p none)
+    ]
+
+    truth_there : truth_from g n first ≡ Some truth
+    truth_there = truth_current s (slices_from g first) (slices_from f first) n super_from ∙ lie.is
+
+  begins_kept : (n : ℕ) → n ≤ f.state.made → first_of g n ≡ first_of f n
+  unfolding first_of
+  begins_kept zero low = refl
+  begins_kept (suc n) low =
+      let less : n < f.state.made = omega (arith, low) in
+      let l = lie n less in
+      ap (option_and_then (λ first. option_map end_of (extent_from g n first))) (begins_kept n (omega (arith, less)) ∙ l.begins)
+      ∙ ap (λ (o : Option Super). option_map end_of (option_map (λ u. record { first = l.first; sectors = data_sector + u.size }) o)) (truth_there n less ∙ sym l.is)
+      ∙ sym (ap (option_and_then (λ first. option_map end_of (extent_from f n first))) l.begins)
+
+  module _ (n : ℕ) (low : n < f.state.made) where
+    begins_now : first_of g n ≡ Some (lie n low).first
+    begins_now = begins_kept n (omega (arith, low)) ∙ (lie n low).begins
+
+    truth_now : truth_of g n ≡ Some (truth n low)
+    truth_now = truth_found g n (lie n low).first (truth n low) (small n low) begins_now (truth_there n low)
+
+    extent_now : extent_of g (suc n) ≡ Some (record { first = (lie n low).first; sectors = data_sector + (truth n low).size })
+    extent_now = extent_found g n (lie n low).first (truth n low) begins_now (truth_there n low)
+
+    -- a member's slice
+    slice_kept : (p u : ℕ) → is_member f n p ≡ true → slices_of g (member_slice p n) u ≡ slices_of f (member_slice p n) u
+    unfolding slices_of
+    slice_kept p u member =
+        let number = slice_of_member p n (small n low) in
+        ap (λ o. option_map_or (λ (e : Extent). if nat_lt u e.sectors then slices_from g e.first (member_slice p n) u else []) o []) (ap (extent_of g) number ∙ extent_now)
+        ∙ of (nat_lt u (data_sector + (truth n low).size)) refl
+        ∙ sym (ap (λ o. option_map_or (λ (e : Extent). if nat_lt u e.sectors then slices_from f e.first (member_slice p n) u else []) o []) (ap (extent_of f) number ∙ extent_before n low))
+      where
+        of : (b : Bool) → nat_lt u (data_sector + (truth n low).size) ≡ b
+            → (if b then slices_from g (lie n low).first (member_slice p n) u else []) ≡ (if b then slices_from f (lie n low).first (member_slice p n) u else [])
+        of true within = sector_kept n low p u member (ltb-true u (data_sector + (truth n low).size) within)
+        of false past = refl
+
+    -- the superblocks of a slice are those where it lies
+    super_of_g : (p : ℕ) → super_in s (slices_of g) n p ≡ super_in s (slices_from g (lie n low).first) n p
+    super_of_g p =
+        super_of_sector s (slices_of g) (slices_from g (lie n low).first) n p
+        (slice_sector g (member_slice p n) super_sector (lie n low).first (data_sector + (truth n low).size) (ap (extent_of g) (slice_of_member p n (small n low)) ∙ extent_now) (omega arith))
+
+    super_of_f : (p : ℕ) → super_in s (slices_of f) n p ≡ super_in s (slices_from f (lie n low).first) n p
+    super_of_f p =
+        super_of_sector s (slices_of f) (slices_from f (lie n low).first) n p
+        (slice_sector f (member_slice p n) super_sector (lie n low).first (data_sector + (truth n low).size) (ap (extent_of f) (slice_of_member p n (small n low)) ∙ extent_before n low) (omega arith))
+
+    supers : SameCurrent s n (slices_of g) (slices_of f)
+    supers p counts = super_of_g p ∙ super_from n low p counts ∙ sym (super_of_f p)
+
+    members : SameMembers s n (slices_of g) (slices_of f)
+    members p u counts has k = elim (cases_Bool (is_member f n p)) [
+      | inl member ↦ slice_kept p k member
+      | inr none ↦ absurd (none-some u (sym (super_of_f p ∙ none_before n low p none) ∙ has))
+    ]
+
+    pub value_kept : (x : ℕ) → arrays_held g n x ≡ arrays_held f n x
+    value_kept x = array_current s (slices_of g) (slices_of f) n supers members x
+
+    pub sectors_kept : array_sectors g n ≡ array_sectors f n
+    sectors_kept = ap (λ (o : Option Shape). option_map_or sectors_by o 0) (shape_current s (slices_of g) (slices_of f) n supers)
+
+  -- ---- the pool
+
+  pub sound_kept : IsSoundPool g
+  sound_kept = record {
+    rules = record {
+      arrays = λ n low. (truth n low, truth_now n low, sound_current s (slices_of g) (slices_of f) n (supers n low) (members n low) (truth n low) (sound.rules.arrays n low).2);
+      joined = sound.rules.joined;
+      copies = λ d copy low here epoch. sound.rules.copies d copy low (sym (copied d low) ∙ here) epoch;
+      epochs = λ p d copy seat here.
+          let was = sym (seats_kept p) ∙ seat in
+          sound.rules.epochs p d copy was (sym (copied d (below p d was)) ∙ here);
+    };
+    own = λ n u low is. sound.own n u low (truth_before n low ∙ sym (truth_now n low) ∙ is);
+  }
+
+  pub tables_hold : HoldOpened f 0 i
+  tables_hold = record {
+    now = g;
+    found_is = idle_found disks i s newest_now none_now;
+    sound = sound_kept;
+    logs = idle_logs disks i s newest_now none_now (ap (damaged_log (current_places s)) logs_kept ∙ whole);
+    after = after_same s;
+    marks = λ p counts past. absurd (both_ways (is_current s p) past counts);
+    seats = λ p counts. seats_kept p;
+    values = λ n x low from inside. value_kept n low x;
+    stops = inl idle_now;
+  }
+
+-- A pool that was found on the disks, with nothing pending and sound logs, is the one of these contents.
+pub record IsIdlePool (disks : Disks) (c : Image) (f : Found) : Type 0 where
+  pub state : State
+  pub newest_is : newest disks (identities_of disks c) ≡ Some state
+  pub none : (standing_by disks c state).targets ≡ []
+  pub whole : damaged_log (current_places state) (standing_by disks c state).logs ≡ None
+  pub same : pool_at disks c state ≡ f
+
+pub idle_pool : (disks : Disks) (c : Image) (f : Found) → found disks c ≡ Some f → IsIdleIn disks c → HasSoundLogs disks c → IsIdlePool disks c f
+idle_pool disks c f found_before idle logs =
+    let by = stood_by disks c logs.before logs.stands in
+    let none = idle (standing_by disks c by.0) (idle_stands disks c by.0 by.1) in
+    record {
+      state = by.0;
+      newest_is = by.1;
+      none = none;
+      whole = subst (λ (x : Standing). damaged_log (current_places x.state) x.logs ≡ None) by.2 logs.log.whole;
+      same = some_same (pool_at disks c by.0) f (sym (idle_found disks c by.0 by.1 none) ∙ found_before);
+    }
+
+-- So it is of a pool that was found on the disks, with nothing pending.
+pub settled_holds : (disks : Disks) (c i : Image) (f : Found) → found disks c ≡ Some f → IsIdleIn disks c → IsSoundPool f → HasSoundLogs disks c → HaveGoodTables f
+    → IsButTables f c i → AreAlone f c → AreAlone f i → HoldOpened f 0 i
+settled_holds disks c i f found_before idle sound logs tables but alone alone_now =
+    let is = idle_pool disks c f found_before idle logs in
+    subst (λ (h : Found). IsSoundPool h → HaveGoodTables h → IsButTables h c i → AreAlone h c → AreAlone h i → HoldOpened h 0 i) is.same
+    (λ sound tables but alone alone_now. tables_hold disks c i is.state is.newest_is is.none is.whole sound tables but alone alone_now)
+    sound tables but alone alone_now

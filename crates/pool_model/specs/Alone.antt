@@ -1,0 +1,44 @@
+-- What the disks of a pool in service say, outside its slices, of its drives and of other pools, so that any one drive may be absent at its end.
+use Rattle.std.specs.Prelude.{◌≡◌, ◌≢◌, ◌⊎◌, ℕ, ◌<◌, ◌≤◌, true, false, Some}
+use Rattle.std.specs.Option.{option_map_or}
+use Rattle.rack.specs.Seen.{Image, Seen}
+use Rattle.slice_rack.specs.Slices.{Slices}
+use Rattle.gpt_table.specs.Changes.{the_table}
+use Rattle.gpt_table.specs.Disk.{Contents}
+use Rattle.pool_state.specs.declared.contents.State.{State}
+use Rattle.array_image.specs.Places.{drive_id}
+use Rattle.pool_image.specs.Disks.{Identity, disks_of, id_by, identities_of}
+use Rattle.pool_image.specs.Drives.{Found}
+use Rattle.pool_image.specs.Meaning.{is_table}
+use Rattle.pool_model.specs.Absent.{IsApart}
+use Rattle.pool_model.specs.Left.{IsPickOff}
+
+-- contents of a disk of so many sectors have the table of a place's drive, with its slices
+abbrev pub IsTabled : Found → (place sectors : ℕ) → Contents → Type 0
+IsTabled f place sectors disk = option_map_or (is_table f place sectors) (the_table sectors disk) false ≡ true
+
+-- A disk doesn't have an id that a pool gives to a drive later, before its serial is `bound`. (Serials are written in four bytes, so ids come again.)
+abbrev pub IsUngiven : State → (bound : ℕ) → Identity → Type 0
+IsUngiven s bound z = (serial : ℕ) → s.serial ≤ serial → serial < bound → id_by z.table z.copied ≢ Some (drive_id s.pool.0 serial)
+
+-- a disk that is apart from a pool, and stays so when the pool takes drives in
+pub record IsStranger (f : Found) (bound : ℕ) (z : Identity) : Type 0 where
+  pub apart : IsApart f z
+  pub ungiven : IsUngiven f.state bound z
+
+-- Contents of the disks of a pool: each of its drives has its table, and all other disks are strangers to it.
+pub record SaysAlone (f : Found) (bound : ℕ) (i : Image) : Type 0 where
+  pub tables : (p d : ℕ) → f.seats p ≡ Some d → IsTabled f p (f.disks.sectors d) (i d)
+  pub others : (d : ℕ) → ((p : ℕ) → f.seats p ≡ Some d → ⊥) → d < f.disks.count → IsStranger f bound (identities_of f.disks i d)
+
+-- so it is whatever the disks may be left with outside the slices
+abbrev pub HoldAlone : Found → (bound : ℕ) → Slices → Seen → Type 0
+HoldAlone f bound t x = (i : Image) → IsPickOff t x i → SaysAlone f bound i
+
+-- Of a disk that a place of f got, where f is h since: it has the table of the place's drive, and other disks that came are strangers, as the one is that
+-- the place had.
+pub record TakesAlone (f h : Found) (bound : ℕ) (u : Slices) (place disk : ℕ) (z : Seen) : Type 0 where
+  pub own : (i : Image) → IsPickOff u z i → IsTabled h place (z.sectors disk) (i disk)
+  pub strangers :
+      (i : Image) → IsPickOff u z i → (d : ℕ) → d < z.disks → d ≢ disk → (f.disks.count ≤ d) ⊎ (f.seats place ≡ Some d)
+      → IsStranger h bound (identities_of (disks_of z) i d)

@@ -1,0 +1,56 @@
+-- What a stop inside an opening leaves on the disks of a pool.
+use Rattle.std.specs.Prelude.{◌≡◌, ◌⊎◌, ℕ, ◌+◌, ◌<◌, ◌≤◌, true, false, [], None, Some}
+use Rattle.rack.specs.Seen.{Image}
+use Rattle.gpt_table.specs.Changes.{the_table}
+use Rattle.array_image.specs.States.{is_current}
+use Rattle.pool_image.specs.Disks.{Disks}
+use Rattle.pool_image.specs.Drives.{Found, found}
+use Rattle.pool_image.specs.Meaning.{array_sectors, arrays_held, has_table}
+use Rattle.pool_image.specs.Replay.{Standing, standing}
+use Rattle.pool_rest.specs.Moments.{TakesLowerIn}
+use Rattle.pool_rest.specs.SoundLogs.{HasSoundLogs}
+use Rattle.raid_rack.specs.Book.{IsAfter}
+use Rattle.pool_model.specs.Pools.{IsSoundPool}
+use Rattle.pool_model.specs.Stopped.{LieApart, StoodInLog}
+
+-- ---- sectors of tables
+
+-- a sector of a partition table on the drive of one of a pool's places: before sector 34, or one of the last 33
+pub record IsOfTable (f : Found) (d u : ℕ) : Type 0 where
+  pub place : ℕ
+  pub seat : f.seats place ≡ Some d
+  pub at_end : (u < 34) ⊎ (f.disks.sectors d ≤ u + 33)
+
+-- Contents i of a pool's disks are as c but for sectors of partition tables on its drives, and each disk has the table that it had.
+pub record IsButTables (f : Found) (c i : Image) : Type 0 where
+  pub tables : (d : ℕ) → d < f.disks.count → the_table (f.disks.sectors d) (i d) ≡ the_table (f.disks.sectors d) (c d)
+  pub others : (d u : ℕ) → d < f.disks.count → u < f.disks.sectors d → (IsOfTable f d u → ⊥) → i d u ≡ c d u
+
+-- each drive of a pool has a table with its slices
+abbrev pub HaveGoodTables : Found → Type 0
+HaveGoodTables f = (p d : ℕ) → f.seats p ≡ Some d → has_table f p d ≡ true
+
+-- ---- contents that an opening leaves
+
+-- nothing is pending in contents of disks
+abbrev pub IsIdleIn : Disks → Image → Type 0
+IsIdleIn disks i = (before : Standing) → standing disks i ≡ Some before → before.targets ≡ []
+
+-- Nothing is pending in contents of a pool, or a record that an opening may replay, wherever that is stopped: its targets land where the pool's slices
+-- are by the drives' tables, one of the drives has the state that stands and a log slice, and those that are taken in have gates of lower numbers.
+abbrev pub MayReplay : Disks → Image → Found → Type 0
+MayReplay disks i g = IsIdleIn disks i ⊎ (LieApart g × StoodInLog g × TakesLowerIn disks i)
+
+-- Contents of the disks of a pool f, as a stop inside an opening leaves them, hold it still: they have a sound pool, whose logs are sound, by f's state or
+-- one to which just marks of places have come that have no disk. Each place that is current by it has the disk that it had, and the arrays hold what they
+-- held, from a sector of theirs on: from the first one up to when the volume's texts are brought up to date, from the first extent's on meanwhile.
+pub record HoldOpened (f : Found) (from : ℕ) (i : Image) : Type 0 where
+  pub now : Found
+  pub found_is : found f.disks i ≡ Some now
+  pub sound : IsSoundPool now
+  pub logs : HasSoundLogs f.disks i
+  pub after : IsAfter f.state now.state
+  pub marks : (p : ℕ) → is_current f.state p ≡ true → is_current now.state p ≡ false → f.seats p ≡ None
+  pub seats : (p : ℕ) → is_current now.state p ≡ true → now.seats p ≡ f.seats p
+  pub values : (n x : ℕ) → n < f.state.made → from ≤ x → x < array_sectors f n → arrays_held now n x ≡ arrays_held f n x
+  pub stops : MayReplay f.disks i now

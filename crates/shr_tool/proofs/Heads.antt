@@ -1,0 +1,153 @@
+-- Lines keep what the arrays hold before the volume's first extents, and so the pool's group.
+use Rattle.std.proofs.Common.{◌≡◌, ℕ, ◌+◌, ◌<◌, ◌≤◌, false, true, List, length, refl, sym, ◌∙◌, subst, inl, inr, arith}
+use Rattle.std.proofs.lemmas.Bool.{both_ways, cases_Bool, cases_lt}
+use Rattle.rack.specs.Joins.{keeps_same, keeps_then}
+use Rattle.rack.specs.Seen.{IsLive, Seen}
+use Rattle.pool_state.specs.declared.contents.State.{State}
+use Rattle.array_model.specs.View.{sectors_of}
+use Rattle.lvm_group.specs.Runs.{data_start}
+use Rattle.raid_rack.specs.Raid.{IsTold, Raid, live_of}
+use Rattle.raid_rack.proofs.Truths.{truths_then}
+use Rattle.pool_model.specs.Grouped.{HoldGroup}
+use Rattle.shr_tool.proofs.GroupKept.{group_kept}
+use Rattle.pool.specs.declared.replacing.GrowFault.TheVariants.{Attach, Memory, NoSuchDrive, Twice}
+use Rattle.pool.specs.Calls.{Passes}
+use Rattle.pool.specs.Moment.{IsNamed, moment_of}
+use Rattle.pool.specs.Replaced.{ChangesDrive}
+use Rattle.pool.specs.View.{View, arrays_shown, book, slices_shown}
+use Rattle.shr_tool.specs.Events.{Event, takes_disk}
+use Rattle.shr_tool.specs.Events.Event.{answered, spent, lost, last, replaced, declined, stepped, stuck, shown}
+use Rattle.shr_tool.specs.Heads.{KeepsHeads}
+use Rattle.shr_tool.specs.Timeline.{Performs}
+use Rattle.shr_tool.proofs.TakenIn.{ok_err}
+
+pub heads_same : (v : Raid) (a : Seen) → KeepsHeads v v a a
+heads_same v a = record {
+  made = refl;
+  joined = refl;
+  pool = refl;
+  extent = refl;
+  sectors = λ n. refl;
+  live = λ n s low alive. alive;
+  told = λ n s low alive told. told;
+  keeps = λ n s low within first alive told. keeps_same _;
+  truths = λ n low held. held;
+}
+
+pub heads_then : (u v w : Raid) (a b c : Seen) → KeepsHeads u v a b → KeepsHeads v w b c → KeepsHeads u w a c
+heads_then u v w a b c one two = record {
+  made = two.made ∙ one.made;
+  joined = two.joined ∙ one.joined;
+  pool = two.pool ∙ one.pool;
+  extent = two.extent ∙ one.extent;
+  sectors = λ n. two.sectors n ∙ one.sectors n;
+  live = λ n s low alive. one.live n s low (two.live n s (later n low) alive);
+  told = λ n s low alive told. two.told n s (later n low) alive (one.told n s low (two.live n s (later n low) alive) told);
+  keeps = λ n s low within first alive told.
+      let mid = two.live n s (later n low) alive in
+      keeps_then _ _ _ (one.keeps n s low within first mid told)
+      (two.keeps n s (later n low) (subst (λ k. s < k) (sym (one.sectors n)) within) first alive (one.told n s low mid told));
+  truths = truths_then u v w a b c one.made one.truths two.truths;
+}
+  where
+    later : (n : ℕ) → n < u.state.made → n < v.state.made
+    later n low = subst (λ k. n < k) (sym one.made) low
+
+-- calls that take no disk
+pub heads_passes : (x y : View) → Passes x y → KeepsHeads (book x) (book y) (slices_shown x) (slices_shown y)
+heads_passes x y passes = record {
+  made = passes.marks.same.made;
+  joined = passes.marks.same.joined;
+  pool = passes.marks.same.pool;
+  extent = passes.marks.same.extent;
+  sectors = λ n. passes.arrays.stays.sectors n;
+  live = λ n s low alive. passes.arrays.stays.spent n s alive;
+  told = λ n s low alive told. passes.arrays.stays.told n told;
+  keeps = λ n s low within first alive told.
+      let live : IsLive (arrays_shown x) (arrays_shown y) n s = record {
+        disk = subst (λ k. n < k) (sym passes.marks.same.made) low;
+        sector = subst (λ k. s < k) (sym (passes.arrays.stays.sectors n)) within;
+        is_told = told;
+        unspent = alive;
+      } in
+      passes.arrays.others n s live (λ u shown. not_shown s _ _ first shown.3);
+  truths = passes.truths;
+}
+  where
+    not_shown : (s extent rest : ℕ) → s < data_start → s ≡ data_start + extent + rest → ⊥
+    not_shown s extent rest first is = absurd (omega (arith, first, is))
+
+-- ---- a line that names a disk
+
+-- states of one pool, with the same arrays
+record IsSamePool (s t : State) : Type 0 where
+  made : t.made ≡ s.made
+  joined : t.joined ≡ s.joined
+  pool : t.pool ≡ s.pool
+  extent : t.extent ≡ s.extent
+
+module _ (x y : View) (place : ℕ) (name text : List ℕ) (performs : Performs x y (replaced place name) text) where
+  listed : place < length (book x).state.drives.items
+  listed = elim (cases_lt place (length (book x).state.drives.items)) [
+    | inl low ↦ low
+    | inr past ↦ absurd (ok_err NoSuchDrive (performs.cause.0.missing.1 past))
+  ]
+
+  named : (d : ℕ) × IsNamed (moment_of y) name d
+  named =
+      performs.cause.0.named
+      (record { listed = listed; attached = λ same. ok_err Attach same; had = λ same. ok_err Memory same; other = λ same. ok_err Twice same })
+
+  same_replaced : IsSamePool (book x).state (book y).state
+  same_replaced =
+      let same = (performs.cause.1 named.0 named.1).marks.same in
+      record { made = same.made; joined = same.joined; pool = same.pool; extent = same.extent }
+
+-- what such a line changes
+heads_changes : (x y : View) (place : ℕ) (name : List ℕ) → IsSamePool (book x).state (book y).state → ChangesDrive x y place name
+    → x.shelf.told → ((d : ℕ) → d < x.bay.disks → x.bay.told d) → KeepsHeads (book x) (book y) (slices_shown x) (slices_shown y)
+heads_changes x y place name same changes names all =
+    let held = changes.held names all in
+    record {
+      made = same.made;
+      joined = same.joined;
+      pool = same.pool;
+      extent = same.extent;
+      sectors = held.sectors;
+      live = held.live;
+      told = held.told;
+      keeps = λ n s low within first alive told. held.keeps n s low within alive told;
+      truths = changes.truths names all;
+    }
+
+pub heads_performed : (x y : View) (event : Event) (text : List ℕ) → Performs x y event text
+    → x.shelf.told → ((d : ℕ) → d < x.bay.disks → x.bay.told d) → KeepsHeads (book x) (book y) (slices_shown x) (slices_shown y)
+heads_performed x y event text performs names all = elim (cases_Bool (takes_disk event)) [
+  | inr none ↦ heads_passes x y (performs.passes none)
+  | inl takes ↦ taking event takes performs
+]
+  where
+    taking : (e : Event) → takes_disk e ≡ true → Performs x y e text → KeepsHeads (book x) (book y) (slices_shown x) (slices_shown y)
+    taking (answered line) takes does = absurd (both_ways false refl takes)
+    taking (spent line sector) takes does = absurd (both_ways false refl takes)
+    taking (lost place) takes does = absurd (both_ways false refl takes)
+    taking (last place) takes does = absurd (both_ways false refl takes)
+    taking (replaced place name) takes does = heads_changes x y place name (same_replaced x y place name text does) (does.changes takes).0 names all
+    taking (declined place name fault) takes does =
+        let same = does.cause.1.marks.same in
+        heads_changes x y place name (record { made = same.made; joined = same.joined; pool = same.pool; extent = same.extent }) (does.changes takes) names all
+    taking (stepped count left) takes does = absurd (both_ways false refl takes)
+    taking (stuck count array) takes does = absurd (both_ways false refl takes)
+    taking (shown text') takes does = absurd (both_ways false refl takes)
+
+-- ---- the group
+
+-- it stays where the arrays were told and their sectors can be had
+pub heads_group : (v w : Raid) (a b : Seen) → KeepsHeads v w a b → ((n : ℕ) → n < v.state.joined → n < v.state.made)
+    → ((n : ℕ) → n < v.state.joined → IsTold v a n) → ((n s : ℕ) → n < v.state.joined → s < sectors_of (w.arrays n) → live_of w n s)
+    → HoldGroup v a → HoldGroup w b
+heads_group v w a b heads made told alive =
+    group_kept v w a b heads.pool heads.extent heads.joined heads.sectors
+    (λ n s u low inside first left.
+    let less : n < v.state.joined = (let joined = heads.joined in omega (arith, low, joined)) in
+    (heads.keeps n s (made n less) (subst (λ k. s < k) (heads.sectors n) inside) first (alive n s less inside) (told n less)).within u left)
