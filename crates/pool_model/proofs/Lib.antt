@@ -45,7 +45,9 @@ mod AbsentExamples
 pub mod Declined
 pub mod Vacant
 pub mod InService
+pub mod Shown
 pub mod Amid
+pub mod Laying
 pub mod Tables
 pub mod AbsentCopies
 pub mod Marking
@@ -53,6 +55,7 @@ pub mod Lost
 pub mod Serials
 pub mod NewMembers
 pub mod Unsliced
+pub mod JoiningSaid
 pub mod Alone
 pub mod ServiceWhole
 pub mod TableRoom
