@@ -134,7 +134,7 @@ module _ (f : Found) (t : Slices) (base s : State) (i : Image) (stop : IsStopped
       let has : look (pending (deciding held) held) z.disk z.sector ≡ Some z.bytes =
       ap (λ (zs : List Target). look zs z.disk z.sector) (sym (targets f t base s i stop)) ∙ payload_is xs z.disk z.sector z.bytes apart payload in
       let within : z.sector < sectors_of t z.disk = stop.says.inside z.disk z.sector z.bytes has in
-      let drive = drive_there f t base s i stop z.disk z.sector within in
+      let drive = drive_there f t base s i stop z.disk z.sector (stop.after.current p now) within in
       let d = drive.0 in
       let on : disk_of t z.disk ≡ d = ap (λ o. unwrap_or o 0) (on_place f t base s i stop p d drive.1 (stop.after.current p now)) in
       ap (option_and_then (λ d. option_and_then (λ (x : Extent). if nat_lt z.sector x.sectors then Some (record { disk = d; sector = x.first + z.sector; bytes = z.bytes }) else None)
@@ -165,7 +165,7 @@ module _ (f : Found) (t : Slices) (base s : State) (i : Image) (stop : IsStopped
         ∙ sym (ap (λ (b : Bool). if b then i (disk_of t k) (slice_first t k + j) else []) (le-ltb j (sectors_of t k) past))
         ∙ sym (ap (λ (b : Bool). if b then unwrap_or (look (pending (deciding held) held) k j) (held k j) else held k j) (le-ltb j (sectors_of t k) past))
     | inl low ↦
-        let drive = drive_there f t base s i stop k j low in
+        let drive = drive_there f t base s i stop k j (stop.after.current (place_of k) now) low in
         let d = drive.0 in
         let seat : slice_seat t (place_of k) ≡ Some d = on_place f t base s i stop (place_of k) d drive.1 (stop.after.current (place_of k) now) in
         let on : disk_of t k ≡ d = ap (λ o. unwrap_or o 0) seat in

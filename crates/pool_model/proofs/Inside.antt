@@ -342,7 +342,7 @@ module _ (f : Found) (t : Slices) (base s : State) (i : Image) (stop : IsStopped
       logs = λ p d now seat. stop.slices.logs p d (stop.after.current p now) seat;
       members = λ n p d low now seat member. stop.slices.members n p d low (stop.after.current p now) seat member;
       others = stop.slices.others;
-      unseated = stop.slices.unseated;
+      unseated = λ k now free. stop.slices.unseated k (stop.after.current (place_of k) now) free;
     };
     inside = stop.inside;
     newest_is = newest_now;

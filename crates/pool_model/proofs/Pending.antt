@@ -105,7 +105,7 @@ module _ (f : Found) (t : Slices) (base s : State) (i : Image) (stop : IsStopped
         let current = brought.copy.2 in
         let copy = brought.copy.3 in
         let was = stop.after.current p current in
-        let drive = decoded_seat f t base s i stop p (record { state = u f t base s i stop; own = copy.own }) copy.copy in
+        let drive = decoded_seat f t base s i stop p (record { state = u f t base s i stop; own = copy.own }) was copy.copy in
         record {
           place = p;
           disk = drive.0;

@@ -67,24 +67,24 @@ module _ (f : Found) (t : Slices) (base s : State) (i : Image) (stop : IsStopped
   pub later_base : IsAfter f.state s
   later_base = after_then f.state base s stop.begun stop.after
 
-  -- a place that has a slice has a drive
-  pub drive_there : (k j : ℕ) → j < sectors_of t k → (d : ℕ) × (f.seats (place_of k) ≡ Some d)
-  drive_there k j within = by (f.seats (place_of k)) refl
+  -- a current place that has a slice has a drive
+  pub drive_there : (k j : ℕ) → is_current base (place_of k) ≡ true → j < sectors_of t k → (d : ℕ) × (f.seats (place_of k) ≡ Some d)
+  drive_there k j now within = by (f.seats (place_of k)) refl
     where
       by : (o : Option ℕ) → f.seats (place_of k) ≡ o → (d : ℕ) × (f.seats (place_of k) ≡ Some d)
       by (Some d) seat = (d, seat)
-      by None free = (let nothing = stop.slices.unseated k free in absurd (omega (arith, nothing, within)))
+      by None free = (let nothing = stop.slices.unseated k now free in absurd (omega (arith, nothing, within)))
 
   -- where it has no log slice nothing is there
   reads_none : (k j : ℕ) → sectors_of t (log_slice k) ≤ j → c (log_slice k) j ≡ []
   reads_none k j past = ap (λ (b : Bool). if b then i (disk_of t (log_slice k)) (slice_first t (log_slice k) + j) else []) (le-ltb j (sectors_of t (log_slice k)) past)
 
-  -- a place where a copy is read has a drive
-  pub decoded_seat : (k : ℕ) (copy : Copied) → decoded (c (log_slice k) 0) ≡ Ok copy → (q : ℕ) × (f.seats k ≡ Some q)
-  decoded_seat k copy is = elim (cases_lt 0 (sectors_of t (log_slice k))) [
+  -- a current place where a copy is read has a drive
+  pub decoded_seat : (k : ℕ) (copy : Copied) → is_current base k ≡ true → decoded (c (log_slice k) 0) ≡ Ok copy → (q : ℕ) × (f.seats k ≡ Some q)
+  decoded_seat k copy now is = elim (cases_lt 0 (sectors_of t (log_slice k))) [
     | inl some ↦
-        let one = drive_there (log_slice k) 0 some in
         let at : place_of (log_slice k) ≡ k = omega arith in
+        let one = drive_there (log_slice k) 0 (ap (is_current base) at ∙ now) some in
         (one.0, ap f.seats (sym at) ∙ one.1)
     | inr none ↦ absurd (nothing_decodes copy (ap decoded (sym (reads_none k 0 none)) ∙ is))
   ]
@@ -207,7 +207,7 @@ module _ (f : Found) (t : Slices) (base s : State) (i : Image) (stop : IsStopped
         let late = stands_late in
         absurd (omega (arith, less, same, late))
     | inl now ↦
-        let drive = decoded_seat k copy block in
+        let drive = decoded_seat k copy now block in
         let one = own k drive.0 drive.1 now in
         let same : one.copy ≡ copy = some_same one.copy copy (sym (ap result_ok one.is) ∙ ap result_ok block) in (
           drive.0,
@@ -311,7 +311,7 @@ module _ (f : Found) (t : Slices) (base s : State) (i : Image) (stop : IsStopped
       by : (o : Option ℕ) → f.seats p ≡ o → logs_of f.disks seats i (log_slice p) k ≡ c (log_slice p) k
       by None free =
           of_test ((slice_of (log_slice p) == 0) && nat_lt k log_sectors) (ap (λ q. read (seats q)) of_place ∙ ap read (seats_by u stood_after p now ∙ free))
-          ∙ sym (reads_none p k (let nothing = stop.slices.unseated (log_slice p) (ap f.seats of_place ∙ free) in omega (arith, nothing)))
+          ∙ sym (reads_none p k (let nothing = stop.slices.unseated (log_slice p) (ap (is_current base) of_place ∙ was) (ap f.seats of_place ∙ free) in omega (arith, nothing)))
       by (Some d) has =
           let of_log : slice_of (log_slice p) ≡ 0 = omega arith in
           elim (cases_lt k log_sectors) [

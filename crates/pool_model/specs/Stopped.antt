@@ -40,7 +40,7 @@ pub record AreSlicesNow (f : Found) (t : Slices) (s : State) : Type 0 where
       (n p d : ℕ) → n < f.state.made → is_current s p ≡ true → f.seats p ≡ Some d → is_member f n p ≡ true
       → extent_of f (suc n) ≡ Some (extent_in t (member_slice p n))
   pub others : (n p : ℕ) → n < 16 → (nat_lt n f.state.made && is_member f n p) ≡ false → sectors_of t (member_slice p n) ≡ 0
-  pub unseated : (k : ℕ) → f.seats (place_of k) ≡ None → sectors_of t k ≡ 0
+  pub unseated : (k : ℕ) → is_current s (place_of k) ≡ true → f.seats (place_of k) ≡ None → sectors_of t k ≡ 0
 
 -- contents of slices say an array soundly: its truth has the size and names the places that the pool's has
 pub record SaysArray (f : Found) (s : State) (c : Image) (n : ℕ) : Type 0 where
