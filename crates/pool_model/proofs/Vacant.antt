@@ -115,7 +115,7 @@ module _ (t u : Slices) (place : ℕ) (vacated : Seats t u place None) where
             slices.members n p d low seat member
             ∙ ap Some (sym (extent_other (member_slice p n) (λ same. apart p now (let e : p ≡ place = omega (arith, same, low, few) in e))));
         others = λ n p small none. none_still (member_slice p n) (slices.others n p small none);
-        unseated = λ k none. none_still k (slices.unseated k none);
+        unseated = λ k now none. none_still k (slices.unseated k none);
       }
 
 -- what is known of it then
