@@ -15,16 +15,19 @@ use Rattle.slice_rack.proofs.Below.{stays_sliced}
 use Rattle.raid_rack.specs.declared.arrays.Arrays.{Arrays}
 use Rattle.raid_rack.specs.Book.{after_same}
 use Rattle.raid_rack.specs.Enlisting.{HasLost, IsNotWhole, IsRefused, IsWrittenBy}
+use Rattle.raid_rack.specs.Laws.{stops_inside}
 use Rattle.raid_rack.specs.Losing.{only_same}
 use Rattle.raid_rack.specs.Moves.{IsSet, Mends, Moves, RaisesBy}
 use Rattle.raid_rack.specs.NewDrive.{IsOfDrive}
 use Rattle.raid_rack.specs.Raid.{Raid, gone_in, is_left}
 use Rattle.raid_rack.specs.RaidRack.{IsFit, IsRunning, raid_by}
+use Rattle.raid_rack.specs.Runs.{KeepsMoments}
 use Rattle.raid_rack.proofs.Changed.{part_if, seated_still}
-use Rattle.raid_rack.proofs.Moving.{moves_then}
+use Rattle.raid_rack.proofs.Moving.{moves_bring, moves_then}
 use Rattle.raid_rack.proofs.Over.{someone_left}
 use Rattle.raid_rack.proofs.Reading.{part_unread}
 use Rattle.raid_rack.proofs.Rows.{clear_same, rows_read}
+use Rattle.raid_rack.proofs.Serving.{moments_call}
 use Rattle.raid_rack.specs.Truths.{KeepsTruths}
 use Rattle.raid_rack.proofs.Truths.{truths_reads, truths_then}
 
@@ -123,36 +126,48 @@ moves_quiet v a b set reads =
       rows = λ n vals spent joined made goes covers amid rows. rows_read v v a b n set.lasting reads (clear_same (v.arrays n) (v.arrays n) refl) rows;
     }
 
+-- what stops leave meanwhile, of calls on the slices by one table
+moments_moves : (t : Slices) (r q : Arrays) (a b : Seen) → IsFit r (slices_of t a) → IsFit q (slices_of t b) → Moves (raid_by r) (raid_by q) (slices_of t a) (slices_of t b)
+    → KeepsMoments (raid_by r) (raid_by q) (slices_of t a) (slices_of t b)
+moments_moves t r q a b fit after moves =
+    moments_call r q (slices_of t a) (slices_of t b) (λ n vals. vals) fit after (stops_inside t b) (moves_bring (raid_by r) (raid_by q) (slices_of t a) (slices_of t b) moves)
+
 -- A disk without a place was written, and refused a call.
-pub refused_lay : (t : Slices) (disk : ℕ) (v : Raid) (a b : Seen) → IsOrderly t → ((p : ℕ) → seat_of t p ≢ Some disk) → IsSet v (slices_of t a)
-    → WritesOnly a b (IsOfDrive disk (a.sectors disk)) → Rose (a.faults disk) (b.faults disk) → IsRefused t disk v a b
-refused_lay t disk v a b orderly free set only gone =
+pub refused_lay : (t : Slices) (disk : ℕ) (r : Arrays) (a b : Seen) → IsOrderly t → ((p : ℕ) → seat_of t p ≢ Some disk) → IsFit r (slices_of t a)
+    → WritesOnly a b (IsOfDrive disk (a.sectors disk)) → Rose (a.faults disk) (b.faults disk) → IsRefused t disk (raid_by r) a b
+refused_lay t disk r a b orderly free fit only gone =
+    let v = raid_by r in
+    let set = fit.running.set in
     let reads = reads_apart t a b disk (IsOfDrive disk (a.sectors disk)) orderly set.fit.1 only (λ d s u at. at.0) free in
+    let moves = moves_quiet v (slices_of t a) (slices_of t b) set reads in
     record {
       only = only;
       gone = gone;
-      moves = moves_quiet v (slices_of t a) (slices_of t b) set reads;
+      moves = moves;
+      moments = moments_moves t r r a b fit (fit_still r (slices_of t a) (slices_of t b) reads.stays fit) moves;
       truths = truths_reads v (slices_of t a) (slices_of t b) set reads;
     }
 
 -- A disk without a place was written, and then another drive was found gone: but for its mark all is as before.
-pub not_whole : (t : Slices) (disk : ℕ) (v w : Raid) (a m b : Seen) → IsOrderly t → ((p : ℕ) → seat_of t p ≢ Some disk) → IsSet v (slices_of t a)
-    → WritesOnly a m (IsOfDrive disk (a.sectors disk)) → (m.fit → IsInside t m → WritesOnly m b (IsSliced t)) → Mends v w (slices_of t m) (slices_of t b)
-    → HasLost v w (slices_of t m) (slices_of t b) → RaisesBy 18 v w → KeepsTruths v w (slices_of t m) (slices_of t b) → IsNotWhole t disk v w a b
-not_whole t disk v w a m b orderly free set one two mends lost raises truths =
+pub not_whole : (t : Slices) (disk : ℕ) (r q : Arrays) (a m b : Seen) → IsOrderly t → ((p : ℕ) → seat_of t p ≢ Some disk) → IsFit r (slices_of t a)
+    → WritesOnly a m (IsOfDrive disk (a.sectors disk)) → (m.fit → IsInside t m → WritesOnly m b (IsSliced t)) → IsFit q (slices_of t b)
+    → Mends (raid_by r) (raid_by q) (slices_of t m) (slices_of t b) → HasLost (raid_by r) (raid_by q) (slices_of t m) (slices_of t b) → RaisesBy 18 (raid_by r) (raid_by q)
+    → KeepsTruths (raid_by r) (raid_by q) (slices_of t m) (slices_of t b) → IsNotWhole t disk (raid_by r) (raid_by q) a b
+not_whole t disk r q a m b orderly free fit one two after mends lost raises truths =
+    let v = raid_by r in
+    let w = raid_by q in
+    let set = fit.running.set in
     let inside = set.fit.1 in
     let may : ℕ → ℕ → List ℕ → Type 0 = IsWrittenBy t disk (a.sectors disk) in
     let reads = reads_apart t a m disk (IsOfDrive disk (a.sectors disk)) orderly inside one (λ d s u at. at.0) free in
+    let moves = moves_then v v w (slices_of t a) (slices_of t m) (slices_of t b) (moves_quiet v (slices_of t a) (slices_of t m) set reads) mends.moves in
     record {
       only =
           only_then may (only_weaker (IsOfDrive disk (a.sectors disk)) may (λ d s u at. inl at) one)
           (only_weaker (IsSliced t) may (λ d s u at. inr at) (two one.stays.fit (inside_still one.stays inside)));
-      mends = record {
-        moves = moves_then v v w (slices_of t a) (slices_of t m) (slices_of t b) (moves_quiet v (slices_of t a) (slices_of t m) set reads) mends.moves;
-        heeded = mends.heeded;
-        marked = mends.marked;
-      };
+      mends = record { moves = moves; heeded = mends.heeded; marked = mends.marked };
       raises = raises;
+      moments = moments_moves t r q a b fit after moves;
       truths = truths_then v v w (slices_of t a) (slices_of t m) (slices_of t b) refl (truths_reads v (slices_of t a) (slices_of t m) set reads) truths;
       lost =
           let fault = lost.3 in (

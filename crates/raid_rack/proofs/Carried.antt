@@ -1,16 +1,14 @@
 -- The commit that marks losses, seen from one array that stands.
-use Rattle.std.proofs.Common.{◌≡◌, ℕ, suc, ◌-◌, ◌^◌, ◌<◌, ◌≤◌, Bool, true, false, ◌&&◌, ◌||◌, not, if◌then◌else◌, List, [], ◌∷◌, length, slice_get, Option, Some, None, option_map, unwrap_or, refl, sym, ap, subst, ◌∙◌, inl, inr, arith}
+use Rattle.std.proofs.Common.{◌≡◌, ℕ, ◌-◌, ◌^◌, ◌<◌, Bool, true, false, ◌||◌, not, List, Some, refl, sym, ap, subst, ◌∙◌, arith}
 use Rattle.std.proofs.lemmas.Bool.{both_ways, and_from}
 use Rattle.rack.specs.Values.{Values}
 use Rattle.rack.specs.Seen.{Image, Seen}
 use Rattle.rack.specs.Joins.{leaves_weaker}
 use Rattle.rack.specs.Targets.{Target, put}
-use Rattle.array_image.specs.Places.{log_slice, member_slice, super_sector}
-use Rattle.array_image.specs.States.{is_current, state_in}
+use Rattle.array_image.specs.States.{is_current}
 use Rattle.md_super.specs.declared.superblock.Super.{Super}
 use Rattle.array_image.specs.Supers.{truth_in}
-use Rattle.array_image.specs.SoundArray.{first_unsynced}
-use Rattle.array_image.proofs.Frames.{Agree, state_same, supers_same, truth_by_supers}
+use Rattle.array_image.proofs.Frames.{supers_same, truth_by_supers}
 use Rattle.array_image.specs.Arrays.{replayed}
 use Rattle.array_image.specs.Held.{IsSettled, current_in}
 use Rattle.array_image.specs.Marks.{lowered}

@@ -22,9 +22,11 @@ use Rattle.array_image.specs.States.{is_current}
 use Rattle.array_model.specs.ArrayCalls.{Covers}
 use Rattle.array_model.specs.View.{View, IsArray, place_at, shape_of, spent_in}
 use Rattle.array_model.proofs.Keeping.{live_on}
+use Rattle.commit_log.specs.Kept.{LogKept}
 use Rattle.commit_log.specs.Saying.{SaysState}
 use Rattle.commit_log.proofs.Kept.{place_of_log}
 use Rattle.commit_log.proofs.Saying.{kept_holds}
+use Rattle.raid_rack.specs.Book.{after_same}
 use Rattle.raid_rack.specs.Enlisting.{IsEnlisted, IsNewLog, IsOpenDisk, JoinsEach, JoinsPart, KeepsTold, HoldsLaid, HoldsTable, SaysBy, SaysJoining, SaysLaying, SettlesWhole, enlisted, next_drive, with_drive}
 use Rattle.raid_rack.specs.Laws.{live_parts}
 use Rattle.raid_rack.specs.Frames.{Frame, HasFrame, KeepsFrame, frame_of}
@@ -35,12 +37,14 @@ use Rattle.raid_rack.specs.Moves.{IsAmid, IsHeeded, IsSet, Moves, PartOf}
 use Rattle.raid_rack.specs.NewDrive.{IsOfDrive, LaysDrive, SeatsDrive, first_laid, gate_at, sectors_laid}
 use Rattle.raid_rack.specs.Rows.{KeepsRows, LeavesFrom, LeavesRows, from_lower}
 use Rattle.raid_rack.specs.Raid.{IsTold, Raid, Stood, held_in, is_over, spent_of}
+use Rattle.raid_rack.specs.Since.{AreJoinSince, AreSince, KeepsJoinSince}
 use Rattle.raid_rack.proofs.Apart.{moves_quiet, reads_apart, seat_is}
 use Rattle.raid_rack.proofs.LayingDrive.{copy_agrees, in_disk, of_copy}
 use Rattle.raid_rack.proofs.Moving.{moves_then}
 use Rattle.raid_rack.proofs.Over.{number_room, or_from}
 use Rattle.raid_rack.proofs.Reseated.{reseated_amid, reseated_rows, reseated_settled}
 use Rattle.raid_rack.proofs.ReseatedLogs.{DiffersAt}
+use Rattle.raid_rack.proofs.Since.{kept_since}
 use Rattle.raid_rack.proofs.Untouched.{disk_new, disk_still, off_slices}
 use Rattle.raid_rack.proofs.Whole.{amid_stood, stood_keeps, stood_own, told_amid}
 use Rattle.std.proofs.lemmas.Bool.{cases_eq, ne_eqb}
@@ -340,33 +344,47 @@ module _ (arrays : List View) (place disk units : ℕ) (plan : Plan) (joining : 
         late_frame : KeepsFrame g n (w.arrays n) (slices_of u y) (slices_of u b)
         late_frame = joins_part.frame g early_frame.after
 
+        then_log : LogKept s.state s.number (λ p. false) (slices_of u y)
+        then_log = (amid_stood s (slices_of u y) n vals (spent_of w n) settles.heeded then_amid).log
+
+        -- the copies of states that stand
+        late_since : KeepsJoinSince v.state (enlisted place units plan v.state) (slices_of u y) (slices_of u b)
+        late_since =
+            subst (λ (q : State). KeepsJoinSince q (enlisted place units plan q) (slices_of u y) (slices_of u b)) settles.same
+            (joins_part.since (kept_holds s.state s.number (slices_of u y) then_log) (kept_since s.state s.number (slices_of u y) then_log))
+
         early_leaves : a.traced → Leaves a y laying
         early_leaves traced =
             let Said : Image → Type 0 =
             λ c. IsInside (sectors_of t) c → IsAmid v (slices_of t a) n vals (spent_of w n) → SaysBetween v.state s.state n vals (spent_of w n) (replayed (sectors_of t) c) in
             let Rows : Image → Type 0 = λ c. IsInside (sectors_of t) c → LeavesFrom (v.arrays n).resync n (replayed (sectors_of t) c) in
             let Logs : Image → Type 0 = λ c. IsInside (sectors_of t) c → LogsBetween v.state s.state (sectors_of t) c in
+            let Since : Image → Type 0 = λ c. IsInside (sectors_of t) c → AreSince v.state (sectors_of t) c in
             let Framed : Image → Type 0 = λ c. IsInside (sectors_of t) c → HasFrame g n (replayed (sectors_of t) c) in
-            leaves_weaker (λ c. HoldsLaid a disk c × (Framed (sliced t c) × (Logs (sliced t c) × (Said (sliced t c) × (clean → Rows (sliced t c)))))) laying
+            let log = (told.stood (before.still n low goes_then)).log in
+            let logs = part.logs (kept_holds v.state v.number (slices_of t a) log) stands in
+            leaves_weaker (λ c. HoldsLaid a disk c × (Since (sliced t c) × (Framed (sliced t c) × (Logs (sliced t c) × (Said (sliced t c) × (clean → Rows (sliced t c))))))) laying
             (λ c at.
             let epoch = (number_room v n (before.still n low goes_then)).1 in
             record {
               laid = at.0;
               says = between_same v.state n vals (spent_of w n) (replayed (sectors_of t) (sliced t c)) (omega (arith, epoch))
-                  (subst (λ (q : State). SaysBetween v.state q n vals (spent_of w n) (replayed (sectors_of t) (sliced t c))) settles.same (at.1.1.1.0 (sliced_inside t c) stands));
-              rows = λ rows. at.1.1.1.1 rows (sliced_inside t c);
-              frame = at.1.0 (sliced_inside t c);
+                  (subst (λ (q : State). SaysBetween v.state q n vals (spent_of w n) (replayed (sectors_of t) (sliced t c))) settles.same (at.1.1.1.1.0 (sliced_inside t c) stands));
+              rows = λ rows. at.1.1.1.1.1 rows (sliced_inside t c);
+              since = at.1.0 (sliced_inside t c);
+              frame = at.1.1.0 (sliced_inside t c);
               logs = logs_same v.state (sectors_of t) (sliced t c) (omega (arith, epoch))
-                  (subst (λ (q : State). LogsBetween v.state q (sectors_of t) (sliced t c)) settles.same (at.1.1.0 (sliced_inside t c)));
+                  (subst (λ (q : State). LogsBetween v.state q (sectors_of t) (sliced t c)) settles.same (at.1.1.1.0 (sliced_inside t c)));
             })
-            (leaves_below t a y (λ c. Framed c × (Logs c × (Said c × (clean → Rows c)))) (HoldsLaid a disk)
+            (leaves_below t a y (λ c. Since c × (Framed c × (Logs c × (Said c × (clean → Rows c))))) (HoldsLaid a disk)
             (leaves_then (HoldsLaid a disk)
             (leaves_weaker (IsMix a m (IsOfDrive disk table.sectors)) (HoldsLaid a disk) laid_at (lays.only.stops traced))
             (leaves_weaker (IsMix m y (IsSliced t)) (HoldsLaid a disk) laid_still (two.stops (lays.only.stays.traced traced))))
+            (leaves_both Since (λ c. Framed c × (Logs c × (Said c × (clean → Rows c))))
+            ((logs.since v.state (after_same v.state) (kept_since v.state v.number (slices_of t a) log)).leaves traced)
             (leaves_both Framed (λ c. Logs c × (Said c × (clean → Rows c))) (early_frame.leaves traced)
-            (leaves_both Logs (λ c. Said c × (clean → Rows c))
-            ((part.logs (kept_holds v.state v.number (slices_of t a) (told.stood (before.still n low goes_then)).log) stands).leaves traced)
-            (leaves_where Said Rows clean (part.leaves traced) (λ rows. (early_rows rows).leaves traced)))))
+            (leaves_both Logs (λ c. Said c × (clean → Rows c)) (logs.leaves traced)
+            (leaves_where Said Rows clean (part.leaves traced) (λ rows. (early_rows rows).leaves traced))))))
 
         late_leaves : y.traced → Leaves y b joining_now
         late_leaves traced =
@@ -375,24 +393,26 @@ module _ (arrays : List View) (place disk units : ℕ) (plan : Plan) (joining : 
             let Rows : Image → Type 0 = λ c. IsInside (sectors_of u) c → LeavesFrom (s.arrays n).resync n (replayed (sectors_of u) c) in
             let Logs : Image → Type 0 = λ c. IsInside (sectors_of u) c → SaysState s.state (sectors_of u) c
             ⊎ LogsBetween (enlisted place units plan s.state) w.state (sectors_of u) c in
+            let Since : Image → Type 0 = λ c. IsInside (sectors_of u) c → AreJoinSince v.state (enlisted place units plan v.state) (sectors_of u) c in
             let Framed : Image → Type 0 = λ c. IsInside (sectors_of u) c → HasFrame g n (replayed (sectors_of u) c) in
-            leaves_weaker (λ c. IsMix y b (IsSliced u) c × (Framed (sliced u c) × (Logs (sliced u c) × (Said (sliced u c) × (clean → Rows (sliced u c)))))) joining_now
+            leaves_weaker (λ c. IsMix y b (IsSliced u) c × (Since (sliced u c) × (Framed (sliced u c) × (Logs (sliced u c) × (Said (sliced u c) × (clean → Rows (sliced u c))))))) joining_now
             (λ c at.
             record {
               holds = table_at c at.0;
               says = subst (λ (q : State). SaysBy q n vals (spent_of w n) (replayed (sectors_of u) (sliced u c))
-                  ⊎ SaysBetween (enlisted place units plan q) w.state n vals (spent_of w n) (replayed (sectors_of u) (sliced u c))) settles.same (at.1.1.1.0 (sliced_inside u c));
-              rows = λ rows. from_lower (v.arrays n).resync (s.arrays n).resync n (replayed (sectors_of u) (sliced u c)) (early_rows rows).later (at.1.1.1.1 rows (sliced_inside u c));
-              frame = at.1.0 (sliced_inside u c);
+                  ⊎ SaysBetween (enlisted place units plan q) w.state n vals (spent_of w n) (replayed (sectors_of u) (sliced u c))) settles.same (at.1.1.1.1.0 (sliced_inside u c));
+              rows = λ rows. from_lower (v.arrays n).resync (s.arrays n).resync n (replayed (sectors_of u) (sliced u c)) (early_rows rows).later (at.1.1.1.1.1 rows (sliced_inside u c));
+              since = at.1.0 (sliced_inside u c);
+              frame = at.1.1.0 (sliced_inside u c);
               logs = subst (λ (q : State). SaysState q (sectors_of u) (sliced u c) ⊎ LogsBetween (enlisted place units plan q) w.state (sectors_of u) (sliced u c))
-                  settles.same (at.1.1.0 (sliced_inside u c));
+                  settles.same (at.1.1.1.0 (sliced_inside u c));
             })
-            (leaves_below u y b (λ c. Framed c × (Logs c × (Said c × (clean → Rows c)))) (IsMix y b (IsSliced u)) (three.stops traced)
+            (leaves_below u y b (λ c. Since c × (Framed c × (Logs c × (Said c × (clean → Rows c))))) (IsMix y b (IsSliced u)) (three.stops traced)
+            (leaves_both Since (λ c. Framed c × (Logs c × (Said c × (clean → Rows c)))) (late_since.leaves traced)
             (leaves_both Framed (λ c. Logs c × (Said c × (clean → Rows c))) (late_frame.leaves traced)
             (leaves_both Logs (λ c. Said c × (clean → Rows c))
-            (joins_part.logs
-            (kept_holds s.state s.number (slices_of u y) (amid_stood s (slices_of u y) n vals (spent_of w n) settles.heeded then_amid).log) traced)
-            (leaves_where Said Rows clean (joins_part.leaves traced) (λ rows. (late_rows rows).leaves traced)))))
+            (joins_part.logs (kept_holds s.state s.number (slices_of u y) then_log) traced)
+            (leaves_where Said Rows clean (joins_part.leaves traced) (λ rows. (late_rows rows).leaves traced))))))
 
       pub keeps_told : KeepsTold t u place disk units plan table v w a b y.clock n
       keeps_told = record {
@@ -406,6 +426,7 @@ module _ (arrays : List View) (place disk units : ℕ) (plan : Plan) (joining : 
             (early_leaves goes traced).new k c since until ((late_leaves goes (early.traced traced)).past k c until stopped);
         after = λ traced goes. (late_leaves goes (early.traced traced)).new;
         framed = λ goes. (late_frame goes).after;
+        since = λ goes. (late_since goes).holds;
         rows = λ goes rows. (
           let one = (early_rows goes rows).later in let after = (late_rows goes rows).later in omega (arith, one, after),
           (late_rows goes rows).after,

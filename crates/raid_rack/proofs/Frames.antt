@@ -1,6 +1,5 @@
 -- Parts of a call keep the frames of arrays.
-use Rattle.std.proofs.Common.{◌≡◌, ℕ, ◌≤◌, Bool, ◌∷◌, [], Option, Some, None, List, map, option_map, unwrap_or, refl, sym, ap, ap₂, subst, ◌∙◌}
-use Rattle.std.proofs.lemmas.Option.{none-some}
+use Rattle.std.proofs.Common.{◌≡◌, ℕ, ◌≤◌, Bool, ◌∷◌, [], Option, Some, List, map, option_map, unwrap_or, refl, sym, ap, subst, ◌∙◌}
 use Rattle.std.specs.List.{range_with_len}
 use Rattle.rack.specs.Calls.{KeepsAll}
 use Rattle.rack.specs.Joins.{leaves_same, leaves_then, leaves_weaker}
@@ -9,16 +8,14 @@ use Rattle.rack.specs.Values.{Values}
 use Rattle.md_super.specs.declared.superblock.Super.{Super}
 use Rattle.pool_state.specs.declared.contents.State.{State}
 use Rattle.array_image.specs.Arrays.{Member, Shape, member_in, place_with, replayed, shape_by, shape_in}
-use Rattle.array_image.specs.Left.{IsInside, IsLeft, Picks}
+use Rattle.array_image.specs.Left.{IsInside, Picks}
 use Rattle.array_image.specs.SoundArray.{array_fields}
 use Rattle.array_image.specs.States.{state_in}
 use Rattle.array_image.specs.Supers.{truth_in}
 use Rattle.array_image.proofs.Frames.{Agree, supers_same, truth_by_supers}
-use Rattle.array_model.specs.ArrayCalls.{Turns}
-use Rattle.array_model.specs.Says.{IsEarlier, Says}
+use Rattle.array_model.specs.Says.{IsEarlier}
 use Rattle.array_model.specs.View.{HasGeometry, View, member_on, shape_of}
 use Rattle.array_model.proofs.Keeping.{pick_before}
-use Rattle.array_model.proofs.Moves.{Moves as CallMoves}
 use Rattle.raid_rack.specs.Frames.{Frame, HasFrame, KeepsFrame, frame_of}
 use Rattle.raid_rack.specs.Laws.{stood_left}
 use Rattle.raid_rack.specs.Raid.{Raid, Stood}

@@ -1,9 +1,9 @@
 -- The commit that makes a new drive one of the pool, seen from an array that stands: it gives its values at each moment, by the state before or
 -- by one that has the drive, and stands after it.
-use Rattle.std.proofs.Common.{◌≡◌, ◌⊎◌, ℕ, ◌+◌, ◌-◌, ◌^◌, ◌<◌, ◌≤◌, ◌==◌, ◌&&◌, ◌||◌, not, Bool, true, false, if◌then◌else◌, List, [], length, Some, None, unwrap_or, refl, sym, ap, subst, ◌∙◌, inl, inr, lt-ltb, arith}
+use Rattle.std.proofs.Common.{◌≡◌, ◌⊎◌, ℕ, ◌+◌, ◌-◌, ◌^◌, ◌<◌, ◌≤◌, ◌==◌, ◌&&◌, ◌||◌, not, Bool, true, false, if◌then◌else◌, List, [], length, None, unwrap_or, refl, sym, ap, subst, ◌∙◌, inl, inr, arith}
 use Rattle.std.specs.Option.{option_map_or}
 use Rattle.std.proofs.lemmas.Bool.{and_from, both_ways, cases_Bool, cases_eq, ne_eqb}
-use Rattle.rack.specs.Values.{Values}
+use Rattle.rack.specs.Values.{MayLeave, Values}
 use Rattle.rack.specs.Seen.{Image, Seen}
 use Rattle.rack.specs.Joins.{leaves_then, leaves_weaker}
 use Rattle.rack.specs.Targets.{Target, put}
@@ -33,18 +33,18 @@ use Rattle.array_model.proofs.Losses.{IsLosing}
 use Rattle.array_model.proofs.Noting.{laid_out, unspent_then}
 use Rattle.array_model.proofs.Spared.{IsLaidOut, lost_value}
 use Rattle.raid_rack.specs.Enlisting.{IsNewLog, JoinsPart, SaysBy, enlisted, next_drive}
-use Rattle.commit_log.specs.Saying.{KeepsDrives, SaysState}
+use Rattle.commit_log.specs.Saying.{HoldsCopies, KeepsDrives, SaysState}
 use Rattle.raid_rack.specs.Book.{after_same}
 use Rattle.raid_rack.specs.Frames.{HasFrame, frame_of}
 use Rattle.raid_rack.specs.Logs.{LogsBetween}
 use Rattle.raid_rack.specs.Losses.{AddsCopies, has_other}
 use Rattle.array_core.specs.Seats.{renewed}
-use Rattle.raid_rack.specs.Missing.{raised}
 use Rattle.raid_rack.specs.Marking.{Restates, SaysBetween}
 use Rattle.raid_rack.specs.Moves.{IsAmid, Mends}
 use Rattle.commit_log.proofs.FirstGate.{closed_gate}
 use Rattle.raid_rack.specs.Raid.{Raid, IsWritten, Stood, gone_in, is_over}
 use Rattle.raid_rack.specs.Rows.{KeepsRows, LeavesRows, rows_then}
+use Rattle.raid_rack.specs.Since.{HoldsJoinSince, HoldsSince, IsJoinSince, KeepsJoinSince, each_then}
 use Rattle.raid_rack.specs.Settling.{state_after}
 use Rattle.raid_rack.proofs.Added.{marks_bring, names_current}
 use Rattle.raid_rack.proofs.Brought.{copies_own}
@@ -55,11 +55,12 @@ use Rattle.raid_rack.proofs.Enlisted.{enlisted_marked, listed}
 use Rattle.raid_rack.proofs.Frames.{frame_then}
 use Rattle.raid_rack.proofs.Joining.{MayJoinPool, listed_heeded, listed_raid, listed_shape, lists_listed, was_current}
 use Rattle.raid_rack.proofs.KeptDrives.{enlisted_drives}
-use Rattle.raid_rack.proofs.Marking.{MarksCall, NotesLost, commit_moment, frame_moment, logs_made, marks_stood, says_first, shape_after}
+use Rattle.raid_rack.proofs.Marking.{MarksCall, NotesLost, brings_joining, commit_each, commit_moment, frame_moment, logs_made, marks_stood, says_first, shape_after}
 use Rattle.raid_rack.proofs.MarkedRows.{marks_rows}
 use Rattle.raid_rack.proofs.Noted.{live_later, noted_clear}
 use Rattle.raid_rack.proofs.Others.{some_other}
 use Rattle.raid_rack.proofs.Over.{member_left, number_room}
+use Rattle.raid_rack.proofs.ReseatedLogs.{no_copy}
 use Rattle.raid_rack.proofs.Renewed.{found_member, renewed_clear, renewed_resync, renewed_truth}
 use Rattle.raid_rack.proofs.Restated.{IsStaged, alone_on, restates_by}
 use Rattle.raid_rack.proofs.Staged.{none_gone, notes_lost, staged_array}
@@ -341,6 +342,30 @@ module _ (place units : ℕ) (plan : Plan) (joining : ℕ → Bool) (v : Raid) (
       })
       rows
 
+  -- ---- the copies of states
+
+  -- the new drive has none
+  joining_before : HoldsSince s x → HoldsJoinSince s t x
+  joining_before since p block few there may = record {
+    own = λ now. inl ((since p block few there may).own now);
+    joins = λ copy past now is. elim (cases_eq p place) [
+      | inl same ↦ absurd (no_copy block copy (new_log.state block (subst (λ q. MayLeave (x.held (log_slice q) 0) block) same may)) is)
+      | inr away ↦
+          absurd (both_ways (is_current s p) past (sym (current_then p ∙ ap (λ b. b || is_current s p) (ne_eqb p place away)) ∙ now))
+    ];
+    former = λ copy past was is. (since p block few there may).former copy past is;
+  }
+
+  -- and places are current by the state with it, and those after it, that get a copy
+  joining_then : HoldsCopies s x → HoldsSince s x → KeepsJoinSince (v.state) (enlisted place units plan v.state) x z
+  joining_then copies since =
+      let first : KeepsJoinSince s t x y =
+      commit_each (IsJoinSince s t) s t (gone_in v) l on gone x y marks_call (brings_joining s t t (after_same t)) kept.logs (joining_before since) in
+      let made = logs_made s t (gone_in v) l on gone x y marks_call kept copies in
+      let later = (mends.moves.parts n vals spent joined low goes covers).logs made.1 amid_after in
+      subst (λ (q : State). KeepsJoinSince s q x z) (sym (enlisted_marked place units plan v.state))
+      (each_then (IsJoinSince s t) x y z commit.call.stays.sectors commit.call.stays.traced first (later.joining s t (after_same t) first.holds))
+
   pub joins_part : JoinsPart place units plan v w x z n vals spent
   joins_part =
       let later = mends.moves.parts n vals spent joined low goes covers in
@@ -388,6 +413,7 @@ module _ (place units : ℕ) (plan : Plan) (joining : ℕ → Bool) (v : Raid) (
             (subst (λ (sectors : ℕ → ℕ). LogsBetween t w.state sectors c) (λ k d. commit.call.stays.sectors d k)
             (says (λ d i out. inside d i (subst (λ k. k ≤ i) (commit.call.stays.sectors d) out))))))
             ((later.logs made.1 amid_after).leaves (commit.call.stays.traced traced)));
+        since = λ copies since. joining_then copies since;
         frame = λ g before.
             let now : frame_of (u.arrays n).truth ≡ g = ap frame_of truth_same ∙ before in
             frame_then g n (m.arrays n) (w.arrays n) x y z commit.call.stays

@@ -1,6 +1,6 @@
 -- The commit that makes a new drive one of the pool: one that marks nobody, of a state that has the drive in its list already, by the logs of
 -- the drives that the pool had before.
-use Rattle.std.proofs.Common.{◌≡◌, ◌≢◌, ◌⊎◌, ℕ, ◌+◌, ◌<◌, ◌≤◌, ◌==◌, ◌&&◌, ◌||◌, not, Bool, true, false, if◌then◌else◌, List, [], is_some, length, slice_get, Some, option_map, refl, sym, ap, ap₂, subst, ◌∙◌, inl, inr, arith}
+use Rattle.std.proofs.Common.{◌≡◌, ◌≢◌, ◌⊎◌, ℕ, ◌+◌, ◌<◌, ◌==◌, ◌&&◌, ◌||◌, not, Bool, true, false, if◌then◌else◌, List, [], is_some, length, slice_get, Some, option_map, refl, sym, ap, ap₂, subst, ◌∙◌, inl, inr, arith}
 use Rattle.std.proofs.lemmas.Bool.{and_parts, both_ways, cases_Bool, cases_eq, ne_eqb}
 use Rattle.rack.specs.Seen.{Seen}
 use Rattle.rack.specs.Joins.{rose_early, rose_later}

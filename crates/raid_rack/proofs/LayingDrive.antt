@@ -1,14 +1,13 @@
 -- A new drive is laid: what its calls leave, where its slices lie, and that its table can be written.
-use Rattle.std.proofs.Common.{◌≡◌, ◌≢◌, ◌⊎◌, ℕ, zero, suc, ◌+◌, ◌-◌, ◌*◌, ◌<◌, ◌≤◌, ◌==◌, ◌&&◌, ◌++◌, nat_le, nat_lt, if◌then◌else◌, Bool, true, false, List, [], ◌∷◌, filter, get_or, is_some, length, map, set, slice_get, take, sum_by, unwrap_or, Option, Some, None, Result, Ok, Err, OnOk, refl, sym, ap, subst, ◌∙◌, inl, inr, eq-eqb, le-ltb, lt-ltb, ltb-true, add-one, arith}
+use Rattle.std.proofs.Common.{◌≡◌, ◌≢◌, ◌⊎◌, ℕ, zero, suc, ◌+◌, ◌-◌, ◌*◌, ◌<◌, ◌≤◌, ◌==◌, ◌&&◌, ◌++◌, nat_le, nat_lt, if◌then◌else◌, Bool, true, false, List, [], ◌∷◌, filter, get_or, is_some, length, map, set, slice_get, take, sum_by, unwrap_or, Option, Some, None, Result, Ok, Err, OnOk, refl, sym, ap, subst, ◌∙◌, inl, inr, eq-eqb, le-ltb, lt-ltb, add-one, arith}
 use Rattle.std.specs.List.{range_with_len}
 use Rattle.std.specs.Option.{option_map_or}
-use Rattle.std.proofs.lemmas.Bool.{and_parts, both_ways, cases_Bool, cases_eq, cases_lt, leb-true, ne_eqb}
+use Rattle.std.proofs.lemmas.Bool.{and_parts, both_ways, cases_eq, cases_lt, leb-true, ne_eqb}
 use Rattle.std.proofs.lemmas.List.{take_all}
 use Rattle.std.proofs.lemmas.List.Sums.{sum_by_more}
 use Rattle.std.proofs.lemmas.List.Elements.{filter-append}
 use Rattle.std.proofs.lemmas.Option.{slice_get-get_or, slice_get_past, slice_get_within}
 use Rattle.rack.specs.declared.Gone.{Gone}
-use Rattle.rack.specs.Values.{IsSingle}
 use Rattle.rack.specs.Seen.{Seen, IsLive, Stays}
 use Rattle.rack.specs.Joins.{live_first, live_second, rose_since, stays_then}
 use Rattle.rack.specs.Sequences.{WritesDurably, WritesOnly}
@@ -17,7 +16,7 @@ use Rattle.rack.proofs.Writing.{only_then, only_weaker}
 use Rattle.slice_rack.specs.declared.SliceFault.{SliceFault}
 use Rattle.slice_rack.specs.declared.SliceFault.TheVariants.{Unseated, Outside, Overlap}
 use Rattle.slice_rack.specs.Slices.{Slices, seat_of as disk_at, first_of, sectors_of, place_of}
-use Rattle.slice_rack.specs.Changes.{Adds, IsPast, IsWithin, Overlaps, Seats}
+use Rattle.slice_rack.specs.Changes.{Adds, IsPast, IsWithin, Overlaps}
 use Rattle.gpt_table.specs.declared.Entry.{Entry}
 use Rattle.gpt_table.specs.declared.Table.{Table}
 use Rattle.gpt_table.specs.declared.TableCopy.{TableCopy}
@@ -34,7 +33,7 @@ use Rattle.array_core.specs.Seats.{seat_of}
 use Rattle.raid_rack.proofs.Each.{get_set_other, get_set_same}
 use Rattle.raid_rack.specs.RaidRack.{is_written}
 use Rattle.commit_log.specs.Bytes.{first_gate}
-use Rattle.raid_rack.specs.NewDrive.{AreLaid, IsOfDrive, KeepsOthers, LaysDrive, SeatsDrive, SeatsFirst, entries_of, entry_of, first_in, first_laid, gate_at, joins, length_in, member_entries, member_entry, no_state, sectors_laid, slice_length}
+use Rattle.raid_rack.specs.NewDrive.{AreLaid, IsOfDrive, LaysDrive, SeatsDrive, SeatsFirst, entries_of, entry_of, first_in, first_laid, gate_at, joins, length_in, member_entries, member_entry, no_state, sectors_laid, slice_length}
 
 -- ---- calls
 

@@ -68,7 +68,7 @@ mod LayingDrive
 pub mod Enlisted
 pub mod Apart
 pub mod Seating
-mod Others
+pub mod Others
 mod Renewed
 mod Joining
 mod Joined

@@ -26,9 +26,9 @@ use Rattle.commit_log.proofs.Kept.{kept_idle, kept_state, live_after, live_on, s
 use Rattle.commit_log.proofs.Saying.{copies_same, held_copies, holds_keeps, kept_latest, kept_says, says_by}
 use Rattle.raid_rack.specs.Book.{IsAfter, after_same, after_then}
 use Rattle.raid_rack.specs.Logs.{KeepsLogs, LogsBetween}
-use Rattle.raid_rack.specs.Since.{AreSince, HoldsSince, IsSince, KeepsSince, since_still, since_then}
+use Rattle.raid_rack.specs.Since.{AreEach, HoldsEach, IsJoinSince, IsSince, KeepsEach, each_still, each_then}
 use Rattle.raid_rack.proofs.Own.{look_nothing}
-use Rattle.raid_rack.proofs.Since.{since_read}
+use Rattle.raid_rack.proofs.Since.{each_read}
 
 -- a place that is left
 abbrev pub HasSomeone : State → (ℕ → Bool) → Type 0
@@ -43,7 +43,8 @@ pub logs_still : (s : State) (x : Seen) → HoldsCopies s x → KeepsLogs s s x 
 logs_still s x holds = record {
   leaves = λ traced. leaves_same x (λ c. IsInside x.sectors c → LogsBetween s s x.sectors c);
   holds = holds;
-  since = λ base after held. since_still base x held;
+  since = λ base after held. each_still (IsSince base) x held;
+  joining = λ early next after held. each_still (IsJoinSince early next) x held;
 }
 
 -- parts in a row
@@ -68,7 +69,10 @@ logs_then s t u a b c first second stays one two = record {
   holds = two.holds;
   since = λ base after held.
       let early = one.since base after held in
-      since_then base a b c stays.sectors stays.traced early (two.since base (after_then base s t after first) early.holds);
+      each_then (IsSince base) a b c stays.sectors stays.traced early (two.since base (after_then base s t after first) early.holds);
+  joining = λ early next after held.
+      let before = one.joining early next after held in
+      each_then (IsJoinSince early next) a b c stays.sectors stays.traced before (two.joining early next (after_then next s t after first) before.holds);
 }
 
 -- calls that bring no value
@@ -82,7 +86,8 @@ logs_read s number gone a b lasting stays keeps kept someone holds = record {
       (kept_says s number gone a c someone.0 kept holds someone.1 someone.2 (stands_of c (pick_before lasting stays c inside pick))))
       (keeps.stops traced);
   holds = holds_keeps s a b lasting stays keeps holds;
-  since = λ base after held. since_read base a b lasting stays keeps kept.logs held;
+  since = λ base after held. each_read (IsSince base) a b lasting stays keeps kept.logs held;
+  joining = λ early next after held. each_read (IsJoinSince early next) a b lasting stays keeps kept.logs held;
 }
 
 -- where all current places are left, nothing is pending for other arrays
@@ -138,19 +143,19 @@ module _ (s : State) (number : ℕ) (gone : ℕ → Bool) (n : ℕ) (a b : Seen)
         inside = turns.bounded holds.inside;
       }
 
-  -- what stands is of the state that calls began with, or came of it
-  since_call : (base : State) → HoldsSince base a → KeepsSince base a b
-  since_call base since = record {
+  -- copies stay such as they are
+  each_call : (R : ℕ → List ℕ → Type 0) → HoldsEach R a → KeepsEach R a b
+  each_call R held = record {
     leaves = λ traced.
-        leaves_weaker (λ c. IsInside a.sectors c → Turns n a b (λ r. H → P r) c) (λ c. IsInside a.sectors c → AreSince base a.sectors c)
+        leaves_weaker (λ c. IsInside a.sectors c → Turns n a b (λ r. H → P r) c) (λ c. IsInside a.sectors c → AreEach R a.sectors c)
         (λ c found inside p few there.
         let turns = found inside in
-        subst (IsSince base p) (sym (stands_same c turns p))
-        (since p (turns.left.0 (log_slice p) 0) few there (turns.left.1.picks (log_slice p) 0 (kept.logs p 0 few there))))
+        subst (R p) (sym (stands_same c turns p))
+        (held p (turns.left.0 (log_slice p) 0) few there (turns.left.1.picks (log_slice p) 0 (kept.logs p 0 few there))))
         (moves.leaves traced);
     holds = λ p u few there may.
         let has : 0 < a.sectors (log_slice p) = subst (λ k. 0 < k) (moves.stays.sectors (log_slice p)) there in
-        since p u few has ((moves.apart (log_slice p) 0 (live_on lasting moves.stays (kept.logs p 0 few has)) (state_apart n p)).within u may);
+        held p u few has ((moves.apart (log_slice p) 0 (live_on lasting moves.stays (kept.logs p 0 few has)) (state_apart n p)).within u may);
   }
 
   pub logs_call : KeepsLogs s s a b
@@ -174,7 +179,8 @@ module _ (s : State) (number : ℕ) (gone : ℕ → Bool) (n : ℕ) (a b : Seen)
       brings = λ c stand p u is. absurd (none c p u (moves.calm calm c stand) is);
       inside = moves.bounded holds.inside;
     };
-    since = λ base after since. since_call base since;
+    since = λ base after since. each_call (IsSince base) since;
+    joining = λ early next after since. each_call (IsJoinSince early next) since;
   }
     where
       logs_now : (c : Image) → Stands b c → LogsStand b c

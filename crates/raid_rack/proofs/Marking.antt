@@ -40,7 +40,7 @@ use Rattle.raid_rack.specs.Marking.{NoData, Restates, SaysBetween, Part}
 use Rattle.raid_rack.specs.Book.{IsAfter, after_same, after_then}
 use Rattle.raid_rack.specs.Frames.{Frame, HasFrame, frame_of}
 use Rattle.raid_rack.specs.Logs.{KeepsLogs, LogsBetween}
-use Rattle.raid_rack.specs.Since.{AreSince, HoldsSince, IsSince, KeepsSince}
+use Rattle.raid_rack.specs.Since.{AreEach, HasOwnSince, HoldsEach, IsJoinSince, IsSince, KeepsEach}
 use Rattle.raid_rack.specs.Laws.{stood_left}
 use Rattle.raid_rack.proofs.Frames.{fields_frame, frame_same, known_frame, left_frame}
 use Rattle.raid_rack.proofs.KeptDrives.{after_drives}
@@ -138,24 +138,12 @@ logs_made s t gone l on lost a b call kept copies =
           lost b call.commit call.ready call.decides,
     )
 
--- And copies that stand are of the state that calls began with, or came of it.
-module _ (base s t : State) (gone : ℕ → Bool) (l : LogView) (on lost : List ℕ) (a b : Seen) (call : MarksCall s t gone l on lost a b) (after : IsAfter base t)
-    (live : AreLive a) (holds : HoldsSince base a) where
-  -- a copy that the targets have is its place's own, of the new state
-  target_since : (p : ℕ) (u : List ℕ) → look l.added (log_slice p) 0 ≡ Some u → IsSince base p u
-  target_since p u is = record {
-    own = λ now. record {
-      copy = record { state = t; own = p };
-      is = copy;
-      after = after;
-      drive = (after_drives base t after).ids p now current;
-    };
-    former = λ k past at. absurd (both_ways (is_current base p) past (after.current p current));
-  }
+-- And copies that stand stay such as they are, where its place's own copy of the new state is such.
+module _ (P : ℕ → List ℕ → Type 0) (s t : State) (gone : ℕ → Bool) (l : LogView) (on lost : List ℕ) (a b : Seen) (call : MarksCall s t gone l on lost a b)
+    (brings : (p : ℕ) (u : List ℕ) → is_current t p ≡ true → decoded u ≡ Ok (record { state = t; own = p }) → P p u) (live : AreLive a) (holds : HoldsEach P a) where
+  target_each : (p : ℕ) (u : List ℕ) → look l.added (log_slice p) 0 ≡ Some u → P p u
+  target_each p u is = brings p u current (call.own p u is)
     where
-      copy : decoded u ≡ Ok (record { state = t; own = p })
-      copy = call.own p u is
-
       current : is_current t p ≡ true
       current = elim call.brings.either [
         | inl same ↦ absurd (none-some u (sym (same.1 p) ∙ is))
@@ -165,26 +153,44 @@ module _ (base s t : State) (gone : ℕ → Bool) (l : LogView) (on lost : List 
         ]
       ]
 
-  midway_since : (c : Image) → StandsMidway l on a c → AreSince base a.sectors c
-  midway_since c mid p few there = elim (mid.states.picks p (live p 0 few there)) [
+  midway_each : (c : Image) → StandsMidway l on a c → AreEach P a.sectors c
+  midway_each c mid p few there = elim (mid.states.picks p (live p 0 few there)) [
     | inl held ↦ holds p (c (log_slice p) 0) few there held
-    | inr new ↦ target_since p (c (log_slice p) 0) new
+    | inr new ↦ target_each p (c (log_slice p) 0) new
   ]
 
-  since_commit : KeepsSince base a b
-  since_commit = record {
+  pub commit_each : KeepsEach P a b
+  commit_each = record {
     leaves = λ traced.
-        leaves_weaker (λ c. LogsInside a.sectors c → Commits l.added a c × StandsMidway l on a c) (λ c. IsInside a.sectors c → AreSince base a.sectors c)
-        (λ c found inside. midway_since c (found (λ place k out. inside (log_slice place) k out)).1)
+        leaves_weaker (λ c. LogsInside a.sectors c → Commits l.added a c × StandsMidway l on a c) (λ c. IsInside a.sectors c → AreEach P a.sectors c)
+        (λ c found inside. midway_each c (found (λ place k out. inside (log_slice place) k out)).1)
         (commit_moments l on lost a b call.commit traced call.ready call.decides);
     holds = λ p u few there may.
         let stays = call.commit.stays in
         let has : 0 < a.sectors (log_slice p) = subst (λ k. 0 < k) (stays.sectors (log_slice p)) there in
         elim (call.commit.within (log_slice p) 0 u (live_on call.ready.lasting stays (live p 0 few has)) (state_no_log p) may) [
           | inl held ↦ holds p u few has held
-          | inr new ↦ target_since p u new
+          | inr new ↦ target_each p u new
         ];
   }
+
+-- A copy that the targets have is its place's own, of the new state, which is the one that calls began with or came of it.
+own_since : (base t : State) → IsAfter base t → (p : ℕ) (u : List ℕ) → is_current t p ≡ true → decoded u ≡ Ok (record { state = t; own = p }) → HasOwnSince base p u
+own_since base t after p u current is =
+    record { copy = record { state = t; own = p }; is = is; after = after; drive = (after_drives base t after).ids p (after.current p current) current }
+
+brings_since : (base t : State) → IsAfter base t → (p : ℕ) (u : List ℕ) → is_current t p ≡ true → decoded u ≡ Ok (record { state = t; own = p }) → IsSince base p u
+brings_since base t after p u current is = record {
+  own = λ now. own_since base t after p u current is;
+  former = λ k past at. absurd (both_ways (is_current base p) past (after.current p current));
+}
+
+pub brings_joining : (early next t : State) → IsAfter next t → (p : ℕ) (u : List ℕ) → is_current t p ≡ true → decoded u ≡ Ok (record { state = t; own = p }) → IsJoinSince early next p u
+brings_joining early next t after p u current is = record {
+  own = λ now. inr (own_since next t after p u current is);
+  joins = λ k past now at. own_since next t after p u current is;
+  former = λ k past was at. absurd (both_ways (is_current next p) was (after.current p current));
+}
 
 pub logs_commit : (s t : State) (gone : ℕ → Bool) (l : LogView) (on lost : List ℕ) (a b : Seen) → MarksCall s t gone l on lost a b → IsAfter s t
     → LogKept s l.number gone a → HoldsCopies s a → KeepsLogs s t a b
@@ -200,7 +206,8 @@ logs_commit s t gone l on lost a b call book kept copies =
           ])
           (made.0 traced);
       holds = made.1;
-      since = λ base after since. since_commit base s t gone l on lost a b call (after_then base s t after book) kept.logs since;
+      since = λ base after held. commit_each (IsSince base) s t gone l on lost a b call (brings_since base t (after_then base s t after book)) kept.logs held;
+      joining = λ early next after held. commit_each (IsJoinSince early next) s t gone l on lost a b call (brings_joining early next t (after_then next s t after book)) kept.logs held;
     }
 
 -- By the old state it is as it was, by the new one as the targets restate it.

@@ -1,19 +1,17 @@
 -- Parts of a call in a row, and the calls of arrays as parts: each seen from one array.
-use Rattle.std.proofs.Common.{◌≡◌, ℕ, ◌<◌, ◌≤◌, Bool, true, false, List, Some, refl, sym, ap, subst, ◌∙◌, inl, inr, arith}
+use Rattle.std.proofs.Common.{◌≡◌, ℕ, ◌<◌, ◌≤◌, Bool, true, false, Some, refl, sym, ap, subst, ◌∙◌, inl, inr, arith}
 use Rattle.rack.specs.Values.{Values}
 use Rattle.rack.specs.Seen.{Image, Seen}
 use Rattle.rack.specs.Joins.{stays_then, leaves_then, leaves_weaker}
-use Rattle.rack.specs.Targets.{Target, look}
 use Rattle.pool_state.specs.declared.contents.State.{State}
 use Rattle.array_image.specs.Places.{log_slice, member_slice}
 use Rattle.array_image.specs.States.{state_in, is_current}
 use Rattle.array_image.specs.Arrays.{Shape, replayed, shape_in}
-use Rattle.array_image.specs.Left.{IsInside, IsCalm, IsApart}
+use Rattle.array_image.specs.Left.{IsInside, IsApart}
 use Rattle.array_image.proofs.Frames.{Agree, state_same}
-use Rattle.array_image.proofs.Replays.{replayed_as_is}
 use Rattle.commit_log.specs.Kept.{LogKept}
 use Rattle.commit_log.specs.Saying.{HoldsCopies}
-use Rattle.commit_log.proofs.Kept.{stands_of, kept_replayed, kept_idle}
+use Rattle.commit_log.proofs.Kept.{stands_of, kept_replayed}
 use Rattle.array_model.specs.View.{View}
 use Rattle.array_model.specs.Says.{Says, Holds}
 use Rattle.array_model.specs.ArrayCalls.{Acts, Turns}

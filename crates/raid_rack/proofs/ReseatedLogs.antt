@@ -57,7 +57,7 @@ zeros_say_none : result_ok (decoded no_state) ≡ None
 unfolding number_at bytes_at
 zeros_say_none = refl
 
-no_copy : (u : List ℕ) (copy : Copied) → u ≡ no_state → decoded u ≡ Ok copy → ⊥
+pub no_copy : (u : List ℕ) (copy : Copied) → u ≡ no_state → decoded u ≡ Ok copy → ⊥
 no_copy u copy zeros is = none-some copy (sym (ap (λ v. result_ok (decoded v)) zeros ∙ zeros_say_none) ∙ ap result_ok is)
 
 -- no target, on no place

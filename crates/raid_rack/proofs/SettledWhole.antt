@@ -1,12 +1,11 @@
 -- All arrays are settled, and nobody went; or somebody did, and is marked.
-use Rattle.std.proofs.Common.{◌≡◌, ◌<◌, ◌≤◌, ℕ, Bool, true, false, List, [], ◌&&◌, not, length, get_or, refl, sym, ap, subst, ◌∙◌, arith}
+use Rattle.std.proofs.Common.{◌≡◌, ◌<◌, ℕ, false, List, ◌&&◌, not, length, get_or, sym, ap, subst, ◌∙◌, arith}
 use Rattle.std.proofs.lemmas.Bool.{and_parts}
 use Rattle.rack.specs.Seen.{Seen}
 use Rattle.rack.specs.Joins.{rose_before}
 use Rattle.pool_state.specs.declared.contents.State.{State}
 use Rattle.array_image.specs.States.{is_current}
 use Rattle.commit_log.specs.View.{LogView, names}
-use Rattle.array_model.specs.View.{View}
 use Rattle.raid_rack.specs.declared.arrays.Arrays.{Arrays}
 use Rattle.raid_rack.specs.Enlisting.{HasLost, SettlesWhole}
 use Rattle.raid_rack.specs.Losses.{newly_gone}

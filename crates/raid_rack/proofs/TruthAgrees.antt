@@ -1,18 +1,17 @@
 -- Superblocks that say the truth of an array that is told agree in whatever a stop leaves.
-use Rattle.std.proofs.Common.{◌≡◌, ◌≢◌, ℕ, ◌+◌, ◌-◌, ◌*◌, ◌^◌, ◌<◌, nat_lt, if◌then◌else◌, Bool, true, false, ◌==◌, not, is_some, List, length, slice_get, Option, Some, None, option_map, unwrap_or, refl, sym, ap, subst, ◌∙◌, inl, inr, eqb-true, eq-eqb, arith}
+use Rattle.std.proofs.Common.{◌≡◌, ◌≢◌, ℕ, ◌-◌, ◌*◌, ◌^◌, ◌<◌, nat_lt, if◌then◌else◌, Bool, true, false, ◌==◌, not, is_some, length, slice_get, Option, Some, None, option_map, unwrap_or, refl, sym, ap, subst, ◌∙◌, inl, inr, eqb-true, eq-eqb, arith}
 use Rattle.std.proofs.lemmas.Bool.{both_ways, cases_Bool}
 use Rattle.std.specs.List.{list_any, range_with_len}
 use Rattle.arrayvec.specs.ArrayVec.{ArrayVec}
 use Rattle.rack.specs.Seen.{Image, Seen}
 use Rattle.md_super.specs.declared.superblock.Super.{Super}
-use Rattle.array_image.specs.Arrays.{Shape, place_with, shape_by}
+use Rattle.array_image.specs.Arrays.{place_with, shape_by}
 use Rattle.array_image.specs.Left.{IsLeft}
 use Rattle.array_image.specs.Places.{super_sector}
 use Rattle.array_image.specs.SoundArray.{array_fields}
 use Rattle.array_image.specs.States.{current_places, is_current}
 use Rattle.array_image.specs.Supers.{is_super_of, super_in, super_of, truth_in}
 use Rattle.commit_log.proofs.Kept.{stands_of}
-use Rattle.array_model.specs.declared.Seat.{Seat}
 use Rattle.array_model.specs.declared.Seat.TheVariants.{Missing}
 use Rattle.array_model.specs.Members.{slice_on}
 use Rattle.array_model.specs.Stages.{IsStateOf}

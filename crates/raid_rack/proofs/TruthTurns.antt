@@ -1,13 +1,12 @@
 -- The turns of a mending, and calls that end with one: superblocks that said an array's truth do so after them.
-use Rattle.std.proofs.Common.{◌≡◌, ◌⊎◌, ℕ, ◌<◌, Bool, true, false, ◌==◌, List, [], get_or, set, length, slice_get, option_map, refl, sym, ap, subst, ◌∙◌, inl, inr, arith}
-use Rattle.std.proofs.lemmas.Bool.{both_ways}
+use Rattle.std.proofs.Common.{◌≡◌, ◌⊎◌, ℕ, ◌<◌, false, List, [], get_or, set, length, slice_get, option_map, sym, ap, subst, ◌∙◌, inl, inr, arith}
 use Rattle.arrayvec.specs.ArrayVec.{ArrayVec}
 use Rattle.rack.specs.Seen.{Seen, Stays}
 use Rattle.rack.specs.Sequences.{OnlyReads}
 use Rattle.pool_state.specs.declared.contents.State.{State}
 use Rattle.array_image.specs.Places.{super_sector}
-use Rattle.array_image.specs.States.{current_places, is_current}
-use Rattle.commit_log.specs.View.{LogView, names, next_number}
+use Rattle.array_image.specs.States.{current_places}
+use Rattle.commit_log.specs.View.{LogView, names}
 use Rattle.array_model.specs.View.{View}
 use Rattle.array_model.specs.Members.{Notes}
 use Rattle.array_core.specs.Seats.{gone as without, heeded}

@@ -1,12 +1,11 @@
 -- Superblocks of arrays that say their truths, also after parts of a call in a row.
-use Rattle.std.proofs.Common.{◌≡◌, ◌≢◌, ◌⊎◌, ℕ, ◌+◌, ◌<◌, Bool, true, false, ◌==◌, ◌&&◌, not, List, [], get_or, set, length, slice_get, Option, Some, None, option_map, unwrap_or, refl, sym, ap, ap₂, subst, ◌∙◌, inl, inr, eqb-true, arith}
-use Rattle.std.proofs.lemmas.Bool.{both_ways, and_from, and_parts, cases_Bool, cases_eq}
+use Rattle.std.proofs.Common.{◌≡◌, ◌≢◌, ℕ, ◌+◌, ◌<◌, true, false, ◌&&◌, not, List, get_or, set, slice_get, Option, Some, None, option_map, unwrap_or, refl, sym, ap, ap₂, subst, ◌∙◌, inl, inr, eqb-true, arith}
+use Rattle.std.proofs.lemmas.Bool.{both_ways, and_from, and_parts, cases_eq}
 use Rattle.arrayvec.specs.ArrayVec.{ArrayVec}
 use Rattle.rack.specs.Values.{Keeps}
 use Rattle.rack.specs.Seen.{Seen, IsLive, Stays}
 use Rattle.rack.specs.Sequences.{OnlyReads}
 use Rattle.rack.specs.Targets.{Target}
-use Rattle.md_super.specs.declared.superblock.Super.{Super}
 use Rattle.array_image.specs.Arrays.{place_with}
 use Rattle.array_image.specs.Places.{member_slice, slice_of, super_sector}
 use Rattle.array_image.specs.States.{is_current}
@@ -18,7 +17,7 @@ use Rattle.array_model.specs.Members.{slice_on}
 use Rattle.array_model.specs.Stages.{AmongTargets}
 use Rattle.array_model.proofs.Reading.{missing_before}
 use Rattle.array_core.specs.Seats.{gone as without}
-use Rattle.array_core.specs.TruthHeld.{HasFewBits, HasTruth, HoldTruth, TellSupers}
+use Rattle.array_core.specs.TruthHeld.{HasFewBits, HoldTruth, TellSupers}
 use Rattle.array_core.specs.Writing.{KeepsElsewhere}
 use Rattle.array_core.proofs.Truths.{rule_holds}
 use Rattle.array_core.proofs.TruthHeld.{has_kept, hold_supers, hold_tells, live_now, reads_supers}

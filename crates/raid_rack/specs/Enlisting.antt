@@ -39,6 +39,8 @@ use Rattle.raid_rack.specs.NewDrive.{IsOfDrive, drive_table, joins, length_in, n
 use Rattle.raid_rack.specs.Raid.{Raid, IsTold, held_in, is_over, live_of, spent_of}
 use Rattle.raid_rack.specs.Truths.{KeepsTruths}
 use Rattle.raid_rack.specs.Rows.{KeepsRows, LeavesFrom, LeavesRows}
+use Rattle.raid_rack.specs.Runs.{KeepsMoments}
+use Rattle.raid_rack.specs.Since.{AreJoinSince, AreSince, HoldsJoinSince, HoldsSince, KeepsJoinSince}
 
 -- ---- the book
 
@@ -94,15 +96,18 @@ abbrev pub HoldsLaid : Seen → ℕ → Image → Type 0
 HoldsLaid a disk c = (s : ℕ) → s < a.sectors disk → MayBecome a (IsOfDrive disk (a.sectors disk)) disk s (c disk s)
 
 -- Before the disk is one of the pool, contents of the drives say array n by the tables before, and by the state before, and the disk is
--- being laid. Where images left the array no rows to resync but its own, nor do these. No log is damaged, and the copies of the state agree.
+-- being laid. Where images left the array no rows to resync but its own, nor do these. No log is damaged, the copies of the state agree, and each place that is
+-- current has its own.
 pub record SaysLaying (t : Slices) (disk : ℕ) (v w : Raid) (a : Seen) (n : ℕ) (vals : ℕ → Values) (c : Image) : Type 0 where
   pub laid : HoldsLaid a disk c
   pub says : SaysBy v.state n vals (spent_of w n) (replayed (sectors_sliced t) (sliced t c))
   pub rows : LeavesRows v (slices_of t a) n → LeavesFrom (v.arrays n).resync n (replayed (sectors_sliced t) (sliced t c))
   pub logs : SaysState v.state (sectors_sliced t) (sliced t c)
+  pub since : AreSince v.state (sectors_sliced t) (sliced t c)
   pub frame : HasFrame (frame_of (v.arrays n).truth) n (replayed (sectors_sliced t) (sliced t c))
 
--- From then on they say it by the tables after, and by the state before or one that has the new drive, and the disk holds its table.
+-- From then on they say it by the tables after, and by the state before or one that has the new drive, and the disk holds its table. Each place that was current
+-- has its own copy, of the state before or of one that has the new drive, and the place of the new drive has one of these at most.
 pub record SaysJoining (t u : Slices) (disk : ℕ) (table : Table) (next : State) (v w : Raid) (a : Seen) (n : ℕ) (vals : ℕ → Values) (c : Image) : Type 0 where
   pub holds : HoldsTable disk table c
   pub says :
@@ -110,6 +115,7 @@ pub record SaysJoining (t u : Slices) (disk : ℕ) (table : Table) (next : State
       ⊎ SaysBetween next w.state n vals (spent_of w n) (replayed (sectors_sliced u) (sliced u c))
   pub rows : LeavesRows v (slices_of t a) n → LeavesFrom (v.arrays n).resync n (replayed (sectors_sliced u) (sliced u c))
   pub logs : SaysState v.state (sectors_sliced u) (sliced u c) ⊎ LogsBetween next w.state (sectors_sliced u) (sliced u c)
+  pub since : AreJoinSince v.state next (sectors_sliced u) (sliced u c)
   pub frame : HasFrame (frame_of (v.arrays n).truth) n (replayed (sectors_sliced u) (sliced u c))
 
 -- each sector of a disk can be called, and is told
@@ -129,6 +135,8 @@ pub record KeepsTold (t u : Slices) (place disk units : ℕ) (plan : Plan) (tabl
       a.traced → is_over w n ≡ false → (k : ℕ) (c : Image) → mid < k → k ≤ b.clock → b.stops k c
       → SaysJoining t u disk table (enlisted place units plan v.state) v w a n (held_in v (slices_of t a) n) c
   pub framed : is_over w n ≡ false → frame_of (w.arrays n).truth ≡ frame_of (v.arrays n).truth
+  -- also a drive that is marked in the call has its place's own copy
+  pub since : is_over w n ≡ false → HoldsJoinSince v.state (enlisted place units plan v.state) (slices_of u b)
   pub rows : is_over w n ≡ false → LeavesRows v (slices_of t a) n → ((v.arrays n).resync ≤ (w.arrays n).resync) × LeavesRows w (slices_of u b) n
 
 -- a sector of the new disk's tables, its state or its gate, or one of a slice
@@ -159,18 +167,21 @@ pub record Enlists (t u : Slices) (arrays : List View) (place disk units : ℕ) 
 
 -- ---- refusals
 
--- The new disk refused a call, and nothing else has changed than its tables, its state's sector and its gate. To the arrays nothing happened.
+-- The new disk refused a call, and nothing else has changed than its tables, its state's sector and its gate. To the arrays nothing happened, at no moment of
+-- the call either.
 pub record IsRefused (t : Slices) (disk : ℕ) (v : Raid) (a b : Seen) : Type 0 where
   pub only : WritesOnly a b (IsOfDrive disk (a.sectors disk))
   pub gone : Rose (a.faults disk) (b.faults disk)
   pub moves : Moves v v (slices_of t a) (slices_of t b)
+  pub moments : KeepsMoments v v (slices_of t a) (slices_of t b)
   pub truths : KeepsTruths v v (slices_of t a) (slices_of t b)
 
--- Another drive than the new one was found gone and is marked: the drive isn't taken in. But for the marks all is as before.
+-- Another drive than the new one was found gone and is marked: the drive isn't taken in. But for the marks all is as before, and so it is at each moment of the call.
 pub record IsNotWhole (t : Slices) (disk : ℕ) (v w : Raid) (a b : Seen) : Type 0 where
   pub only : WritesOnly a b (IsWrittenBy t disk (a.sectors disk))
   pub mends : Mends v w (slices_of t a) (slices_of t b)
   pub raises : RaisesBy 18 v w
+  pub moments : KeepsMoments v w (slices_of t a) (slices_of t b)
   pub truths : KeepsTruths v w (slices_of t a) (slices_of t b)
   pub lost : (p : ℕ) × (is_current v.state p ≡ true) × (is_current w.state p ≡ false) × HasFault (slices_of t a) (slices_of t b) p
 
@@ -222,6 +233,8 @@ pub record JoinsPart (place units : ℕ) (plan : Plan) (v w : Raid) (a b : Seen)
   pub logs :
       HoldsCopies v.state a → a.traced
       → Leaves a b (λ c. IsInside a.sectors c → SaysState v.state a.sectors c ⊎ LogsBetween (enlisted place units plan v.state) w.state a.sectors c)
+  -- with each place's own copies
+  pub since : HoldsCopies v.state a → HoldsSince v.state a → KeepsJoinSince v.state (enlisted place units plan v.state) a b
   -- its size and its members' places stay
   pub frame : (g : Frame) → frame_of (v.arrays n).truth ≡ g → KeepsFrame g n (w.arrays n) a b
 

@@ -6,7 +6,7 @@ use Rattle.pool_state.specs.declared.contents.State.{State}
 use Rattle.array_image.specs.Left.{IsInside}
 use Rattle.commit_log.specs.Saying.{HoldsCopies, SaysState}
 use Rattle.raid_rack.specs.Book.{IsAfter}
-use Rattle.raid_rack.specs.Since.{HoldsSince, KeepsSince}
+use Rattle.raid_rack.specs.Since.{HoldsJoinSince, HoldsSince, KeepsJoinSince, KeepsSince}
 
 -- Contents whose log slices say a state between two: no log is damaged, and the copies agree once the pending record is replayed.
 pub record LogsBetween (s t : State) (sectors : ℕ → ℕ) (c : Image) : Type 0 where
@@ -16,8 +16,9 @@ pub record LogsBetween (s t : State) (sectors : ℕ → ℕ) (c : Image) : Type 
   pub says : SaysState state sectors c
 
 -- A part of a call, as the log slices show it: at each moment they say a state between the two, and after it they hold the last one's copies. Copies that
--- were such as calls leave that began with an earlier state stay so.
+-- were such as calls leave that began with an earlier state stay so, and those that are such as a drive's joining leaves, by an earlier state.
 pub record KeepsLogs (s t : State) (a b : Seen) : Type 0 where
   pub leaves : a.traced → Leaves a b (λ c. IsInside a.sectors c → LogsBetween s t a.sectors c)
   pub holds : HoldsCopies t b
   pub since : (base : State) → IsAfter base s → HoldsSince base a → KeepsSince base a b
+  pub joining : (early next : State) → IsAfter next s → HoldsJoinSince early next a → KeepsJoinSince early next a b

@@ -1,5 +1,5 @@
 -- A new drive at a place: where its slices lie, its table, and what is written on it before it is one of the pool.
-use Rattle.std.specs.Prelude.{◌≡◌, ◌≢◌, ◌⊎◌, ℕ, ◌+◌, ◌-◌, ◌<◌, ◌==◌, ◌&&◌, ◌||◌, not, nat_le, nat_lt, if◌then◌else◌, Bool, false, true, List, [], ◌∷◌, filter, is_some, length, map, replicate, slice_get, take, sum_by, Some, Result, OnOk, IfErr}
+use Rattle.std.specs.Prelude.{◌≡◌, ◌≢◌, ◌⊎◌, ℕ, ◌+◌, ◌-◌, ◌<◌, ◌==◌, ◌&&◌, ◌||◌, not, nat_le, nat_lt, if◌then◌else◌, Bool, false, true, List, ◌∷◌, filter, is_some, length, map, replicate, slice_get, take, sum_by, Some, Result, OnOk, IfErr}
 use Rattle.std.specs.Option.{option_map_or}
 use Rattle.std.specs.List.{list_all, range_with_len}
 use Rattle.rack.specs.Values.{IsSingle, MayLeave}

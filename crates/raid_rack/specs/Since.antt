@@ -1,5 +1,5 @@
 -- The copies of states that stand in log slices, as calls leave them that began with one state: what stands, and not what replaying gives.
-use Rattle.std.proofs.Common.{◌≡◌, ℕ, ◌<◌, ◌≤◌, true, false, List, Ok, sym, subst}
+use Rattle.std.proofs.Common.{◌≡◌, ◌⊎◌, ℕ, ◌<◌, ◌≤◌, true, false, List, Ok, sym, subst}
 use Rattle.rack.specs.Moments.{Leaves}
 use Rattle.rack.specs.Joins.{leaves_same, leaves_then, leaves_weaker}
 use Rattle.rack.specs.Seen.{Image, Seen}
@@ -25,31 +25,64 @@ pub record IsSince (s : State) (p : ℕ) (block : List ℕ) : Type 0 where
   pub own : is_current s p ≡ true → HasOwnSince s p block
   pub former : (copy : Copied) → is_current s p ≡ false → decoded block ≡ Ok copy → copy.state.epoch < s.epoch
 
--- so it is in contents of log slices, on each place that has one
-abbrev pub AreSince : State → (ℕ → ℕ) → Image → Type 0
-AreSince s sectors c = (p : ℕ) → p < 16 → 0 < sectors (log_slice p) → IsSince s p (c (log_slice p) 0)
+-- So it is while a drive joins by the state `next`, which is a later one than s: the sector of a place that was current by s has its own copy, of a state that
+-- came of s or of `next`. Where a place joins a copy there is its own, of `next` or of a state that came of it.
+pub record IsJoinSince (s next : State) (p : ℕ) (block : List ℕ) : Type 0 where
+  pub own : is_current s p ≡ true → HasOwnSince s p block ⊎ HasOwnSince next p block
+  pub joins : (copy : Copied) → is_current s p ≡ false → is_current next p ≡ true → decoded block ≡ Ok copy → HasOwnSince next p block
+  pub former : (copy : Copied) → is_current s p ≡ false → is_current next p ≡ false → decoded block ≡ Ok copy → copy.state.epoch < s.epoch
+
+-- something holds of the sector of a place's copy, in contents of log slices, on each place that has one
+abbrev pub AreEach : (ℕ → List ℕ → Type 0) → (ℕ → ℕ) → Image → Type 0
+AreEach P sectors c = (p : ℕ) → p < 16 → 0 < sectors (log_slice p) → P p (c (log_slice p) 0)
 
 -- and in whatever a stop now leaves of them
-abbrev pub HoldsSince : State → Seen → Type 0
-HoldsSince s x = (p : ℕ) (u : List ℕ) → p < 16 → 0 < x.sectors (log_slice p) → MayLeave (x.held (log_slice p) 0) u → IsSince s p u
+abbrev pub HoldsEach : (ℕ → List ℕ → Type 0) → Seen → Type 0
+HoldsEach P x = (p : ℕ) (u : List ℕ) → p < 16 → 0 < x.sectors (log_slice p) → MayLeave (x.held (log_slice p) 0) u → P p u
 
--- A part of a call keeps them so, at each moment and after it.
-pub record KeepsSince (s : State) (a b : Seen) : Type 0 where
-  pub leaves : a.traced → Leaves a b (λ c. IsInside a.sectors c → AreSince s a.sectors c)
-  pub holds : HoldsSince s b
+-- A part of a call keeps it so, at each moment and after it.
+pub record KeepsEach (P : ℕ → List ℕ → Type 0) (a b : Seen) : Type 0 where
+  pub leaves : a.traced → Leaves a b (λ c. IsInside a.sectors c → AreEach P a.sectors c)
+  pub holds : HoldsEach P b
+
+-- copies since a state
+abbrev pub AreSince : State → (ℕ → ℕ) → Image → Type 0
+AreSince s sectors c = AreEach (IsSince s) sectors c
+
+abbrev pub HoldsSince : State → Seen → Type 0
+HoldsSince s x = HoldsEach (IsSince s) x
+
+abbrev pub KeepsSince : State → Seen → Seen → Type 0
+KeepsSince s a b = KeepsEach (IsSince s) a b
+
+-- copies while a drive joins
+abbrev pub AreJoinSince : (s next : State) → (ℕ → ℕ) → Image → Type 0
+AreJoinSince s next sectors c = AreEach (IsJoinSince s next) sectors c
+
+abbrev pub HoldsJoinSince : (s next : State) → Seen → Type 0
+HoldsJoinSince s next x = HoldsEach (IsJoinSince s next) x
+
+abbrev pub KeepsJoinSince : (s next : State) → Seen → Seen → Type 0
+KeepsJoinSince s next a b = KeepsEach (IsJoinSince s next) a b
 
 -- where nothing is called
-pub since_still : (s : State) (x : Seen) → HoldsSince s x → KeepsSince s x x
-since_still s x holds = record { leaves = λ traced. leaves_same x (λ c. IsInside x.sectors c → AreSince s x.sectors c); holds = holds }
+pub each_still : (P : ℕ → List ℕ → Type 0) (x : Seen) → HoldsEach P x → KeepsEach P x x
+each_still P x holds = record { leaves = λ traced. leaves_same x (λ c. IsInside x.sectors c → AreEach P x.sectors c); holds = holds }
 
 -- parts in a row
-pub since_then : (s : State) (a b c : Seen) → ((d : ℕ) → b.sectors d ≡ a.sectors d) → (a.traced → b.traced) → KeepsSince s a b → KeepsSince s b c → KeepsSince s a c
-since_then s a b c sectors traced one two = record {
+pub each_then : (P : ℕ → List ℕ → Type 0) (a b c : Seen) → ((d : ℕ) → b.sectors d ≡ a.sectors d) → (a.traced → b.traced) → KeepsEach P a b → KeepsEach P b c → KeepsEach P a c
+each_then P a b c sectors traced one two = record {
   leaves = λ was.
-      leaves_then (λ i. IsInside a.sectors i → AreSince s a.sectors i) (one.leaves was)
-      (leaves_weaker (λ i. IsInside b.sectors i → AreSince s b.sectors i) (λ i. IsInside a.sectors i → AreSince s a.sectors i)
+      leaves_then (λ i. IsInside a.sectors i → AreEach P a.sectors i) (one.leaves was)
+      (leaves_weaker (λ i. IsInside b.sectors i → AreEach P b.sectors i) (λ i. IsInside a.sectors i → AreEach P a.sectors i)
       (λ i says inside p few there.
       says (λ d t out. inside d t (subst (λ k. k ≤ t) (sectors d) out)) p few (subst (λ k. 0 < k) (sym (sectors (log_slice p))) there))
       (two.leaves (traced was)));
   holds = two.holds;
 }
+
+pub since_still : (s : State) (x : Seen) → HoldsSince s x → KeepsSince s x x
+since_still s x holds = each_still (IsSince s) x holds
+
+pub since_then : (s : State) (a b c : Seen) → ((d : ℕ) → b.sectors d ≡ a.sectors d) → (a.traced → b.traced) → KeepsSince s a b → KeepsSince s b c → KeepsSince s a c
+since_then s a b c sectors traced one two = each_then (IsSince s) a b c sectors traced one two

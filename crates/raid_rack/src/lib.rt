@@ -20,6 +20,7 @@
 //! | `Missing` | the state that marks some places missing |
 //! | `Marking` | a part of a call, seen from one array; superblocks that restate an array under a new state |
 //! | `Logs` | what the log slices say at each moment of a part of a call |
+//! | `Since` | the copies of states as they stand in log slices, of calls that began with one state, and of a drive's joining |
 //! | `Frames` | an array's size and its members' places, which no call changes |
 //! | `Rows` | rows that images leave to resync |
 //! | `Moves` | a part of a call that moves no value, for all arrays: what it keeps whatever the rack below tells, what each array that stands gives at each moment and after it; losses that are mended |
@@ -76,7 +77,9 @@
 //! The slices by the new tables differ from those by the old ones at the drive's place alone, which isn't current, so arrays stand over
 //! them as they did (`reseated_amid` of proofs/Reseated.antt). What a stop leaves is read by the old tables until the slices are added
 //! (`SaysLaying`), and from then on by the new ones, where the disk holds its table (`SaysJoining`). The moment alone tells which, so an
-//! image is read by the same tables for all arrays.
+//! image is read by the same tables for all arrays. As the log slices stand, each place that was current has its own copy, of the state
+//! before or of one with the drive, and the drive's place has none but its own (`AreJoinSince`); so it is after the call too, also on a
+//! drive that is marked in it. Where the drive isn't taken in, stops leave of the slices what they leave in any call (`KeepsMoments`).
 //!
 //! **A disk that is given up** ([`RaidRack::vacate`]), where its drive is marked missing, takes the slices of its place with it. The
 //! arrays stand over the slices that are left as they did (`vacated_told`, `vacated_keeps`, `vacated_rows` of proofs/Vacated.antt).

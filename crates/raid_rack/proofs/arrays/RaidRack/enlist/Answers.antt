@@ -46,7 +46,7 @@ returns-in-Err-clause-gone g c is =
     let b = g.R.Rack.seen c.lay_drive.new.rack in
     let size : c.table_of-table.result.sectors ≡ a.sectors disk =
     ap (λ (e : Table). e.sectors) c.table_of-table.ensures ∙ c.sectors-sectors.ensures.number ∙ ap (λ r. (g.R.Rack.seen r).sectors disk) c.below.ensures in
-    refused_lay (tables (slices_in c.args.self.now)) disk (raid_by c.args.self.now.arrays) a b c.args.self.now.slices.orderly c.requires.free c.requires.fit.running.set
+    refused_lay (tables (slices_in c.args.self.now)) disk c.args.self.now.arrays a b c.args.self.now.slices.orderly c.requires.free c.requires.fit
     (subst (λ n. WritesOnly a b (IsOfDrive disk n)) size
     (subst (λ r. WritesOnly (g.R.Rack.seen r) b (IsOfDrive disk c.table_of-table.result.sectors)) c.inner.ensures.value c.lay_drive.ensures.lays.only))
     (subst (λ r. Rose ((g.R.Rack.seen r).faults disk) (b.faults disk)) c.inner.ensures.value c.in-Err.ensures.lays.gone.1)
@@ -80,9 +80,11 @@ returns-then-not-settle_whole-clause-not_whole g c is =
     let size : c.table_of-table.result.sectors ≡ a.sectors disk =
     ap (λ (e : Table). e.sectors) c.table_of-table.ensures ∙ c.sectors-sectors.ensures.number ∙ ap (λ r. (g.R.Rack.seen r).sectors disk) c.below.ensures in
     let same = c.settle_whole.ensures.runs.tables in
-    not_whole t disk v w a m b c.args.self.now.slices.orderly c.requires.free c.requires.fit.running.set (subst (λ n. WritesOnly a m (IsOfDrive disk n)) size laid)
-    c.settle_whole.ensures.runs.apart
-    (subst (λ u. Mends v w (slices_of t m) (slices_of u b)) same (c.settle_whole.ensures.mends c.if-not-settle_whole.true))
+    let q = c.settle_whole.new.self in
+    let mends = c.settle_whole.ensures.mends c.if-not-settle_whole.true in
+    not_whole t disk c.args.self.now.arrays q a m b c.args.self.now.slices.orderly c.requires.free c.requires.fit (subst (λ n. WritesOnly a m (IsOfDrive disk n)) size laid)
+    c.settle_whole.ensures.runs.apart (record { running = subst (λ u. IsRunning q (slices_of u b)) same c.settle_whole.ensures.running; heeded = mends.heeded })
+    (subst (λ u. Mends v w (slices_of t m) (slices_of u b)) same mends)
     (subst (λ u. HasLost v w (slices_of t m) (slices_of u b)) same (c.settle_whole.ensures.lost c.if-not-settle_whole.true)) c.settle_whole.ensures.raises
     (subst (λ u. KeepsTruths v w (slices_of t m) (slices_of u b)) same (c.settle_whole.ensures.truths c.if-not-settle_whole.true))
 
