@@ -5,7 +5,6 @@ use Rattle.rack.specs.Moments.{Leaves}
 use Rattle.rack.specs.Seen.{Seen}
 use Rattle.rack.specs.Sequences.{OnlyReads}
 use Rattle.slice_rack.specs.SliceRack.{below_of}
-use Rattle.pool_state.specs.declared.contents.State.{State}
 use Rattle.array_image.specs.Record.{damaged_log}
 use Rattle.array_image.specs.States.{current_places}
 use Rattle.pool_image.specs.Disks.{disks_of, identities_of, newest}
@@ -18,7 +17,9 @@ use Rattle.pool_rest.specs.Resting.{IsIdle}
 use Rattle.pool_model.proofs.Settled.{idle_logs, idle_pool}
 use Rattle.pool_model.specs.Left.{AreAlone}
 use Rattle.pool_model.specs.Openings.{HoldOpened}
+use Rattle.pool_model.specs.Stopped.{LieApart}
 use Rattle.pool_model.proofs.Openings.{opened_same}
+use Rattle.pool_model.proofs.Rereading.{same_apart}
 use Rattle.assembler.specs.Sound.{HoldSound}
 use Rattle.assembler.proofs.Entry.{IsRested, f, pool_same, rest_found}
 use Rattle.assembler.proofs.Rereading.{rereading_leaves}
@@ -61,8 +62,8 @@ module _ {R : Type 0} (seen : R → Seen) (a : Seen) (rest : AtRest R) (e : Foun
       (sym (ap (λ (h : Found). h.contents) (idle_pool (disks_of x) (now_in x) (f seen a rest e sound rested) rest_sound.found_is rest_idle rest_sound.logs).same))
 
   -- what stops leave in reads since then
-  pub until_read : (y : Seen) → OnlyReads x y → Leaves a x (HoldOpened e 0) → a.traced → Leaves a y (HoldOpened e 0)
-  until_read y reads early traced =
+  pub until_read : (y : Seen) → LieApart e → OnlyReads x y → Leaves a x (HoldOpened e 0) → a.traced → Leaves a y (HoldOpened e 0)
+  until_read y apart reads early traced =
       leaves_then (HoldOpened e 0) early
       (leaves_weaker (HoldOpened (f seen a rest e sound rested) 0) (HoldOpened e 0) (λ i. opened_same e (f seen a rest e sound rested) 0 i (pool_same seen a rest e sound rested))
-      (rereading_leaves x y (f seen a rest e sound rested) rest_sound (inl rest_idle) reads (rested.stays.traced traced)))
+      (rereading_leaves x y (f seen a rest e sound rested) rest_sound (same_apart e (f seen a rest e sound rested) (pool_same seen a rest e sound rested) apart) (inl rest_idle) reads (rested.stays.traced traced)))

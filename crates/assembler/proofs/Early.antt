@@ -27,8 +27,9 @@ use Rattle.pool_check.specs.Refusing.{is_well}
 use Rattle.assembler.specs.Holding.{HoldPool}
 use Rattle.assembler.specs.Members.{AreMembers}
 use Rattle.pool_model.specs.Pools.{AreSlicesOf}
+use Rattle.pool_model.proofs.Found.{found_is}
 use Rattle.assembler.specs.Sound.{HoldSound, MayStop}
-use Rattle.assembler.proofs.Apart.{slices_landed}
+use Rattle.assembler.proofs.Apart.{lands_apart, slices_landed}
 use Rattle.assembler.proofs.Before.{stood_state}
 use Rattle.assembler.proofs.Entry.{IsRested, f, pool_same, rest_found}
 use Rattle.assembler.proofs.Leaving.{IsAsRead}
@@ -77,7 +78,8 @@ module _ {R : Type 0} (seen : R → Seen) (a : Seen) (rest : AtRest R) (e : Foun
             of_drives x rest.scan.disks.items rest.state (tables rest.slices) rest.on.items rest.log rest.pending rest.damaged pool (rest_found seen a rest e sound rested)
             t y checked absent orderly m lie (inside_before t x y reads.stays m.fit.1)
             (none_past pool t y checked absent orderly m holds.steady holds.pool opened.opened)
-            (slices_landed pool t y checked absent orderly m holds.steady holds.pool opened e same pending.0) in
+            (slices_landed pool t y checked absent orderly m holds.steady holds.pool opened (found_is (disks_of x) (now_in x) pool (rest_found seen a rest e sound rested).found_is).0 e same
+            (lands_apart (disks_of a) (now_in a) e sound.found_is pending.0)) in
             let stands : state_in (sliced t (now_in x)) ≡ Some rest.state =
             read_state pool t y checked absent orderly m holds.steady holds.pool opened holds.sound 0 some log holds.log (sliced t (now_in x)) still ∙ ap Some state in
             let replayed : KeepsReplayed a x t =

@@ -38,6 +38,7 @@ use Rattle.pool_rest.specs.SoundLogs.{HasSoundLogs}
 use Rattle.pool_model.specs.Openings.{HoldOpened, IsIdleIn}
 use Rattle.pool_model.proofs.Found.{found_is}
 use Rattle.pool_model.proofs.GatesSame.{HoldButGates, gates_opened, idle_holds}
+use Rattle.pool_model.proofs.Landing.{tables_apart}
 use Rattle.pool_model.proofs.Settled.{IsIdlePool, idle_pool}
 use Rattle.assembler.specs.Holding.{AreSteady}
 use Rattle.assembler.specs.Members.{AreMembers}
@@ -302,7 +303,8 @@ module _ (f e : Found) (t : Slices) (y : Seen) (checked : Checked) (absent : Lis
 
       opened_there : HoldOpened e 0 i
       opened_there =
-          gates_opened (disks_of y) i e (found_is (disks_of y) (now_in y) e rest.sound.found_is).1 rest.sound.sound (closed_holds i closed_there)
+          gates_opened (disks_of y) i e (found_is (disks_of y) (now_in y) e rest.sound.found_is).1 rest.sound.sound (tables_apart e rest.tables)
+          (closed_holds i closed_there)
 
     -- ---- at the end
 

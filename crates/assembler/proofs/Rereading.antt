@@ -7,18 +7,19 @@ use Rattle.pool_image.specs.Disks.{disks_of}
 use Rattle.pool_image.specs.Drives.{Found}
 use Rattle.pool_scan.specs.Scanning.{now_in}
 use Rattle.pool_model.specs.Openings.{HoldOpened, MayReplay}
+use Rattle.pool_model.specs.Stopped.{LieApart}
 use Rattle.pool_model.proofs.Rereading.{agree_holds}
 use Rattle.assembler.specs.Sound.{HoldSound}
 
-pub rereading_leaves : (x y : Seen) (f : Found) → HoldSound x f → MayReplay (disks_of x) (now_in x) f → OnlyReads x y → x.traced → Leaves x y (HoldOpened f 0)
-rereading_leaves x y f sound may reads traced =
+pub rereading_leaves : (x y : Seen) (f : Found) → HoldSound x f → LieApart f → MayReplay (disks_of x) (now_in x) f → OnlyReads x y → x.traced → Leaves x y (HoldOpened f 0)
+rereading_leaves x y f sound apart may reads traced =
     let stops = reads.keeps.stops traced in
     record {
       later = stops.later;
       kept = stops.kept;
       past = stops.past;
       new = λ k i late early stop.
-          agree_holds (disks_of x) (now_in x) i f sound.found_is sound.sound sound.logs may
+          agree_holds (disks_of x) (now_in x) i f sound.found_is sound.sound sound.logs apart may
           (λ d u low within.
           sound.steady.single d u low within (i d u)
           (stops.new k i late early stop d u (record {

@@ -15,6 +15,7 @@ use Rattle.pool_scan.specs.Scanning.{now_in}
 use Rattle.pool_rest.specs.Resting.{IsIdle}
 use Rattle.pool_model.specs.Left.{AreAlone}
 use Rattle.pool_model.specs.Openings.{HaveGoodTables, HoldOpened, IsButTables}
+use Rattle.pool_model.specs.Stopped.{LieApart}
 use Rattle.pool_model.proofs.Found.{few_places, found_is, seated_below}
 use Rattle.pool_model.proofs.Outset.{outset_of}
 use Rattle.pool_model.proofs.Settled.{settled_holds}
@@ -23,7 +24,7 @@ use Rattle.assembler.specs.Mending.{MendsTables}
 use Rattle.assembler.specs.Sound.{HoldSound}
 
 module _ (x y : Seen) (f : Found) (s : State) (seats : Seats) (agreed : List Bool) (gone now : List ℕ) (sound : HoldSound x f) (idle : IsIdle x)
-    (tables : HaveGoodTables f) (same : (p : ℕ) → seats p ≡ f.seats p) (mends : MendsTables x y s seats agreed gone now) (alone : AreAlone f (now_in x)) (traced : x.traced) where
+    (tables : HaveGoodTables f) (apart : LieApart f) (same : (p : ℕ) → seats p ≡ f.seats p) (mends : MendsTables x y s seats agreed gone now) (alone : AreAlone f (now_in x)) (traced : x.traced) where
   disks : f.disks ≡ disks_of x
   disks = (found_is (disks_of x) (now_in x) f sound.found_is).1
 
@@ -98,5 +99,5 @@ module _ (x y : Seen) (f : Found) (s : State) (seats : Seats) (agreed : List Boo
         kept = stops.kept;
         past = stops.past;
         new = λ k i late early stop alone_now.
-            settled_holds (disks_of x) (now_in x) i f sound.found_is idle sound.sound sound.logs tables (but k i late early stop) alone alone_now;
+            settled_holds (disks_of x) (now_in x) i f sound.found_is idle sound.sound sound.logs tables apart (but k i late early stop) alone alone_now;
       }

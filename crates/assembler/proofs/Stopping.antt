@@ -31,10 +31,13 @@ use Rattle.pool_model.specs.InService.{IsOutset}
 use Rattle.pool_model.specs.Left.{AreAlone, AreElsewhere, IsPickOff}
 use Rattle.pool_model.specs.Openings.{HaveGoodTables, HoldOpened}
 use Rattle.pool_model.specs.Pools.{AreSlicesOf}
+use Rattle.pool_model.specs.Stopped.{LieApart}
 use Rattle.pool_model.proofs.Amid.{IsReady}
 use Rattle.pool_model.proofs.Found.{IsFound, found_is}
+use Rattle.pool_model.proofs.Landing.{tables_apart}
 use Rattle.pool_model.proofs.Openings.{opened_same}
 use Rattle.pool_model.proofs.Outset.{outset_of}
+use Rattle.pool_model.proofs.Rereading.{same_apart}
 use Rattle.pool_model.proofs.SameAlone.{alone_same, good_same, own_alone, same_back, same_self}
 use Rattle.pool_model.proofs.Settled.{IsIdlePool, idle_pool}
 use Rattle.assembler.specs.Holding.{HoldPool, HoldsArrays}
@@ -70,7 +73,7 @@ module _ (f e : Found) (s : State) (t : Slices) (y b d z : Seen) (went places : 
     (are : (n : ℕ) (u : View) → slice_get checked.arrays.items n ≡ Some u → v.arrays n ≡ gone places (restarted u)) (nobody : places ≡ absent)
     (mended : IsMended s t y b d checked.agreed went places) (closed : absent ≡ [] → ReplayCall l (current_places s) [] (slices_of t y) (slices_of t b))
     (still : (absent ≡ [] → ⊥) → b ≡ y)
-    (settles : (g : Found) → HoldSound b g → IsIdle b → HaveGoodTables g → ((p : ℕ) → seat_of t p ≡ g.seats p) → AreAlone g (now_in b) → b.traced
+    (settles : (g : Found) → HoldSound b g → IsIdle b → HaveGoodTables g → LieApart g → ((p : ℕ) → seat_of t p ≡ g.seats p) → AreAlone g (now_in b) → b.traced
     → Leaves b d (λ i. AreAlone g i → HoldOpened g 0 i))
     (marking : WritesOnly d z (IsSliced t)) (set : IsSet v (slices_of t b)) (marks : Mends v w (slices_of t d) (slices_of t z))
     (made : HoldsArrays f w (slices_of t y) (slices_of t z)) (alive : AllLive w)
@@ -138,7 +141,7 @@ module _ (f e : Found) (s : State) (t : Slices) (y b d z : Seen) (went places : 
   settling =
       leaves_weaker (λ i. AreAlone g i → HoldOpened g 0 i) (λ i. AreAlone e i → HoldOpened e 0 i)
       (λ i holds alone. opened_same e g 0 i gates.same (holds (alone_same e g gates.same outset.made.1 outset.truths i alone)))
-      (settles g gates.sound gates.idle (good_same e g gates.same rest.good) (λ p. seats p ∙ sym (gates.same.seats p)) alone_b (mended.closing.stays.traced traced))
+      (settles g gates.sound gates.idle (good_same e g gates.same rest.good) (same_apart e g gates.same (tables_apart e rest.tables)) (λ p. seats p ∙ sym (gates.same.seats p)) alone_b (mended.closing.stays.traced traced))
 
   -- ---- marks
 

@@ -59,8 +59,8 @@ MayStop x f =
     ⊎ (TargetsLand f
     × (BringsNoState x ⊎ (HaveStood f × TakesLower x)))
 
--- At each moment from x to y what a stop leaves holds the pool f still, its arrays from a sector of theirs on: where nothing was pending, or a record that may
--- be replayed, targets land where the pool's slices are, all its arrays are ready for the volume, and no superblock stands where a drive that is no member of an
+-- At each moment from x to y what a stop leaves holds the pool f still, its arrays from a sector of theirs on, and targets land in it: where nothing was pending, or
+-- a record that may be replayed, targets land where the pool's slices are, all its arrays are ready for the volume, and no superblock stands where a drive that is no member of an
 -- array would have its slice, in the pool's contents and in those that the stop leaves.
 abbrev pub StopsHold : Seen → Seen → Found → ℕ → Type 0
 StopsHold x y f from =
@@ -120,6 +120,10 @@ pub record KeepsPool (x y : Seen) (f : Found) : Type 0 where
   pub after : IsAfter f.state state
   pub marks : (p : ℕ) → is_current state p ≡ (is_current f.state p && is_some (f.seats p))
   pub again : f.state.joined ≡ f.state.made → (i : Image) → IsPick y y y.held i → AreAlone f i → HoldSame f slices state i
+  -- and targets land in it, if they did in the pool that there was
+  pub landing :
+      TargetsLand f → (all : f.state.joined ≡ f.state.made) → (i : Image) → (pick : IsPick y y y.held i) → (alone : AreAlone f i)
+      → LieApart (again all i pick alone).again.still.now
   pub refusal : f.state.joined ≡ f.state.made → (i : Image) → IsPick y y y.held i → AreAlone f i → refusal_of (disks_of y) i ≡ refusal_of (disks_of x) (now_in x)
 
 -- the meaning of these disks is refused so

@@ -14,14 +14,16 @@
 //! they mean, over the slices of their pool's drives (`IsMeantBy`), and they are refused only as their meaning is (`IsMeantRefusal`), or for
 //! want of memory; both copies of each drive's partition table are the table that its disk had, and the superblocks of each array agree,
 //! durably (`HaveAgreed`). In all, only drives are written (`WritesPool` of specs/Writing.antt). At each moment of it what a stop leaves holds the pool still, so that
-//! it may be opened again (`StopsHold`, `HoldOpened` of pool_model), and says its volume (`IsMeantBy.says`).
+//! it may be opened again (`StopsHold`, `HoldOpened` of pool_model), and says its volume (`IsMeantBy.says`). Targets land in that pool as they did in the one that there was, so
+//! the next opening tells of its stops too, however often openings are stopped (`holds_opened`, `holds_left`, proofs/Again.antt; `holds_amid` for a call that was stopped,
+//! `holds_landing` for what a pool leaves between its calls).
 //!
 //! Whatever the disks tell and whoever goes, a refusal has its cause in what was read of them (`HasRefusalCause` of specs/Causes.antt): no pool or two by the
 //! copies of the state (`FindsNoPool`); the first refusal of the pool that the disks left make, where a place has lost its disk only where that refused a call,
 //! each disk that is left was read, and the logs are those of the pool's drives (`RefusesDrives`); or a bad array of those that the disks left make
 //! (`RefusesArrays`). How many drives are wanting is said, by what was read, of disks that tell nothing too. Sound disks that refuse no call mean what they meant after a
 //! refusal before the arrays are made; where an array's part of the volume group is bad, what a stop leaves holds the arrays that the pool had, each
-//! drive has its partition table, and in the end the disks hold a sound pool again, with the same group, shapes of arrays, bad arrays and volumes, and are refused as they were (`KeepsPool`).
+//! drive has its partition table, and in the end the disks hold a sound pool again, with the same group, shapes of arrays, bad arrays and volumes, are refused as they were, and targets land there as before (`KeepsPool`).
 //! After want of memory it is one or the other, unless numbers are used up (`LeavesPool` of
 //! specs/Wanting.antt). Whoever goes, a drive is marked missing only where it had no disk, or that refused a call (`MarksDrives` of specs/Marking.antt).
 //!

@@ -11,6 +11,7 @@ ghost use Rattle.assembler.specs.Sound.{HoldSound};
 ghost use Rattle.pool_image.specs.Drives.{Found};
 ghost use Rattle.pool_model.specs.Left.{AreAlone};
 ghost use Rattle.pool_model.specs.Openings.{HaveGoodTables, HoldOpened};
+ghost use Rattle.pool_model.specs.Stopped.{LieApart};
 ghost use Rattle.pool_rest.specs.Resting.{IsIdle};
 ghost use Rattle.pool_scan.specs.Scanning.{now_in};
 ghost use Rattle.rack.specs.Moments.{Leaves};
@@ -64,9 +65,9 @@ pub(crate) fn mend_tables<R: Rack>(
     ensures tables { tables slices.new ≡ tables slices.old }
     ensures mends { MendsTables (R.seen (below_of slices.old)) (R.seen (below_of slices.new)) state.now (seat_of (tables slices.old)) agreed.now gone.now.items result.items }
     ensures runs { R.runs (below_of slices.old) (below_of slices.new) }
-    // Where the disks hold a sound pool at rest, of which each drive has its table, what a stop leaves holds it still, if no superblock stands where a place that
-    // is no member would have a slice.
-    ensures moments { (f : Found) → HoldSound (R.seen (below_of slices.old)) f → IsIdle (R.seen (below_of slices.old)) → HaveGoodTables f
+    // Where the disks hold a sound pool at rest, of which each drive has its table and targets land in the slices, what a stop leaves holds it still, if no superblock
+    // stands where a place that is no member would have a slice.
+    ensures moments { (f : Found) → HoldSound (R.seen (below_of slices.old)) f → IsIdle (R.seen (below_of slices.old)) → HaveGoodTables f → LieApart f
         → ((p : ℕ) → seat_of (tables slices.old) p ≡ f.seats p) → AreAlone f (now_in (R.seen (below_of slices.old))) → (R.seen (below_of slices.old)).traced
         → Leaves (R.seen (below_of slices.old)) (R.seen (below_of slices.new)) (λ i. AreAlone f i → HoldOpened f 0 i) }
 {

@@ -5,4 +5,5 @@ pub mod Rows
 pub mod Sound
 pub mod Values
 pub mod Undamaged
+pub mod Unlisted
 pub mod Meaning

@@ -164,7 +164,7 @@ module _ (plan : NewPool) (birth : Birth) (disks : Disks) (c : Image) (is : IsNe
 
   module _ (n : ℕ) (a : NewArray) (at : slice_get plan.arrays.items n ≡ Some a) (p : ℕ) (low : p < disks.count) where
     -- the truth names the array's members
-    member_is : is_member f n p ≡ has a.members.items p
+    pub member_is : is_member f n p ≡ has a.members.items p
     member_is =
         let most = is.is_plan.most in
         let many = is.count in

@@ -7,5 +7,5 @@
 //! **For the layers above.** `proofs/Sound.antt`: contents of a new pool are found as its state, with each drive on its own disk; nothing is
 //! pending in its logs; and its states, superblocks and rows agree. `proofs/Meaning.antt`: with all copies they mean one volume of zeros
 //! (`zeros_meant`); with some they are refused by the lowest drive that has none (`state_refused`); and disks of which none says a state show
-//! no pool (`none_meant`).
+//! no pool (`none_meant`). The table of a drive has no slice of an array of which it is no member (`no_slice`, `proofs/Unlisted.antt`).
 #![tactic(auto)]

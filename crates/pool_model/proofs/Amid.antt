@@ -4,7 +4,7 @@
 -- whose drive is missing gave its disk up before. Beside `InService` they ask that the drives' tables in these contents have the members' slices
 -- (`LieByTables`): they have where the pool was found with such tables (`tables_begin`), and calls that write slices alone leave them so (`tables_calls`,
 -- `tables_amid`; for drives that were declined or taken in see proofs/Tables.antt).
-use Rattle.std.proofs.Common.{◌≡◌, ◌⊎◌, ℕ, ◌+◌, ◌-◌, ◌<◌, ◌≤◌, ◌^◌, ◌&&◌, Bool, true, false, nat_lt, if◌then◌else◌, List, [], length, Option, Some, None, unwrap_or, refl, sym, ap, ap₂, subst, ◌∙◌, inl, inr, add-one, le-ltb, ltb-true, arith}
+use Rattle.std.proofs.Common.{◌≡◌, ◌⊎◌, ℕ, ◌+◌, ◌-◌, ◌<◌, ◌≤◌, ◌^◌, ◌&&◌, Bool, true, false, nat_lt, if◌then◌else◌, List, [], Option, Some, None, unwrap_or, refl, sym, ap, ap₂, subst, ◌∙◌, inl, inr, add-one, le-ltb, ltb-true, arith}
 use Rattle.std.proofs.lemmas.Bool.{and_parts, cases_Bool, cases_eq}
 use Rattle.std.proofs.lemmas.Option.{none-some}
 use Rattle.rack.specs.Joins.{leaves_weaker}
@@ -22,42 +22,35 @@ use Rattle.pool_state.specs.Sector.{decoded}
 use Rattle.array_image.specs.Arrays.{replayed}
 use Rattle.array_image.specs.Left.{IsInside as HasNothing}
 use Rattle.array_image.specs.Places.{log_slice, place_of}
-use Rattle.array_image.specs.SoundArray.{IsSoundArray}
 use Rattle.array_image.specs.States.{is_current}
-use Rattle.array_image.specs.Supers.{truth_in}
 use Rattle.array_model.specs.View.{HasGeometry}
 use Rattle.commit_log.proofs.Kept.{live_on}
-use Rattle.raid_rack.specs.Book.{IsAfter, after_same, after_then}
-use Rattle.raid_rack.specs.Frames.{Frame, HasFrame, frame_of}
+use Rattle.raid_rack.specs.Book.{IsAfter, after_same}
+use Rattle.raid_rack.specs.Frames.{HasFrame, frame_of}
 use Rattle.raid_rack.specs.Logs.{LogsBetween}
 use Rattle.raid_rack.specs.Raid.{IsTold, Raid, is_over}
 use Rattle.raid_rack.specs.Runs.{IsBetween, KeepsMoments}
 use Rattle.raid_rack.specs.Since.{AreSince}
-use Rattle.raid_rack.proofs.Frames.{geometry_frame}
 use Rattle.raid_rack.proofs.Noted.{current_few}
 use Rattle.raid_rack.proofs.Over.{number_room, someone_left}
 use Rattle.raid_rack.proofs.Since.{kept_since}
 use Rattle.pool_image.specs.Disks.{Disks, Identities, disks_of, identities_of, stands_for}
-use Rattle.pool_image.specs.Drives.{Found, extent_of, slices_of as found_slices}
+use Rattle.pool_image.specs.Drives.{Found, extent_of}
 use Rattle.pool_image.specs.Meaning.{is_member, truth_of}
 use Rattle.pool_image.specs.Replay.{extent_by}
 use Rattle.pool_model.specs.InService.{InService, IsArranged, IsOutset, IsSaid}
 use Rattle.pool_model.specs.Left.{AreAloneBy, AreElsewhere, HoldRest, IsPickOff}
 use Rattle.pool_model.specs.Pools.{AreSlicesOf, extent_in}
-use Rattle.pool_model.specs.Stopped.{AreSlicesNow, HaveTables, HoldAmid, HoldBetween, HoldTables, IsStopped, LieByTables, SaysArray, TellsStops}
+use Rattle.pool_model.specs.Laid.{IsCalledBy, ShowsStop}
+use Rattle.pool_model.specs.Stopped.{AreSlicesNow, HaveTables, HoldAmid, HoldBetween, HoldTables, LieByTables, TellsStops}
 use Rattle.pool_model.specs.Taken.{LacksDrive}
 use Rattle.pool_model.proofs.Again.{off_later}
-use Rattle.pool_model.proofs.Alike.{alone_said, has_truths, slices_said, truth_same}
-use Rattle.pool_model.proofs.Current.{shape_truth}
+use Rattle.pool_model.proofs.Alike.{slices_said}
 use Rattle.pool_model.proofs.Found.{ok_of}
-use Rattle.pool_model.proofs.Framed.{named_same, truth_placed}
-use Rattle.pool_model.proofs.InService.{still_said}
-use Rattle.pool_model.proofs.Inside.{stopped_still}
 use Rattle.pool_model.proofs.Logs.{copied_in, there_in}
-use Rattle.pool_model.proofs.Named.{same_length}
 use Rattle.pool_model.proofs.Outset.{arranged_of}
-use Rattle.pool_model.proofs.Pending.{apart_now, lower_now, stood_in_log}
 use Rattle.pool_model.proofs.Said.{AreInside, slices_by}
+use Rattle.pool_model.proofs.Shown.{shown_between}
 use Rattle.pool_model.proofs.Vacant.{logs_other, seat_other, sliced_before, slices_now}
 
 some_same : {X : Type 0} (a b : X) → Some a ≡ Some b → a ≡ b
@@ -104,7 +97,7 @@ off_more t u x before i off d s live never = off d s live (λ w is. never w (bef
 -- ---- a call
 
 -- slices lie inside the pool's disks
-inside_of : (f : Found) (t : Slices) (x : Seen) → f.disks ≡ disks_of x → IsInside t x → AreInside f t
+pub inside_of : (f : Found) (t : Slices) (x : Seen) → f.disks ≡ disks_of x → IsInside t x → AreInside f t
 inside_of f t x disks inside j d seat some =
     let disk : disk_of t j ≡ d = ap (λ o. unwrap_or o 0) seat in
     let sectors : x.sectors d ≡ f.disks.sectors d = ap (λ (z : Disks). z.sectors d) (sym disks) in
@@ -131,21 +124,16 @@ module _ (f : Found) (t : Slices) (v w : Raid) (x y : Seen) (is : IsCalled f t v
     (absent : (i : Image) → IsPickOff t x i → AreSince v.state (sectors_of t) (sliced t i) → (p d : ℕ) → is_current v.state p ≡ true → f.seats p ≡ None → d < f.disks.count
     → stands_for v.state (identities_of f.disks i d) ≡ Some p → ⊥)
     (enough : w.state.epoch < 2 ^ 63 - 1) (someone : (s : State) → IsAfter v.state s → IsAfter s w.state → (p d : ℕ) × (is_current s p ≡ true) × (f.seats p ≡ Some d)) where
-  few : f.state.made ≤ 16
-  few = is.arranged.made.1
-
   within : AreInside f t
   within = inside_of f t x is.disks inside
 
-  -- ---- contents of the slices
+  by : IsCalledBy f t v
+  by = record { arranged = is.arranged; after = is.after; joined = is.joined; geometry = is.geometry; slices = is.slices; orderly = orderly; inside = within }
 
   module _ (traced : x.traced) (k : ℕ) (i : Image) (late : x.clock < k) (early : k ≤ y.clock) (stop : y.stops k i)
       (tables : LieByTables f t v.state i) (alone : AreAloneBy v.state f i) where
     abbrev c : Image
     c = sliced t i
-
-    abbrev r : Image
-    r = replayed (sectors_of t) c
 
     shown : (slices_of t y).stops k c
     shown = (i, stop, λ d s. refl)
@@ -153,31 +141,11 @@ module _ (f : Found) (t : Slices) (v w : Raid) (x y : Seen) (is : IsCalled f t v
     nothing : HasNothing (sectors_of t) c
     nothing d u past = ap (λ (b : Bool). if b then i (disk_of t d) (slice_first t d + u) else []) (le-ltb u (sectors_of t d) past)
 
-    logs : LogsBetween v.state w.state (sectors_of t) c
-    logs = (tells traced).logs.new k c late early shown nothing
-
-    abbrev s : State
-    s = logs.state
-
     since : AreSince v.state (sectors_of t) c
     since = (tells traced).since.new k c late early shown nothing
 
-    -- ---- the disks outside the slices
-
     off : IsPickOff t x i
     off = off_amid t x y lasting only traced k i late early stop
-
-    abbrev e : Identities
-    e = (is.said i off).identities
-
-    abbrev said : Found
-    said = record f { identities = e }
-
-    has : (n : ℕ) → n < f.state.made → (u : Super) × (truth_of f n ≡ Some u)
-    has = is.arranged.truths
-
-    truth_said : (n : ℕ) → n < f.state.made → truth_of said n ≡ truth_of f n
-    truth_said n low = truth_same f said few has (has_truths f e few has) n low
 
     -- a drive whose place wasn't current
     former : (p d : ℕ) (copy : Copied) → f.seats p ≡ Some d → is_current v.state p ≡ false → (identities_of f.disks i d).copied ≡ Some copy → copy.state.epoch < v.state.epoch
@@ -188,66 +156,23 @@ module _ (f : Found) (t : Slices) (v w : Raid) (x y : Seen) (is : IsCalled f t v
           (ok_of (decoded (c (log_slice p) 0)) copy (sym (copied_in f t i within p d has.0 has.1) ∙ here))
     ]
 
-    -- ---- arrays
-
-    places : length s.drives.items ≤ 16
-    places =
-        let same = same_length s.drives.items f.state.drives.items (after_then f.state v.state s is.after logs.later).same.drives in
-        let most = is.arranged.places in
-        omega (arith, same, most)
-
-    array_said : (n : ℕ) → n < f.state.made → SaysArray said s r n
-    array_said n low =
-        let between = ((tells traced).arrays n low).new k c late early shown nothing in
-        let state : between.state ≡ s = some_same between.state s (sym between.is_state ∙ logs.says.is_state) in
-        let one = shape_truth between.state r n (truth_in between.state r n) between.shape between.shape_is in
-        let truth : truth_in s r n ≡ Some one.0 = subst (λ (z : State). truth_in z r n ≡ Some one.0) state one.1 in
-        let frame : frame_of one.0 ≡ frame_of (v.arrays n).truth =
-        ((tells traced).frames n low).new k c late early shown nothing s one.0 logs.says.is_state truth in
-        record {
-          truth = one.0;
-          is_truth = truth;
-          sound = subst (λ (z : State). IsSoundArray z r n one.0) state (between.is_sound one.0 one.1);
-          size = λ u at. ap (λ (g : Frame). g.size) frame ∙ (is.geometry n u low (sym (truth_said n low) ∙ at)).size;
-          named = λ u p at.
-              named_same one.0 u (truth_placed s r n one.0 places truth) (truth_placed f.state (found_slices said) n u is.arranged.places at)
-              (frame ∙ geometry_frame u (v.arrays n).truth (is.geometry n u low (sym (truth_said n low) ∙ at))) p;
-        }
-
-    stopped : IsStopped said t v.state s i
-    stopped = record {
-      is = (is.said i off).outset;
-      begun = is.after;
-      after = logs.later;
-      room = (let up = logs.sooner.epoch in omega (arith, enough, up));
-      joined = is.joined;
-      slices = is.slices e;
-      orderly = orderly;
-      inside = within;
-      absent = absent i off since;
-      someone = someone s logs.later logs.sooner;
-      tables = λ p d now. tables p d (logs.later.current p now);
+    shows : ShowsStop f t v w i
+    shows = record {
+      parts = record {
+        said = is.said i off;
+        tables = tables;
+        alone = alone;
+        absent = absent i off since;
+        logs = (tells traced).logs.new k c late early shown nothing;
+        arrays = λ n low. ((tells traced).arrays n low).new k c late early shown nothing;
+        frames = λ n low. ((tells traced).frames n low).new k c late early shown nothing;
+      };
       former = former;
-      says = logs.says;
       since = since;
-      arrays = array_said;
-      elsewhere = (is.said i off).elsewhere;
-      alone =
-          alone_said f e few has s i
-          (λ n p d begins low now. alone n p d begins low (logs.later.current p now));
     }
 
     amid : HoldBetween f t v.state w.state i
-    unfolding stopped_still still_said
-    amid = record {
-      state = s;
-      later = logs.later;
-      sooner = logs.sooner;
-      still = still_said f e t s i (stopped_still said t v.state s i stopped);
-      apart = apart_now said t v.state s i stopped;
-      stood = stood_in_log said t v.state s i stopped;
-      lower = lower_now said t v.state s i stopped;
-    }
+    amid = shown_between f t v w i by shows enough someone
 
   called_amid : x.traced → Leaves x y (λ i. LieByTables f t v.state i → AreAloneBy v.state f i → HoldBetween f t v.state w.state i)
   called_amid traced =
@@ -288,7 +213,7 @@ module _ (f : Found) (t : Slices) (v w : Raid) (x y : Seen) (is : IsCalled f t v
       by (Some d) seat = (d, seat)
       by None free =
           let at : place_of (log_slice p) ≡ p = omega arith in
-          let nothing = (is.slices f.identities).unseated (log_slice p) (ap f.seats at ∙ free) in
+          let nothing = (is.slices f.identities).unseated (log_slice p) (ap (is_current v.state) at ∙ now) (ap f.seats at ∙ free) in
           let some = ((told 0 first).stood (keeps.still 0 (lasts 0 first))).log.there p now refl in
           absurd (omega (arith, nothing, some))
 

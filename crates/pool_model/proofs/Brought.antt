@@ -21,13 +21,13 @@ use Rattle.commit_log.proofs.Replaying.{pending_sound}
 use Rattle.commit_log.proofs.Story.{payload_is}
 use Rattle.pool_image.specs.Disks.{Identities, identities_of, seat_of}
 use Rattle.pool_image.specs.Drives.{Found}
-use Rattle.pool_image.specs.Replay.{Extent, extent_by, landed, written}
+use Rattle.pool_image.specs.Replay.{Extent, extent_by, landed, standing_by, written}
 use Rattle.pool_rest.specs.Resting.{replayed_on}
 use Rattle.pool_model.specs.Pools.{extent_in}
-use Rattle.pool_model.specs.Stopped.{IsStopped}
+use Rattle.pool_model.specs.Stopped.{SaysStopped, StandFor}
 use Rattle.pool_model.proofs.Logs.{log_lies}
 use Rattle.pool_model.proofs.Seats.{nowhere}
-use Rattle.pool_model.proofs.Stopped.{before, drive_there, lies, on_place, room, seated, seats_by, targets, u}
+use Rattle.pool_model.proofs.Stopped.{drive_there, lies, on_place, room}
 
 -- ---- targets of some places alone
 
@@ -71,9 +71,9 @@ look_kept keep (x ∷ xs) k j kept = of (keep x.disk) refl (look_kept keep xs k 
     of true is rest = ap (λ o. option_or o (if is_at k j x then Some x.bytes else None)) rest
     of false is rest = rest ∙ or_none (look xs k j) ∙ ap (λ (b : Bool). option_or (look xs k j) (if b then Some x.bytes else None)) (sym (away is))
 
-module _ (f : Found) (t : Slices) (base s : State) (i : Image) (stop : IsStopped f t base s i) where
+module _ (f : Found) (t : Slices) (base s : State) (i : Image) (stop : SaysStopped f t base s i) (st : StandFor f t s i) where
   abbrev xs : List Target
-  xs = (before f t base s i stop).targets
+  xs = (standing_by f.disks i st.stood).targets
 
   abbrev held : Image
   held = sliced t i
@@ -83,10 +83,10 @@ module _ (f : Found) (t : Slices) (base s : State) (i : Image) (stop : IsStopped
 
   -- the disks with the record written
   abbrev pub e : Image
-  e = written f.disks (before f t base s i stop) i
+  e = written f.disks (standing_by f.disks i st.stood) i
 
   pub apart : are_apart xs ≡ true
-  apart = (pending_sound (current_places (u f t base s i stop)) (before f t base s i stop).logs).apart
+  apart = (pending_sound (current_places st.stood) (standing_by f.disks i st.stood).logs).apart
 
   abbrev lands : Target → Option Target
   lands = landed f.disks says (seat_of s f.disks says)
@@ -95,7 +95,7 @@ module _ (f : Found) (t : Slices) (base s : State) (i : Image) (stop : IsStopped
   ys = filter_map lands xs
 
   pub e_is : (d k : ℕ) → e d k ≡ replayed_on f.disks s xs i d k
-  e_is d k = ap (λ (z : State). put f.disks.sectors (filter_map (landed f.disks says (seat_of z f.disks says)) xs) i d k) (seated f t base s i stop)
+  e_is d k = ap (λ (z : State). put f.disks.sectors (filter_map (landed f.disks says (seat_of z f.disks says)) xs) i d k) st.seated
 
   -- a sector that no target lands on
   pub e_none : (d k : ℕ) → look ys d k ≡ None → e d k ≡ i d k
@@ -132,14 +132,14 @@ module _ (f : Found) (t : Slices) (base s : State) (i : Image) (stop : IsStopped
   lands_there z payload now =
       let p = place_of z.disk in
       let has : look (pending (deciding held) held) z.disk z.sector ≡ Some z.bytes =
-      ap (λ (zs : List Target). look zs z.disk z.sector) (sym (targets f t base s i stop)) ∙ payload_is xs z.disk z.sector z.bytes apart payload in
+      ap (λ (zs : List Target). look zs z.disk z.sector) (sym st.targets) ∙ payload_is xs z.disk z.sector z.bytes apart payload in
       let within : z.sector < sectors_of t z.disk = stop.says.inside z.disk z.sector z.bytes has in
-      let drive = drive_there f t base s i stop z.disk z.sector within in
+      let drive = drive_there f t base s i stop z.disk z.sector (stop.after.current p now) within in
       let d = drive.0 in
       let on : disk_of t z.disk ≡ d = ap (λ o. unwrap_or o 0) (on_place f t base s i stop p d drive.1 (stop.after.current p now)) in
       ap (option_and_then (λ d. option_and_then (λ (x : Extent). if nat_lt z.sector x.sectors then Some (record { disk = d; sector = x.first + z.sector; bytes = z.bytes }) else None)
       (extent_by (f.disks.sectors d) (says d).table (slice_of z.disk))))
-      (seats_by f t base s i stop s stop.after p now ∙ drive.1)
+      (st.seats p now ∙ drive.1)
       ∙ ap (option_and_then (λ (x : Extent). if nat_lt z.sector x.sectors then Some (record { disk = d; sector = x.first + z.sector; bytes = z.bytes }) else None))
       (extent_there z.disk d now drive.1 (omega (arith, within)))
       ∙ ap (λ q. if nat_lt z.sector (sectors_of t z.disk) then Some (record { disk = q; sector = slice_first t z.disk + z.sector; bytes = z.bytes }) else None) (sym on)
@@ -165,7 +165,7 @@ module _ (f : Found) (t : Slices) (base s : State) (i : Image) (stop : IsStopped
         ∙ sym (ap (λ (b : Bool). if b then i (disk_of t k) (slice_first t k + j) else []) (le-ltb j (sectors_of t k) past))
         ∙ sym (ap (λ (b : Bool). if b then unwrap_or (look (pending (deciding held) held) k j) (held k j) else held k j) (le-ltb j (sectors_of t k) past))
     | inl low ↦
-        let drive = drive_there f t base s i stop k j low in
+        let drive = drive_there f t base s i stop k j (stop.after.current (place_of k) now) low in
         let d = drive.0 in
         let seat : slice_seat t (place_of k) ≡ Some d = on_place f t base s i stop (place_of k) d drive.1 (stop.after.current (place_of k) now) in
         let on : disk_of t k ≡ d = ap (λ o. unwrap_or o 0) seat in
@@ -173,7 +173,7 @@ module _ (f : Found) (t : Slices) (base s : State) (i : Image) (stop : IsStopped
         let within : slice_first t k + j < f.disks.sectors (disk_of t k) = subst (λ q. slice_first t k + j < f.disks.sectors q) (sym on) (omega (arith, low, end)) in
         let here : look ys (disk_of t k) (slice_first t k + j) ≡ look (pending (deciding held) held) k j =
         ap (λ (ws : List Target). look ws (disk_of t k) (slice_first t k + j)) lands_as
-        ∙ look_landed t stop.orderly zs k j low ∙ look_kept keep xs k j now ∙ ap (λ (ws : List Target). look ws k j) (targets f t base s i stop) in
+        ∙ look_landed t stop.orderly zs k j low ∙ look_kept keep xs k j now ∙ ap (λ (ws : List Target). look ws k j) st.targets in
         ap (λ (b : Bool). if b then e (disk_of t k) (slice_first t k + j) else []) (lt-ltb j (sectors_of t k) low)
         ∙ e_is (disk_of t k) (slice_first t k + j)
         ∙ ap (λ (b : Bool). if b then unwrap_or (look ys (disk_of t k) (slice_first t k + j)) (i (disk_of t k) (slice_first t k + j)) else i (disk_of t k) (slice_first t k + j))

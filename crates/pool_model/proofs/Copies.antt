@@ -136,7 +136,7 @@ module _ (f : Found) (t : Slices) (v : Raid) (y : Seen) (i : Image) (known : IsK
       by : (o : Option ℕ) → f.seats p ≡ o → (d : ℕ) × (f.seats p ≡ Some d)
       by (Some d) seat = (d, seat)
       by None seat =
-          let nothing = known.served.slices.unseated (log_slice p) (ap f.seats (place_is p) ∙ seat) in
+          let nothing = known.served.slices.unseated (log_slice p) (ap (is_current s) (place_is p) ∙ now) (ap f.seats (place_is p) ∙ seat) in
           let some = kept.there p now refl in
           let same = known.left.sectors (log_slice p) in
           absurd (omega (arith, nothing, some, same))

@@ -31,7 +31,8 @@ module _ (f : Found) (disks : Disks) (arranged : IsArranged f) (more : f.disks.c
   abbrev pub g : Found
   g = attached f disks
 
-  sector_same : (p s : ℕ) → drive_sector g p s ≡ drive_sector f p s
+  -- a sector of a place's drive is what it was
+  pub sector_same : (p s : ℕ) → drive_sector g p s ≡ drive_sector f p s
   sector_same p s = by (f.seats p) refl
     where
       by : (o : Option ℕ) → f.seats p ≡ o

@@ -77,10 +77,10 @@ module _ (f : Found) (t : Slices) (book : State) (i : Image) (before : Standing)
           (le-ltb u (sectors_of t (member_slice p n)) (let nothing = no_slice none in omega (arith, nothing)))
 
       -- nor has one without a drive
-      pub reads_absent : f.seats p ≡ None → (u : ℕ) → held (member_slice p n) u ≡ []
-      reads_absent free u =
+      pub reads_absent : is_current book p ≡ true → f.seats p ≡ None → (u : ℕ) → held (member_slice p n) u ≡ []
+      reads_absent counts free u =
           ap (λ (b : Bool). if b then i (disk_of t (member_slice p n)) (slice_first t (member_slice p n) + u) else [])
-          (le-ltb u (sectors_of t (member_slice p n)) (let nothing = said.slices.unseated (member_slice p n) (ap f.seats place_is ∙ free) in omega (arith, nothing)))
+          (le-ltb u (sectors_of t (member_slice p n)) (let nothing = said.slices.unseated (member_slice p n) (ap (is_current book) place_is ∙ counts) (ap f.seats place_is ∙ free) in omega (arith, nothing)))
 
       module _ (d : ℕ) (seat : f.seats p ≡ Some d) (counts : is_current book p ≡ true) where
         pub seat_is : slice_seat t (place_of (member_slice p n)) ≡ Some d
@@ -134,7 +134,7 @@ module _ (f : Found) (t : Slices) (book : State) (i : Image) (before : Standing)
               nothing_super book (slices_from g first) n p
               (ap (λ q. drive_sector g q (first + super_sector)) place_is
               ∙ ap (λ o. option_map_or (λ e. if nat_lt (first + super_sector) (f.disks.sectors e) then i e (first + super_sector) else []) o []) (said.seats p counts ∙ free))
-              ∙ sym (nothing_super book held n p (reads_absent free super_sector))
+              ∙ sym (nothing_super book held n p (reads_absent counts free super_sector))
           by (Some d) has =
               let seat = said.seats p counts ∙ has in
               elim (cases_Bool (is_member f n p)) [

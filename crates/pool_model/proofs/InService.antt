@@ -38,12 +38,14 @@ use Rattle.raid_rack.specs.Raid.{Raid, IsTold, is_over}
 use Rattle.pool_model.specs.InService.{HoldSaid, InService}
 use Rattle.pool_model.specs.Left.{HoldAgain, HoldRest, HoldStill, IsServed}
 use Rattle.pool_model.specs.Pools.{AreSlicesOf, IsSoundPool}
+use Rattle.pool_model.specs.Stopped.{HoldLanding, HoldTables}
 use Rattle.pool_model.specs.Taken.{JoinsBook, KeepsOthers, KeepsRest, LacksDrive, SeatsNew, attached, taken}
 use Rattle.pool_model.proofs.Again.{known_again, left_by, left_known_by, off_later}
 use Rattle.pool_model.proofs.Alike.{alone_said, has_truths, served_said, slices_like, slices_said, truth_same}
 use Rattle.pool_model.proofs.Copies.{IsServedNow}
 use Rattle.pool_model.proofs.Declined.{arranged_attached, held_attached, truths_attached}
 use Rattle.pool_model.proofs.Found.{found_is}
+use Rattle.pool_model.proofs.Landing.{landing_again}
 use Rattle.pool_model.proofs.Outset.{arranged_of, outset_of}
 use Rattle.pool_model.proofs.Staying.{held_taken}
 use Rattle.pool_model.proofs.Taken.{IsKnownBefore, arranged_taken}
@@ -205,3 +207,18 @@ vacant_again f t u v x place is lacks inside told lasts i pick =
     pick in
     again_said f e u v.state i
     (known_again g u v (slices_of u x) i (known_vacant g t u v x place i said.outset is.disks slices still served left (λ d s live never. pick d s live)))
+
+-- ---- where the drives' tables have the members' slices
+
+-- Then targets land in the pool that it is left with.
+pub service_landing : (f : Found) (t : Slices) (v : Raid) (x : Seen) → InService f t v x → HoldTables f t v.state x → IsInside t x
+    → ((n : ℕ) → n < f.state.made → IsTold v (slices_of t x) n) → ((n : ℕ) → n < f.state.made → is_over v n ≡ false)
+    → (i : Image) → IsPick x x x.held i → HoldLanding f t v.state i
+service_landing f t v x is tables inside told lasts i pick =
+    landing_again f t v.state x tables i pick (service_again f t v x is inside told lasts i pick)
+
+pub vacant_landing : (f : Found) (t u : Slices) (v : Raid) (x : Seen) (place : ℕ) → InService f t v x → HoldTables f u v.state x → LacksDrive f t u v place x → IsInside u x
+    → ((n : ℕ) → n < f.state.made → IsTold v (slices_of u x) n) → ((n : ℕ) → n < f.state.made → is_over v n ≡ false)
+    → (i : Image) → IsPick x x x.held i → HoldLanding f u v.state i
+vacant_landing f t u v x place is tables lacks inside told lasts i pick =
+    landing_again f u v.state x tables i pick (vacant_again f t u v x place is lacks inside told lasts i pick)

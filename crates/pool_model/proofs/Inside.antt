@@ -26,7 +26,7 @@ use Rattle.commit_log.proofs.Replaying.{pending_sound}
 use Rattle.pool_image.specs.Disks.{Identities, Identity, identities_of, newest, seat_of, stands_for}
 use Rattle.pool_image.specs.Drives.{Found, end_of, extent_from, first_of, found, found_by}
 use Rattle.pool_image.specs.Meaning.{is_member}
-use Rattle.pool_image.specs.Replay.{Extent, written}
+use Rattle.pool_image.specs.Replay.{Extent, standing_by, written}
 use Rattle.pool_image.proofs.Founds.{first_behind}
 use Rattle.pool_image.proofs.Truths.{extent_found}
 use Rattle.pool_rest.proofs.BroughtCopies.{tables}
@@ -34,32 +34,31 @@ use Rattle.pool_rest.proofs.Landings.{where_landed}
 use Rattle.pool_model.specs.InService.{epoch_at}
 use Rattle.pool_model.specs.Left.{AreAloneBy, HoldStill}
 use Rattle.pool_model.specs.Pools.{extent_in}
-use Rattle.pool_model.specs.Stopped.{IsStopped, SaysArray}
+use Rattle.pool_model.specs.Stopped.{SaysArray, SaysStopped, StandFor}
 use Rattle.pool_model.proofs.Brought.{apart, e, e_is, e_none, lands_as, replays, ys, zs}
 use Rattle.pool_model.proofs.Current.{SameCurrent, SameMembers, array_current, sound_current, truth_current}
 use Rattle.pool_model.proofs.Found.{newest_latest}
 use Rattle.pool_model.proofs.Layers.{IsLaid, laid}
 use Rattle.pool_model.proofs.Logs.{log_lies}
 use Rattle.pool_model.proofs.Named.{IsNamed, id_same, same_position, stands_named, stands_same}
-use Rattle.pool_model.proofs.Outset.{no_later_epoch}
 use Rattle.pool_model.proofs.Said.{SaysPool, SaysSeats, pool_of}
 use Rattle.pool_model.proofs.Seats.{nowhere, seats_now}
 use Rattle.pool_model.proofs.Still.{alone_now, slices_now, sound_now, value_now}
-use Rattle.pool_model.proofs.Stopped.{before, c, copied_is, few, former_low, ids, later_base, logs_sound, many, no_later, on_place, own, own_copied, seated_or, seats_by, stands, stood_early, targets, u}
+use Rattle.pool_model.proofs.Stopped.{c, copied_is, few, ids, later_base, many, on_place, seated_or}
 
 some_same : {X : Type 0} (a b : X) → Some a ≡ Some b → a ≡ b
 some_same a b same = cc
 
-module _ (f : Found) (t : Slices) (base s : State) (i : Image) (stop : IsStopped f t base s i) where
+module _ (f : Found) (t : Slices) (base s : State) (i : Image) (stop : SaysStopped f t base s i) (st : StandFor f t s i) where
   abbrev xs : List Target
-  xs = (before f t base s i stop).targets
+  xs = (standing_by f.disks i st.stood).targets
 
   abbrev held : Image
   held = sliced t i
 
   -- the disks with the record written, and what they say
   abbrev after : Image
-  after = e f t base s i stop
+  after = e f t base s i stop st
 
   abbrev says : Identities
   says = identities_of f.disks after
@@ -69,21 +68,21 @@ module _ (f : Found) (t : Slices) (base s : State) (i : Image) (stop : IsStopped
   one_place p q d here there = some_same p q (sym (stop.is.seated p d here).stands ∙ (stop.is.seated q d there).stands)
 
   own_copies : AreOwnCopies s xs
-  own_copies p w is = stop.says.brings p w (ap (λ (zs : List Target). look zs (log_slice p) 0) (sym (targets f t base s i stop)) ∙ is)
+  own_copies p w is = stop.says.brings p w (ap (λ (zs : List Target). look zs (log_slice p) 0) (sym st.targets) ∙ is)
 
   -- no state is brought to a disk that isn't a current place's
-  no_copy : (d : ℕ) → ((p : ℕ) → is_current s p ≡ true → f.seats p ≡ Some d → ⊥) → look (ys f t base s i stop) d state_sector ≡ None
-  no_copy d none = of (look (ys f t base s i stop) d state_sector) refl
+  no_copy : (d : ℕ) → ((p : ℕ) → is_current s p ≡ true → f.seats p ≡ Some d → ⊥) → look (ys f t base s i stop st) d state_sector ≡ None
+  no_copy d none = of (look (ys f t base s i stop st) d state_sector) refl
     where
       seated_at : (p : ℕ) → seat_of s f.disks (ids f t base s i stop) p ≡ Some d → (is_current s p ≡ true) ⊎ (is_current s p ≡ false) → ⊥
-      seated_at p seat (inl now) = none p now (sym (seats_by f t base s i stop s stop.after p now) ∙ seat)
+      seated_at p seat (inl now) = none p now (sym (st.seats p now) ∙ seat)
       seated_at p seat (inr past) = none-some d (sym (nowhere s f.disks (ids f t base s i stop) p past) ∙ seat)
 
-      of : (o : Option (List ℕ)) → look (ys f t base s i stop) d state_sector ≡ o → look (ys f t base s i stop) d state_sector ≡ None
+      of : (o : Option (List ℕ)) → look (ys f t base s i stop st) d state_sector ≡ o → look (ys f t base s i stop st) d state_sector ≡ None
       of None is = is
       of (Some v) is =
           elim (where_landed f.disks (ids f t base s i stop) s xs
-          (pending_sound (current_places (u f t base s i stop)) (before f t base s i stop).logs).valid (apart f t base s i stop) d state_sector v is) [
+          (pending_sound (current_places st.stood) (standing_by f.disks i st.stood).logs).valid (apart f t base s i stop st) d state_sector v is) [
             | inl copy ↦ absurd (seated_at copy.place copy.seat (cases_Bool (is_current s copy.place)))
             | inr part ↦ absurd (omega (arith, part.0))
           ]
@@ -91,14 +90,14 @@ module _ (f : Found) (t : Slices) (base s : State) (i : Image) (stop : IsStopped
   -- each disk has the table that it had
   pub table_same : (d : ℕ) → (says d).table ≡ (ids f t base s i stop d).table
   table_same d =
-      ap (λ (z : Image). (identities_of f.disks z d).table) (λ j d k. e_is f t base s i stop d k j)
-      ∙ tables f.disks i s xs (pending_sound (current_places (u f t base s i stop)) (before f t base s i stop).logs).valid (apart f t base s i stop) own_copies d
+      ap (λ (z : Image). (identities_of f.disks z d).table) (λ j d k. e_is f t base s i stop st d k j)
+      ∙ tables f.disks i s xs (pending_sound (current_places st.stood) (standing_by f.disks i st.stood).logs).valid (apart f t base s i stop st) own_copies d
 
   -- such a disk says what it said
   same_says : (d : ℕ) → ((p : ℕ) → is_current s p ≡ true → f.seats p ≡ Some d → ⊥) → says d ≡ ids f t base s i stop d
   same_says d none =
       ap₂ (λ (k : Option Copied) (z : Option Table). record { copied = k; table = z })
-      (ap (λ (w : List ℕ). if nat_lt state_sector (f.disks.sectors d) then result_ok (decoded w) else None) (e_none f t base s i stop d state_sector (no_copy d none)))
+      (ap (λ (w : List ℕ). if nat_lt state_sector (f.disks.sectors d) then result_ok (decoded w) else None) (e_none f t base s i stop st d state_sector (no_copy d none)))
       (table_same d)
 
   -- ---- copies
@@ -111,15 +110,15 @@ module _ (f : Found) (t : Slices) (base s : State) (i : Image) (stop : IsStopped
       let copy = stop.says.copies.own p now (let size = many f t base s i stop p d seat was in omega (arith, size)) in (
         copy.own,
         copied_is f t base s i stop p d seat was after
-            ∙ ap (λ (w : List ℕ). result_ok (decoded w)) (replays f t base s i stop (log_slice p) 0 (ap (is_current s) at ∙ now))
+            ∙ ap (λ (w : List ℕ). result_ok (decoded w)) (replays f t base s i stop st (log_slice p) 0 (ap (is_current s) at ∙ now))
             ∙ ap result_ok copy.copy,
         copy.drive,
       )
 
-  lift : (copy : Copied) → IsNoLater (u f t base s i stop) copy → IsNoLater s copy
-  lift copy bound = elim (stood_early f t base s i stop) [
+  lift : (copy : Copied) → IsNoLater st.stood copy → IsNoLater s copy
+  lift copy bound = elim st.early [
     | inl same ↦ subst (λ (z : State). IsNoLater z copy) (sym same) bound
-    | inr less ↦ later_yet (u f t base s i stop) s copy less bound
+    | inr less ↦ later_yet st.stood s copy less bound
   ]
 
   latest_now : (q : ℕ) (copy : Copied) → q < f.disks.count → (says q).copied ≡ Some copy → IsNoLater s copy
@@ -134,21 +133,17 @@ module _ (f : Found) (t : Slices) (base s : State) (i : Image) (stop : IsStopped
   ]
     where
       still : ((p : ℕ) → is_current s p ≡ true → f.seats p ≡ Some q → ⊥) → IsNoLater s copy
-      still none = lift copy (no_later f t base s i stop q copy low (sym (ap (λ (z : Identity). z.copied) (same_says q none)) ∙ here))
+      still none = lift copy (st.latest q copy low (sym (ap (λ (z : Identity). z.copied) (same_says q none)) ∙ here))
 
   -- a drive whose place was marked says an earlier state
   former_now : (r q p d : ℕ) → f.seats r ≡ Some q → is_current s r ≡ false → f.seats p ≡ Some d → is_current s p ≡ true → stands_for s (says q) ≡ Some p
       → epoch_at (says q) < epoch_at (says d)
   former_now r q p d other past seat now stands =
       let same = same_says q (λ p now seat. both_ways (is_current s r) past (ap (is_current s) (one_place r p q other seat) ∙ now)) in
-      let was = former_low f t base s i stop s stop.after r q p d other past seat now (ap (stands_for s) (sym same) ∙ stands) in
-      let one = own f t base s i stop p d seat (stop.after.current p now) in
-      let here : epoch_at (ids f t base s i stop d) ≡ one.copy.state.epoch =
-      ap (λ (o : Option Copied). option_map_or epoch_of o 0) (own_copied f t base s i stop p d seat (stop.after.current p now)) in
-      let most = no_later_epoch s one.copy (lift one.copy (stop.says.latest p one.copy (few f t base s i stop p d seat) one.is)) in
+      let was = st.former r q p other past now (ap (stands_for s) (sym same) ∙ stands) in
       let new : epoch_at (says d) ≡ s.epoch = ap (λ (o : Option Copied). option_map_or epoch_of o 0) (own_now p d now seat).1 in
       let still : epoch_at (says q) ≡ epoch_at (ids f t base s i stop q) = ap epoch_at same in
-      omega (arith, was, here, most, new, still)
+      omega (arith, was, new, still)
 
   -- a current place's drive stands for it
   stands_own : (p d : ℕ) → is_current s p ≡ true → f.seats p ≡ Some d → stands_for s (says d) ≡ Some p
@@ -209,7 +204,7 @@ module _ (f : Found) (t : Slices) (base s : State) (i : Image) (stop : IsStopped
     member_same : (p k : ℕ) → is_current s p ≡ true → sliced t after (member_slice p n) k ≡ written_as (member_slice p n) k
     member_same p k now =
         let at : place_of (member_slice p n) ≡ p = (let few = small in omega (arith, few)) in
-        replays f t base s i stop (member_slice p n) k (ap (is_current s) at ∙ now)
+        replays f t base s i stop st (member_slice p n) k (ap (is_current s) at ∙ now)
 
     same_current : SameCurrent s n (sliced t after) written_as
     same_current p now = super_of_sector s (sliced t after) written_as n p (member_same p super_sector now)
@@ -293,9 +288,9 @@ module _ (f : Found) (t : Slices) (base s : State) (i : Image) (stop : IsStopped
   -- so no target lands there
   alone_now_written : AreAloneBy s f after
   alone_now_written n p d first low now seat none begins within =
-      ap super_of (e_none f t base s i stop d (first + super_sector)
-      (ap (λ (ws : List Target). look ws d (first + super_sector)) (lands_as f t base s i stop)
-      ∙ look_nowhere t (zs f t base s i stop) d (first + super_sector) nowhere_there))
+      ap super_of (e_none f t base s i stop st d (first + super_sector)
+      (ap (λ (ws : List Target). look ws d (first + super_sector)) (lands_as f t base s i stop st)
+      ∙ look_nowhere t (zs f t base s i stop st) d (first + super_sector) nowhere_there))
       ∙ stop.alone n p d first low now seat none begins within
     where
       was : is_current base p ≡ true
@@ -342,7 +337,7 @@ module _ (f : Found) (t : Slices) (base s : State) (i : Image) (stop : IsStopped
       logs = λ p d now seat. stop.slices.logs p d (stop.after.current p now) seat;
       members = λ n p d low now seat member. stop.slices.members n p d low (stop.after.current p now) seat member;
       others = stop.slices.others;
-      unseated = stop.slices.unseated;
+      unseated = λ k now free. stop.slices.unseated k (stop.after.current (place_of k) now) free;
     };
     inside = stop.inside;
     newest_is = newest_now;
@@ -354,32 +349,32 @@ module _ (f : Found) (t : Slices) (base s : State) (i : Image) (stop : IsStopped
   }
 
   abbrev pub now : Found
-  now = pool_of f s after (before f t base s i stop)
+  now = pool_of f s after (standing_by f.disks i st.stood)
 
   pub found_now : found f.disks i ≡ Some now
   unfolding found
   found_now =
-      ap (option_and_then (λ z. found_by f.disks z (written f.disks z i))) (stands f t base s i stop)
+      ap (option_and_then (λ z. found_by f.disks z (written f.disks z i))) st.stands
       ∙ ap (option_map (λ (z : State). record {
         disks = f.disks;
-        before = before f t base s i stop;
+        before = standing_by f.disks i st.stood;
         contents = after;
         identities = says;
         state = z;
         seats = seat_of z f.disks says;
       })) newest_now
 
-  -- Contents that a stop inside a call leaves hold the pool still, by the state that they say.
+  -- Contents that say so hold the pool still, by the state that is brought.
   unfoldable pub stopped_still : HoldStill f t s i
   stopped_still = record {
     now = now;
     found_is = found_now;
-    sound = sound_now f t s after (before f t base s i stop) says_pool;
-    logs = logs_sound f t base s i stop;
+    sound = sound_now f t s after (standing_by f.disks i st.stood) says_pool;
+    logs = st.logs;
     state = refl;
     seats = seats_now f s after says_seats;
-    slices = slices_now f t s after (before f t base s i stop) says_pool;
+    slices = slices_now f t s after (standing_by f.disks i st.stood) says_pool;
     joined = (later_base f t base s i stop).same.joined ∙ stop.joined ∙ sym (later_base f t base s i stop).same.made;
-    alone = alone_now f t s after (before f t base s i stop) says_pool i stop.alone;
-    values = λ n x low. value_now f t s after (before f t base s i stop) says_pool n low x ∙ value_same n low x;
+    alone = alone_now f t s after (standing_by f.disks i st.stood) says_pool i stop.alone;
+    values = λ n x low. value_now f t s after (standing_by f.disks i st.stood) says_pool n low x ∙ value_same n low x;
   }

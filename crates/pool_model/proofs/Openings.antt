@@ -29,6 +29,7 @@ opened_from f from later i before holds = record {
   marks = holds.marks;
   seats = holds.seats;
   values = λ n x low behind inside. holds.values n x low (omega (arith, before, behind)) inside;
+  apart = holds.apart;
   stops = holds.stops;
 }
 
@@ -45,6 +46,7 @@ opened_same e f from i same holds = record {
   values = λ n x low behind inside.
       holds.values n x (subst (λ (s : State). n < s.made) (sym same.state) low) behind (subst (λ (k : Arrays). x < k.sectors n) (sym (joined_same e f same)) inside)
       ∙ ap (λ (k : Arrays). k.contents n x) (joined_same e f same);
+  apart = holds.apart;
   stops = subst (λ (d : Disks). MayReplay d i holds.now) same.disks holds.stops;
 }
 
@@ -65,7 +67,8 @@ amid_opened f t s u from i begun marks values amid =
       marks = λ p counts past. none p counts (sym (ap (λ (z : State). is_current z p) still.state) ∙ past) (f.seats p) refl;
       seats = λ p counts. still.seats p (sym (ap (λ (z : State). is_current z p) still.state) ∙ counts);
       values = λ n x low behind inside. still.values n x low ∙ values n x low behind inside;
-      stops = inr (amid.apart, amid.stood, amid.lower);
+      apart = amid.apart;
+      stops = inr (amid.stood, amid.lower);
     }
   where
     none : (p : ℕ) → is_current f.state p ≡ true → is_current amid.state p ≡ false → (o : Option ℕ) → f.seats p ≡ o → f.seats p ≡ None

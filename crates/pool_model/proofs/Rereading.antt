@@ -43,10 +43,19 @@ same_sound f g same sound = record {
   own = λ n u low truth. sound.own n u (subst (λ (s : State). n < s.made) same.state low) (sym (truths_same f g same n) ∙ truth);
 }
 
+-- where the pool's targets lie apart they do so
+pub same_apart : (f g : Found) → IsSamePool f g → LieApart f → LieApart g
+same_apart f g same apart m n p d a b less low seat none member lies there =
+    let was : f.seats p ≡ Some d = sym (same.seats p) ∙ seat in
+    let members : (k : ℕ) → is_member g k p ≡ is_member f k p = λ k. ap (λ (o : Option Super). option_map_or (λ t. is_named t p) o false) (truths_same f g same k) in
+    apart m n p d a b less (subst (λ (s : State). n < s.made) same.state low) was (sym (members m) ∙ none) (sym (members n) ∙ member)
+    (ap₂ (λ (k : Disks) (z : Identity). extent_by (k.sectors d) z.table (suc m)) (sym same.disks) (sym (same.identities p d was)) ∙ lies)
+    (sym (lies_same f g same (suc n)) ∙ there)
+
 -- contents that have it hold the pool, where their logs are sound and what is pending there may be replayed
-pub same_holds : (disks : Disks) (i : Image) (f g : Found) → f.disks ≡ disks → found disks i ≡ Some g → IsSamePool f g → IsSoundPool f → HasSoundLogs disks i → MayReplay disks i g
+pub same_holds : (disks : Disks) (i : Image) (f g : Found) → f.disks ≡ disks → found disks i ≡ Some g → IsSamePool f g → IsSoundPool f → HasSoundLogs disks i → LieApart f → MayReplay disks i g
     → HoldOpened f 0 i
-same_holds disks i f g on found_now same sound logs may = record {
+same_holds disks i f g on found_now same sound logs apart may = record {
   now = g;
   found_is = ap (λ (d : Disks). found d i) on ∙ found_now;
   sound = same_sound f g same sound;
@@ -55,17 +64,9 @@ same_holds disks i f g on found_now same sound logs may = record {
   marks = λ p counts past. absurd (both_ways (is_current f.state p) (sym (ap (λ (s : State). is_current s p) same.state) ∙ past) counts);
   seats = λ p counts. same.seats p;
   values = λ n x low from inside. ap (λ (k : Arrays). k.contents n x) (joined_same f g same);
+  apart = same_apart f g same apart;
   stops = subst (λ (d : Disks). MayReplay d i g) (sym on) may;
 }
-
--- where the pool's targets lie apart they do so
-same_apart : (f g : Found) → IsSamePool f g → LieApart f → LieApart g
-same_apart f g same apart m n p d a b less low seat none member lies there =
-    let was : f.seats p ≡ Some d = sym (same.seats p) ∙ seat in
-    let members : (k : ℕ) → is_member g k p ≡ is_member f k p = λ k. ap (λ (o : Option Super). option_map_or (λ t. is_named t p) o false) (truths_same f g same k) in
-    apart m n p d a b less (subst (λ (s : State). n < s.made) same.state low) was (sym (members m) ∙ none) (sym (members n) ∙ member)
-    (ap₂ (λ (k : Disks) (z : Identity). extent_by (k.sectors d) z.table (suc m)) (sym same.disks) (sym (same.identities p d was)) ∙ lies)
-    (sym (lies_same f g same (suc n)) ∙ there)
 
 -- ---- a replay
 
@@ -73,7 +74,8 @@ module _ (disks : Disks) (c i : Image) (s0 : State) (newest_before : newest disk
     (stands : standing disks c ≡ Some (standing_by disks c s0))
     (log : IsSoundLog disks c (standing_by disks c s0) (seated_state (standing_by disks c s0).targets s0))
     (mid : StandsReplaying disks s0 (seated_state (standing_by disks c s0).targets s0) (standing_by disks c s0).targets c i)
-    (sound : IsSoundPool (was disks c i s0 newest_before log mid)) (may : MayReplay disks c (was disks c i s0 newest_before log mid)) where
+    (sound : IsSoundPool (was disks c i s0 newest_before log mid)) (apart : LieApart (was disks c i s0 newest_before log mid))
+    (may : MayReplay disks c (was disks c i s0 newest_before log mid)) where
   abbrev s : State
   s = seated_state (standing_by disks c s0).targets s0
 
@@ -120,13 +122,13 @@ module _ (disks : Disks) (c i : Image) (s0 : State) (newest_before : newest disk
       | inl idle ↦
           inl (λ before at.
           ap (λ (x : Standing). x.targets) (some_same before _ (sym at ∙ stands_so disks c i s0 newest_before log mid states kept)) ∙ idle (standing_by disks c s0) stands)
-      | inr amid ↦ inr (same_apart f e same_early amid.0, stood_early amid.1, early_lower disks c i s0 newest_before log mid states kept stands amid.2)
+      | inr amid ↦ inr (stood_early amid.0, early_lower disks c i s0 newest_before log mid states kept stands amid.1)
     ]
 
     holds_early : HoldOpened f 0 i
     holds_early =
         same_holds disks i f e refl (early_found disks c i s0 newest_before log mid states kept) same_early sound
-        (early_logs disks c i s0 newest_before log mid states kept) may_early
+        (early_logs disks c i s0 newest_before log mid states kept) apart may_early
 
   -- the state stands that the record is for
   module _ (brought : StandsBrought disks s0 s (standing_by disks c s0).targets c i) where
@@ -209,21 +211,21 @@ module _ (disks : Disks) (c i : Image) (s0 : State) (newest_before : newest disk
       | inr done ↦ inl (idle_late done.0)
       | inl yet ↦ elim may [
         | inl idle ↦ inl (idle_late (yet ∙ idle (standing_by disks c s0) stands))
-        | inr amid ↦ inr (same_apart f g same_late amid.0, stood_late amid.1, late_lower disks c i s0 newest_before log mid brought)
+        | inr amid ↦ inr (stood_late amid.0, late_lower disks c i s0 newest_before log mid brought)
       ]
     ]
 
     holds_late : HoldOpened f 0 i
     holds_late =
-        same_holds disks i f g refl (late_found disks c i s0 newest_before log mid brought) same_late sound (late_logs disks c i s0 newest_before log mid brought) may_late
+        same_holds disks i f g refl (late_found disks c i s0 newest_before log mid brought) same_late sound (late_logs disks c i s0 newest_before log mid brought) apart may_late
 
   holds_replaying : HoldOpened f 0 i
   holds_replaying = elim mid.says [ inl kept ↦ holds_early kept.0 kept.1 | inr brought ↦ holds_late brought ]
 
 -- what a stop in the replay of the pending record leaves
-pub midway_holds : (disks : Disks) (c i : Image) (f : Found) → found disks c ≡ Some f → IsSoundPool f → HasSoundLogs disks c → MayReplay disks c f → StandsMidway disks c i
+pub midway_holds : (disks : Disks) (c i : Image) (f : Found) → found disks c ≡ Some f → IsSoundPool f → HasSoundLogs disks c → LieApart f → MayReplay disks c f → StandsMidway disks c i
     → HoldOpened f 0 i
-midway_holds disks c i f found_before sound logs may midway =
+midway_holds disks c i f found_before sound logs apart may midway =
     let by = stood_by disks c logs.before logs.stands in
     let stands : standing disks c ≡ Some (standing_by disks c by.0) = logs.stands ∙ ap Some by.2 in
     let log : IsSoundLog disks c (standing_by disks c by.0) (seated_state (standing_by disks c by.0).targets by.0) =
@@ -232,14 +234,14 @@ midway_holds disks c i f found_before sound logs may midway =
     subst (λ (x : Standing). StandsReplaying disks x.state (seated_state x.targets x.state) x.targets c i)
     (some_same midway.before (standing_by disks c by.0) (sym midway.stands ∙ stands)) midway.is in
     let same : was disks c i by.0 by.1 log mid ≡ f = some_same (was disks c i by.0 by.1 log mid) f (sym (found_was disks c i by.0 by.1 log mid stands) ∙ found_before) in
-    subst (λ (h : Found). IsSoundPool h → MayReplay disks c h → HoldOpened h 0 i) same
-    (λ sound may. holds_replaying disks c i by.0 by.1 stands log mid sound may) sound may
+    subst (λ (h : Found). IsSoundPool h → LieApart h → MayReplay disks c h → HoldOpened h 0 i) same
+    (λ sound apart may. holds_replaying disks c i by.0 by.1 stands log mid sound apart may) sound apart may
 
 -- contents that agree inside the disks
-pub agree_holds : (disks : Disks) (c i : Image) (f : Found) → found disks c ≡ Some f → IsSoundPool f → HasSoundLogs disks c → MayReplay disks c f → Agree disks i c
+pub agree_holds : (disks : Disks) (c i : Image) (f : Found) → found disks c ≡ Some f → IsSoundPool f → HasSoundLogs disks c → LieApart f → MayReplay disks c f → Agree disks i c
     → HoldOpened f 0 i
-agree_holds disks c i f found_before sound logs may agree =
-    midway_holds disks c i f found_before sound logs may (record {
+agree_holds disks c i f found_before sound logs apart may agree =
+    midway_holds disks c i f found_before sound logs apart may (record {
       before = logs.before;
       stands = logs.stands;
       is = still_stands disks logs.before.state (seated_state logs.before.targets logs.before.state) logs.before.targets c i agree;

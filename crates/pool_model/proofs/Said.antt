@@ -23,7 +23,7 @@ slices_by f t s slices = record {
   logs = λ p d now seat. slices.logs p d seat;
   members = λ n p d low now seat member. slices.members n p d low seat member;
   others = slices.others;
-  unseated = slices.unseated;
+  unseated = λ k now free. slices.unseated k free;
 }
 
 -- slices lie inside the disks of a pool

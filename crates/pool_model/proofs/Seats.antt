@@ -43,6 +43,33 @@ no_candidate s ids p d never = of (stands_for s (ids d)) refl
     of None stands = refl
     of (Some q) stands = of_test q stands (q == p) refl
 
+-- The disk that stands for a current place, where those before it that do so say earlier states, and those behind it no later ones.
+pub seat_leads : (s : State) (disks : Disks) (ids : Identities) (p d : ℕ) → is_current s p ≡ true → d < disks.count → stands_for s (ids d) ≡ Some p
+    → ((q : ℕ) → q < d → stands_for s (ids q) ≡ Some p → epoch_at (ids q) < epoch_at (ids d))
+    → ((q : ℕ) → d < q → q < disks.count → stands_for s (ids q) ≡ Some p → epoch_at (ids q) ≤ epoch_at (ids d)) → seat_of s disks ids p ≡ Some d
+unfolding seat_of
+seat_leads s disks ids p d now low stands before behind =
+    let here : Candidate = record { disk = d; epoch = epoch_at (ids d) } in
+    let leads : Leads (λ (k : Candidate). k.epoch) (candidate s ids p) 0 disks.count here =
+    record {
+      at = d;
+      least = omega arith;
+      most = omega (arith, low);
+      here = candidate_is s ids p d stands;
+      before = λ q z from less at.
+          let one = is_candidate s ids p q z at in
+          let epoch = one.epoch in
+          let earlier = before q less one.stands in
+          omega (arith, epoch, earlier);
+      after = λ q z late within at.
+          let one = is_candidate s ids p q z at in
+          let epoch = one.epoch in
+          let most = behind q late (omega (arith, within)) one.stands in
+          omega (arith, epoch, most);
+    } in
+    ap (λ b. if b then option_map (λ (k : Candidate). k.disk) (foremost (λ (k : Candidate). k.epoch) (map (candidate s ids p) (range_with_len 0 disks.count))) else None) now
+    ∙ ap (option_map (λ (k : Candidate). k.disk)) (leads_foremost (λ (k : Candidate). k.epoch) (candidate s ids p) 0 disks.count here leads)
+
 module _ (f : Found) (book : State) (i : Image) (said : SaysSeats f book i) where
   abbrev says : ℕ → Identity
   says = identities_of f.disks i

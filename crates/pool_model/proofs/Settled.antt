@@ -16,13 +16,13 @@ use Rattle.array_image.specs.Foremost.{foremost}
 use Rattle.array_image.specs.Places.{arrays_first, data_sector, log_slice, member_slice, place_of, state_sector, super_sector}
 use Rattle.array_image.specs.Record.{damaged_log, pending}
 use Rattle.array_image.specs.States.{current_places, is_current}
-use Rattle.array_image.specs.Supers.{super_in, super_of}
+use Rattle.array_image.specs.Supers.{is_named, super_in, super_of}
 use Rattle.array_image.proofs.Frames.{super_of_sector}
 use Rattle.raid_rack.specs.Book.{after_same}
-use Rattle.pool_image.specs.Disks.{Disks, identities_of, newest, seat_of}
+use Rattle.pool_image.specs.Disks.{Disks, Identity, identities_of, newest, seat_of}
 use Rattle.pool_image.specs.Drives.{Found, drive_sector, end_of, extent_from, extent_of, first_of, found, found_by, slices_from, slices_of, truth_from}
 use Rattle.pool_image.specs.Meaning.{array_sectors, arrays_held, is_member, truth_of}
-use Rattle.pool_image.specs.Replay.{Extent, Standing, logs_of, standing, standing_by, written}
+use Rattle.pool_image.specs.Replay.{Extent, Standing, extent_by, logs_of, standing, standing_by, written}
 use Rattle.pool_image.proofs.Founds.{first_behind}
 use Rattle.pool_image.proofs.Identities.{newest_same, seat_inside, seat_same}
 use Rattle.pool_image.proofs.Rested.{stood_by, written_none}
@@ -32,6 +32,7 @@ use Rattle.pool_rest.specs.SoundLogs.{HasSoundLogs, IsSoundLog}
 use Rattle.pool_model.specs.Left.{AreAlone}
 use Rattle.pool_model.specs.Openings.{HaveGoodTables, HoldOpened, IsButTables, IsIdleIn}
 use Rattle.pool_model.specs.Pools.{IsSoundPool}
+use Rattle.pool_model.specs.Stopped.{LieApart}
 use Rattle.pool_model.proofs.Current.{SameCurrent, SameMembers, array_current, shape_current, sound_current, truth_current}
 use Rattle.pool_model.proofs.Found.{found_is, some_made}
 use Rattle.pool_model.proofs.Layers.{IsLaid, laid, no_super, none_there}
@@ -92,7 +93,8 @@ idle_logs disks c s newest_is none whole =
 
 module _ (disks : Disks) (c i : Image) (s : State) (newest_is : newest disks (identities_of disks c) ≡ Some s) (idle : (standing_by disks c s).targets ≡ [])
     (whole : damaged_log (current_places s) (standing_by disks c s).logs ≡ None) (sound : IsSoundPool (pool_at disks c s)) (tables : HaveGoodTables (pool_at disks c s))
-    (but : IsButTables (pool_at disks c s) c i) (alone : AreAlone (pool_at disks c s) c) (alone_now : AreAlone (pool_at disks c s) i) where
+    (but : IsButTables (pool_at disks c s) c i) (alone : AreAlone (pool_at disks c s) c) (alone_now : AreAlone (pool_at disks c s) i)
+    (apart : LieApart (pool_at disks c s)) where
   abbrev f : Found
   f = pool_at disks c s
 
@@ -312,6 +314,16 @@ module _ (disks : Disks) (c i : Image) (s : State) (newest_is : newest disks (id
     own = λ n u low is. sound.own n u low (truth_before n low ∙ sym (truth_now n low) ∙ is);
   }
 
+  member_kept : (n p : ℕ) → n < f.state.made → is_member g n p ≡ is_member f n p
+  member_kept n p low = ap (λ (o : Option Super). option_map_or (λ u. is_named u p) o false) (truth_now n low ∙ sym (truth_before n low))
+
+  apart_kept : LieApart g
+  apart_kept m n p d a b less low seat none member lies there =
+      let was : f.seats p ≡ Some d = sym (seats_kept p) ∙ seat in
+      apart m n p d a b less low was (sym (member_kept m p (omega (arith, less, low))) ∙ none) (sym (member_kept n p low) ∙ member)
+      (ap (λ (z : Identity). extent_by (disks.sectors d) z.table (suc m)) (sym (ids d (below p d was))) ∙ lies)
+      (extent_before n low ∙ sym (extent_now n low) ∙ there)
+
   pub tables_hold : HoldOpened f 0 i
   tables_hold = record {
     now = g;
@@ -322,6 +334,7 @@ module _ (disks : Disks) (c i : Image) (s : State) (newest_is : newest disks (id
     marks = λ p counts past. absurd (both_ways (is_current s p) past counts);
     seats = λ p counts. seats_kept p;
     values = λ n x low from inside. value_kept n low x;
+    apart = apart_kept;
     stops = inl idle_now;
   }
 
@@ -347,9 +360,9 @@ idle_pool disks c f found_before idle logs =
 
 -- So it is of a pool that was found on the disks, with nothing pending.
 pub settled_holds : (disks : Disks) (c i : Image) (f : Found) → found disks c ≡ Some f → IsIdleIn disks c → IsSoundPool f → HasSoundLogs disks c → HaveGoodTables f
-    → IsButTables f c i → AreAlone f c → AreAlone f i → HoldOpened f 0 i
-settled_holds disks c i f found_before idle sound logs tables but alone alone_now =
+    → LieApart f → IsButTables f c i → AreAlone f c → AreAlone f i → HoldOpened f 0 i
+settled_holds disks c i f found_before idle sound logs tables apart but alone alone_now =
     let is = idle_pool disks c f found_before idle logs in
-    subst (λ (h : Found). IsSoundPool h → HaveGoodTables h → IsButTables h c i → AreAlone h c → AreAlone h i → HoldOpened h 0 i) is.same
-    (λ sound tables but alone alone_now. tables_hold disks c i is.state is.newest_is is.none is.whole sound tables but alone alone_now)
-    sound tables but alone alone_now
+    subst (λ (h : Found). IsSoundPool h → HaveGoodTables h → LieApart h → IsButTables h c i → AreAlone h c → AreAlone h i → HoldOpened h 0 i) is.same
+    (λ sound tables apart but alone alone_now. tables_hold disks c i is.state is.newest_is is.none is.whole sound tables but alone alone_now apart)
+    sound tables apart but alone alone_now

@@ -14,16 +14,18 @@ use Rattle.pool_state.specs.declared.contents.State.{State}
 use Rattle.array_image.specs.Places.{super_sector}
 use Rattle.array_image.specs.States.{epoch_of, is_current}
 use Rattle.array_image.specs.Supers.{super_of}
+use Rattle.array_model.specs.View.{View}
 use Rattle.commit_log.specs.Kept.{IsNoLater}
 use Rattle.pool_image.specs.Disks.{Disks, Identities, Identity, disks_of, identities_of, stands_for}
 use Rattle.pool_image.specs.Drives.{Found, first_of}
 use Rattle.pool_image.specs.Meaning.{is_member}
 use Rattle.raid_rack.specs.Enlisting.{next_drive}
+use Rattle.raid_rack.specs.NewDrive.{SeatsDrive}
 use Rattle.raid_rack.specs.Raid.{Raid}
 use Rattle.raid_rack.proofs.Noted.{current_few}
 use Rattle.pool_model.specs.InService.{HasSeat, HoldSaid, IsArranged, IsOutset, IsSaid, epoch_at}
 use Rattle.pool_model.specs.Left.{AreAloneBy, IsPickOff}
-use Rattle.pool_model.specs.Taken.{KeepsRest, SeatsNew}
+use Rattle.pool_model.specs.Taken.{KeepsRest, SeatsNew, views_of}
 use Rattle.pool_model.proofs.Alike.{first_same, member_same, outset_said}
 use Rattle.pool_model.proofs.Before.{off_before, was as image_before, was_other as image_other}
 use Rattle.pool_model.proofs.Found.{seated_below}
@@ -31,6 +33,27 @@ use Rattle.pool_model.proofs.Joined.{current_here, current_other, id_here, names
 use Rattle.pool_model.proofs.Named.{IsNamed, id_same, named_stands, same_position, stands_named}
 use Rattle.pool_model.proofs.Outset.{no_later_epoch}
 use Rattle.pool_model.proofs.Taken.{IsKnownBefore, arranged_taken, g, has_truths, made_same, next, places_same, seat_here, seat_other}
+
+-- ---- a sector of a slice on another disk was one before
+
+pub sliced_seated : (arrays : List View) (place disk sectors : ℕ) (t u : Slices) → SeatsDrive arrays place disk sectors t u → (d s : ℕ) (w : List ℕ) → d ≢ disk
+    → IsSliced u d s w → IsSliced t d s w
+sliced_seated arrays place disk sectors t u seats d s w other is = elim (cases_eq (place_of is.slice) place) [
+  | inl same ↦
+      absurd (other (is.disk_is
+      ∙ ap (λ o. unwrap_or o 0) (seats.seats (place_of is.slice)
+      ∙ ap (λ (b : Bool). if b then Some disk else seat_of t (place_of is.slice)) (eq-eqb (place_of is.slice) place same))))
+  | inr apart ↦ record {
+    slice = is.slice;
+    at = is.at;
+    within = subst (λ k. is.at < k) (seats.others is.slice apart) is.within;
+    disk_is =
+        is.disk_is
+        ∙ ap (λ o. unwrap_or o 0) (seats.seats (place_of is.slice)
+        ∙ ap (λ (b : Bool). if b then Some disk else seat_of t (place_of is.slice)) (ne_eqb (place_of is.slice) place apart));
+    sector_is = is.sector_is ∙ ap (λ k. k + is.at) (seats.firsts is.slice apart);
+  }
+]
 
 module _ (f : Found) (t u : Slices) (v : Raid) (x z : Seen) (place disk units : ℕ) (plan : Plan)
     (new : SeatsNew f t u v place disk (z.sectors disk)) (known : IsKnownBefore f v) (keeps : KeepsRest f t u v place disk x z) (held : HoldSaid f t v.state x) where
@@ -43,25 +66,8 @@ module _ (f : Found) (t u : Slices) (v : Raid) (x z : Seen) (place disk units : 
   abbrev fresh_state : State
   fresh_state = next f t u v disks place disk units plan new known keeps.sectors
 
-  -- ---- a sector of a slice on another disk was one before
-
   pub sliced_before : (d s : ℕ) (w : List ℕ) → d ≢ disk → IsSliced u d s w → IsSliced t d s w
-  sliced_before d s w other is = elim (cases_eq (place_of is.slice) place) [
-    | inl same ↦
-        absurd (other (is.disk_is
-        ∙ ap (λ o. unwrap_or o 0) (new.seats.seats (place_of is.slice)
-        ∙ ap (λ (b : Bool). if b then Some disk else seat_of t (place_of is.slice)) (eq-eqb (place_of is.slice) place same))))
-    | inr apart ↦ record {
-      slice = is.slice;
-      at = is.at;
-      within = subst (λ k. is.at < k) (new.seats.others is.slice apart) is.within;
-      disk_is =
-          is.disk_is
-          ∙ ap (λ o. unwrap_or o 0) (new.seats.seats (place_of is.slice)
-          ∙ ap (λ (b : Bool). if b then Some disk else seat_of t (place_of is.slice)) (ne_eqb (place_of is.slice) place apart));
-      sector_is = is.sector_is ∙ ap (λ k. k + is.at) (new.seats.firsts is.slice apart);
-    }
-  ]
+  sliced_before d s w other is = sliced_seated (views_of v) place disk (z.sectors disk) t u new.seats d s w other is
 
   module _ (i : Image) (off : IsPickOff u z i) where
     -- contents before

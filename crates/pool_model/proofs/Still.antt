@@ -88,7 +88,7 @@ module _ (f : Found) (t : Slices) (book : State) (e : Image) (before : Standing)
         by : (o : Option ℕ) → f.seats p ≡ o → super_in book (slices_of g) n p ≡ super_in book held n p
         by None free =
             nothing_super book (slices_of g) n p (absent_now p counts free super_sector)
-            ∙ sym (nothing_super book held n p (reads_absent f t book e before said n low p free super_sector))
+            ∙ sym (nothing_super book held n p (reads_absent f t book e before said n low p counts free super_sector))
         by (Some d) has = elim (cases_Bool (is_member f n p)) [
           | inl member ↦ super_of_sector book (slices_of g) held n p (slice_now p d super_sector counts has member)
           | inr none ↦
@@ -100,7 +100,7 @@ module _ (f : Found) (t : Slices) (book : State) (e : Image) (before : Standing)
     members p u counts super k = by (f.seats p) refl
       where
         by : (o : Option ℕ) → f.seats p ≡ o → slices_of g (member_slice p n) k ≡ held (member_slice p n) k
-        by None free = absent_now p counts free k ∙ sym (reads_absent f t book e before said n low p free k)
+        by None free = absent_now p counts free k ∙ sym (reads_absent f t book e before said n low p counts free k)
         by (Some d) has = elim (cases_Bool (is_member f n p)) [
           | inl member ↦ slice_now p d k counts has member
           | inr none ↦ absurd (none-some u (sym (nothing_super book held n p (reads_nothing f t book e before said n low p none super_sector)) ∙ super))

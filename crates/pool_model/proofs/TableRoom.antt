@@ -12,27 +12,29 @@ use Rattle.pool_image.specs.Replay.{Extent}
 use Rattle.pool_model.proofs.Roles.{all_range}
 
 -- what a drive's table has
-record HasSlices (f : Found) (p d : ℕ) : Type 0 where
-  table : Table
-  log : has_slice_of f (f.disks.sectors d) table 0 ≡ true
-  members : (n : ℕ) → n < f.state.made → is_member f n p ≡ true → has_slice_of f (f.disks.sectors d) table (n + 1) ≡ true
+pub record HasSlices (f : Found) (p d : ℕ) : Type 0 where
+  pub table : Table
+  pub is : (f.identities d).table ≡ Some table
+  pub log : has_slice_of f (f.disks.sectors d) table 0 ≡ true
+  pub members : (n : ℕ) → n < f.state.made → is_member f n p ≡ true → has_slice_of f (f.disks.sectors d) table (n + 1) ≡ true
 
 ends_before : (sectors : ℕ) (table : Table) (number n : ℕ) (e : Extent) → has_slice sectors table number (kind_of n) e ≡ true → end_of e + 32 < sectors
 ends_before sectors table number n e is =
     ltb-true (end_of e + 32) sectors (and_parts (has_entry table number (kind_of n) e) (nat_lt (end_of e + 32) sectors) is).1
 
 module _ (f : Found) (p d : ℕ) (has : has_table f p d ≡ true) where
-  slices : HasSlices f p d
-  slices = of (f.identities d).table has
+  pub slices : HasSlices f p d
+  slices = of (f.identities d).table refl has
     where
-      of : (o : Option Table) → option_map_or (is_table f p (f.disks.sectors d)) o false ≡ true → HasSlices f p d
-      of None is = absurd (both_ways false refl is)
-      of (Some table) is =
+      of : (o : Option Table) → (f.identities d).table ≡ o → option_map_or (is_table f p (f.disks.sectors d)) o false ≡ true → HasSlices f p d
+      of None here is = absurd (both_ways false refl is)
+      of (Some table) here is =
           let rest : Bool = list_all (λ n. not (is_member f n p) || has_slice_of f (f.disks.sectors d) table (n + 1)) (arrays_of f) in
           let one = and_parts (option_map_or (bytes_eq table.disk_id.0) (id_at f.state p) false) (has_slice_of f (f.disks.sectors d) table 0 && rest) is in
           let two = and_parts (has_slice_of f (f.disks.sectors d) table 0) rest one.1 in
           record {
             table = table;
+            is = here;
             log = two.0;
             members = λ n low member.
                 sym (ap (λ b. not b || has_slice_of f (f.disks.sectors d) table (n + 1)) member)

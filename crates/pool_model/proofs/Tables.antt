@@ -37,13 +37,13 @@ some_same a b same = cc
 -- ---- a place that gave its disk up
 
 -- slices of one place that lie alike by other tables
-lie_same : (t u : Slices) (p sectors : ℕ) (disk : Contents) → ((n : ℕ) → n < 16 → extent_in u (member_slice p n) ≡ extent_in t (member_slice p n)) → LieOn t p sectors disk
+pub lie_same : (t u : Slices) (p sectors : ℕ) (disk : Contents) → ((n : ℕ) → n < 16 → extent_in u (member_slice p n) ≡ extent_in t (member_slice p n)) → LieOn t p sectors disk
     → LieOn u p sectors disk
 lie_same t u p sectors disk same lie n few some =
     let sectors_same : sectors_of u (member_slice p n) ≡ sectors_of t (member_slice p n) = ap (λ (e : Extent). e.sectors) (same n few) in
     lie n few (omega (arith, some, sectors_same)) ∙ ap Some (sym (same n few))
 
-slice_apart : (p place n : ℕ) → p ≢ place → n < 16 → place_of (member_slice p n) ≢ place
+pub slice_apart : (p place n : ℕ) → p ≢ place → n < 16 → place_of (member_slice p n) ≢ place
 slice_apart p place n other few same = other (let e : p ≡ place = omega (arith, same, few) in e)
 
 pub tables_vacant : (f : Found) (t u : Slices) (place : ℕ) (s : State) (x : Seen) → Seats t u place None → is_current s place ≡ false → HoldTables f t s x → HoldTables f u s x

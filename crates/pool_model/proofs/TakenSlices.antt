@@ -117,7 +117,7 @@ module _ (f : Found) (t u : Slices) (v : Raid) (disks : Disks) (place disk units
       ∙ sym (some_same lie.first (first_in arrays n) (sym lie.begins ∙ first_is f v few made_is truths known.geometry n (omega (arith, low)))) in
       extent_is f h few truths truths_kept n low ∙ ap₂ (λ a b. Some (record { first = a; sectors = b })) (sym first) (sym many)
 
-  none_here : (n : ℕ) → n < 16 → (nat_lt n f.state.made && is_member f n place) ≡ false → sectors_of u (member_slice place n) ≡ 0
+  pub none_here : (n : ℕ) → n < 16 → (nat_lt n f.state.made && is_member f n place) ≡ false → sectors_of u (member_slice place n) ≡ 0
   none_here n small none = member_many n small ∙ ap (λ (b : Bool). if b then length_in arrays n else 0) fails
     where
       fails : joins arrays place (disks.sectors disk) n ≡ false

@@ -33,22 +33,33 @@ use Rattle.pool_model.proofs.Found.{ok_of}
 use Rattle.pool_model.proofs.Logs.{copied_in, there_in}
 
 module _ (t u : Slices) (place : ℕ) (vacated : Seats t u place None) where
+  -- which disks places have, once this one has one again
+  seat_alike : (disk p : ℕ) (b : Bool) → (p == place) ≡ b → (if p == place then Some disk else seat_of u p) ≡ (if p == place then Some disk else seat_of t p)
+  seat_alike disk p true same = ap (λ (b : Bool). if b then Some disk else seat_of u p) same ∙ sym (ap (λ (b : Bool). if b then Some disk else seat_of t p) same)
+  seat_alike disk p false other =
+      ap (λ (b : Bool). if b then Some disk else seat_of u p) other
+      ∙ vacated.seats p ∙ ap (λ (b : Bool). if b then None else seat_of t p) other
+      ∙ sym (ap (λ (b : Bool). if b then Some disk else seat_of t p) other)
+
   -- a drive that is taken in then is as one that is taken in at once
   pub seats_through : (arrays : List View) (disk sectors : ℕ) (w : Slices) → SeatsDrive arrays place disk sectors u w → SeatsDrive arrays place disk sectors t w
   seats_through arrays disk sectors w seats = record {
-    seats = λ p. seats.seats p ∙ by p (p == place) refl;
+    seats = λ p. seats.seats p ∙ seat_alike disk p (p == place) refl;
     own = seats.own;
     own_firsts = seats.own_firsts;
     others = λ d other. seats.others d other ∙ vacated.sectors d other;
     firsts = λ d other. seats.firsts d other ∙ vacated.firsts d other;
   }
-    where
-      by : (p : ℕ) (b : Bool) → (p == place) ≡ b → (if p == place then Some disk else seat_of u p) ≡ (if p == place then Some disk else seat_of t p)
-      by p true same = ap (λ (b : Bool). if b then Some disk else seat_of u p) same ∙ sym (ap (λ (b : Bool). if b then Some disk else seat_of t p) same)
-      by p false other =
-          ap (λ (b : Bool). if b then Some disk else seat_of u p) other
-          ∙ vacated.seats p ∙ ap (λ (b : Bool). if b then None else seat_of t p) other
-          ∙ sym (ap (λ (b : Bool). if b then Some disk else seat_of t p) other)
+
+  -- and the other way round
+  pub seats_from : (arrays : List View) (disk sectors : ℕ) (w : Slices) → SeatsDrive arrays place disk sectors t w → SeatsDrive arrays place disk sectors u w
+  seats_from arrays disk sectors w seats = record {
+    seats = λ p. seats.seats p ∙ sym (seat_alike disk p (p == place) refl);
+    own = seats.own;
+    own_firsts = seats.own_firsts;
+    others = λ d other. seats.others d other ∙ sym (vacated.sectors d other);
+    firsts = λ d other. seats.firsts d other ∙ sym (vacated.firsts d other);
+  }
 
   pub seat_other : (p : ℕ) → p ≢ place → seat_of u p ≡ seat_of t p
   seat_other p other = vacated.seats p ∙ ap (λ (b : Bool). if b then None else seat_of t p) (ne_eqb p place other)
@@ -115,7 +126,7 @@ module _ (t u : Slices) (place : ℕ) (vacated : Seats t u place None) where
             slices.members n p d low seat member
             ∙ ap Some (sym (extent_other (member_slice p n) (λ same. apart p now (let e : p ≡ place = omega (arith, same, low, few) in e))));
         others = λ n p small none. none_still (member_slice p n) (slices.others n p small none);
-        unseated = λ k none. none_still k (slices.unseated k none);
+        unseated = λ k now none. none_still k (slices.unseated k none);
       }
 
 -- what is known of it then

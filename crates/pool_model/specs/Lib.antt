@@ -7,3 +7,4 @@ pub mod Taken
 pub mod InService
 pub mod Grouped
 pub mod Openings
+pub mod Laid

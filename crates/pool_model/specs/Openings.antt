@@ -36,14 +36,15 @@ HaveGoodTables f = (p d : ℕ) → f.seats p ≡ Some d → has_table f p d ≡ 
 abbrev pub IsIdleIn : Disks → Image → Type 0
 IsIdleIn disks i = (before : Standing) → standing disks i ≡ Some before → before.targets ≡ []
 
--- Nothing is pending in contents of a pool, or a record that an opening may replay, wherever that is stopped: its targets land where the pool's slices
--- are by the drives' tables, one of the drives has the state that stands and a log slice, and those that are taken in have gates of lower numbers.
+-- Nothing is pending in contents of a pool, or a record that an opening may replay, wherever that is stopped, where its targets land in the pool's slices:
+-- one of the drives has the state that stands and a log slice, and those that are taken in have gates of lower numbers.
 abbrev pub MayReplay : Disks → Image → Found → Type 0
-MayReplay disks i g = IsIdleIn disks i ⊎ (LieApart g × StoodInLog g × TakesLowerIn disks i)
+MayReplay disks i g = IsIdleIn disks i ⊎ (StoodInLog g × TakesLowerIn disks i)
 
 -- Contents of the disks of a pool f, as a stop inside an opening leaves them, hold it still: they have a sound pool, whose logs are sound, by f's state or
 -- one to which just marks of places have come that have no disk. Each place that is current by it has the disk that it had, and the arrays hold what they
--- held, from a sector of theirs on: from the first one up to when the volume's texts are brought up to date, from the first extent's on meanwhile.
+-- held, from a sector of theirs on: from the first one up to when the volume's texts are brought up to date, from the first extent's on meanwhile. Targets
+-- land where its slices are by the drives' tables, and a record that is pending may be replayed.
 pub record HoldOpened (f : Found) (from : ℕ) (i : Image) : Type 0 where
   pub now : Found
   pub found_is : found f.disks i ≡ Some now
@@ -53,4 +54,5 @@ pub record HoldOpened (f : Found) (from : ℕ) (i : Image) : Type 0 where
   pub marks : (p : ℕ) → is_current f.state p ≡ true → is_current now.state p ≡ false → f.seats p ≡ None
   pub seats : (p : ℕ) → is_current now.state p ≡ true → now.seats p ≡ f.seats p
   pub values : (n x : ℕ) → n < f.state.made → from ≤ x → x < array_sectors f n → arrays_held now n x ≡ arrays_held f n x
+  pub apart : LieApart now
   pub stops : MayReplay f.disks i now

@@ -1,5 +1,5 @@
 -- What a stop inside a call of a pool leaves on its disks.
-use Rattle.std.specs.Prelude.{◌≡◌, ℕ, suc, ◌+◌, ◌-◌, ◌<◌, ◌≤◌, ◌^◌, ◌&&◌, true, false, nat_lt, None, Some}
+use Rattle.std.specs.Prelude.{◌≡◌, ◌⊎◌, ℕ, suc, ◌+◌, ◌-◌, ◌<◌, ◌≤◌, ◌^◌, ◌&&◌, true, false, nat_lt, None, Some}
 use Rattle.rack.specs.Moments.{Leaves}
 use Rattle.rack.specs.Seen.{Image, Seen}
 use Rattle.slice_rack.specs.Slices.{IsOrderly, Slices, first_of, place_of as slice_place, seat_of, sectors_of}
@@ -12,24 +12,28 @@ use Rattle.pool_state.specs.declared.contents.State.{State}
 use Rattle.array_image.specs.Arrays.{replayed}
 use Rattle.array_image.specs.Left.{IsInside as HasNothing}
 use Rattle.array_image.specs.Places.{arrays_first, log_slice, member_slice, place_of}
+use Rattle.array_image.specs.Record.{pending}
 use Rattle.array_image.specs.SoundArray.{IsSoundArray}
 use Rattle.array_image.specs.States.{is_current}
 use Rattle.array_image.specs.Supers.{is_named, truth_in}
 use Rattle.commit_log.specs.Kept.{IsNoLater}
 use Rattle.commit_log.specs.Saying.{SaysState}
+use Rattle.commit_log.specs.Standing.{deciding}
 use Rattle.raid_rack.specs.Book.{IsAfter}
 use Rattle.raid_rack.specs.Frames.{HasFrame, frame_of}
 use Rattle.raid_rack.specs.Logs.{LogsBetween}
 use Rattle.raid_rack.specs.Raid.{Raid}
 use Rattle.raid_rack.specs.Runs.{IsBetween}
 use Rattle.raid_rack.specs.Since.{AreSince}
-use Rattle.pool_image.specs.Disks.{identities_of, stands_for}
+use Rattle.pool_image.specs.Disks.{identities_of, seat_of as seat_of_disks, stands_for}
 use Rattle.pool_image.specs.Drives.{Found, extent_of}
 use Rattle.pool_image.specs.Meaning.{is_member, truth_of}
-use Rattle.pool_image.specs.Replay.{Extent, extent_by, share}
+use Rattle.pool_image.specs.Replay.{Extent, extent_by, share, standing, standing_by}
 use Rattle.pool_rest.specs.Moments.{TakesLowerIn}
-use Rattle.pool_model.specs.InService.{IsOutset}
-use Rattle.pool_model.specs.Left.{AreAloneBy, AreElsewhere, HavePlaces, HoldStill, IsPickOff}
+use Rattle.pool_rest.specs.Resting.{seated_state}
+use Rattle.pool_rest.specs.SoundLogs.{HasSoundLogs}
+use Rattle.pool_model.specs.InService.{IsOutset, epoch_at}
+use Rattle.pool_model.specs.Left.{AreAloneBy, AreElsewhere, HavePlaces, HoldAgain, HoldStill, IsPickOff}
 use Rattle.pool_model.specs.Pools.{extent_in}
 
 -- Tables of slices are those of a pool's drives, for the places that are current by a state.
@@ -40,7 +44,7 @@ pub record AreSlicesNow (f : Found) (t : Slices) (s : State) : Type 0 where
       (n p d : ℕ) → n < f.state.made → is_current s p ≡ true → f.seats p ≡ Some d → is_member f n p ≡ true
       → extent_of f (suc n) ≡ Some (extent_in t (member_slice p n))
   pub others : (n p : ℕ) → n < 16 → (nat_lt n f.state.made && is_member f n p) ≡ false → sectors_of t (member_slice p n) ≡ 0
-  pub unseated : (k : ℕ) → f.seats (place_of k) ≡ None → sectors_of t k ≡ 0
+  pub unseated : (k : ℕ) → is_current s (place_of k) ≡ true → f.seats (place_of k) ≡ None → sectors_of t k ≡ 0
 
 -- contents of slices say an array soundly: its truth has the size and names the places that the pool's has
 pub record SaysArray (f : Found) (s : State) (c : Image) (n : ℕ) : Type 0 where
@@ -60,13 +64,12 @@ LieOn t place sectors disk =
 abbrev pub LieByTables : Found → Slices → State → Image → Type 0
 LieByTables f t s i = (p d : ℕ) → is_current s p ≡ true → seat_of t p ≡ Some d → LieOn t p (f.disks.sectors d) (i d)
 
--- Contents of the disks of a pool f, as a stop inside a call leaves them that began with the state base: its slices t, once the pending record is
--- written, say the state s and all arrays soundly, copies and targets are such as calls write, and outside the slices the disks are as the pool has them.
-pub record IsStopped (f : Found) (t : Slices) (base s : State) (i : Image) : Type 0 where
+-- Contents of the disks of a pool f, as a stop inside a call leaves them: its slices t, where its places are those that are current by the state base, say the
+-- state s and all arrays soundly once the pending record is written, and outside the slices the disks are as the pool has them.
+pub record SaysStopped (f : Found) (t : Slices) (base s : State) (i : Image) : Type 0 where
   pub is : IsOutset f
   pub begun : IsAfter f.state base
   pub after : IsAfter base s
-  pub room : s.epoch < 2 ^ 63 - 1
   pub joined : f.state.joined ≡ f.state.made
   pub slices : AreSlicesNow f t base
   pub orderly : IsOrderly t
@@ -76,15 +79,48 @@ pub record IsStopped (f : Found) (t : Slices) (base s : State) (i : Image) : Typ
       (p d : ℕ) → is_current base p ≡ true → f.seats p ≡ None → d < f.disks.count → stands_for base (identities_of f.disks i d) ≡ Some p → ⊥
   pub someone : (p d : ℕ) × (is_current s p ≡ true) × (f.seats p ≡ Some d)
   pub tables : LieByTables f t s i
+  pub says : SaysState s (sectors_of t) (sliced t i)
+  pub arrays : (n : ℕ) → n < f.state.made → SaysArray f s (replayed (sectors_of t) (sliced t i)) n
+  pub elsewhere : AreElsewhere f i
+  pub alone : AreAloneBy s f i
+
+-- Of a call that began with the state base: copies and targets are such as it writes.
+pub record IsStopped (f : Found) (t : Slices) (base s : State) (i : Image) : Type 0 where
+  pub stop : SaysStopped f t base s i
+  pub room : s.epoch < 2 ^ 63 - 1
   -- a drive whose place wasn't current when the call began says an earlier state
   pub former :
       (p d : ℕ) (copy : Copied) → f.seats p ≡ Some d → is_current base p ≡ false → (identities_of f.disks i d).copied ≡ Some copy
       → copy.state.epoch < base.epoch
-  pub says : SaysState s (sectors_of t) (sliced t i)
   pub since : AreSince base (sectors_of t) (sliced t i)
-  pub arrays : (n : ℕ) → n < f.state.made → SaysArray f s (replayed (sectors_of t) (sliced t i)) n
-  pub elsewhere : AreElsewhere f i
-  pub alone : AreAloneBy s f i
+
+-- a drive of one of the places that are current by s has a state, and a log slice
+pub record HasLeader (f : Found) (s u : State) (i : Image) : Type 0 where
+  pub place : ℕ
+  pub disk : ℕ
+  pub own : ℕ
+  pub current : is_current s place ≡ true
+  pub seat : f.seats place ≡ Some disk
+  pub copy : (identities_of f.disks i disk).copied ≡ Some (record { state = u; own = own })
+  pub room : arrays_first ≤ f.disks.sectors disk
+
+-- What contents of a pool's disks say as they stand, where what is pending brings the state s: no disk says a later state than the one that stands, the logs are
+-- sound, and each place that is current by s has the drive that it had.
+pub record StandFor (f : Found) (t : Slices) (s : State) (i : Image) : Type 0 where
+  pub stood : State
+  pub stands : standing f.disks i ≡ Some (standing_by f.disks i stood)
+  pub targets : (standing_by f.disks i stood).targets ≡ pending (deciding (sliced t i)) (sliced t i)
+  pub seated : seated_state (standing_by f.disks i stood).targets stood ≡ s
+  pub logs : HasSoundLogs f.disks i
+  pub lower : TakesLowerIn f.disks i
+  pub early : (s ≡ stood) ⊎ (stood.epoch < s.epoch)
+  pub seats : (p : ℕ) → is_current s p ≡ true → seat_of_disks s f.disks (identities_of f.disks i) p ≡ f.seats p
+  pub latest : (q : ℕ) (copy : Copied) → q < f.disks.count → (identities_of f.disks i q).copied ≡ Some copy → IsNoLater stood copy
+  -- a drive whose place isn't current by s, and which stands for one that is, says an earlier state
+  pub former :
+      (r q p : ℕ) → f.seats r ≡ Some q → is_current s r ≡ false → is_current s p ≡ true → stands_for s (identities_of f.disks i q) ≡ Some p
+      → epoch_at (identities_of f.disks i q) < s.epoch
+  pub leader : HasLeader f s stood i
 
 -- ---- inside calls
 
@@ -113,6 +149,11 @@ abbrev pub LieApart : Found → Type 0
 LieApart f =
     (m n p d : ℕ) (a b : Extent) → m < n → n < f.state.made → f.seats p ≡ Some d → is_member f m p ≡ false → is_member f n p ≡ true
     → extent_by (f.disks.sectors d) (f.identities d).table (suc m) ≡ Some a → extent_of f (suc n) ≡ Some b → share b a ≡ false
+
+-- Contents hold a pool again, and by its drives' tables its slices lie apart, so that the targets of a record that a later call leaves pending land there.
+pub record HoldLanding (f : Found) (t : Slices) (s : State) (i : Image) : Type 0 where
+  pub again : HoldAgain f t s i
+  pub apart : LieApart again.still.now
 
 -- Before a pool's record was replayed one of its drives had the state that stood, and none another one that isn't earlier.
 pub record HaveStood (f : Found) : Type 0 where

@@ -10,7 +10,8 @@
 //! (`left_again`; by contents of the slices, `opens_again`). Calls that write slices alone leave the rest of the disks as it was (`rest_later`).
 //! `proofs/InService.antt`: so it is for a pool that took new drives in, which is `taken f ..` (`specs/Taken.antt`) in the place of `f` from then on, by
 //! `InService` (`specs/InService.antt`)
-//! (`in_service`, `service_calls`, `service_attached`, `service_taken`, `service_again`, `vacant_again`).
+//! (`in_service`, `service_calls`, `service_attached`, `service_taken`, `service_again`, `vacant_again`); where the drives' tables have the members' slices, the
+//! targets of a record that is left pending later land in it too (`HoldLanding`, `service_landing`, `vacant_landing`).
 //! `proofs/Values.antt`: where no sector is spent and the arrays have the shapes of the pool's and hold what those did, their shapes, their group, the
 //! lowest bad array and the volumes are the same (`same_again`). `proofs/Named.antt`: which place a disk stands for goes by the ids of the drives (`seat_ahead`, `copy_names`).
 //! **Inside calls** (`specs/Stopped.antt`): `IsStopped f t base s i` says of contents `i` that a stop inside a call leaves, which began with the state
@@ -22,8 +23,18 @@
 //! in service a place may be absent: `HoldBetween` says the rest of it, for calls that tell of their stops (`TellsStops`, `found_tells`). Calls keep these tables (`HoldTables`, `tables_amid`; where drives were
 //! declined or taken in `proofs/Tables.antt`). What contents say of a pool, whatever made them so, stands in `proofs/Said.antt`.
 //!
-//! **Inside an opening** (`specs/Openings.antt`): `HoldOpened f from i` says of contents `i` that a stop inside it leaves that they hold the pool still, and may
-//! be replayed where a record is pending. So it is while disks are read (`proofs/Rereading.antt`), while gates are closed (`idle_holds`, `proofs/GatesSame.antt`),
+//! **While a drive is taken in** (`specs/Laid.antt`) a stop leaves contents that hold the pool that there was, up to the moment when the record counts that brings the state
+//! with the drive: by the slices that are left while the drive is laid, and by those with its own from then on (`entering_early`, `proofs/TakingEarly.antt`). It says no state by
+//! then that it didn't say before, so it is taken for no drive, whatever its table is. Once the record counts they hold the pool with the drive, where no other disk has the id of
+//! the pool's next drive (`HaveOtherIds`; `taking_ids`, `taking_late`, `proofs/TakingLate.antt`). So each stop inside the call leaves the one or the other (`entering_amid`,
+//! `proofs/Entering.antt`). Inside a call that doesn't take it in after all they hold the pool that there was (`refused_amid`), with the marks of another drive that was found gone
+//! (`not_whole_amid`).
+//!
+//! **Where targets land** (`LieApart`, `specs/Stopped.antt`; `proofs/Landing.antt`): the slices of a pool's drives lie apart by the rules on the list of drives and on the plan
+//! (`ruled_apart`), and where the drives' tables have them (`tables_apart`, `again_apart`, `landing_again`); where each drive has its table a replay then finds them (`apart_tables`).
+//!
+//! **Inside an opening** (`specs/Openings.antt`): `HoldOpened f from i` says of contents `i` that a stop inside it leaves that they hold the pool still, that
+//! targets land in it, and that it may be replayed where a record is pending. So it is while disks are read (`proofs/Rereading.antt`), while gates are closed (`idle_holds`, `proofs/GatesSame.antt`),
 //! while the copies of tables are made to agree (`settled_holds`, `proofs/Settled.antt`), and while places without a disk are marked (`marking_amid`,
 //! `proofs/Marking.antt`; `amid_opened`, `proofs/Openings.antt`), where no superblock stands in them where a drive that is no member of an array would have its
 //! slice (`AreAlone`).

@@ -39,7 +39,7 @@ returns-clause-mends g c =
     c.args.state.now c.absent_of.result.items c.absent_of.ensures
 
 pub returns-clause-moments : goal.returns-clause-moments
-returns-clause-moments g c f sound idle good same alone traced =
+returns-clause-moments g c f sound idle good apart same alone traced =
     let slices = c.args.slices.now in
     settling_leaves (g.R.Rack.seen (below_of slices)) (g.R.Rack.seen c.settle_tables.new.rack) f c.args.state.now (seat_of (tables slices)) c.args.agreed.now c.args.gone.now.items
-    c.absent_of.result.items sound idle good same (returns-clause-mends g c) alone traced
+    c.absent_of.result.items sound idle good apart same (returns-clause-mends g c) alone traced

@@ -18,7 +18,8 @@ use Rattle.lvm_group.specs.Volume.{below_of as rack_in, linear, seqno_of}
 use Rattle.pool_image.specs.Meaning.{arrays_held, bad_volume, joined_arrays, volume_by}
 use Rattle.lvm_group.specs.Images.{HasOwnArea}
 use Rattle.pool_image.specs.Volumes.{Arrays, linear_of}
-use Rattle.pool_scan.specs.Scanning.{IsUnfaulted}
+use Rattle.pool_image.specs.Disks.{disks_of}
+use Rattle.pool_scan.specs.Scanning.{IsUnfaulted, now_in}
 use Rattle.pool_rest.proofs.Unwritten.{reads_mean}
 use Rattle.pool_scan.proofs.Valid.{valid_arrays}
 use Rattle.pool_check.proofs.Settled.{settled_told}
@@ -33,6 +34,7 @@ use Rattle.pool_model.specs.Left.{AreAlone, IsPickOff}
 use Rattle.pool_model.specs.Openings.{HoldOpened}
 use Rattle.pool_model.specs.Pools.{AreSlicesOf}
 use Rattle.assembler.proofs.Agreed.{agree_opened}
+use Rattle.assembler.proofs.Apart.{lands_apart}
 use Rattle.assembler.proofs.Grouped.{group_opened}
 use Rattle.assembler.proofs.Causes.{refuses_drives}
 use Rattle.assembler.proofs.Rereading.{rereading_leaves}
@@ -399,13 +401,14 @@ pub returns-in-Err-clause-stopped : goal.returns-in-Err-clause-stopped
 returns-in-Err-clause-stopped g c e sound quiet =
     inl (λ may lands all alone traced.
     leaves_weaker (HoldOpened e 0) (λ i. AreAlone e i → HoldOpened e 0 i) (λ i holds alone_now. holds)
-    (rereading_leaves (g.R.Rack.seen c.args.rack) (g.R.Rack.seen c.in-Err.back.rack) e sound may
+    (rereading_leaves (g.R.Rack.seen c.args.rack) (g.R.Rack.seen c.in-Err.back.rack) e sound
+    (lands_apart (disks_of (g.R.Rack.seen c.args.rack)) (now_in (g.R.Rack.seen c.args.rack)) e sound.found_is lands) may
     (c.in-Err.ensures.found sound.steady.told sound.steady.lasts quiet sound.logs).0 traced))
 
 pub returns-in-Err-check-clause-stopped : goal.returns-in-Err-check-clause-stopped
 returns-in-Err-check-clause-stopped g c e sound quiet =
     inl (λ may lands all alone traced.
-    leaves_weaker (HoldOpened e 0) (λ i. AreAlone e i → HoldOpened e 0 i) (λ i holds alone_now. holds) (checked_leaves g c quiet e sound may traced))
+    leaves_weaker (HoldOpened e 0) (λ i. AreAlone e i → HoldOpened e 0 i) (λ i holds alone_now. holds) (checked_leaves g c quiet e sound may lands traced))
 
 pub returns-in-Err-open_volume-clause-stopped : goal.returns-in-Err-open_volume-clause-stopped
 returns-in-Err-open_volume-clause-stopped g c e sound quiet =

@@ -455,8 +455,8 @@ returns-clause-moments g c f e holds found rest quiet alive traced =
     (runs (below_of m.slices) (below_of closed)) (runs (below_of mended) (below_of last)) c.close_gates-gone.ensures.runs c.close_gates-gone.ensures.closes
     c.close_gates-gone.ensures.same c.mend_tables-left_out.ensures.mends c.mend_tables-left_out.ensures.tables marking quiet none))
     (λ some. ap (λ k. seen (below_of k)) (c.close_gates-gone.ensures.still some))
-    (λ h sound idle good seats alone told.
-    c.mend_tables-left_out.ensures.moments h sound idle good (λ p. ap (λ u. seat_of u p) c.close_gates-gone.ensures.runs.tables ∙ seats p) alone told)
+    (λ h sound idle good apart seats alone told.
+    c.mend_tables-left_out.ensures.moments h sound idle good apart (λ p. ap (λ u. seat_of u p) c.close_gates-gone.ensures.runs.tables ∙ seats p) alone told)
     (making_marked m.state t (tables closed) (tables mended) (tables last) y b d z went places m.checked m.absent.items m.slices.orderly members m.log
     (runs (below_of m.slices) (below_of closed)) (runs (below_of mended) (below_of last)) c.close_gates-gone.ensures.runs c.close_gates-gone.ensures.closes
     c.close_gates-gone.ensures.same c.mend_tables-left_out.ensures.mends c.mend_tables-left_out.ensures.tables marking)

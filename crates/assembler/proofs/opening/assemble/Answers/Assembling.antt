@@ -39,7 +39,7 @@ use Rattle.pool_model.proofs.Found.{found_is}
 use Rattle.assembler.specs.Sound.{HoldSound, MayStop, TargetsLand}
 use Rattle.assembler.specs.Volume.{AllLive}
 use Rattle.assembler.specs.Writing.{IsDriveOrTable}
-use Rattle.assembler.proofs.Apart.{tables_landed}
+use Rattle.assembler.proofs.Apart.{lands_apart, tables_landed}
 use Rattle.assembler.proofs.Causes.{loses_since, marked_since}
 use Rattle.assembler.proofs.Drives.{members_drives}
 use Rattle.assembler.proofs.Early.{early_leaves}
@@ -200,9 +200,10 @@ module _ (g : Over) (c : After-make_rack g) where
 
       -- where targets land in the pool's slices a replay finds these by the tables
       pub landing : TargetsLand e → HaveTables e
-      landing =
+      landing lands =
           tables_landed f t y c.in-Ok-check.members.checked c.in-Ok-check.members.absent.items c.in-Ok-check.members.slices.orderly members holds.steady holds.pool
-          checked.1 e same
+          checked.1 (found_is (disks_of x) (now_in x) f (rest_found g.R.Rack.seen a c.in-Ok.rest e sound rested).found_is).0 e same
+          (lands_apart (disks_of a) (now_in a) e sound.found_is lands)
 
       pub arrays : HoldsArrays f (raid_in c.make_rack.result) (slices_of t y) (slices_seen g.R.Rack.seen c.make_rack.result)
       arrays = c.make_rack.ensures.holds f checked.0 checked.1 from_y

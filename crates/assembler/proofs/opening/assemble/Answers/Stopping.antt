@@ -6,10 +6,10 @@ use Rattle.array_image.specs.Arrays.{arrays_in, replayed}
 use Rattle.array_image.specs.States.{is_current}
 use Rattle.pool_state.specs.declared.contents.State.{State}
 use Rattle.shr_base.specs.declared.Id.{Id}
-use Rattle.std.proofs.Common.{◌≡◌, ◌<◌, ◌≤◌, ◌&&◌, ℕ, is_some, List, Some, sym, ap, subst, ◌∙◌, arith}
+use Rattle.std.proofs.Common.{◌≡◌, ◌<◌, ◌≤◌, ◌&&◌, ℕ, is_some, Some, sym, ap, subst, ◌∙◌, arith}
 use Rattle.rack.specs.Joins.{leaves_then, leaves_weaker, stays_then}
 use Rattle.rack.specs.Moments.{Leaves}
-use Rattle.rack.specs.Seen.{Image, Seen}
+use Rattle.rack.specs.Seen.{Image}
 use Rattle.rack.specs.Sequences.{WritesOnly}
 use Rattle.rack.proofs.Writing.{only_none, only_quiet}
 use Rattle.slice_rack.specs.Runs.{IsSliced}
@@ -28,6 +28,7 @@ use Rattle.pool_model.specs.Grouped.{HaveOwnAreas}
 use Rattle.pool_model.specs.Left.{AreAlone, AreElsewhere, IsPickOff}
 use Rattle.pool_model.specs.Openings.{HoldOpened, MayReplay}
 use Rattle.pool_model.specs.Pools.{AreSlicesOf}
+use Rattle.pool_model.specs.Stopped.{LieApart}
 use Rattle.pool_model.proofs.Found.{found_is, some_made}
 use Rattle.pool_model.proofs.Openings.{opened_from, opened_same}
 use Rattle.pool_model.proofs.Refused.{table_there}
@@ -36,7 +37,7 @@ use Rattle.assembler.specs.Moments.{SaysVolume}
 use Rattle.assembler.specs.Sound.{HoldSound, MayStop, TargetsLand}
 use Rattle.assembler.specs.Rested.{HoldRested}
 use Rattle.assembler.specs.Volume.{AllLive, AreStill}
-use Rattle.assembler.proofs.Apart.{slices_landed}
+use Rattle.assembler.proofs.Apart.{lands_apart, slices_landed}
 use Rattle.assembler.proofs.AtRest.{rest_alone, rest_idle, rest_sound, until_read}
 use Rattle.assembler.proofs.Bringing.{bringing_leaves}
 use Rattle.assembler.proofs.Entry.{quiet_first, rested_so}
@@ -65,6 +66,10 @@ module _ (g : Over) (c : After-make_rack g) (to_z : IsUnfaulted (a g c) (z g c))
   truths : (n : ℕ) → n < e.state.made → (u : Super) × (truth_of e n ≡ Some u)
   truths n low = (let truth = sound.sound.rules.arrays n low in (truth.0, truth.1))
 
+  -- its slices lie apart
+  apart : LieApart e
+  apart = lands_apart (disks_of (a g c)) (now_in (a g c)) e sound.found_is lands
+
   -- the pool of the disks as they were checked
   at_rest : (h : Found) × HoldRested (y g c) (f g c to_z e sound) h
   at_rest =
@@ -75,7 +80,7 @@ module _ (g : Over) (c : After-make_rack g) (to_z : IsUnfaulted (a g c) (z g c))
       rested_reads (x g c) (y g c) pool (rest_sound g.R.Rack.seen (a g c) c.in-Ok.rest e sound (rested g c to_z e sound))
       (rest_idle g.R.Rack.seen (a g c) c.in-Ok.rest e sound (rested g c to_z e sound)) has.steady
       (ap (λ (s : State). s.joined) is.state ∙ all ∙ sym (ap (λ (s : State). s.made) is.state))
-      (slices_landed pool (t g c) (y g c) m.checked m.absent.items m.slices.orderly are has.steady has.pool (checked g c to_z e sound).1 e is lands)
+      (slices_landed pool (t g c) (y g c) m.checked m.absent.items m.slices.orderly are has.steady has.pool (checked g c to_z e sound).1 (found_is (disks_of (x g c)) (now_in (x g c)) pool (rest_sound g.R.Rack.seen (a g c) c.in-Ok.rest e sound (rested g c to_z e sound)).found_is).0 e is apart)
       (λ p d seat. table_there pool (passes g c to_z e sound) p d (are.current p d (sym (has.pool.seats p) ∙ seat)) seat)
       (rest_alone g.R.Rack.seen (a g c) c.in-Ok.rest e sound (rested g c to_z e sound) (own_alone e pool is few truths alone)) c.in-Ok-check.ensures.only
 
@@ -107,7 +112,7 @@ module _ (g : Over) (c : After-make_rack g) (to_z : IsUnfaulted (a g c) (z g c))
       let is = c.in-Ok.ensures in
       let told = sound.steady.told in
       let lasts = sound.steady.lasts in
-      replaying_leaves g.R.Rack.seen (a g c) c.in-Ok.rest e sound (rested g c to_z e sound) is.laid is.fit may (is.idle told lasts (to_x g c to_z))
+      replaying_leaves g.R.Rack.seen (a g c) c.in-Ok.rest e sound (rested g c to_z e sound) apart is.laid is.fit may (is.idle told lasts (to_x g c to_z))
       (λ lower u of stood. is.midway told lasts (to_x g c to_z) sound.logs lower sound.steady.single u of stood) traced
 
   -- gates, tables, marks and superblocks
@@ -122,7 +127,7 @@ module _ (g : Over) (c : After-make_rack g) (to_z : IsUnfaulted (a g c) (z g c))
   made_leaves =
       leaves_then (λ i. AreAlone e i → HoldOpened e 0 i)
       (leaves_weaker (HoldOpened e 0) (λ i. AreAlone e i → HoldOpened e 0 i) (λ i holds alone_now. holds)
-      (until_read g.R.Rack.seen (a g c) c.in-Ok.rest e sound (rested g c to_z e sound) (y g c) c.in-Ok-check.ensures.only replaying traced))
+      (until_read g.R.Rack.seen (a g c) c.in-Ok.rest e sound (rested g c to_z e sound) (y g c) apart c.in-Ok-check.ensures.only replaying traced))
       making
 
   -- from a later sector of the arrays on
@@ -134,10 +139,11 @@ module _ (g : Over) (c : After-make_rack g) (to_z : IsUnfaulted (a g c) (z g c))
 
 module _ (g : Over) (c : In-Err-check g) (quiet : IsUnfaulted (g.R.Rack.seen c.args.rack) (g.R.Rack.seen c.in-Err-check.back.rack)) (e : Found)
     (sound : HoldSound (g.R.Rack.seen c.args.rack) e) where
-  pub checked_leaves : MayReplay (disks_of (g.R.Rack.seen c.args.rack)) (now_in (g.R.Rack.seen c.args.rack)) e → (g.R.Rack.seen c.args.rack).traced
+  pub checked_leaves : MayReplay (disks_of (g.R.Rack.seen c.args.rack)) (now_in (g.R.Rack.seen c.args.rack)) e → TargetsLand e → (g.R.Rack.seen c.args.rack).traced
       → Leaves (g.R.Rack.seen c.args.rack) (g.R.Rack.seen c.in-Err-check.back.rack) (HoldOpened e 0)
-  checked_leaves may traced =
+  checked_leaves may lands traced =
       let seen = g.R.Rack.seen in
+      let apart = lands_apart (disks_of (seen c.args.rack)) (now_in (seen c.args.rack)) e sound.found_is lands in
       let rest = c.in-Ok.rest in
       let is = c.in-Ok.ensures in
       let reads = c.in-Err-check.ensures.kept in
@@ -145,8 +151,8 @@ module _ (g : Over) (c : In-Err-check g) (quiet : IsUnfaulted (g.R.Rack.seen c.a
       let rested = rested_so seen (seen c.args.rack) rest e sound is.only.only.stays to_x is.newest is.stands is.settled is.steady is.looked is.single in
       let told = sound.steady.told in
       let lasts = sound.steady.lasts in
-      until_read seen (seen c.args.rack) rest e sound rested (seen c.in-Err-check.back.rack) reads
-      (replaying_leaves seen (seen c.args.rack) rest e sound rested is.laid is.fit may (is.idle told lasts to_x)
+      until_read seen (seen c.args.rack) rest e sound rested (seen c.in-Err-check.back.rack) apart reads
+      (replaying_leaves seen (seen c.args.rack) rest e sound rested apart is.laid is.fit may (is.idle told lasts to_x)
       (λ lower u of stood. is.midway told lasts to_x sound.logs lower sound.steady.single u of stood) traced)
       traced
 

@@ -29,11 +29,13 @@ use Rattle.assembler.specs.Members.{AreMembers}
 use Rattle.pool_model.specs.Left.{AreAlone, HoldSame, IsServed}
 use Rattle.pool_model.specs.Pools.{AreSlicesOf}
 use Rattle.pool_model.proofs.Again.{left_known}
+use Rattle.pool_model.proofs.Amid.{tables_lie}
 use Rattle.pool_model.proofs.Copies.{IsKnown}
 use Rattle.pool_model.proofs.Found.{found_is, some_made}
+use Rattle.pool_model.proofs.Landing.{again_apart}
 use Rattle.pool_model.proofs.Refused.{HoldSupers, refusal_now}
 use Rattle.pool_model.proofs.Values.{HoldValues, same_again}
-use Rattle.assembler.specs.Sound.{HoldSound, KeepsPool}
+use Rattle.assembler.specs.Sound.{HoldSound, KeepsPool, LieApart, TargetsLand}
 use Rattle.assembler.specs.Volume.{AllLive, AreStill}
 use Rattle.assembler.specs.Wanting.{HasUsedUp}
 use Rattle.assembler.proofs.Clean.{usable_truth}
@@ -45,7 +47,7 @@ use Rattle.assembler.proofs.Volumes.{live_later}
 use Rattle.assembler.proofs.Lies.{slices_same}
 use Rattle.assembler.proofs.opening.assemble.Given.{Over}
 use Rattle.assembler.proofs.opening.assemble.Goals.{After-make_rack, In-Err-open_volume}
-use Rattle.assembler.proofs.opening.assemble.Answers.Assembling.{disks_still, a, x, y, z, t, known, ay, yz, ready, lost, marked, tables_kept, from_y, rested, f, same, checked, state, members, holds, lie, passes, early, arrays, marks_made, off_slices}
+use Rattle.assembler.proofs.opening.assemble.Answers.Assembling.{disks_still, a, x, y, z, t, known, ay, yz, ready, lost, marked, tables_kept, from_y, rested, f, same, checked, state, members, holds, lie, passes, early, arrays, landing, marks_made, off_slices}
 
 module _ (g : Over) (c : In-Err-open_volume g) where
   abbrev pub built : After-make_rack g
@@ -219,6 +221,13 @@ module _ (g : Over) (c : In-Err-open_volume g) where
           pub pool_again : HoldSame e (t g built) v.state i
           pool_again = same_again e (t g built) v shown i known_left values
 
+          -- where its slices lie apart by the drives' tables
+          pub apart_again : TargetsLand e → LieApart pool_again.again.still.now
+          apart_again lands =
+              again_apart e (t g built) v.state i pool_again.again
+              (tables_lie e (t g built) v.state ended (landing g built made_quiet e sound lands) own_slices (off_slices g built made_quiet e sound ended own_calls) i
+              (λ d u live never. pick d u live))
+
           -- and is refused as they were before
           pub refused_again : refusal_of (disks_of ended) i ≡ refusal_of (disks_of (a g built)) (now_in (a g built))
           refused_again =
@@ -257,5 +266,6 @@ module _ (g : Over) (c : In-Err-open_volume g) where
             after = later seen runs e (f g built made_quiet e sound) pool (slices_of (t g built) (y g built)) raid refused.last refused.kept (arrays g built made_quiet e sound) live_still (ready g built);
             marks = marks_kept;
             again = pool_again;
+            landing = λ lands all i pick alone. apart_again all i pick alone lands;
             refusal = refused_again;
           })

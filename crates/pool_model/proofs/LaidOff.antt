@@ -1,0 +1,104 @@
+-- What a rack of arrays tells of its moments while it takes a new drive in, as the disks show it: before the drive is one of the pool.
+use Rattle.std.proofs.Common.{◌≡◌, ◌≢◌, ℕ, ◌<◌, ◌≤◌, Bool, false, if◌then◌else◌, List, None, Ok, Some, sym, ap, ◌∙◌, inl, inr, le-ltb, lt-ltb, arith}
+use Rattle.std.specs.Result.{result_ok}
+use Rattle.std.proofs.lemmas.Bool.{cases_lt}
+use Rattle.std.proofs.lemmas.Option.{none-some}
+use Rattle.rack.specs.Seen.{Image, Seen, Stays}
+use Rattle.rack.specs.Sequences.{IsMix}
+use Rattle.rack.specs.Values.{MayLeave, Values}
+use Rattle.slice_rack.specs.Runs.{IsSliced}
+use Rattle.slice_rack.specs.Slices.{Slices, sectors_of}
+use Rattle.slice_rack.specs.Sliced.{sliced}
+use Rattle.gpt_table.specs.declared.Table.{Table}
+use Rattle.pool_state.specs.declared.contents.Copied.{Copied}
+use Rattle.pool_state.specs.declared.contents.State.{State}
+use Rattle.pool_state.specs.Sector.{decoded}
+use Rattle.array_image.specs.Arrays.{replayed}
+use Rattle.array_image.specs.Places.{state_sector}
+use Rattle.array_image.specs.States.{is_current}
+use Rattle.commit_log.specs.Saying.{SaysState}
+use Rattle.commit_log.proofs.Kept.{live_on}
+use Rattle.raid_rack.specs.Book.{after_same}
+use Rattle.raid_rack.specs.Enlisting.{HoldsLaid, IsOpenDisk, IsWrittenBy, SaysBy, SaysJoining, SaysLaying}
+use Rattle.raid_rack.specs.Raid.{Raid, spent_of}
+use Rattle.raid_rack.specs.Runs.{IsBetween}
+use Rattle.raid_rack.proofs.Since.{joining_before}
+use Rattle.pool_image.specs.Drives.{Found}
+use Rattle.pool_model.specs.Laid.{IsLaidOff, SaysBooks}
+use Rattle.pool_model.proofs.Found.{ok_of}
+use Rattle.pool_model.proofs.Unsliced.{laid_state}
+
+some_same : {X : Type 0} (a b : X) → Some a ≡ Some b → a ≡ b
+some_same a b same = cc
+
+-- contents that say an array by the book's state
+says_between : (v : Raid) (n : ℕ) (vals : ℕ → Values) (spent : ℕ → Bool) (r : Image) → SaysBy v.state n vals spent r → IsBetween v.state v.state n r
+says_between v n vals spent r one = record {
+  state = v.state;
+  is_state = one.is_state;
+  later = after_same v.state;
+  sooner = after_same v.state;
+  shape = one.shape;
+  shape_is = one.says.shape_is;
+  is_sound = one.says.is_sound;
+}
+
+-- Contents in which the disk, where they say a state on it, holds one there that it may have held. The others are written in slices alone, which were slices before.
+pub laid_off : (f : Found) (t u : Slices) (s : State) (disk : ℕ) (x y : Seen) (i : Image) → ((p : ℕ) → f.seats p ≡ Some disk → is_current s p ≡ false)
+    → ((k : ℕ) (w : List ℕ) → IsSliced t disk k w → ⊥) → IsOpenDisk x disk → x.lasting → Stays x y
+    → ((d k : ℕ) (w : List ℕ) → d ≢ disk → IsSliced u d k w → IsSliced t d k w) → IsMix x y (IsWrittenBy u disk (x.sectors disk)) i
+    → ((copy : Copied) → state_sector < x.sectors disk → decoded (i disk state_sector) ≡ Ok copy → MayLeave (x.held disk state_sector) (i disk state_sector))
+    → IsLaidOff f t s disk x i
+laid_off f t u s disk x y i vacant free opened lasting stays fewer mix says = record {
+  vacant = vacant;
+  free = free;
+  opened = opened;
+  others = λ d k other live never. elim (mix d k (live_on lasting stays live)) [
+    | inl may ↦ may
+    | inr written ↦ elim written [ inl own ↦ absurd (other own.0) | inr slice ↦ absurd (never (i d k) (fewer d k (i d k) other slice)) ]
+  ];
+  says = λ copy here. elim (cases_lt state_sector (x.sectors disk)) [
+    | inl low ↦
+        says copy low
+        (ok_of (decoded (i disk state_sector)) copy
+        (sym (ap (λ (b : Bool). if b then result_ok (decoded (i disk state_sector)) else None) (lt-ltb state_sector (x.sectors disk) low)) ∙ here))
+    | inr past ↦
+        absurd (none-some copy (sym (ap (λ (b : Bool). if b then result_ok (decoded (i disk state_sector)) else None) (le-ltb state_sector (x.sectors disk) past)) ∙ here))
+  ];
+}
+
+-- So it is where it holds what it held, or what is laid on it.
+pub laid_says : (x : Seen) (disk : ℕ) (i : Image) → 10273 ≤ x.sectors disk → HoldsLaid x disk i → (copy : Copied) → state_sector < x.sectors disk
+    → decoded (i disk state_sector) ≡ Ok copy → MayLeave (x.held disk state_sector) (i disk state_sector)
+laid_says x disk i room laid copy low says = elim (laid state_sector low) [
+  | inl may ↦ may
+  | inr of ↦ absurd (laid_state disk (x.sectors disk) (i disk state_sector) copy room of says)
+]
+
+-- They say the book by the slices.
+pub laying_book : (made : ℕ) (t : Slices) (disk : ℕ) (v w : Raid) (a : Seen) (vals : (n : ℕ) → ℕ → Values) (i : Image) → 0 < made
+    → ((n : ℕ) → n < made → SaysLaying t disk v w a n (vals n) i) → SaysBooks made t v v i
+laying_book made t disk v w a vals i first each = record {
+  logs = record { state = v.state; later = after_same v.state; sooner = after_same v.state; says = (each 0 first).logs };
+  since = (each 0 first).since;
+  arrays = λ n low. says_between v n (vals n) (spent_of w n) (replayed (sectors_of t) (sliced t i)) (each n low).says;
+  frames = λ n low. (each n low).frame;
+}
+
+-- So they do once the disk has its slices, while the log slices say the state before: the new drive has no state then.
+pub joining_book : (made : ℕ) (t u : Slices) (disk : ℕ) (table : Table) (next : State) (v w : Raid) (a : Seen) (vals : (n : ℕ) → ℕ → Values) (i : Image) → 0 < made
+    → v.state.epoch < next.epoch → SaysState v.state (sectors_of u) (sliced u i)
+    → ((n : ℕ) → n < made → SaysJoining t u disk table next v w a n (vals n) i) → SaysBooks made u v v i
+joining_book made t u disk table next v w a vals i first up says each = record {
+  logs = record { state = v.state; later = after_same v.state; sooner = after_same v.state; says = says };
+  since = joining_before v.state next (sectors_of u) (sliced u i) up says (each 0 first).since;
+  arrays = λ n low. elim (each n low).says [
+    | inl before ↦ says_between v n (vals n) (spent_of w n) (replayed (sectors_of u) (sliced u i)) before
+    | inr brought ↦
+        let same : v.state ≡ brought.state = some_same v.state brought.state (sym says.is_state ∙ brought.is_state) in
+        let epoch : v.state.epoch ≡ brought.state.epoch = ap (λ (z : State). z.epoch) same in
+        let late = brought.later.epoch in
+        absurd (omega (arith, up, epoch, late))
+  ];
+  frames = λ n low. (each n low).frame;
+}
