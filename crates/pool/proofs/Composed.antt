@@ -1,8 +1,6 @@
 -- A replacing, by what its parts say.
-use Rattle.std.specs.Prelude.{Result, Ok, Err, IfErr, OnOk}
-use Rattle.std.specs.Bool.{then_some}
-use Rattle.std.specs.Option.{option_or}
-use Rattle.std.proofs.Common.{◌≡◌, ◌≢◌, ◌⊎◌, ℕ, ◌<◌, ◌≤◌, not, if◌then◌else◌, Bool, true, false, List, [], ◌∷◌, length, slice_get, Option, Some, None, option_map, refl, sym, ap, subst, ◌∙◌, inl, inr, arith, lt-ltb, le-ltb}
+use Rattle.std.specs.Prelude.{Ok, Err, IfErr, OnOk}
+use Rattle.std.proofs.Common.{◌≡◌, ◌⊎◌, ℕ, ◌<◌, ◌≤◌, if◌then◌else◌, false, List, length, slice_get, Some, refl, sym, ap, subst, ◌∙◌, inl, inr, arith, lt-ltb, le-ltb}
 use Rattle.std.proofs.lemmas.Bool.{both_ways, cases_lt}
 use Rattle.rack.specs.Joins.{keeps_same}
 use Rattle.rack.specs.Values.{Keeps, MayLeave, Values}
@@ -11,128 +9,30 @@ use Rattle.rack.specs.Seen.{Rose, Seen}
 use Rattle.rack.specs.Shelf.{Shelf}
 use Rattle.flat_array.specs.Array.{FlatArray}
 use Rattle.array_image.specs.States.{is_current}
-use Rattle.growth_plan.specs.Admission.{first_refusal, replace_refusals}
-use Rattle.growth_plan.specs.declared.AdmitFault.{AdmitFault}
-use Rattle.growth_plan.specs.declared.AdmitFault.TheVariants.{Size as OfSize, Smaller as OfSmaller, TooManyDrives as OfDrives, TooManyLayers as OfLayers}
-use Rattle.lvm_group.specs.Runs.{Linear}
 use Rattle.raid_rack.specs.Book.{IsAfter, after_same}
 use Rattle.raid_rack.specs.Losing.{arrays_same}
 use Rattle.raid_rack.specs.Moves.{KeepsArrays}
 use Rattle.raid_rack.specs.NewDrive.{IsOfDrive as IsLaid}
 use Rattle.raid_rack.specs.Raid.{Raid}
-use Rattle.shr_base.specs.Units.{units_of}
 use Rattle.pool.specs.declared.replacing.GrowFault.{GrowFault}
-use Rattle.pool.specs.declared.replacing.GrowFault.TheVariants.{NoSuchDrive, Attach, Twice, Memory, Gone, PlanPending, NotWhole, NotResynced, Unbuilt, TooManySegments}
+use Rattle.pool.specs.declared.replacing.GrowFault.TheVariants.{NoSuchDrive, Attach, Twice, Memory, Gone, NotWhole}
 use Rattle.pool.specs.Continuing.{KeepsDisk, NoDisk}
 use Rattle.pool.specs.Moment.{IsImage, IsNamed, moment_of}
-use Rattle.pool.specs.Replaced.{DriveWentSince, HasMarked, HasTable, IsAnswer, IsDeclined, IsLaidOn, IsLookedAt, IsOfDrive, IsReplaced, LeavesNew, MeansWith, MeansWithout, ReplacesDrive, faults_before}
-use Rattle.pool.specs.Replacing.{fault_of, first_cause, has_other_missing, has_resync, has_same, is_planned, lacks_segments, refusal_of, standing_refusals}
+use Rattle.pool.specs.Replaced.{DriveWentSince, HasMarked, HasTable, IsAnswer, IsDeclined, IsLaidOn, IsLookedAt, IsOfDrive, IsReplaced, LeavesNew, MeansWith, MeansWithout, faults_before}
+use Rattle.pool.specs.Naming.{EntersDrive, EntersNamed, ReplacesDrive}
+use Rattle.pool.specs.Replacing.{refusal_of}
+use Rattle.pool.specs.Entering.{EntersBy, LeavesBy}
 use Rattle.pool.specs.Taking.{AreTold, AttachesDisk, ReplacesBy}
 use Rattle.array_image.specs.Places.{log_slice}
 use Rattle.slice_rack.specs.Runs.{IsSliced}
 use Rattle.slice_rack.specs.Slices.{disk_of, seat_of}
 use Rattle.pool.specs.View.{View, book, volume}
 use Rattle.pool.specs.Volume.{Holds}
-use Rattle.pool.specs.Works.{arrays_now}
 use Rattle.pool.proofs.Booked.{book_same, raises_still}
 use Rattle.pool.proofs.Carrying.{carries_same, carries_then, ends_of, holds_of}
 use Rattle.pool.proofs.Continuing.{continues_same, continues_then, outside_fewer, outside_then}
 use Rattle.pool.proofs.Later.{later}
-
--- ---- refusals
-
-abbrev Answer : Type 0
-Answer = Result (Unit {0}) GrowFault
-
-same_fault : (e f : GrowFault) → ◌≡◌ {A = Answer} (Err e) (Err f) → e ≡ f
-same_fault e f same = cc
-
-same_of : (e f : GrowFault) → ◌≡◌ {A = Result ℕ GrowFault} (Err e) (Err f) → e ≡ f
-same_of e f same = cc
-
-never_fault : (e : GrowFault) → ◌≡◌ {A = Answer} (Ok tt) (Err e) → ⊥
-never_fault e same = cc
-
--- a refusal that is looked for once a disk is there
-pub record IsLate (f : GrowFault) : Type 0 where
-  pub listed : f ≢ NoSuchDrive
-  pub attached : f ≢ Attach
-  pub had : f ≢ Memory
-  pub other : f ≢ Twice
-
-late_planned : IsLate PlanPending × (PlanPending ≢ Gone)
-late_planned = (record { listed = λ same. cc; attached = λ same. cc; had = λ same. cc; other = λ same. cc }, λ same. cc)
-
-late_whole : IsLate NotWhole × (NotWhole ≢ Gone)
-late_whole = (record { listed = λ same. cc; attached = λ same. cc; had = λ same. cc; other = λ same. cc }, λ same. cc)
-
-late_unbuilt : IsLate Unbuilt × (Unbuilt ≢ Gone)
-late_unbuilt = (record { listed = λ same. cc; attached = λ same. cc; had = λ same. cc; other = λ same. cc }, λ same. cc)
-
-late_resynced : IsLate NotResynced × (NotResynced ≢ Gone)
-late_resynced = (record { listed = λ same. cc; attached = λ same. cc; had = λ same. cc; other = λ same. cc }, λ same. cc)
-
-late_gone : IsLate Gone
-late_gone = record { listed = λ same. cc; attached = λ same. cc; had = λ same. cc; other = λ same. cc }
-
-late_segments : IsLate TooManySegments × (TooManySegments ≢ Gone)
-late_segments = (record { listed = λ same. cc; attached = λ same. cc; had = λ same. cc; other = λ same. cc }, λ same. cc)
-
-late_plan : (fault : AdmitFault) → IsLate (fault_of fault) × (fault_of fault ≢ Gone)
-late_plan OfSize = (record { listed = λ same. cc; attached = λ same. cc; had = λ same. cc; other = λ same. cc }, λ same. cc)
-late_plan OfSmaller = (record { listed = λ same. cc; attached = λ same. cc; had = λ same. cc; other = λ same. cc }, λ same. cc)
-late_plan OfDrives = (record { listed = λ same. cc; attached = λ same. cc; had = λ same. cc; other = λ same. cc }, λ same. cc)
-late_plan OfLayers = (record { listed = λ same. cc; attached = λ same. cc; had = λ same. cc; other = λ same. cc }, λ same. cc)
-
-abbrev AreLate : Option GrowFault → Type 0
-AreLate o = (f : GrowFault) → o ≡ Some f → IsLate f × (f ≢ Gone)
-
-late_none : AreLate None
-late_none f is = absurd (let bad : None ≡ Some f = is in cc bad)
-
-late_some : (e : GrowFault) → IsLate e × (e ≢ Gone) → AreLate (Some e)
-late_some e late f is = let same : e ≡ f = cc is in subst (λ g. IsLate g × (g ≢ Gone)) same late
-
-late_cause : (e : GrowFault) (cause : Bool) (rest : List (GrowFault × Bool)) → IsLate e × (e ≢ Gone) → AreLate (first_cause rest) → AreLate (first_cause ((e, cause) ∷ rest))
-late_cause e true rest late others = late_some e late
-late_cause e false rest late others = others
-
-late_or : (a b : Option GrowFault) → AreLate a → AreLate b → AreLate (option_or a b)
-late_or None b one two = two
-late_or (Some e) b one two = one
-
-late_map : (o : Option AdmitFault) → AreLate (option_map fault_of o)
-late_map None = late_none
-late_map (Some fault) = late_some (fault_of fault) (late_plan fault)
-
-late_if : (b : Bool) → AreLate (then_some b TooManySegments)
-late_if true = late_some TooManySegments late_segments
-late_if false = late_none
-
-standing_late : (a b c d e : Bool) → AreLate (first_cause ((PlanPending, a) ∷ (NotWhole, b) ∷ (Unbuilt, c) ∷ (NotResynced, d) ∷ (Unbuilt, e) ∷ []))
-standing_late a b c d e =
-    late_cause PlanPending a ((NotWhole, b) ∷ (Unbuilt, c) ∷ (NotResynced, d) ∷ (Unbuilt, e) ∷ []) late_planned
-    (late_cause NotWhole b ((Unbuilt, c) ∷ (NotResynced, d) ∷ (Unbuilt, e) ∷ []) late_whole
-    (late_cause Unbuilt c ((NotResynced, d) ∷ (Unbuilt, e) ∷ []) late_unbuilt
-    (late_cause NotResynced d ((Unbuilt, e) ∷ []) late_resynced (late_cause Unbuilt e [] late_unbuilt late_none))))
-
-refusal_late : (l : Linear) (v : Raid) (place sectors : ℕ) → AreLate (refusal_of l v place sectors)
-refusal_late l v place sectors =
-    let plan = first_refusal (replace_refusals v.state (arrays_now v) place (units_of sectors v.state.extent)) in
-    let room = then_some (lacks_segments l v place) TooManySegments in
-    late_or (first_cause (standing_refusals v place sectors)) (option_or (option_map fault_of plan) room)
-    (standing_late (is_planned v.state.plan) (has_other_missing v.state place) (is_current v.state place) (has_resync (arrays_now v)) (not (has_same v place sectors)))
-    (late_or (option_map fault_of plan) room (late_map plan) (late_if (lacks_segments l v place)))
-
--- so is each answer
-pub answer_late : (l : Linear) (v : Raid) (place sectors : ℕ) (r : Answer) → IsAnswer (refusal_of l v place sectors) r → (f : GrowFault) → r ≡ Err f → IsLate f
-answer_late l v place sectors r answer f is = of (refusal_of l v place sectors) (refusal_late l v place sectors) answer
-  where
-    of : (o : Option GrowFault) → AreLate o → IsAnswer o r → IsLate f
-    of (Some e) late same = (late f (ap Some (same_fault e f (sym same ∙ is)))).0
-    of None late (inl served) = absurd (never_fault f (sym served ∙ is))
-    of None late (inr (inl gone)) = subst IsLate (same_fault Gone f (sym gone ∙ is)) late_gone
-    of None late (inr (inr whole)) = subst IsLate (same_fault NotWhole f (sym whole ∙ is)) late_whole.0
+use Rattle.pool.proofs.Late.{Answer, IsLate, answer_late, refusal_late, same_fault, same_of}
 
 -- nothing is called
 still_disk : (Told : Type 0) (a b : Seen) (d : ℕ) → ((k : ℕ) → b.held d k ≡ a.held d k) → b.clock ≡ a.clock → KeepsDisk Told a b d
@@ -185,6 +85,7 @@ replaced_unlisted x place name fit sound past = record {
   holds = λ a holds. holds;
   truths = λ names all n low held. held;
   leaves = λ traced a holds k i since until stopped. absurd (omega (arith, since, until));
+  steps = record { enters = tt; left = inl refl };
   ends = λ traced a holds i stopped. ends_of x (sound traced) a holds i stopped;
 }
 
@@ -211,15 +112,23 @@ nothing_done x place disk e fit is = record {
   gone = λ same. absurd ((refusal_late x.linear (book x) place (x.bay.sectors disk) e is).1 (same_fault e Gone same));
   not_whole = λ same. inl (is ∙ ap Some (same_fault e NotWhole same));
   declined = declined_none x x place e refl refl refl (λ d low s. refl);
+  left = inl refl;
   replaced = tt;
   table = tt;
+  enters = tt;
   moments = tt;
   leaves = λ traced a holds k i since until stopped. absurd (omega (arith, since, until));
 }
 
 -- ---- a disk is attached, or none
 
-module _ (x : View) (b : Seen) (s : Shelf) (place : ℕ) (name : List ℕ) (listed : place < length (book x).state.drives.items) (fit : (volume x).fit) where
+module _ (x : View) (bay : x.bays.one) (place : ℕ) (name : List ℕ) (listed : place < length (book x).state.drives.items) (fit : (volume x).fit) where
+  abbrev b : Seen
+  b = x.bays.seen bay
+
+  abbrev s : Shelf
+  s = x.bays.shelf bay
+
   abbrev m : View
   m = later x b s x.slices x.arrays
 
@@ -263,6 +172,7 @@ module _ (x : View) (b : Seen) (s : Shelf) (place : ℕ) (name : List ℕ) (list
     holds = holds_of x m at.continues at.carries;
     truths = at.carries.truths;
     leaves = λ traced a holds k i since until stopped. let clock = at.clock in absurd (omega (arith, since, until, clock));
+    steps = record { enters = tt; left = inl at.clock };
     ends = λ traced a holds i stopped. ends_of m (sound (at.continues.traced holds.shelf traced)) a (holds_of x m at.continues at.carries a holds) i stopped;
   }
     where
@@ -377,6 +287,7 @@ module _ (x : View) (b : Seen) (s : Shelf) (place : ℕ) (name : List ℕ) (list
           leaves = λ traced a holds k i since until stopped.
               by.leaves (at.continues.traced holds.shelf traced) a (holds_of x m at.continues at.carries a holds) k i
               (let clock = at.clock in omega (arith, since, clock)) until stopped;
+          steps = steps_since y r (only y by) here by.enters by.left;
           ends = λ traced a holds i stopped. ends_of y (sound (go.traced holds.shelf traced)) a (holds_of x y go carries a holds) i stopped;
         }
       where
@@ -455,6 +366,20 @@ module _ (x : View) (b : Seen) (s : Shelf) (place : ℕ) (name : List ℕ) (list
               seats = replaced.seats;
               arrays = replaced.arrays;
             })
+
+        steps_since : (y : View) (r : Answer) → ((d : ℕ) → IsNamed (moment_of y) name d → d ≡ disk) → IsNamed (moment_of y) name disk → OnOk r (EntersBy m y place disk)
+            → IfErr r (λ e. (y.bay.clock ≡ b.clock) ⊎ LeavesBy m y place disk) → EntersDrive x y place name r
+        steps_since y (Err e) same here enters left = record {
+          enters = tt;
+          left = elim left [
+            | inl still ↦ inl (still ∙ at.clock)
+            | inr why ↦ inr (record { disk = disk; named = here; bay = bay; attaches = at; leaves = why })
+          ];
+        }
+        steps_since y (Ok u) same here enters left = record {
+          enters = λ d named. subst (EntersNamed x y place name) (sym (same d named)) (record { bay = bay; attaches = at; enters = enters });
+          left = tt;
+        }
 
         table_since : (y : View) (r : Answer) → ((d : ℕ) → IsNamed (moment_of y) name d → d ≡ disk) → OnOk r (HasTable m y place disk)
             → OnOk r ((d : ℕ) → IsNamed (moment_of y) name d → HasTable x y place d)

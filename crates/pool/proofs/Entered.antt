@@ -55,7 +55,7 @@ use Rattle.pool.proofs.Enlisted.{all_spent, book_enlisted}
 use Rattle.pool.proofs.Keeping.{not_left, went}
 use Rattle.pool.proofs.Later.{inside_later, later}
 use Rattle.pool.proofs.Shown.{views_are}
-use Rattle.pool.proofs.Taken.{bare_by, goes_on, laid_by, low_disk, mid_carries, mid_fit, mid_goes, outside_of_it, retired_by}
+use Rattle.pool.proofs.Taken.{bare_by, goes_on, laid_by, low_disk, mid_carries, mid_fit, mid_goes, outside_of_it, retired_by, vacates}
 
 -- the sectors of a table lie on its disk
 of_table : (sectors k : ℕ) → 10273 ≤ sectors → IsOfTable sectors k → k < sectors
@@ -330,6 +330,14 @@ module _ (x : View) (b : Seen) (s : Shelf) (place disk units : ℕ) (t u : Slice
         gone = λ same. absurd (let e : ◌≡◌ {A = Result (Unit {0}) GrowFault} (Ok tt) (Err Gone) = same in cc e);
         not_whole = λ same. absurd (let e : ◌≡◌ {A = Result (Unit {0}) GrowFault} (Ok tt) (Err NotWhole) = same in cc e);
         declined = tt;
+        left = tt;
+        enters = record {
+          vacates = vacates x b s place disk t linear fit missing vacated empty now names ordered orderly admits;
+          units = units;
+          units_is = units_is;
+          seats = subst (λ vs. SeatsDrive vs place disk (x.bay.sectors disk) t u) (sym list_is) seats;
+          enlists = subst (λ vs. Enlists t u vs place disk units (Replace place) (book x) (raid_by z) x.bay b) (sym list_is) enlists;
+        };
         replaced = record {
           units = units;
           units_is = units_is;

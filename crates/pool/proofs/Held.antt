@@ -6,7 +6,6 @@ use Rattle.rack.specs.Sequences.{OnlyReads}
 use Rattle.slice_rack.specs.Slices.{IsOrderly, Slices, disk_of, place_of}
 use Rattle.slice_rack.specs.Sliced.{slices_of}
 use Rattle.array_image.specs.Places.{log_slice}
-use Rattle.array_model.specs.View.{sectors_of}
 use Rattle.raid_rack.specs.declared.arrays.Arrays.{Arrays}
 use Rattle.raid_rack.specs.Laws.{live_parts, stops_inside}
 use Rattle.raid_rack.specs.Moves.{Moves}

@@ -27,7 +27,7 @@ use Rattle.pool.specs.Volume.{is_spent}
 
 -- a pool later, whose volume lies where it lay
 abbrev pub later : View → Seen → Shelf → Slices → Arrays → View
-later x b s u z = record { bay = b; shelf = s; slices = u; arrays = z; refused = x.refused; linear = x.linear }
+later x b s u z = record { bays = x.bays; bay = b; shelf = s; slices = u; arrays = z; refused = x.refused; linear = x.linear }
 
 -- its arrays are of as many sectors
 pub inside_later : (x : View) (b : Seen) (s : Shelf) (u : Slices) (z : Arrays) → (volume x).fit → z.state.made ≡ x.arrays.state.made

@@ -12,10 +12,11 @@ mod Shown
 mod Carrying
 mod Later
 mod Attaching
+mod Late
 mod Composed
 mod Vacating
 mod Taken
-mod Enlisted
+pub mod Enlisted
 mod Entered
 mod Cleaning
 mod NewPools

@@ -27,6 +27,7 @@ use Rattle.new_pool.proofs.Founds.{found_is, shown, sound_logs}
 use Rattle.new_pool.proofs.Identities.{zeros_say_none}
 use Rattle.new_pool.proofs.Meaning.{new_meant, none_meant, zeros_meant}
 use Rattle.new_pool.proofs.Sound.{own_truth, sound_state}
+use Rattle.new_pool.proofs.Unlisted.{no_slice}
 use Rattle.new_pool.proofs.Values.{sectors_now, value_now}
 use Rattle.pool.specs.Made.{AreFair, HaveNoOthers, HaveOwnIds, HaveWholeSectors, HeldNone, IsPoolOf, IsSafelyRefused, IsSoundlyMade, MeansStop, StopsMean}
 
@@ -192,6 +193,8 @@ module _ (x y : Seen) (extent : ℕ) (birth : Birth) (a : Arrays) (l : Linear) (
         state = refl;
         sectors = λ n e at. sectors_now made.plan birth (disks_of y) (now_in y) is_new n e at;
         values = λ n t e at inside. value_now made.plan birth (disks_of y) (now_in y) is_new n e at t inside;
+        apart = λ m n p d e b low least seat none member lies there.
+            absurd (no_slice made.plan birth (disks_of y) (now_in y) is_new m p d e (omega (arith, low, least)) seat none lies);
         means =
             subst (MeanZeros (disks_of y) (now_in y)) (ap (λ e. sectors_in (new_volume e (extents_of made.plan))) made.planned.extent_is ∙ ap sectors_in (sym made.volume))
             (zeros_meant made.plan birth (disks_of y) (now_in y) is_new made.group all_said);

@@ -13,13 +13,12 @@ use Rattle.slice_rack.specs.Slices.{IsOrderly, Slices, disk_of, place_of, seat_o
 use Rattle.slice_rack.specs.Sliced.{slices_of}
 use Rattle.array_image.specs.Places.{log_slice}
 use Rattle.array_image.specs.States.{is_current}
-use Rattle.array_model.specs.View.{HasFault}
 use Rattle.lvm_group.specs.Runs.{IsOrderly as IsOrderlyVolume}
 use Rattle.raid_rack.specs.declared.arrays.Arrays.{Arrays}
 use Rattle.raid_rack.specs.Book.{after_same}
-use Rattle.raid_rack.specs.Enlisting.{IsWrittenBy}
+use Rattle.raid_rack.specs.Enlisting.{IsNotWhole, IsRefused, IsWrittenBy}
 use Rattle.raid_rack.specs.Losing.{arrays_same}
-use Rattle.raid_rack.specs.Moves.{IsSet, Mends, RaisesBy}
+use Rattle.raid_rack.specs.Moves.{IsSet}
 use Rattle.raid_rack.specs.NewDrive.{IsOfDrive}
 use Rattle.raid_rack.specs.Raid.{Raid, is_left}
 use Rattle.raid_rack.specs.RaidRack.{IsFit, raid_by}
@@ -28,6 +27,7 @@ use Rattle.raid_rack.proofs.Raises.{raises_more}
 use Rattle.raid_rack.proofs.Whole.{heeded_left}
 use Rattle.pool.specs.declared.replacing.GrowFault.TheVariants.{Gone, NotWhole}
 use Rattle.pool.specs.Continuing.{Continues, IsOutside, KeepsDisk, KeepsOutside, NoDisk}
+use Rattle.pool.specs.Entering.{Vacates}
 use Rattle.pool.specs.Keeping.{most_raised}
 use Rattle.pool.specs.Replaced.{IsAnswer}
 use Rattle.pool.specs.Replacing.{refusal_of}
@@ -41,7 +41,6 @@ use Rattle.pool.proofs.Continuing.{continues_then, outside_fewer, outside_then, 
 use Rattle.pool.proofs.Keeping.{not_left, went}
 use Rattle.pool.proofs.Later.{inside_later, later, moved, only_read}
 use Rattle.pool.proofs.Vacating.{bay_continues, without_carries, without_continues, without_fit, without_outside}
-use Rattle.raid_rack.specs.Truths.{KeepsTruths}
 use Rattle.raid_rack.proofs.Truths.{truths_reads}
 
 -- the drive of a place that is left is one of the bay's disks
@@ -59,6 +58,10 @@ module _ (x : View) (b : Seen) (s : Shelf) (place disk : ℕ) (t : Slices) (line
     (now : IsBay b s) (names : KeepsShelf x.shelf s) (ordered : IsOrderly x.slices) (orderly : IsOrderly t) (admits : refusal_of x.linear (book x) place (x.bay.sectors disk) ≡ None) where
   abbrev mid : View
   mid = later x x.bay x.shelf t x.arrays
+
+  -- the place gave its disk up
+  abbrev pub vacates : Vacates x place disk
+  vacates = record { admits = admits; tables = t; seats = vacated; orderly = orderly; fit = empty }
 
   pub mid_fit : (volume mid).fit
   mid_fit = without_fit x place t linear fit missing vacated empty
@@ -137,9 +140,10 @@ module _ (x : View) (b : Seen) (s : Shelf) (place disk : ℕ) (t : Slices) (line
 
   -- ---- it refused a call
 
-  pub taken_gone : WritesOnly x.bay b (IsOfDrive disk (x.bay.sectors disk)) → Rose (x.bay.faults disk) (b.faults disk) → ((p : ℕ) → seat_of t p ≢ Some disk)
+  pub taken_gone : IsRefused t disk (book x) x.bay b → ((p : ℕ) → seat_of t p ≢ Some disk)
       → IsFit x.arrays (slices_of t b) → ReplacesBy x (later x b s t x.arrays) place disk (Err Gone)
-  taken_gone only rose free after =
+  taken_gone refused free after =
+      let only = refused.only in
       let y = later x b s t x.arrays in
       let may : ℕ → ℕ → List ℕ → Type 0 = IsOfDrive disk (x.bay.sectors disk) in
       let reads = reads_apart t x.bay b disk may orderly empty.running.set.fit.1 only (λ d k v at. at.0) free in
@@ -159,7 +163,7 @@ module _ (x : View) (b : Seen) (s : Shelf) (place disk : ℕ) (t : Slices) (line
         disks = only.stays.disks;
         admitted = inr admits;
         answer = subst (λ o. IsAnswer o (Err Gone)) (sym admits) (inr (inl refl));
-        gone = λ same. rose;
+        gone = λ same. refused.gone;
         not_whole = λ same. absurd (let e : Gone ≡ NotWhole = cc same in cc e);
         declined = record {
           marks = after_same (book x).state;
@@ -170,8 +174,10 @@ module _ (x : View) (b : Seen) (s : Shelf) (place disk : ℕ) (t : Slices) (line
           unmarked = λ is. refl;
           quiet = λ other none. absurd (other refl);
         };
+        left = inr (inl (record { vacates = vacates; slices = refl; same = refl; refused = refused }));
         replaced = tt;
         table = tt;
+        enters = tt;
         moments = tt;
         leaves = λ traced a holds k i since until stopped.
             inr (means_kept mid y both.0 both.1 traced a (holds_of x mid mid_goes mid_carries a holds) k i since until stopped);
@@ -179,11 +185,10 @@ module _ (x : View) (b : Seen) (s : Shelf) (place disk : ℕ) (t : Slices) (line
 
   -- ---- another drive was found gone
 
-  pub taken_lost : (z : Arrays) → WritesOnly x.bay b (IsWrittenBy t disk (x.bay.sectors disk)) → Mends (book x) (raid_by z) (slices_of t x.bay) (slices_of t b)
-      → RaisesBy 18 (book x) (raid_by z) → KeepsTruths (book x) (raid_by z) (slices_of t x.bay) (slices_of t b)
-      → (p : ℕ) × (is_current (book x).state p ≡ true) × (is_current (raid_by z).state p ≡ false) × HasFault (slices_of t x.bay) (slices_of t b) p
-      → IsFit z (slices_of t b) → ReplacesBy x (later x b s t z) place disk (Err NotWhole)
-  taken_lost z only mends raises truths lost after =
+  pub taken_lost : (z : Arrays) → IsNotWhole t disk (book x) (raid_by z) x.bay b → IsFit z (slices_of t b) → ReplacesBy x (later x b s t z) place disk (Err NotWhole)
+  taken_lost z lost after =
+      let only = lost.only in
+      let mends = lost.mends in
       let y = later x b s t z in
       let may : ℕ → ℕ → List ℕ → Type 0 = IsWrittenBy t disk (x.bay.sectors disk) in
       let moves = mends.moves in
@@ -191,8 +196,8 @@ module _ (x : View) (b : Seen) (s : Shelf) (place disk : ℕ) (t : Slices) (line
       let fit_now : (volume y).fit = (after, inside_later x b s t z fit moves.book.same.made moves.sectors) in
       record {
         continues = goes_on t z may only fit_now orderly;
-        carries = carries_then x mid y mid_goes mid_carries (carries_kept mid y both.0 both.1 moves.book.same.made (λ names all. truths) (λ names all. held_moves mid b t z mid_fit after moves));
-        raises = raises_more 18 most_raised (book x) (raid_by z) (omega arith) raises;
+        carries = carries_then x mid y mid_goes mid_carries (carries_kept mid y both.0 both.1 moves.book.same.made (λ names all. lost.truths) (λ names all. held_moves mid b t z mid_fit after moves));
+        raises = raises_more 18 most_raised (book x) (raid_by z) (omega arith) lost.raises;
         keeps = book_lost (book x) (raid_by z) (slices_of t b) after.running.set after.heeded moves.book.same.made moves.arrays;
         outside = outside_of_it t z may only fit_now orderly (λ d k v at. elim at [ inl own ↦ inr own.0 | inr sliced ↦ inl sliced ]) (λ d k v is. inl is);
         retired = retired_by t may only (λ d k v at. elim at [ inl own ↦ inr own.0 | inr sliced ↦ inl sliced ]) (λ d k v is. inl is);
@@ -203,7 +208,7 @@ module _ (x : View) (b : Seen) (s : Shelf) (place disk : ℕ) (t : Slices) (line
         admitted = inr admits;
         answer = subst (λ o. IsAnswer o (Err NotWhole)) (sym admits) (inr (inr refl));
         gone = λ same. absurd (let e : NotWhole ≡ Gone = cc same in cc e);
-        not_whole = λ same. inr (lost.0, lost.1, lost.2);
+        not_whole = λ same. inr (lost.lost.0, lost.lost.1, lost.lost.2);
         declined = record {
           marks = moves.book;
           plan = moves.plan;
@@ -216,10 +221,12 @@ module _ (x : View) (b : Seen) (s : Shelf) (place disk : ℕ) (t : Slices) (line
               (went mid y k refl (moves.cause k left (not_left (raid_by z) k gone)));
           slices = inr vacated;
           unmarked = λ is. absurd (let e : NotWhole ≡ Gone = is in cc e);
-          quiet = λ other none. absurd (none (lost.0, lost.1, lost.2));
+          quiet = λ other none. absurd (none (lost.lost.0, lost.lost.1, lost.lost.2));
         };
+        left = inr (inr (record { vacates = vacates; slices = refl; not_whole = lost }));
         replaced = tt;
         table = tt;
+        enters = tt;
         moments = tt;
         leaves = λ traced a holds k i since until stopped.
             inr (means_kept mid y both.0 both.1 traced a (holds_of x mid mid_goes mid_carries a holds) k i since until stopped);

@@ -7,6 +7,8 @@ pub mod Replacing
 pub mod Continuing
 pub mod Replaced
 pub mod Held
+pub mod Entering
 pub mod Taking
+pub mod Naming
 pub mod Made
 pub mod Keeping

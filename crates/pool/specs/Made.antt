@@ -24,7 +24,7 @@ use Rattle.pool_format.specs.Plan.{capacity_of, has}
 use Rattle.pool_format.specs.Writing.{InCleared}
 use Rattle.new_pool.specs.Contents.{MeanNoneOrZeros, MeanZeros, SaysNone}
 use Rattle.assembler.specs.Holding.{AreSteady}
-use Rattle.assembler.specs.Sound.{HoldSound}
+use Rattle.assembler.specs.Sound.{HoldSound, LieApart}
 
 -- the ids of a pool's first drives, which are named after it, differ
 abbrev pub HaveOwnIds : Birth → ℕ → Type 0
@@ -64,7 +64,8 @@ abbrev pub StopsMean : NewPool → Birth → Seen → Seen → ℕ → Type 0
 StopsMean plan birth x y size = x.traced → Leaves x y (MeansStop plan birth x y size)
 
 -- The pool of disks on which one was made: it is sound, has the state that was planned, and its arrays hold what the plan says, the
--- sectors of the volume's group and else zeros. The meaning of the disks is one volume of so many sectors, all zeros.
+-- sectors of the volume's group and else zeros. By the drives' tables its slices lie apart, so that targets of a record land there. The meaning of the disks is
+-- one volume of so many sectors, all zeros.
 pub record IsPoolOf (plan : NewPool) (birth : Birth) (y : Seen) (f : Found) (size : ℕ) : Type 0 where
   pub holds : HoldSound y f
   pub state : f.state ≡ new_state plan birth
@@ -72,6 +73,7 @@ pub record IsPoolOf (plan : NewPool) (birth : Birth) (y : Seen) (f : Found) (siz
   pub values :
       (n x : ℕ) (a : NewArray) → slice_get plan.arrays.items n ≡ Some a → x < (length a.members.items - 1) * a.size
       → arrays_held f n x ≡ array_sector plan birth n x
+  pub apart : LieApart f
   pub means : MeanZeros (disks_of y) (now_in y) size
 
 -- A pool was made on disks. Its volume has all the extents that the plan offers, and no slicing of the drives offers more. Where the

@@ -1,5 +1,5 @@
 -- The drive of a place is replaced by the disk of a name: why it is refused, and what the pool is after it.
-use Rattle.std.specs.Prelude.{◌≡◌, ◌≢◌, ◌⊎◌, ◌↔◌, ℕ, ◌<◌, ◌≤◌, Bool, true, false, List, length, slice_get, Option, Some, None, option_map, Result, Ok, Err, IfErr, OnOk, nat_lt, if◌then◌else◌}
+use Rattle.std.specs.Prelude.{◌≡◌, ◌≢◌, ◌⊎◌, ◌↔◌, ℕ, ◌<◌, ◌≤◌, Bool, true, false, List, length, slice_get, Option, Some, None, option_map, Result, Ok, Err, nat_lt, if◌then◌else◌}
 use Rattle.std.specs.Option.{option_map_or}
 use Rattle.rack.specs.Values.{IsSingle, Keeps, MayLeave, Values}
 use Rattle.rack.specs.Seen.{Image, Rose}
@@ -25,13 +25,12 @@ use Rattle.shr_base.specs.Units.{units_of}
 use Rattle.pool.specs.declared.replacing.GrowFault.{GrowFault}
 use Rattle.pool.specs.declared.replacing.GrowFault.TheVariants.{NoSuchDrive, Attach, Twice, Memory, NotWhole, Gone}
 use Rattle.lvm_group.specs.Runs.{Linear}
-use Rattle.pool.specs.Continuing.{Continues, KeepsDisk, KeepsOutside, NoDisk}
+use Rattle.pool.specs.Continuing.{KeepsDisk, KeepsOutside, NoDisk}
 use Rattle.pool.specs.Held.{KeepsHeld}
-use Rattle.pool.specs.Keeping.{KeepsBook, Raises}
 use Rattle.pool.specs.Moment.{IsImage, IsNamed, Moment, moment_of, views_of}
 use Rattle.pool.specs.Replacing.{refusal_of}
 use Rattle.pool.specs.View.{View, book, contents_in, slices_shown}
-use Rattle.pool.specs.Volume.{Holds, Means, PicksLive, is_spent}
+use Rattle.pool.specs.Volume.{Means, PicksLive, is_spent}
 
 -- ---- refusals, by how the pool stands before and after
 
@@ -194,25 +193,3 @@ pub record ChangesDrive (x y : View) (place : ℕ) (name : List ℕ) : Type 0 wh
   -- superblocks that said an array's truth do so, and sectors of the arrays keep their values, also those that are none of the volume's
   pub truths : x.shelf.told → ((d : ℕ) → d < x.bay.disks → x.bay.told d) → KeepsTruths (book x) (book y) (slices_shown x) (slices_shown y)
   pub held : x.shelf.told → ((d : ℕ) → d < x.bay.disks → x.bay.told d) → KeepsHeld (book x) (book y) (slices_shown x) (slices_shown y)
-
--- The drive of a place is replaced by the disk of a name, which is attached where it isn't yet. No value moves. `name` is the one disk
--- that is written outside the slices of drives.
-pub record ReplacesDrive (x y : View) (place : ℕ) (name : List ℕ) (result : Result (Unit {0}) GrowFault) : Type 0 where
-  pub continues : Continues x y
-  pub raises : Raises 1 x y
-  pub keeps : KeepsBook (book x) (book y)
-  pub outside : KeepsOutside x.slices y.slices (IsNamed (moment_of y) name) x.shelf.told x.bay y.bay
-  pub changes : place < length (book x).state.drives.items → ChangesDrive x y place name
-  pub cause : HasGrowCause x.linear (moment_of x) (moment_of y) place name result
-  pub declined : IfErr result (IsDeclined (moment_of x) (moment_of y) place)
-  pub replaced : OnOk result ((d : ℕ) → IsNamed (moment_of y) name d → IsReplaced (moment_of x) (moment_of y) place d)
-  pub table : OnOk result ((d : ℕ) → IsNamed (moment_of y) name d → HasTable x y place d)
-  pub holds : (a : FlatArray) → Holds x a → Holds y a
-  -- where the disks are told, superblocks that said an array's truth do so after it, and so do those of the new members
-  pub truths : x.shelf.told → ((d : ℕ) → d < x.bay.disks → x.bay.told d) → KeepsTruths (book x) (book y) (slices_shown x) (slices_shown y)
-  pub leaves : x.bay.traced → (a : FlatArray) → Holds x a → LeavesNew x y (λ i. MeansWithout x y place a i ⊎ Means y a i)
-  -- where it is replaced, stops leave it without the drive, or with it and its table
-  pub moments :
-      OnOk result ((d : ℕ) → IsNamed (moment_of y) name d → x.bay.traced → (a : FlatArray) → Holds x a
-      → LeavesNew x y (λ i. MeansWithout x y place a i ⊎ MeansWith x y place d a i))
-  pub ends : x.bay.traced → (a : FlatArray) → Holds x a → (i : Image) → y.bay.stops y.bay.clock i → Means y a i

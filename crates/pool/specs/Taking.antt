@@ -10,6 +10,7 @@ use Rattle.pool.specs.declared.replacing.GrowFault.{GrowFault}
 use Rattle.pool.specs.declared.replacing.GrowFault.TheVariants.{Attach, Twice, Memory, NotWhole, Gone}
 use Rattle.raid_rack.specs.NewDrive.{IsOfDrive as IsLaid}
 use Rattle.pool.specs.Continuing.{Continues, KeepsDisk, KeepsOutside, NoDisk}
+use Rattle.pool.specs.Entering.{EntersBy, LeavesBy}
 use Rattle.pool.specs.Held.{KeepsHeld}
 use Rattle.pool.specs.Keeping.{KeepsBook, Raises}
 use Rattle.pool.specs.Moment.{IsImage, IsNamed, Moment, moment_of}
@@ -83,8 +84,11 @@ pub record ReplacesBy (x y : View) (place disk : ℕ) (result : Result (Unit {0}
   pub not_whole :
       result ≡ Err NotWhole → (refusal_of x.linear (book x) place (x.bay.sectors disk) ≡ Some NotWhole) ⊎ HasMarked (moment_of x) (moment_of y)
   pub declined : IfErr result (IsDeclined (moment_of x) (moment_of y) place)
+  -- no time passed, or it was laid and not taken in
+  pub left : IfErr result (λ e. (y.bay.clock ≡ x.bay.clock) ⊎ LeavesBy x y place disk)
   pub replaced : OnOk result (IsReplaced (moment_of x) (moment_of y) place disk)
   pub table : OnOk result (HasTable x y place disk)
+  pub enters : OnOk result (EntersBy x y place disk)
   pub leaves :
       x.bay.traced → (a : FlatArray) → Holds x a → LeavesNew x y (λ i. MeansWithout x y place a i ⊎ Means y a i)
   pub moments :

@@ -15,7 +15,14 @@ use Rattle.raid_rack.specs.Raid.{Raid, raid_of, spent_of}
 use Rattle.raid_rack.specs.RaidRack.{IsFit, arrays_in, raid_by, refused_in, slices_in}
 use Rattle.pool.specs.declared.Pool.{Pool}
 
+-- the bays on which a pool may stand, and what each shows
+pub record Bays : Type 1 where
+  pub one : Type 0
+  pub seen : one → Seen
+  pub shelf : one → Shelf
+
 pub record View : Type 1 where
+  pub bays : Bays
   -- the disks of its bay
   pub bay : Seen
   -- their names, and what waits
@@ -28,6 +35,10 @@ pub record View : Type 1 where
   pub refused : ℕ → ℕ
   -- the extents of its volume on the arrays
   pub linear : Linear
+
+-- the same over another bay
+abbrev pub over : (x : View) → x.bays.one → View
+over x r = record x { bay = x.bays.seen r; shelf = x.bays.shelf r }
 
 -- its state and its arrays
 abbrev pub book : View → Raid
@@ -65,7 +76,8 @@ bay_in pool = rack_of (slices_in (arrays_of pool))
 
 -- what it shows
 abbrev pub view : {R : Type 0} → (R → Seen) → (R → Shelf) → Pool R → View
-view seen shelf pool = record {
+view {R} seen shelf pool = record {
+  bays = record { one = R; seen = seen; shelf = shelf };
   bay = seen (bay_in pool);
   shelf = shelf (bay_in pool);
   slices = tables (slices_in (arrays_of pool));

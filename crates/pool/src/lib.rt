@@ -13,7 +13,7 @@
 //! only where their faults rose, or the caller lost them (`Marks`); and of the bay's disks only sectors of slices are written (`Passes`).
 //!
 //! **A replaced drive.** [`Pool::replace`] attaches a disk and takes it in at a place whose drive is missing (`ReplacesDrive` of
-//! specs/Replaced.antt). The volume goes on with its values; each refusal has its cause, in a fixed order (specs/Replacing.antt); what a
+//! specs/Naming.antt). The volume goes on with its values; each refusal has its cause, in a fixed order (specs/Replacing.antt); what a
 //! stop inside leaves is read without the new drive, or with it and its table. Runs of calls that attach disks too are joined by
 //! proofs/Continuing.antt (`Continues`, `KeepsOutside`).
 #![tactic(auto)]

@@ -1,5 +1,5 @@
 -- Disks that a run has left whole: any one drive may be absent.
-use Rattle.std.proofs.Common.{◌≡◌, ℕ, ◌+◌, ◌<◌, ◌≤◌, ◌^◌, false, List, length, Some, refl, sym, ap, ap₂, subst, ◌∙◌, arith}
+use Rattle.std.proofs.Common.{◌≡◌, ℕ, ◌+◌, ◌<◌, ◌^◌, false, List, length, Some, sym, ap, ap₂, subst, ◌∙◌, arith}
 use Rattle.rack.specs.Seen.{Image, IsLive, IsPick, Rose, Seen}
 use Rattle.rack.specs.Values.{MayLeave}
 use Rattle.array_image.specs.Left.{IsLeft}

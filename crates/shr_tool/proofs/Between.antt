@@ -13,8 +13,9 @@ use Rattle.pool.specs.Continuing.{Continues}
 use Rattle.pool.specs.Moment.{Moment, moment_of}
 use Rattle.pool.specs.View.{View, book, spent_by}
 use Rattle.pool.specs.Volume.{Holds}
-use Rattle.shr_tool.specs.Between.{HoldsEach, HoldsInside, HoldsThen}
-use Rattle.shr_tool.specs.Events.{Event, any_takes, becomes, takes_disk}
+use Rattle.shr_tool.specs.Between.{HoldsEach, HoldsInside, HoldsThen, HoldsWithin}
+use Rattle.shr_tool.specs.Events.{Event, any_takes, becomes}
+use Rattle.shr_tool.specs.Events.Event.{answered, spent, lost, last, replaced, declined, stepped, stuck, shown}
 use Rattle.shr_tool.specs.Service.{AreFit, GoesBy, IsServed, Lone, pool_after, pool_by}
 use Rattle.shr_tool.specs.Serving.{IsServing}
 use Rattle.shr_tool.specs.Timeline.{Ground, Steps, Timeline, ground_of, steps_of}
@@ -48,7 +49,7 @@ pub holds_then :
     → x.bay.traced
     → (y.bay.fit → y.bay.traced → IsSound y.bay)
     → (IsServed (ground_of x) (moment_of y) events → (any_takes events ≡ true → Serial) → GoesBy L o f y)
-    → HoldsThen y.bay.stops (ground_of x) Serial events f (moment_of y)
+    → HoldsThen y.bay.stops (ground_of x) Serial L events f (moment_of y)
 holds_then x y a b events Serial f continues passes serving holds traced sound goes = λ served serial lasts i stopped.
     let going = goes served serial in
     let fit = continues.fit.0.running.set.fit in
@@ -90,15 +91,32 @@ timeline_order Traced stops g p a (event ∷ events) q traced line =
     omega arith
 
 then_kept :
-    (old new : ℕ → Image → Type 0) (g : Ground) (Serial : Type 0) (done : List Event) (f : Found) (p : Moment)
-    → ((i : Image) → new p.clock i → old p.clock i) → HoldsThen old g Serial done f p → HoldsThen new g Serial done f p
-then_kept old new g Serial done f p past holds = λ served serial lasts i stopped. holds served serial lasts i (past i stopped)
+    (old new : ℕ → Image → Type 0) (g : Ground) (Serial Landing : Type 0) (done : List Event) (f : Found) (p : Moment)
+    → ((i : Image) → new p.clock i → old p.clock i) → HoldsThen old g Serial Landing done f p → HoldsThen new g Serial Landing done f p
+then_kept old new g Serial Landing done f p past holds = λ served serial lasts i stopped. holds served serial lasts i (past i stopped)
 
 inside_kept :
     (old new : ℕ → Image → Type 0) (g : Ground) (Serial Landing : Type 0) (done : List Event) (f : Found) (p q : Moment)
     → ((k : ℕ) (i : Image) → k ≤ q.clock → new k i → old k i) → HoldsInside old g Serial Landing done f p q → HoldsInside new g Serial Landing done f p q
 inside_kept old new g Serial Landing done f p q past holds = λ served serial lands lasts k i since until stopped.
     holds served serial lands lasts k i since until (past k i until stopped)
+
+within_kept :
+    (old new : ℕ → Image → Type 0) (g : Ground) (Serial Landing : Type 0) (done : List Event) (f : Found) (p q : Moment) (event : Event)
+    → ((k : ℕ) (i : Image) → k ≤ q.clock → new k i → old k i) → HoldsWithin old g Serial Landing done f p q event → HoldsWithin new g Serial Landing done f p q event
+within_kept old new g Serial Landing done f p q (answered line) past holds = inside_kept old new g Serial Landing done f p q past holds
+within_kept old new g Serial Landing done f p q (spent line sector) past holds = inside_kept old new g Serial Landing done f p q past holds
+within_kept old new g Serial Landing done f p q (lost place) past holds = inside_kept old new g Serial Landing done f p q past holds
+within_kept old new g Serial Landing done f p q (last place) past holds = inside_kept old new g Serial Landing done f p q past holds
+within_kept old new g Serial Landing done f p q (replaced place name) past holds = λ served serial lands fit waits lasts k i since until stopped.
+    holds served serial lands fit waits lasts k i since until (past k i until stopped)
+within_kept old new g Serial Landing done f p q (declined place name fault) past holds = (
+  λ none. inside_kept old new g Serial Landing done f p q past (holds.0 none),
+  λ looks served serial lands waits lasts k i since until stopped. holds.1 looks served serial lands waits lasts k i since until (past k i until stopped),
+)
+within_kept old new g Serial Landing done f p q (stepped count left) past holds = inside_kept old new g Serial Landing done f p q past holds
+within_kept old new g Serial Landing done f p q (stuck count array) past holds = inside_kept old new g Serial Landing done f p q past holds
+within_kept old new g Serial Landing done f p q (shown text) past holds = inside_kept old new g Serial Landing done f p q past holds
 
 -- later calls leave the past as it was
 pub each_kept :
@@ -112,12 +130,12 @@ pub each_kept :
     → HoldsEach new g Serial Landing done f p events q (steps_of Traced old g p a events q line)
 each_kept Traced old new g Serial Landing limit traced past done f p a [] q within line holds =
     let order = timeline_order Traced old g p a [] q traced line in
-    then_kept old new g Serial done f p (λ i. past p.clock i (omega arith)) holds
+    then_kept old new g Serial Landing done f p (λ i. past p.clock i (omega arith)) holds
 each_kept Traced old new g Serial Landing limit traced past done f p a (event ∷ events) q within line holds =
     let order = timeline_order Traced old g p a (event ∷ events) q traced line in
     let rest = timeline_order Traced old g line.0 (becomes a event) events q traced line.2 in (
-      then_kept old new g Serial done f p (λ i. past p.clock i (omega arith)) holds.0,
-      λ none. inside_kept old new g Serial Landing done f p line.0 (λ k i until. past k i (omega (arith, until, rest, within))) (holds.1 none),
+      then_kept old new g Serial Landing done f p (λ i. past p.clock i (omega arith)) holds.0,
+      within_kept old new g Serial Landing done f p line.0 event (λ k i until. past k i (omega (arith, until, rest, within))) holds.1,
       λ fit.
           each_kept Traced old new g Serial Landing limit traced past (done ++ event ∷ []) (pool_after f p line.0 event) line.0 (becomes a event) events q within line.2
           (holds.2 fit),
@@ -128,28 +146,27 @@ pub each_more :
     (stops : ℕ → Image → Type 0) (g : Ground) (Serial Landing : Type 0) (done : List Event) (f : Found) (p : Moment) (events : List Event) (mid : Moment)
     (event : Event) (q : Moment) (steps : Steps p events mid)
     → HoldsEach stops g Serial Landing done f p events mid steps
-    → (AreFit f p events mid steps → takes_disk event ≡ false → HoldsInside stops g Serial Landing (done ++ events) (pool_by f p events mid steps) mid q)
+    → (AreFit f p events mid steps → HoldsWithin stops g Serial Landing (done ++ events) (pool_by f p events mid steps) mid q event)
     → (AreFit f p (events ++ event ∷ []) q (steps_more p events mid event q steps)
-    → HoldsThen stops g Serial (done ++ (events ++ event ∷ [])) (pool_by f p (events ++ event ∷ []) q (steps_more p events mid event q steps)) q)
+    → HoldsThen stops g Serial Landing (done ++ (events ++ event ∷ [])) (pool_by f p (events ++ event ∷ []) q (steps_more p events mid event q steps)) q)
     → HoldsEach stops g Serial Landing done f p (events ++ event ∷ []) q (steps_more p events mid event q steps)
-each_more stops g Serial Landing done f p [] mid event q steps holds inside last = (
+each_more stops g Serial Landing done f p [] mid event q steps holds inside ends = (
   holds,
-  λ none.
-      subst (λ (m : Moment). HoldsInside stops g Serial Landing done f m q) (sym steps)
-      (subst (λ (all : List Event). HoldsInside stops g Serial Landing all f mid q) (append-nil done) (inside tt none)),
-  λ fit. last (fit, tt),
+  subst (λ (m : Moment). HoldsWithin stops g Serial Landing done f m q event) (sym steps)
+      (subst (λ (all : List Event). HoldsWithin stops g Serial Landing all f mid q event) (append-nil done) (inside tt)),
+  λ fit. ends (fit, tt),
 )
-each_more stops g Serial Landing done f p (first ∷ events) mid event q steps holds inside last = (
+each_more stops g Serial Landing done f p (first ∷ events) mid event q steps holds inside ends = (
   holds.0,
   holds.1,
   λ fit.
       let after = pool_after f p steps.0 first in
       each_more stops g Serial Landing (done ++ first ∷ []) after steps.0 events mid event q steps.1 (holds.2 fit)
-      (λ rest none.
-      subst (λ (all : List Event). HoldsInside stops g Serial Landing all (pool_by after steps.0 events mid steps.1) mid q)
-      (sym (append_assoc done (first ∷ []) events)) (inside (fit, rest) none))
+      (λ rest.
+      subst (λ (all : List Event). HoldsWithin stops g Serial Landing all (pool_by after steps.0 events mid steps.1) mid q event)
+      (sym (append_assoc done (first ∷ []) events)) (inside (fit, rest)))
       (λ rest.
       subst
-      (λ (all : List Event). HoldsThen stops g Serial all (pool_by after steps.0 (events ++ event ∷ []) q (steps_more steps.0 events mid event q steps.1)) q)
-      (sym (append_assoc done (first ∷ []) (events ++ event ∷ []))) (last (fit, rest))),
+      (λ (all : List Event). HoldsThen stops g Serial Landing all (pool_by after steps.0 (events ++ event ∷ []) q (steps_more steps.0 events mid event q steps.1)) q)
+      (sym (append_assoc done (first ∷ []) (events ++ event ∷ []))) (ends (fit, rest))),
 )

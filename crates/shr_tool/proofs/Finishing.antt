@@ -4,7 +4,6 @@ use Rattle.rack.specs.Seen.{Image, IsPick}
 use Rattle.slice_rack.specs.Sliced.{slices_of}
 use Rattle.assembler.specs.Sound.{TargetsLand}
 use Rattle.pool_image.specs.Drives.{Found}
-use Rattle.pool_model.specs.Left.{HoldAgain}
 use Rattle.pool_model.specs.Taken.{AreSerial}
 use Rattle.raid_rack.specs.Raid.{IsTold, is_over}
 use Rattle.flat_array.specs.Array.{FlatArray, flushed}
@@ -23,7 +22,7 @@ use Rattle.shr_tool.specs.Events.{AnyTakes, Event, any_takes, array_by}
 use Rattle.pool.specs.Moment.{moment_of}
 use Rattle.shr_tool.specs.Timeline.{Steps, Timeline, ground_of, steps_of}
 use Rattle.shr_tool.specs.Serving.{HasStopCause, IsServing, Ran, Serves, StopsAtEnd}
-use Rattle.shr_tool.specs.Between.{HoldsEach, HoldsInside}
+use Rattle.shr_tool.specs.Between.{HoldsEach, HoldsInside, HoldsNext}
 use Rattle.shr_tool.specs.Service.{AreFit, AreLone, IsServed, pool_by}
 use Rattle.shr_tool.specs.Outcome.{DoneOutcome, EndsAt, HasStatusCause, IsRunOn, Lasts, LeavesItsRows, Outcome, lone_from, status_by}
 use Rattle.shr_tool.proofs.Between.{holds_inside, told_after}
@@ -138,7 +137,7 @@ again_at :
     → (any_takes events ≡ true → AreSerial f.state)
     → AreFit f (moment_of x) events (moment_of m) ran.steps
     → ((n : ℕ) → n < f.state.made → is_over (book y) n ≡ false)
-    → (i : Image) → IsPick y.bay y.bay y.bay.held i → HoldAgain (pool_by f (moment_of x) events (moment_of m) ran.steps) y.slices (book y).state i
+    → (i : Image) → IsPick y.bay y.bay y.bay.held i → HoldsNext (TargetsLand f) (pool_by f (moment_of x) events (moment_of m) ran.steps) y.slices (book y).state i
 again_at x m y a events ran ends serving served f on serials fit lasts i pick =
     let h = pool_by f (moment_of x) events (moment_of m) ran.steps in
     let at_end = (ran.service a serving.0 (served_before x m y events ran.continues ends.passes served) f (goes_run x f on) serials fit).goes in
@@ -225,7 +224,7 @@ lasts_of x m y a events unspent ran ends =
           serials (subst (AreFit f (moment_of x) events (moment_of m)) same fit) (subst (AreLone f (lone_from (moment_of x) (moment_of m)) (moment_of x) events (moment_of m)) same lone) whole lasts i pick sized);
       again = λ serving served f on known fit lasts i pick.
           let same = steps_told x m y a events ran (continues_of m y ends.passes) in
-          subst (λ (steps : Steps (moment_of x) events (moment_of m)). HoldAgain (pool_by f (moment_of x) events (moment_of m) steps) y.slices (book y).state i) (sym same)
+          subst (λ (steps : Steps (moment_of x) events (moment_of m)). HoldsNext (TargetsLand f) (pool_by f (moment_of x) events (moment_of m) steps) y.slices (book y).state i) (sym same)
           (again_at x m y a events ran ends serving served f on (λ takes. (known takes).1) (subst (AreFit f (moment_of x) events (moment_of m)) same fit) lasts i pick);
     }
 

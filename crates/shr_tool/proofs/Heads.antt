@@ -1,5 +1,5 @@
 -- Lines keep what the arrays hold before the volume's first extents, and so the pool's group.
-use Rattle.std.proofs.Common.{◌≡◌, ℕ, ◌+◌, ◌<◌, ◌≤◌, false, true, List, length, refl, sym, ◌∙◌, subst, inl, inr, arith}
+use Rattle.std.proofs.Common.{◌≡◌, ℕ, ◌+◌, ◌<◌, false, true, List, length, refl, sym, ◌∙◌, subst, inl, inr, arith}
 use Rattle.std.proofs.lemmas.Bool.{both_ways, cases_Bool, cases_lt}
 use Rattle.rack.specs.Joins.{keeps_same, keeps_then}
 use Rattle.rack.specs.Seen.{IsLive, Seen}
@@ -135,7 +135,7 @@ heads_performed x y event text performs names all = elim (cases_Bool (takes_disk
     taking (replaced place name) takes does = heads_changes x y place name (same_replaced x y place name text does) (does.changes takes).0 names all
     taking (declined place name fault) takes does =
         let same = does.cause.1.marks.same in
-        heads_changes x y place name (record { made = same.made; joined = same.joined; pool = same.pool; extent = same.extent }) (does.changes takes) names all
+        heads_changes x y place name (record { made = same.made; joined = same.joined; pool = same.pool; extent = same.extent }) (does.changes takes).0 names all
     taking (stepped count left) takes does = absurd (both_ways false refl takes)
     taking (stuck count array) takes does = absurd (both_ways false refl takes)
     taking (shown text') takes does = absurd (both_ways false refl takes)

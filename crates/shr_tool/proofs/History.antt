@@ -23,7 +23,7 @@ use Rattle.shr_tool.specs.Service.{AreFit, AreLone, GoesBy, GoesOn, IsFitFor, Is
 use Rattle.assembler.specs.Sound.{TargetsLand}
 use Rattle.pool_image.specs.Drives.{Found}
 use Rattle.pool_model.specs.Taken.{AreSerial}
-use Rattle.shr_tool.proofs.Between.{each_kept, each_more, holds_inside, holds_then, timeline_order}
+use Rattle.shr_tool.proofs.Between.{each_kept, each_more, holds_then, timeline_order}
 use Rattle.shr_tool.proofs.Chains.{bound_by, fit_parts, lone_by-snoc, lone_parts, pool_by-snoc, steps_more}
 use Rattle.shr_tool.proofs.Heads.{heads_performed, heads_same, heads_then}
 use Rattle.shr_tool.proofs.Serial.{serial_performed}
@@ -31,6 +31,7 @@ use Rattle.shr_tool.proofs.Serviced.{goes_performed, served_first, served_last}
 use Rattle.shr_tool.specs.Serving.{Answered, IsServing, Ran, Replies}
 use Rattle.pool.proofs.Continuing.{continues_same, continues_then, outside_fewer, outside_of, outside_then}
 use Rattle.shr_tool.proofs.Joined.{ground_same, means_at}
+use Rattle.shr_tool.proofs.Within.{holds_within}
 use Rattle.shr_tool.proofs.Taking.{any_takes_before, any_takes_last, named_by, none_takes, takes_first, takes_last}
 use Rattle.pool.proofs.Booked.{book_seated}
 use Rattle.pool.proofs.Keeping.{passes_same, passes_then}
@@ -381,9 +382,10 @@ between_more x y z events event text a f laws ran performs serving traced goes =
     let steps = steps_more (moment_of x) events (moment_of y) event (moment_of z) ran.steps in
     each_more z.bay.stops (ground_of x) (AreSerial f.state) (TargetsLand f) [] f (moment_of x) events (moment_of y) event (moment_of z) ran.steps
     (each_before x y z events a f ran performs.continues serving traced goes)
-    (λ fit none.
-    holds_inside x y z a (array_by a events) events (AreSerial f.state) (pool_by f (moment_of x) events (moment_of y) ran.steps) ran.continues ran.passes serving
-    (ran.holds a serving.0) traced (performs.passes none) (λ served serials. (ran.service a serving.0 served f goes serials fit).goes))
+    (λ fit.
+    holds_within x y z a (array_by a events) events text (AreSerial f.state) (pool_by f (moment_of x) events (moment_of y) ran.steps) ran.continues ran.passes serving
+    (ran.holds a serving.0) traced laws.0 (λ served serials. (ran.service a serving.0 served f goes serials fit).goes)
+    (λ served serial. (ran.service a serving.0 served f goes (λ takes. serial) fit).serials serial) event performs)
     (λ fit.
     holds_then x z a (array_by a all) all (AreSerial f.state) (pool_by f (moment_of x) all (moment_of z) steps)
     (continues_then x y z ran.continues performs.continues) (passes_more x y z events event text ran performs) serving

@@ -18,6 +18,7 @@ mod Joined
 mod LayoutLemmas
 mod Limits
 mod Meanings
+mod NamedDisk
 mod NewTable
 mod NewTabled
 mod Performing
@@ -33,6 +34,9 @@ mod Stopping
 mod Taking
 mod TakenIn
 mod TakenTables
+mod TakingStops
 mod Through
 mod Told
 mod TurnedDown
+mod Within
+mod LeavingStops

@@ -1,5 +1,5 @@
 -- The table that is laid on a new drive is the one that the pool with the drive wants of it.
-use Rattle.std.proofs.Common.{◌≡◌, ℕ, zero, suc, ◌+◌, ◌-◌, ◌<◌, ◌≤◌, ◌==◌, ◌&&◌, ◌||◌, not, nat_le, nat_lt, if◌then◌else◌, Bool, true, false, bytes_eq, List, [], ◌∷◌, filter, is_some, map, slice_get, Option, Some, None, refl, sym, ap, ap₂, ◌∙◌, inl, inr, eq-eqb, leb-true, lt-ltb, arith}
+use Rattle.std.proofs.Common.{◌≡◌, ℕ, zero, suc, ◌+◌, ◌-◌, ◌<◌, ◌≤◌, ◌==◌, ◌&&◌, ◌||◌, not, nat_le, nat_lt, if◌then◌else◌, Bool, true, false, bytes_eq, List, ◌∷◌, filter, is_some, map, Some, refl, sym, ap, ap₂, ◌∙◌, inl, inr, eq-eqb, leb-true, lt-ltb, arith}
 use Rattle.std.specs.Option.{option_map_or}
 use Rattle.std.specs.List.{list_all, list_any, range_with_len}
 use Rattle.std.proofs.lemmas.Bool.{and_from, and_parts, cases_Bool, cases_eq, ne_eqb}
@@ -7,9 +7,8 @@ use Rattle.std.proofs.lemmas.Slice.Eq.{bytes_eq-Decides}
 use Rattle.slice_rack.specs.Slices.{Slices}
 use Rattle.gpt_table.specs.declared.Entry.{Entry}
 use Rattle.gpt_table.specs.declared.Table.{Table}
-use Rattle.md_super.specs.declared.superblock.Super.{Super}
 use Rattle.pool_state.specs.declared.contents.Plan.{Plan}
-use Rattle.array_image.specs.Places.{data_sector, log_kind, log_sectors, raid_kind, state_sector}
+use Rattle.array_image.specs.Places.{log_kind, log_sectors, raid_kind, state_sector}
 use Rattle.array_core.specs.Seats.{seat_of as seat_in}
 use Rattle.array_model.specs.View.{View}
 use Rattle.pool_image.specs.Disks.{Disks}
@@ -17,13 +16,12 @@ use Rattle.pool_image.specs.Drives.{Found, end_of, extent_of}
 use Rattle.pool_image.specs.Meaning.{has_entry, has_slice, has_slice_of, is_member, is_table, kind_of}
 use Rattle.pool_image.specs.Replay.{Extent}
 use Rattle.raid_rack.specs.Enlisting.{next_drive}
-use Rattle.raid_rack.specs.NewDrive.{drive_table, entry_of, first_in, joins, length_in, member_entries, member_entry, slice_length}
+use Rattle.raid_rack.specs.NewDrive.{drive_table, entry_of, first_in, joins, length_in, member_entry, slice_length}
 use Rattle.raid_rack.specs.Raid.{Raid}
 use Rattle.pool_model.specs.Taken.{SeatsNew, views_of}
 use Rattle.pool_model.proofs.Alike.{extent_is, extent_same, lies, member_same}
 use Rattle.pool_model.proofs.Beginnings.{first_is, size_is, view_at}
 use Rattle.pool_model.proofs.Joined.{id_here}
-use Rattle.pool_model.proofs.Layers.{IsLaid}
 use Rattle.pool_model.proofs.Taken.{IsKnownBefore, g, has_truths, made_same}
 
 some_same : {X : Type 0} (a b : X) → Some a ≡ Some b → a ≡ b

@@ -84,7 +84,7 @@ module _ {L : Type 0} {o : Option Lone} (x y : View) (place : ℕ) (name : List 
     (unspent : (d s : ℕ) → y.bay.spent d s ≡ false) (fit : (volume x).fit) (performs : Performs x y (declined place name fault) text) (holds : Holds x b) (f : Found)
     (goes : GoesBy L o f x) (l : Lone) (so : o ≡ Some l) (nothing : LaysNothing f l.bound (moment_of x) (moment_of y) name fault) where
   abbrev changes : ChangesDrive x y place name
-  changes = performs.changes looks
+  changes = (performs.changes looks).0
 
   abbrev is : IsDeclined (moment_of x) (moment_of y) place fault
   is = performs.cause.1

@@ -9,7 +9,8 @@ use Rattle.lvm_group.specs.Runs.{Linear}
 use Rattle.pool.specs.declared.replacing.GrowFault.{GrowFault}
 use Rattle.pool.specs.declared.replacing.GrowFault.TheVariants.{NoSuchDrive, Attach, Twice, Memory, PlanPending, NotWhole, NotResynced, Unbuilt, Size, Smaller, TooManyDrives, TooManyLayers, TooManySegments, Gone}
 use Rattle.pool.specs.Moment.{moment_of}
-use Rattle.pool.specs.Replaced.{MeansWithout as MeansWithoutBy, ReplacesDrive}
+use Rattle.pool.specs.Naming.{ReplacesDrive}
+use Rattle.pool.specs.Replaced.{MeansWithout as MeansWithoutBy}
 use Rattle.pool.specs.View.{View, book, contents_in, spent_by, volume}
 use Rattle.pool.specs.Volume.{PicksLive, unchanged}
 use Rattle.pool.proofs.Booked.{raises_still}
@@ -62,7 +63,7 @@ replace_done x y at place name text r fit cut is_ok is done_r =
       still = λ none. absurd (both_ways false refl none);
       passes = λ none. absurd (both_ways true none refl);
       outside = λ takes. done.outside;
-      changes = λ takes. (done.changes (subst (λ p. p < length (book x).state.drives.items) (cut_listed x at place fit cut low) low), done.table);
+      changes = λ takes. (done.changes (subst (λ p. p < length (book x).state.drives.items) (cut_listed x at place fit cut low) low), done.table, done.steps.enters);
       raises = done.raises;
       keeps = done.keeps;
       cause = (done.cause, done.replaced);
@@ -174,7 +175,7 @@ decline_done x y at place name text r fault fit sound cut refused is still done_
             still = λ none. absurd (both_ways (not (looks_at fault)) (ap not looks) none);
             passes = λ none. absurd (both_ways (looks_at fault) none looks);
             outside = λ takes. done.outside;
-            changes = λ takes. done.changes (subst (λ p. p < length (book x).state.drives.items) (cut_listed x at place fit cut low) low);
+            changes = λ takes. (done.changes (subst (λ p. p < length (book x).state.drives.items) (cut_listed x at place fit cut low) low), done.steps.left);
             raises = done.raises;
             keeps = done.keeps;
             cause = (done.cause, done.declined);

@@ -25,12 +25,14 @@ use Rattle.pool_model.proofs.Alone.{alone_begins, alone_calls}
 use Rattle.pool_model.proofs.Amid.{service_amid, tables_amid, tables_begin, tables_calls, vacant_amid}
 use Rattle.pool_model.proofs.Tables.{tables_vacant}
 use Rattle.pool_model.proofs.InService.{in_service, service_again, service_calls, vacant_again}
+use Rattle.pool_model.proofs.Landing.{landing_again}
 use Rattle.pool_model.proofs.Named.{same_length}
 use Rattle.pool_model.proofs.Vacant.{lacks_calls, sliced_before}
 use Rattle.pool.specs.Calls.{Passes}
 use Rattle.pool.specs.Moment.{moment_of}
 use Rattle.pool.specs.View.{View, book, spent_by, volume}
 use Rattle.pool.specs.Volume.{Holds, is_spent, size_of}
+use Rattle.shr_tool.specs.Between.{HoldsNext}
 use Rattle.shr_tool.specs.Events.{Event, takes_disk}
 use Rattle.shr_tool.specs.Events.Event.{answered, spent, lost, last, replaced, declined, stepped, stuck, shown}
 use Rattle.shr_tool.specs.Outcome.{IsRunOn}
@@ -135,25 +137,28 @@ goes_calls x y f b fit holds passes goes = record {
       stands_calls l x y f goes.tables b fit holds passes goes.lasting (only_weaker (IsSliced x.slices) (IsSliced goes.tables) (sliced_was x f goes) passes.apart) (goes.alone l lone);
 }
 
--- whatever the disks may be left with holds it again
-pub goes_again :
-    {L : Type 0} {o : Option Lone} (x : View) (f : Found) → IsInside x.slices x.bay → GoesBy L o f x
-    → ((n : ℕ) → n < f.state.made → IsTold (book x) (slices_of x.slices x.bay) n) → ((n : ℕ) → n < f.state.made → is_over (book x) n ≡ false)
-    → (i : Image) → IsPick x.bay x.bay x.bay.held i → HoldAgain f x.slices (book x).state i
-goes_again x f inside goes told lasts i pick = elim goes.vacant [
-  | inl same ↦
-      subst (λ (t : Slices). HoldAgain f t (book x).state i) (sym same)
-      (service_again f goes.tables (book x) x.bay goes.service (subst (λ (t : Slices). IsInside t x.bay) same inside)
-      (λ n low. subst (λ (t : Slices). IsTold (book x) (slices_of t x.bay) n) same (told n low)) lasts i pick)
-  | inr one ↦ vacant_again f goes.tables x.slices (book x) x.bay one.0 goes.service one.2 inside told lasts i pick
-]
-
 -- the tables have the members' slices where the run has them
 tables_now : {L : Type 0} {o : Option Lone} (x : View) (f : Found) → GoesBy L o f x → L → HoldTables f x.slices (book x).state x.bay
 tables_now x f goes lands = elim goes.vacant [
   | inl same ↦ subst (λ (t : Slices). HoldTables f t (book x).state x.bay) (sym same) (goes.laid lands)
   | inr one ↦ tables_vacant f goes.tables x.slices one.0 (book x).state x.bay one.2.vacated one.2.missing (goes.laid lands)
 ]
+
+-- whatever the disks may be left with holds it again
+pub goes_again :
+    {L : Type 0} {o : Option Lone} (x : View) (f : Found) → IsInside x.slices x.bay → GoesBy L o f x
+    → ((n : ℕ) → n < f.state.made → IsTold (book x) (slices_of x.slices x.bay) n) → ((n : ℕ) → n < f.state.made → is_over (book x) n ≡ false)
+    → (i : Image) → IsPick x.bay x.bay x.bay.held i → HoldsNext L f x.slices (book x).state i
+goes_again {L} x f inside goes told lasts i pick = (again, λ lands. landing_again f x.slices (book x).state x.bay (tables_now x f goes lands) i pick again)
+  where
+    again : HoldAgain f x.slices (book x).state i
+    again = elim goes.vacant [
+      | inl same ↦
+          subst (λ (t : Slices). HoldAgain f t (book x).state i) (sym same)
+          (service_again f goes.tables (book x) x.bay goes.service (subst (λ (t : Slices). IsInside t x.bay) same inside)
+          (λ n low. subst (λ (t : Slices). IsTold (book x) (slices_of t x.bay) n) same (told n low)) lasts i pick)
+      | inr one ↦ vacant_again f goes.tables x.slices (book x) x.bay one.0 goes.service one.2 inside told lasts i pick
+    ]
 
 -- What a stop leaves inside calls that take no disk holds it too.
 pub goes_amid :
@@ -189,7 +194,7 @@ spent_changes x y (spent line sector) takes changes s = absurd (both_ways false 
 spent_changes x y (lost place) takes changes s = absurd (both_ways false refl takes)
 spent_changes x y (last place) takes changes s = absurd (both_ways false refl takes)
 spent_changes x y (replaced place name) takes changes s = changes.0.spent s
-spent_changes x y (declined place name fault) takes changes s = changes.spent s
+spent_changes x y (declined place name fault) takes changes s = changes.0.spent s
 spent_changes x y (stepped count left) takes changes s = absurd (both_ways false refl takes)
 spent_changes x y (stuck count array) takes changes s = absurd (both_ways false refl takes)
 spent_changes x y (shown text) takes changes s = absurd (both_ways false refl takes)

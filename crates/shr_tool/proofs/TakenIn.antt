@@ -62,6 +62,17 @@ use Rattle.shr_tool.proofs.TakenTables.{lies_taken, table_taken}
 some_same : {X : Type 0} (a b : X) → Some a ≡ Some b → a ≡ b
 some_same a b same = cc
 
+-- a seat of the pool by which a run goes is a seat of the run's, where the place is current
+pub going_seat : {L : Type 0} {o : Option Lone} (x : View) (f : Found) (goes : GoesBy L o f x) (k d : ℕ) → f.seats k ≡ Some d → is_current (book x).state k ≡ true
+    → seat_of x.slices k ≡ Some d
+going_seat x f goes k d seat current = elim goes.vacant [
+  | inl same ↦ ap (λ (t : Slices). seat_of t k) same ∙ goes.service.slices.seats k ∙ seat
+  | inr one ↦
+      seat_other goes.tables x.slices one.0 one.2.vacated k
+      (λ same. both_ways (is_current (book x).state k) (subst (λ q. is_current (book x).state q ≡ false) (sym same) one.2.missing) current)
+      ∙ goes.service.slices.seats k ∙ seat
+]
+
 -- ---- what holds of each line that names a disk
 
 module _ {L : Type 0} {o : Option Lone} (x y : View) (place : ℕ) (name : List ℕ) (unspent : (d s : ℕ) → y.bay.spent d s ≡ false) (continues : Continues x y)
@@ -105,13 +116,7 @@ module _ {L : Type 0} {o : Option Lone} (x y : View) (place : ℕ) (name : List 
 
   -- a seat of the pool is a seat of the run's, unless the place gave its disk up
   pub seat_now : (k d : ℕ) → f.seats k ≡ Some d → is_current (book x).state k ≡ true → seat_of x.slices k ≡ Some d
-  seat_now k d seat current = elim goes.vacant [
-    | inl same ↦ ap (λ (t : Slices). seat_of t k) same ∙ goes.service.slices.seats k ∙ seat
-    | inr one ↦
-        seat_other goes.tables x.slices one.0 one.2.vacated k
-        (λ same. both_ways (is_current (book x).state k) (subst (λ q. is_current (book x).state q ≡ false) (sym same) one.2.missing) current)
-        ∙ goes.service.slices.seats k ∙ seat
-  ]
+  seat_now k d seat current = going_seat x f goes k d seat current
 
   pub seat_low : (k d : ℕ) → f.seats k ≡ Some d → k < length (book x).state.drives.items
   seat_low k d seat =
@@ -136,7 +141,7 @@ answer_none : (o : Option GrowFault) → IsAnswer o (Ok tt) → o ≡ None
 answer_none None answer = refl
 answer_none (Some e) answer = absurd (ok_err e answer)
 
-or_map : (o : Option Drive) (units : ℕ) → option_map (λ (d : Drive). d.units) o ≡ Some units → option_map_or (λ (d : Drive). d.units) o 0 ≡ units
+pub or_map : (o : Option Drive) (units : ℕ) → option_map (λ (d : Drive). d.units) o ≡ Some units → option_map_or (λ (d : Drive). d.units) o 0 ≡ units
 or_map None units is = absurd (none-some units is)
 or_map (Some d) units is = some_same d.units units is
 
@@ -195,7 +200,7 @@ module _ {L : Type 0} {o : Option Lone} (x y : View) (place : ℕ) (name text : 
   free : IsAdmitted (book x) place (y.bay.sectors disk)
   free = admitted x.linear (book x) place (y.bay.sectors disk) (answer_none (refusal_of x.linear (book x) place (y.bay.sectors disk)) (cause.answer look disk named))
 
-  disk_is : disk_in (moment_of y) place ≡ disk
+  pub disk_is : disk_in (moment_of y) place ≡ disk
   disk_is = ap (λ o. unwrap_or o 0) (is.seats.seats place ∙ ap (λ (c : Bool). if c then Some disk else seat_of x.slices place) (eq-eqb place place refl))
 
   units_is : units_in (moment_of x) place ≡ is.units
@@ -210,7 +215,7 @@ module _ {L : Type 0} {o : Option Lone} (x y : View) (place : ℕ) (name text : 
   abbrev pub t : Slices
   t = goes.tables
 
-  alive : is_spent x some.0 ≡ false
+  pub alive : is_spent x some.0 ≡ false
   alive = changes.spent some.0 (subst (λ (l : Linear). spent_by l (book y) some.0 ≡ false) (sym performs.continues.linear) some.2)
 
   room : (book x).state.epoch < 2 ^ 63 - 1

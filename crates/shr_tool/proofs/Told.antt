@@ -18,9 +18,8 @@ use Rattle.shr_tool.specs.Timeline.{Ground, Happens, Steps, Timeline, steps_of}
 use Rattle.shr_tool.specs.Service.{AreFit, AreLone, pool_by}
 use Rattle.assembler.specs.Sound.{TargetsLand}
 use Rattle.pool_model.specs.Absent.{HoldAbsent}
-use Rattle.pool_model.specs.Left.{HoldAgain}
 use Rattle.pool_model.specs.Taken.{AreSerial}
-use Rattle.shr_tool.specs.Between.{HoldsEach, HoldsInside}
+use Rattle.shr_tool.specs.Between.{HoldsEach, HoldsInside, HoldsNext}
 
 pub outside_told :
     (t u : Slices) (named : ℕ → Type 0) (T U : Type 0) (a b : Seen) → (U → T) → KeepsOutside t u named T a b → KeepsOutside t u named U a b
@@ -113,7 +112,7 @@ lasts_for T U S R x y g from a events told traced lasts = record {
   again = λ is served f on known fit goes i pick.
       let same =
       steps_for (S × T) (R × U) y.stops g from a events lasts.last (λ is. (traced is.0, told is.1)) lasts.timeline in
-      subst (λ (steps : Steps from events lasts.last). HoldAgain (pool_by f from events lasts.last steps) lasts.final.slices lasts.final.book.state i) (sym same)
+      subst (λ (steps : Steps from events lasts.last). HoldsNext (TargetsLand f) (pool_by f from events lasts.last steps) lasts.final.slices lasts.final.book.state i) (sym same)
       (lasts.again (told is) served f on (λ takes. (traced (known takes).0, (known takes).1)) (subst (AreFit f from events lasts.last) same fit) goes i pick);
 }
 

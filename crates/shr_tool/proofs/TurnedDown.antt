@@ -48,7 +48,7 @@ some_same : {X : Type 0} (a b : X) → Some a ≡ Some b → a ≡ b
 some_same a b same = cc
 
 -- places that give their disk up one after the other
-seats_both : (t u w : Slices) (place : ℕ) → Seats t u place None → Seats u w place None → Seats t w place None
+pub seats_both : (t u w : Slices) (place : ℕ) → Seats t u place None → Seats u w place None → Seats t w place None
 seats_both t u w place one two = record {
   seats = λ p. two.seats p ∙ by p (p == place) refl;
   cleared = two.cleared;
@@ -65,7 +65,7 @@ module _ {L : Type 0} {o : Option Lone} (x y : View) (place : ℕ) (name : List 
     (performs : Performs x y (declined place name fault) text) (holds : Holds x b) (some : (s : ℕ) × (s < size_of x) × (spent_by x.linear (book y) s ≡ false))
     (f : Found) (goes : GoesBy L o f x) (fits : IsFitDisk f (moment_of x) name) (lone : (l : Lone) → o ≡ Some l → looks_at fault ≡ true → LaysNothing f l.bound (moment_of x) (moment_of y) name fault) where
   abbrev pub changes : ChangesDrive x y place name
-  changes = performs.changes looks
+  changes = (performs.changes looks).0
 
   abbrev pub is : IsDeclined (moment_of x) (moment_of y) place fault
   is = performs.cause.1

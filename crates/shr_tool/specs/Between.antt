@@ -1,22 +1,38 @@
 -- What a stop leaves between two lines of a run and inside a line: a sound pool again, as the end of a run does.
-use Rattle.std.specs.Prelude.{◌≡◌, ℕ, ◌<◌, ◌≤◌, true, false, List, [], ◌∷◌, ◌++◌}
+use Rattle.std.specs.Prelude.{◌≡◌, ◌⊎◌, ℕ, ◌<◌, ◌≤◌, true, false, List, [], ◌∷◌, ◌++◌, None}
 use Rattle.rack.specs.Seen.{Image}
+use Rattle.slice_rack.specs.Changes.{Seats}
+use Rattle.slice_rack.specs.Slices.{Slices, sectors_of}
+use Rattle.slice_rack.specs.Sliced.{sliced}
+use Rattle.pool_state.specs.declared.contents.Plan.TheVariants.{Replace as Replacing}
+use Rattle.pool_state.specs.declared.contents.State.{State}
+use Rattle.raid_rack.specs.Enlisting.{enlisted}
+use Rattle.raid_rack.specs.Logs.{LogsBetween}
 use Rattle.raid_rack.specs.Raid.{is_over}
 use Rattle.pool_image.specs.Drives.{Found}
+use Rattle.pool_model.specs.Laid.{HaveOtherIds}
 use Rattle.pool_model.specs.Left.{HoldAgain}
-use Rattle.pool_model.specs.Stopped.{HoldAmid}
+use Rattle.pool_model.specs.Stopped.{HoldAmid, HoldLanding}
+use Rattle.pool_model.specs.Taken.{attached}
+use Rattle.pool.specs.declared.replacing.GrowFault.{GrowFault}
 use Rattle.pool.specs.Moment.{Moment}
-use Rattle.shr_tool.specs.Events.{Event, any_takes, takes_disk}
-use Rattle.shr_tool.specs.Service.{IsFitFor, IsServed, pool_after}
+use Rattle.shr_tool.specs.Events.{Event, any_takes, looks_at}
+use Rattle.shr_tool.specs.Events.Event.{answered, spent, lost, last, replaced, declined, stepped, stuck, shown}
+use Rattle.shr_tool.specs.Service.{IsFitDisk, IsFitDrive, IsFitFor, IsServed, disk_in, disks_at, pool_after, units_in}
 use Rattle.shr_tool.specs.Timeline.{Ground, Steps}
+
+-- Contents hold the pool f again, over slices and by a state. Where targets land in the pool that the run began on (`Landing`), they land in the one that
+-- is found, so that no more is to be known of it when it is opened.
+abbrev pub HoldsNext : (Landing : Type 0) → Found → Slices → State → Image → Type 0
+HoldsNext Landing f t s i = HoldAgain f t s i × (Landing → HoldLanding f t s i)
 
 -- Whatever a stop at a moment leaves holds the pool f again, by the book of that moment and over its slices, unless an array is over by then. `done`
 -- are the events before it: where one of them was to replace a drive, a sector of the volume can be had at that moment, and the ids of the pool's
 -- drives are of serials.
-abbrev pub HoldsThen : (ℕ → Image → Type 0) → Ground → (Serial : Type 0) → (done : List Event) → Found → Moment → Type 0
-HoldsThen stops g Serial done f p =
+abbrev pub HoldsThen : (ℕ → Image → Type 0) → Ground → (Serial Landing : Type 0) → (done : List Event) → Found → Moment → Type 0
+HoldsThen stops g Serial Landing done f p =
     IsServed g p done → (any_takes done ≡ true → Serial) → ((n : ℕ) → n < f.state.made → is_over p.book n ≡ false)
-    → (i : Image) → stops p.clock i → HoldAgain f p.slices p.book.state i
+    → (i : Image) → stops p.clock i → HoldsNext Landing f p.slices p.book.state i
 
 -- Whatever a stop leaves after one moment and up to a later one holds the pool f, by a state between those of the two books, once what is pending is
 -- written, unless an array is over by then. `done` are the events before the first. `Landing`: targets land where the slices are of the pool that the run
@@ -26,11 +42,54 @@ HoldsInside stops g Serial Landing done f p q =
     IsServed g p done → (any_takes done ≡ true → Serial) → Landing → ((n : ℕ) → n < f.state.made → is_over q.book n ≡ false)
     → (k : ℕ) (i : Image) → p.clock < k → k ≤ q.clock → stops k i → HoldAmid f p.slices p.book.state q.book.state i
 
--- So it is at the moment when events begin, at the end of each of them and, where it isn't to replace a drive, inside it, with the drives that were taken
--- in up to there. Only the images that lines named before that moment are to be fit for the pool.
+-- the state by which a line that begins at p takes a drive in at a place
+abbrev pub coming : Moment → (place : ℕ) → State
+coming p place = enlisted place (units_in p place) (Replacing place) p.book.state
+
+-- Contents hold the pool f, without the drive that a line from p to q takes in at a place, by the book of before: over slices by which the place has no disk,
+-- or over those of after. Or their log slices say a state that has the drive, and they hold the pool with it by this state, where no other disk has the id that
+-- the drive gets: while it has no state yet it stands for its place by this id alone.
+abbrev pub HoldsEither : Found → (p q : Moment) → (place : ℕ) → (name : List ℕ) → Image → Type 0
+HoldsEither f p q place name i =
+    ((t : Slices) × (Seats p.slices t place None ⊎ (t ≡ q.slices)) × HoldAmid (attached f (disks_at q)) t p.book.state p.book.state i)
+    ⊎ (LogsBetween (coming p place) q.book.state (sectors_of q.slices) (sliced q.slices i)
+    × (HaveOtherIds (attached f (disks_at q)) p.book.state place (disk_in q place) i
+    → HoldAmid (pool_after f p q (replaced place name)) q.slices (coming p place) q.book.state i))
+
+-- Whatever a stop leaves inside a line that takes a drive in holds the pool without it or with it, unless an array is over by the line's end. The image that
+-- the line names is fit for the pool, and where it waited it says no state, or an earlier one.
+abbrev pub HoldsTaking : (ℕ → Image → Type 0) → Ground → (Serial Landing : Type 0) → (done : List Event) → Found → (p q : Moment) → (place : ℕ) → (name : List ℕ) → Type 0
+HoldsTaking stops g Serial Landing done f p q place name =
+    IsServed g q (done ++ replaced place name ∷ []) → Serial → Landing → IsFitDrive f p place name → IsFitDisk f p name
+    → ((n : ℕ) → n < f.state.made → is_over q.book n ≡ false)
+    → (k : ℕ) (i : Image) → p.clock < k → k ≤ q.clock → stops k i → HoldsEither f p q place name i
+
+-- Inside one that was to take a drive in, and didn't, it holds the pool with the disk that was attached, by a state between, over the slices of after.
+abbrev pub HoldsDeclined : (ℕ → Image → Type 0) → Ground → (Serial Landing : Type 0) → (done : List Event) → Found → (p q : Moment) → (place : ℕ) → (name : List ℕ) → GrowFault → Type 0
+HoldsDeclined stops g Serial Landing done f p q place name fault =
+    IsServed g q (done ++ declined place name fault ∷ []) → Serial → Landing → IsFitDisk f p name
+    → ((n : ℕ) → n < f.state.made → is_over q.book n ≡ false)
+    → (k : ℕ) (i : Image) → p.clock < k → k ≤ q.clock → stops k i → HoldAmid (attached f (disks_at q)) q.slices p.book.state q.book.state i
+
+-- So it is inside an event.
+abbrev pub HoldsWithin : (ℕ → Image → Type 0) → Ground → (Serial Landing : Type 0) → (done : List Event) → Found → (p q : Moment) → Event → Type 0
+HoldsWithin stops g Serial Landing done f p q (answered line) = HoldsInside stops g Serial Landing done f p q
+HoldsWithin stops g Serial Landing done f p q (spent line sector) = HoldsInside stops g Serial Landing done f p q
+HoldsWithin stops g Serial Landing done f p q (lost place) = HoldsInside stops g Serial Landing done f p q
+HoldsWithin stops g Serial Landing done f p q (last place) = HoldsInside stops g Serial Landing done f p q
+HoldsWithin stops g Serial Landing done f p q (replaced place name) = HoldsTaking stops g Serial Landing done f p q place name
+HoldsWithin stops g Serial Landing done f p q (declined place name fault) =
+    (looks_at fault ≡ false → HoldsInside stops g Serial Landing done f p q)
+    × (looks_at fault ≡ true → HoldsDeclined stops g Serial Landing done f p q place name fault)
+HoldsWithin stops g Serial Landing done f p q (stepped count left) = HoldsInside stops g Serial Landing done f p q
+HoldsWithin stops g Serial Landing done f p q (stuck count array) = HoldsInside stops g Serial Landing done f p q
+HoldsWithin stops g Serial Landing done f p q (shown text) = HoldsInside stops g Serial Landing done f p q
+
+-- So it is at the moment when events begin, at the end of each of them and inside it, with the drives that were taken in up to there. Only the images that
+-- lines named before that moment are to be fit for the pool.
 abbrev pub HoldsEach : (ℕ → Image → Type 0) → Ground → (Serial Landing : Type 0) → (done : List Event) → Found → (p : Moment) → (events : List Event) → (q : Moment) → Steps p events q → Type 0
-HoldsEach stops g Serial Landing done f p [] q steps = HoldsThen stops g Serial done f p
+HoldsEach stops g Serial Landing done f p [] q steps = HoldsThen stops g Serial Landing done f p
 HoldsEach stops g Serial Landing done f p (event ∷ events) q steps =
-    HoldsThen stops g Serial done f p
-    × (takes_disk event ≡ false → HoldsInside stops g Serial Landing done f p steps.0)
+    HoldsThen stops g Serial Landing done f p
+    × HoldsWithin stops g Serial Landing done f p steps.0 event
     × (IsFitFor f p event → HoldsEach stops g Serial Landing (done ++ event ∷ []) (pool_after f p steps.0 event) steps.0 events q steps.1)

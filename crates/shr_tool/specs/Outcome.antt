@@ -15,7 +15,7 @@ use Rattle.pool_image.specs.Drives.{Found, found}
 use Rattle.pool_image.specs.Meaning.{has_table, truth_of}
 use Rattle.pool_model.specs.Absent.{AreOnly, HoldAbsent, IsWholeRaid}
 use Rattle.pool_model.specs.Grouped.{HaveOwnAreas, HoldGroup}
-use Rattle.pool_model.specs.Left.{HoldAgain, HoldRest}
+use Rattle.pool_model.specs.Left.{HoldRest}
 use Rattle.pool_model.specs.Pools.{AreSlicesOf, IsSoundPool}
 use Rattle.pool_model.specs.Stopped.{HaveTables}
 use Rattle.pool_model.specs.Taken.{AreSerial}
@@ -43,7 +43,7 @@ use Rattle.rack.specs.Shelf.{Shelf}
 use Rattle.slice_rack.specs.Runs.{IsSliced}
 use Rattle.shr_tool.specs.Timeline.{Ground, KeepsSlices, KeepsStanding, MeansAt, Timeline, steps_of}
 use Rattle.shr_tool.specs.Service.{AreFit, AreLone, AreUngiven, IsServed, Lone, pool_by}
-use Rattle.shr_tool.specs.Between.{HoldsEach, HoldsInside}
+use Rattle.shr_tool.specs.Between.{HoldsEach, HoldsInside, HoldsNext}
 
 -- no disk's faults rose since they were counted so
 abbrev pub NoneRose : (ℕ → ℕ) → (ℕ → ℕ) → Type 0
@@ -112,7 +112,7 @@ lone_from from last = record { base = from.book.state; bound = last.book.state.s
 -- told its volume to hold an array, each of the volume's arrays is told by the last book. Outside the slices of drives no disk is written
 -- but one that a line named to replace a drive. Where none did, sectors of slices alone are written. All that the disks may be left
 -- with holds a sound pool again, by the last book's state and with the drives that were taken in, unless an array is over; and so does what a stop between
--- lines leaves, and inside the end or a line that isn't to replace a drive, once what is pending is written. Where lines named images stops are to be told, the pool's drives to have ids of serials, and the images to be fit for it, by what they held before.
+-- lines leaves, and inside the end or a line, once what is pending is written: inside a line that takes a drive in without it or with it. Where lines named images stops are to be told, the pool's drives to have ids of serials, and the images to be fit for it, by what they held before.
 pub record Lasts (Told Traced : Type 0) (x y : Seen) (g : Ground) (from : Moment) (a : FlatArray) (events : List Event) : Type 0 where
   pub last : Moment
   pub timeline : Timeline (Traced × Told) y.stops g from a events last
@@ -128,7 +128,7 @@ pub record Lasts (Told Traced : Type 0) (x y : Seen) (g : Ground) (from : Moment
   pub told : Told → IsServed g final events → (n : ℕ) → n < g.linear.arrays → IsTold final.book (slices_of final.slices y) n
   pub rows : Told → IsServed g final events → LeavesItsRows y g last final
   -- What a stop leaves before the first line, and at the end of each, holds a sound pool again, by the book of that moment. What one inside a line leaves
-  -- that isn't to replace a drive holds it once what is pending is written, by a state between.
+  -- holds it once what is pending is written, by a state between; where the line takes a drive in, the pool without the drive or with it.
   pub between :
       Told → Traced → (f : Found) → IsRunOn f g from x
       → HoldsEach y.stops g (AreSerial f.state) (TargetsLand f) [] f from events last (steps_of (Traced × Told) y.stops g from a events last timeline)
@@ -167,7 +167,7 @@ pub record Lasts (Told Traced : Type 0) (x y : Seen) (g : Ground) (from : Moment
       → AreFit f from events last (steps_of (Traced × Told) y.stops g from a events last timeline)
       → ((n : ℕ) → n < f.state.made → is_over final.book n ≡ false)
       → (i : Image) → IsPick y y y.held i
-      → HoldAgain (pool_by f from events last (steps_of (Traced × Told) y.stops g from a events last timeline)) final.slices final.book.state i
+      → HoldsNext (TargetsLand f) (pool_by f from events last (steps_of (Traced × Told) y.stops g from a events last timeline)) final.slices final.book.state i
 
 -- all lines of the text were answered, and the pool was ended; this is the worst of the answers
 pub record DoneOutcome (worst : Answer) (Told Traced : Type 0) (x y : Seen) (g : Ground) (from : Moment) (a : FlatArray) (text out out' : List ℕ) : Type 0 where

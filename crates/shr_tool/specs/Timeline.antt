@@ -17,6 +17,7 @@ use Rattle.pool.specs.Calls.{Passes}
 use Rattle.pool.specs.Keeping.{HasMarkedSeats, KeepsBook, Raises, most_raised}
 use Rattle.pool.specs.Moment.{IsNamed, Moment, moment_of}
 use Rattle.pool.specs.Continuing.{Continues, KeepsOutside}
+use Rattle.pool.specs.Naming.{EntersNamed, LeavesNamed}
 use Rattle.pool.specs.Replaced.{ChangesDrive, HasGrowCause, HasTable, IsDeclined, IsReplaced, LeavesNew, TakesImage}
 use Rattle.pool.specs.View.{View, book, contents_in, spent_by}
 use Rattle.pool.specs.Works.{HasRowsAlone, IsStuck, left_by}
@@ -166,9 +167,15 @@ abbrev pub steps_of :
 steps_of Traced stops g p a [] q line = line
 steps_of Traced stops g p a (event ∷ events) q line = (line.0, steps_of Traced stops g line.0 (becomes a event) events q line.2)
 
--- a drive of a place is replaced by the disk of a name, which has its table
+-- A drive of a place is replaced by the disk of a name, which has its table: it was attached and taken in.
 abbrev pub TakesDrive : View → View → ℕ → List ℕ → Type 0
-TakesDrive x y place name = ChangesDrive x y place name × ((d : ℕ) → IsNamed (moment_of y) name d → HasTable x y place d)
+TakesDrive x y place name =
+    ChangesDrive x y place name × ((d : ℕ) → IsNamed (moment_of y) name d → HasTable x y place d)
+    × ((d : ℕ) → IsNamed (moment_of y) name d → EntersNamed x y place name d)
+
+-- It isn't: no time passed, or the disk was attached and laid, and not taken in.
+abbrev pub LeavesDrive : View → View → ℕ → List ℕ → Type 0
+LeavesDrive x y place name = ChangesDrive x y place name × ((y.bay.clock ≡ x.bay.clock) ⊎ LeavesNamed x y place name)
 
 -- what a line that names a disk does to the pool's drives
 abbrev pub Changes : View → View → Event → Type 0
@@ -177,7 +184,7 @@ Changes x y (spent line sector) = Unit {0}
 Changes x y (lost place) = Unit {0}
 Changes x y (last place) = Unit {0}
 Changes x y (replaced place name) = TakesDrive x y place name
-Changes x y (declined place name fault) = ChangesDrive x y place name
+Changes x y (declined place name fault) = LeavesDrive x y place name
 Changes x y (stepped count left) = Unit {0}
 Changes x y (stuck count array) = Unit {0}
 Changes x y (shown text) = Unit {0}

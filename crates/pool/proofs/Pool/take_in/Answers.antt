@@ -109,11 +109,11 @@ returns-in-Err-Gone-clause-replaces g c =
     let gone = subst (λ r. IsRefused (tables (slices_in r)) c.args.disk (raid_in r) (seen (below_of (slices_in r))) b) same (is.gone (ap Err c.in-Err-Gone.field-0-is)) in
     let after =
     subst (λ (a : Arrays). IsFit a (slices_of t b)) kept (subst (λ k. IsFit (arrays_in two) (slices_of k b)) tables_now c.enlist.ensures.fit) in
-    subst (λ f. ReplacesBy x (record { bay = b; shelf = s; slices = tables (slices_in two); arrays = arrays_in two; refused = f; linear = x.linear }) c.args.place c.args.disk (Err Gone))
+    subst (λ f. ReplacesBy x (record { bays = x.bays; bay = b; shelf = s; slices = tables (slices_in two); arrays = arrays_in two; refused = f; linear = x.linear }) c.args.place c.args.disk (Err Gone))
     (sym refused)
     (subst (λ (a : Arrays). ReplacesBy x (later x b s (tables (slices_in two)) a) c.args.place c.args.disk (Err Gone)) (sym kept)
     (subst (λ k. ReplacesBy x (later x b s k x.arrays) c.args.place c.args.disk (Err Gone)) (sym tables_now)
-    (taken_gone x b s c.args.place c.args.disk t p.volume.orderly c.requires.fit free.missing vacated empty (record { fit = g.met.R.Bay.always_fit last; lasting = g.met.R.Bay.lasting last; unspent = g.met.R.Bay.unspent last; small = g.met.R.Bay.bounded last; numbered = g.met.R.Bay.numbered last }) names (slices_in (arrays_of p)).orderly (slices_in one).orderly c.requires.admitted gone.only gone.gone
+    (taken_gone x b s c.args.place c.args.disk t p.volume.orderly c.requires.fit free.missing vacated empty (record { fit = g.met.R.Bay.always_fit last; lasting = g.met.R.Bay.lasting last; unspent = g.met.R.Bay.unspent last; small = g.met.R.Bay.bounded last; numbered = g.met.R.Bay.numbered last }) names (slices_in (arrays_of p)).orderly (slices_in one).orderly c.requires.admitted gone
     (λ k at. enlist-requires-clause-free g c.before.before.before k at) after)))
 
 pub returns-in-Err-NotWhole-clause-replaces : goal.returns-in-Err-NotWhole-clause-replaces
@@ -141,11 +141,10 @@ returns-in-Err-NotWhole-clause-replaces g c =
     let tables_now : tables (slices_in two) ≡ t = is.tables in
     let lost = subst (λ r. IsNotWhole (tables (slices_in r)) c.args.disk (raid_in r) (raid_in two) (seen (below_of (slices_in r))) b) same (is.not_whole (ap Err c.in-Err-NotWhole.field-0-is)) in
     let after = subst (λ k. IsFit (arrays_in two) (slices_of k b)) tables_now c.enlist.ensures.fit in
-    subst (λ f. ReplacesBy x (record { bay = b; shelf = s; slices = tables (slices_in two); arrays = arrays_in two; refused = f; linear = x.linear }) c.args.place c.args.disk (Err NotWhole))
+    subst (λ f. ReplacesBy x (record { bays = x.bays; bay = b; shelf = s; slices = tables (slices_in two); arrays = arrays_in two; refused = f; linear = x.linear }) c.args.place c.args.disk (Err NotWhole))
     (sym refused)
     (subst (λ k. ReplacesBy x (later x b s k (arrays_in two)) c.args.place c.args.disk (Err NotWhole)) (sym tables_now)
-    (taken_lost x b s c.args.place c.args.disk t p.volume.orderly c.requires.fit free.missing vacated empty (record { fit = g.met.R.Bay.always_fit last; lasting = g.met.R.Bay.lasting last; unspent = g.met.R.Bay.unspent last; small = g.met.R.Bay.bounded last; numbered = g.met.R.Bay.numbered last }) names (slices_in (arrays_of p)).orderly (slices_in one).orderly c.requires.admitted (arrays_in two) lost.only
-    lost.mends lost.raises lost.truths lost.lost after))
+    (taken_lost x b s c.args.place c.args.disk t p.volume.orderly c.requires.fit free.missing vacated empty (record { fit = g.met.R.Bay.always_fit last; lasting = g.met.R.Bay.lasting last; unspent = g.met.R.Bay.unspent last; small = g.met.R.Bay.bounded last; numbered = g.met.R.Bay.numbered last }) names (slices_in (arrays_of p)).orderly (slices_in one).orderly c.requires.admitted (arrays_in two) lost after))
 
 pub returns-in-Err-NotWhole-clause-lenders : goal.returns-in-Err-NotWhole-clause-lenders
 returns-in-Err-NotWhole-clause-lenders g c =
@@ -179,7 +178,7 @@ returns-in-Ok-clause-replaces g c =
     let enlists =
     subst (λ r. Enlists (tables (slices_in r)) u (arrays_by_number r) c.args.place c.args.disk c.units_of-units.result (Replace c.args.place) (raid_in r) (raid_in two)
     (seen (below_of (slices_in r))) b) same is.enlists in
-    subst (λ f. ReplacesBy x (record { bay = b; shelf = s; slices = u; arrays = arrays_in two; refused = f; linear = x.linear }) c.args.place c.args.disk (Ok tt))
+    subst (λ f. ReplacesBy x (record { bays = x.bays; bay = b; shelf = s; slices = u; arrays = arrays_in two; refused = f; linear = x.linear }) c.args.place c.args.disk (Ok tt))
     (sym refused)
     (taken_in x b s c.args.place c.args.disk c.units_of-units.result t u (arrays_in two) p.volume.orderly c.requires.fit free.missing vacated empty (record { fit = g.met.R.Bay.always_fit (bay_in p); lasting = g.met.R.Bay.lasting (bay_in p); unspent = g.met.R.Bay.unspent (bay_in p); small = g.met.R.Bay.bounded (bay_in p); numbered = g.met.R.Bay.numbered (bay_in p) }) (record { fit = g.met.R.Bay.always_fit last; lasting = g.met.R.Bay.lasting last; unspent = g.met.R.Bay.unspent last; small = g.met.R.Bay.bounded last; numbered = g.met.R.Bay.numbered last }) names
     (slices_in (arrays_of p)).orderly (slices_in one).orderly (slices_in two).orderly c.requires.admitted c.requires.disk c.requires.listed seats enlists c.enlist.ensures.fit c.units_of-units.ensures)

@@ -1,5 +1,5 @@
 -- The sectors are inside, or the fill is refused.
-use Rattle.std.proofs.Common.{◌+◌, ◌<◌, ◌≤◌, refl, sym, ap, Ok, arith}
+use Rattle.std.proofs.Common.{◌+◌, ◌<◌, ◌≤◌, refl, sym, Ok, arith}
 use Rattle.shr_script.specs.declared.Command.TheVariants.{Fill}
 use Rattle.pool.specs.View.{view}
 use Rattle.pool.specs.Volume.{size_of}

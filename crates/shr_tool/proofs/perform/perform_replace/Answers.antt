@@ -1,7 +1,7 @@
 -- The place of the call is that of the line, or both are no place.
 use Rattle.std.proofs.Common.{◌≡◌, ℕ, List, Result, refl, sym, ◌∙◌, ap, subst, Err}
 use Rattle.pool.specs.declared.replacing.GrowFault.{GrowFault}
-use Rattle.pool.specs.Replaced.{ReplacesDrive}
+use Rattle.pool.specs.Naming.{ReplacesDrive}
 use Rattle.pool.specs.View.{View, view}
 use Rattle.pool.proofs.Serving.{sound_in}
 use Rattle.shr_tool.specs.Events.Event.{declined, replaced}

@@ -1,5 +1,5 @@
 -- Works of maintenance are an event.
-use Rattle.std.proofs.Common.{refl, sym, ap}
+use Rattle.std.proofs.Common.{refl, sym}
 use Rattle.shr_tool.specs.Events.Event.{stepped, stuck}
 use Rattle.shr_tool.proofs.Stepped.{step_done, step_stuck}
 use Rattle.shr_tool.proofs.perform.perform_step.Goals as goal

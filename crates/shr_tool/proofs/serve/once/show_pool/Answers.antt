@@ -1,7 +1,7 @@
 -- How the script came out, by why it stopped.
 use Rattle.pool.specs.View.{bay_in, view}
 use Rattle.shr_tool.proofs.Finishing.{limit_status, outcome_by, status_cause}
-use Rattle.std.proofs.Common.{◌∙◌, ◌^◌}
+use Rattle.std.proofs.Common.{◌∙◌}
 use Rattle.pool.proofs.Continuing.{continues_of, continues_then}
 use Rattle.shr_tool.proofs.serve.once.show_pool.Goals as goal
 

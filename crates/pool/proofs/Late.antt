@@ -1,0 +1,110 @@
+-- A refusal by how the pool stands is none of those that come before it is looked at.
+use Rattle.std.specs.Prelude.{Result, Ok, Err}
+use Rattle.std.specs.Bool.{then_some}
+use Rattle.std.specs.Option.{option_or}
+use Rattle.std.proofs.Common.{◌≡◌, ◌≢◌, ℕ, not, Bool, true, false, List, [], ◌∷◌, Option, Some, None, option_map, sym, ap, subst, ◌∙◌, inl, inr}
+use Rattle.array_image.specs.States.{is_current}
+use Rattle.growth_plan.specs.Admission.{first_refusal, replace_refusals}
+use Rattle.growth_plan.specs.declared.AdmitFault.{AdmitFault}
+use Rattle.growth_plan.specs.declared.AdmitFault.TheVariants.{Size as OfSize, Smaller as OfSmaller, TooManyDrives as OfDrives, TooManyLayers as OfLayers}
+use Rattle.lvm_group.specs.Runs.{Linear}
+use Rattle.raid_rack.specs.Raid.{Raid}
+use Rattle.shr_base.specs.Units.{units_of}
+use Rattle.pool.specs.declared.replacing.GrowFault.{GrowFault}
+use Rattle.pool.specs.declared.replacing.GrowFault.TheVariants.{NoSuchDrive, Attach, Twice, Memory, Gone, PlanPending, NotWhole, NotResynced, Unbuilt, TooManySegments}
+use Rattle.pool.specs.Replaced.{IsAnswer}
+use Rattle.pool.specs.Replacing.{fault_of, first_cause, has_other_missing, has_resync, has_same, is_planned, lacks_segments, refusal_of, standing_refusals}
+use Rattle.pool.specs.Works.{arrays_now}
+
+abbrev pub Answer : Type 0
+Answer = Result (Unit {0}) GrowFault
+
+pub same_fault : (e f : GrowFault) → ◌≡◌ {A = Answer} (Err e) (Err f) → e ≡ f
+same_fault e f same = cc
+
+pub same_of : (e f : GrowFault) → ◌≡◌ {A = Result ℕ GrowFault} (Err e) (Err f) → e ≡ f
+same_of e f same = cc
+
+pub never_fault : (e : GrowFault) → ◌≡◌ {A = Answer} (Ok tt) (Err e) → ⊥
+never_fault e same = cc
+
+-- a refusal that is looked for once a disk is there
+pub record IsLate (f : GrowFault) : Type 0 where
+  pub listed : f ≢ NoSuchDrive
+  pub attached : f ≢ Attach
+  pub had : f ≢ Memory
+  pub other : f ≢ Twice
+
+late_planned : IsLate PlanPending × (PlanPending ≢ Gone)
+late_planned = (record { listed = λ same. cc; attached = λ same. cc; had = λ same. cc; other = λ same. cc }, λ same. cc)
+
+late_whole : IsLate NotWhole × (NotWhole ≢ Gone)
+late_whole = (record { listed = λ same. cc; attached = λ same. cc; had = λ same. cc; other = λ same. cc }, λ same. cc)
+
+late_unbuilt : IsLate Unbuilt × (Unbuilt ≢ Gone)
+late_unbuilt = (record { listed = λ same. cc; attached = λ same. cc; had = λ same. cc; other = λ same. cc }, λ same. cc)
+
+late_resynced : IsLate NotResynced × (NotResynced ≢ Gone)
+late_resynced = (record { listed = λ same. cc; attached = λ same. cc; had = λ same. cc; other = λ same. cc }, λ same. cc)
+
+late_gone : IsLate Gone
+late_gone = record { listed = λ same. cc; attached = λ same. cc; had = λ same. cc; other = λ same. cc }
+
+late_segments : IsLate TooManySegments × (TooManySegments ≢ Gone)
+late_segments = (record { listed = λ same. cc; attached = λ same. cc; had = λ same. cc; other = λ same. cc }, λ same. cc)
+
+late_plan : (fault : AdmitFault) → IsLate (fault_of fault) × (fault_of fault ≢ Gone)
+late_plan OfSize = (record { listed = λ same. cc; attached = λ same. cc; had = λ same. cc; other = λ same. cc }, λ same. cc)
+late_plan OfSmaller = (record { listed = λ same. cc; attached = λ same. cc; had = λ same. cc; other = λ same. cc }, λ same. cc)
+late_plan OfDrives = (record { listed = λ same. cc; attached = λ same. cc; had = λ same. cc; other = λ same. cc }, λ same. cc)
+late_plan OfLayers = (record { listed = λ same. cc; attached = λ same. cc; had = λ same. cc; other = λ same. cc }, λ same. cc)
+
+abbrev pub AreLate : Option GrowFault → Type 0
+AreLate o = (f : GrowFault) → o ≡ Some f → IsLate f × (f ≢ Gone)
+
+late_none : AreLate None
+late_none f is = absurd (let bad : None ≡ Some f = is in cc bad)
+
+late_some : (e : GrowFault) → IsLate e × (e ≢ Gone) → AreLate (Some e)
+late_some e late f is = let same : e ≡ f = cc is in subst (λ g. IsLate g × (g ≢ Gone)) same late
+
+late_cause : (e : GrowFault) (cause : Bool) (rest : List (GrowFault × Bool)) → IsLate e × (e ≢ Gone) → AreLate (first_cause rest) → AreLate (first_cause ((e, cause) ∷ rest))
+late_cause e true rest late others = late_some e late
+late_cause e false rest late others = others
+
+late_or : (a b : Option GrowFault) → AreLate a → AreLate b → AreLate (option_or a b)
+late_or None b one two = two
+late_or (Some e) b one two = one
+
+late_map : (o : Option AdmitFault) → AreLate (option_map fault_of o)
+late_map None = late_none
+late_map (Some fault) = late_some (fault_of fault) (late_plan fault)
+
+late_if : (b : Bool) → AreLate (then_some b TooManySegments)
+late_if true = late_some TooManySegments late_segments
+late_if false = late_none
+
+standing_late : (a b c d e : Bool) → AreLate (first_cause ((PlanPending, a) ∷ (NotWhole, b) ∷ (Unbuilt, c) ∷ (NotResynced, d) ∷ (Unbuilt, e) ∷ []))
+standing_late a b c d e =
+    late_cause PlanPending a ((NotWhole, b) ∷ (Unbuilt, c) ∷ (NotResynced, d) ∷ (Unbuilt, e) ∷ []) late_planned
+    (late_cause NotWhole b ((Unbuilt, c) ∷ (NotResynced, d) ∷ (Unbuilt, e) ∷ []) late_whole
+    (late_cause Unbuilt c ((NotResynced, d) ∷ (Unbuilt, e) ∷ []) late_unbuilt
+    (late_cause NotResynced d ((Unbuilt, e) ∷ []) late_resynced (late_cause Unbuilt e [] late_unbuilt late_none))))
+
+pub refusal_late : (l : Linear) (v : Raid) (place sectors : ℕ) → AreLate (refusal_of l v place sectors)
+refusal_late l v place sectors =
+    let plan = first_refusal (replace_refusals v.state (arrays_now v) place (units_of sectors v.state.extent)) in
+    let room = then_some (lacks_segments l v place) TooManySegments in
+    late_or (first_cause (standing_refusals v place sectors)) (option_or (option_map fault_of plan) room)
+    (standing_late (is_planned v.state.plan) (has_other_missing v.state place) (is_current v.state place) (has_resync (arrays_now v)) (not (has_same v place sectors)))
+    (late_or (option_map fault_of plan) room (late_map plan) (late_if (lacks_segments l v place)))
+
+-- so is each answer
+pub answer_late : (l : Linear) (v : Raid) (place sectors : ℕ) (r : Answer) → IsAnswer (refusal_of l v place sectors) r → (f : GrowFault) → r ≡ Err f → IsLate f
+answer_late l v place sectors r answer f is = of (refusal_of l v place sectors) (refusal_late l v place sectors) answer
+  where
+    of : (o : Option GrowFault) → AreLate o → IsAnswer o r → IsLate f
+    of (Some e) late same = (late f (ap Some (same_fault e f (sym same ∙ is)))).0
+    of None late (inl served) = absurd (never_fault f (sym served ∙ is))
+    of None late (inr (inl gone)) = subst IsLate (same_fault Gone f (sym gone ∙ is)) late_gone
+    of None late (inr (inr whole)) = subst IsLate (same_fault NotWhole f (sym whole ∙ is)) late_whole.0

@@ -1,0 +1,250 @@
+-- The pool by which a run goes, where a line has attached the disk that it names and nothing is written on it yet.
+use Rattle.std.proofs.Common.{◌≡◌, ◌≢◌, ℕ, ◌<◌, ◌≤◌, nat_lt, if◌then◌else◌, Bool, true, false, List, [], length, Option, Some, None, Ok, refl, sym, ◌∙◌, ap, subst, inl, inr, ltb-true, arith}
+use Rattle.std.specs.Option.{option_map_or}
+use Rattle.std.specs.Result.{result_ok}
+use Rattle.std.proofs.lemmas.Bool.{both_ways, cases_eq}
+use Rattle.std.proofs.lemmas.Option.{none-some}
+use Rattle.rack.specs.Joins.{keeps_same}
+use Rattle.rack.specs.Seen.{Image, IsLive}
+use Rattle.rack.specs.Values.{Keeps, MayLeave, Values}
+use Rattle.slice_rack.specs.Changes.{Seats}
+use Rattle.slice_rack.specs.Runs.{IsSliced}
+use Rattle.slice_rack.specs.Slices.{Slices}
+use Rattle.slice_rack.specs.Sliced.{slices_of}
+use Rattle.flat_array.specs.Array.{FlatArray}
+use Rattle.lvm_group.specs.Runs.{array_of}
+use Rattle.pool_state.specs.declared.contents.Copied.{Copied}
+use Rattle.pool_state.specs.Sector.{decoded}
+use Rattle.array_image.specs.Places.{state_sector}
+use Rattle.array_image.specs.States.{is_current}
+use Rattle.array_core.proofs.Opened.{current_below}
+use Rattle.raid_rack.specs.Book.{after_same}
+use Rattle.raid_rack.specs.Enlisting.{IsOpenDisk}
+use Rattle.raid_rack.specs.Losing.{arrays_same}
+use Rattle.raid_rack.specs.Raid.{IsTold}
+use Rattle.raid_rack.proofs.Noted.{current_few}
+use Rattle.raid_rack.proofs.Vacated.{vacated_told}
+use Rattle.pool_image.specs.Disks.{Disks, disks_of, identities_of}
+use Rattle.pool_image.specs.Drives.{Found, drive_sector, first_of}
+use Rattle.pool_image.specs.Meaning.{is_member}
+use Rattle.pool_model.specs.InService.{InService}
+use Rattle.pool_model.specs.Left.{IsPickOff}
+use Rattle.pool_model.specs.Stopped.{HoldTables}
+use Rattle.pool_model.specs.Taken.{KeepsOff, KeepsOthers, LacksDrive, attached}
+use Rattle.pool_model.proofs.Alike.{HasTruths, first_same, member_same}
+use Rattle.pool_model.proofs.Declined.{sector_same, truths_attached}
+use Rattle.pool_model.proofs.Found.{ok_of, seated_below}
+use Rattle.pool_model.proofs.InService.{one_seat, service_attached}
+use Rattle.pool_model.proofs.Lost.{lost_value}
+use Rattle.pool_model.proofs.Named.{same_length}
+use Rattle.pool_model.proofs.Tables.{tables_attached}
+use Rattle.pool_model.proofs.Unsliced.{free_stranger}
+use Rattle.pool_model.proofs.Vacant.{lacks_value, vacant_free}
+use Rattle.pool.specs.Entering.{Vacates}
+use Rattle.pool.specs.Moment.{IsNamed, moment_of, views_of}
+use Rattle.pool.specs.Taking.{AttachesDisk}
+use Rattle.pool.specs.View.{View, book, over, volume}
+use Rattle.pool.specs.Volume.{Holds, is_spent, size_of}
+use Rattle.pool.proofs.Admitted.{IsAdmitted, admitted, others_current, reaches_each}
+use Rattle.shr_tool.specs.Service.{GoesBy, IsFitDisk, Lone}
+use Rattle.shr_tool.proofs.Former.{not_over, told_by}
+use Rattle.shr_tool.proofs.TakenIn.{going_seat, vacant_not}
+use Rattle.shr_tool.proofs.TurnedDown.{seats_both}
+
+-- a copy in a disk's sector of the state
+copy_parts : (sectors : ℕ) (w : List ℕ) (copy : Copied) → (if nat_lt state_sector sectors then result_ok (decoded w) else None) ≡ Some copy
+    → (state_sector < sectors) × (decoded w ≡ Ok copy)
+copy_parts sectors w copy here = by (nat_lt state_sector sectors) refl here
+  where
+    by : (c : Bool) → nat_lt state_sector sectors ≡ c → (if c then result_ok (decoded w) else None) ≡ Some copy → (state_sector < sectors) × (decoded w ≡ Ok copy)
+    by true within is = (ltb-true state_sector sectors within, ok_of (decoded w) copy is)
+    by false past is = absurd (none-some copy is)
+
+module _ {L : Type 0} {o : Option Lone} (x : View) (bay : x.bays.one) (name : List ℕ) (disk : ℕ) (at : AttachesDisk x (over x bay) name (Ok disk))
+    (unspent : (d s : ℕ) → (x.bays.seen bay).spent d s ≡ false) (fit : (volume x).fit) (b : FlatArray) (holds : Holds x b) (f : Found) (goes : GoesBy L o f x)
+    (fits : IsFitDisk f (moment_of x) name) where
+  abbrev pub m : View
+  m = over x bay
+
+  abbrev t : Slices
+  t = goes.tables
+
+  count : f.disks.count ≡ x.bay.disks
+  count = ap (λ (z : Disks). z.count) goes.service.disks
+
+  sectors_kept : (d : ℕ) → d < f.disks.count → m.bay.sectors d ≡ f.disks.sectors d
+  sectors_kept d low = at.continues.sectors d (let same = count in omega (arith, low, same)) ∙ sym (ap (λ (z : Disks). z.sectors d) goes.service.disks)
+
+  pub live_now : (d s : ℕ) → d < m.bay.disks → s < m.bay.sectors d → IsLive m.bay m.bay d s
+  live_now d s low within = record { disk = low; sector = within; is_told = at.continues.known holds.shelf holds.disks d low; unspent = unspent d s }
+
+  -- each of its sectors can be called
+  pub opened : IsOpenDisk m.bay disk
+  opened s within = live_now disk s at.ok.1 within
+
+  seat_disk : (k d : ℕ) → f.seats k ≡ Some d → d < x.bay.disks
+  seat_disk k d seat = let low = (goes.service.arranged.seated k d seat).1 in let same = count in omega (arith, low, same)
+
+  small : (k d : ℕ) → f.seats k ≡ Some d → k < 16
+  small k d seat = current_few f.state k goes.service.arranged.places (goes.service.arranged.seated k d seat).0
+
+  -- it is no current drive's
+  pub not_current : (p : ℕ) → is_current (book x).state p ≡ true → f.seats p ≡ Some disk → ⊥
+  not_current p current seat = at.ok.2 (p, going_seat x f goes p disk seat current, vacant_not (book x).state p current)
+
+  -- what a disk may be left with off the slices it held
+  left_off : (u : Slices) (i : Image) → IsPickOff u m.bay i → (d s : ℕ) → d < x.bay.disks → s < m.bay.sectors d → ((w : List ℕ) → IsSliced u d s w → ⊥)
+      → MayLeave (x.bay.held d s) (i d s)
+  left_off u i off d s low within never =
+      subst (λ h. MayLeave h (i d s)) (at.held d low s) (off d s (live_now d s (let more = at.continues.disks in omega (arith, low, more)) within) never)
+
+  -- a disk that came says an earlier state, as what waited did
+  came_says : (i : Image) → IsPickOff t m.bay i → (d : ℕ) → d < m.bay.disks → f.disks.count ≤ d
+      → (copy : Copied) → (identities_of (disks_of m.bay) i d).copied ≡ Some copy → copy.state.epoch < f.state.epoch
+  came_says i off d low past copy here =
+      let same = count in
+      let new : x.bay.disks ≤ d = omega (arith, past, same) in
+      let named : IsNamed (moment_of m) name d = at.names.came d new low in
+      let image = at.image holds.shelf d named in
+      let parts = copy_parts (m.bay.sectors d) (i d state_sector) copy here in
+      let never : (k : ℕ) → f.seats k ≡ Some d → ⊥ = λ k seat. let there = seat_disk k d seat in omega (arith, there, new) in
+      let left : MayLeave (image.0 state_sector) (i d state_sector) =
+      subst (λ h. MayLeave h (i d state_sector)) (image.2 state_sector parts.0)
+      (off d state_sector (live_now d state_sector low parts.0) (λ w is. free_stranger f t d state_sector w goes.service.slices never is)) in
+      elim image.1 [
+        | inl old ↦
+            (let first = old.1 in
+            let one = at.names.one old.0 d (at.continues.names old.0 name old.2) named in
+            absurd (omega (arith, new, first, one)))
+        | inr came ↦
+            (let w = came.1.0 in
+            let within = parts.0 in
+            let sectors : m.bay.sectors d ≡ w.sectors = came.1.2 in
+            elim (subst (λ (g : ℕ → Values). MayLeave (g state_sector) (i d state_sector)) came.1.3 left) [
+              | inl is ↦ fits came.0 w came.1.1 (omega (arith, within, sectors)) copy (ap decoded (sym is) ∙ parts.1)
+              | inr none ↦ absurd none
+            ])
+      ]
+
+  keeps_off : (u : Slices) → KeepsOff u disk x.bay m.bay
+  keeps_off u d s other live never = (
+    record {
+      disk = (let low = live.disk in let more = at.continues.disks in omega (arith, low, more));
+      sector = subst (λ n. s < n) (sym (at.continues.sectors d live.disk)) live.sector;
+      is_told = at.continues.tells d live.disk live.is_told;
+      unspent = unspent d s;
+    },
+    subst (λ h. Keeps (x.bay.held d s) h) (sym (at.held d live.disk s)) (keeps_same (x.bay.held d s)),
+  )
+
+  keeps_others : KeepsOthers f t (book x).state disk x.bay m.bay
+  keeps_others = record {
+    disks = (let same = count in let more = at.continues.disks in omega (arith, same, more));
+    sectors = sectors_kept;
+    drive = elim (seated_below f.seats disk 16) [
+      | inl one ↦ inr one
+      | inr none ↦ inl (λ p seat. none p (small p disk seat) seat)
+    ];
+    outside = keeps_off t;
+    alone = λ i off n p first low current seat none begins within. absurd (not_current p current seat);
+    earlier = came_says;
+    stranger = λ i off never low copy here.
+        let same = count in
+        left_off t i off disk state_sector (omega (arith, low, same)) (copy_parts (m.bay.sectors disk) (i disk state_sector) copy here).0
+        (λ w is. free_stranger f t disk state_sector w goes.service.slices (λ k. never k) is);
+  }
+
+  abbrev pub h : Found
+  h = attached f (disks_of m.bay)
+
+  few : f.state.made ≤ 16
+  few = goes.service.arranged.made.1
+
+  same_truths : HasTruths f h
+  same_truths = truths_attached f (disks_of m.bay) goes.service.arranged (let same = count in let more = at.continues.disks in omega (arith, same, more)) sectors_kept
+
+  pub member_named : (n p : ℕ) → n < f.state.made → is_member h n p ≡ is_member f n p
+  member_named n p low = member_same f h few goes.service.arranged.truths same_truths n low p
+
+  pub first_named : (n : ℕ) → n < f.state.made → first_of h n ≡ first_of f n
+  first_named n low = first_same f h few goes.service.arranged.truths same_truths n (omega (arith, low))
+
+  pub service_named : InService h t (book x) m.bay
+  service_named = service_attached f t (book x) (book x) disk x.bay m.bay goes.service keeps_others (after_same (book x).state) (arrays_same (book x))
+
+  pub tables_named : L → HoldTables h t (book x).state m.bay
+  tables_named lands =
+      tables_attached f t (book x).state disk x.bay m.bay goes.service.arranged goes.service.slices keeps_others
+      (λ i off p current seat. absurd (not_current p current seat)) (goes.laid lands)
+
+  -- what is remembered of a place's drive
+  pub sector_named : (p s : ℕ) → drive_sector h p s ≡ drive_sector f p s
+  sector_named =
+      sector_same f (disks_of m.bay) goes.service.arranged (let same = count in let more = at.continues.disks in omega (arith, same, more)) sectors_kept
+
+  -- ---- the place gives its disk up, where a sector of the volume can be had
+
+  module _ (place : ℕ) (listed : place < length (book x).state.drives.items) (vacates : Vacates m place disk) (some : ℕ)
+      (within : some < size_of x) (alive : is_spent x some ≡ false) where
+    abbrev u : Slices
+    u = vacates.tables
+
+    pub free_named : IsAdmitted (book x) place (m.bay.sectors disk)
+    free_named = admitted x.linear (book x) place (m.bay.sectors disk) vacates.admits
+
+    -- where a place gave its disk up it is this one
+    vacant_is : (k : ℕ) → k < length (book x).state.drives.items → is_current (book x).state k ≡ false → k ≡ place
+    vacant_is k low missing = elim (cases_eq k place) [
+      | inl same ↦ same
+      | inr other ↦ absurd (both_ways (is_current (book x).state k) missing (others_current (book x).state place free_named.whole k low other))
+    ]
+
+    pub vacated_named : Seats t u place None
+    vacated_named = elim goes.vacant [
+      | inl same ↦ subst (λ (z : Slices). Seats z u place None) same vacates.seats
+      | inr one ↦ seats_both t x.slices u place (subst (λ p. Seats t x.slices p None) (vacant_is one.0 one.1 one.2.missing) one.2.vacated) vacates.seats
+    ]
+
+    -- it has the room of a drive
+    pub room_named : 10273 ≤ m.bay.sectors disk
+    room_named = (reaches_each (views_of (book x)) place (m.bay.sectors disk) free_named.reaches).0
+
+    -- it is no other place's drive
+    pub apart_named : (p : ℕ) → p ≢ place → f.seats p ≡ Some disk → ⊥
+    apart_named p other seat =
+        let low = current_below f.state p (goes.service.arranged.seated p disk seat).0 in
+        let many = same_length (book x).state.drives.items f.state.drives.items goes.service.after.same.drives in
+        not_current p (others_current (book x).state place free_named.whole p (omega (arith, low, many)) other) seat
+
+    told_first : IsTold (book x) (slices_of x.slices x.bay) (array_of x.linear some)
+    told_first = told_by x b some fit holds within alive
+
+    earlier : (d : ℕ) → f.seats place ≡ Some d → (i : Image) → IsPickOff u m.bay i
+        → (copy : Copied) → (identities_of (disks_of m.bay) i d).copied ≡ Some copy → copy.state.epoch < (book x).state.epoch
+    earlier d seat i off copy here =
+        let parts = copy_parts (m.bay.sectors d) (i d state_sector) copy here in
+        let low = seat_disk place d seat in
+        let left =
+        left_off u i off d state_sector low parts.0
+        (λ w is. vacant_free t u place vacated_named f goes.service.slices d state_sector w (λ q other. one_seat f t (book x) x.bay goes.service q place d other seat) is) in
+        elim goes.vacant [
+          | inl same ↦
+              lost_value f t u (book x) x.bay m.bay place d d goes.service.slices seat (small place d seat) free_named.missing (array_of x.linear some)
+              (subst (λ (z : Slices). IsTold (book x) (slices_of z x.bay) (array_of x.linear some)) same told_first) (not_over x.linear (book x) some alive)
+              (i d state_sector) copy left parts.1
+          | inr one ↦
+              (let lacks : LacksDrive f t x.slices (book x) place x.bay =
+              subst (λ k. LacksDrive f t x.slices (book x) k x.bay) (vacant_is one.0 one.1 one.2.missing) one.2 in
+              lacks_value f t x.slices (book x) place x.bay lacks d seat (i d state_sector) copy
+              (subst (λ n. state_sector < n) (at.continues.sectors d low) parts.0) left parts.1)
+        ]
+
+    pub lacks_named : LacksDrive h t u (book x) place m.bay
+    lacks_named = record { vacated = vacated_named; missing = free_named.missing; earlier = earlier }
+
+    -- each array is told by the slices that are left
+    pub told_named : (n : ℕ) → n < x.linear.arrays → IsTold (book x) (slices_of u m.bay) n
+    told_named n low =
+        let told = at.carries.told holds.shelf holds.disks some within alive (holds.told some (let same = holds.size in omega (arith, within, same)) alive) n low in
+        vacated_told place x.slices u m.bay vacates.seats (book x) fit.0.heeded free_named.missing at.continues.fit.0.running.set vacates.fit.running.set.fit n
+        (let arrays = fit.1.arrays in omega (arith, low, arrays)) told
