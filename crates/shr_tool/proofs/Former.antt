@@ -96,7 +96,7 @@ module _ {L : Type 0} {o : Option Lone} (x y : View) (place : ℕ) (name : List 
   lost_below =
       lost_before f goes.tables y.slices (book x) x.bay y.bay place d d goes.service.slices seat small missing (array_of x.linear s)
       (subst (λ (u : Slices). IsTold (book x) (slices_of u x.bay) (array_of x.linear s)) same (told_by x b s fit holds within alive)) (not_over x.linear (book x) s alive) live
-      ((changes.retired d on unnamed).held state_sector sector (holds.disks d there)) (λ w is. bare state_sector w is)
+      ((changes.retired missing d on unnamed).held state_sector sector (holds.disks d there)) (λ w is. bare state_sector w is)
 
   pub held_there : (slices_shown x).held (log_slice place) 0 ≡ x.bay.held d state_sector
   held_there =
@@ -112,7 +112,7 @@ module _ {L : Type 0} {o : Option Lone} (x y : View) (place : ℕ) (name : List 
   former_copy r since current i off =
       let w = i d state_sector in
       let left : MayLeave (x.bay.held d state_sector) w =
-      ((changes.retired d on unnamed).held state_sector sector (holds.disks d there)).within w (off d state_sector live (λ v is. bare state_sector v is)) in
+      ((changes.retired missing d on unnamed).held state_sector sector (holds.disks d there)).within w (off d state_sector live (λ v is. bare state_sector v is)) in
       let many = ap (λ (u : Slices). sectors_of u (log_slice place)) same ∙ (log_lies f goes.tables place d goes.service.slices seat).1 in
       let own : HasOwnSince r place w = (since place w small (omega (arith, many)) (subst (λ h. MayLeave h w) (sym held_there) left)).own current in
       let within_now : state_sector < y.bay.sectors d = live.sector in (

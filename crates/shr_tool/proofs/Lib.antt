@@ -21,6 +21,7 @@ mod Meanings
 mod NamedDisk
 mod NewTable
 mod NewTabled
+mod Renewed
 mod Performing
 mod Pieces
 mod Putting

@@ -51,7 +51,8 @@ use Rattle.pool.specs.Replaced.{ChangesDrive, HasGrowCause, IsAnswer, IsLookedAt
 use Rattle.pool.specs.Replacing.{refusal_of}
 use Rattle.pool.specs.View.{View, book, spent_by, volume}
 use Rattle.pool.specs.Volume.{Holds, is_spent, size_of}
-use Rattle.pool.proofs.Admitted.{IsAdmitted, admitted, others_current, reaches_each}
+use Rattle.pool.proofs.Admitted.{admitted, others_current, reaches_each}
+use Rattle.pool.specs.Replacing.{IsAdmitted}
 use Rattle.shr_tool.specs.Events.Event.{replaced}
 use Rattle.shr_tool.specs.Service.{GoesBy, GoesOn, IsFitDrive, Lone, StandsLone, disk_in, lone_then, pool_after, units_in}
 use Rattle.shr_tool.specs.Timeline.{Performs}
@@ -267,7 +268,6 @@ module _ {L : Type 0} {o : Option Lone} (x y : View) (place : ℕ) (name text : 
   pub seats_new : SeatsNew f t y.slices (book x) place disk (y.bay.sectors disk)
   seats_new = record {
     listed = listed;
-    missing = free.missing;
     others = others;
     fresh = λ k other. serial_fresh (book x).state serials_now fitting.distinct k;
     room = room;
@@ -319,7 +319,7 @@ module _ {L : Type 0} {o : Option Lone} (x y : View) (place : ℕ) (name text : 
     | inl same ↦
         (let on : seat_of x.slices place ≡ Some d = ap (λ (u : Slices). seat_of u place) same ∙ goes.service.slices.seats place ∙ seat in
         up_of (book x).state.epoch copy.state.epoch
-        (lost_below x y place name unspent fit performs.continues (performs.outside refl) changes told f goes d seat same on (only d other) (bare_now d other on) holds some.0 some.1 alive listed free.missing i pick copy here))
+        (lost_below x y place name unspent fit performs.continues (performs.outside refl) changes told f goes d seat same on (only d other) (bare_now d other on) holds some.0 some.1 alive listed fitting.missing i pick copy here))
     | inr one ↦
         (let now : place ≡ one.0 = sym (vacant_is one.0 one.1 one.2.missing) in
         let less =
@@ -362,7 +362,7 @@ module _ {L : Type 0} {o : Option Lone} (x y : View) (place : ℕ) (name text : 
       let on : seat_of x.slices place ≡ Some d = ap (λ (u : Slices). seat_of u place) stands.slices ∙ goes.service.slices.seats place ∙ seat in
       let own =
       former_copy x y place name unspent fit performs.continues (performs.outside refl) changes told f goes d seat stands.slices on (only d other) (bare_now d other on) holds some.0
-      some.1 alive listed free.missing l.base (stands.since some.0 some.1 alive) current i pick in
+      some.1 alive listed fitting.missing l.base (stands.since some.0 some.1 alive) current i pick in
       stranger_former f t y.slices (book x) x.bay y.bay place disk is.units (Replacing place) goes.service seats_new keeps_rest l.bound (below l so) serials stands.distinct d seat
       (identities_of (disks_of y.bay) i d) own.0 own.1 (own.2.same.pool ∙ stands.after.same.pool) (own.3 ∙ id_same f.state l.base stands.after.same place)
 

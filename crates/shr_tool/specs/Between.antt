@@ -4,6 +4,7 @@ use Rattle.rack.specs.Seen.{Image}
 use Rattle.slice_rack.specs.Changes.{Seats}
 use Rattle.slice_rack.specs.Slices.{Slices, sectors_of}
 use Rattle.slice_rack.specs.Sliced.{sliced}
+use Rattle.array_image.specs.States.{is_current}
 use Rattle.pool_state.specs.declared.contents.Plan.TheVariants.{Replace as Replacing}
 use Rattle.pool_state.specs.declared.contents.State.{State}
 use Rattle.raid_rack.specs.Enlisting.{enlisted}
@@ -57,17 +58,19 @@ HoldsEither f p q place name i =
     → HoldAmid (pool_after f p q (replaced place name)) q.slices (coming p place) q.book.state i))
 
 -- Whatever a stop leaves inside a line that takes a drive in holds the pool without it or with it, unless an array is over by the line's end. The image that
--- the line names is fit for the pool, and where it waited it says no state, or an earlier one.
+-- the line names is fit for the pool, and where it waited it says no state, or an earlier one. It is said where the place's drive was missing when the line began
+-- (`IsFitDrive`); of lines in which one that isn't missing gives way to the new one nothing is said yet.
 abbrev pub HoldsTaking : (ℕ → Image → Type 0) → Ground → (Serial Landing : Type 0) → (done : List Event) → Found → (p q : Moment) → (place : ℕ) → (name : List ℕ) → Type 0
 HoldsTaking stops g Serial Landing done f p q place name =
     IsServed g q (done ++ replaced place name ∷ []) → Serial → Landing → IsFitDrive f p place name → IsFitDisk f p name
     → ((n : ℕ) → n < f.state.made → is_over q.book n ≡ false)
     → (k : ℕ) (i : Image) → p.clock < k → k ≤ q.clock → stops k i → HoldsEither f p q place name i
 
--- Inside one that was to take a drive in, and didn't, it holds the pool with the disk that was attached, by a state between, over the slices of after.
+-- Inside one that was to take a drive in, and didn't, it holds the pool with the disk that was attached, by a state between, over the slices of after. It is said where
+-- the place's drive was missing when the line began; else no time passed in it, or the drive was to give way, of which nothing is said yet.
 abbrev pub HoldsDeclined : (ℕ → Image → Type 0) → Ground → (Serial Landing : Type 0) → (done : List Event) → Found → (p q : Moment) → (place : ℕ) → (name : List ℕ) → GrowFault → Type 0
 HoldsDeclined stops g Serial Landing done f p q place name fault =
-    IsServed g q (done ++ declined place name fault ∷ []) → Serial → Landing → IsFitDisk f p name
+    is_current p.book.state place ≡ false → IsServed g q (done ++ declined place name fault ∷ []) → Serial → Landing → IsFitDisk f p name
     → ((n : ℕ) → n < f.state.made → is_over q.book n ≡ false)
     → (k : ℕ) (i : Image) → p.clock < k → k ≤ q.clock → stops k i → HoldAmid (attached f (disks_at q)) q.slices p.book.state q.book.state i
 

@@ -24,9 +24,10 @@ use Rattle.pool_model.specs.InService.{InService}
 use Rattle.pool_model.specs.Stopped.{HoldTables}
 use Rattle.pool_model.specs.Taken.{AreDistinct, AreSerial, LacksDrive, attached, taken}
 use Rattle.pool.specs.declared.replacing.GrowFault.{GrowFault}
-use Rattle.pool.specs.declared.replacing.GrowFault.TheVariants.{Attach, Gone, Memory}
+use Rattle.pool.specs.declared.replacing.GrowFault.TheVariants.{Attach, Gone, Memory, NotWhole}
 use Rattle.pool.specs.Moment.{IsImage, IsNamed, Moment}
 use Rattle.pool.specs.Replaced.{HasMarked}
+use Rattle.pool.specs.Replacing.{has_other_missing}
 use Rattle.pool.specs.View.{View, book, slices_shown, spent_by}
 use Rattle.pool.specs.Volume.{is_spent, size_of}
 use Rattle.shr_tool.specs.Events.{Event, any_takes, looks_at}
@@ -79,8 +80,9 @@ IsAlone f place sectors held =
     → (first + super_sector + 33 < sectors) × ((v : List ℕ) → MayLeave (held (first + super_sector)) v → super_of v ≡ None)
 
 -- An image that is taken in, by what it holds before: no superblock stands on it where the place is no member. The ids of the serials differ that the
--- pool has given, and the next one's.
+-- pool has given, and the next one's. The place's drive was missing: of a drive that gives way to another one it isn't said yet what is left.
 pub record IsFitDrive (f : Found) (p : Moment) (place : ℕ) (name : List ℕ) : Type 0 where
+  pub missing : is_current p.book.state place ≡ false
   pub distinct : AreDistinct p.book.state.pool.0 p.book.state.serial
   pub alone : (sectors : ℕ) (held : ℕ → Values) → IsImage p name sectors held → IsAlone f place sectors held
 
@@ -90,6 +92,12 @@ IsFitDisk f p name =
     ((d : ℕ) → IsNamed p name d → ⊥) → (w : Waiting) → p.ready name ≡ Some w → state_sector < w.sectors
     → (copy : Copied) → decoded (w.contents state_sector) ≡ Ok copy → copy.state.epoch < f.state.epoch
 
+-- A line that is declined though nothing had been against it: the new disk refused a call, or another drive was found gone, and the place's drive was missing. Of a drive
+-- that was to give way it isn't said yet what is left.
+abbrev pub WasMissing : Moment → (place : ℕ) → GrowFault → Type 0
+WasMissing p place fault =
+    (fault ≡ Gone) ⊎ ((fault ≡ NotWhole) × (has_other_missing p.book.state place ≡ false)) → is_current p.book.state place ≡ false
+
 -- what is to be known of the image that a line names
 abbrev pub IsFitFor : Found → Moment → Event → Type 0
 IsFitFor f p (answered line) = Unit {0}
@@ -97,7 +105,7 @@ IsFitFor f p (spent line sector) = Unit {0}
 IsFitFor f p (lost place) = Unit {0}
 IsFitFor f p (last place) = Unit {0}
 IsFitFor f p (replaced place name) = IsFitDrive f p place name
-IsFitFor f p (declined place name fault) = looks_at fault ≡ true → IsFitDisk f p name
+IsFitFor f p (declined place name fault) = looks_at fault ≡ true → WasMissing p place fault × IsFitDisk f p name
 IsFitFor f p (stepped count left) = Unit {0}
 IsFitFor f p (stuck count array) = Unit {0}
 IsFitFor f p (shown text) = Unit {0}
