@@ -9,6 +9,8 @@ mod Filled
 mod Finishing
 mod FormLemmas
 mod Former
+mod GivesWay
+mod GivingStops
 mod GroupKept
 mod Heads
 mod History

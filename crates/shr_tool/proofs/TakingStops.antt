@@ -53,7 +53,7 @@ use Rattle.shr_tool.proofs.NamedDisk as one
 use Rattle.shr_tool.proofs.TakenIn as new
 
 -- the slices lie inside disks that are as many and as long
-inside_same : (t : Slices) (a b : Seen) → b.disks ≡ a.disks → ((d : ℕ) → b.sectors d ≡ a.sectors d) → IsInside t b → IsInside t a
+pub inside_same : (t : Slices) (a b : Seen) → b.disks ≡ a.disks → ((d : ℕ) → b.sectors d ≡ a.sectors d) → IsInside t b → IsInside t a
 inside_same t a b disks sectors inside = record {
   small = λ d low. subst (λ n. n < 2 ^ 48) (sectors d) (inside.small d (subst (λ n. d < n) (sym disks) low));
   seats = λ p d seat. subst (λ n. d < n) disks (inside.seats p d seat);
@@ -62,7 +62,7 @@ inside_same t a b disks sectors inside = record {
 
 module _ {L : Type 0} (x y : View) (place : ℕ) (name text : List ℕ) (b : FlatArray) (unspent : (d s : ℕ) → y.bay.spent d s ≡ false) (fit : (volume x).fit)
     (performs : Performs x y (replaced place name) text) (holds : Holds x b) (some : (s : ℕ) × (s < size_of x) × (spent_by x.linear (book y) s ≡ false))
-    (f : Found) (goes : GoesBy L None f x) (fitting : IsFitDrive f (moment_of x) place name) (waits : IsFitDisk f (moment_of x) name) (serials : AreSerial f.state)
+    (f : Found) (goes : GoesBy L None f x) (missing : is_current (book x).state place ≡ false) (fitting : IsFitDrive f (moment_of x) (moment_of y) place name) (waits : IsFitDisk f (moment_of x) name) (serials : AreSerial f.state)
     (lands : L) (lasts : (n : ℕ) → n < f.state.made → is_over (book y) n ≡ false) (traced : x.bay.traced) where
   abbrev pub disk : ℕ
   disk = new.disk x y place name text b unspent fit performs holds some f goes fitting serials (λ l none. absurd (none-some l none)) (λ l none. absurd (none-some l none))
@@ -78,7 +78,7 @@ module _ {L : Type 0} (x y : View) (place : ℕ) (name text : List ℕ) (b : Fla
 
   -- at once, since the place's drive was missing
   pub enters : EntersBy m y place disk
-  enters = elim entered.enters [ inl at_once ↦ at_once.1 | inr ready ↦ absurd (both_ways (is_current (book x).state place) fitting.missing ready.0) ]
+  enters = elim entered.enters [ inl at_once ↦ at_once.1 | inr ready ↦ absurd (both_ways (is_current (book x).state place) missing ready.0) ]
 
   abbrev vacates : Vacates m place disk
   vacates = enters.vacates
@@ -111,18 +111,18 @@ module _ {L : Type 0} (x y : View) (place : ℕ) (name text : List ℕ) (b : Fla
   opened = one.opened x entered.bay name disk entered.attaches unspent_then fit b holds f goes waits
 
   pub lacks : LacksDrive h goes.tables t (book x) place m.bay
-  lacks = one.lacks_named x entered.bay name disk entered.attaches unspent_then fit b holds f goes waits place listed vacates fitting.missing some.0 some.1 alive
+  lacks = one.lacks_named x entered.bay name disk entered.attaches unspent_then fit b holds f goes waits place listed vacates missing some.0 some.1 alive
 
   tables : HoldTables h goes.tables (book x).state m.bay
   tables = one.tables_named x entered.bay name disk entered.attaches unspent_then fit b holds f goes waits lands
 
   told : (n : ℕ) → n < h.state.made → IsTold (book x) (slices_of t m.bay) n
   told n low =
-      one.told_named x entered.bay name disk entered.attaches unspent_then fit b holds f goes waits place listed vacates fitting.missing some.0 some.1 alive n
+      one.told_named x entered.bay name disk entered.attaches unspent_then fit b holds f goes waits place listed vacates missing some.0 some.1 alive n
       (subst (λ k. n < k) (sym goes.arrays) low)
 
   free : IsAdmitted (book x) place (m.bay.sectors disk)
-  free = one.free_named x entered.bay name disk entered.attaches unspent_then fit b holds f goes waits place listed vacates fitting.missing some.0 some.1 alive
+  free = one.free_named x entered.bay name disk entered.attaches unspent_then fit b holds f goes waits place listed vacates missing some.0 some.1 alive
 
   size : y.bay.sectors disk ≡ m.bay.sectors disk
   size = enlists.only.stays.sectors disk
@@ -171,10 +171,10 @@ module _ {L : Type 0} (x y : View) (place : ℕ) (name text : List ℕ) (b : Fla
   traced_then = entered.attaches.continues.traced holds.shelf traced
 
   apart : (p : ℕ) → p ≢ place → h.seats p ≡ Some disk → ⊥
-  apart = one.apart_named x entered.bay name disk entered.attaches unspent_then fit b holds f goes waits place listed vacates fitting.missing some.0 some.1 alive
+  apart = one.apart_named x entered.bay name disk entered.attaches unspent_then fit b holds f goes waits place listed vacates missing some.0 some.1 alive
 
   room : 10273 ≤ m.bay.sectors disk
-  room = one.room_named x entered.bay name disk entered.attaches unspent_then fit b holds f goes waits place listed vacates fitting.missing some.0 some.1 alive
+  room = one.room_named x entered.bay name disk entered.attaches unspent_then fit b holds f goes waits place listed vacates missing some.0 some.1 alive
 
   lasting : m.bay.lasting
   lasting = entered.attaches.continues.lasting goes.lasting
@@ -284,15 +284,15 @@ module _ {L : Type 0} (x y : View) (place : ℕ) (name text : List ℕ) (b : Fla
   -- ---- the whole
 
   without : (u : Slices) → Seats x.slices u place None ⊎ (u ≡ y.slices) → (i : Image) → HoldAmid h u (book x).state (book x).state i → HoldsEither f (moment_of x) (moment_of y) place name i
-  without u which i amid = inl (u, which, subst (λ (z : Disks). HoldAmid (attached f z) u (book x).state (book x).state i) disks_same amid)
+  without u which i amid = inl (u, inl (missing, which), subst (λ (z : Disks). HoldAmid (attached f z) u (book x).state (book x).state i) disks_same amid)
 
   pub taking_amid : (k : ℕ) (i : Image) → x.bay.clock < k → k ≤ y.bay.clock → y.bay.stops k i → HoldsEither f (moment_of x) (moment_of y) place name i
   taking_amid k i since until stopped =
       elim (early k i (let clock = entered.attaches.clock in omega (arith, since, clock)) until stopped) [
-        | inl amid ↦ elim amid [ inl laying ↦ without t (inl (one.gave x entered.bay name disk entered.attaches unspent_then fit b holds f goes waits place listed vacates fitting.missing some.0 some.1 alive)) i laying | inr joining ↦ without y.slices (inr refl) i joining ]
+        | inl amid ↦ elim amid [ inl laying ↦ without t (inl (one.gave x entered.bay name disk entered.attaches unspent_then fit b holds f goes waits place listed vacates missing some.0 some.1 alive)) i laying | inr joining ↦ without y.slices (inr refl) i joining ]
         | inr joined ↦
             inr (
               subst (λ u. LogsBetween (coming u) (book y).state (sectors_of y.slices) (sliced y.slices i)) (sym units_are) joined.1,
-              late k i joined.0 until stopped joined.1,
+              λ ids. inl (late k i joined.0 until stopped joined.1 ids),
             )
       ]
