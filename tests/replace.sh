@@ -71,11 +71,20 @@ holds 'killed: the volume' first new third
 serve 'the rest is rebuilt' 0 'step 0\nstep 1000\n' 'left 33\nleft 0\n' first new third
 any_absent 'killed' first new third
 
+# A drive that is there gives way to a new one, and isn't written from then on.
+make 'gives way'
+truncate -s $((512 * 80384)) new
+serve 'a drive that is there is replaced' 0 'replace 1 new\nstep 0\n' 'ok\nleft 53\n' first second third
+cp second before
+serve 'it is rebuilt' 0 'step 1000\nreplace 1 new\n' 'left 0\nrefused twice\n' first new third
+expect 'the former drive stayed as it was' cmp -s second before
+any_absent 'gives way' first new third
+
 # Refusals.
 make 'refused'
 truncate -s $((512 * 80384)) new
 truncate -s $((512 * 81664)) larger
-serve 'by their causes' 0 'replace 3 new\nreplace 0 none\nreplace 1 third\nreplace 1 new\nlose 1\nreplace 1 larger\nlose 0\nreplace 1 new\n' \
+serve 'by their causes' 0 'replace 3 new\nreplace 0 none\nreplace 1 third\nreplace 1 larger\nlose 1\nreplace 1 larger\nlose 0\nreplace 1 new\n' \
   'refused no-such-drive\nrefused attach\nrefused twice\nrefused unbuilt\nok\nrefused unbuilt\nok\nrefused not-whole\n' first second third
 
 # As others read the new drive.

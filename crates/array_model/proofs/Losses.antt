@@ -19,7 +19,7 @@ use Rattle.array_image.proofs.Marked.{among_lowered}
 use Rattle.array_image.proofs.Noted.{AllButOne, take_lower, noted_value}
 use Rattle.array_model.specs.View.{View, IsNoted, shape_of, may_vary}
 use Rattle.array_image.specs.Left.{Picks, IsLeft, IsClosed}
-use Rattle.array_model.specs.Says.{IsOpen, HoldsShape, Holds, IsEarlier}
+use Rattle.array_model.specs.Says.{IsOpen, HoldsData, HoldsShape, Holds, IsEarlier}
 use Rattle.array_model.specs.ArrayCalls.{Keeping}
 use Rattle.array_model.proofs.Keeping.{KeepsData, same_value, even_kept, settled_kept, open_after}
 
@@ -91,10 +91,15 @@ left_picks n noted x is_open still r left m sector among counts =
     (sym (left.2 (member_slice m.place n) (data_sector + sector) ∙ still left.0 left.1 m sector among counts))
     (left.1.picks (member_slice m.place n) (data_sector + sector) (is_open m sector among counts))
 
+-- an array's data, without what images say
+pub data_of : {s : State} {n : ℕ} {durable noted : Shape} {resync : ℕ} {vary : Bool} {vals : ℕ → Values} {spent : ℕ → Bool} {x : Seen}
+    → HoldsShape s n durable noted resync vary vals spent x → HoldsData n noted resync vals spent x
+data_of holds = record { open_left = holds.open_left; current = holds.current; sized = holds.sized; even = holds.even }
+
 -- The commit of a mark: once the members that are left are synced, and it has written superblocks and states that give the
 -- array without the lost places, the array holds for the new state what it held for the old one.
-pub marked_holds : (s t : State) (n : ℕ) (durable noted : Shape) (resync : ℕ) (marked marked_now : Bool) (vals : ℕ → Values) (spent : ℕ → Bool) (x y : Seen)
-    → HoldsShape s n durable noted resync marked vals spent x
+pub marked_holds : (t : State) (n : ℕ) (noted : Shape) (resync : ℕ) (marked_now : Bool) (vals : ℕ → Values) (spent : ℕ → Bool) (x y : Seen)
+    → HoldsData n noted resync vals spent x
     → IsSettled noted n x.held
     → x.lasting → Stays x y
     → KeepsData noted n x.held y.held
@@ -102,7 +107,7 @@ pub marked_holds : (s t : State) (n : ℕ) (durable noted : Shape) (resync : ℕ
     → replayed y.sectors c (member_slice m.place n) (data_sector + sector) ≡ c (member_slice m.place n) (data_sector + sector))
     → ((r : Image) → IsLeft y r → (shape_in t r n ≡ Some noted) × ((u : Super) → truth_in t r n ≡ Some u → IsSoundArray t r n u))
     → HoldsShape t n noted noted resync marked_now vals spent y
-marked_holds s t n durable noted resync marked marked_now vals spent x y holds settled lasting stays keeps still staged =
+marked_holds t n noted resync marked_now vals spent x y holds settled lasting stays keeps still staged =
     let now_y = settled_kept x.held y.held noted n keeps settled in
     let current : (z : ℕ) → spent z ≡ false → value_by noted (current_in y.held) n z ≡ (vals z).current =
     λ z unspent. same_value x.held y.held noted n z keeps ∙ holds.current z unspent in

@@ -58,6 +58,15 @@ pub record HoldsShape (s : State) (n : ℕ) (durable noted : Shape) (resync : �
   -- but where they may vary, members' sectors have one value
   pub settled : vary ≡ false → IsSettled noted n x.held
 
+-- What the data of the members that are left holds, by this shape, whatever images say of the array.
+pub record HoldsData (n : ℕ) (noted : Shape) (resync : ℕ) (vals : ℕ → Values) (spent : ℕ → Bool) (x : Seen) : Type 0 where
+  pub open_left : IsOpen noted n x
+  pub current : (y : ℕ) → spent y ≡ false → value_by noted (current_in x.held) n y ≡ (vals y).current
+  pub sized :
+      (m : Member) (sector : ℕ) → Among m noted.members → sector < m.reach
+      → length (x.held (member_slice m.place n) (data_sector + sector)).current ≡ 512
+  pub even : AreEven noted n resync (current_in x.held)
+
 -- no current place but the members' has a valid superblock of an array
 abbrev pub HasNoOthers : View → State → Image → Type 0
 HasNoOthers v t e =

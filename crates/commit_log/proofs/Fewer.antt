@@ -136,7 +136,7 @@ foremost_kept h f (q ∷ ps) a placed kept none is =
     of_first later (Some x) at is = of_rest later x (foremost number_of (map h ps)) at refl is
 
 -- all gates of its number are open
-pending_all : (c : Image) (ps : List ℕ) (a : GateAt) → pending_at ps c ≡ Some a → list_all (is_open_if_of (number_of a)) (map (gate_at c) ps) ≡ true
+pub pending_all : (c : Image) (ps : List ℕ) (a : GateAt) → pending_at ps c ≡ Some a → list_all (is_open_if_of (number_of a)) (map (gate_at c) ps) ≡ true
 unfolding pending_at
 pending_all c ps a is = of_foremost (foremost number_of (map (gate_at c) ps)) is
   where

@@ -73,7 +73,7 @@ abbrev pub LogsLive : Seen → Type 0
 LogsLive x = (p t : ℕ) → p < 16 → t < x.sectors (log_slice p) → IsLive x x (log_slice p) t
 
 old_or_new : (s t : State) (number : ℕ) (gone : ℕ → Bool) (on takes : List ℕ) (xs : List Target) (x : Seen) (c : Image) (q : ℕ)
-    → LogsLive x → CopiesStand s gone x → BringsTo s t number gone x xs on takes → StatesStand xs x c → q < 16
+    → LogsLive x → CopiesStand s gone x → BringsTo s t number x xs on takes → StatesStand xs x c → q < 16
     → IsOld s c q ⊎ IsCopyOf t q (c (log_slice q) 0)
 unfolding IsOld
 old_or_new s t number gone on takes xs x c q logs copies brings stand few =
@@ -115,9 +115,9 @@ pub later_yet : (s t : State) (copy : Copied) → s.epoch < t.epoch → IsNoLate
 later_yet s t copy later (inl lower) = inl (omega arith)
 later_yet s t copy later (inr same) = let e = ap (λ (u : State). u.epoch) same in inl (omega arith)
 
-pub epoch_up : (s t : State) (number : ℕ) (gone : ℕ → Bool) (x : Seen) (xs : List Target) (on takes : List ℕ) → BringsTo s t number gone x xs on takes
+pub epoch_up : (s t : State) (number : ℕ) (x : Seen) (xs : List Target) (on takes : List ℕ) → BringsTo s t number x xs on takes
     → (t ≡ s) ⊎ (s.epoch < t.epoch)
-epoch_up s t number gone x xs on takes brings = elim brings.either [ inl same ↦ inl same.0 | inr later ↦ inr later.0 ]
+epoch_up s t number x xs on takes brings = elim brings.either [ inl same ↦ inl same.0 | inr later ↦ inr later.0 ]
 
 -- what a copy of a state says
 pub copy_state : (t : State) (copy : Copied) (own : ℕ) (u : List ℕ) → IsCopyOf t own u → decoded u ≡ Ok copy → copy.state ≡ t
@@ -143,14 +143,14 @@ NoneLater s c = (q : ℕ) (copy : Copied) → q < 16 → decoded (c (log_slice q
 
 -- A stop in a commit leaves the state from before or the new one, where a place that is left has both, and no later copy.
 pub stands_latest : (s t : State) (number : ℕ) (gone : ℕ → Bool) (on takes : List ℕ) (xs : List Target) (x : Seen) (c : Image) (p : ℕ)
-    → LogsLive x → CopiesStand s gone x → BringsTo s t number gone x xs on takes → StatesStand xs x c
+    → LogsLive x → CopiesStand s gone x → BringsTo s t number x xs on takes → StatesStand xs x c
     → p < 16 → 0 < x.sectors (log_slice p) → is_current s p ≡ true → gone p ≡ false
     → ((state_in c ≡ Some s) × NoneLater s c) ⊎ ((state_in c ≡ Some t) × NoneLater t c)
 unfolding IsOld
 stands_latest s t number gone on takes xs x c p logs copies brings stand few there current left =
     let each : (q : ℕ) → q < 16 → IsOld s c q ⊎ IsCopyOf t q (c (log_slice q) 0) =
     λ q small. old_or_new s t number gone on takes xs x c q logs copies brings stand small in
-    let up = epoch_up s t number gone x xs on takes brings in
+    let up = epoch_up s t number x xs on takes brings in
     let later : NoneLater t c = none_later s t c up each in
     elim (search s t c 16 each) [
       | inr found ↦ inr (state_by_copies t c found.0 later found.1 found.2, later)
@@ -171,7 +171,7 @@ stands_latest s t number gone on takes xs x c p logs copies brings stand few the
     ]
 
 stands_as : (s t : State) (number : ℕ) (gone : ℕ → Bool) (on takes : List ℕ) (xs : List Target) (x : Seen) (c : Image) (p : ℕ)
-    → LogsLive x → CopiesStand s gone x → BringsTo s t number gone x xs on takes → StatesStand xs x c
+    → LogsLive x → CopiesStand s gone x → BringsTo s t number x xs on takes → StatesStand xs x c
     → p < 16 → 0 < x.sectors (log_slice p) → is_current s p ≡ true → gone p ≡ false
     → (state_in c ≡ Some s) ⊎ (state_in c ≡ Some t)
 stands_as s t number gone on takes xs x c p logs copies brings stand few there current left =
@@ -201,14 +201,18 @@ brings_none s =
     }
 
 -- no place joins
-pub brings_to : (s t : State) (number : ℕ) (gone : ℕ → Bool) (x : Seen) (xs : List Target) (on : List ℕ) → Brings s t xs on → BringsTo s t number gone x xs on on
-brings_to s t number gone x xs on brings =
+pub brings_to : (s t : State) (number : ℕ) (x : Seen) (xs : List Target) (on : List ℕ) → Brings s t xs on → BringsTo s t number x xs on on
+brings_to s t number x xs on brings =
     record {
       current = λ p is. inl (brings.current p is);
       left = brings.left;
+      joins = λ p named other. absurd (both_ways (names on p) other named);
       more = λ p named. named;
       inside = brings.inside;
-      either = brings.either;
+      either = elim brings.either [
+        | inl same ↦ inl (same.0, same.1, λ p named. named)
+        | inr later ↦ inr later
+      ];
     }
 
 -- what a stop leaves of the log slices has the state
@@ -216,7 +220,7 @@ pub kept_state : (s : State) (number : ℕ) (gone : ℕ → Bool) (x : Seen) (c 
     → LogKept s number gone x → LogsStand x c → is_current s p ≡ true → gone p ≡ false → state_in c ≡ Some s
 unfolding look
 kept_state s number gone x c p kept stand current left =
-    elim (stands_as s s number gone [] [] [] x c p kept.logs kept.copies (brings_to s s number gone x [] [] (brings_none s))
+    elim (stands_as s s number gone [] [] [] x c p kept.logs kept.copies (brings_to s s number x [] [] (brings_none s))
     (record { picks = λ q live. inl (stand.picks q 0 live); inside = λ q none. stand.inside q 0 (omega (arith, none)) })
     (kept.few p current) (kept.there p current left) current left) [ inl is ↦ is | inr is ↦ is ]
 
@@ -240,7 +244,7 @@ kept_replayed s number gone x c p kept stand current left =
 
 -- with all targets written, contents have the state that these bring
 pub joined_state : (s t : State) (number : ℕ) (gone : ℕ → Bool) (on takes : List ℕ) (xs : List Target) (x : Seen) (c : Image) (p : ℕ)
-    → LogsLive x → CopiesStand s gone x → BringsTo s t number gone x xs on takes → Stands x c
+    → LogsLive x → CopiesStand s gone x → BringsTo s t number x xs on takes → Stands x c
     → p < 16 → 0 < x.sectors (log_slice p) → is_current s p ≡ true → gone p ≡ false → is_current t p ≡ true
     → state_in (put x.sectors xs c) ≡ Some t
 joined_state s t number gone on takes xs x c p logs copies brings stand few there current left now =
@@ -249,7 +253,7 @@ joined_state s t number gone on takes xs x c p logs copies brings stand few ther
       picks = λ q live. put_picks q live (look xs (log_slice q) 0) refl (nat_lt 0 (x.sectors (log_slice q)));
       inside = λ q none. put_outside x.sectors xs c (log_slice q) 0 (omega (arith, none)) ∙ stand.inside q 0 (omega (arith, none));
     } in
-    let up = epoch_up s t number gone x xs on takes brings in
+    let up = epoch_up s t number x xs on takes brings in
     let each : (q : ℕ) → q < 16 → IsOld s (put x.sectors xs c) q ⊎ IsCopyOf t q (put x.sectors xs c (log_slice q) 0) =
     λ q small. old_or_new s t number gone on takes xs x (put x.sectors xs c) q logs copies brings stands small in
     state_by_copies t (put x.sectors xs c) p (none_later s t (put x.sectors xs c) up each) few
@@ -275,22 +279,22 @@ pub brought_state : (s t : State) (gone : ℕ → Bool) (on : List ℕ) (xs : Li
     → p < 16 → 0 < x.sectors (log_slice p) → is_current s p ≡ true → gone p ≡ false → is_current t p ≡ true
     → state_in (put x.sectors xs c) ≡ Some t
 brought_state s t gone on xs x c p logs copies brings =
-    joined_state s t 0 gone on on xs x c p logs copies (brings_to s t 0 gone x xs on brings)
+    joined_state s t 0 gone on on xs x c p logs copies (brings_to s t 0 x xs on brings)
 
 -- ---- before a commit
 
 -- a current place of either state was one of the old state, or joins
-current_before : (s t : State) (number : ℕ) (gone : ℕ → Bool) (x : Seen) (xs : List Target) (on takes : List ℕ) (c : Image) (p : ℕ) (u : State)
-    → BringsTo s t number gone x xs on takes → (state_in c ≡ Some s) ⊎ (state_in c ≡ Some t) → state_in c ≡ Some u → is_current u p ≡ true
-    → (is_current s p ≡ true) ⊎ MayJoin number gone x p
-current_before s t number gone x xs on takes c p u brings (inl is) state current =
+current_before : (s t : State) (number : ℕ) (x : Seen) (xs : List Target) (on takes : List ℕ) (c : Image) (p : ℕ) (u : State)
+    → BringsTo s t number x xs on takes → (state_in c ≡ Some s) ⊎ (state_in c ≡ Some t) → state_in c ≡ Some u → is_current u p ≡ true
+    → (is_current s p ≡ true) ⊎ MayJoin number x p
+current_before s t number x xs on takes c p u brings (inl is) state current =
     inl (subst (λ (v : State). is_current v p ≡ true) (ap (λ o. unwrap_or o s) (sym state ∙ is)) current)
-current_before s t number gone x xs on takes c p u brings (inr is) state current =
+current_before s t number x xs on takes c p u brings (inr is) state current =
     brings.current p (subst (λ (v : State). is_current v p ≡ true) (ap (λ o. unwrap_or o s) (sym state ∙ is)) current)
 
 -- the log has what a commit needs, where a place is left
 pub joined_ready : (s t : State) (gone : ℕ → Bool) (l : LogView) (on takes : List ℕ) (x : Seen) (p : ℕ)
-    → LogKept s l.number gone x → BringsTo s t l.number gone x l.added on takes
+    → LogKept s l.number gone x → BringsTo s t l.number x l.added on takes
     → l.number < 2 ^ 63 - 1 → x.lasting
     → ((d u : ℕ) (v : List ℕ) → look l.added d u ≡ Some v → IsLive x x d u)
     → is_current s p ≡ true → gone p ≡ false
@@ -302,7 +306,7 @@ joined_ready s t gone l on takes x p kept brings room lasting targets current le
       logs = kept.logs;
       targets = targets;
       numbers = λ c stand q decides there.
-          elim (current_before s t l.number gone x l.added on takes c q decides.0 brings
+          elim (current_before s t l.number x l.added on takes c q decides.0 brings
           (stands_as s t l.number gone on takes l.added x c p kept.logs kept.copies brings stand (kept.few p current) (kept.there p current left) current left) decides.1 decides.2) [
             | inl was ↦ kept.numbers q was there
             | inr joins ↦ joins.numbered
@@ -316,11 +320,11 @@ pub kept_ready : (s t : State) (gone : ℕ → Bool) (l : LogView) (on : List �
     → ((d u : ℕ) (v : List ℕ) → look l.added d u ≡ Some v → IsLive x x d u)
     → is_current s p ≡ true → gone p ≡ false
     → IsReady l on x
-kept_ready s t gone l on x p kept brings = joined_ready s t gone l on on x p kept (brings_to s t l.number gone x l.added on brings)
+kept_ready s t gone l on x p kept brings = joined_ready s t gone l on on x p kept (brings_to s t l.number x l.added on brings)
 
 -- and a place of the commit that is left and current by the new state decides at each stop
 pub joined_decides : (s t : State) (number : ℕ) (gone : ℕ → Bool) (xs : List Target) (on takes lost : List ℕ) (x : Seen) (p : ℕ)
-    → LogKept s number gone x → BringsTo s t number gone x xs on takes → AreLeft s gone on
+    → LogKept s number gone x → BringsTo s t number x xs on takes → AreLeft s gone on
     → is_left on lost p ≡ true → is_current t p ≡ true
     → SomeoneDecides xs on lost x
 joined_decides s t number gone xs on takes lost x p kept brings are_left is current c stand =
@@ -341,7 +345,7 @@ pub kept_decides : (s t : State) (number : ℕ) (gone : ℕ → Bool) (xs : List
     → is_left on lost p ≡ true → is_current t p ≡ true
     → SomeoneDecides xs on lost x
 kept_decides s t number gone xs on lost x p kept brings =
-    joined_decides s t number gone xs on on lost x p kept (brings_to s t number gone x xs on brings)
+    joined_decides s t number gone xs on on lost x p kept (brings_to s t number x xs on brings)
 
 -- nothing is pending where each current place is left
 pub kept_idle : (s : State) (number : ℕ) (gone : ℕ → Bool) (x : Seen) (c : Image)

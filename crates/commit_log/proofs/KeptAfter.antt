@@ -1,6 +1,6 @@
 -- A commit leaves what the next one needs.
 use Rattle.std.proofs.Common.{◌≡◌, ◌⊎◌, ℕ, ◌<◌, ◌≤◌, Bool, true, false, ◌&&◌, ◌||◌, not, nat_lt, if◌then◌else◌, List, [], ◌∷◌, length, Option, Some, None, Ok, unwrap_or, refl, eq-eqb, sym, ap, ap₂, subst, ◌∙◌, inl, inr, arith}
-use Rattle.std.proofs.lemmas.Bool.{both_ways, cases_Bool}
+use Rattle.std.proofs.lemmas.Bool.{and_parts, both_ways, cases_Bool}
 use Rattle.std.proofs.lemmas.Option.{none-some}
 use Rattle.std.specs.Option.{option_map_or}
 use Rattle.rack.specs.Values.{MayLeave}
@@ -17,7 +17,7 @@ use Rattle.array_image.specs.Arrays.{replayed}
 use Rattle.commit_log.specs.View.{LogView, names, next_number}
 use Rattle.commit_log.specs.Standing.{LogsStand, deciding, IsNumbered, IsReady, SomeoneDecides, IsLogPart}
 use Rattle.commit_log.specs.Commits.{Stands, CommitCall}
-use Rattle.commit_log.specs.Kept.{IsCopyOf, IsNoLater, CopiesStand, HasClosedGate, LogKept, AreLeft, gone_with, Brings, BringsTo}
+use Rattle.commit_log.specs.Kept.{IsCopyOf, IsNoLater, CopiesStand, HasClosedGate, LogKept, AreLeft, gone_but, gone_with, Brings, BringsTo}
 use Rattle.commit_log.proofs.Kept.{live_on, live_after, LogsLive, place_of_log, epoch_up, later_yet, copy_state, brings_to}
 
 -- what stood before a call of the log may be called after it
@@ -25,13 +25,23 @@ pub logs_after : {a b : Seen} → a.lasting → Stays a b → LogsLive a → (p 
 logs_after {a} {b} lasting stays logs p t few inside =
     live_after stays (live_on lasting stays (logs p t few (subst (λ n. t < n) (stays.sectors (log_slice p)) inside)))
 
-or_none : (b c : Bool) → (b || c) ≡ false → (b ≡ false) × (c ≡ false)
-or_none true c is = absurd (both_ways true is refl)
-or_none false c is = (refl, is)
+-- whoever hasn't gone after it hadn't before or takes a copy, and didn't go in it
+but_none : (g took went : Bool) → ((g && not took) || went) ≡ false → ((g ≡ false) ⊎ (took ≡ true)) × (went ≡ false)
+but_none false took went is = (inl refl, is)
+but_none true true went is = (inr refl, is)
+but_none true false went is = absurd (both_ways true is refl)
+
+-- a place of the commit had not gone
+pub on_left : (s : State) (gone : ℕ → Bool) (on : List ℕ) (p : ℕ) → AreLeft s gone on → names on p ≡ true → gone p ≡ false
+on_left s gone on p are_left named = not_true (gone p) (and_parts (is_current s p) (not (gone p)) (sym (are_left p) ∙ named)).1
+  where
+    not_true : (b : Bool) → not b ≡ true → b ≡ false
+    not_true false is = refl
+    not_true true is = absurd (both_ways false refl is)
 
 -- the copies that a commit leaves on a place
 copies_after : (s t : State) (gone : ℕ → Bool) (l : LogView) (on takes lost : List ℕ) (a b : Seen) (p : ℕ) (u : List ℕ)
-    → CommitCall l on lost a b → LogsLive a → a.lasting → CopiesStand s gone a → BringsTo s t l.number gone a l.added on takes
+    → CommitCall l on lost a b → LogsLive a → a.lasting → CopiesStand s gone a → BringsTo s t l.number a l.added on takes
     → p < 16 → 0 < a.sectors (log_slice p) → MayLeave (b.held (log_slice p) 0) u
     → MayLeave (a.held (log_slice p) 0) u ⊎ IsCopyOf t p u
 copies_after s t gone l on takes lost a b p u commit logs lasting copies brings few there left =
@@ -50,39 +60,47 @@ copies_after s t gone l on takes lost a b p u commit logs lasting copies brings 
       ]
     ]
 
--- a current place that is left has its log slice
-log_of : (s t : State) (gone : ℕ → Bool) (l : LogView) (on takes : List ℕ) (a : Seen) (p : ℕ) → LogKept s l.number gone a → BringsTo s t l.number gone a l.added on takes
-    → is_current t p ≡ true → gone p ≡ false → (p < 16) × (0 < a.sectors (log_slice p))
-log_of s t gone l on takes a p kept brings current left =
+-- a current place that hadn't gone, or takes a copy, has its log slice
+log_of : (s t : State) (gone : ℕ → Bool) (l : LogView) (on takes : List ℕ) (a : Seen) (p : ℕ) → LogKept s l.number gone a → BringsTo s t l.number a l.added on takes
+    → AreLeft s gone on → is_current t p ≡ true → (gone p ≡ false) ⊎ (names takes p ≡ true) → (p < 16) × (0 < a.sectors (log_slice p))
+log_of s t gone l on takes a p kept brings are_left current left =
     elim (brings.current p current) [
-      | inl was ↦ (kept.few p was, kept.there p was left)
       | inr joins ↦ (joins.few, let there = joins.there in omega (arith, there))
+      | inl was ↦ elim left [
+        | inl stays ↦ (kept.few p was, kept.there p was stays)
+        | inr took ↦ elim (cases_Bool (names on p)) [
+          | inl named ↦ (kept.few p was, kept.there p was (on_left s gone on p are_left named))
+          | inr other ↦ let joins = brings.joins p took other in (joins.few, let there = joins.there in omega (arith, there))
+        ]
+      ]
     ]
 
 -- it is one of the 16
-few_of : (s t : State) (gone : ℕ → Bool) (l : LogView) (on takes : List ℕ) (a : Seen) (p : ℕ) → LogKept s l.number gone a → BringsTo s t l.number gone a l.added on takes
+few_of : (s t : State) (gone : ℕ → Bool) (l : LogView) (on takes : List ℕ) (a : Seen) (p : ℕ) → LogKept s l.number gone a → BringsTo s t l.number a l.added on takes
     → is_current t p ≡ true → p < 16
 few_of s t gone l on takes a p kept brings current = elim (brings.current p current) [ inl was ↦ kept.few p was | inr joins ↦ joins.few ]
 
 -- and its gate has no greater number than the log's
-numbered_of : (s t : State) (gone : ℕ → Bool) (l : LogView) (on takes : List ℕ) (a : Seen) (p : ℕ) → LogKept s l.number gone a → BringsTo s t l.number gone a l.added on takes
+numbered_of : (s t : State) (gone : ℕ → Bool) (l : LogView) (on takes : List ℕ) (a : Seen) (p : ℕ) → LogKept s l.number gone a → BringsTo s t l.number a l.added on takes
     → is_current t p ≡ true → gate_sector < a.sectors (log_slice p) → IsNumbered l.number a p
 numbered_of s t gone l on takes a p kept brings current there =
     elim (brings.current p current) [ inl was ↦ kept.numbers p was there | inr joins ↦ joins.numbered ]
 
 -- those of a place that is left
 own_after : (s t : State) (gone : ℕ → Bool) (l : LogView) (on takes lost : List ℕ) (a b : Seen) (p : ℕ) (u : List ℕ)
-    → CommitCall l on lost a b → LogKept s l.number gone a → a.lasting → BringsTo s t l.number gone a l.added on takes
-    → is_current t p ≡ true → gone p ≡ false → names lost p ≡ false → MayLeave (b.held (log_slice p) 0) u
+    → CommitCall l on lost a b → LogKept s l.number gone a → a.lasting → BringsTo s t l.number a l.added on takes
+    → AreLeft s gone on → is_current t p ≡ true → (gone p ≡ false) ⊎ (names takes p ≡ true) → names lost p ≡ false → MayLeave (b.held (log_slice p) 0) u
     → IsCopyOf t p u
-own_after s t gone l on takes lost a b p u commit kept lasting brings current left stays left_now =
-    let at = log_of s t gone l on takes a p kept brings current left in
+own_after s t gone l on takes lost a b p u commit kept lasting brings are_left current left stays left_now =
+    let at = log_of s t gone l on takes a p kept brings are_left current left in
     let live = live_on lasting commit.stays (kept.logs p 0 at.0 at.1) in
     let first : IsLogPart (log_slice p) 0 → ⊥ = λ part. absurd (omega (arith, part.1)) in
     elim brings.either [
       | inl same ↦
           subst (λ v. IsCopyOf v p u) (sym same.0)
-          (kept.copies.own p u (subst (λ (v : State). is_current v p ≡ true) same.0 current) left ((commit.apart (log_slice p) 0 live first (same.1 p)).within u left_now))
+          (kept.copies.own p u (subst (λ (v : State). is_current v p ≡ true) same.0 current)
+          (elim left [ inl had ↦ had | inr took ↦ on_left s gone on p are_left (same.2 p took) ])
+          ((commit.apart (log_slice p) 0 live first (same.1 p)).within u left_now))
       | inr later ↦
           let w = later.2 p (later.1 p current) in
           subst (λ v. IsCopyOf t p v)
@@ -116,7 +134,7 @@ quiet_after s t gone l on lost a b c d u commit ready someone stand stays =
 
 -- no copy that a commit leaves is later than the state that it brings
 others_after : (s t : State) (gone : ℕ → Bool) (l : LogView) (on takes lost : List ℕ) (a b : Seen) (p : ℕ) (u : List ℕ) (copy : Copied)
-    → CommitCall l on lost a b → LogKept s l.number gone a → BringsTo s t l.number gone a l.added on takes → a.lasting
+    → CommitCall l on lost a b → LogKept s l.number gone a → BringsTo s t l.number a l.added on takes → a.lasting
     → p < 16 → 0 < b.sectors (log_slice p) → MayLeave (b.held (log_slice p) 0) u → decoded u ≡ Ok copy → IsNoLater t copy
 others_after s t gone l on takes lost a b p u copy commit kept brings lasting few there left is =
     let before : 0 < a.sectors (log_slice p) = subst (λ n. 0 < n) (commit.stays.sectors (log_slice p)) there in
@@ -124,7 +142,7 @@ others_after s t gone l on takes lost a b p u copy commit kept brings lasting fe
       | inr new ↦ inr (copy_state t copy p u new is)
       | inl old ↦
           let at = kept.copies.others p u copy few before old is in
-          elim (epoch_up s t l.number gone a l.added on takes brings) [
+          elim (epoch_up s t l.number a l.added on takes brings) [
             | inl same ↦ subst (λ v. IsNoLater v copy) (sym same) at
             | inr later ↦ later_yet s t copy later at
           ]
@@ -132,7 +150,7 @@ others_after s t gone l on takes lost a b p u copy commit kept brings lasting fe
 
 -- and those of a place that isn't current by it are earlier
 earlier_after : (s t : State) (gone : ℕ → Bool) (l : LogView) (on takes lost : List ℕ) (a b : Seen) (p : ℕ) (u : List ℕ) (copy : Copied)
-    → CommitCall l on lost a b → LogKept s l.number gone a → BringsTo s t l.number gone a l.added on takes → a.lasting
+    → CommitCall l on lost a b → LogKept s l.number gone a → BringsTo s t l.number a l.added on takes → a.lasting
     → p < 16 → is_current t p ≡ false → 0 < b.sectors (log_slice p) → MayLeave (b.held (log_slice p) 0) u → decoded u ≡ Ok copy → copy.state.epoch < t.epoch
 earlier_after s t gone l on takes lost a b p u copy commit kept brings lasting few former there left is =
     let before : 0 < a.sectors (log_slice p) = subst (λ n. 0 < n) (commit.stays.sectors (log_slice p)) there in
@@ -155,7 +173,7 @@ earlier_after s t gone l on takes lost a b p u copy commit kept brings lasting f
 
 -- nor is one that its replay brings
 brought_after : (s t : State) (gone : ℕ → Bool) (l : LogView) (on takes lost : List ℕ) (a b : Seen) (c : Image) (p : ℕ) (copy : Copied)
-    → CommitCall l on lost a b → LogKept s l.number gone a → BringsTo s t l.number gone a l.added on takes
+    → CommitCall l on lost a b → LogKept s l.number gone a → BringsTo s t l.number a l.added on takes
     → IsReady l on a → SomeoneDecides l.added on lost a
     → Stands b c → p < 16 → 0 < b.sectors (log_slice p) → decoded (replayed b.sectors c (log_slice p) 0) ≡ Ok copy → IsNoLater t copy
 unfolding replayed look
@@ -195,14 +213,14 @@ brought_after s t gone l on takes lost a b c p copy commit kept brings ready som
         ]
 
 -- where somebody went, a current place has gone
-one_gone : (s t : State) (gone : ℕ → Bool) (l : LogView) (on takes lost : List ℕ) (a b : Seen) → CommitCall l on lost a b → BringsTo s t l.number gone a l.added on takes
-    → (places : List ℕ) → places ≡ lost → (places ≡ [] → ⊥) → (p : ℕ) × (is_current t p ≡ true) × (gone_with gone lost p ≡ true)
+one_gone : (s t : State) (gone : ℕ → Bool) (l : LogView) (on takes lost : List ℕ) (a b : Seen) → CommitCall l on lost a b → BringsTo s t l.number a l.added on takes
+    → (places : List ℕ) → places ≡ lost → (places ≡ [] → ⊥) → (p : ℕ) × (is_current t p ≡ true) × (gone_but gone takes lost p ≡ true)
 one_gone s t gone l on takes lost a b commit brings [] is some = absurd (some refl)
 one_gone s t gone l on takes lost a b commit brings (p ∷ others) is some =
     let named : names lost p ≡ true = subst (λ ps. names ps p ≡ true) is (ap (λ e. e || names others p) (eq-eqb p p refl)) in (
       p,
       brings.left p (elim (commit.gone.called p named) [ inl on_it ↦ brings.more p on_it | inr target ↦ brings.inside p target ]),
-      or_true (gone p) (names lost p) named,
+      or_true (gone p && not (names takes p)) (names lost p) named,
     )
   where
     or_true : (b c : Bool) → c ≡ true → (b || c) ≡ true
@@ -211,8 +229,8 @@ one_gone s t gone l on takes lost a b commit brings (p ∷ others) is some =
 
 -- where each place is left the gates of current ones are closed: those of the commit by it, and those of places that join before it
 closed_after : (s t : State) (gone : ℕ → Bool) (l : LogView) (on takes lost : List ℕ) (a b : Seen) (p : ℕ)
-    → CommitCall l on lost a b → LogKept s l.number gone a → BringsTo s t l.number gone a l.added on takes → AreLeft s gone on → a.lasting
-    → ((q : ℕ) → is_current t q ≡ true → gone_with gone lost q ≡ false) → is_current t p ≡ true → gate_sector < a.sectors (log_slice p)
+    → CommitCall l on lost a b → LogKept s l.number gone a → BringsTo s t l.number a l.added on takes → AreLeft s gone on → a.lasting
+    → ((q : ℕ) → is_current t q ≡ true → gone_but gone takes lost q ≡ false) → is_current t p ≡ true → gate_sector < a.sectors (log_slice p)
     → HasClosedGate b p
 closed_after s t gone l on takes lost a b p commit kept brings are_left lasting all current there v g left is =
     let live = live_on lasting commit.stays (kept.logs p gate_sector (few_of s t gone l on takes a p kept brings current) there) in
@@ -222,9 +240,10 @@ closed_after s t gone l on takes lost a b p commit kept brings are_left lasting 
           let old = (commit.around p gate_sector live (omega arith) (inl other)).within v left in
           elim (brings.current p current) [
             | inr joins ↦ joins.closed v g old is
-            | inl was ↦
-                let stays = (or_none (gone p) (names lost p) (all p current)).0 in
-                absurd (both_ways (names on p) other (are_left p ∙ ap₂ (λ x y. x && not y) was stays))
+            | inl was ↦ elim (but_none (gone p) (names takes p) (names lost p) (all p current)).0 [
+              | inl stays ↦ absurd (both_ways (names on p) other (are_left p ∙ ap₂ (λ x y. x && not y) was stays))
+              | inr took ↦ (brings.joins p took other).closed v g old is
+            ]
           ]
     ]
   where
@@ -232,24 +251,24 @@ closed_after s t gone l on takes lost a b p commit kept brings are_left lasting 
     nobody [] same = sym same
     nobody (q ∷ others) same =
         let one = one_gone s t gone l on takes lost a b commit brings (q ∷ others) same (λ none. let e = ap length none in absurd (omega (arith, e))) in
-        absurd (both_ways (gone_with gone lost one.0) (all one.0 one.1) one.2)
+        absurd (both_ways (gone_but gone takes lost one.0) (all one.0 one.1) one.2)
 
 -- A commit leaves what the next one needs, for the state that it brings and without the places that went in it.
 pub joined_after : (s t : State) (gone : ℕ → Bool) (l : LogView) (on takes lost : List ℕ) (a b : Seen)
-    → CommitCall l on lost a b → LogKept s l.number gone a → BringsTo s t l.number gone a l.added on takes → AreLeft s gone on
+    → CommitCall l on lost a b → LogKept s l.number gone a → BringsTo s t l.number a l.added on takes → AreLeft s gone on
     → IsReady l on a → SomeoneDecides l.added on lost a
-    → LogKept t (next_number l.number) (gone_with gone lost) b
+    → LogKept t (next_number l.number) (gone_but gone takes lost) b
 joined_after s t gone l on takes lost a b commit kept brings are_left ready someone =
     record {
       logs = logs_after ready.lasting commit.stays kept.logs;
       few = λ p current. few_of s t gone l on takes a p kept brings current;
       there = λ p current left.
           subst (λ n. 0 < n) (sym (commit.stays.sectors (log_slice p)))
-          (log_of s t gone l on takes a p kept brings current (or_none (gone p) (names lost p) left).0).1;
+          (log_of s t gone l on takes a p kept brings are_left current (but_none (gone p) (names takes p) (names lost p) left).0).1;
       copies = record {
         own = λ p u current left left_now.
-            let both = or_none (gone p) (names lost p) left in
-            own_after s t gone l on takes lost a b p u commit kept ready.lasting brings current both.0 both.1 left_now;
+            let both = but_none (gone p) (names takes p) (names lost p) left in
+            own_after s t gone l on takes lost a b p u commit kept ready.lasting brings are_left current both.0 both.1 left_now;
         others = λ p u copy few there left is. others_after s t gone l on takes lost a b p u copy commit kept brings ready.lasting few there left is;
         earlier = λ p u copy few former there left is. earlier_after s t gone l on takes lost a b p u copy commit kept brings ready.lasting few former there left is;
       };
@@ -267,18 +286,29 @@ joined_after s t gone l on takes lost a b commit kept brings are_left ready some
       closed = λ all p current there.
           closed_after s t gone l on takes lost a b p commit kept brings are_left ready.lasting all current (subst (λ n. gate_sector < n) (commit.stays.sectors (log_slice p)) there);
       quiet = λ c stand d u left.
-          let both = or_none (gone (place_of d)) (names lost (place_of d)) left in
+          let both = but_none (gone (place_of d)) (names takes (place_of d)) (names lost (place_of d)) left in
           quiet_after s t gone l on lost a b c d u commit ready someone stand both.1;
       brought = λ c p copy stand few there is.
           brought_after s t gone l on takes lost a b c p copy commit kept brings ready someone stand few there is;
     }
+
+-- where nobody who had gone takes a copy, those have gone after it that had, and those that went in it
+pub gone_none : (gone : ℕ → Bool) (takes lost : List ℕ) → ((p : ℕ) → names takes p ≡ true → gone p ≡ false) → gone_but gone takes lost ≡ gone_with gone lost
+gone_none gone takes lost none = λ i p. same (gone p) (names takes p) (names lost p) (none p) i
+  where
+    same : (g took went : Bool) → (took ≡ true → g ≡ false) → ((g && not took) || went) ≡ (g || went)
+    same false took went none = refl
+    same true false went none = refl
+    same true true went none = absurd (both_ways true (none refl) refl)
 
 -- so it is where no place joins
 pub kept_after : (s t : State) (gone : ℕ → Bool) (l : LogView) (on lost : List ℕ) (a b : Seen)
     → CommitCall l on lost a b → LogKept s l.number gone a → Brings s t l.added on → AreLeft s gone on
     → IsReady l on a → SomeoneDecides l.added on lost a
     → LogKept t (next_number l.number) (gone_with gone lost) b
-kept_after s t gone l on lost a b commit kept brings = joined_after s t gone l on on lost a b commit kept (brings_to s t l.number gone a l.added on brings)
+kept_after s t gone l on lost a b commit kept brings are_left ready someone =
+    subst (λ g. LogKept t (next_number l.number) g b) (gone_none gone on lost (λ p named. on_left s gone on p are_left named))
+    (joined_after s t gone l on on lost a b commit kept (brings_to s t l.number a l.added on brings) are_left ready someone)
 
 -- ---- calls that write nothing, and losses
 

@@ -37,6 +37,9 @@ pub mod LeftPlaces
 pub mod Fewer
 pub mod Epochs
 pub mod Replayable
+pub mod Retired
 pub mod RestKept
+pub mod Places
 pub mod Saying
+pub mod Replaced
 pub mod ReplaySays

@@ -2,20 +2,19 @@
 use Rattle.std.proofs.Common.{◌≡◌, ◌⊎◌, ℕ, ◌<◌, ◌≤◌, ◌==◌, ◌&&◌, ◌||◌, not, Bool, true, false, nat_lt, bytes_eq, List, [], Option, Some, None, Ok, refl, sym, ap, subst, ◌∙◌, inl, inr, arith, eq-eqb, lt-ltb, le-ltb}
 use Rattle.std.specs.Option.{option_map_or}
 use Rattle.std.specs.Result.{result_ok}
-use Rattle.std.proofs.lemmas.Bool.{and_from, and_parts, both_ways, cases_Bool, cases_lt, cond-true, ne_eqb, or_parts}
+use Rattle.std.proofs.lemmas.Bool.{and_from, and_parts, both_ways, cases_Bool, cases_lt, ne_eqb, or_parts}
 use Rattle.std.proofs.lemmas.Option.{none-some}
 use Rattle.std.proofs.lemmas.Slice.Eq.{bytes_eq-Decides}
 use Rattle.rack.specs.Values.{MayLeave}
-use Rattle.rack.specs.Joins.{leaves_weaker}
 use Rattle.rack.specs.Moments.{Leaves}
 use Rattle.rack.specs.Seen.{Image, IsLive, Seen}
-use Rattle.rack.specs.Targets.{Target, look, put}
+use Rattle.rack.specs.Targets.{Target, look}
 use Rattle.pool_state.specs.declared.contents.Copied.{Copied}
 use Rattle.pool_state.specs.declared.contents.State.{State}
 use Rattle.pool_state.specs.Sector.{decoded}
 use Rattle.array_image.specs.Left.{TargetsInside}
 use Rattle.array_image.specs.Places.{log_slice, place_of, slice_of}
-use Rattle.array_image.specs.Record.{Gate, GateAt, gate_in, gate_of, gate_sector, pending, pending_at}
+use Rattle.array_image.specs.Record.{gate_of, gate_sector, pending, pending_at}
 use Rattle.array_image.specs.States.{current_places, is_current, state_in}
 use Rattle.array_image.specs.Arrays.{replayed}
 use Rattle.array_image.proofs.Frames.{state_same}
@@ -219,21 +218,20 @@ module _ (t : State) (l : LogView) (a : Seen) (can : CanReplay l a) (says : (c :
         ap (λ ps. pending ps e) (sym places_e) ∙ at_e ∙ sym at_c ∙ ap (λ ps. pending ps c) places_c in
         record {
           later = brought.later;
-          same = brought.same;
+          pool = brought.pool;
           source = λ g at.
               let found = brought.source g (ats ∙ at) in
               (found.0, (found.1.0, ap (λ (xs : List Target). look xs (log_slice g.place) 0) (sym same) ∙ found.1.1));
-          joining = λ g p at former current.
-              let lower = brought.joining g p (ats ∙ at) former current in
+          joining = λ g p at joins.
+              let lower = brought.joining g p (ats ∙ at) joins in
               (lower.0, ap gate_of (gates p) ∙ lower.1, lower.2);
           copy =
               let has = brought.copy in (
                 has.0,
                 has.1,
-                has.2,
                 elim (each has.0) [
-                  | inl equal ↦ subst (IsCopyOf s has.0) (sym equal) has.3
-                  | inr new ↦ absurd (not_new brought.later is has.0 (small has.0 has.1) new)
+                  | inl equal ↦ subst (IsCopyOf s has.0) (sym equal) has.2
+                  | inr new ↦ absurd (not_new brought.later is has.0 (small has.0 has.1.was) new)
                 ],
               );
         }

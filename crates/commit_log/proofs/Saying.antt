@@ -1,7 +1,7 @@
 -- What log slices say at each moment of a commit and after it: the state from before it, or the new one.
-use Rattle.std.proofs.Common.{◌≡◌, ◌⊎◌, ℕ, ◌+◌, ◌-◌, ◌<◌, ◌≤◌, ◌^◌, ◌&&◌, Bool, true, false, not, nat_lt, List, [], Option, Some, None, Ok, option_map, refl, sym, ap, subst, ◌∙◌, inl, inr, lt-ltb, arith}
+use Rattle.std.proofs.Common.{◌≡◌, ◌≢◌, ◌⊎◌, ℕ, ◌+◌, ◌-◌, ◌<◌, ◌≤◌, ◌^◌, ◌&&◌, Bool, true, false, not, nat_lt, List, [], Option, Some, None, Ok, refl, sym, ap, subst, ◌∙◌, inl, inr, lt-ltb, arith}
 use Rattle.std.specs.Option.{option_map_or}
-use Rattle.std.proofs.lemmas.Bool.{both_ways, cases_Bool, cases_lt, cond-true}
+use Rattle.std.proofs.lemmas.Bool.{and_from, and_parts, both_ways, cases_Bool, cases_lt, cond-true}
 use Rattle.std.proofs.lemmas.Option.{none-some}
 use Rattle.rack.specs.Values.{MayLeave}
 use Rattle.rack.specs.Calls.{KeepsAll}
@@ -14,19 +14,20 @@ use Rattle.pool_state.specs.declared.contents.State.{State}
 use Rattle.pool_state.specs.Sector.{decoded}
 use Rattle.array_image.specs.Left.{TargetsInside}
 use Rattle.array_image.specs.Places.{log_slice}
-use Rattle.array_image.specs.Record.{Gate, GateAt, gate_of, gate_in, gate_sector, pending_at, pending}
+use Rattle.array_image.specs.Record.{Gate, GateAt, gate_in, gate_sector, pending_at, pending}
 use Rattle.array_image.specs.States.{state_in, is_current, current_places}
 use Rattle.array_image.specs.Arrays.{replayed}
 use Rattle.array_image.proofs.Frames.{state_same}
 use Rattle.commit_log.specs.View.{LogView, names, next_number}
-use Rattle.commit_log.specs.Standing.{IsInside, IsLogPart, LogsStand, StatesStand, deciding, IsWhole, IsReady, SomeoneDecides}
+use Rattle.commit_log.specs.Standing.{IsInside, LogsStand, StatesStand, deciding, IsWhole, IsReady, SomeoneDecides}
 use Rattle.commit_log.specs.Commits.{Stands, Commits, CommitCall, IsPendingNow, IsPendingYet, IsWritten, StandsMidway}
-use Rattle.commit_log.specs.Kept.{IsCopyOf, IsNoLater, LogKept, AreLeft, BringsTo}
-use Rattle.commit_log.specs.Saying.{AreOwnCopies, CopiesIn, HoldsCopies, IsBrought, KeepsDrives, SaysState}
+use Rattle.commit_log.specs.Kept.{IsCopyOf, IsNoLater, LogKept, AreLeft, BringsTo, MayJoin, id_of}
+use Rattle.commit_log.specs.Saying.{AreOwnCopies, CopiesIn, HoldsCopies, IsBrought, KeepsDrives, PlaceJoins, PlaceStays, SaysReplaced, SaysState}
 use Rattle.commit_log.proofs.Amid.{not_state, replayed_as, same_replayed}
 use Rattle.commit_log.proofs.Copies.{nothing_decodes, state_by_copies}
-use Rattle.commit_log.proofs.Kept.{NoneLater, brings_none, brings_to, copy_state, epoch_up, kept_idle, kept_state, later_yet, put_none, put_outside, put_some, stands_latest}
+use Rattle.commit_log.proofs.Kept.{NoneLater, brings_none, brings_to, copy_state, epoch_up, kept_idle, kept_replayed, kept_state, later_yet, put_none, put_outside, put_some, stands_latest}
 use Rattle.commit_log.proofs.KeptAfter.{logs_before, stands_before}
+use Rattle.commit_log.proofs.Places.{stays_apart}
 use Rattle.commit_log.proofs.Restored.{put_there}
 
 logs_of : {x : Seen} (c : Image) → Stands x c → LogsStand x c
@@ -51,7 +52,7 @@ copies_same s sectors c e same copies = record {
 -- ---- targets that are written
 
 module _ (s t : State) (number : ℕ) (gone : ℕ → Bool) (on takes : List ℕ) (xs : List Target) (x : Seen) (kept : LogKept s number gone x)
-    (brings : BringsTo s t number gone x xs on takes) (all : t ≡ s → (p : ℕ) → is_current s p ≡ true → gone p ≡ false) (c : Image) (stand : StatesStand xs x c) where
+    (brings : BringsTo s t number x xs on takes) (all : t ≡ s → (p : ℕ) → is_current s p ≡ true → gone p ≡ false) (c : Image) (stand : StatesStand xs x c) where
   abbrev e : Image
   e = put x.sectors xs c
 
@@ -101,7 +102,7 @@ module _ (s t : State) (number : ℕ) (gone : ℕ → Bool) (on takes : List ℕ
   others_now p copy few there is (is_new named new) = inr (copy_state t copy p (e (log_slice p) 0) new is)
   others_now p copy few there is (is_held none held) =
       let old = kept.copies.others p (e (log_slice p) 0) copy few there held is in
-      elim (epoch_up s t number gone x xs on takes brings) [
+      elim (epoch_up s t number x xs on takes brings) [
         | inl same ↦ subst (λ (u : State). IsNoLater u copy) (sym same) old
         | inr later ↦ later_yet s t copy later old
       ]
@@ -142,7 +143,7 @@ pub held_copies : (s : State) (number : ℕ) (gone : ℕ → Bool) (x : Seen) (c
 unfolding look
 held_copies s number gone x c kept all stand =
     copies_same s x.sectors c (put x.sectors [] c) (λ p. sym (put_none x.sectors [] c (log_slice p) 0 refl))
-    (put_copies s s number gone [] [] [] x kept (brings_to s s number gone x [] [] (brings_none s)) (λ same. all) c stand)
+    (put_copies s s number gone [] [] [] x kept (brings_to s s number x [] [] (brings_none s)) (λ same. all) c stand)
 
 -- where nobody has gone all copies are there, and nothing is pending
 pub kept_holds : (s : State) (number : ℕ) (x : Seen) → LogKept s number (λ p. false) x → HoldsCopies s x
@@ -221,10 +222,18 @@ midway_none l on a c d t mid none before = elim mid.pends [
   | inr (inr done) ↦ ap (λ (xs : List Target). look xs d t) done.0
 ]
 
-module _ (s t : State) (gone : ℕ → Bool) (l : LogView) (on takes : List ℕ) (a : Seen) (kept : LogKept s l.number gone a) (holds : HoldsCopies s a)
-    (brings : BringsTo s t l.number gone a l.added on takes) (own : AreOwnCopies t l.added) (drives : KeepsDrives s t) (all : t ≡ s → (p : ℕ) → is_current s p ≡ true → gone p ≡ false)
+module _ (s t : State) (gone : ℕ → Bool) (l : LogView) (on takes : List ℕ) (a : Seen) (kept : LogKept s l.number gone a)
+    (brings : BringsTo s t l.number a l.added on takes) (own : AreOwnCopies t l.added) (all : t ≡ s → (p : ℕ) → is_current s p ≡ true → gone p ≡ false)
     (are_left : AreLeft s gone on) (room : l.number < 2 ^ 63 - 1)
     (place : ℕ) (was : is_current s place ≡ true) (left : gone place ≡ false) (now : is_current t place ≡ true) where
+  -- places of the commit that stay current do so with their drives
+  on_stays : KeepsDrives s t on → (p : ℕ) → names on p ≡ true → is_current t p ≡ true → PlaceStays s t p
+  on_stays drives p named current =
+      record { was = (and_parts (is_current s p) (not (gone p)) (sym (are_left p) ∙ named)).0; now = current; drive = drives.ids p named }
+
+  here_on : names on place ≡ true
+  here_on = are_left place ∙ and_from (is_current s place) (not (gone place)) was (ap not left)
+
   few : place < 16
   few = kept.few place was
 
@@ -239,8 +248,8 @@ module _ (s t : State) (gone : ℕ → Bool) (l : LogView) (on takes : List ℕ)
   next_is = cond-true (nat_lt l.number (2 ^ 63 - 1)) (l.number + 1) l.number (lt-ltb l.number (2 ^ 63 - 1) room)
 
   -- what was pending is so yet
-  says_old : (c : Image) → IsPendingYet a c → IsWhole c → SaysState s a.sectors c
-  says_old c yet whole =
+  says_old : HoldsCopies s a → (c : Image) → IsPendingYet a c → IsWhole c → SaysState s a.sectors c
+  says_old holds c yet whole =
       let logs = logs_of yet.before yet.stands in
       let copies =
       copies_same s a.sectors (replayed a.sectors c) (replayed a.sectors yet.before) (λ p. same_replayed a c yet.before (log_slice p) 0 yet.same (yet.copies p))
@@ -262,15 +271,30 @@ module _ (s t : State) (gone : ℕ → Bool) (l : LogView) (on takes : List ℕ)
     copies_put = put_copies s t l.number gone on takes l.added a kept brings all c mid.states
 
     -- a place that joins had a gate of a lower number
+    gate_lower : (p : ℕ) → names on p ≡ false → MayJoin l.number a p → (h : Gate) × (gate_in c p ≡ Some h) × (h.number < next_number l.number)
+    gate_lower p other joins =
+        let gate = joins.numbered (c (log_slice p) gate_sector) (mid.gates p other (kept.logs p gate_sector joins.few joins.there)) in
+        let most = gate.2 in
+        let next = next_is in (gate.0, gate.1, omega (arith, most, next))
+
     joins_lower : (p : ℕ) → is_current s p ≡ false → is_current t p ≡ true → (h : Gate) × (gate_in c p ≡ Some h) × (h.number < next_number l.number)
     joins_lower p former current = elim (brings.current p current) [
       | inl before ↦ absurd (both_ways (is_current s p) former before)
-      | inr joins ↦
-          let other : names on p ≡ false = are_left p ∙ ap (λ b. b && not (gone p)) former in
-          let gate = joins.numbered (c (log_slice p) gate_sector) (mid.gates p other (kept.logs p gate_sector joins.few joins.there)) in
-          let most = gate.2 in
-          let next = next_is in (gate.0, gate.1, omega (arith, most, next))
+      | inr joins ↦ gate_lower p (are_left p ∙ ap (λ b. b && not (gone p)) former) joins
     ]
+
+    joining_lower : KeepsDrives s t on → s.epoch < t.epoch → (p : ℕ) → PlaceJoins s t p
+        → (h : Gate) × (gate_in c p ≡ Some h) × (h.number < next_number l.number)
+    joining_lower drives up p joins = elim (cases_Bool (names on p)) [
+      | inl named ↦ absurd (stays_apart s t p (on_stays drives p named joins.now) joins)
+      | inr other ↦ gate_lower p other (brings.joins p taken other)
+    ]
+      where
+        taken : names takes p ≡ true
+        taken = elim brings.either [
+          | inl same ↦ absurd (let e = ap (λ (u : State). u.epoch) same.0 in omega (arith, e, up))
+          | inr later ↦ later.1 p joins.now
+        ]
 
     -- where no place has a later copy, the place has the one that it had
     stood_copy : s.epoch < t.epoch → NoneLater s c → IsCopyOf s place (c (log_slice place) 0)
@@ -283,46 +307,126 @@ module _ (s t : State) (gone : ℕ → Bool) (l : LogView) (on takes : List ℕ)
         not_new (inl less) = omega (arith, later, less)
         not_new (inr same) = let epoch = ap (λ (u : State). u.epoch) same in omega (arith, later, epoch)
 
-    -- the record brings the new state
-    brought : IsPendingNow l on c → state_in c ≡ Some s → NoneLater s c → (t ≡ s) ⊎ IsBrought s t c
-    brought pends state latest =
-        let places : deciding c ≡ current_places s = ap (λ o. option_map_or current_places o []) state in
-        let at : (g : GateAt) → pending_at (current_places s) c ≡ Some g → (names on g.place ≡ true) × (g.gate.number ≡ next_number l.number) =
-        λ g is. pends.source g (ap (λ ps. pending_at ps c) places ∙ is) in
-        elim brings.either [
-          | inl same ↦ inl same.0
-          | inr later ↦ inr (record {
-            later = later.0;
-            same = drives;
-            source = λ g is.
-                let named = brings.more g.place (at g is).0 in
+    -- the record that is pending
+    module _ (pends : IsPendingNow l on c) where
+      source_at : state_in c ≡ Some s → (g : GateAt) → pending_at (current_places s) c ≡ Some g → (names on g.place ≡ true) × (g.gate.number ≡ next_number l.number)
+      source_at state g is = pends.source g (ap (λ o. pending_at (option_map_or current_places o []) c) state ∙ is)
+
+      source_has : state_in c ≡ Some s → s.epoch < t.epoch → (g : GateAt) → pending_at (current_places s) c ≡ Some g
+          → (is_current t g.place ≡ true) × ((u : List ℕ) × (look (pending (current_places s) c) (log_slice g.place) 0 ≡ Some u))
+      source_has state up g is =
+          let named = brings.more g.place (source_at state g is).0 in
+          elim brings.either [
+            | inl same ↦ absurd (let e = ap (λ (u : State). u.epoch) same.0 in omega (arith, e, up))
+            | inr later ↦
                 let new = later.2 g.place named in (
                   brings.left g.place named,
                   (
                     new.0,
-                    ap (λ ps. look (pending ps c) (log_slice g.place) 0) (sym places)
+                    ap (λ o. look (pending (option_map_or current_places o []) c) (log_slice g.place) 0) (sym state)
                         ∙ ap (λ (xs : List Target). look xs (log_slice g.place) 0) pends.all
                         ∙ new.1,
                   ),
-                );
-            joining = λ g p is former current.
-                let lower = joins_lower p former current in (lower.0, lower.1, subst (λ n. lower.0.number < n) (sym (at g is).1) lower.2);
-            copy = (place, was, now, stood_copy later.0 latest);
-          })
-        ]
+                )
+          ]
 
-    says_new : IsPendingNow l on c → IsWhole c → AreInside l.added → SaysState t a.sectors c
-    says_new pends whole fits =
-        let copies = copies_same t a.sectors (replayed a.sectors c) (put a.sectors l.added c) (λ p. replayed_as a c l.added (log_slice p) 0 pends.all) copies_put in
-        let state = says_by t a.sectors (replayed a.sectors c) place copies few now there in
-        let brings_own : AreOwnCopies t (pending (deciding c) c) = λ p u is. own p u (ap (λ (xs : List Target). look xs (log_slice p) 0) (sym pends.all) ∙ is) in
-        let inside : TargetsInside a.sectors c = λ d u v is. fits d u v (ap (λ (xs : List Target). look xs d u) (sym pends.all) ∙ is) in
-        elim (stands_latest s t l.number gone on takes l.added a c place kept.logs kept.copies brings mid.states few there was left) [
-          | inl old ↦
-              record { whole = whole; is_state = state; copies = copies; stood = s; stood_is = old.0; latest = old.1; next = brought pends old.0 old.1; brings = brings_own; inside = inside }
-          | inr new ↦
-              record { whole = whole; is_state = state; copies = copies; stood = t; stood_is = new.0; latest = new.1; next = inl refl; brings = brings_own; inside = inside }
-        ]
+      source_lower : state_in c ≡ Some s → (g : GateAt) → pending_at (current_places s) c ≡ Some g → (p : ℕ)
+          → (h : Gate) × (gate_in c p ≡ Some h) × (h.number < next_number l.number) → (h : Gate) × (gate_in c p ≡ Some h) × (h.number < g.gate.number)
+      source_lower state g is p lower = (lower.0, lower.1, subst (λ n. lower.0.number < n) (sym (source_at state g is).1) lower.2)
+
+      copies_new : CopiesIn t a.sectors (replayed a.sectors c)
+      copies_new = copies_same t a.sectors (replayed a.sectors c) (put a.sectors l.added c) (λ p. replayed_as a c l.added (log_slice p) 0 pends.all) copies_put
+
+      state_new : state_in (replayed a.sectors c) ≡ Some t
+      state_new = says_by t a.sectors (replayed a.sectors c) place copies_new few now there
+
+      own_new : AreOwnCopies t (pending (deciding c) c)
+      own_new p u is = own p u (ap (λ (xs : List Target). look xs (log_slice p) 0) (sym pends.all) ∙ is)
+
+      inside_new : AreInside l.added → TargetsInside a.sectors c
+      inside_new fits d u v is = fits d u v (ap (λ (xs : List Target). look xs d u) (sym pends.all) ∙ is)
+
+      -- it stands as it was yet, or says the new state already
+      stood_new : ((state_in c ≡ Some s) × NoneLater s c) ⊎ ((state_in c ≡ Some t) × NoneLater t c)
+      stood_new = stands_latest s t l.number gone on takes l.added a c place kept.logs kept.copies brings mid.states few there was left
+
+      says_stood : IsWhole c → AreInside l.added → state_in c ≡ Some t → NoneLater t c → SaysState t a.sectors c
+      says_stood whole fits stood latest =
+          record {
+            whole = whole;
+            is_state = state_new;
+            copies = copies_new;
+            stood = t;
+            stood_is = stood;
+            latest = latest;
+            next = inl refl;
+            brings = own_new;
+            inside = inside_new fits;
+          }
+
+      -- the record brings the new state
+      brought : KeepsDrives s t on → state_in c ≡ Some s → NoneLater s c → (t ≡ s) ⊎ IsBrought s t c
+      brought drives state latest =
+          elim brings.either [
+            | inl same ↦ inl same.0
+            | inr later ↦ inr (record {
+              later = later.0;
+              pool = drives.pool;
+              source = λ g is.
+                  let has = source_has state later.0 g is in
+                  (on_stays drives g.place (source_at state g is).0 has.0, has.1);
+              joining = λ g p is joins. source_lower state g is p (joining_lower drives later.0 p joins);
+              copy = (place, on_stays drives place here_on now, stood_copy later.0 latest);
+            })
+          ]
+
+      says_new : KeepsDrives s t on → IsWhole c → AreInside l.added → SaysState t a.sectors c
+      says_new drives whole fits =
+          elim stood_new [
+            | inr new ↦ says_stood whole fits new.0 new.1
+            | inl old ↦
+                record {
+                  whole = whole;
+                  is_state = state_new;
+                  copies = copies_new;
+                  stood = s;
+                  stood_is = old.0;
+                  latest = old.1;
+                  next = brought drives old.0 old.1;
+                  brings = own_new;
+                  inside = inside_new fits;
+                }
+          ]
+
+      -- and it gives a place another drive, which joins
+      says_replaced : (q : ℕ) → place ≢ q → names on q ≡ false → MayJoin l.number a q → s.epoch < t.epoch → t.pool ≡ s.pool
+          → ((p : ℕ) → p ≢ q → is_current s p ≡ true → is_current t p ≡ true → id_of t p ≡ id_of s p)
+          → IsWhole c → AreInside l.added → SaysState t a.sectors c ⊎ SaysReplaced q s t a.sectors c
+      says_replaced q away other joins up pool ids whole fits =
+          elim stood_new [
+            | inr new ↦ inl (says_stood whole fits new.0 new.1)
+            | inl old ↦
+                inr (record {
+                  whole = whole;
+                  is_state = state_new;
+                  copies = copies_new;
+                  stood_is = old.0;
+                  latest = old.1;
+                  next = record {
+                    later = up;
+                    pool = pool;
+                    ids = ids;
+                    source = λ g is.
+                        let has = source_has old.0 up g is in
+                        (λ same. both_ways (names on q) other (subst (λ p. names on p ≡ true) same (source_at old.0 g is).0), has.0, has.1);
+                    gate = λ g is. source_lower old.0 g is q (gate_lower q other joins);
+                    joining = λ g p is former current. source_lower old.0 g is p (joins_lower p former current);
+                    copy = (place, away, was, now, stood_copy up old.1);
+                  };
+                  brings = own_new;
+                  inside = inside_new fits;
+                })
+          ]
 
     -- nothing is pending, and all is written
     says_done : pending (deciding c) c ≡ [] → IsWritten l.added c → IsWhole c → SaysState t a.sectors c
@@ -345,22 +449,47 @@ module _ (s t : State) (gone : ℕ → Bool) (l : LogView) (on takes : List ℕ)
           inside = λ d u v is. absurd (no_look d u v (ap (λ (xs : List Target). look xs d u) (sym none) ∙ is));
         }
 
-    pub midway_says : Commits l.added a c → AreInside l.added → SaysState s a.sectors c ⊎ SaysState t a.sectors c
-    midway_says commits fits =
+    pub midway_says : HoldsCopies s a → KeepsDrives s t on → Commits l.added a c → AreInside l.added → SaysState s a.sectors c ⊎ SaysState t a.sectors c
+    midway_says holds drives commits fits =
         let whole = commits.whole (kept.whole commits.before commits.stands) in
         elim mid.pends [
-          | inl yet ↦ inl (says_old c yet whole)
-          | inr (inl pends) ↦ inr (says_new pends whole fits)
+          | inl yet ↦ inl (says_old holds c yet whole)
+          | inr (inl pends) ↦ inr (says_new pends drives whole fits)
           | inr (inr done) ↦ inr (says_done done.0 done.1 whole)
         ]
 
+    -- Where they have the state from before it once replayed, what was pending is so yet.
+    pub midway_yet : s.epoch < t.epoch → IsWhole c → state_in (replayed a.sectors c) ≡ Some s → IsPendingYet a c
+    midway_yet up whole old = elim mid.pends [
+      | inl yet ↦ yet
+      | inr (inl pends) ↦ absurd (not_new (state_new pends))
+      | inr (inr done) ↦ absurd (not_new (says_done done.0 done.1 whole).is_state)
+    ]
+      where
+        not_new : state_in (replayed a.sectors c) ≡ Some t → ⊥
+        not_new new = let same : s.epoch ≡ t.epoch = ap (λ o. option_map_or (λ (u : State). u.epoch) o 0) (sym old ∙ new) in omega (arith, same, up)
+
+    -- Where the commit gives a place another drive: replayed, they have the state from before it, or they say the new one.
+    pub midway_replaced : (q : ℕ) → place ≢ q → names on q ≡ false → MayJoin l.number a q → s.epoch < t.epoch → t.pool ≡ s.pool
+        → ((p : ℕ) → p ≢ q → is_current s p ≡ true → is_current t p ≡ true → id_of t p ≡ id_of s p) → Commits l.added a c → AreInside l.added
+        → (state_in (replayed a.sectors c) ≡ Some s) ⊎ (SaysState t a.sectors c ⊎ SaysReplaced q s t a.sectors c)
+    midway_replaced q away other joins up pool ids commits fits =
+        let whole = commits.whole (kept.whole commits.before commits.stands) in
+        elim mid.pends [
+          | inl yet ↦
+              inl (state_same (replayed a.sectors c) (replayed a.sectors yet.before) (λ p. same_replayed a c yet.before (log_slice p) 0 yet.same (yet.copies p))
+              ∙ kept_replayed s l.number gone a yet.before place kept yet.stands was left)
+          | inr (inl pends) ↦ inr (says_replaced pends q away other joins up pool ids whole fits)
+          | inr (inr done) ↦ inr (inl (says_done done.0 done.1 whole))
+        ]
+
   -- At each moment of a commit the log slices say the state from before it or the new one.
-  pub commit_says : (lost : List ℕ) (b : Seen) → CommitCall l on lost a b → IsReady l on a → SomeoneDecides l.added on lost a → a.traced
+  pub commit_says : HoldsCopies s a → KeepsDrives s t on → (lost : List ℕ) (b : Seen) → CommitCall l on lost a b → IsReady l on a → SomeoneDecides l.added on lost a → a.traced
       → Leaves a b (λ c. IsInside a.sectors c → SaysState s a.sectors c ⊎ SaysState t a.sectors c)
-  commit_says lost b commit ready someone traced =
+  commit_says holds drives lost b commit ready someone traced =
       leaves_weaker (λ c. IsInside a.sectors c → Commits l.added a c × StandsMidway l on a c)
       (λ c. IsInside a.sectors c → SaysState s a.sectors c ⊎ SaysState t a.sectors c)
-      (λ c found inside. let both = found inside in midway_says c both.1 both.0 (λ d u v is. (ready.targets d u v is).sector))
+      (λ c found inside. let both = found inside in midway_says c both.1 holds drives both.0 (λ d u v is. (ready.targets d u v is).sector))
       (commit_moments l on lost a b commit traced ready someone)
 
   -- And after it they hold the copies of the new one.

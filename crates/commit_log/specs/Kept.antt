@@ -77,6 +77,10 @@ AreLeft s gone on = (p : ℕ) → names on p ≡ (is_current s p && not (gone p)
 abbrev pub gone_with : (gone : ℕ → Bool) → (lost : List ℕ) → ℕ → Bool
 gone_with gone lost p = gone p || names lost p
 
+-- Where places may take a copy that aren't of the commit: those have gone after it that had gone and take none, and those that went in it.
+abbrev pub gone_but : (gone : ℕ → Bool) → (takes lost : List ℕ) → ℕ → Bool
+gone_but gone takes lost p = (gone p && not (names takes p)) || names lost p
+
 -- The targets have no copy of a state, or on each place of the commit its copy of a later state, by which no place is current that
 -- wasn't.
 pub record Brings (s t : State) (xs : List Target) (on : List ℕ) : Type 0 where
@@ -90,22 +94,24 @@ pub record Brings (s t : State) (xs : List Target) (on : List ℕ) : Type 0 wher
       × ((p : ℕ) → names on p ≡ true → (u : List ℕ) × (look xs (log_slice p) 0 ≡ Some u) × IsCopyOf t p u)
       × ((p : ℕ) → names on p ≡ false → look xs (log_slice p) 0 ≡ None))
 
--- A place that is to join: it is left, and has a log slice with a closed gate of no greater number than the log's.
-pub record MayJoin (number : ℕ) (gone : ℕ → Bool) (x : Seen) (p : ℕ) : Type 0 where
+-- A place that is to join: it has a log slice with a closed gate of no greater number than the log's. It may have been current, and have
+-- gone: then its log slice is that of another drive.
+pub record MayJoin (number : ℕ) (x : Seen) (p : ℕ) : Type 0 where
   pub few : p < 16
-  pub left : gone p ≡ false
   pub there : gate_sector < x.sectors (log_slice p)
   pub numbered : IsNumbered number x p
   pub closed : HasClosedGate x p
 
 -- The same, where places may join: `takes` are the places of the commit and those that do. Each of them gets its copy.
-pub record BringsTo (s t : State) (number : ℕ) (gone : ℕ → Bool) (x : Seen) (xs : List Target) (on takes : List ℕ) : Type 0 where
-  pub current : (p : ℕ) → is_current t p ≡ true → (is_current s p ≡ true) ⊎ MayJoin number gone x p
+pub record BringsTo (s t : State) (number : ℕ) (x : Seen) (xs : List Target) (on takes : List ℕ) : Type 0 where
+  pub current : (p : ℕ) → is_current t p ≡ true → (is_current s p ≡ true) ⊎ MayJoin number x p
+  -- whoever takes a copy and isn't of the commit joins
+  pub joins : (p : ℕ) → names takes p ≡ true → names on p ≡ false → MayJoin number x p
   pub left : (p : ℕ) → names takes p ≡ true → is_current t p ≡ true
   pub more : (p : ℕ) → names on p ≡ true → names takes p ≡ true
   pub inside : (p : ℕ) → list_any (λ x. place_of x.disk == p) xs ≡ true → names takes p ≡ true
   pub either :
-      ((t ≡ s) × ((p : ℕ) → look xs (log_slice p) 0 ≡ None))
+      ((t ≡ s) × ((p : ℕ) → look xs (log_slice p) 0 ≡ None) × ((p : ℕ) → names takes p ≡ true → names on p ≡ true))
       ⊎ ((s.epoch < t.epoch) × ((p : ℕ) → is_current t p ≡ true → names takes p ≡ true)
       × ((p : ℕ) → names takes p ≡ true → (u : List ℕ) × (look xs (log_slice p) 0 ≡ Some u) × IsCopyOf t p u)
       × ((p : ℕ) → names takes p ≡ false → look xs (log_slice p) 0 ≡ None))

@@ -1,9 +1,8 @@
 -- What contents of log slices say, as they stand and once the pending record is replayed.
-use Rattle.std.specs.Prelude.{◌≡◌, ◌⊎◌, ℕ, ◌<◌, true, false, List, Ok, Some, option_map, slice_get}
+use Rattle.std.specs.Prelude.{◌≡◌, ◌≢◌, ◌⊎◌, ℕ, ◌<◌, true, false, List, Ok, Some}
 use Rattle.rack.specs.Seen.{Image, Seen}
 use Rattle.rack.specs.Targets.{Target, look}
 use Rattle.pool_state.specs.declared.contents.Copied.{Copied}
-use Rattle.pool_state.specs.declared.contents.Drive.{Drive}
 use Rattle.pool_state.specs.declared.contents.State.{State}
 use Rattle.pool_state.specs.Sector.{decoded}
 use Rattle.array_image.specs.Left.{TargetsInside}
@@ -13,7 +12,8 @@ use Rattle.array_image.specs.States.{state_in, is_current, current_places}
 use Rattle.array_image.specs.Arrays.{replayed}
 use Rattle.commit_log.specs.Standing.{LogsStand, deciding, IsWhole}
 use Rattle.commit_log.specs.Commits.{Stands}
-use Rattle.commit_log.specs.Kept.{IsCopyOf, IsNoLater}
+use Rattle.commit_log.specs.Kept.{IsCopyOf, IsNoLater, id_of}
+use Rattle.commit_log.specs.View.{names}
 
 -- The copies of a state in contents of slices of so many sectors: each current place that has a log slice has its copy of this state,
 -- no place has a later one or another one of its epoch, and one that isn't current has an earlier one at most.
@@ -23,26 +23,34 @@ pub record CopiesIn (s : State) (sectors : ℕ → ℕ) (c : Image) : Type 0 whe
   pub earlier :
       (p : ℕ) (copy : Copied) → p < 16 → is_current s p ≡ false → decoded (c (log_slice p) 0) ≡ Ok copy → copy.state.epoch < s.epoch
 
--- states of one pool, by both of which a place that is current by both has the same drive
-pub record KeepsDrives (s t : State) : Type 0 where
-  pub pool : t.pool ≡ s.pool
-  pub ids :
-      (p : ℕ) → is_current s p ≡ true → is_current t p ≡ true
-      → option_map (λ (d : Drive). d.id.0) (slice_get t.drives.items p) ≡ option_map (λ (d : Drive). d.id.0) (slice_get s.drives.items p)
+-- A place stays from a state to the next one: it is current by both, with the same drive.
+pub record PlaceStays (s t : State) (p : ℕ) : Type 0 where
+  pub was : is_current s p ≡ true
+  pub now : is_current t p ≡ true
+  pub drive : id_of t p ≡ id_of s p
 
--- The record that is pending in contents of the state s brings a later state of the same pool: it is read from a place that is current by
--- that as well and has a copy for it, and each place that joins has a gate of a lower number. One place that is current by both has its copy of s
--- yet.
+-- A place joins: it is current by the next state, and wasn't so by the one before, or had another drive.
+pub record PlaceJoins (s t : State) (p : ℕ) : Type 0 where
+  pub now : is_current t p ≡ true
+  pub new : (is_current s p ≡ false) ⊎ (id_of t p ≢ id_of s p)
+
+-- states of one pool, by both of which each of these places has the same drive
+pub record KeepsDrives (s t : State) (on : List ℕ) : Type 0 where
+  pub pool : t.pool ≡ s.pool
+  pub ids : (p : ℕ) → names on p ≡ true → id_of t p ≡ id_of s p
+
+-- The record that is pending in contents of the state s brings a later state of the same pool: it is read from a place that stays and has a copy
+-- for it, and each place that joins has a gate of a lower number. One place that stays has its copy of s yet.
 pub record IsBrought (s t : State) (c : Image) : Type 0 where
   pub later : s.epoch < t.epoch
-  pub same : KeepsDrives s t
+  pub pool : t.pool ≡ s.pool
   pub source :
       (g : GateAt) → pending_at (current_places s) c ≡ Some g
-      → (is_current t g.place ≡ true) × ((u : List ℕ) × (look (pending (current_places s) c) (log_slice g.place) 0 ≡ Some u))
+      → PlaceStays s t g.place × ((u : List ℕ) × (look (pending (current_places s) c) (log_slice g.place) 0 ≡ Some u))
   pub joining :
-      (g : GateAt) (p : ℕ) → pending_at (current_places s) c ≡ Some g → is_current s p ≡ false → is_current t p ≡ true
+      (g : GateAt) (p : ℕ) → pending_at (current_places s) c ≡ Some g → PlaceJoins s t p
       → (h : Gate) × (gate_in c p ≡ Some h) × (h.number < g.gate.number)
-  pub copy : (p : ℕ) × (is_current s p ≡ true) × (is_current t p ≡ true) × IsCopyOf s p (c (log_slice p) 0)
+  pub copy : (p : ℕ) × PlaceStays s t p × IsCopyOf s p (c (log_slice p) 0)
 
 -- targets have copies of this state alone, each its place's own
 abbrev pub AreOwnCopies : State → List Target → Type 0
@@ -58,6 +66,33 @@ pub record SaysState (t : State) (sectors : ℕ → ℕ) (c : Image) : Type 0 wh
   pub stood_is : state_in c ≡ Some stood
   pub latest : (p : ℕ) (copy : Copied) → p < 16 → decoded (c (log_slice p) 0) ≡ Ok copy → IsNoLater stood copy
   pub next : (t ≡ stood) ⊎ IsBrought stood t c
+  pub brings : AreOwnCopies t (pending (deciding c) c)
+  pub inside : TargetsInside sectors c
+
+-- The record that is pending in contents of the state s brings a later state of the same pool, which gives a place another drive though it was current: all
+-- other places that are current by both keep theirs. The record isn't read from the place, whose gate has a lower number, as has that of each place that joins.
+-- One of the others has its copy of s yet.
+pub record IsReplaced (place : ℕ) (s t : State) (c : Image) : Type 0 where
+  pub later : s.epoch < t.epoch
+  pub pool : t.pool ≡ s.pool
+  pub ids : (p : ℕ) → p ≢ place → is_current s p ≡ true → is_current t p ≡ true → id_of t p ≡ id_of s p
+  pub source :
+      (g : GateAt) → pending_at (current_places s) c ≡ Some g
+      → (g.place ≢ place) × (is_current t g.place ≡ true) × ((u : List ℕ) × (look (pending (current_places s) c) (log_slice g.place) 0 ≡ Some u))
+  pub gate : (g : GateAt) → pending_at (current_places s) c ≡ Some g → (h : Gate) × (gate_in c place ≡ Some h) × (h.number < g.gate.number)
+  pub joining :
+      (g : GateAt) (p : ℕ) → pending_at (current_places s) c ≡ Some g → is_current s p ≡ false → is_current t p ≡ true
+      → (h : Gate) × (gate_in c p ≡ Some h) × (h.number < g.gate.number)
+  pub copy : (p : ℕ) × (p ≢ place) × (is_current s p ≡ true) × (is_current t p ≡ true) × IsCopyOf s p (c (log_slice p) 0)
+
+-- Contents in which such a record is pending: as they stand they say the state s, and t once it is replayed.
+pub record SaysReplaced (place : ℕ) (s t : State) (sectors : ℕ → ℕ) (c : Image) : Type 0 where
+  pub whole : IsWhole c
+  pub is_state : state_in (replayed sectors c) ≡ Some t
+  pub copies : CopiesIn t sectors (replayed sectors c)
+  pub stood_is : state_in c ≡ Some s
+  pub latest : (p : ℕ) (copy : Copied) → p < 16 → decoded (c (log_slice p) 0) ≡ Ok copy → IsNoLater s copy
+  pub next : IsReplaced place s t c
   pub brings : AreOwnCopies t (pending (deciding c) c)
   pub inside : TargetsInside sectors c
 

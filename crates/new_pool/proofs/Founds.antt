@@ -138,7 +138,7 @@ module _ (plan : NewPool) (birth : Birth) (disks : Disks) (c : Image) (is : IsNe
       next = inl same_state;
       pool = ap (λ (t : State). t.pool) same_state;
       copies = λ p u at. absurd (none-some u (sym (no_target p) ∙ at));
-      seats = λ p here there. ap (λ (t : State). seat_of t disks ids p) same_state;
+      seats = λ p stays. ap (λ (t : State). seat_of t disks ids p) same_state;
       joining = λ a p d at. absurd (none-some a (sym none_pending ∙ at));
     };
   }

@@ -25,7 +25,7 @@ use Rattle.pool.specs.declared.replacing.GrowFault.{GrowFault}
 use Rattle.pool.specs.declared.replacing.GrowFault.TheVariants.{PlanPending, NotWhole, NotResynced, Unbuilt, TooManySegments}
 use Rattle.pool.specs.Moment.{views_of}
 use Rattle.pool.specs.Replaced.{is_vacant}
-use Rattle.pool.specs.Replacing.{fault_of, first_cause, has_other_missing, has_resync, has_same, has_units, is_planned, lacks_segments, refusal_of, standing_refusals}
+use Rattle.pool.specs.Replacing.{IsAdmitted, fault_of, first_cause, has_other_missing, has_resync, has_same, has_units, is_planned, lacks_segments, refusal_of, standing_refusals}
 use Rattle.pool.specs.Works.{arrays_now}
 
 -- ---- where none applies
@@ -34,14 +34,12 @@ cause_none : (fault : GrowFault) (cause : Bool) (rest : List (GrowFault × Bool)
 cause_none fault true rest is = absurd (let bad : Some fault ≡ None = is in cc bad)
 cause_none fault false rest is = (refl, is)
 
-standing_none : (a b c d e : Bool)
-    → first_cause ((PlanPending, a) ∷ (NotWhole, b) ∷ (Unbuilt, c) ∷ (NotResynced, d) ∷ (Unbuilt, e) ∷ []) ≡ None → (b ≡ false) × (c ≡ false) × (e ≡ false)
-standing_none a b c d e is =
-    let one = cause_none PlanPending a ((NotWhole, b) ∷ (Unbuilt, c) ∷ (NotResynced, d) ∷ (Unbuilt, e) ∷ []) is in
-    let two = cause_none NotWhole b ((Unbuilt, c) ∷ (NotResynced, d) ∷ (Unbuilt, e) ∷ []) one.1 in
-    let three = cause_none Unbuilt c ((NotResynced, d) ∷ (Unbuilt, e) ∷ []) two.1 in
-    let four = cause_none NotResynced d ((Unbuilt, e) ∷ []) three.1 in
-    (two.0, three.0, (cause_none Unbuilt e [] four.1).0)
+standing_none : (a b d e : Bool) → first_cause ((PlanPending, a) ∷ (NotWhole, b) ∷ (NotResynced, d) ∷ (Unbuilt, e) ∷ []) ≡ None → (b ≡ false) × (e ≡ false)
+standing_none a b d e is =
+    let one = cause_none PlanPending a ((NotWhole, b) ∷ (NotResynced, d) ∷ (Unbuilt, e) ∷ []) is in
+    let two = cause_none NotWhole b ((NotResynced, d) ∷ (Unbuilt, e) ∷ []) one.1 in
+    let three = cause_none NotResynced d ((Unbuilt, e) ∷ []) two.1 in
+    (two.0, (cause_none Unbuilt e [] three.1).0)
 
 plan_none : (fault : AdmitFault) (cause : Bool) (rest : List (AdmitFault × Bool)) → first_refusal ((fault, cause) ∷ rest) ≡ None → (cause ≡ false) × (first_refusal rest ≡ None)
 plan_none fault true rest is = absurd (let bad : Some fault ≡ None = is in cc bad)
@@ -65,13 +63,6 @@ not_false : (b : Bool) → not b ≡ false → b ≡ true
 not_false true is = refl
 not_false false is = sym is
 
-pub record IsAdmitted (v : Raid) (place sectors : ℕ) : Type 0 where
-  pub whole : has_other_missing v.state place ≡ false
-  pub missing : is_current v.state place ≡ false
-  pub units : has_units v.state place (units_of sectors v.state.extent) ≡ true
-  pub reaches : reaches_all (views_of v) place sectors ≡ true
-  pub serial : is_serial_end v.state ≡ false
-
 pub admitted : (l : Linear) (v : Raid) (place sectors : ℕ) → refusal_of l v place sectors ≡ None → IsAdmitted v place sectors
 admitted l v place sectors is =
     let units = units_of sectors v.state.extent in
@@ -79,11 +70,10 @@ admitted l v place sectors is =
     let room = then_some (lacks_segments l v place) TooManySegments in
     let first = or_none (first_cause (standing_refusals v place sectors)) (option_or plan room) is in
     let second = or_none plan room first.1 in
-    let standing = standing_none (is_planned v.state.plan) (has_other_missing v.state place) (is_current v.state place) (has_resync (arrays_now v)) (not (has_same v place sectors)) first.0 in
-    let both = and_parts (has_units v.state place units) (reaches_all (views_of v) place sectors) (not_false (has_same v place sectors) standing.2) in
+    let standing = standing_none (is_planned v.state.plan) (has_other_missing v.state place) (has_resync (arrays_now v)) (not (has_same v place sectors)) first.0 in
+    let both = and_parts (has_units v.state place units) (reaches_all (views_of v) place sectors) (not_false (has_same v place sectors) standing.1) in
     record {
       whole = standing.0;
-      missing = standing.1;
       units = both.0;
       reaches = both.1;
       serial =
@@ -113,13 +103,13 @@ take_nil : (n : ℕ) → take {A = Drive} n [] ≡ []
 take_nil zero = refl
 take_nil (suc n) = refl
 
-taken_at : (xs : List Drive) (n k : ℕ) → k < n → slice_get (take n xs) k ≡ slice_get xs k
+pub taken_at : (xs : List Drive) (n k : ℕ) → k < n → slice_get (take n xs) k ≡ slice_get xs k
 taken_at [] n k low = ap (λ (ys : List Drive). slice_get ys k) (take_nil n)
 taken_at (x ∷ xs) zero k low = absurd (omega (arith, low))
 taken_at (x ∷ xs) (suc n) zero low = refl
 taken_at (x ∷ xs) (suc n) (suc k) low = taken_at xs n k (omega (arith, low))
 
-dropped_at : (xs : List Drive) (n k : ℕ) → slice_get (drop n xs) k ≡ slice_get xs (n + k)
+pub dropped_at : (xs : List Drive) (n k : ℕ) → slice_get (drop n xs) k ≡ slice_get xs (n + k)
 dropped_at xs zero k = let same : zero + k ≡ k = omega arith in ap (slice_get xs) (sym same)
 dropped_at [] (suc n) k = refl
 dropped_at (x ∷ xs) (suc n) k =

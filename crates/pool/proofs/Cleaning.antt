@@ -29,8 +29,12 @@ use Rattle.pool.specs.declared.Pool.{Pool}
 use Rattle.pool.specs.View.{View, arrays_of, book, slices_shown, view, volume}
 use Rattle.pool.specs.Keeping.{most_raised}
 use Rattle.pool.specs.Calls.{Ends, LeavesItsRows}
+use Rattle.pool.specs.Entering.{Cleaned}
 use Rattle.raid_rack.proofs.Raises.{raises_more}
+use Rattle.pool.specs.Taking.{Carries}
 use Rattle.pool.proofs.Booked.{book_lost}
+use Rattle.pool.proofs.Carrying.{carries_kept}
+use Rattle.pool.proofs.Held.{held_moves}
 use Rattle.pool.proofs.Doing.{does_flush}
 use Rattle.pool.proofs.Reached.{reached_keeps, reached_stays, with_arrays}
 use Rattle.pool.proofs.Serving.{KeepNames, Laws, is_call}
@@ -66,9 +70,9 @@ none_fails x y same quiet place fault =
 rows_left : (x y : View) → y.slices ≡ x.slices → LeavesRowsOf (book x) (book y) (slices_shown x) (slices_shown y) → LeavesItsRows x y
 rows_left x y same images quiet = images (none_fails x y same quiet)
 
-pub end_done : {R : Type 0} (seen : R → Seen) (shelf : R → Shelf) (runs : R → R → Type 0) (laws : Laws seen) (names : KeepNames shelf runs) (p : Pool R) (raid : RaidRack R) → (volume (view seen shelf p)).fit
-    → IsCleaned seen runs (arrays_of p) raid → Ends (view seen shelf p) (view seen shelf (with_arrays p raid))
-end_done seen shelf runs laws names p raid fit cleaned =
+pub clean_done : {R : Type 0} (seen : R → Seen) (shelf : R → Shelf) (runs : R → R → Type 0) (laws : Laws seen) (names : KeepNames shelf runs) (p : Pool R) (raid : RaidRack R) → (volume (view seen shelf p)).fit
+    → IsCleaned seen runs (arrays_of p) raid → Cleaned (view seen shelf p) (view seen shelf (with_arrays p raid)) × Carries (view seen shelf p) (view seen shelf (with_arrays p raid))
+clean_done seen shelf runs laws names p raid fit cleaned =
     let x = view seen shelf p in
     let q = with_arrays p raid in
     let y = view seen shelf q in
@@ -79,7 +83,7 @@ end_done seen shelf runs laws names p raid fit cleaned =
     let call = is_call seen shelf runs laws names 1 p q fit stays refl cleaned.ran moves.book (record { left = moves.left; cause = moves.cause }) keeps cleaned.truths cleaned.moments
     (only_quiet (IsShown l) cleaned.keeps.stays cleaned.keeps.keeps)
     (raises_more 288 most_raised (book x) (book y) (omega arith) cleaned.raises) in
-    record {
+    let ends : Ends x y = record {
       passes = call.passes;
       raises = call.raises;
       marks = call.marks;
@@ -95,4 +99,8 @@ end_done seen shelf runs laws names p raid fit cleaned =
           truth_agrees (book y) (slices_shown y) n stays.fit.0.running.set stays.fit.0.heeded now told goes (cleaned.truths n low held) r left
           (cleans_settled (λ k. nat_lt k (book x).state.made) (book x) (book y) (slices_shown x) (slices_shown y) n cleaned.cleans (none_fails x y cleaned.ran.tables quiet) low
           (lt-ltb n (book x).state.made low));
-    }
+    } in (
+      record { ends = ends; raises = cleaned.raises; plan = moves.plan; arrays = moves.arrays },
+      carries_kept x y stays (reached_keeps seen shelf p raid fit cleaned.keeps) moves.book.same.made (λ names all. cleaned.truths)
+          (λ names all. held_moves x y.bay y.slices y.arrays fit stays.fit.0 moves),
+    )

@@ -1,6 +1,6 @@
 -- A replacing, by what its parts say.
 use Rattle.std.specs.Prelude.{Ok, Err, IfErr, OnOk}
-use Rattle.std.proofs.Common.{◌≡◌, ◌⊎◌, ℕ, ◌<◌, ◌≤◌, if◌then◌else◌, false, List, length, slice_get, Some, refl, sym, ap, subst, ◌∙◌, inl, inr, arith, lt-ltb, le-ltb}
+use Rattle.std.proofs.Common.{◌≡◌, ◌⊎◌, ℕ, ◌<◌, ◌≤◌, if◌then◌else◌, true, false, List, length, slice_get, Some, refl, sym, ap, subst, ◌∙◌, inl, inr, arith, lt-ltb, le-ltb}
 use Rattle.std.proofs.lemmas.Bool.{both_ways, cases_lt}
 use Rattle.rack.specs.Joins.{keeps_same}
 use Rattle.rack.specs.Values.{Keeps, MayLeave, Values}
@@ -18,19 +18,22 @@ use Rattle.pool.specs.declared.replacing.GrowFault.{GrowFault}
 use Rattle.pool.specs.declared.replacing.GrowFault.TheVariants.{NoSuchDrive, Attach, Twice, Memory, Gone, NotWhole}
 use Rattle.pool.specs.Continuing.{KeepsDisk, NoDisk}
 use Rattle.pool.specs.Moment.{IsImage, IsNamed, moment_of}
-use Rattle.pool.specs.Replaced.{DriveWentSince, HasMarked, HasTable, IsAnswer, IsDeclined, IsLaidOn, IsLookedAt, IsOfDrive, IsReplaced, LeavesNew, MeansWith, MeansWithout, faults_before}
+use Rattle.pool.specs.Replaced.{DriveWentSince, HasMarkedOther, HasTable, IsAnswer, IsDeclined, IsLaidOn, IsLookedAt, IsOfDrive, IsReplaced, LeavesNew, MeansFormer, MeansWith, faults_before}
 use Rattle.pool.specs.Naming.{EntersDrive, EntersNamed, ReplacesDrive}
 use Rattle.pool.specs.Replacing.{refusal_of}
-use Rattle.pool.specs.Entering.{EntersBy, LeavesBy}
+use Rattle.pool.specs.Entering.{Declines, Enters}
 use Rattle.pool.specs.Taking.{AreTold, AttachesDisk, ReplacesBy}
 use Rattle.array_image.specs.Places.{log_slice}
 use Rattle.slice_rack.specs.Runs.{IsSliced}
-use Rattle.slice_rack.specs.Slices.{disk_of, seat_of}
+use Rattle.slice_rack.specs.Slices.{IsOrderly, disk_of, seat_of}
 use Rattle.pool.specs.View.{View, book, volume}
 use Rattle.pool.specs.Volume.{Holds}
 use Rattle.pool.proofs.Booked.{book_same, raises_still}
 use Rattle.pool.proofs.Carrying.{carries_same, carries_then, ends_of, holds_of}
 use Rattle.pool.proofs.Continuing.{continues_same, continues_then, outside_fewer, outside_then}
+use Rattle.pool.proofs.Enlisted.{book_but}
+use Rattle.pool.proofs.Taken.{low_disk}
+use Rattle.raid_rack.proofs.Whole.{heeded_left}
 use Rattle.pool.proofs.Later.{later}
 use Rattle.pool.proofs.Late.{Answer, IsLate, answer_late, refusal_late, same_fault, same_of}
 
@@ -52,7 +55,8 @@ declined_none x y place fault same slices clock held = record {
   arrays = subst (λ (v : Raid). KeepsArrays (book x) v) (sym same) (arrays_same (book x));
   cause = λ k was now. absurd (both_ways (is_current (book x).state k) (subst (λ (v : Raid). is_current v.state k ≡ false) same now) was);
   slices = inl slices;
-  unmarked = λ is. same;
+  unmarked = λ is missing. same;
+  others = λ is k away was. subst (λ (v : Raid). is_current v.state k ≡ true) (sym same) was;
   quiet = λ other none. (same, slices, clock, held);
 }
 
@@ -61,7 +65,8 @@ pub replaced_unlisted : (x : View) (place : ℕ) (name : List ℕ) → (volume x
 replaced_unlisted x place name fit sound past = record {
   continues = continues_same x fit;
   raises = raises_still 1 x;
-  keeps = book_same (book x);
+  keeps = book_but place (book x) (book x) (book_same (book x));
+  kept = book_same (book x);
   outside = record {
     slices = λ d s v is. inl is;
     held = λ d s out. keeps_same (x.bay.held d s);
@@ -96,13 +101,14 @@ nothing_done x place disk e fit is = record {
   continues = continues_same x fit;
   carries = carries_same x;
   raises = raises_still 1 x;
-  keeps = book_same (book x);
+  keeps = book_but place (book x) (book x) (book_same (book x));
+  kept = book_same (book x);
   outside = record {
     slices = λ d s v is. inl is;
     held = λ d s out. keeps_same (x.bay.held d s);
     stops = λ told traced k i since until stopped. absurd (omega (arith, since, until));
   };
-  retired = λ d seat other. still_disk x.shelf.told x.bay x.bay d (λ k. refl) refl;
+  retired = λ missing d seat other. still_disk x.shelf.told x.bay x.bay d (λ k. refl) refl;
   laid = λ low all k v within unsliced left. inl left;
   names = refl;
   bare = λ d seat other. inl refl;
@@ -122,7 +128,7 @@ nothing_done x place disk e fit is = record {
 
 -- ---- a disk is attached, or none
 
-module _ (x : View) (bay : x.bays.one) (place : ℕ) (name : List ℕ) (listed : place < length (book x).state.drives.items) (fit : (volume x).fit) where
+module _ (x : View) (bay : x.bays.one) (place : ℕ) (name : List ℕ) (listed : place < length (book x).state.drives.items) (fit : (volume x).fit) (ordered : IsOrderly x.slices) where
   abbrev b : Seen
   b = x.bays.seen bay
 
@@ -137,12 +143,13 @@ module _ (x : View) (bay : x.bays.one) (place : ℕ) (name : List ℕ) (listed :
   replaced_unattached e at sound = record {
     continues = at.continues;
     raises = raises_still 1 x;
-    keeps = book_same (book x);
+    keeps = book_but place (book x) (book x) (book_same (book x));
+    kept = book_same (book x);
     outside = outside_fewer x.slices x.slices NoDisk (IsNamed (moment_of m) name) x.shelf.told x.bay b (λ d none. absurd none) at.outside;
     changes = λ low. record {
       names = at.names;
       bare = λ d seat unnamed. inl refl;
-      retired = λ d seat unnamed. still_disk x.shelf.told x.bay b d (at.held d (fit.0.running.set.fit.1.seats place d seat)) at.clock;
+      retired = λ missing d seat unnamed. still_disk x.shelf.told x.bay b d (at.held d (fit.0.running.set.fit.1.seats place d seat)) at.clock;
       admitted = inl refl;
       current = λ of. at.outside;
       image = λ told all d named.
@@ -226,6 +233,7 @@ module _ (x : View) (bay : x.bays.one) (place : ℕ) (name : List ℕ) (listed :
           continues = go;
           raises = by.raises;
           keeps = by.keeps;
+          kept = by.kept;
           outside = outside_fewer x.slices y.slices (λ d. NoDisk d ⊎ (d ≡ disk)) (IsNamed (moment_of y) name) x.shelf.told x.bay y.bay (λ d is. named_at y here d is)
               (outside_then x m y NoDisk (λ d. d ≡ disk) at.continues by.continues at.outside by.outside);
           changes = λ low. record {
@@ -238,8 +246,8 @@ module _ (x : View) (bay : x.bays.one) (place : ℕ) (name : List ℕ) (listed :
               old = λ d low named. at.names.old d low (named_before y by d named);
               others = λ d n is. at.names.others d n (ap (λ names. slice_get names d) (sym by.names) ∙ is);
             };
-            retired = λ d seat unnamed.
-                let keeps = by.retired d seat (λ is. unnamed (named_at y here d (inr is))) in
+            retired = λ missing d seat unnamed.
+                let keeps = by.retired missing d seat (λ is. unnamed (named_at y here d (inr is))) in
                 let old = fit.0.running.set.fit.1.seats place d seat in
                 let size_d : b.sectors d ≡ x.bay.sectors d = at.continues.sectors d old in
                 record {
@@ -275,8 +283,8 @@ module _ (x : View) (bay : x.bays.one) (place : ℕ) (name : List ℕ) (listed :
                 subst (λ e. Rose (faults_before (moment_of x) e) (y.bay.faults e)) (sym (only y by d named))
                 (subst (λ n. Rose n (y.bay.faults disk)) (at.faults disk at.ok.1) (by.gone same));
             not_whole = λ same d named.
-                subst (λ e. (refusal_of x.linear (book x) place (y.bay.sectors e) ≡ Some NotWhole) ⊎ HasMarked (moment_of x) (moment_of y)) (sym (only y by d named))
-                (subst (λ n. (refusal_of x.linear (book x) place n ≡ Some NotWhole) ⊎ HasMarked (moment_of x) (moment_of y)) (sym size) (by.not_whole same));
+                subst (λ e. (refusal_of x.linear (book x) place (y.bay.sectors e) ≡ Some NotWhole) ⊎ HasMarkedOther (moment_of x) (moment_of y) place) (sym (only y by d named))
+                (subst (λ n. (refusal_of x.linear (book x) place n ≡ Some NotWhole) ⊎ HasMarkedOther (moment_of x) (moment_of y) place) (sym size) (by.not_whole same));
           };
           declined = declined_since y r by.declined;
           replaced = replaced_since y r (only y by) by.replaced;
@@ -341,9 +349,15 @@ module _ (x : View) (bay : x.bays.one) (place : ℕ) (name : List ℕ) (listed :
           marks = declined.marks;
           plan = declined.plan;
           arrays = declined.arrays;
-          cause = λ k was now. went_since y k (declined.cause k was now);
+          cause = λ k was now.
+              let d = disk_of x.slices (log_slice k) in
+              subst (λ n. Rose n (y.bay.faults d))
+              (at.faults d (let low = low_disk (book x) x.slices x.bay k ordered fit.0.running.set (heeded_left (book x) k fit.0.heeded was) in let more = at.continues.disks in omega (arith, low, more))
+              ∙ ap (λ t. if t then x.bay.faults d else 0) (lt-ltb d x.bay.disks (low_disk (book x) x.slices x.bay k ordered fit.0.running.set (heeded_left (book x) k fit.0.heeded was))))
+              (declined.cause k was now);
           slices = declined.slices;
           unmarked = declined.unmarked;
+          others = declined.others;
           quiet = λ other none.
               let still = declined.quiet other none in
               (still.0, still.1, still.2 ∙ at.clock, λ d low s. still.3 d (let more = at.continues.disks in omega (arith, low, more)) s ∙ at.held d low s);
@@ -359,7 +373,6 @@ module _ (x : View) (bay : x.bays.one) (place : ℕ) (name : List ℕ) (listed :
               units = replaced.units;
               units_is = replaced.units_is;
               enough = replaced.enough;
-              missing = replaced.missing;
               marks = replaced.marks;
               plan = replaced.plan;
               cause = λ k was now. went_since y k (replaced.cause k was now);
@@ -367,8 +380,8 @@ module _ (x : View) (bay : x.bays.one) (place : ℕ) (name : List ℕ) (listed :
               arrays = replaced.arrays;
             })
 
-        steps_since : (y : View) (r : Answer) → ((d : ℕ) → IsNamed (moment_of y) name d → d ≡ disk) → IsNamed (moment_of y) name disk → OnOk r (EntersBy m y place disk)
-            → IfErr r (λ e. (y.bay.clock ≡ b.clock) ⊎ LeavesBy m y place disk) → EntersDrive x y place name r
+        steps_since : (y : View) (r : Answer) → ((d : ℕ) → IsNamed (moment_of y) name d → d ≡ disk) → IsNamed (moment_of y) name disk → OnOk r (Enters m y place disk)
+            → IfErr r (λ e. (y.bay.clock ≡ b.clock) ⊎ Declines m y place disk) → EntersDrive x y place name r
         steps_since y (Err e) same here enters left = record {
           enters = tt;
           left = elim left [
@@ -393,11 +406,11 @@ module _ (x : View) (bay : x.bays.one) (place : ℕ) (name : List ℕ) (listed :
             })
 
         moments_since : (y : View) (r : Answer) → ((d : ℕ) → IsNamed (moment_of y) name d → d ≡ disk)
-            → OnOk r (b.traced → (a : FlatArray) → Holds m a → LeavesNew m y (λ i. MeansWithout m y place a i ⊎ MeansWith m y place disk a i))
-            → OnOk r ((d : ℕ) → IsNamed (moment_of y) name d → x.bay.traced → (a : FlatArray) → Holds x a → LeavesNew x y (λ i. MeansWithout x y place a i ⊎ MeansWith x y place d a i))
+            → OnOk r (b.traced → (a : FlatArray) → Holds m a → LeavesNew m y (λ i. MeansFormer m y place a i ⊎ MeansWith m y place disk a i))
+            → OnOk r ((d : ℕ) → IsNamed (moment_of y) name d → x.bay.traced → (a : FlatArray) → Holds x a → LeavesNew x y (λ i. MeansFormer x y place a i ⊎ MeansWith x y place d a i))
         moments_since y (Err e) same moments = tt
         moments_since y (Ok u) same moments =
             λ d named traced a holds k i since until stopped.
-            subst (λ e. MeansWithout x y place a i ⊎ MeansWith x y place e a i) (sym (same d named))
+            subst (λ e. MeansFormer x y place a i ⊎ MeansWith x y place e a i) (sym (same d named))
             (moments (at.continues.traced holds.shelf traced) a (holds_of x m at.continues at.carries a holds) k i
             (let clock = at.clock in omega (arith, since, clock)) until stopped)

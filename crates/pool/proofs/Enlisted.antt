@@ -24,8 +24,10 @@ use Rattle.raid_rack.specs.Raid.{Raid}
 use Rattle.raid_rack.proofs.Added.{names_current}
 use Rattle.array_core.specs.Slots.{place_by}
 use Rattle.raid_rack.proofs.Seated.{zip_seats}
-use Rattle.pool.specs.Keeping.{KeepsArray, KeepsBook}
-use Rattle.pool.proofs.Booked.{array_lost, array_same, array_then, geometry_same, same_place}
+use Rattle.pool.specs.Keeping.{KeepsArray, KeepsArrayBut, KeepsBook, KeepsBookBut}
+use Rattle.commit_log.proofs.Deciding.{names_first}
+use Rattle.pool.proofs.Booked.{array_lost, array_same, geometry_same, same_place}
+use Rattle.raid_rack.specs.Losing.{geometry_then}
 use Rattle.pool.proofs.Quiet.{is_missing}
 
 -- ---- a member
@@ -57,44 +59,79 @@ other_seat : (o : Option Seat) (b : Bool) → b ≡ false → option_map (λ sea
 other_seat None b is = refl
 other_seat (Some seat) b is = ap (λ t. Some (if t then Rebuilding 0 else seat)) is
 
--- an array whose member of the place is renewed counts as far as it did
-array_renewed : (s t : State) (n place : ℕ) (drive : Id) (u : ArrayView) (x : Seen) → IsSeated s n u x → is_current s place ≡ false → KeepsArray t u (renewed place drive u)
-array_renewed s t n place drive u x seated missing = record {
+-- an array whose member of the place is renewed counts as far as it did, but for that member
+array_renewed : (t : State) (place : ℕ) (drive : Id) (u : ArrayView) → IsArray u → KeepsArrayBut place t u (renewed place drive u)
+array_renewed t place drive u is_array = record {
   geometry = geometry_same u;
   young = refl;
   rows = omega arith;
-  members = λ k low current.
+  members = λ k low current away.
       elim (cases_Bool (names (place ∷ []) (place_at u k))) [
-        | inl own ↦
-            let gone = subst (λ p. is_current s p ≡ false) (sym (named_one place (place_at u k) own)) missing in
-            let none = reach_of u k (Some Missing) (missing_seat s n k u x seated low gone) in
-            omega (arith, none)
+        | inl own ↦ absurd (away (named_one place (place_at u k) own))
         | inr other ↦
-            let same = renewed_seat u place k drive seated.is_array ∙ other_seat (slice_get u.seats k) (names (place ∷ []) (place_at u k)) other in
+            let same = renewed_seat u place k drive is_array ∙ other_seat (slice_get u.seats k) (names (place ∷ []) (place_at u k)) other in
             let e : (member_on (renewed place drive u) k).reach ≡ (member_on u k).reach = ap (λ seat. option_map_or (seat_reach u.truth.size) seat 0) same in
             omega (arith, e)
       ];
 }
 
+-- a book that keeps all members keeps all others
+pub array_but : (place : ℕ) (t : State) (u w : ArrayView) → KeepsArray t u w → KeepsArrayBut place t u w
+array_but place t u w keeps = record { geometry = keeps.geometry; young = keeps.young; rows = keeps.rows; members = λ k low current away. keeps.members k low current }
+
+pub book_but : (place : ℕ) (v w : Raid) → KeepsBook v w → KeepsBookBut place v w
+book_but place v w keeps n low = array_but place w.state (v.arrays n) (w.arrays n) (keeps n low)
+
+but_then : (place : ℕ) (t : State) (u v w : ArrayView) → KeepsArrayBut place t u v → KeepsArray t v w → KeepsArrayBut place t u w
+but_then place t u v w one two = record {
+  geometry = geometry_then u.truth v.truth w.truth one.geometry two.geometry;
+  young = two.young ∙ one.young;
+  rows = let a = one.rows in let b = two.rows in omega (arith, a, b);
+  members = λ k low current away.
+      let same = same_place v w k two.geometry in
+      let a = one.members k low (subst (λ p. is_current t p ≡ true) same current) (λ here. away (same ∙ here)) in
+      let b = two.members k (subst (λ n. k < n) (sym one.geometry.disks) low) current in
+      omega (arith, a, b);
+}
+
+-- calls before that kept them
+then_but : (place : ℕ) (s t : State) (u v w : ArrayView) → ((p : ℕ) → is_current t p ≡ true → p ≢ place → is_current s p ≡ true) → KeepsArray s u v → KeepsArrayBut place t v w
+    → KeepsArrayBut place t u w
+then_but place s t u v w fewer one two = record {
+  geometry = geometry_then u.truth v.truth w.truth one.geometry two.geometry;
+  young = two.young ∙ one.young;
+  rows = let a = one.rows in let b = two.rows in omega (arith, a, b);
+  members = λ k low current away.
+      let same = same_place v w k two.geometry in
+      let a = one.members k low (subst (λ p. is_current s p ≡ true) same (fewer (place_at w k) current away)) in
+      let b = two.members k (subst (λ n. k < n) (sym one.geometry.disks) low) current away in
+      omega (arith, a, b);
+}
+
+pub book_then_but : (place : ℕ) (v w z : Raid) → w.state.made ≡ v.state.made → ((p : ℕ) → is_current z.state p ≡ true → p ≢ place → is_current w.state p ≡ true) → KeepsBook v w → KeepsBookBut place w z
+    → KeepsBookBut place v z
+book_then_but place v w z made fewer one two n low =
+    then_but place w.state z.state (v.arrays n) (w.arrays n) (z.arrays n) fewer (one n low) (two n (subst (λ k. n < k) (sym made) low))
+
 -- ---- all arrays
 
 module _ (place units : ℕ) (plan : Plan) (joining : ℕ → Bool) (v w : Raid) (x y : Seen) (before : IsSet v x) (after : IsSet w y) (heeded : IsHeeded w)
-    (missing : is_current v.state place ≡ false) (made : w.state.made ≡ v.state.made) (keeps : KeepsArrays (with_drive place units plan joining v) w) where
+    (made : w.state.made ≡ v.state.made) (keeps : KeepsArrays (with_drive place units plan joining v) w) where
   abbrev mid : ℕ → ArrayView
   mid = (with_drive place units plan joining v).arrays
 
   low_then : (n : ℕ) → n < v.state.made → n < w.state.made
   low_then n low = subst (λ k. n < k) (sym made) low
 
-  -- each keeps its members
-  pub book_enlisted : KeepsBook v w
+  -- each keeps its members, but for that of the place
+  pub book_enlisted : KeepsBookBut place v w
   book_enlisted n low =
-      array_then w.state w.state (v.arrays n) (mid n) (w.arrays n) (λ p is. is) (first (joining n))
+      but_then place w.state (v.arrays n) (mid n) (w.arrays n) (first (joining n))
       (array_lost w.state n (mid n) (w.arrays n) y (after.arrays n (low_then n low)) (heeded n (low_then n low)) (keeps n low))
     where
-      first : (b : Bool) → KeepsArray w.state (v.arrays n) (if b then renewed place (next_drive v.state) (v.arrays n) else v.arrays n)
-      first true = array_renewed v.state w.state n place (next_drive v.state) (v.arrays n) x (before.arrays n low) missing
-      first false = array_same w.state (v.arrays n)
+      first : (b : Bool) → KeepsArrayBut place w.state (v.arrays n) (if b then renewed place (next_drive v.state) (v.arrays n) else v.arrays n)
+      first true = array_renewed w.state place (next_drive v.state) (v.arrays n) (before.arrays n low).is_array
+      first false = array_but place w.state (v.arrays n) (v.arrays n) (array_same w.state (v.arrays n))
 
   -- ---- no other drive is left
 
@@ -112,30 +149,23 @@ module _ (place units : ℕ) (plan : Plan) (joining : ℕ → Bool) (v w : Raid)
       or_true true = refl
       or_true false = refl
 
-  module _ (alone : has_other w.state place ≡ false) (n : ℕ) (low : n < v.state.made) where
+  module _ (reaches : (n k : ℕ) → n < v.state.made → k < (v.arrays n).truth.raid_disks → place_at (v.arrays n) k ≡ place → joining n ≡ true)
+      (alone : has_other w.state place ≡ false) (n : ℕ) (low : n < v.state.made) where
     -- the member of the place has rebuilt nothing
     own_reach : (k : ℕ) → k < (v.arrays n).truth.raid_disks → place_at (v.arrays n) k ≡ place → (member_on (w.arrays n) k).reach ≡ 0
     own_reach k inside is =
         elim ((keeps n low).seats k) [
-          | inl same ↦ started (joining n) (slice_get (w.arrays n).seats k) refl same
+          | inl same ↦
+              none_of (slice_get (w.arrays n).seats k) (slice_get (v.arrays n).seats k)
+              (same ∙ ap (λ b. slice_get (if b then renewed place (next_drive v.state) (v.arrays n) else v.arrays n).seats k) (reaches n k low inside is)
+              ∙ renewed_seat (v.arrays n) place k (next_drive v.state) (before.arrays n low).is_array
+              ∙ ap (λ b. option_map (λ seat. if b then Rebuilding 0 else seat) (slice_get (v.arrays n).seats k)) (ap (names (place ∷ [])) is ∙ names_first place []))
           | inr lost ↦ reach_of (w.arrays n) k (Some Missing) lost
         ]
       where
-        was : slice_get (v.arrays n).seats k ≡ Some Missing
-        was = missing_seat v.state n k (v.arrays n) x (before.arrays n low) inside (subst (λ p. is_current v.state p ≡ false) (sym is) missing)
-
-        none_of : (o : Option Seat) (b : Bool) → o ≡ Some (if b then Rebuilding 0 else Missing) → option_map_or (seat_reach (w.arrays n).truth.size) o 0 ≡ 0
-        none_of o true seat = ap (λ q. option_map_or (seat_reach (w.arrays n).truth.size) q 0) seat
-        none_of o false seat = ap (λ q. option_map_or (seat_reach (w.arrays n).truth.size) q 0) seat
-
-        started : (b : Bool) (o : Option Seat) → slice_get (w.arrays n).seats k ≡ o
-            → slice_get (w.arrays n).seats k ≡ slice_get (if b then renewed place (next_drive v.state) (v.arrays n) else v.arrays n).seats k
-            → (member_on (w.arrays n) k).reach ≡ 0
-        started true o at same =
-            none_of (slice_get (w.arrays n).seats k) (names (place ∷ []) (place_at (v.arrays n) k))
-            (same ∙ renewed_seat (v.arrays n) place k (next_drive v.state) (before.arrays n low).is_array
-            ∙ ap (option_map (λ seat. if names (place ∷ []) (place_at (v.arrays n) k) then Rebuilding 0 else seat)) was)
-        started false o at same = reach_of (w.arrays n) k (Some Missing) (same ∙ was)
+        none_of : (o p : Option Seat) → o ≡ option_map (λ seat. Rebuilding 0) p → option_map_or (seat_reach (w.arrays n).truth.size) o 0 ≡ 0
+        none_of o None is = ap (λ q. option_map_or (seat_reach (w.arrays n).truth.size) q 0) is
+        none_of o (Some seat) is = ap (λ q. option_map_or (seat_reach (w.arrays n).truth.size) q 0) is
 
     same_truth : place_at (w.arrays n) ≡ place_at (v.arrays n)
     same_truth i k = (same_place (mid n) (w.arrays n) k (keeps n low).same.geometry ∙ middle (joining n) k) i

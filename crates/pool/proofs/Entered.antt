@@ -1,12 +1,11 @@
 -- A disk that is taken in.
 use Rattle.std.specs.Prelude.{Ok, Err, Result}
-use Rattle.std.proofs.Common.{◌≡◌, ◌⊎◌, ℕ, ◌+◌, ◌<◌, ◌≤◌, ◌||◌, Bool, true, false, List, Option, Some, None, if◌then◌else◌, length, slice_get, option_map, refl, sym, ap, subst, ◌∙◌, inl, inr, arith, lt-ltb, eq-eqb, unwrap_or}
+use Rattle.std.proofs.Common.{◌≡◌, ◌≢◌, ◌⊎◌, ℕ, ◌+◌, ◌<◌, ◌≤◌, ◌||◌, Bool, true, false, List, Option, Some, None, if◌then◌else◌, length, slice_get, option_map, refl, sym, ap, subst, ◌∙◌, inl, inr, arith, lt-ltb, eq-eqb, unwrap_or}
 use Rattle.std.proofs.lemmas.Bool.{both_ways, cases_Bool, cases_eq, cases_lt, ne_eqb}
 use Rattle.rack.specs.Values.{Keeps, MayLeave}
 use Rattle.rack.specs.Seen.{Image, IsLive, Rose, Seen}
 use Rattle.rack.specs.Shelf.{KeepsShelf, Shelf}
 use Rattle.flat_array.specs.Array.{FlatArray}
-use Rattle.slice_rack.specs.Changes.{Seats}
 use Rattle.slice_rack.specs.Runs.{IsSliced}
 use Rattle.slice_rack.specs.Slices.{IsOrderly, Slices, disk_of, place_of, seat_of, sectors_of}
 use Rattle.slice_rack.specs.Sliced.{sliced, slices_of}
@@ -17,7 +16,7 @@ use Rattle.array_model.specs.Says.{Says}
 use Rattle.gpt_table.specs.declared.Table.{Table}
 use Rattle.gpt_table.specs.Disk.{HoldsCopy, now_on}
 use Rattle.gpt_table.specs.Plans.{IsOfTable}
-use Rattle.array_model.specs.View.{View as ArrayView, spent_in}
+use Rattle.array_model.specs.View.{View as ArrayView, place_at, spent_in}
 use Rattle.commit_log.proofs.Kept.{place_of_log}
 use Rattle.lvm_group.specs.Laws.{array_below, shows}
 use Rattle.lvm_group.specs.Runs.{IsOrderly as IsOrderlyVolume, array_of, sector_of}
@@ -26,7 +25,10 @@ use Rattle.pool_state.specs.declared.contents.State.{State}
 use Rattle.array_core.specs.Seats.{renewed}
 use Rattle.shr_base.specs.declared.Id.{Id}
 use Rattle.raid_rack.specs.declared.arrays.Arrays.{Arrays}
-use Rattle.raid_rack.specs.Enlisting.{Enlists, HoldsTable, IsWrittenBy, KeepsTold, enlisted, new_table, next_drive, with_drive}
+use Rattle.raid_rack.specs.Enlisting.{Enlists, HoldsTable, IsWrittenBy, KeepsTold, SaysReplacing, enlisted, new_table, next_drive, with_drive}
+use Rattle.raid_rack.specs.Marking.{SaysBetween}
+use Rattle.raid_rack.proofs.Apart.{seat_is}
+use Rattle.pool.proofs.Readying.{member_joins}
 use Rattle.raid_rack.specs.Moves.{KeepsArrays}
 use Rattle.raid_rack.specs.Laws.{live_parts, says_value}
 use Rattle.raid_rack.specs.Losses.{has_other}
@@ -34,28 +36,31 @@ use Rattle.raid_rack.specs.NewDrive.{SeatsDrive, drive_table, joins}
 use Rattle.raid_rack.specs.Raid.{held_in, is_left, is_over, live_of, raid_of, spent_of}
 use Rattle.raid_rack.specs.RaidRack.{IsFit, raid_by}
 use Rattle.raid_rack.proofs.Ended.{none_past}
-use Rattle.raid_rack.proofs.Over.{or_from}
-use Rattle.raid_rack.proofs.Raises.{raises_more}
+use Rattle.raid_rack.proofs.Committed.{raised_more, raised_range}
+use Rattle.raid_rack.proofs.Over.{number_room, or_from}
+use Rattle.raid_rack.specs.Missing.{raised}
+use Rattle.std.specs.Option.{option_map_or}
 use Rattle.raid_rack.proofs.Enlisted.{current_enlisted}
 use Rattle.raid_rack.proofs.Whole.{heeded_left}
 use Rattle.shr_base.specs.Units.{units_of}
 use Rattle.pool.specs.declared.replacing.GrowFault.{GrowFault}
 use Rattle.pool.specs.declared.replacing.GrowFault.TheVariants.{Gone, NotWhole}
-use Rattle.pool.specs.Keeping.{most_raised}
+use Rattle.pool.specs.Continuing.{KeepsDisk}
+use Rattle.pool.specs.Entering.{IsVacating}
 use Rattle.pool.specs.Moment.{views_of}
-use Rattle.pool.specs.Replaced.{IsAnswer, MeansWith, MeansWithout, table_for}
-use Rattle.pool.specs.Replacing.{refusal_of}
-use Rattle.pool.specs.Taking.{AreTold, Carries, ReplacesBy}
+use Rattle.pool.specs.Replaced.{MeansBy, MeansFormer, MeansWith, table_for}
+use Rattle.pool.specs.Replacing.{IsAdmitted}
+use Rattle.pool.specs.Taking.{AreTold, Carries, TakesBy}
 use Rattle.pool.specs.View.{View, book, contents_in, volume}
 use Rattle.pool.specs.Volume.{Holds, is_spent, size_of}
-use Rattle.pool.proofs.Admitted.{IsAdmitted, admitted, reaches_each, same_units}
+use Rattle.pool.proofs.Admitted.{reaches_each, same_units}
 use Rattle.pool.proofs.Attaching.{IsBay}
 use Rattle.pool.proofs.Carrying.{carries_then, holds_of}
 use Rattle.pool.proofs.Enlisted.{all_spent, book_enlisted}
 use Rattle.pool.proofs.Keeping.{not_left, went}
 use Rattle.pool.proofs.Later.{inside_later, later}
 use Rattle.pool.proofs.Shown.{views_are}
-use Rattle.pool.proofs.Taken.{bare_by, goes_on, laid_by, low_disk, mid_carries, mid_fit, mid_goes, outside_of_it, retired_by, vacates}
+use Rattle.pool.proofs.Taken.{goes_on, laid_by, low_disk, mid_carries, mid_fit, mid_goes, outside_of_it, retired_by, vacates}
 
 -- the sectors of a table lie on its disk
 of_table : (sectors k : ℕ) → 10273 ≤ sectors → IsOfTable sectors k → k < sectors
@@ -71,9 +76,9 @@ renewed_went true place drive a = refl
 renewed_went false place drive a = refl
 
 module _ (x : View) (b : Seen) (s : Shelf) (place disk units : ℕ) (t u : Slices) (z : Arrays) (linear : IsOrderlyVolume x.linear) (fit : (volume x).fit)
-    (missing : is_current (book x).state place ≡ false) (vacated : Seats x.slices t place None) (empty : IsFit x.arrays (slices_of t x.bay))
+    (kind : IsVacating x place t) (empty : IsFit x.arrays (slices_of t x.bay))
     (was : IsBay x.bay x.shelf) (now : IsBay b s) (names : KeepsShelf x.shelf s) (ordered : IsOrderly x.slices) (orderly : IsOrderly t) (orderly_now : IsOrderly u)
-    (admits : refusal_of x.linear (book x) place (x.bay.sectors disk) ≡ None) (low : disk < x.bay.disks) (listed : place < length x.arrays.state.drives.items)
+    (admits : IsAdmitted (book x) place (x.bay.sectors disk)) (low : disk < x.bay.disks) (listed : place < length x.arrays.state.drives.items)
     (seats : SeatsDrive x.arrays.all.items place disk (x.bay.sectors disk) t u)
     (enlists : Enlists t u x.arrays.all.items place disk units (Replace place) (book x) (raid_by z) x.bay b) (after : IsFit z (slices_of u b)) where
   abbrev mid : View
@@ -89,10 +94,19 @@ module _ (x : View) (b : Seen) (s : Shelf) (place disk units : ℕ) (t u : Slice
   fit_now = (after, inside_later x b s u z fit made enlists.is.sectors)
 
   low_mid : (volume mid).fit
-  low_mid = mid_fit x b s place disk t linear fit missing vacated empty now names ordered orderly admits
+  low_mid = mid_fit x b s place disk t linear fit kind empty now names ordered orderly admits
 
   opened : AreTold x → (k : ℕ) → k < x.bay.sectors disk → IsLive x.bay x.bay disk k
   opened all k within = record { disk = low; sector = within; is_told = all disk low; unspent = was.unspent disk k }
+
+  list_is : views_of (book x) ≡ x.arrays.all.items
+  list_is = views_are x.arrays fit.0.running.count
+
+  -- the disk reaches each array that the place is a member of
+  joined : (n k : ℕ) → n < x.arrays.state.made → k < ((book x).arrays n).truth.raid_disks → place_at ((book x).arrays n) k ≡ place → joins x.arrays.all.items place (x.bay.sectors disk) n ≡ true
+  joined n k below inside is =
+      subst (λ vs. joins vs place (x.bay.sectors disk) n ≡ true) list_is
+      (member_joins (book x) place (x.bay.sectors disk) admits (λ m low. (fit.0.running.set.arrays m low).is_array) n k below inside is)
 
   -- a sector that isn't spent is of an array of the pool, which has another drive left
   alive_array : (k : ℕ) → is_spent y k ≡ false → array_of x.linear k < x.arrays.state.made
@@ -114,7 +128,7 @@ module _ (x : View) (b : Seen) (s : Shelf) (place disk units : ℕ) (t u : Slice
             (both_ways (spent_in ((raid_by z).arrays (array_of x.linear k)) (sector_of x.linear k))
             (live_parts (raid_by z) (array_of x.linear k) (sector_of x.linear k) alive).1
             (all_spent place units (Replace place) (joins x.arrays.all.items place (x.bay.sectors disk)) (book x) (raid_by z) (slices_of t x.bay) (slices_of u b) empty.running.set
-            after.running.set after.heeded missing made enlists.is.arrays alone (array_of x.linear k) (alive_array k alive) (sector_of x.linear k)))
+            after.running.set after.heeded made enlists.is.arrays joined alone (array_of x.linear k) (alive_array k alive) (sector_of x.linear k)))
       ]
 
   live_other : (n k : ℕ) → n < x.arrays.state.made → live_of (raid_by z) n k → has_other z.state place ≡ true
@@ -125,7 +139,7 @@ module _ (x : View) (b : Seen) (s : Shelf) (place disk units : ℕ) (t u : Slice
             absurd
             (both_ways (spent_in ((raid_by z).arrays n) k) (live_parts (raid_by z) n k alive).1
             (all_spent place units (Replace place) (joins x.arrays.all.items place (x.bay.sectors disk)) (book x) (raid_by z) (slices_of t x.bay) (slices_of u b) empty.running.set
-            after.running.set after.heeded missing made enlists.is.arrays alone n low k))
+            after.running.set after.heeded made enlists.is.arrays joined alone n low k))
       ]
 
   tells : AreTold x → (k : ℕ) → is_spent y k ≡ false → (n : ℕ) → n < x.arrays.state.made → (volume mid).told 0 → n < x.linear.arrays
@@ -168,9 +182,6 @@ module _ (x : View) (b : Seen) (s : Shelf) (place disk units : ℕ) (t u : Slice
   size : b.sectors disk ≡ x.bay.sectors disk
   size = enlists.only.stays.sectors disk
 
-  list_is : views_of (book x) ≡ x.arrays.all.items
-  list_is = views_are x.arrays fit.0.running.count
-
   table_is : table_for x y place disk ≡ new_table x.arrays.state x.arrays.all.items place (x.bay.sectors disk)
   table_is =
       ap (λ n. drive_table (next_drive x.arrays.state).0 (views_of (book x)) place n x.arrays.state.made) size
@@ -192,42 +203,111 @@ module _ (x : View) (b : Seen) (s : Shelf) (place disk units : ℕ) (t u : Slice
       (subst (MayLeave (held_in (book x) (slices_of t x.bay) n q)) (sym (shows x.linear (arrays_held c) 0 k inside))
       (says_value st n shape (held_in (book x) (slices_of t x.bay) n) (spent_of (raid_by z) n) c q state says alive))
 
-  new_leaves : x.bay.traced → (a : FlatArray) → Holds mid a → (k : ℕ) (i : Image) → x.bay.clock < k → k ≤ b.clock → b.stops k i
-      → MeansWithout x y place a i ⊎ MeansWith x y place disk a i
-  new_leaves traced a holds k i since until stopped =
-      elim (cases_lt enlists.mid k) [
-        | inr early ↦
-            inl (
-              t,
-              vacated,
-              λ q inside alive.
-                  let low_q : q < size_of x = subst (λ n. q < n) holds.size inside in
-                  let n = array_of x.linear q in
-                  let told = holds.told q inside (new_carries.spent q alive) in
-                  let below = array_inside q low_q in
-                  let says = ((tells holds.disks q alive n (low_array n below) told below).before traced (live_parts (raid_by z) n (sector_of x.linear q) alive).0 k i since early stopped).says in
-                  given t i a q low_q (holds.values q inside (new_carries.spent q alive)) (book x).state says.shape says.is_state says.says alive,
-            )
-        | inl late ↦
-            inr (
-              λ q inside alive.
-                  let low_q : q < size_of x = subst (λ n. q < n) holds.size inside in
-                  let n = array_of x.linear q in
-                  let told = holds.told q inside (new_carries.spent q alive) in
-                  let below = array_inside q low_q in
-                  elim ((tells holds.disks q alive n (low_array n below) told below).after traced (live_parts (raid_by z) n (sector_of x.linear q) alive).0 k i late until stopped).says [
-                    | inl old ↦ given u i a q low_q (holds.values q inside (new_carries.spent q alive)) (book x).state old.shape old.is_state old.says alive
-                    | inr new ↦ given u i a q low_q (holds.values q inside (new_carries.spent q alive)) new.state new.shape new.is_state new.says alive
-                  ],
-              λ q inside alive.
-                  let low_q : q < size_of x = subst (λ n. q < n) holds.size inside in
-                  let n = array_of x.linear q in
-                  let told = holds.told q inside (new_carries.spent q alive) in
-                  let below = array_inside q low_q in
-                  subst (λ (e : Table). HoldsTable disk e i) (sym table_is)
-                  ((tells holds.disks q alive n (low_array n below) told below).after traced (live_parts (raid_by z) n (sector_of x.linear q) alive).0 k i late until stopped).holds,
-            )
-      ]
+  -- a state that contents of the slices after say, once replayed, by its epoch
+  abbrev epoch_in : Image → ℕ
+  epoch_in i = option_map_or (λ (q : State). q.epoch) (state_in (replayed (sectors_of u) (sliced u i))) 0
+
+  epoch_of : (i : Image) (q : State) → state_in (replayed (sectors_of u) (sliced u i)) ≡ Some q → epoch_in i ≡ q.epoch
+  epoch_of i q is = ap (λ o. option_map_or (λ (r : State). r.epoch) o 0) is
+
+  -- one that has the new drive is later
+  epoch_up : (n : ℕ) → is_over (raid_by z) n ≡ false → (book x).state.epoch < raised (book x).state.epoch
+  epoch_up n goes =
+      let room = (number_room (raid_by z) n goes).1 in
+      let up = enlists.is.book.epoch in
+      let less = (raised_range (book x).state.epoch).0 in
+      raised_more (book x).state.epoch (omega (arith, room, up, less))
+
+  module _ (traced : x.bay.traced) (a : FlatArray) (holds : Holds mid a) (k : ℕ) (i : Image) (since : x.bay.clock < k) (until : k ≤ b.clock) (stopped : b.stops k i) where
+    inside_of : (q : ℕ) → q < a.size → q < size_of x
+    inside_of q inside = subst (λ n. q < n) holds.size inside
+
+    kept_of : (q : ℕ) → q < a.size → is_spent y q ≡ false → Keeps (a.values q) ((volume mid).held 0 q)
+    kept_of q inside alive = holds.values q inside (new_carries.spent q alive)
+
+    told_of : (q : ℕ) → q < a.size → is_spent y q ≡ false
+        → KeepsTold t u place disk units (Replace place) (new_table x.arrays.state x.arrays.all.items place (x.bay.sectors disk)) (book x) (raid_by z) x.bay b enlists.mid (array_of x.linear q)
+    told_of q inside alive =
+        let below = array_inside q (inside_of q inside) in
+        tells holds.disks q alive (array_of x.linear q) (low_array (array_of x.linear q) below) (holds.told q inside (new_carries.spent q alive)) below
+
+    over_of : (q : ℕ) → is_spent y q ≡ false → is_over (raid_by z) (array_of x.linear q) ≡ false
+    over_of q alive = (live_parts (raid_by z) (array_of x.linear q) (sector_of x.linear q) alive).0
+
+    table_now : HoldsTable disk (new_table x.arrays.state x.arrays.all.items place (x.bay.sectors disk)) i → HoldsTable disk (table_for x y place disk) i
+    table_now held = subst (λ (e : Table). HoldsTable disk e i) (sym table_is) held
+
+    -- before the slices of the disk were added
+    laying : k ≤ enlists.mid → MeansBy t y a i
+    laying early q inside alive =
+        let says = ((told_of q inside alive).before traced (over_of q alive) k i since early stopped).says in
+        given t i a q (inside_of q inside) (kept_of q inside alive) (book x).state says.shape says.is_state says.says alive
+
+    -- and after that, where the place's drive was missing
+    joining_now : is_current (book x).state place ≡ false → enlists.mid < k → MeansWith x y place disk a i
+    joining_now missing late = (
+      λ q inside alive.
+          elim ((told_of q inside alive).after missing traced (over_of q alive) k i late until stopped).says [
+            | inl old ↦ given u i a q (inside_of q inside) (kept_of q inside alive) (book x).state old.shape old.is_state old.says alive
+            | inr new ↦ given u i a q (inside_of q inside) (kept_of q inside alive) new.state new.shape new.is_state new.says alive
+          ],
+      λ q inside alive. table_now ((told_of q inside alive).after missing traced (over_of q alive) k i late until stopped).holds,
+    )
+
+    -- or wasn't: by the slices before, or by those after, as the state tells that these say
+    replacing_now : is_current (book x).state place ≡ true → enlists.mid < k → MeansBy t y a i ⊎ MeansWith x y place disk a i
+    replacing_now was late =
+        elim (cases_eq (epoch_in i) (book x).state.epoch) [
+          | inl same ↦
+              inl
+              (λ q inside alive.
+              elim (at q inside alive).says [
+                | inl former ↦
+                    given t i a q (inside_of q inside) (kept_of q inside alive) (book x).state former.0.says.shape former.0.says.is_state former.0.says.says alive
+                | inr latter ↦ absurd (let up = newer q alive latter.0.says in omega (arith, same, up))
+              ])
+          | inr other ↦
+              inr (
+                λ q inside alive.
+                    elim (at q inside alive).says [
+                      | inl former ↦ absurd (other (epoch_of i (book x).state former.2))
+                      | inr latter ↦
+                          given u i a q (inside_of q inside) (kept_of q inside alive) latter.0.says.state latter.0.says.shape latter.0.says.is_state latter.0.says.says alive
+                    ],
+                λ q inside alive. table_now (at q inside alive).holds,
+              )
+        ]
+      where
+        at : (q : ℕ) → q < a.size → is_spent y q ≡ false
+            → SaysReplacing t u place disk (new_table x.arrays.state x.arrays.all.items place (x.bay.sectors disk)) (enlisted place units (Replace place) (book x).state) (book x) (raid_by z) x.bay
+            (array_of x.linear q) (held_in (book x) (slices_of t x.bay) (array_of x.linear q)) i
+        at q inside alive = (told_of q inside alive).replacing was traced (over_of q alive) k i late until stopped
+
+        newer : (q : ℕ) → is_spent y q ≡ false
+            → SaysBetween (enlisted place units (Replace place) (book x).state) z.state (array_of x.linear q) (held_in (book x) (slices_of t x.bay) (array_of x.linear q))
+            (spent_of (raid_by z) (array_of x.linear q)) (replayed (sectors_of u) (sliced u i))
+            → (book x).state.epoch < epoch_in i
+        newer q alive says =
+            let is = epoch_of i says.state says.is_state in
+            let up = says.later.epoch in
+            let more = epoch_up (array_of x.linear q) (over_of q alive) in
+            omega (arith, is, up, more)
+
+    new_leaves : MeansFormer x y place a i ⊎ MeansWith x y place disk a i
+    new_leaves =
+        elim (cases_lt enlists.mid k) [
+          | inr early ↦ inl (former (laying early))
+          | inl late ↦ elim kind [
+            | inl gave ↦ inr (joining_now gave.0 late)
+            | inr stays ↦ elim (replacing_now stays.0 late) [ inl before ↦ inl (former before) | inr after ↦ inr after ]
+          ]
+        ]
+      where
+        former : MeansBy t y a i → MeansFormer x y place a i
+        former means = elim kind [
+          | inl gave ↦ inr (t, gave.1, means)
+          | inr stays ↦ inl (stays.0, subst (λ r. MeansBy r y a i) stays.1 means)
+        ]
 
   -- ---- the slices
 
@@ -256,27 +336,42 @@ module _ (x : View) (b : Seen) (s : Shelf) (place disk units : ℕ) (t u : Slice
 
   -- from the tables before the place gave its disk up
   all_seats : SeatsDrive x.arrays.all.items place disk (x.bay.sectors disk) x.slices u
-  all_seats = record {
-    seats = λ p.
-        elim (cases_eq p place) [
-          | inl same ↦
-              seats.seats p ∙ ap (λ (c : Bool). if c then Some disk else seat_of t p) (eq-eqb p place same)
-              ∙ sym (ap (λ (c : Bool). if c then Some disk else seat_of x.slices p) (eq-eqb p place same))
-          | inr other ↦
-              seats.seats p ∙ ap (λ (c : Bool). if c then Some disk else seat_of t p) (ne_eqb p place other)
-              ∙ (vacated.seats p ∙ ap (λ (c : Bool). if c then None else seat_of x.slices p) (ne_eqb p place other))
-              ∙ sym (ap (λ (c : Bool). if c then Some disk else seat_of x.slices p) (ne_eqb p place other))
-        ];
-    own = seats.own;
-    own_firsts = seats.own_firsts;
-    others = λ d other. seats.others d other ∙ vacated.sectors d other;
-    firsts = λ d other. seats.firsts d other ∙ vacated.firsts d other;
-  }
+  all_seats = elim kind [
+    | inl gave ↦ record {
+      seats = λ p.
+          elim (cases_eq p place) [
+            | inl same ↦
+                seats.seats p ∙ ap (λ (c : Bool). if c then Some disk else seat_of t p) (eq-eqb p place same)
+                ∙ sym (ap (λ (c : Bool). if c then Some disk else seat_of x.slices p) (eq-eqb p place same))
+            | inr other ↦
+                seats.seats p ∙ ap (λ (c : Bool). if c then Some disk else seat_of t p) (ne_eqb p place other)
+                ∙ (gave.1.seats p ∙ ap (λ (c : Bool). if c then None else seat_of x.slices p) (ne_eqb p place other))
+                ∙ sym (ap (λ (c : Bool). if c then Some disk else seat_of x.slices p) (ne_eqb p place other))
+          ];
+      own = seats.own;
+      own_firsts = seats.own_firsts;
+      others = λ d other. seats.others d other ∙ gave.1.sectors d other;
+      firsts = λ d other. seats.firsts d other ∙ gave.1.firsts d other;
+    }
+    | inr stays ↦ subst (λ r. SeatsDrive x.arrays.all.items place disk (x.bay.sectors disk) r u) stays.1 seats
+  ]
+
+  -- the disk that the place had has no slice
+  bare_now : (d : ℕ) → seat_of x.slices place ≡ Some d → d ≢ disk → (k : ℕ) (v : List ℕ) → IsSliced u d k v → ⊥
+  bare_now d seat other k v is =
+      let on : seat_of u (place_of is.slice) ≡ Some d = seat_is u is.slice is.at orderly_now is.within ∙ ap Some (sym is.disk_is) in
+      elim (cases_eq (place_of is.slice) place) [
+        | inl same ↦
+            let new : Some disk ≡ Some d =
+            sym (ap (λ (c : Bool). if c then Some disk else seat_of x.slices (place_of is.slice)) (eq-eqb (place_of is.slice) place same)) ∙ sym (all_seats.seats (place_of is.slice)) ∙ on in
+            other (let e : disk ≡ d = cc new in sym e)
+        | inr away ↦
+            let was : seat_of x.slices (place_of is.slice) ≡ Some d =
+            sym (ap (λ (c : Bool). if c then Some disk else seat_of x.slices (place_of is.slice)) (ne_eqb (place_of is.slice) place away)) ∙ sym (all_seats.seats (place_of is.slice)) ∙ on in
+            away (ordered.one_place (place_of is.slice) place d was seat)
+      ]
 
   -- ---- the whole
-
-  free : IsAdmitted (book x) place (x.bay.sectors disk)
-  free = admitted x.linear (book x) place (x.bay.sectors disk) admits
 
   left_before : (p : ℕ) → is_current (enlisted place units (Replace place) x.arrays.state) p ≡ true
       → is_left (with_drive place units (Replace place) (joins x.arrays.all.items place (x.bay.sectors disk)) (book x)) p ≡ true
@@ -303,46 +398,50 @@ module _ (x : View) (b : Seen) (s : Shelf) (place disk units : ℕ) (t u : Slice
             (low_disk (book x) t x.bay p orderly empty.running.set (heeded_left (book x) p fit.0.heeded old))
       ]
 
-  pub taken_in : option_map (λ d. d.units) (slice_get x.arrays.state.drives.items place) ≡ Some units → ReplacesBy x y place disk (Ok tt)
+  former_kept : (d : ℕ) → seat_of x.slices place ≡ Some d → d ≢ disk → KeepsDisk x.shelf.told x.bay b d
+  former_kept d seat other =
+      retired_by x b s place disk t linear fit kind empty now names ordered orderly admits (IsWrittenBy u disk (x.bay.sectors disk)) enlists.only d seat
+      (λ k v at. elim at [ inl own ↦ other own.0 | inr is ↦ bare_now d seat other k v is ])
+
+  pub taken_in : option_map (λ d. d.units) (slice_get x.arrays.state.drives.items place) ≡ Some units → TakesBy x y place disk (Ok tt)
   taken_in units_is =
       let may : ℕ → ℕ → List ℕ → Type 0 = IsWrittenBy u disk (x.bay.sectors disk) in
-      let go = mid_goes x b s place disk t linear fit missing vacated empty now names ordered orderly admits in
-      let carries = mid_carries x b s place disk t linear fit missing vacated empty now names ordered orderly admits in
+      let go = mid_goes x b s place disk t linear fit kind empty now names ordered orderly admits in
+      let carries = mid_carries x b s place disk t linear fit kind empty now names ordered orderly admits in
       record {
-        continues = goes_on x b s place disk t linear fit missing vacated empty now names ordered orderly admits u z may enlists.only fit_now orderly_now;
+        continues = goes_on x b s place disk t linear fit kind empty now names ordered orderly admits u z may enlists.only fit_now orderly_now;
         carries = carries_then x mid y go carries new_carries;
-        raises = raises_more 19 most_raised (book x) (raid_by z) (omega arith) enlists.raises;
+        raises = enlists.raises;
+        kept = tt;
         keeps =
             book_enlisted place units (Replace place) (joins x.arrays.all.items place (x.bay.sectors disk)) (book x) (raid_by z) (slices_of t x.bay) (slices_of u b) empty.running.set
-            after.running.set after.heeded missing made enlists.is.arrays;
+            after.running.set after.heeded made enlists.is.arrays;
         outside =
-            outside_of_it x b s place disk t linear fit missing vacated empty now names ordered orderly admits u z may enlists.only fit_now orderly_now
+            outside_of_it x b s place disk t linear fit kind empty now names ordered orderly admits u z may enlists.only fit_now orderly_now
             (λ d k a at. elim at [ inl own ↦ inr own.0 | inr is ↦ new_sliced d k a is ]) new_sliced;
-        retired =
-            retired_by x b s place disk t linear fit missing vacated empty now names ordered orderly admits u may enlists.only
-            (λ d k a at. elim at [ inl own ↦ inr own.0 | inr is ↦ new_sliced d k a is ]) new_sliced;
-        laid = laid_by x b s place disk t linear fit missing vacated empty now names ordered orderly admits u enlists.only;
+        retired = λ why. former_kept;
+        laid = laid_by x b s place disk t linear fit kind empty now names ordered orderly admits u enlists.only;
         names = names.names;
-        bare = λ d seat other. inr (bare_by x b s place disk t linear fit missing vacated empty now names ordered orderly admits u disk new_sliced d seat other);
+        bare = λ d seat other. inr (bare_now d seat other);
         disks = enlists.only.stays.disks;
-        admitted = inr admits;
-        answer = subst (λ o. IsAnswer o (Ok tt)) (sym admits) (inl refl);
+        answer = inl refl;
         gone = λ same. absurd (let e : ◌≡◌ {A = Result (Unit {0}) GrowFault} (Ok tt) (Err Gone) = same in cc e);
         not_whole = λ same. absurd (let e : ◌≡◌ {A = Result (Unit {0}) GrowFault} (Ok tt) (Err NotWhole) = same in cc e);
         declined = tt;
         left = tt;
+        out = λ same. absurd (let e : ◌≡◌ {A = Result (Unit {0}) GrowFault} (Ok tt) (Err NotWhole) = same in cc e);
         enters = record {
-          vacates = vacates x b s place disk t linear fit missing vacated empty now names ordered orderly admits;
+          vacates = vacates x b s place disk t linear fit kind empty now names ordered orderly admits;
           units = units;
           units_is = units_is;
           seats = subst (λ vs. SeatsDrive vs place disk (x.bay.sectors disk) t u) (sym list_is) seats;
           enlists = subst (λ vs. Enlists t u vs place disk units (Replace place) (book x) (raid_by z) x.bay b) (sym list_is) enlists;
+          former = former_kept;
         };
         replaced = record {
           units = units;
           units_is = units_is;
-          enough = ap (λ n. units_of n x.arrays.state.extent) size ∙ same_units x.arrays.state place (units_of (x.bay.sectors disk) x.arrays.state.extent) units free.units units_is;
-          missing = missing;
+          enough = ap (λ n. units_of n x.arrays.state.extent) size ∙ same_units x.arrays.state place (units_of (x.bay.sectors disk) x.arrays.state.extent) units admits.units units_is;
           marks = enlists.is.book;
           plan = enlists.is.plan_is;
           cause = λ p current gone.
@@ -365,10 +464,10 @@ module _ (x : View) (b : Seen) (s : Shelf) (place disk units : ℕ) (t u : Slice
         };
         leaves = λ traced a holds k i since until stopped.
             elim (new_leaves traced a (holds_of x mid go carries a holds) k i since until stopped) [
-              | inl without ↦ inl without
+              | inl former ↦ inl former
               | inr with_it ↦ inr with_it.0
             ];
-        moments = λ traced a holds. new_leaves traced a (holds_of x mid go carries a holds);
+        moments = λ traced a holds k i since until stopped. new_leaves traced a (holds_of x mid go carries a holds) k i since until stopped;
       }
     where
       table_live : AreTold x → (k : ℕ) → k < x.bay.sectors disk → IsLive x.bay b disk k
@@ -380,4 +479,4 @@ module _ (x : View) (b : Seen) (s : Shelf) (place disk units : ℕ) (t u : Slice
       }
 
       table_inside : (k : ℕ) → IsOfTable (x.bay.sectors disk) k → k < x.bay.sectors disk
-      table_inside k of = let room = (reaches_each (views_of (book x)) place (x.bay.sectors disk) free.reaches).0 in of_table (x.bay.sectors disk) k room of
+      table_inside k of = let room = (reaches_each (views_of (book x)) place (x.bay.sectors disk) admits.reaches).0 in of_table (x.bay.sectors disk) k room of

@@ -3,7 +3,6 @@ use Rattle.std.specs.Prelude.{Result, Ok, Err}
 use Rattle.std.specs.Bool.{then_some}
 use Rattle.std.specs.Option.{option_or}
 use Rattle.std.proofs.Common.{◌≡◌, ◌≢◌, ℕ, not, Bool, true, false, List, [], ◌∷◌, Option, Some, None, option_map, sym, ap, subst, ◌∙◌, inl, inr}
-use Rattle.array_image.specs.States.{is_current}
 use Rattle.growth_plan.specs.Admission.{first_refusal, replace_refusals}
 use Rattle.growth_plan.specs.declared.AdmitFault.{AdmitFault}
 use Rattle.growth_plan.specs.declared.AdmitFault.TheVariants.{Size as OfSize, Smaller as OfSmaller, TooManyDrives as OfDrives, TooManyLayers as OfLayers}
@@ -84,19 +83,18 @@ late_if : (b : Bool) → AreLate (then_some b TooManySegments)
 late_if true = late_some TooManySegments late_segments
 late_if false = late_none
 
-standing_late : (a b c d e : Bool) → AreLate (first_cause ((PlanPending, a) ∷ (NotWhole, b) ∷ (Unbuilt, c) ∷ (NotResynced, d) ∷ (Unbuilt, e) ∷ []))
-standing_late a b c d e =
-    late_cause PlanPending a ((NotWhole, b) ∷ (Unbuilt, c) ∷ (NotResynced, d) ∷ (Unbuilt, e) ∷ []) late_planned
-    (late_cause NotWhole b ((Unbuilt, c) ∷ (NotResynced, d) ∷ (Unbuilt, e) ∷ []) late_whole
-    (late_cause Unbuilt c ((NotResynced, d) ∷ (Unbuilt, e) ∷ []) late_unbuilt
-    (late_cause NotResynced d ((Unbuilt, e) ∷ []) late_resynced (late_cause Unbuilt e [] late_unbuilt late_none))))
+standing_late : (a b d e : Bool) → AreLate (first_cause ((PlanPending, a) ∷ (NotWhole, b) ∷ (NotResynced, d) ∷ (Unbuilt, e) ∷ []))
+standing_late a b d e =
+    late_cause PlanPending a ((NotWhole, b) ∷ (NotResynced, d) ∷ (Unbuilt, e) ∷ []) late_planned
+    (late_cause NotWhole b ((NotResynced, d) ∷ (Unbuilt, e) ∷ []) late_whole
+    (late_cause NotResynced d ((Unbuilt, e) ∷ []) late_resynced (late_cause Unbuilt e [] late_unbuilt late_none)))
 
 pub refusal_late : (l : Linear) (v : Raid) (place sectors : ℕ) → AreLate (refusal_of l v place sectors)
 refusal_late l v place sectors =
     let plan = first_refusal (replace_refusals v.state (arrays_now v) place (units_of sectors v.state.extent)) in
     let room = then_some (lacks_segments l v place) TooManySegments in
     late_or (first_cause (standing_refusals v place sectors)) (option_or (option_map fault_of plan) room)
-    (standing_late (is_planned v.state.plan) (has_other_missing v.state place) (is_current v.state place) (has_resync (arrays_now v)) (not (has_same v place sectors)))
+    (standing_late (is_planned v.state.plan) (has_other_missing v.state place) (has_resync (arrays_now v)) (not (has_same v place sectors)))
     (late_or (option_map fault_of plan) room (late_map plan) (late_if (lacks_segments l v place)))
 
 -- so is each answer

@@ -16,8 +16,12 @@ mod Late
 mod Composed
 mod Vacating
 mod Taken
+mod Members
 pub mod Enlisted
+pub mod Readying
 mod Entered
+mod Giving
+mod Ways
 mod Cleaning
 mod NewPools
 mod Working

@@ -40,7 +40,7 @@ use Rattle.pool.proofs.Serving.{IsCall, KeepNames, Laws, sound_in}
 -- ---- its note in the arrays
 
 -- a current place is in the list
-listed : (s : State) (p : ℕ) → is_current s p ≡ true → p < length s.drives.items
+pub listed : (s : State) (p : ℕ) → is_current s p ≡ true → p < length s.drives.items
 listed s p current =
     elim (cases_lt p (length s.drives.items)) [
       | inl below ↦ below

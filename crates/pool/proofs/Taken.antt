@@ -1,7 +1,7 @@
 -- A disk that isn't taken in: it refused a call, or another drive was found gone.
 use Rattle.std.specs.Prelude.{Err}
-use Rattle.std.proofs.Common.{◌≡◌, ◌≢◌, ◌⊎◌, ℕ, ◌<◌, Bool, true, false, List, Some, None, if◌then◌else◌, refl, sym, ap, subst, ◌∙◌, inl, inr, arith, lt-ltb}
-use Rattle.std.proofs.lemmas.Bool.{both_ways, cases_eq, ne_eqb}
+use Rattle.std.proofs.Common.{◌≡◌, ◌≢◌, ◌⊎◌, ℕ, ◌<◌, Bool, true, false, List, Some, None, if◌then◌else◌, refl, sym, ap, subst, ◌∙◌, inl, inr, arith}
+use Rattle.std.proofs.lemmas.Bool.{both_ways, cases_Bool, cases_eq, ne_eqb}
 use Rattle.rack.specs.Seen.{IsLive, Rose, Seen}
 use Rattle.rack.specs.Sequences.{WritesOnly}
 use Rattle.rack.specs.Values.{MayLeave}
@@ -23,24 +23,28 @@ use Rattle.raid_rack.specs.NewDrive.{IsOfDrive}
 use Rattle.raid_rack.specs.Raid.{Raid, is_left}
 use Rattle.raid_rack.specs.RaidRack.{IsFit, raid_by}
 use Rattle.raid_rack.proofs.Apart.{reads_apart, seat_is}
-use Rattle.raid_rack.proofs.Raises.{raises_more}
+use Rattle.raid_rack.proofs.Raises.{raises_more, raises_none}
 use Rattle.raid_rack.proofs.Whole.{heeded_left}
+use Rattle.pool.specs.declared.replacing.GrowFault.{GrowFault}
 use Rattle.pool.specs.declared.replacing.GrowFault.TheVariants.{Gone, NotWhole}
-use Rattle.pool.specs.Continuing.{Continues, IsOutside, KeepsDisk, KeepsOutside, NoDisk}
-use Rattle.pool.specs.Entering.{Vacates}
-use Rattle.pool.specs.Keeping.{most_raised}
-use Rattle.pool.specs.Replaced.{IsAnswer}
-use Rattle.pool.specs.Replacing.{refusal_of}
-use Rattle.pool.specs.Taking.{AreTold, Carries, ReplacesBy}
+use Rattle.pool.specs.Continuing.{Continues, KeepsDisk, KeepsOutside, NoDisk}
+use Rattle.pool.specs.Entering.{IsVacating, LeavesOut, Vacates}
+use Rattle.pool_state.specs.declared.contents.State.{State}
+use Rattle.commit_log.proofs.Kept.{place_of_log}
+use Rattle.rack.specs.Joins.{keeps_same}
+use Rattle.raid_rack.proofs.Vacated.{disk_left}
+use Rattle.pool.specs.Replacing.{IsAdmitted}
+use Rattle.pool.specs.Taking.{AreTold, Carries, TakesBy}
 use Rattle.pool.specs.View.{View, book, volume}
 use Rattle.pool.proofs.Attaching.{IsBay}
-use Rattle.pool.proofs.Booked.{book_lost, book_same, raises_still}
+use Rattle.pool.proofs.Booked.{book_lost, book_same}
+use Rattle.pool.proofs.Enlisted.{book_but}
 use Rattle.pool.proofs.Held.{held_moves, held_reads}
-use Rattle.pool.proofs.Carrying.{carries_kept, carries_then, holds_of, means_kept}
-use Rattle.pool.proofs.Continuing.{continues_then, outside_fewer, outside_then, outside_writes}
+use Rattle.pool.proofs.Carrying.{carries_kept, carries_same, carries_then, holds_of, means_kept}
+use Rattle.pool.proofs.Continuing.{continues_same, continues_then, outside_fewer, outside_then, outside_writes}
 use Rattle.pool.proofs.Keeping.{not_left, went}
 use Rattle.pool.proofs.Later.{inside_later, later, moved, only_read}
-use Rattle.pool.proofs.Vacating.{bay_continues, without_carries, without_continues, without_fit, without_outside}
+use Rattle.pool.proofs.Vacating.{bay_continues, without_carries, without_continues, without_outside}
 use Rattle.raid_rack.proofs.Truths.{truths_reads}
 
 -- the drive of a place that is left is one of the bay's disks
@@ -53,24 +57,66 @@ pub one_disk : (disk d : ℕ) → NoDisk d ⊎ (d ≡ disk) → d ≡ disk
 one_disk disk d (inl none) = absurd none
 one_disk disk d (inr is) = is
 
+-- a disk that isn't written is as it was
+kept_disk : (Told : Type 0) (a b : Seen) (may : ℕ → ℕ → List ℕ → Type 0) (d : ℕ) → WritesOnly a b may → ((e k : ℕ) → b.spent e k ≡ false) → d < a.disks
+    → ((k : ℕ) (v : List ℕ) → may d k v → ⊥) → KeepsDisk Told a b d
+kept_disk Told a b may d only unspent low never = record {
+  held = λ k within told. only.others d k (live k within told) (never k);
+  stops = λ told traced k i since until stopped q within tells.
+      elim ((only.stops traced).new k i since until stopped d q (live q within tells)) [ inl before ↦ before | inr written ↦ absurd (never q (i d q) written) ];
+}
+  where
+    live : (k : ℕ) → k < a.sectors d → a.told d → IsLive a b d k
+    live k within told = record {
+      disk = subst (λ n. d < n) (sym only.stays.disks) low;
+      sector = subst (λ n. k < n) (sym (only.stays.sectors d)) within;
+      is_told = told;
+      unspent = unspent d k;
+    }
+
 module _ (x : View) (b : Seen) (s : Shelf) (place disk : ℕ) (t : Slices) (linear : IsOrderlyVolume x.linear) (fit : (volume x).fit)
-    (missing : is_current (book x).state place ≡ false) (vacated : Seats x.slices t place None) (empty : IsFit x.arrays (slices_of t x.bay))
-    (now : IsBay b s) (names : KeepsShelf x.shelf s) (ordered : IsOrderly x.slices) (orderly : IsOrderly t) (admits : refusal_of x.linear (book x) place (x.bay.sectors disk) ≡ None) where
+    (kind : IsVacating x place t) (empty : IsFit x.arrays (slices_of t x.bay))
+    (now : IsBay b s) (names : KeepsShelf x.shelf s) (ordered : IsOrderly x.slices) (orderly : IsOrderly t) (admits : IsAdmitted (book x) place (x.bay.sectors disk)) where
   abbrev mid : View
   mid = later x x.bay x.shelf t x.arrays
 
-  -- the place gave its disk up
+  -- the tables from which it is taken in
   abbrev pub vacates : Vacates x place disk
-  vacates = record { admits = admits; tables = t; seats = vacated; orderly = orderly; fit = empty }
+  vacates = record { admits = admits; tables = t; seats = kind; orderly = orderly; fit = empty }
 
   pub mid_fit : (volume mid).fit
-  mid_fit = without_fit x place t linear fit missing vacated empty
+  mid_fit = (empty, inside_later x x.bay x.shelf t x.arrays fit refl (λ n. refl))
 
   pub mid_goes : Continues x mid
-  mid_goes = without_continues x place t linear fit missing vacated empty orderly
+  mid_goes = elim kind [
+    | inl gave ↦ without_continues x place t linear fit gave.0 gave.1 empty orderly
+    | inr stays ↦ subst (λ k. Continues x (later x x.bay x.shelf k x.arrays)) (sym stays.1) (continues_same x fit)
+  ]
 
   pub mid_carries : Carries x mid
-  mid_carries = without_carries x place t linear fit missing vacated empty
+  mid_carries = elim kind [
+    | inl gave ↦ without_carries x place t linear fit gave.0 gave.1 empty
+    | inr stays ↦ subst (λ k. Carries x (later x x.bay x.shelf k x.arrays)) (sym stays.1) (carries_same x)
+  ]
+
+  mid_outside : KeepsOutside x.slices t NoDisk x.shelf.told x.bay x.bay
+  mid_outside = elim kind [
+    | inl gave ↦ without_outside x place t linear fit gave.0 gave.1 empty NoDisk
+    | inr stays ↦ record {
+      slices = λ d k v is. inl (subst (λ u. IsSliced u d k v) stays.1 is);
+      held = λ d k out. keeps_same (x.bay.held d k);
+      stops = λ told traced k i since until stopped. absurd (omega (arith, since, until));
+    }
+  ]
+
+  -- a current place has the disk that it had
+  pub same_disk : (k : ℕ) → is_current (book x).state k ≡ true → disk_of t (log_slice k) ≡ disk_of x.slices (log_slice k)
+  same_disk k was = elim kind [
+    | inl gave ↦
+        disk_left place x.slices t x.bay gave.1 (log_slice k)
+        (λ here. both_ways (is_current (book x).state place) gave.0 (subst (λ p. is_current (book x).state p ≡ true) (sym (place_of_log k) ∙ here) was))
+    | inr stays ↦ ap (λ u. disk_of u (log_slice k)) stays.1
+  ]
 
   -- ---- what the parts of the call say of the bay
 
@@ -82,13 +128,12 @@ module _ (x : View) (b : Seen) (s : Shelf) (place disk : ℕ) (t : Slices) (line
       → KeepsOutside x.slices u (λ d. d ≡ disk) x.shelf.told x.bay b
   outside_of_it u z may only after ordered_now writes slices =
       outside_fewer x.slices u (λ d. NoDisk d ⊎ (d ≡ disk)) (λ d. d ≡ disk) x.shelf.told x.bay b (one_disk disk)
-      (outside_then x mid (later x b s u z) NoDisk (λ d. d ≡ disk) mid_goes (bay_continues mid (later x b s u z) may only names after ordered_now refl)
-      (without_outside x place t linear fit missing vacated empty NoDisk)
+      (outside_then x mid (later x b s u z) NoDisk (λ d. d ≡ disk) mid_goes (bay_continues mid (later x b s u z) may only names after ordered_now refl) mid_outside
       (outside_writes t u (λ d. d ≡ disk) x.shelf.told x.bay b may only now.unspent writes slices))
 
-  -- the disk that the place had has no slice any more
-  bare_mid : (d : ℕ) → seat_of x.slices place ≡ Some d → (k : ℕ) (v : List ℕ) → IsSliced t d k v → ⊥
-  bare_mid d seat k v is =
+  -- the disk that the place gave up has no slice any more
+  bare_mid : Seats x.slices t place None → (d : ℕ) → seat_of x.slices place ≡ Some d → (k : ℕ) (v : List ℕ) → IsSliced t d k v → ⊥
+  bare_mid vacated d seat k v is =
       elim (cases_eq (place_of is.slice) place) [
         | inl same ↦ let empty_slice = vacated.cleared is.slice same in let within = is.within in omega (arith, empty_slice, within)
         | inr away ↦
@@ -99,33 +144,20 @@ module _ (x : View) (b : Seen) (s : Shelf) (place disk : ℕ) (t : Slices) (line
             away (ordered.one_place (place_of is.slice) place d was seat)
       ]
 
-  pub bare_by : (u : Slices) (new : ℕ) → ((d k : ℕ) (v : List ℕ) → IsSliced u d k v → IsSliced t d k v ⊎ (d ≡ new))
-      → (d : ℕ) → seat_of x.slices place ≡ Some d → d ≢ new → (k : ℕ) (v : List ℕ) → IsSliced u d k v → ⊥
-  bare_by u new slices d seat other k v is = elim (slices d k v is) [ inl was ↦ bare_mid d seat k v was | inr same ↦ other same ]
-
-  pub retired_by : (u : Slices) (may : ℕ → ℕ → List ℕ → Type 0) → WritesOnly x.bay b may
-      → ((d k : ℕ) (v : List ℕ) → may d k v → IsSliced t d k v ⊎ (d ≡ disk)) → ((d k : ℕ) (v : List ℕ) → IsSliced u d k v → IsSliced t d k v ⊎ (d ≡ disk))
-      → (d : ℕ) → seat_of x.slices place ≡ Some d → d ≢ disk → KeepsDisk x.shelf.told x.bay b d
-  retired_by u may only writes slices d seat other =
-      let keeps = outside_writes t u (λ e. e ≡ disk) x.shelf.told x.bay b may only now.unspent writes slices in
-      record {
-        held = λ k within told. keeps.held d k (out k within told);
-        stops = λ told traced k i since until stopped q within tells. keeps.stops told traced k i since until stopped d q (out q within tells);
-      }
-    where
-      out : (k : ℕ) → k < x.bay.sectors d → x.bay.told d → IsOutside t (λ e. e ≡ disk) x.bay d k
-      out k within told = record { disk = fit.0.running.set.fit.1.seats place d seat; sector = within; is_told = told; unnamed = other; unsliced = bare_mid d seat k }
+  -- a disk that is written nowhere
+  pub retired_by : (may : ℕ → ℕ → List ℕ → Type 0) → WritesOnly x.bay b may → (d : ℕ) → seat_of x.slices place ≡ Some d → ((k : ℕ) (v : List ℕ) → may d k v → ⊥)
+      → KeepsDisk x.shelf.told x.bay b d
+  retired_by may only d seat never = kept_disk x.shelf.told x.bay b may d only now.unspent (fit.0.running.set.fit.1.seats place d seat) never
 
   -- what is left on the disk outside the slices
   pub laid_by : (u : Slices) → WritesOnly x.bay b (IsWrittenBy u disk (x.bay.sectors disk)) → disk < x.bay.disks → AreTold x
       → (k : ℕ) (v : List ℕ) → k < x.bay.sectors disk → ((w : List ℕ) → IsSliced u disk k w → ⊥) → MayLeave (b.held disk k) v
-      → MayLeave (x.bay.held disk k) v
-      ⊎ ((refusal_of x.linear (book x) place (x.bay.sectors disk) ≡ None) × IsOfDrive disk (x.bay.sectors disk) disk k v)
+      → MayLeave (x.bay.held disk k) v ⊎ IsOfDrive disk (x.bay.sectors disk) disk k v
   laid_by u only low all k v within unsliced left =
       elim (only.within disk k v live left) [
         | inl before ↦ inl before
         | inr written ↦ elim written [
-          | inl own ↦ inr (admits, own)
+          | inl own ↦ inr own
           | inr sliced ↦ absurd (unsliced v sliced)
         ]
       ]
@@ -138,10 +170,28 @@ module _ (x : View) (b : Seen) (s : Shelf) (place disk : ℕ) (t : Slices) (line
         unspent = now.unspent disk k;
       }
 
+  -- by tables in which the place has its disk, or none
+  bare_left : (u : Slices) → u ≡ t → (d : ℕ) → seat_of x.slices place ≡ Some d → d ≢ disk → (u ≡ x.slices) ⊎ ((k : ℕ) (v : List ℕ) → IsSliced u d k v → ⊥)
+  bare_left u same d seat other = elim kind [
+    | inl gave ↦ inr (λ k v is. bare_mid gave.1 d seat k v (subst (λ q. IsSliced q d k v) same is))
+    | inr stays ↦ inl (same ∙ stays.1)
+  ]
+
+  slices_left : (e : GrowFault) → (e ≡ Gone) ⊎ (e ≡ NotWhole) → (s : State) → ((p : ℕ) → is_current s p ≡ true → is_current (book x).state p ≡ true)
+      → (t ≡ x.slices) ⊎ (((e ≡ Gone) ⊎ (e ≡ NotWhole)) × (is_current s place ≡ false) × Seats x.slices t place None)
+  slices_left e which s fewer = elim kind [
+    | inl gave ↦ inr (
+      which,
+      elim (cases_Bool (is_current s place)) [ inl is ↦ absurd (both_ways (is_current (book x).state place) gave.0 (fewer place is)) | inr none ↦ none ],
+      gave.1,
+    )
+    | inr stays ↦ inl stays.1
+  ]
+
   -- ---- it refused a call
 
   pub taken_gone : IsRefused t disk (book x) x.bay b → ((p : ℕ) → seat_of t p ≢ Some disk)
-      → IsFit x.arrays (slices_of t b) → ReplacesBy x (later x b s t x.arrays) place disk (Err Gone)
+      → IsFit x.arrays (slices_of t b) → TakesBy x (later x b s t x.arrays) place disk (Err Gone)
   taken_gone refused free after =
       let only = refused.only in
       let y = later x b s t x.arrays in
@@ -153,16 +203,16 @@ module _ (x : View) (b : Seen) (s : Shelf) (place disk : ℕ) (t : Slices) (line
         continues = goes_on t x.arrays may only fit_now orderly;
         carries = carries_then x mid y mid_goes mid_carries (carries_kept mid y both.0 both.1 refl (λ names all. truths_reads (book x) (slices_of t x.bay) (slices_of t b) empty.running.set reads)
             (λ names all. held_reads mid b mid_fit after reads));
-        raises = raises_still 1 x;
-        keeps = book_same (book x);
+        raises = raises_more 0 19 (book x) (book x) (omega arith) (raises_none (book x));
+        keeps = book_but place (book x) (book x) (book_same (book x));
+        kept = book_same (book x);
         outside = outside_of_it t x.arrays may only fit_now orderly (λ d k v at. inr at.0) (λ d k v is. inl is);
-        retired = retired_by t may only (λ d k v at. inr at.0) (λ d k v is. inl is);
+        retired = λ why d seat other. retired_by may only d seat (λ k v at. other at.0);
         laid = laid_by t (only_weaker may (IsWrittenBy t disk (x.bay.sectors disk)) (λ d k v own. inl own) only);
         names = names.names;
-        bare = λ d seat other. inr (bare_by t disk (λ e k v is. inl is) d seat other);
+        bare = bare_left t refl;
         disks = only.stays.disks;
-        admitted = inr admits;
-        answer = subst (λ o. IsAnswer o (Err Gone)) (sym admits) (inr (inl refl));
+        answer = inr (inl refl);
         gone = λ same. refused.gone;
         not_whole = λ same. absurd (let e : Gone ≡ NotWhole = cc same in cc e);
         declined = record {
@@ -170,11 +220,13 @@ module _ (x : View) (b : Seen) (s : Shelf) (place disk : ℕ) (t : Slices) (line
           plan = refl;
           arrays = arrays_same (book x);
           cause = λ k was gone. absurd (both_ways (is_current (book x).state k) gone was);
-          slices = inr vacated;
-          unmarked = λ is. refl;
+          slices = slices_left Gone (inl refl) (book x).state (λ p is. is);
+          unmarked = λ is missing. refl;
+          others = λ is k away was. was;
           quiet = λ other none. absurd (other refl);
         };
-        left = inr (inl (record { vacates = vacates; slices = refl; same = refl; refused = refused }));
+        left = inl (record { vacates = vacates; slices = refl; same = refl; refused = refused });
+        out = λ same. absurd (let e : Gone ≡ NotWhole = cc same in cc e);
         replaced = tt;
         table = tt;
         enters = tt;
@@ -185,7 +237,7 @@ module _ (x : View) (b : Seen) (s : Shelf) (place disk : ℕ) (t : Slices) (line
 
   -- ---- another drive was found gone
 
-  pub taken_lost : (z : Arrays) → IsNotWhole t disk (book x) (raid_by z) x.bay b → IsFit z (slices_of t b) → ReplacesBy x (later x b s t z) place disk (Err NotWhole)
+  pub taken_lost : (z : Arrays) → IsNotWhole t disk (book x) (raid_by z) x.bay b → IsFit z (slices_of t b) → TakesBy x (later x b s t z) place disk (Err NotWhole)
   taken_lost z lost after =
       let only = lost.only in
       let mends = lost.mends in
@@ -194,36 +246,45 @@ module _ (x : View) (b : Seen) (s : Shelf) (place disk : ℕ) (t : Slices) (line
       let moves = mends.moves in
       let both = moved mid b s t z linear mid_fit after moves in
       let fit_now : (volume y).fit = (after, inside_later x b s t z fit moves.book.same.made moves.sectors) in
+      let out : LeavesOut x y place disk = record { vacates = vacates; slices = refl; not_whole = lost } in
+      let kept = book_lost (book x) (raid_by z) (slices_of t b) after.running.set after.heeded moves.book.same.made moves.arrays in
       record {
         continues = goes_on t z may only fit_now orderly;
         carries = carries_then x mid y mid_goes mid_carries (carries_kept mid y both.0 both.1 moves.book.same.made (λ names all. lost.truths) (λ names all. held_moves mid b t z mid_fit after moves));
-        raises = raises_more 18 most_raised (book x) (raid_by z) (omega arith) lost.raises;
-        keeps = book_lost (book x) (raid_by z) (slices_of t b) after.running.set after.heeded moves.book.same.made moves.arrays;
+        raises = raises_more 18 19 (book x) (raid_by z) (omega arith) lost.raises;
+        keeps = book_but place (book x) (raid_by z) kept;
+        kept = kept;
         outside = outside_of_it t z may only fit_now orderly (λ d k v at. elim at [ inl own ↦ inr own.0 | inr sliced ↦ inl sliced ]) (λ d k v is. inl is);
-        retired = retired_by t may only (λ d k v at. elim at [ inl own ↦ inr own.0 | inr sliced ↦ inl sliced ]) (λ d k v is. inl is);
+        retired = λ why d seat other.
+            retired_by may only d seat
+            (λ k v at. elim at [
+              | inl own ↦ other own.0
+              | inr sliced ↦ elim kind [
+                | inl gave ↦ bare_mid gave.1 d seat k v sliced
+                | inr stays ↦ elim why [ inl missing ↦ both_ways (is_current (book x).state place) missing stays.0 | inr never ↦ never refl ]
+              ]
+            ]);
         laid = laid_by t only;
         names = names.names;
-        bare = λ d seat other. inr (bare_by t disk (λ e k v is. inl is) d seat other);
+        bare = bare_left t refl;
         disks = only.stays.disks;
-        admitted = inr admits;
-        answer = subst (λ o. IsAnswer o (Err NotWhole)) (sym admits) (inr (inr refl));
+        answer = inr (inr refl);
         gone = λ same. absurd (let e : NotWhole ≡ Gone = cc same in cc e);
-        not_whole = λ same. inr (lost.lost.0, lost.lost.1, lost.lost.2);
+        not_whole = λ same. (lost.lost.0, lost.lost.1, lost.lost.2);
         declined = record {
           marks = moves.book;
           plan = moves.plan;
           arrays = moves.arrays;
           cause = λ k was gone.
               let left = heeded_left (book x) k fit.0.heeded was in
-              let low = low_disk (book x) t x.bay k orderly empty.running.set left in
-              let d = disk_of t (log_slice k) in
-              subst (λ n. Rose n (b.faults d)) (sym (ap (λ c. if c then x.bay.faults d else 0) (lt-ltb d x.bay.disks low)))
-              (went mid y k refl (moves.cause k left (not_left (raid_by z) k gone)));
-          slices = inr vacated;
+              subst (λ d. Rose (x.bay.faults d) (b.faults d)) (same_disk k was) (went mid y k refl (moves.cause k left (not_left (raid_by z) k gone)));
+          slices = slices_left NotWhole (inr refl) (raid_by z).state moves.book.current;
           unmarked = λ is. absurd (let e : NotWhole ≡ Gone = is in cc e);
+          others = λ is. absurd (let e : NotWhole ≡ Gone = is in cc e);
           quiet = λ other none. absurd (none (lost.lost.0, lost.lost.1, lost.lost.2));
         };
-        left = inr (inr (record { vacates = vacates; slices = refl; not_whole = lost }));
+        left = inr out;
+        out = λ same. out;
         replaced = tt;
         table = tt;
         enters = tt;

@@ -1,5 +1,5 @@
 -- What calls of a pool keep of its book: the state and the arrays, by which sectors are spent.
-use Rattle.std.specs.Prelude.{◌≡◌, ℕ, ◌*◌, ◌<◌, ◌≤◌, true, not, slice_get, Some, option_map}
+use Rattle.std.specs.Prelude.{◌≡◌, ◌≢◌, ℕ, ◌*◌, ◌<◌, ◌≤◌, true, not, slice_get, Some, option_map}
 use Rattle.pool_state.specs.declared.contents.State.{State}
 use Rattle.array_image.specs.States.{is_current}
 use Rattle.array_model.specs.View.{View as ArrayView, HasGeometry, is_missing_seat, member_on, place_at}
@@ -20,15 +20,27 @@ pub record KeepsArray (s : State) (u w : ArrayView) : Type 0 where
 abbrev pub KeepsBook : Raid → Raid → Type 0
 KeepsBook v w = (n : ℕ) → n < v.state.made → KeepsArray w.state (v.arrays n) (w.arrays n)
 
+-- The same of an array of which the member of one place is a new one: that is to be rebuilt from its start.
+pub record KeepsArrayBut (place : ℕ) (s : State) (u w : ArrayView) : Type 0 where
+  pub geometry : HasGeometry u.truth w.truth
+  pub young : w.young ≡ u.young
+  pub rows : u.resync ≤ w.resync
+  pub members :
+      (k : ℕ) → k < u.truth.raid_disks → is_current s (place_at w k) ≡ true → place_at w k ≢ place → (member_on u k).reach ≤ (member_on w k).reach
+
+abbrev pub KeepsBookBut : ℕ → Raid → Raid → Type 0
+KeepsBookBut place v w = (n : ℕ) → n < v.state.made → KeepsArrayBut place w.state (v.arrays n) (w.arrays n)
+
 -- In each array just those members are missing whose drives are marked.
 abbrev pub HasMarkedSeats : Raid → Type 0
 HasMarkedSeats v =
     (n k : ℕ) → n < v.state.made → k < (v.arrays n).truth.raid_disks
     → option_map is_missing_seat (slice_get (v.arrays n).seats k) ≡ Some (not (is_current v.state (place_at (v.arrays n) k)))
 
--- the most by which a call raises the log's number, the epoch, and each array's events
+-- The most by which a call raises the log's number, the epoch, and each array's events: that of a replacing of a drive that isn't missing, and is found gone while
+-- the new disk is being laid.
 abbrev pub most_raised : ℕ
-most_raised = 306
+most_raised = 325
 
 -- so many calls
 abbrev pub Raises : ℕ → View → View → Type 0

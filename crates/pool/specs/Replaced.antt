@@ -62,6 +62,10 @@ IsAnswer None result = (result ≡ Ok tt) ⊎ ((result ≡ Err Gone) ⊎ (result
 abbrev pub HasMarked : Moment → Moment → Type 0
 HasMarked p q = (k : ℕ) × (is_current p.book.state k ≡ true) × (is_current q.book.state k ≡ false)
 
+-- one of another place is
+abbrev pub HasMarkedOther : Moment → Moment → ℕ → Type 0
+HasMarkedOther p q place = (k : ℕ) × (k ≢ place) × (is_current p.book.state k ≡ true) × (is_current q.book.state k ≡ false)
+
 -- Each refusal has its cause, in the order in which they are looked for.
 pub record HasGrowCause (l : Linear) (p q : Moment) (place : ℕ) (name : List ℕ) (result : Result (Unit {0}) GrowFault) : Type 0 where
   pub missing : (result ≡ Err NoSuchDrive) ↔ (length p.book.state.drives.items ≤ place)
@@ -73,7 +77,7 @@ pub record HasGrowCause (l : Linear) (p q : Moment) (place : ℕ) (name : List �
   pub answer : IsLookedAt p place result → (d : ℕ) → IsNamed q name d → IsAnswer (refusal_of l p.book place (q.sectors d)) result
   pub gone : result ≡ Err Gone → (d : ℕ) → IsNamed q name d → Rose (faults_before p d) (q.faults d)
   pub not_whole :
-      result ≡ Err NotWhole → (d : ℕ) → IsNamed q name d → (refusal_of l p.book place (q.sectors d) ≡ Some NotWhole) ⊎ HasMarked p q
+      result ≡ Err NotWhole → (d : ℕ) → IsNamed q name d → (refusal_of l p.book place (q.sectors d) ≡ Some NotWhole) ⊎ HasMarkedOther p q place
 
 -- ---- what is read of contents
 
@@ -85,6 +89,10 @@ MeansBy t y a i = PicksLive (is_spent y) a (contents_in t y.linear i)
 abbrev pub MeansWithout : View → View → ℕ → FlatArray → Image → Type 0
 MeansWithout x y place a i = (t : Slices) × Seats x.slices t place None × MeansBy t y a i
 
+-- By the slices of the pool as it was: as they lay, where the place's drive wasn't missing then, or without the place's disk, where it was, or was found gone.
+abbrev pub MeansFormer : View → View → ℕ → FlatArray → Image → Type 0
+MeansFormer x y place a i = ((is_current (book x).state place ≡ true) × MeansBy x.slices y a i) ⊎ MeansWithout x y place a i
+
 -- each stop since has left contents with this property
 abbrev pub LeavesNew : View → View → (Image → Type 0) → Type 0
 LeavesNew x y P = (k : ℕ) (i : Image) → x.bay.clock < k → k ≤ y.bay.clock → y.bay.stops k i → P i
@@ -95,15 +103,23 @@ LeavesNew x y P = (k : ℕ) (i : Image) → x.bay.clock < k → k ≤ y.bay.cloc
 abbrev pub DriveWentSince : Moment → Moment → ℕ → Type 0
 DriveWentSince p q k = Rose (faults_before p (disk_of q.slices (log_slice k))) (q.faults (disk_of q.slices (log_slice k)))
 
--- The drive isn't replaced. Marks alone come to the book, each of a drive that refused a call. Where the new disk itself refused one, nobody
--- is marked; and where nobody is marked and it refused none, nothing is called, and disks hold what they held. The place has the disk that it had, or none.
+-- where its slices lay before
+abbrev pub DriveWentFrom : Moment → Moment → ℕ → Type 0
+DriveWentFrom p q k = Rose (p.faults (disk_of p.slices (log_slice k))) (q.faults (disk_of p.slices (log_slice k)))
+
+-- The drive isn't replaced. Marks alone come to the book, each of a drive that refused a call. Where the new disk itself refused one, nobody but the place
+-- is marked, and the book is as it was where the place's drive was missing; and where nobody is marked and it refused none, nothing is called, and disks hold
+-- what they held. The place has the disk that it had, or it is missing and has none.
 pub record IsDeclined (p q : Moment) (place : ℕ) (fault : GrowFault) : Type 0 where
   pub marks : IsAfter p.book.state q.book.state
   pub plan : q.book.state.plan ≡ p.book.state.plan
   pub arrays : KeepsArrays p.book q.book
-  pub cause : (k : ℕ) → is_current p.book.state k ≡ true → is_current q.book.state k ≡ false → DriveWentSince p q k
-  pub slices : (q.slices ≡ p.slices) ⊎ Seats p.slices q.slices place None
-  pub unmarked : fault ≡ Gone → q.book ≡ p.book
+  pub cause : (k : ℕ) → is_current p.book.state k ≡ true → is_current q.book.state k ≡ false → DriveWentFrom p q k
+  pub slices :
+      (q.slices ≡ p.slices)
+      ⊎ (((fault ≡ Gone) ⊎ (fault ≡ NotWhole)) × (is_current q.book.state place ≡ false) × Seats p.slices q.slices place None)
+  pub unmarked : fault ≡ Gone → is_current p.book.state place ≡ false → q.book ≡ p.book
+  pub others : fault ≡ Gone → (k : ℕ) → k ≢ place → is_current p.book.state k ≡ true → is_current q.book.state k ≡ true
   pub quiet :
       fault ≢ Gone → (HasMarked p q → ⊥)
       → (q.book ≡ p.book) × (q.slices ≡ p.slices) × (q.clock ≡ p.clock) × ((d : ℕ) → d < p.disks → (s : ℕ) → q.held d s ≡ p.held d s)
@@ -114,7 +130,6 @@ pub record IsReplaced (p q : Moment) (place disk : ℕ) : Type 0 where
   pub units : ℕ
   pub units_is : option_map (λ d. d.units) (slice_get p.book.state.drives.items place) ≡ Some units
   pub enough : units_of (q.sectors disk) p.book.state.extent ≡ units
-  pub missing : is_current p.book.state place ≡ false
   pub marks : IsAfter (enlisted place units (Replace place) p.book.state) q.book.state
   pub plan : q.book.state.plan ≡ Replace place
   pub cause :
@@ -155,10 +170,11 @@ KeepsImage l p q place name =
     × ((s : ℕ) (v : List ℕ) → s < q.sectors d → ((u : List ℕ) → IsSliced q.slices d s u → ⊥) → MayLeave (q.held d s) v
     → MayLeave (held s) v ⊎ IsLaidOn l p place name (q.sectors d) d s v)
 
--- the disk that a place had isn't written, unless it is that of the name
+-- The disk that a place had, whose drive is missing, isn't written, unless it is that of the name. (One that isn't missing is cleaned before the new drive
+-- is taken in, and not written after that.)
 abbrev pub KeepsFormer : Moment → Moment → ℕ → List ℕ → Type 0
 KeepsFormer p q place name =
-    (d s : ℕ) → seat_of p.slices place ≡ Some d → (IsNamed q name d → ⊥) → s < p.sectors d → Keeps (p.held d s) (q.held d s)
+    is_current p.book.state place ≡ false → (d s : ℕ) → seat_of p.slices place ≡ Some d → (IsNamed q name d → ⊥) → s < p.sectors d → Keeps (p.held d s) (q.held d s)
 
 -- The name is of one disk afterwards: no other disk comes, and none gets a name.
 pub record NamesDisk (p q : Moment) (name : List ℕ) : Type 0 where
@@ -169,17 +185,19 @@ pub record NamesDisk (p q : Moment) (name : List ℕ) : Type 0 where
   pub others : (d : ℕ) (n : List ℕ) → IsNamed q n d → IsNamed p n d ⊎ (n ≡ name)
 
 -- What a line that names an image leaves of the disks: that of the name holds what the image held, or what is laid on a new drive, and the disk that the
--- place had isn't written.
+-- place had isn't written where its drive was missing.
 pub record TakesImage (l : Linear) (p q : Moment) (place : ℕ) (name : List ℕ) : Type 0 where
   pub names : NamesDisk p q name
   pub image : KeepsImage l p q place name
   pub former : KeepsFormer p q place name
 
 -- What a line that names a disk does to the pool's drives: the name is of one disk, no other one comes, the disk that the place had isn't
--- written unless it is the named one, and slices move only where nothing was against it. A sector that isn't spent wasn't before.
+-- written where its drive was missing, unless it is the named one, and slices move only where nothing was against it. A sector that isn't spent wasn't before.
 pub record ChangesDrive (x y : View) (place : ℕ) (name : List ℕ) : Type 0 where
   pub names : NamesDisk (moment_of x) (moment_of y) name
-  pub retired : (d : ℕ) → seat_of x.slices place ≡ Some d → (IsNamed (moment_of y) name d → ⊥) → KeepsDisk x.shelf.told x.bay y.bay d
+  pub retired :
+      is_current (book x).state place ≡ false → (d : ℕ) → seat_of x.slices place ≡ Some d → (IsNamed (moment_of y) name d → ⊥)
+      → KeepsDisk x.shelf.told x.bay y.bay d
   pub admitted :
       (y.slices ≡ x.slices) ⊎ ((d : ℕ) × IsNamed (moment_of y) name d × (refusal_of x.linear (book x) place (y.bay.sectors d) ≡ None))
   -- where slices moved none is left on the disk that the place had, unless it is the named one

@@ -1,11 +1,10 @@
 -- Why the drive of a place isn't replaced by a disk of so many sectors, by a pool's book.
-use Rattle.std.specs.Prelude.{ℕ, ◌+◌, ◌==◌, ◌&&◌, ◌||◌, not, nat_lt, Bool, true, false, List, [], ◌∷◌, drop, find, slice_get, take, Option, option_map}
+use Rattle.std.specs.Prelude.{◌≡◌, ℕ, ◌+◌, ◌==◌, ◌&&◌, ◌||◌, not, nat_lt, Bool, true, false, List, [], ◌∷◌, drop, find, slice_get, take, Option, option_map}
 use Rattle.std.specs.Bool.{then_some}
 use Rattle.std.specs.List.{list_any}
 use Rattle.std.specs.Option.{option_map_or, option_or}
 use Rattle.shr_base.specs.Units.{units_of}
-use Rattle.array_image.specs.States.{is_current}
-use Rattle.growth_plan.specs.Admission.{first_refusal, replace_refusals}
+use Rattle.growth_plan.specs.Admission.{first_refusal, is_serial_end, replace_refusals}
 use Rattle.growth_plan.specs.Target.{targets}
 use Rattle.growth_plan.specs.declared.AdmitFault.{AdmitFault}
 use Rattle.growth_plan.specs.declared.AdmitFault.TheVariants.{Size as OfSize, Smaller as OfSmaller, TooManyDrives as OfDrives, TooManyLayers as OfLayers}
@@ -47,13 +46,11 @@ abbrev pub has_same : Raid → (place sectors : ℕ) → Bool
 has_same v place sectors = has_units v.state place (units_of sectors v.state.extent) && reaches_all (views_of v) place sectors
 
 -- Each refusal by how the pool stands and by the sectors of the new disk, with its cause, in the order in which they are looked for. `Unbuilt`
--- stands for what isn't built: a drive that isn't missing is replaced; the new disk has other units; or it doesn't reach an array of the place,
--- which no sound pool meets.
+-- stands for what isn't built: the new disk has other units; or it doesn't reach an array of the place, which no sound pool meets.
 abbrev pub standing_refusals : Raid → (place sectors : ℕ) → List (GrowFault × Bool)
 standing_refusals v place sectors =
     (PlanPending, is_planned v.state.plan)
     ∷ (NotWhole, has_other_missing v.state place)
-    ∷ (Unbuilt, is_current v.state place)
     ∷ (NotResynced, has_resync (arrays_now v))
     ∷ (Unbuilt, not (has_same v place sectors))
     ∷ []
@@ -83,3 +80,11 @@ refusal_of l v place sectors =
     option_or (first_cause (standing_refusals v place sectors))
     (option_or (option_map fault_of (first_refusal (replace_refusals v.state (arrays_now v) place (units_of sectors v.state.extent))))
     (then_some (lacks_segments l v place) TooManySegments))
+
+-- What taking a disk in at a place relies on, by a pool's book: no other drive is missing, the disk has the units of the place's drive and reaches the
+-- arrays of the place, and a serial number is left. So it is where there is no refusal, and a cleaning that finds no other drive gone leaves it so.
+pub record IsAdmitted (v : Raid) (place sectors : ℕ) : Type 0 where
+  pub whole : has_other_missing v.state place ≡ false
+  pub units : has_units v.state place (units_of sectors v.state.extent) ≡ true
+  pub reaches : reaches_all (views_of v) place sectors ≡ true
+  pub serial : is_serial_end v.state ≡ false

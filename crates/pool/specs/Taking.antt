@@ -1,20 +1,22 @@
 -- The parts of a replacing: a disk is attached, and then takes the place of a drive.
-use Rattle.std.specs.Prelude.{◌≡◌, ◌≢◌, ◌⊎◌, ◌↔◌, ℕ, ◌<◌, false, List, Some, None, Result, Err, IfErr, IfOk, OnOk}
+use Rattle.std.specs.Prelude.{◌≡◌, ◌≢◌, ◌⊎◌, ◌↔◌, ℕ, ◌<◌, false, List, Some, None, Result, Ok, Err, IfErr, IfOk, OnOk}
 use Rattle.rack.specs.Values.{Keeps, MayLeave, Values}
 use Rattle.rack.specs.Seen.{Rose}
 use Rattle.flat_array.specs.Array.{FlatArray}
 use Rattle.slice_rack.specs.Runs.{IsSliced}
 use Rattle.slice_rack.specs.Slices.{seat_of}
+use Rattle.array_image.specs.States.{is_current}
 use Rattle.raid_rack.specs.Truths.{KeepsTruths}
 use Rattle.pool.specs.declared.replacing.GrowFault.{GrowFault}
 use Rattle.pool.specs.declared.replacing.GrowFault.TheVariants.{Attach, Twice, Memory, NotWhole, Gone}
 use Rattle.raid_rack.specs.NewDrive.{IsOfDrive as IsLaid}
 use Rattle.pool.specs.Continuing.{Continues, KeepsDisk, KeepsOutside, NoDisk}
-use Rattle.pool.specs.Entering.{EntersBy, LeavesBy}
+use Rattle.pool.specs.Entering.{Declines, Enters, EntersBy, LeavesBy, LeavesOut}
 use Rattle.pool.specs.Held.{KeepsHeld}
-use Rattle.pool.specs.Keeping.{KeepsBook, Raises}
+use Rattle.pool.specs.Keeping.{KeepsBook, KeepsBookBut, Raises}
+use Rattle.raid_rack.specs.Moves.{RaisesBy}
 use Rattle.pool.specs.Moment.{IsImage, IsNamed, Moment, moment_of}
-use Rattle.pool.specs.Replaced.{HasMarked, HasTable, IsAnswer, IsDeclined, IsOfDrive, IsReplaced, LeavesNew, MeansWith, MeansWithout, NamesDisk, faults_before, is_vacant}
+use Rattle.pool.specs.Replaced.{HasMarked, HasMarkedOther, HasTable, IsAnswer, IsDeclined, IsOfDrive, IsReplaced, LeavesNew, MeansFormer, MeansWith, NamesDisk, faults_before, is_vacant}
 use Rattle.pool.specs.Replacing.{refusal_of}
 use Rattle.pool.specs.View.{View, book, slices_shown, volume}
 use Rattle.pool.specs.Volume.{Holds, Means, is_spent, size_of}
@@ -59,15 +61,50 @@ pub record AttachesDisk (x y : View) (name : List ℕ) (result : Result ℕ Grow
   pub used : (d : ℕ) → IsNamed (moment_of x) name d → (result ≢ Err Attach) × (result ≢ Err Memory)
   pub twice : (result ≡ Err Twice) ↔ IsOfDrive (moment_of x) name
 
+-- A disk, which isn't a current drive's, is taken in at a place of a pool that is ready for it: the place's drive is missing, or it gives way.
+pub record TakesBy (x y : View) (place disk : ℕ) (result : Result (Unit {0}) GrowFault) : Type 0 where
+  pub continues : Continues x y
+  pub carries : Carries x y
+  pub raises : RaisesBy 19 (book x) (book y)
+  pub keeps : KeepsBookBut place (book x) (book y)
+  pub kept : IfErr result (λ e. KeepsBook (book x) (book y))
+  pub outside : KeepsOutside x.slices y.slices (λ d. d ≡ disk) x.shelf.told x.bay y.bay
+  -- the disk that the place had isn't written, but where a drive is found gone that isn't missing
+  pub retired :
+      (is_current (book x).state place ≡ false) ⊎ (result ≢ Err NotWhole) → (d : ℕ) → seat_of x.slices place ≡ Some d → d ≢ disk
+      → KeepsDisk x.shelf.told x.bay y.bay d
+  pub bare : (d : ℕ) → seat_of x.slices place ≡ Some d → d ≢ disk → (y.slices ≡ x.slices) ⊎ ((s : ℕ) (v : List ℕ) → IsSliced y.slices d s v → ⊥)
+  -- outside the slices the disk may be left with what it held, or with what is laid on a new drive
+  pub laid :
+      disk < x.bay.disks → AreTold x → (s : ℕ) (v : List ℕ) → s < x.bay.sectors disk → ((u : List ℕ) → IsSliced y.slices disk s u → ⊥)
+      → MayLeave (y.bay.held disk s) v
+      → MayLeave (x.bay.held disk s) v ⊎ IsLaid disk (x.bay.sectors disk) disk s v
+  pub names : y.shelf.names ≡ x.shelf.names
+  pub disks : y.bay.disks ≡ x.bay.disks
+  pub answer : (result ≡ Ok tt) ⊎ ((result ≡ Err Gone) ⊎ (result ≡ Err NotWhole))
+  pub gone : result ≡ Err Gone → Rose (x.bay.faults disk) (y.bay.faults disk)
+  pub not_whole : result ≡ Err NotWhole → HasMarked (moment_of x) (moment_of y)
+  pub declined : IfErr result (IsDeclined (moment_of x) (moment_of y) place)
+  pub left : IfErr result (λ e. LeavesBy x y place disk)
+  pub out : result ≡ Err NotWhole → LeavesOut x y place disk
+  pub replaced : OnOk result (IsReplaced (moment_of x) (moment_of y) place disk)
+  pub table : OnOk result (HasTable x y place disk)
+  pub enters : OnOk result (EntersBy x y place disk)
+  pub leaves : x.bay.traced → (a : FlatArray) → Holds x a → LeavesNew x y (λ i. MeansFormer x y place a i ⊎ Means y a i)
+  pub moments :
+      OnOk result (x.bay.traced → (a : FlatArray) → Holds x a → LeavesNew x y (λ i. MeansFormer x y place a i ⊎ MeansWith x y place disk a i))
+
 -- A disk, which isn't a current drive's, takes the place of a drive.
 pub record ReplacesBy (x y : View) (place disk : ℕ) (result : Result (Unit {0}) GrowFault) : Type 0 where
   pub continues : Continues x y
   pub carries : Carries x y
   pub raises : Raises 1 x y
-  pub keeps : KeepsBook (book x) (book y)
+  pub keeps : KeepsBookBut place (book x) (book y)
+  pub kept : IfErr result (λ e. KeepsBook (book x) (book y))
   pub outside : KeepsOutside x.slices y.slices (λ d. d ≡ disk) x.shelf.told x.bay y.bay
-  -- the disk that the place had isn't written any more
-  pub retired : (d : ℕ) → seat_of x.slices place ≡ Some d → d ≢ disk → KeepsDisk x.shelf.told x.bay y.bay d
+  -- the disk that the place had, whose drive is missing, isn't written any more
+  pub retired :
+      is_current (book x).state place ≡ false → (d : ℕ) → seat_of x.slices place ≡ Some d → d ≢ disk → KeepsDisk x.shelf.told x.bay y.bay d
   pub bare : (d : ℕ) → seat_of x.slices place ≡ Some d → d ≢ disk → (y.slices ≡ x.slices) ⊎ ((s : ℕ) (v : List ℕ) → IsSliced y.slices d s v → ⊥)
   -- outside the slices it may be left with what it held, or with what is laid on a new drive
   pub laid :
@@ -82,14 +119,14 @@ pub record ReplacesBy (x y : View) (place disk : ℕ) (result : Result (Unit {0}
   pub admitted : (y.slices ≡ x.slices) ⊎ (refusal_of x.linear (book x) place (x.bay.sectors disk) ≡ None)
   pub gone : result ≡ Err Gone → Rose (x.bay.faults disk) (y.bay.faults disk)
   pub not_whole :
-      result ≡ Err NotWhole → (refusal_of x.linear (book x) place (x.bay.sectors disk) ≡ Some NotWhole) ⊎ HasMarked (moment_of x) (moment_of y)
+      result ≡ Err NotWhole
+      → (refusal_of x.linear (book x) place (x.bay.sectors disk) ≡ Some NotWhole) ⊎ HasMarkedOther (moment_of x) (moment_of y) place
   pub declined : IfErr result (IsDeclined (moment_of x) (moment_of y) place)
-  -- no time passed, or it was laid and not taken in
-  pub left : IfErr result (λ e. (y.bay.clock ≡ x.bay.clock) ⊎ LeavesBy x y place disk)
+  -- no time passed, or nothing had been against it
+  pub left : IfErr result (λ e. (y.bay.clock ≡ x.bay.clock) ⊎ Declines x y place disk)
   pub replaced : OnOk result (IsReplaced (moment_of x) (moment_of y) place disk)
   pub table : OnOk result (HasTable x y place disk)
-  pub enters : OnOk result (EntersBy x y place disk)
-  pub leaves :
-      x.bay.traced → (a : FlatArray) → Holds x a → LeavesNew x y (λ i. MeansWithout x y place a i ⊎ Means y a i)
+  pub enters : OnOk result (Enters x y place disk)
+  pub leaves : x.bay.traced → (a : FlatArray) → Holds x a → LeavesNew x y (λ i. MeansFormer x y place a i ⊎ Means y a i)
   pub moments :
-      OnOk result (x.bay.traced → (a : FlatArray) → Holds x a → LeavesNew x y (λ i. MeansWithout x y place a i ⊎ MeansWith x y place disk a i))
+      OnOk result (x.bay.traced → (a : FlatArray) → Holds x a → LeavesNew x y (λ i. MeansFormer x y place a i ⊎ MeansWith x y place disk a i))

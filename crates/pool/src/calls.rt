@@ -4,6 +4,8 @@ ghost use Rattle.std.specs.Prelude.{◌≡◌, ◌<◌, ◌^◌, ◌∷◌, None
 ghost use Rattle.array_image.specs.States.{is_current};
 ghost use Rattle.pool.specs.View.{arrays_of, bay_in, book, view, volume};
 ghost use Rattle.pool.specs.Volume.{size_of};
+ghost use Rattle.pool.specs.Entering.{Cleaned};
+ghost use Rattle.pool.specs.Taking.{Carries};
 ghost use Rattle.pool.specs.Calls.{Ends, Flushes, LosesDrive, ReadsSector, WritesSector};
 ghost use Rattle.raid_rack.specs.RaidRack.{arrays_of as arrays_by_number};
 
@@ -125,6 +127,16 @@ impl<R: Bay> Pool<R> {
         }
     }
 
+    /// Cleans all arrays: each one's members are synced before its superblocks are written, so no flush comes first.
+    pub(crate) fn clean(&mut self)
+        requires { (volume (view R.seen R.shelf self.old)).fit }
+        ensures cleaned { Cleaned (view R.seen R.shelf self.old) (view R.seen R.shelf self.new) }
+        ensures carries { Carries (view R.seen R.shelf self.old) (view R.seen R.shelf self.new) }
+        ensures runs { R.runs (bay_in self.old) (bay_in self.new) }
+    {
+        self.volume.inner().clean();
+    }
+
     /// Ends a run: all values are durable, and the superblocks of each array say that no row is left to resync, but for those that
     /// were left when the pool was opened.
     pub fn end(&mut self)
@@ -132,8 +144,7 @@ impl<R: Bay> Pool<R> {
         ensures ended { Ends (view R.seen R.shelf self.old) (view R.seen R.shelf self.new) }
         ensures runs { R.runs (bay_in self.old) (bay_in self.new) }
     {
-        // Each array's members are synced before its superblocks are written, so no flush comes first.
-        self.volume.inner().clean();
+        self.clean();
     }
 
     /// The bay, as it is.

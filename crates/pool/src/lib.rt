@@ -12,9 +12,10 @@
 //! cause (specs/Calls.antt); each step of maintenance takes one work off those that are left (specs/Works.antt); drives are marked lost
 //! only where their faults rose, or the caller lost them (`Marks`); and of the bay's disks only sectors of slices are written (`Passes`).
 //!
-//! **A replaced drive.** [`Pool::replace`] attaches a disk and takes it in at a place whose drive is missing (`ReplacesDrive` of
-//! specs/Naming.antt). The volume goes on with its values; each refusal has its cause, in a fixed order (specs/Replacing.antt); what a
-//! stop inside leaves is read without the new drive, or with it and its table. Runs of calls that attach disks too are joined by
+//! **A replaced drive.** [`Pool::replace`] attaches a disk and takes it in at a place whose drive is missing, or gives way to it
+//! (`ReplacesDrive` of specs/Naming.antt). The volume goes on with its values; each refusal has its cause, in a fixed order
+//! (specs/Replacing.antt); what a stop inside leaves is read as before it, or with the new drive and its table. A drive that gives way
+//! is cleaned first, with all arrays, and is the place's until the new one is (specs/Entering.antt). Runs of calls that attach disks too are joined by
 //! proofs/Continuing.antt (`Continues`, `KeepsOutside`).
 #![tactic(auto)]
 

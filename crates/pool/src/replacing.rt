@@ -43,7 +43,7 @@ pub enum GrowFault {
     /// Rows are left to resync.
     #[error("rows are left to resync")]
     NotResynced,
-    /// The drive that is replaced isn't missing, or the new one has other units: that isn't built.
+    /// The new drive has other units than the one that it replaces: that isn't built.
     #[error("not built")]
     Unbuilt,
     /// Its units lie between those of the drives, or below all of them.
@@ -84,7 +84,7 @@ fn lacks_one(drives: &[Drive]) -> bool
 }
 
 /// Whether another drive than that of a place is marked missing.
-fn has_other_missing(state: &State, place: u32) -> bool
+pub(crate) fn has_other_missing(state: &State, place: u32) -> bool
     requires { place < length state.now.drives.items }
     ensures { result ≡ spec.has_other_missing state.now place }
 {
@@ -187,9 +187,6 @@ impl<R: Bay> Pool<R> {
         }
         if has_other_missing(state, place) {
             return Err(GrowFault::NotWhole);
-        }
-        if self.has_drive(place) {
-            return Err(GrowFault::Unbuilt);
         }
         if has_resync(progress) {
             return Err(GrowFault::NotResynced);

@@ -7,10 +7,11 @@ ghost use Rattle.slice_rack.specs.Slices.{seat_of};
 ghost use Rattle.pool.specs.Moment.{moment_of};
 ghost use Rattle.pool.specs.Naming.{ReplacesDrive};
 ghost use Rattle.pool.specs.Replaced.{is_vacant};
-ghost use Rattle.pool.specs.Replacing.{refusal_of};
-ghost use Rattle.pool.specs.Taking.{AttachesDisk, IsOfPlace, ReplacesBy};
+ghost use Rattle.pool.specs.Replacing.{IsAdmitted, has_other_missing, refusal_of};
+ghost use Rattle.pool.specs.Taking.{AttachesDisk, IsOfPlace, ReplacesBy, TakesBy};
 ghost use Rattle.pool.specs.View.{bay_in, book, view, volume, with_bay};
 
+use crate::replacing::has_other_missing;
 use crate::{GrowFault, Pool};
 use pool_state::Plan;
 use rack::{AttachFault, Bay, Rack};
@@ -83,15 +84,24 @@ impl<R: Bay> Pool<R> {
         self.state().serial
     }
 
-    /// Puts a disk in the place of a drive, where nothing that was looked at is against it.
-    fn take_in(&mut self, place: u32, disk: u32) -> Result<(), GrowFault>
+    /// Whether another drive than that of a place is marked missing.
+    fn lacks_other(&self, place: u32) -> bool
+        requires { place < length (book (view R.seen R.shelf self.now)).state.drives.items }
+        ensures { result ≡ has_other_missing (book (view R.seen R.shelf self.now)).state place }
+    {
+        has_other_missing(self.state(), place)
+    }
+
+    /// Puts a disk in the place of a drive that is missing.
+    fn fill(&mut self, place: u32, disk: u32) -> Result<(), GrowFault>
         requires fit { (volume (view R.seen R.shelf self.old)).fit }
         requires listed { place < length (book (view R.seen R.shelf self.old)).state.drives.items }
         requires disk { disk < (R.seen (bay_in self.old)).disks }
         requires other { IsOfPlace (moment_of (view R.seen R.shelf self.old)) disk → ⊥ }
-        requires admitted { refusal_of (view R.seen R.shelf self.old).linear (book (view R.seen R.shelf self.old)) place ((R.seen (bay_in self.old)).sectors disk) ≡ None }
-        ensures replaces { ReplacesBy (view R.seen R.shelf self.old) (view R.seen R.shelf self.new) place disk result }
-        ensures lenders { R.lenders (bay_in self.new) ≡ R.lenders (bay_in self.old) }
+        requires missing { is_current (book (view R.seen R.shelf self.old)).state place ≡ false }
+        requires admitted { IsAdmitted (book (view R.seen R.shelf self.old)) place ((R.seen (bay_in self.old)).sectors disk) }
+        ensures takes { TakesBy (view R.seen R.shelf self.old) (view R.seen R.shelf self.new) place disk result }
+        ensures runs { R.runs (bay_in self.old) (bay_in self.new) }
     {
         // It isn't at its end, since a drive is admitted.
         let _ = self.serial();
@@ -102,6 +112,94 @@ impl<R: Bay> Pool<R> {
             Ok(()) => Ok(()),
             Err(EnlistFault::Gone) => Err(GrowFault::Gone),
             Err(EnlistFault::NotWhole) => Err(GrowFault::NotWhole),
+        }
+    }
+
+    /// Puts a disk in the place of a drive that isn't missing: that is the place's until the commit that takes the new one in.
+    fn exchange(&mut self, place: u32, disk: u32) -> Result<(), GrowFault>
+        requires fit { (volume (view R.seen R.shelf self.old)).fit }
+        requires listed { place < length (book (view R.seen R.shelf self.old)).state.drives.items }
+        requires disk { disk < (R.seen (bay_in self.old)).disks }
+        requires other { IsOfPlace (moment_of (view R.seen R.shelf self.old)) disk → ⊥ }
+        requires current { is_current (book (view R.seen R.shelf self.old)).state place ≡ true }
+        requires admitted { IsAdmitted (book (view R.seen R.shelf self.old)) place ((R.seen (bay_in self.old)).sectors disk) }
+        ensures takes { TakesBy (view R.seen R.shelf self.old) (view R.seen R.shelf self.new) place disk result }
+        ensures runs { R.runs (bay_in self.old) (bay_in self.new) }
+    {
+        // It isn't at its end, since a drive is admitted.
+        let _ = self.serial();
+        let units = self.units_of(place);
+        let raid = self.volume.inner();
+        match raid.enlist(place, disk, units, Plan::Replace { place }) {
+            Ok(()) => Ok(()),
+            Err(EnlistFault::Gone) => Err(GrowFault::Gone), // nobody else
+            Err(EnlistFault::NotWhole) => Err(GrowFault::NotWhole),
+        }
+    }
+
+    /// Puts a disk in the place of a drive that is missing, where no other one is.
+    fn fill_alone(&mut self, place: u32, disk: u32) -> Result<(), GrowFault>
+        requires fit { (volume (view R.seen R.shelf self.old)).fit }
+        requires listed { place < length (book (view R.seen R.shelf self.old)).state.drives.items }
+        requires disk { disk < (R.seen (bay_in self.old)).disks }
+        requires other { IsOfPlace (moment_of (view R.seen R.shelf self.old)) disk → ⊥ }
+        requires alone { has_other_missing (book (view R.seen R.shelf self.old)).state place ≡ false → (is_current (book (view R.seen R.shelf self.old)).state place ≡ false)
+            × IsAdmitted (book (view R.seen R.shelf self.old)) place ((R.seen (bay_in self.old)).sectors disk) }
+        ensures kept { has_other_missing (book (view R.seen R.shelf self.old)).state place ≡ true → (result ≡ Err GrowFault.NotWhole) × (self.new ≡ self.old) }
+        ensures takes { has_other_missing (book (view R.seen R.shelf self.old)).state place ≡ false → TakesBy (view R.seen R.shelf self.old) (view R.seen R.shelf self.new) place disk result }
+        ensures runs { R.runs (bay_in self.old) (bay_in self.new) }
+    {
+        if self.lacks_other(place) {
+            return Err(GrowFault::NotWhole);
+        }
+        self.fill(place, disk)
+    }
+
+    /// Puts a disk in the place of a drive that isn't missing, where nothing that was looked at is against it. All arrays are cleaned first.
+    /// Where the drive itself is found gone meanwhile, it is as one that was missing.
+    fn give_way(&mut self, place: u32, disk: u32) -> Result<(), GrowFault>
+        requires fit { (volume (view R.seen R.shelf self.old)).fit }
+        requires listed { place < length (book (view R.seen R.shelf self.old)).state.drives.items }
+        requires disk { disk < (R.seen (bay_in self.old)).disks }
+        requires other { IsOfPlace (moment_of (view R.seen R.shelf self.old)) disk → ⊥ }
+        requires current { is_current (book (view R.seen R.shelf self.old)).state place ≡ true }
+        requires admitted { refusal_of (view R.seen R.shelf self.old).linear (book (view R.seen R.shelf self.old)) place ((R.seen (bay_in self.old)).sectors disk) ≡ None }
+        ensures replaces { ReplacesBy (view R.seen R.shelf self.old) (view R.seen R.shelf self.new) place disk result }
+        ensures runs { R.runs (bay_in self.old) (bay_in self.new) }
+    {
+        self.clean();
+        if self.lacks_other(place) {
+            return Err(GrowFault::NotWhole);
+        }
+        if !self.has_drive(place) {
+            return self.fill(place, disk);
+        }
+        match self.exchange(place, disk) {
+            Ok(()) => Ok(()),
+            Err(fault) => {
+                if self.has_drive(place) {
+                    Err(fault)
+                } else {
+                    self.fill_alone(place, disk)
+                }
+            }
+        }
+    }
+
+    /// Puts a disk in the place of a drive, where nothing that was looked at is against it.
+    fn take_in(&mut self, place: u32, disk: u32) -> Result<(), GrowFault>
+        requires fit { (volume (view R.seen R.shelf self.old)).fit }
+        requires listed { place < length (book (view R.seen R.shelf self.old)).state.drives.items }
+        requires disk { disk < (R.seen (bay_in self.old)).disks }
+        requires other { IsOfPlace (moment_of (view R.seen R.shelf self.old)) disk → ⊥ }
+        requires admitted { refusal_of (view R.seen R.shelf self.old).linear (book (view R.seen R.shelf self.old)) place ((R.seen (bay_in self.old)).sectors disk) ≡ None }
+        ensures replaces { ReplacesBy (view R.seen R.shelf self.old) (view R.seen R.shelf self.new) place disk result }
+        ensures lenders { R.lenders (bay_in self.new) ≡ R.lenders (bay_in self.old) }
+    {
+        if self.has_drive(place) {
+            self.give_way(place, disk)
+        } else {
+            self.fill(place, disk)
         }
     }
 
@@ -121,11 +219,15 @@ impl<R: Bay> Pool<R> {
         }
     }
 
-    /// Replaces the drive of a place, which is missing, by the disk of a name, which is attached where it isn't yet. The disk gets a
+    /// Replaces the drive of a place, missing or not, by the disk of a name, which is attached where it isn't yet. The disk gets a
     /// partition table, and slices for the log and for the arrays of the place; its members there are to be rebuilt from their start. No
     /// value of the volume moves.
     ///
-    /// The refusals are looked for in the order of [`GrowFault`]. Nothing is written before `Gone` or `NotWhole` of a drive that was
+    /// A drive that isn't missing is the place's until one commit on the others takes the new one in; from then on it isn't written.
+    /// Before that all arrays are cleaned. Where it is found gone meanwhile, it is marked and the new drive is taken in as in the place of
+    /// a missing one.
+    ///
+    /// The refusals are looked for in the order of [`GrowFault`]. Nothing is written before `Gone`, or `NotWhole` of another drive that was
     /// found gone.
     pub fn replace(&mut self, place: u32, name: &str) -> Result<(), GrowFault>
         requires { (volume (view R.seen R.shelf self.old)).fit }

@@ -6,14 +6,15 @@
 -- whatever the disks may be left with holds that pool again, `vacant_again` says it where a place whose drive is missing gave its disk up.
 --
 -- What a run has to tell of a drive that was taken in, from the book v, the tables t and the disks x before to w, u and z after it:
--- - `SeatsNew`, of the place: it is in the list, its drive is missing, no other place's is that had a disk, and the disk is none of theirs; `seats`
+-- - `SeatsNew`, of the place: it is in the list, no other place's drive is missing that had a disk, and the disk is none of theirs; `seats`
 --   are those of the tables (`seats_through` of proofs/Vacant.antt, where the place gave its disk up before). `fresh`: ids of serials differ
 --   (proofs/Serials.antt). `room`: numbers aren't used up at the end (`epoch_room` of proofs/Lost.antt). `members`: the disk reaches the arrays of
 --   which the place is a member (`joins_member` of proofs/NewMembers.antt).
 -- - `KeepsRest`, of the disks: `outside`, that sectors which are told, unspent and in no slice keep what they held, and stay unspent, on all disks
 --   but the new one. `alone`, that no superblock stands on it where slices would begin of arrays that the place is no member of. `earlier`, that a
 --   disk which came says no state or an earlier one, and so does the drive that the place had when f was opened: by `lost_earlier` of proofs/Lost.antt,
---   where its sector of the state has stayed since the arrays were told with it, or by `lacks_still` of proofs/Vacant.antt, where it gave the disk up.
+--   where its sector of the state has stayed since the arrays were told with it (`former_earlier`, where the place's drive was there until the new one came), or by
+--   `lacks_still` of proofs/Vacant.antt, where it gave the disk up.
 -- - `JoinsBook`, of the book: marks alone come to `enlisted place units plan v.state`, and but for the renewed members the arrays stay.
 -- For a drive that was declined `KeepsOthers` says so of the disks: what came says an earlier state, and the disk that may have been written one that
 -- it may have said before, or none. `LacksDrive` (kept by `lacks_calls`, `lacks_still`) says of the place, where it has no disk any more, that t are still

@@ -25,13 +25,14 @@ use Rattle.pool_model.proofs.Taken.{IsKnownBefore}
 use Rattle.pool_model.proofs.TakenSlices.{none_here}
 use Rattle.pool_model.proofs.Vacant.{seats_from}
 
-module _ (f : Found) (t u : Slices) (v : Raid) (place disk : ℕ) (x : Seen) (is : InService f t v x) (new : SeatsNew f t u v place disk (x.sectors disk)) where
+module _ (f : Found) (t u : Slices) (v : Raid) (place disk : ℕ) (x : Seen) (is : InService f t v x) (new : SeatsNew f t u v place disk (x.sectors disk))
+    (missing : is_current v.state place ≡ false) where
   few : f.state.made ≤ 16
   few = is.arranged.made.1
 
   -- a current place is another one
   other_place : (p : ℕ) → is_current v.state p ≡ true → p ≢ place
-  other_place p now same = both_ways (is_current v.state p) (subst (λ q. is_current v.state q ≡ false) (sym same) new.missing) now
+  other_place p now same = both_ways (is_current v.state p) (subst (λ q. is_current v.state q ≡ false) (sym same) missing) now
 
   seat_other : (p : ℕ) → p ≢ place → slice_seat u p ≡ slice_seat t p
   seat_other p other = new.seats.seats p ∙ ap (λ (b : Bool). if b then Some disk else slice_seat t p) (ne_eqb p place other)

@@ -14,24 +14,25 @@ use Rattle.pool_image.specs.Disks.{Disks, Identity, disks_of, id_at, id_by, iden
 use Rattle.pool_image.specs.Drives.{Found}
 use Rattle.pool_model.specs.Alone.{IsUngiven}
 use Rattle.pool_model.specs.InService.{InService}
-use Rattle.pool_model.specs.Laid.{HaveOtherIds, IsJoinedOff}
+use Rattle.pool_model.specs.Laid.{HaveOtherIds, IsJoinedOff, SaysFormerly}
 use Rattle.pool_model.specs.Left.{IsPickOff}
-use Rattle.pool_model.specs.Taken.{AreDistinct, AreSerial, LacksDrive, SeatsNew}
-use Rattle.pool_model.proofs.JoiningNames.{off_vacant, off_was, says_was, was}
+use Rattle.pool_model.specs.Taken.{AreDistinct, AreSerial, SeatsNew}
+use Rattle.pool_model.proofs.JoiningNames.{off_by, off_was, says_was, was}
 use Rattle.pool_model.proofs.Serials.{serial_fresh}
 
 some_same : {X : Type 0} (a b : X) → Some a ≡ Some b → a ≡ b
 some_same a b same = cc
 
-module _ (f : Found) (s t u : Slices) (v : Raid) (place disk units : ℕ) (plan : Plan) (x : Seen) (i : Image) (is : InService f s v x)
-    (new : SeatsNew f s u v place disk (x.sectors disk)) (lacks : LacksDrive f s t v place x) (joined : IsJoinedOff f t u v place disk x i) where
+module _ (f : Found) (s u : Slices) (v : Raid) (place disk units : ℕ) (plan : Plan) (x : Seen) (i : Image) (is : InService f s v x)
+    (new : SeatsNew f s u v place disk (x.sectors disk)) (joined : IsJoinedOff f u v place disk x i)
+    (formerly : (d : ℕ) (copy : Copied) → f.seats place ≡ Some d → d ≢ disk → (identities_of (disks_of x) i d).copied ≡ Some copy → SaysFormerly v.state place copy) where
   -- the contents before, by which others say what they say now
   abbrev before : Image
-  before = was f s t u v place disk units plan x i is new lacks joined
+  before = was f s u v place disk units plan x i is new joined formerly
 
   said_before : (d : ℕ) → d ≢ disk → identities_of f.disks before d ≡ identities_of f.disks i d
   said_before d other =
-      ap (λ (q : Disks). identities_of q before d) is.disks ∙ says_was f s t u v place disk units plan x i is new lacks joined d other
+      ap (λ (q : Disks). identities_of q before d) is.disks ∙ says_was f s u v place disk units plan x i is new joined formerly d other
       ∙ sym (ap (λ (q : Disks). identities_of q i d) is.disks)
 
   next_is : (next_drive v.state).0 ≡ (next_drive f.state).0
@@ -39,7 +40,7 @@ module _ (f : Found) (s t u : Slices) (v : Raid) (place disk units : ℕ) (plan 
 
   pub joining_ids : (bound : ℕ) → f.state.serial < bound → AreSerial f.state → AreDistinct f.state.pool.0 f.state.serial
       → ((j : Image) → IsPickOff s x j → (d : ℕ) → ((p : ℕ) → f.seats p ≡ Some d → ⊥) → d < f.disks.count → d ≢ disk → IsUngiven f.state bound (identities_of f.disks j d))
-      → ((j : Image) → IsPickOff t x j → (d : ℕ) → f.seats place ≡ Some d → d ≢ disk
+      → ((j : Image) → IsPickOff u x j → (d : ℕ) → f.seats place ≡ Some d → d ≢ disk
       → (copy : Copied) × ((identities_of (disks_of x) j d).copied ≡ Some copy) × (id_at copy.state copy.own ≡ id_at f.state place))
       → HaveOtherIds f v.state place disk i
   joining_ids bound early serials distinct ungiven former d low other apart named = by (f.seats place) refl
@@ -50,7 +51,7 @@ module _ (f : Found) (s t u : Slices) (v : Raid) (place disk units : ℕ) (plan 
       -- it is no drive
       none : (f.seats place ≡ Some d → ⊥) → ⊥
       none lost =
-          ungiven before (off_was f s t u v place disk units plan x i is new lacks joined) d
+          ungiven before (off_was f s u v place disk units plan x i is new joined formerly) d
           (λ p seat. elim (cases_eq p place) [ inl same ↦ lost (ap f.seats (sym same) ∙ seat) | inr away ↦ apart p away seat ]) low other f.state.serial (omega arith) early here
 
       by : (o : Option ℕ) → f.seats place ≡ o → ⊥
@@ -58,7 +59,7 @@ module _ (f : Found) (s t u : Slices) (v : Raid) (place disk units : ℕ) (plan 
       by (Some k) has = elim (cases_eq k d) [
         | inr away ↦ none (λ seat. away (some_same k d (sym has ∙ seat)))
         | inl same ↦
-            let one = former before (off_vacant f s t u v place disk units plan x i is new lacks joined) d (has ∙ ap Some same) other in
+            let one = former before (off_by f s u v place disk units plan x i is new joined formerly u (λ d k w apart_from at. at)) d (has ∙ ap Some same) other in
             let copied = ap (λ (q : Disks). (identities_of q before d).copied) is.disks ∙ one.1 in
             serial_fresh f.state serials distinct place (sym one.2 ∙ sym (ap (λ (o : Option Copied). id_by (identities_of f.disks before d).table o) copied) ∙ here)
       ]

@@ -13,10 +13,10 @@ use Rattle.pool_model.proofs.JoiningStands.{joining_stands}
 use Rattle.pool_model.proofs.Shown.{says_stopped, stood_between}
 
 -- h is the pool with the drive, r the book that has it, and v the state before. A drive is left that the pool had.
-pub joining_late : (h : Found) (u : Slices) (v : State) (r w : Raid) (i : Image) (is : IsCalledBy h u r) (parts : ShowsParts h u r w i)
+pub joining_late : (h : Found) (u : Slices) (v : State) (r w : Raid) (place : ℕ) (i : Image) (is : IsCalledBy h u r) (parts : ShowsParts h u r w i)
     (left : (p : ℕ) × (is_current v p ≡ true) × (is_current w.state p ≡ true))
-    → ShowsJoining (record h { identities = parts.said.identities }) u v r.state parts.logs.state i → HoldAmid h u r.state w.state i
-joining_late h u v r w i is parts left shows =
+    → ShowsJoining (record h { identities = parts.said.identities }) u v r.state parts.logs.state place i → HoldAmid h u r.state w.state i
+joining_late h u v r w place i is parts left shows =
     let someone : (s : State) → IsAfter r.state s → IsAfter s w.state → (p d : ℕ) × (is_current s p ≡ true) × (h.seats p ≡ Some d) =
     λ s later sooner. (
     let now = sooner.current left.0 left.2 in
@@ -24,7 +24,7 @@ joining_late h u v r w i is parts left shows =
     (left.0, drive.0, now, drive.1)) in
     let between =
     stood_between h u r w i is parts someone
-    (joining_stands (record h { identities = parts.said.identities }) u v r.state parts.logs.state i (says_stopped h u r w i is parts someone) shows) in
+    (joining_stands (record h { identities = parts.said.identities }) u v r.state parts.logs.state place i (says_stopped h u r w i is parts someone) shows) in
     record {
       between = between;
       present = λ p counts. let one = shows.present p (between.later.current p counts) in (one.0, between.still.seats p counts ∙ one.1);

@@ -3,7 +3,7 @@
 use Rattle.std.proofs.Common.{◌≡◌, ◌≢◌, ◌⊎◌, ℕ, ◌+◌, ◌-◌, ◌<◌, ◌≤◌, ◌^◌, ◌==◌, if◌then◌else◌, Bool, true, bytes_eq, position, List, Option, Some, None, option_map, refl, sym, ap, subst, ◌∙◌, inl, inr, eq-eqb, lt-ltb, arith}
 use Rattle.std.specs.Option.{option_and_then, option_map_or}
 use Rattle.std.specs.Result.{result_ok}
-use Rattle.std.proofs.lemmas.Bool.{both_ways, cases_eq, ne_eqb}
+use Rattle.std.proofs.lemmas.Bool.{cases_eq, ne_eqb}
 use Rattle.std.proofs.lemmas.Option.{none-some}
 use Rattle.rack.specs.Seen.{Image, Seen}
 use Rattle.rack.specs.Values.{MayLeave}
@@ -23,31 +23,32 @@ use Rattle.commit_log.specs.Kept.{IsNoLater}
 use Rattle.raid_rack.specs.Book.{IsAfter}
 use Rattle.raid_rack.specs.Enlisting.{enlisted, next_drive}
 use Rattle.raid_rack.specs.Raid.{Raid}
-use Rattle.raid_rack.specs.Since.{AreJoinSince}
+use Rattle.raid_rack.specs.Since.{AreTakenSince}
 use Rattle.raid_rack.proofs.Noted.{current_few}
 use Rattle.pool_image.specs.Disks.{Disks, Identities, Identity, disks_of, id_at, id_by, identities_of, stands_for}
 use Rattle.pool_image.specs.Drives.{Found}
 use Rattle.pool_model.specs.InService.{HasSeat, InService, IsArranged, IsSaid, epoch_at}
-use Rattle.pool_model.specs.Laid.{HaveOtherIds, IsJoinedOff, NamesJoining}
+use Rattle.pool_model.specs.Laid.{GoesBy, HaveOtherIds, IsJoinedOff, NamesJoining, SaysFormerly}
 use Rattle.pool_model.specs.Left.{IsPickOff}
 use Rattle.pool_model.specs.Pools.{AreSlicesOf}
-use Rattle.pool_model.specs.Taken.{LacksDrive, SeatsNew, taken}
+use Rattle.pool_model.specs.Taken.{SeatsNew, taken, views_of}
 use Rattle.pool_model.proofs.Found.{ok_of}
 use Rattle.pool_model.proofs.Joined.{current_here, id_here, id_other, names_here, names_other}
 use Rattle.pool_model.proofs.Logs.{copied_in, there_in}
 use Rattle.pool_model.proofs.Named.{IsNamed, id_same, same_position, stands_named}
 use Rattle.pool_model.proofs.Outset.{no_later_epoch}
 use Rattle.pool_model.proofs.Said.{AreInside}
+use Rattle.pool_model.proofs.Staying.{sliced_seated}
 use Rattle.pool_model.proofs.Taken.{IsKnownBefore, arranged_taken, seat_here, seat_other}
 use Rattle.pool_model.proofs.TakenSlices.{slices_taken}
-use Rattle.pool_model.proofs.Vacant.{sliced_before}
 
 some_same : {X : Type 0} (a b : X) → Some a ≡ Some b → a ≡ b
 some_same a b same = cc
 
--- s are the tables by which the pool goes, t those in which the place has no disk, and u those with the new one
-module _ (f : Found) (s t u : Slices) (v : Raid) (place disk units : ℕ) (plan : Plan) (x : Seen) (i : Image) (is : InService f s v x)
-    (new : SeatsNew f s u v place disk (x.sectors disk)) (lacks : LacksDrive f s t v place x) (joined : IsJoinedOff f t u v place disk x i) where
+-- s are the tables by which the pool goes, and u those with the new drive. The drive that the place had says a state from before, or its own of the book's state.
+module _ (f : Found) (s u : Slices) (v : Raid) (place disk units : ℕ) (plan : Plan) (x : Seen) (i : Image) (is : InService f s v x)
+    (new : SeatsNew f s u v place disk (x.sectors disk)) (joined : IsJoinedOff f u v place disk x i)
+    (formerly : (d : ℕ) (copy : Copied) → f.seats place ≡ Some d → d ≢ disk → (identities_of (disks_of x) i d).copied ≡ Some copy → SaysFormerly v.state place copy) where
   pub known : IsKnownBefore f v
   known = record { outset = is.arranged; after = is.after; geometry = is.geometry }
 
@@ -57,10 +58,10 @@ module _ (f : Found) (s t u : Slices) (v : Raid) (place disk units : ℕ) (plan 
   abbrev pub h : Found
   h = taken f (disks_of x) place disk next
 
-  abbrev ids : Identities
+  abbrev pub ids : Identities
   ids = identities_of (disks_of x) i
 
-  count : f.disks.count ≡ x.disks
+  pub count : f.disks.count ≡ x.disks
   count = ap (λ (q : Disks). q.count) is.disks
 
   pub same_sectors : (d : ℕ) → d < f.disks.count → x.sectors d ≡ f.disks.sectors d
@@ -93,7 +94,7 @@ module _ (f : Found) (s t u : Slices) (v : Raid) (place disk units : ℕ) (plan 
   pub was_other : (d : ℕ) → d ≢ disk → was d ≡ i d
   was_other d other = let read : Bool → ℕ → List ℕ = λ b k. if b then (x.held d k).current else i d k in ap read (ne_eqb d disk other)
 
-  off_by : (r : Slices) → ((d k : ℕ) (w : List ℕ) → d ≢ disk → IsSliced u d k w → IsSliced r d k w) → IsPickOff r x was
+  pub off_by : (r : Slices) → ((d k : ℕ) (w : List ℕ) → d ≢ disk → IsSliced u d k w → IsSliced r d k w) → IsPickOff r x was
   off_by r fewer d k live never = elim (cases_eq d disk) [
     | inl same ↦ subst (λ c. MayLeave (x.held d k) c) (sym (ap (λ (b : Bool). if b then (x.held d k).current else i d k) (eq-eqb d disk same))) (inl refl)
     | inr other ↦
@@ -102,12 +103,12 @@ module _ (f : Found) (s t u : Slices) (v : Raid) (place disk units : ℕ) (plan 
   ]
 
   pub off_was : IsPickOff s x was
-  off_was = off_by s (λ d k w other at. sliced_before s t place lacks.vacated d k w (joined.fewer d k w other at))
+  off_was = off_by s (sliced_seated (views_of v) place disk (x.sectors disk) s u new.seats)
 
-  said : IsSaid f was
+  pub said : IsSaid f was
   said = is.held.said was off_was
 
-  abbrev e : Identities
+  abbrev pub e : Identities
   e = said.identities
 
   pub says_was : (d : ℕ) → d ≢ disk → identities_of (disks_of x) was d ≡ ids d
@@ -115,7 +116,7 @@ module _ (f : Found) (s t u : Slices) (v : Raid) (place disk units : ℕ) (plan 
 
   -- ---- disks that are no drives
 
-  none_new : (d : ℕ) → ((p : ℕ) → h.seats p ≡ Some d → ⊥) → d ≢ disk
+  pub none_new : (d : ℕ) → ((p : ℕ) → h.seats p ≡ Some d → ⊥) → d ≢ disk
   none_new d never same = never place (seat_new ∙ ap Some (sym same))
 
   -- the place had it, or it was none before
@@ -132,14 +133,7 @@ module _ (f : Found) (s t u : Slices) (v : Raid) (place disk units : ℕ) (plan 
         | inr other ↦ inr (none (λ seat. other (some_same k d (sym has ∙ seat))))
       ]
 
-  pub off_vacant : IsPickOff t x was
-  off_vacant = off_by t joined.fewer
-
-  former_says : (d : ℕ) (copy : Copied) → f.seats place ≡ Some d → d ≢ disk → (ids d).copied ≡ Some copy → copy.state.epoch < v.state.epoch
-  former_says d copy seat other here =
-      lacks.earlier d seat was off_vacant copy (ap (λ (z : Identity). z.copied) (says_was d other) ∙ here)
-
-  stranger_is : (d : ℕ) → ((p : ℕ) → f.seats p ≡ Some d → ⊥) → d ≢ disk → d < x.disks → ids d ≡ e d
+  pub stranger_is : (d : ℕ) → ((p : ℕ) → f.seats p ≡ Some d → ⊥) → d ≢ disk → d < x.disks → ids d ≡ e d
   stranger_is d never other low =
       sym (says_was d other) ∙ sym (ap (λ (q : Disks). identities_of q was d) is.disks) ∙ said.elsewhere.others d never (let same = count in omega (arith, low, same))
 
@@ -157,14 +151,14 @@ module _ (f : Found) (s t u : Slices) (v : Raid) (place disk units : ℕ) (plan 
   -- they say no later states than the book before
   pub joining_strangers : (d : ℕ) (copy : Copied) → ((p : ℕ) → h.seats p ≡ Some d → ⊥) → d < h.disks.count → (ids d).copied ≡ Some copy → IsNoLater v.state copy
   joining_strangers d copy never low here = elim (former_or d never) [
-    | inl lost ↦ inl (former_says d copy lost (none_new d never) here)
+    | inl lost ↦ elim (formerly d copy lost (none_new d never) here) [ inl less ↦ inl less | inr own ↦ own.0 ]
     | inr none ↦
         later_still copy
         (said.outset.copies d copy (let same = count in omega (arith, low, same))
         (sym (ap (λ (z : Identity). z.copied) (stranger_is d none (none_new d never) low)) ∙ here))
   ]
 
-  stranger_low : (d : ℕ) → ((p : ℕ) → h.seats p ≡ Some d → ⊥) → d < x.disks → epoch_at (ids d) ≤ v.state.epoch
+  pub stranger_low : (d : ℕ) → ((p : ℕ) → h.seats p ≡ Some d → ⊥) → d < x.disks → epoch_at (ids d) ≤ v.state.epoch
   stranger_low d never low = of (ids d).copied refl
     where
       of : (o : Option Copied) → (ids d).copied ≡ o → option_map_or epoch_of o 0 ≤ v.state.epoch
@@ -173,63 +167,83 @@ module _ (f : Found) (s t u : Slices) (v : Raid) (place disk units : ℕ) (plan 
 
   -- ---- ids of the other places
 
-  module _ (p d : ℕ) (other : p ≢ place) (seat : f.seats p ≡ Some d) where
-    had : HasSeat (record f { identities = e }) p d
+  module _ (p d : ℕ) (seat : f.seats p ≡ Some d) where
+    pub had : HasSeat (record f { identities = e }) p d
     had = said.outset.seated p d seat
 
-    named : IsNamed f.state (e d) p
+    pub named : IsNamed f.state (e d) p
     named = stands_named f.state (e d) p had.stands
 
-    id_before : id_at v.state p ≡ Some named.id
+    pub id_before : id_at v.state p ≡ Some named.id
     id_before = id_same f.state v.state is.after.same p ∙ named.place
 
-    first_before : position (λ (k : Drive). bytes_eq k.id.0 named.id) v.state.drives.items ≡ Some p
+    pub first_before : position (λ (k : Drive). bytes_eq k.id.0 named.id) v.state.drives.items ≡ Some p
     first_before = same_position named.id v.state.drives.items f.state.drives.items is.after.same.drives ∙ named.first
 
+  -- places with drives have ids of their own
+  pub apart_ids : (p q d y : ℕ) → f.seats p ≡ Some d → f.seats q ≡ Some y → id_at v.state p ≡ id_at v.state q → p ≡ q
+  apart_ids p q d y one two same =
+      let ids_same : (named p d one).id ≡ (named q y two).id =
+      some_same (named p d one).id (named q y two).id (sym (id_before p d one) ∙ same ∙ id_before q y two) in
+      some_same p q
+      (sym (first_before p d one) ∙ ap (λ (id : List ℕ). position (λ (k : Drive). bytes_eq k.id.0 id) v.state.drives.items) ids_same ∙ first_before q y two)
+
+  module _ (p d : ℕ) (other : p ≢ place) (seat : f.seats p ≡ Some d) where
+    abbrev own_id : List ℕ
+    own_id = (named p d seat).id
+
     module _ (r : State) (after : IsAfter v.state r ⊎ IsAfter next r) where
-      id_now : id_at r p ≡ Some named.id
+      id_now : id_at r p ≡ Some own_id
       id_now = elim after [
-        | inl of ↦ id_same v.state r of.same p ∙ id_before
-        | inr of ↦ id_same next r of.same p ∙ id_other place units plan v.state new.listed p other ∙ id_before
+        | inl of ↦ id_same v.state r of.same p ∙ id_before p d seat
+        | inr of ↦ id_same next r of.same p ∙ id_other place units plan v.state new.listed p other ∙ id_before p d seat
       ]
 
-      first_now : position (λ (k : Drive). bytes_eq k.id.0 named.id) r.drives.items ≡ Some p
+      first_now : position (λ (k : Drive). bytes_eq k.id.0 own_id) r.drives.items ≡ Some p
       first_now = elim after [
-        | inl of ↦ same_position named.id r.drives.items v.state.drives.items of.same.drives ∙ first_before
+        | inl of ↦ same_position own_id r.drives.items v.state.drives.items of.same.drives ∙ first_before p d seat
         | inr of ↦
-            same_position named.id r.drives.items next.drives.items of.same.drives
-            ∙ names_other place units plan v.state new.listed new.fresh p named.id other id_before first_before
+            same_position own_id r.drives.items next.drives.items of.same.drives
+            ∙ names_other place units plan v.state new.listed new.fresh p own_id other (id_before p d seat) (first_before p d seat)
       ]
 
       -- another disk that stands for the place did so
+      same_id : (y : ℕ) → (stands : stands_for r (ids y) ≡ Some p) → (stands_named r (ids y) p stands).id ≡ own_id
+      same_id y stands = let one = stands_named r (ids y) p stands in some_same one.id own_id (sym one.place ∙ id_now)
+
       stood_for : (y : ℕ) → stands_for r (ids y) ≡ Some p → stands_for f.state (ids y) ≡ Some p
       stood_for y stands =
           let one = stands_named r (ids y) p stands in
-          let same : one.id ≡ named.id = some_same one.id named.id (sym one.place ∙ id_now) in
-          ap (option_and_then (λ id. position (λ (k : Drive). bytes_eq k.id.0 id) f.state.drives.items)) (one.says ∙ ap Some same) ∙ named.first
+          ap (option_and_then (λ id. position (λ (k : Drive). bytes_eq k.id.0 id) f.state.drives.items)) (one.says ∙ ap Some (same_id y stands)) ∙ (named p d seat).first
 
       -- where it is none and comes before the drive, it says an earlier state
       low_before : (y : ℕ) → ((k : ℕ) → h.seats k ≡ Some y → ⊥) → y < d → stands_for r (ids y) ≡ Some p → epoch_at (ids y) < v.state.epoch
       low_before y never less stands =
-          let most = had.low in
+          let most = (had p d seat).low in
           let from = is.arranged.epoch in
           let up = is.after.epoch in
           elim (former_or y never) [
             | inl lost ↦ of lost (omega (arith, from, up)) (ids y).copied refl
             | inr none ↦
                 let same = stranger_is y none (none_new y never) (let all = count in omega (arith, less, most, all)) in
-                let early = had.before y less none (ap (stands_for f.state) (sym same) ∙ stood_for y stands) in
+                let early = (had p d seat).before y less none (ap (stands_for f.state) (sym same) ∙ stood_for y stands) in
                 let here : epoch_at (ids y) ≡ epoch_at (e y) = ap epoch_at same in
                 omega (arith, early, here, up)
           ]
         where
           of : f.seats place ≡ Some y → 0 < v.state.epoch → (o : Option Copied) → (ids y).copied ≡ o → option_map_or epoch_of o 0 < v.state.epoch
           of lost some None at = some
-          of lost some (Some copy) at = former_says y copy lost (none_new y never) at
+          of lost some (Some copy) at = elim (formerly y copy lost (none_new y never) at) [
+            | inl less ↦ less
+            | inr own ↦
+                absurd (other
+                (apart_ids p place d y seat lost
+                (id_before p d seat ∙ sym (ap Some (same_id y stands)) ∙ sym (stands_named r (ids y) p stands).says ∙ ap (λ (k : Option Copied). id_by (ids y).table k) at ∙ own.1)))
+          ]
 
   -- ---- the drives' own copies
 
-  module _ (inside : AreInside h u) (since : AreJoinSince v.state next (sectors_of u) (sliced u i)) where
+  module _ (inside : AreInside h u) (since : AreTakenSince (λ p. p == place) v.state next (sectors_of u) (sliced u i)) where
     block_is : (p d : ℕ) → h.seats p ≡ Some d → (ids d).copied ≡ result_ok (decoded (sliced u i (log_slice p) 0))
     block_is p d seat = copied_in h u i inside p d (slices.seats p ∙ seat) (slices.logs p d seat)
 
@@ -248,7 +262,7 @@ module _ (f : Found) (s t u : Slices) (v : Raid) (place disk units : ℕ) (plan 
     own_copy : (p d : ℕ) → p ≢ place → f.seats p ≡ Some d → HasOwn p d
     own_copy p d other seat =
         let here : h.seats p ≡ Some d = seat_old p other ∙ seat in
-        elim ((since p (small p d here) (there p d here)).own (new.others p d other seat).0) [
+        elim ((since p (small p d here) (there p d here)).own (ne_eqb p place other) (new.others p d other seat).0) [
           | inl one ↦ record { copy = one.copy; says = block_is p d here ∙ ap result_ok one.is; from = one.after.epoch; drive = one.drive }
           | inr one ↦ record {
             copy = one.copy;
@@ -265,24 +279,24 @@ module _ (f : Found) (s t u : Slices) (v : Raid) (place disk units : ℕ) (plan 
         let same : epoch_at (ids d) ≡ one.copy.state.epoch = ap (λ (o : Option Copied). option_map_or epoch_of o 0) one.says in
         omega (arith, from, same)
 
-    own_stands : (r : State) (p d : ℕ) → IsAfter v.state r ⊎ IsAfter next r → p ≢ place → f.seats p ≡ Some d → stands_for r (ids d) ≡ Some p
+    pub own_stands : (r : State) (p d : ℕ) → IsAfter v.state r ⊎ IsAfter next r → p ≢ place → f.seats p ≡ Some d → stands_for r (ids d) ≡ Some p
     own_stands r p d after other seat =
         let one = own_copy p d other seat in
         ap (λ (o : Option Copied). stands_for r (record { copied = o; table = (ids d).table })) one.says
-        ∙ ap (option_and_then (λ id. position (λ (k : Drive). bytes_eq k.id.0 id) r.drives.items)) (one.drive ∙ id_before p d other seat)
+        ∙ ap (option_and_then (λ id. position (λ (k : Drive). bytes_eq k.id.0 id) r.drives.items)) (one.drive ∙ id_before p d seat)
         ∙ first_now p d other seat r after
 
     -- ---- the new drive
 
     module _ (table : Table) (drive : table.disk_id.0 ≡ (next_drive v.state).0) (tabled : the_table (x.sectors disk) (i disk) ≡ Some table) where
-      new_id : id_by (ids disk).table (ids disk).copied ≡ Some (next_drive v.state).0
+      pub new_id : id_by (ids disk).table (ids disk).copied ≡ Some (next_drive v.state).0
       new_id = of (ids disk).copied refl
         where
           of : (o : Option Copied) → (ids disk).copied ≡ o → id_by (ids disk).table o ≡ Some (next_drive v.state).0
           of None none = ap (option_map (λ (k : Table). k.disk_id.0)) tabled ∙ ap Some drive
           of (Some copy) some =
               let block = ok_of (decoded (sliced u i (log_slice place) 0)) copy (sym (block_is place disk seat_new) ∙ some) in
-              let one = (since place (small place disk seat_new) (there place disk seat_new)).joins copy new.missing (current_here place units plan v.state new.listed) block in
+              let one = (since place (small place disk seat_new) (there place disk seat_new)).joins copy (inl (eq-eqb place place refl)) (current_here place units plan v.state new.listed) block in
               let same : one.copy ≡ copy = some_same one.copy copy (sym (ap result_ok one.is) ∙ ap result_ok block) in
               ap (λ (k : Copied). id_at k.state k.own) (sym same) ∙ one.drive ∙ id_here place units plan v.state new.listed
 
@@ -292,29 +306,29 @@ module _ (f : Found) (s t u : Slices) (v : Raid) (place disk units : ℕ) (plan 
           ∙ same_position (next_drive v.state).0 r.drives.items next.drives.items after.same.drives
           ∙ names_here place units plan v.state new.listed new.fresh
 
-      -- its place is current by states since it joined alone
-      since_joined : (r : State) → IsAfter v.state r ⊎ IsAfter next r → is_current r place ≡ true → IsAfter next r
-      since_joined r after now = elim after [
-        | inl of ↦ absurd (both_ways (is_current v.state place) new.missing (of.current place now))
-        | inr of ↦ of
-      ]
+      -- by states since it joined alone its place is to have it
+      since_joined : (r : State) (p : ℕ) → GoesBy v.state next place r p → p ≡ place → IsAfter next r
+      since_joined r p goes same = elim goes [ inl of ↦ absurd (of.1 same) | inr of ↦ of ]
+
+      either : (r : State) (p : ℕ) → GoesBy v.state next place r p → IsAfter v.state r ⊎ IsAfter next r
+      either r p goes = elim goes [ inl of ↦ inl of.0 | inr of ↦ inr of ]
 
       at_place : (d : ℕ) → h.seats place ≡ Some d → d ≡ disk
       at_place d seat = some_same d disk (sym seat ∙ seat_new)
 
       -- ---- all of them
 
-      own_now : (r : State) (p d : ℕ) → IsAfter v.state r ⊎ IsAfter next r → is_current r p ≡ true → h.seats p ≡ Some d → stands_for r (ids d) ≡ Some p
+      own_now : (r : State) (p d : ℕ) → GoesBy v.state next place r p → is_current r p ≡ true → h.seats p ≡ Some d → stands_for r (ids d) ≡ Some p
       own_now r p d after now seat = elim (cases_eq p place) [
-        | inr other ↦ own_stands r p d after other (sym (seat_old p other) ∙ seat)
+        | inr other ↦ own_stands r p d (either r p after) other (sym (seat_old p other) ∙ seat)
         | inl same ↦
             ap (λ k. stands_for r (ids k)) (at_place d (ap h.seats (sym same) ∙ seat))
-            ∙ new_stands r (since_joined r after (subst (λ q. is_current r q ≡ true) same now)) ∙ ap Some (sym same)
+            ∙ new_stands r (since_joined r p after same) ∙ ap Some (sym same)
       ]
 
-      apart_now : (r : State) (p k d : ℕ) → IsAfter v.state r ⊎ IsAfter next r → h.seats k ≡ Some d → k ≢ p → stands_for r (ids d) ≡ Some p → ⊥
+      apart_now : (r : State) (p k d : ℕ) → GoesBy v.state next place r p → h.seats k ≡ Some d → k ≢ p → stands_for r (ids d) ≡ Some p → ⊥
       apart_now r p k d after seat other stands = elim (cases_eq k place) [
-        | inr apart ↦ other (some_same k p (sym (own_stands r k d after apart (sym (seat_old k apart) ∙ seat)) ∙ stands))
+        | inr apart ↦ other (some_same k p (sym (own_stands r k d (either r p after) apart (sym (seat_old k apart) ∙ seat)) ∙ stands))
         | inl same ↦ new_for (λ at. other (same ∙ sym at)) (ap (λ j. stands_for r (ids j)) (sym (at_place d (ap h.seats (sym same) ∙ seat))) ∙ stands)
       ]
         where
@@ -323,7 +337,7 @@ module _ (f : Found) (s t u : Slices) (v : Raid) (place disk units : ℕ) (plan 
             | inr of ↦ apart (some_same p place (sym at ∙ new_stands r of))
             | inl of ↦
                 let one = stands_named r (ids disk) p at in
-                new.fresh p apart (sym (id_same v.state r of.same p) ∙ one.place ∙ sym one.says ∙ new_id)
+                new.fresh p apart (sym (id_same v.state r of.0.same p) ∙ one.place ∙ sym one.says ∙ new_id)
           ]
 
       module _ (ids_other : HaveOtherIds f v.state place disk i) where
@@ -334,7 +348,7 @@ module _ (f : Found) (s t u : Slices) (v : Raid) (place disk units : ℕ) (plan 
             (ap (λ (q : Disks). id_by (identities_of q i d).table (identities_of q i d).copied) is.disks ∙ one.says ∙ sym one.place ∙ id_same next r after.same place
             ∙ id_here place units plan v.state new.listed)
 
-        pub joining_names : NamesJoining h v.state next i
+        pub joining_names : NamesJoining h v.state next place i
         joining_names = record {
           own = own_now;
           apart = λ r p k d after now seat other stands. apart_now r p k d after seat other stands;
@@ -342,15 +356,15 @@ module _ (f : Found) (s t u : Slices) (v : Raid) (place disk units : ℕ) (plan 
             | inl same ↦
                 let low = (arranged.seated p d seat).1 in
                 absurd
-                (none_stands r y (since_joined r after (subst (λ q. is_current r q ≡ true) same now)) never (omega (arith, less, low)) (stands ∙ ap Some same))
+                (none_stands r y (since_joined r p after same) never (omega (arith, less, low)) (stands ∙ ap Some same))
             | inr other ↦
                 let was_seat = sym (seat_old p other) ∙ seat in
-                let early = low_before p d other was_seat r after y never less stands in
+                let early = low_before p d other was_seat r (either r p after) y never less stands in
                 let from = own_epoch p d other was_seat in
                 omega (arith, early, from)
           ];
           behind = λ r p d y after now seat never late low stands. elim (cases_eq p place) [
-            | inl same ↦ absurd (none_stands r y (since_joined r after (subst (λ q. is_current r q ≡ true) same now)) never low (stands ∙ ap Some same))
+            | inl same ↦ absurd (none_stands r y (since_joined r p after same) never low (stands ∙ ap Some same))
             | inr other ↦
                 let most = stranger_low y never low in
                 let from = own_epoch p d other (sym (seat_old p other) ∙ seat) in

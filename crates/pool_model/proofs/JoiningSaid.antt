@@ -23,14 +23,14 @@ use Rattle.pool_model.proofs.Staying.{held_taken}
 use Rattle.pool_model.proofs.Taken.{IsKnownBefore}
 use Rattle.pool_model.proofs.Unsliced.{free_super}
 
--- s are the tables by which the pool goes, and t those by which the place has no slices
-module _ (f : Found) (s t u : Slices) (v : Raid) (place disk units : ℕ) (plan : Plan) (x : Seen) (i : Image) (is : InService f s v x)
-    (new : SeatsNew f s u v place disk (x.sectors disk)) (joined : IsJoinedOff f t u v place disk x i) where
+-- s are the tables by which the pool goes, and u those with the new drive
+module _ (f : Found) (s u : Slices) (v : Raid) (place disk units : ℕ) (plan : Plan) (x : Seen) (i : Image) (is : InService f s v x)
+    (new : SeatsNew f s u v place disk (x.sectors disk)) (joined : IsJoinedOff f u v place disk x i) where
   known : IsKnownBefore f v
   known = record { outset = is.arranged; after = is.after; geometry = is.geometry }
 
   -- the disks as they were, but that this one has the contents
-  abbrev z : Seen
+  abbrev pub z : Seen
   z = record x { held = λ d k. if d == disk then only (i disk k) else x.held d k }
 
   held_other : (d k : ℕ) → d ≢ disk → z.held d k ≡ x.held d k
@@ -45,13 +45,13 @@ module _ (f : Found) (s t u : Slices) (v : Raid) (place disk units : ℕ) (plan 
   live_now : (d k : ℕ) → IsLive x x d k → IsLive z z d k
   live_now d k live = record { disk = live.disk; sector = live.sector; is_told = live.is_told; unspent = live.unspent }
 
-  off_now : IsPickOff u z i
+  pub off_now : IsPickOff u z i
   off_now d k live never = elim (cases_eq d disk) [
     | inl same ↦ subst (λ e. MayLeave (z.held e k) (i e k)) (sym same) (subst (λ h. MayLeave h (i disk k)) (sym (held_here k)) (inl refl))
     | inr other ↦ subst (λ h. MayLeave h (i d k)) (sym (held_other d k other)) (joined.others d k other (live_was d k live) never)
   ]
 
-  keeps_off : (r : Slices) → KeepsOff r disk x z
+  pub keeps_off : (r : Slices) → KeepsOff r disk x z
   keeps_off r d k other live never = (live_now d k live, subst (λ h. Keeps (x.held d k) h) (sym (held_other d k other)) (keeps_same (x.held d k)))
 
   -- off the slices the disk has what it has in the contents
@@ -65,8 +65,8 @@ module _ (f : Found) (s t u : Slices) (v : Raid) (place disk units : ℕ) (plan 
   count : f.disks.count ≡ x.disks
   count = ap (λ (q : Disks). q.count) is.disks
 
-  fewer : (d k : ℕ) (w : List ℕ) → d ≢ disk → IsSliced u d k w → IsSliced t d k w
-  fewer = joined.fewer
+  same_slices : (d k : ℕ) (w : List ℕ) → d ≢ disk → IsSliced u d k w → IsSliced u d k w
+  same_slices d k w other at = at
 
   keeps : KeepsRest f s u v place disk x z
   keeps = record {
@@ -81,8 +81,8 @@ module _ (f : Found) (s t u : Slices) (v : Raid) (place disk units : ℕ) (plan 
     earlier = λ j off d low other which copy here. elim which [
       | inl past ↦ (let same = count in absurd (omega (arith, low, past, same)))
       | inr lost ↦
-          joined.earlier d other lost (image_before t u disk x z (keeps_off t) fewer j off) (off_before t u disk x z (keeps_off t) fewer j off) copy
-          (ap (λ (c : ℕ → List ℕ). (identities_of (disks_of x) (λ q. c) d).copied) (image_other t u disk x z (keeps_off t) fewer j off d other) ∙ here)
+          joined.earlier d other lost (image_before u u disk x z (keeps_off u) same_slices j off) (off_before u u disk x z (keeps_off u) same_slices j off) copy
+          (ap (λ (c : ℕ → List ℕ). (identities_of (disks_of x) (λ q. c) d).copied) (image_other u u disk x z (keeps_off u) same_slices j off d other) ∙ here)
     ];
   }
 

@@ -1,10 +1,10 @@
 -- What contents say as they stand that a stop leaves in which a new drive joins, once the record counts that brings the state with it: the state that stands may be the one
 -- before yet, and drives that went in the commit keep the copies that they had.
-use Rattle.std.proofs.Common.{◌≡◌, ◌⊎◌, ℕ, ◌+◌, ◌-◌, ◌<◌, ◌≤◌, ◌^◌, ◌==◌, ◌&&◌, Bool, true, false, if◌then◌else◌, map, List, [], Option, Some, None, Ok, option_map, unwrap_or, refl, sym, ap, ap₂, subst, ◌∙◌, inl, inr, le-leb, le-ltb, lt-ltb, arith}
+use Rattle.std.proofs.Common.{◌≡◌, ◌≢◌, ◌⊎◌, ℕ, ◌+◌, ◌-◌, ◌<◌, ◌≤◌, ◌^◌, ◌==◌, ◌&&◌, Bool, true, false, if◌then◌else◌, map, List, [], Option, Some, None, Ok, option_map, unwrap_or, refl, sym, ap, ap₂, subst, ◌∙◌, inl, inr, le-leb, le-ltb, lt-ltb, arith}
 use Rattle.std.specs.List.{range_with_len}
 use Rattle.std.specs.Option.{option_map_or}
 use Rattle.std.specs.Result.{result_ok}
-use Rattle.std.proofs.lemmas.Bool.{cases_Bool, cases_lt}
+use Rattle.std.proofs.lemmas.Bool.{cases_Bool, cases_eq, cases_lt, ne_eqb}
 use Rattle.std.proofs.lemmas.Option.{none-some}
 use Rattle.rack.specs.Seen.{Image}
 use Rattle.rack.specs.Targets.{look}
@@ -19,28 +19,29 @@ use Rattle.array_image.specs.Places.{arrays_first, log_sectors, log_slice, place
 use Rattle.array_image.specs.Record.{gate_sector, pending}
 use Rattle.array_image.specs.States.{copy_in, epoch_of, is_current, state_in}
 use Rattle.commit_log.specs.Kept.{IsNoLater}
+use Rattle.commit_log.specs.Saying.{PlaceJoins}
 use Rattle.commit_log.specs.Standing.{deciding}
+use Rattle.commit_log.proofs.Places.{stays_apart}
 use Rattle.raid_rack.specs.Book.{IsAfter}
 use Rattle.pool_scan.proofs.Seated.{foremost_from}
-use Rattle.pool_image.specs.Alike.{drive_gate}
 use Rattle.pool_image.specs.Disks.{Identities, identities_of, newest, seat_of, stands_for}
 use Rattle.pool_image.specs.Drives.{Found}
 use Rattle.pool_image.specs.Replay.{Extent, log_extent, logs_of}
+use Rattle.pool_rest.specs.Moments.{IsNoneOrBelow}
 use Rattle.pool_rest.specs.SoundLogs.{ShowLogs}
-use Rattle.pool_rest.proofs.SaidLogs.{says_lower, says_sound, seated_is, stands_now, targets_are}
+use Rattle.pool_rest.proofs.SaidLogs.{same_below, says_lower, says_sound, seated_is, stands_now, targets_are}
 use Rattle.pool_model.specs.InService.{epoch_at}
-use Rattle.pool_model.specs.Laid.{ShowsJoining}
+use Rattle.pool_model.specs.Laid.{GoesBy, IsFormerYet, ShowsJoining}
 use Rattle.pool_model.specs.Stopped.{HasLeader, SaysStopped, StandFor}
 use Rattle.pool_model.proofs.Found.{newest_latest, ok_of}
 use Rattle.pool_model.proofs.Logs.{there_in}
 use Rattle.pool_model.proofs.Outset.{no_later_epoch}
-use Rattle.pool_model.proofs.Seats.{nowhere}
 use Rattle.pool_model.proofs.Stopped.{copied_is, decoded_seat, decoded_there, few, lies, many, nothing_decodes, on_place, reads, reads_none, room, seated_or}
 
 some_same : {X : Type 0} (a b : X) → Some a ≡ Some b → a ≡ b
 some_same a b same = cc
 
-module _ (h : Found) (u : Slices) (v next s : State) (i : Image) (stop : SaysStopped h u next s i) (shows : ShowsJoining h u v next s i) where
+module _ (h : Found) (u : Slices) (v next s : State) (place : ℕ) (i : Image) (stop : SaysStopped h u next s i) (shows : ShowsJoining h u v next s place i) where
   abbrev held : Image
   held = sliced u i
 
@@ -54,18 +55,18 @@ module _ (h : Found) (u : Slices) (v next s : State) (i : Image) (stop : SaysSto
   seat_current : (p d : ℕ) → h.seats p ≡ Some d → is_current next p ≡ true
   seat_current p d seat = subst (λ (z : State). is_current z p ≡ true) shows.state (stop.is.seated p d seat).current
 
-  -- a drive of a place that was current has its own copy, of no earlier state than the one before
+  -- a drive of another place that was current has its own copy, of no earlier state than the one before
   record HasCopy (p d : ℕ) : Type 0 where
     copy : Copied
     block : decoded (held (log_slice p) 0) ≡ Ok copy
     since : v.epoch ≤ copy.state.epoch
 
-  copy_there : (p d : ℕ) → h.seats p ≡ Some d → is_current v p ≡ true → HasCopy p d
-  copy_there p d seat was =
+  copy_there : (p d : ℕ) → p ≢ place → h.seats p ≡ Some d → is_current v p ≡ true → HasCopy p d
+  copy_there p d other seat was =
       let now = shows.current p was in
       let small = few h u next s i stop p d seat in
       let there = there_in h u i stop.inside p d (on_place h u next s i stop p d seat now) (lies h u next s i stop p d seat now) in
-      elim ((shows.joining p small there).own was) [
+      elim ((shows.joining p small there).own (ne_eqb p place other) was) [
         | inl one ↦ record { copy = one.copy; block = one.is; since = one.after.epoch }
         | inr one ↦ record { copy = one.copy; block = one.is; since = (let up = shows.later in let from = one.after.epoch in omega (arith, up, from)) }
       ]
@@ -74,8 +75,8 @@ module _ (h : Found) (u : Slices) (v next s : State) (i : Image) (stop : SaysSto
   stands_late : v.epoch ≤ q.epoch
   stands_late =
       let p = shows.someone.0 in
-      let drive = shows.present p (shows.current p shows.someone.1) in
-      let one = copy_there p drive.0 drive.1 shows.someone.1 in
+      let drive = shows.present p (shows.current p shows.someone.2) in
+      let one = copy_there p drive.0 shows.someone.1 drive.1 shows.someone.2 in
       let from = one.since in
       let most = no_later_epoch q one.copy (stop.says.latest p one.copy (few h u next s i stop p drive.0 drive.1) one.block) in
       omega (arith, from, most)
@@ -92,13 +93,19 @@ module _ (h : Found) (u : Slices) (v next s : State) (i : Image) (stop : SaysSto
   leads k copy low here state = elim (cases_lt 0 (sectors_of u (log_slice k))) [
     | inr none ↦ absurd (nothing_decodes copy (ap decoded (sym (reads_none h u next s i stop k 0 none)) ∙ block))
     | inl has ↦ elim (cases_Bool (is_current v k)) [
-      | inl was ↦ elim ((shows.joining k low has).own was) [
-        | inl one ↦ of (shows.current k was) (inl (subst (λ (z : Copied). IsAfter v z.state) (same one.copy one.is) one.after))
-        | inr one ↦ of (shows.current k was) (inr (subst (λ (z : Copied). IsAfter next z.state) (same one.copy one.is) one.after))
+      | inl was ↦ elim (cases_Bool (k == place)) [
+        | inl new ↦
+            let now = shows.current k was in
+            let one = (shows.joining k low has).joins copy (inl new) now block in
+            of now (inr (subst (λ (z : Copied). IsAfter next z.state) (same one.copy one.is) one.after))
+        | inr other ↦ elim ((shows.joining k low has).own other was) [
+          | inl one ↦ of (shows.current k was) (inl (subst (λ (z : Copied). IsAfter v z.state) (same one.copy one.is) one.after))
+          | inr one ↦ of (shows.current k was) (inr (subst (λ (z : Copied). IsAfter next z.state) (same one.copy one.is) one.after))
+        ]
       ]
       | inr old ↦ elim (cases_Bool (is_current next k)) [
         | inl now ↦
-            let one = (shows.joining k low has).joins copy old now block in
+            let one = (shows.joining k low has).joins copy (inr old) now block in
             of now (inr (subst (λ (z : Copied). IsAfter next z.state) (same one.copy one.is) one.after))
         | inr past ↦
             let less = (shows.joining k low has).former copy old past block in
@@ -187,19 +194,31 @@ module _ (h : Found) (u : Slices) (v next s : State) (i : Image) (stop : SaysSto
 
   -- ---- logs
 
-  seats_by : (r : State) → IsAfter v r ⊎ IsAfter next r → ((p : ℕ) → is_current r p ≡ true → is_current next p ≡ true) → (p : ℕ) → is_current r p ≡ true
-      → seat_of r h.disks ids p ≡ h.seats p
-  seats_by r after fewer p now = let drive = shows.present p (fewer p now) in shows.seats r p drive.0 after now drive.1 ∙ sym drive.1
+  -- by the state that stands a place has the drive that it has, or it is the one that has its former drive yet
+  stood_goes : (p : ℕ) → is_current q p ≡ true → GoesBy v next place q p ⊎ ((p ≡ place) × IsFormerYet h.disks u q s place i)
+  stood_goes p now = elim stood_after [
+    | inr late ↦ inl (inr late)
+    | inl after ↦ elim (cases_eq p place) [
+      | inr other ↦ inl (inl (after, other))
+      | inl same ↦ elim (shows.former q stop.says.stood_is after (subst (λ k. is_current q k ≡ true) same now)) [
+        | inl late ↦ inl (inr late)
+        | inr yet ↦ inr (same, yet)
+      ]
+    ]
+  ]
 
-  seats_stood : (p : ℕ) → is_current q p ≡ true → seat_of q h.disks ids p ≡ h.seats p
-  seats_stood = seats_by q stood_after stood_current
+  seats_by : (r : State) (p : ℕ) → GoesBy v next place r p → is_current next p ≡ true → is_current r p ≡ true → seat_of r h.disks ids p ≡ h.seats p
+  seats_by r p goes still now = let drive = shows.present p still in shows.seats r p drive.0 goes now drive.1 ∙ sym drive.1
+
+  seats_stood : (p : ℕ) → is_current q p ≡ true → GoesBy v next place q p → seat_of q h.disks ids p ≡ h.seats p
+  seats_stood p now goes = seats_by q p goes (stood_current p now) now
 
   seats_then : (p : ℕ) → is_current s p ≡ true → seat_of s h.disks ids p ≡ h.seats p
-  seats_then = seats_by s (inr stop.after) stop.after.current
+  seats_then p now = seats_by s p (inr stop.after) (stop.after.current p now) now
 
   -- the log slices of current places are those of the tables
-  log_same : (p k : ℕ) → is_current q p ≡ true → logs_of h.disks (seat_of q h.disks ids) i (log_slice p) k ≡ held (log_slice p) k
-  log_same p k now = let drive = shows.present p was in at drive.0 drive.1
+  log_same : (p k : ℕ) → is_current q p ≡ true → GoesBy v next place q p → logs_of h.disks (seat_of q h.disks ids) i (log_slice p) k ≡ held (log_slice p) k
+  log_same p k now goes = let drive = shows.present p was in at drive.0 drive.1
     where
       was : is_current next p ≡ true
       was = stood_current p now
@@ -220,7 +239,7 @@ module _ (h : Found) (u : Slices) (v next s : State) (i : Image) (stop : SaysSto
             | inl low ↦
                 ap₂ (λ (n : ℕ) (b : Bool). if (n == 0) && b then read (seats (place_of (log_slice p))) else []) of_log (lt-ltb k log_sectors low)
                 ∙ ap (λ z. read (seats z)) of_place
-                ∙ ap read (seats_stood p now ∙ has)
+                ∙ ap read (seats_stood p now goes ∙ has)
                 ∙ ap (λ (b : Bool). option_map_or (λ (x : Extent). i d (x.first + k)) (if b then Some (record { first = state_sector; sectors = log_sectors }) else None) [])
                 (le-leb arrays_first (h.disks.sectors d) (room h u next s i stop p d has was))
                 ∙ sym (reads h u next s i stop p d has was k low)
@@ -232,14 +251,23 @@ module _ (h : Found) (u : Slices) (v next s : State) (i : Image) (stop : SaysSto
   show : ShowLogs h.disks i held q s
   show = record {
     newest_is = newest_now;
-    logs = log_same;
-    seats = λ p here there. seats_then p there ∙ sym (seats_stood p here);
-    gates = λ p d former seat long. gates_at p d seat (cases_Bool (is_current s p));
+    logs = λ p k now apart. elim (stood_goes p now) [
+      | inl goes ↦ log_same p k now goes
+      | inr yet ↦ absurd (apart (subst (PlaceJoins q s) (sym yet.0) yet.1.joins))
+    ];
+    former = λ a p at now joins. elim (stood_goes p now) [
+      | inl goes ↦
+          same_below (sectors_of u) held (logs_of h.disks (seat_of q h.disks ids) i) s stop.says a p at joins (log_same p gate_sector now goes)
+      | inr yet ↦
+          subst (λ k. IsNoneOrBelow a.gate.number (logs_of h.disks (seat_of q h.disks ids) i (log_slice k) gate_sector)) (sym yet.0) (yet.1.lower a at)
+    ];
+    seats = λ p stays. elim (stood_goes p stays.was) [
+      | inl goes ↦ seats_then p stays.now ∙ sym (seats_stood p stays.was goes)
+      | inr yet ↦ absurd (stays_apart q s p stays (subst (PlaceJoins q s) (sym yet.0) yet.1.joins))
+    ];
+    gates = λ p d joins seat long.
+        sym (reads h u next s i stop p d (sym (seats_then p joins.now) ∙ seat) (stop.after.current p joins.now) gate_sector (omega arith));
   }
-    where
-      gates_at : (p d : ℕ) → seat_of s h.disks ids p ≡ Some d → (is_current s p ≡ true) ⊎ (is_current s p ≡ false) → i d drive_gate ≡ held (log_slice p) gate_sector
-      gates_at p d seat (inr past) = absurd (none-some d (sym (nowhere s h.disks ids p past) ∙ seat))
-      gates_at p d seat (inl now) = sym (reads h u next s i stop p d (sym (seats_then p now) ∙ seat) (stop.after.current p now) gate_sector (omega arith))
 
   -- ---- drives whose places aren't current
 
@@ -299,14 +327,14 @@ module _ (h : Found) (u : Slices) (v next s : State) (i : Image) (stop : SaysSto
         }
     | inr brought ↦
         let p = brought.copy.0 in
-        let copy = brought.copy.3 in
-        let was = stop.after.current p brought.copy.2 in
+        let copy = brought.copy.2 in
+        let was = stop.after.current p brought.copy.1.now in
         let drive = decoded_seat h u next s i stop p (record { state = q; own = copy.own }) was copy.copy in
         record {
           place = p;
           disk = drive.0;
           own = copy.own;
-          current = brought.copy.2;
+          current = brought.copy.1.now;
           seat = drive.1;
           copy = copied_is h u next s i stop p drive.0 drive.1 was i ∙ ap result_ok copy.copy;
           room = room h u next s i stop p drive.0 drive.1 was;

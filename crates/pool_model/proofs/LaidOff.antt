@@ -1,5 +1,5 @@
 -- What a rack of arrays tells of its moments while it takes a new drive in, as the disks show it: before the drive is one of the pool.
-use Rattle.std.proofs.Common.{◌≡◌, ◌≢◌, ℕ, ◌<◌, ◌≤◌, Bool, false, if◌then◌else◌, List, None, Ok, Some, sym, ap, ◌∙◌, inl, inr, le-ltb, lt-ltb, arith}
+use Rattle.std.proofs.Common.{◌≡◌, ◌≢◌, ℕ, ◌+◌, ◌<◌, ◌≤◌, Bool, false, if◌then◌else◌, List, [], None, Ok, Some, unwrap_or, refl, sym, ap, ap₂, ◌∙◌, inl, inr, eq-eqb, le-ltb, lt-ltb, arith}
 use Rattle.std.specs.Result.{result_ok}
 use Rattle.std.proofs.lemmas.Bool.{cases_lt}
 use Rattle.std.proofs.lemmas.Option.{none-some}
@@ -7,22 +7,25 @@ use Rattle.rack.specs.Seen.{Image, Seen, Stays}
 use Rattle.rack.specs.Sequences.{IsMix}
 use Rattle.rack.specs.Values.{MayLeave, Values}
 use Rattle.slice_rack.specs.Runs.{IsSliced}
-use Rattle.slice_rack.specs.Slices.{Slices, sectors_of}
-use Rattle.slice_rack.specs.Sliced.{sliced}
+use Rattle.slice_rack.specs.Slices.{Slices, disk_of, first_of, seat_of, sectors_of}
+use Rattle.slice_rack.specs.Sliced.{sliced, slices_of}
 use Rattle.gpt_table.specs.declared.Table.{Table}
 use Rattle.pool_state.specs.declared.contents.Copied.{Copied}
 use Rattle.pool_state.specs.declared.contents.State.{State}
 use Rattle.pool_state.specs.Sector.{decoded}
 use Rattle.array_image.specs.Arrays.{replayed}
-use Rattle.array_image.specs.Places.{state_sector}
+use Rattle.array_image.specs.Left.{IsInside as HasNothing}
+use Rattle.array_image.specs.Places.{log_sectors, log_slice, place_of, slice_of, state_sector}
 use Rattle.array_image.specs.States.{is_current}
+use Rattle.array_model.specs.View.{View}
 use Rattle.commit_log.specs.Saying.{SaysState}
 use Rattle.commit_log.proofs.Kept.{live_on}
 use Rattle.raid_rack.specs.Book.{after_same}
-use Rattle.raid_rack.specs.Enlisting.{HoldsLaid, IsOpenDisk, IsWrittenBy, SaysBy, SaysJoining, SaysLaying}
-use Rattle.raid_rack.specs.Raid.{Raid, spent_of}
-use Rattle.raid_rack.specs.Runs.{IsBetween}
-use Rattle.raid_rack.proofs.Since.{joining_before}
+use Rattle.raid_rack.specs.Enlisting.{HoldsLaid, IsOpenDisk, IsWrittenBy, SaysBy, SaysFormer, SaysJoining, SaysLaying}
+use Rattle.raid_rack.specs.NewDrive.{SeatsDrive, first_laid, sectors_laid}
+use Rattle.raid_rack.specs.Raid.{IsTold, Raid, is_over, spent_of}
+use Rattle.raid_rack.specs.Runs.{IsBetween, KeepsMoments}
+use Rattle.raid_rack.proofs.Since.{joining_before, kept_since}
 use Rattle.pool_image.specs.Drives.{Found}
 use Rattle.pool_model.specs.Laid.{IsLaidOff, SaysBooks}
 use Rattle.pool_model.proofs.Found.{ok_of}
@@ -102,3 +105,60 @@ joining_book made t u disk table next v w a vals i first up says each = record {
   ];
   frames = λ n low. (each n low).frame;
 }
+
+-- Where it has them and a current place keeps its drive yet, they say the book by the slices before.
+pub former_book : (made : ℕ) (t : Slices) (v w : Raid) (x : Seen) (vals : (n : ℕ) → ℕ → Values) (i : Image) → 0 < made
+    → ((n : ℕ) → n < made → SaysFormer v x n (vals n) (spent_of w n) (sectors_of t) (sliced t i)) → SaysBooks made t v v i
+former_book made t v w x vals i first each = record {
+  logs = record { state = v.state; later = after_same v.state; sooner = after_same v.state; says = (each 0 first).logs };
+  since = (each 0 first).since;
+  arrays = λ n low. says_between v n (vals n) (spent_of w n) (replayed (sectors_of t) (sliced t i)) (each n low).says;
+  frames = λ n low. (each n low).frame;
+}
+
+-- the new disk's sector of the state is the first one of its log slice
+pub new_sector : (arrays : List View) (place disk sectors : ℕ) (t u : Slices) → SeatsDrive arrays place disk sectors t u → (i : Image)
+    → sliced u i (log_slice place) 0 ≡ i disk state_sector
+new_sector arrays place disk sectors t u seats i =
+    let on : place_of (log_slice place) ≡ place = omega arith in
+    let of : slice_of (log_slice place) ≡ 0 = omega arith in
+    let many : sectors_of u (log_slice place) ≡ log_sectors = seats.own (log_slice place) on ∙ ap (sectors_laid arrays place sectors) of in
+    let begins : first_of u (log_slice place) ≡ state_sector = seats.own_firsts (log_slice place) on (omega (arith, many)) ∙ ap (first_laid arrays) of in
+    let disk_is : disk_of u (log_slice place) ≡ disk =
+    ap (λ o. unwrap_or o 0)
+    (ap (seat_of u) on ∙ seats.seats place ∙ ap (λ (c : Bool). if c then Some disk else seat_of t place) (eq-eqb place place refl)) in
+    ap (λ (c : Bool). if c then i (disk_of u (log_slice place)) (first_of u (log_slice place) + 0) else [])
+    (lt-ltb 0 (sectors_of u (log_slice place)) (omega (arith, many)))
+    ∙ ap₂ (λ d at. i d (at + 0)) disk_is begins
+
+-- ---- a drive that is declined
+
+-- The disk holds what it held, or what is laid on it, and the others are written in slices alone.
+pub declined_off : (f : Found) (t : Slices) (v : Raid) (disk : ℕ) (a : Seen) → ((p : ℕ) → f.seats p ≡ Some disk → is_current v.state p ≡ false)
+    → ((k : ℕ) (w : List ℕ) → IsSliced t disk k w → ⊥) → IsOpenDisk a disk → 10273 ≤ a.sectors disk → a.lasting → (b : Seen) → Stays a b
+    → (i : Image) → IsMix a b (IsWrittenBy t disk (a.sectors disk)) i → IsLaidOff f t v.state disk a i
+declined_off f t v disk a vacant free opened room lasting b stays i mix =
+    let laid : HoldsLaid a disk i =
+    λ c low. elim (mix disk c (live_on lasting stays (opened c low))) [
+      | inl may ↦ inl may
+      | inr written ↦ elim written [ inl own ↦ inr own | inr slice ↦ absurd (free c (i disk c) slice) ]
+    ] in
+    laid_off f t t v.state disk a b i vacant free opened lasting stays (λ d k w other at. at) mix (laid_says a disk i room laid)
+
+-- By the slices contents say a state of the call, and the arrays by it.
+pub declined_book : (made : ℕ) (t : Slices) (v w : Raid) (a b : Seen) → a.traced → KeepsMoments v w (slices_of t a) (slices_of t b)
+    → ((n : ℕ) → n < made → IsTold v (slices_of t a) n) → ((n : ℕ) → n < made → is_over w n ≡ false) → 0 < made
+    → (k : ℕ) (i : Image) → a.clock < k → k ≤ b.clock → b.stops k i → SaysBooks made t v w i
+declined_book made t v w a b traced keeps told lasts first k i since until stopped =
+    let shown : (slices_of t b).stops k (sliced t i) = (i, stopped, λ d c. refl) in
+    let nothing : HasNothing (sectors_of t) (sliced t i) =
+    λ d c past. ap (λ (x : Bool). if x then i (disk_of t d) (first_of t d + c) else []) (le-ltb c (sectors_of t d) past) in
+    let log = ((told 0 first).stood (keeps.still 0 (lasts 0 first))).log in
+    record {
+      logs = (keeps.logs 0 (told 0 first) (lasts 0 first) traced).new k (sliced t i) since until shown;
+      since =
+          ((keeps.since 0 v.state (told 0 first) (lasts 0 first) (after_same v.state) (kept_since v.state v.number (slices_of t a) log)).leaves traced).new k (sliced t i) since until shown
+          nothing;
+      arrays = λ n low. (keeps.images n (told n low) (lasts n low) traced).new k (sliced t i) since until shown;
+      frames = λ n low. (keeps.frames n (told n low) (lasts n low) traced).new k (sliced t i) since until shown;
+    }

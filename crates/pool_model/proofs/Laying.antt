@@ -30,7 +30,7 @@ use Rattle.pool_model.proofs.Before.{off_before, was as image_before, was_other 
 use Rattle.pool_model.proofs.Declined.{held_attached}
 use Rattle.pool_model.proofs.Found.{ok_of, seated_below}
 use Rattle.pool_model.proofs.Logs.{copied_in, there_in}
-use Rattle.pool_model.proofs.Said.{AreInside}
+use Rattle.pool_model.proofs.Said.{AreInside, slices_by}
 use Rattle.pool_model.proofs.Shown.{shown_between}
 use Rattle.pool_model.proofs.Tables.{tables_vacant}
 use Rattle.pool_model.proofs.Vacant.{logs_other, seat_other, slices_now, sliced_before}
@@ -248,3 +248,35 @@ module _ (f : Found) (t u : Slices) (v : Raid) (place : ℕ) (x : Seen) (is : In
               (ok_of (decoded (sliced u i (log_slice p) 0)) copy (sym (copied_in f u i within p d on lies) ∙ here))
         ])
         says room someone now
+
+-- ---- all places have theirs
+
+-- A disk is written outside the slices that is none of a place.
+module _ (f : Found) (t : Slices) (v : Raid) (x : Seen) (is : InService f t v x) (orderly : IsOrderly t) (inside : IsInside t x) (disk : ℕ) (apart : (p : ℕ) → f.seats p ≡ Some disk → ⊥)
+    (i : Image) (laid : IsLaidOff f t v.state disk x i) where
+  all_within : AreInside f t
+  all_within = inside_of f t x is.disks inside
+
+  all_called : IsCalledBy f t v
+  all_called = record {
+    arranged = is.arranged;
+    after = is.after;
+    joined = is.joined;
+    geometry = is.geometry;
+    slices = λ e. slices_by (record f { identities = e }) t v.state (slices_said f e is.arranged.made.1 is.arranged.truths t is.slices);
+    orderly = orderly;
+    inside = all_within;
+  }
+
+  pub service_laid : (w : Raid) → HoldTables f t v.state x → HavePlaces v.state f → SaysBooks f.state.made t v w i → w.state.epoch < 2 ^ 63 - 1
+      → (p : ℕ) → is_current w.state p ≡ true → HoldAmid f t v.state w.state i
+  service_laid w tables present says room someone now =
+      shown_amid f t v w i all_called (laid_said f t v.state disk x i laid is.arranged is.disks is.held)
+      (laid_alone f t v.state disk x i laid is.arranged is.disks is.held)
+      (laid_tables f t v.state disk x i laid (λ p d counts seat same. apart p (sym (is.slices.seats p) ∙ seat ∙ ap Some same)) tables) present
+      (λ p d copy seat past here.
+      let on : slice_seat t p ≡ Some d = is.slices.seats p ∙ seat in
+      let lies = is.slices.logs p d seat in
+      (says.since p (current_few f.state p is.arranged.places (is.arranged.seated p d seat).0) (there_in f t i all_within p d on lies)).former copy past
+      (ok_of (decoded (sliced t i (log_slice p) 0)) copy (sym (copied_in f t i all_within p d on lies) ∙ here)))
+      says room someone now

@@ -64,9 +64,12 @@ pub mod JoiningStands
 pub mod JoiningLate
 pub mod JoiningNames
 pub mod JoiningIds
+pub mod FormerDrive
 pub mod JoiningShown
 pub mod TakingLate
 pub mod Entering
+pub mod ReplacingEarly
+pub mod Replacing
 pub mod Alone
 pub mod ServiceWhole
 pub mod TableRoom

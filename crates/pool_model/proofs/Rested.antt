@@ -13,6 +13,7 @@ use Rattle.array_image.specs.Record.{GateAt, damaged_log, gate_sector, pending, 
 use Rattle.array_image.specs.States.{current_places, is_current}
 use Rattle.commit_log.specs.Standing.{deciding}
 use Rattle.commit_log.specs.View.{names}
+use Rattle.commit_log.proofs.Places.{joins_none}
 use Rattle.commit_log.proofs.Replayable.{pending_named}
 use Rattle.commit_log.proofs.Restored.{pending_by}
 use Rattle.commit_log.proofs.Undamaged.{whole_by}
@@ -23,7 +24,7 @@ use Rattle.pool_image.specs.Drives.{Found, found, found_by}
 use Rattle.pool_image.specs.Replay.{Extent, Standing, brought_state, log_extent, logs_of, standing, standing_by, written}
 use Rattle.pool_image.proofs.Rested.{written_none}
 use Rattle.pool_rest.specs.SoundLogs.{HasSoundLogs}
-use Rattle.pool_model.proofs.Copies.{IsKnown, c, ids, kept, log_many, log_reads, log_room, newest_now, none_former, nothing_pending, s, seat_there, seats_now, stands, state_is}
+use Rattle.pool_model.proofs.Copies.{IsKnown, c, ids, kept, log_many, log_reads, log_room, newest_now, nothing_pending, s, seat_there, seats_now, stands, state_is}
 
 module _ (f : Found) (t : Slices) (v : Raid) (y : Seen) (i : Image) (known : IsKnown f t v y i) where
   abbrev pub book : State
@@ -127,9 +128,8 @@ module _ (f : Found) (t : Slices) (v : Raid) (y : Seen) (i : Image) (known : IsK
       next = inl same_state;
       pool = ap (λ (z : State). z.pool) same_state;
       copies = λ p u at. absurd (none-some u (sym (no_target p) ∙ at));
-      seats = λ p here there. ap (λ (z : State). seat_of z f.disks says p) same_state;
-      joining = λ a p d at former seat room.
-          absurd (none-some d (sym (none_former f t v y i known p former) ∙ ap (λ (z : State). seat_of z f.disks says p) (sym same_state) ∙ seat));
+      seats = λ p stays. ap (λ (z : State). seat_of z f.disks says p) same_state;
+      joining = λ a p d at joins. absurd (joins_none book (unwrap_or (brought_state stood.targets) book) p same_state joins);
     };
   }
 

@@ -19,6 +19,7 @@ use Rattle.array_image.specs.States.{current_places, is_current}
 use Rattle.array_image.specs.Supers.{is_named, super_in, super_of}
 use Rattle.array_image.proofs.Frames.{super_of_sector}
 use Rattle.raid_rack.specs.Book.{after_same}
+use Rattle.commit_log.proofs.Places.{joins_none}
 use Rattle.pool_image.specs.Disks.{Disks, Identity, identities_of, newest, seat_of}
 use Rattle.pool_image.specs.Drives.{Found, drive_sector, end_of, extent_from, extent_of, first_of, found, found_by, slices_from, slices_of, truth_from}
 use Rattle.pool_image.specs.Meaning.{array_sectors, arrays_held, is_member, truth_of}
@@ -37,7 +38,6 @@ use Rattle.pool_model.proofs.Current.{SameCurrent, SameMembers, array_current, s
 use Rattle.pool_model.proofs.Found.{found_is, some_made}
 use Rattle.pool_model.proofs.Layers.{IsLaid, laid, no_super, none_there}
 use Rattle.pool_rest.proofs.SameLogs.{logs_same}
-use Rattle.pool_model.proofs.Seats.{nowhere}
 use Rattle.pool_model.proofs.TableRoom.{log_room, member_room}
 
 some_same : {X : Type 0} (x y : X) → Some x ≡ Some y → x ≡ y
@@ -86,8 +86,8 @@ idle_logs disks c s newest_is none whole =
         next = inl refl;
         pool = refl;
         copies = λ p u at. absurd (none-some u (sym (ap (λ (xs : List Target). look xs (log_slice p) 0) none) ∙ at));
-        seats = λ p here there. refl;
-        joining = λ a p d at former seat. absurd (none-some d (sym (nowhere s disks (identities_of disks c) p former) ∙ seat));
+        seats = λ p stays. refl;
+        joining = λ a p d at joins seat. absurd (joins_none s s p refl joins);
       });
     }
 

@@ -24,13 +24,12 @@ use Rattle.raid_rack.specs.Book.{IsAfter, after_then}
 use Rattle.raid_rack.specs.Since.{AreSince, HasOwnSince}
 use Rattle.raid_rack.proofs.Noted.{current_few}
 use Rattle.pool_scan.proofs.Seated.{foremost_from}
-use Rattle.pool_image.specs.Alike.{drive_gate}
 use Rattle.pool_image.specs.Disks.{Identities, Identity, identities_of, newest, seat_of, stands_for}
 use Rattle.pool_image.specs.Drives.{Found, extent_of}
 use Rattle.pool_image.specs.Replay.{Extent, Standing, log_extent, logs_of, standing, standing_by}
 use Rattle.pool_rest.specs.SoundLogs.{HasSoundLogs, ShowLogs}
 use Rattle.pool_rest.specs.Resting.{seated_state}
-use Rattle.pool_rest.proofs.SaidLogs.{says_lower, says_sound, seated_is, stands_now, targets_are}
+use Rattle.pool_rest.proofs.SaidLogs.{same_below, says_lower, says_sound, seated_is, stands_now, targets_are}
 use Rattle.pool_model.specs.InService.{HasSeat, epoch_at}
 use Rattle.pool_model.specs.Pools.{extent_in}
 use Rattle.pool_model.specs.Stopped.{HasLeader, IsStopped, SaysStopped, StandFor}
@@ -39,7 +38,7 @@ use Rattle.pool_model.proofs.Logs.{copied_in, many_in, reads_in, room_in, there_
 use Rattle.pool_model.proofs.Named.{IsNamed, id_same, same_position, stands_named, stands_same}
 use Rattle.pool_model.proofs.Outset.{no_later_epoch}
 use Rattle.pool_model.proofs.Said.{SaysSeats}
-use Rattle.pool_model.proofs.Seats.{nowhere, seats_now}
+use Rattle.pool_model.proofs.Seats.{seats_now}
 
 some_same : {X : Type 0} (a b : X) → Some a ≡ Some b → a ≡ b
 some_same a b same = cc
@@ -339,14 +338,13 @@ module _ (f : Found) (t : Slices) (base s : State) (i : Image) (stop : SaysStopp
     show : ShowLogs f.disks i c u s
     show = record {
       newest_is = newest_now;
-      logs = log_same;
-      seats = λ p here there. seats_by s stop.after p there ∙ sym (seats_by u stood_after p here);
-      gates = λ p d former seat long. gates_at p d seat (cases_Bool (is_current s p));
+      logs = λ p k now apart. log_same p k now;
+      former = λ a p at now joins.
+          same_below (sectors_of t) c (logs_of f.disks (seat_of u f.disks ids) i) s stop.says a p at joins (log_same p gate_sector now);
+      seats = λ p stays. seats_by s stop.after p stays.now ∙ sym (seats_by u stood_after p stays.was);
+      gates = λ p d joins seat long.
+          sym (reads p d (sym (seats_by s stop.after p joins.now) ∙ seat) (stop.after.current p joins.now) gate_sector (omega arith));
     }
-      where
-        gates_at : (p d : ℕ) → seat_of s f.disks ids p ≡ Some d → (is_current s p ≡ true) ⊎ (is_current s p ≡ false) → i d drive_gate ≡ c (log_slice p) gate_sector
-        gates_at p d seat (inr past) = absurd (none-some d (sym (nowhere s f.disks ids p past) ∙ seat))
-        gates_at p d seat (inl now) = sym (reads p d (sym (seats_by s stop.after p now) ∙ seat) (stop.after.current p now) gate_sector (omega arith))
 
     -- the disks as they stand
     abbrev before : Standing
@@ -408,14 +406,14 @@ module _ (f : Found) (t : Slices) (base s : State) (i : Image) (stop : SaysStopp
           }
       | inr brought ↦
           let p = brought.copy.0 in
-          let copy = brought.copy.3 in
-          let was = stop.after.current p brought.copy.2 in
+          let copy = brought.copy.2 in
+          let was = stop.after.current p brought.copy.1.now in
           let drive = decoded_seat p (record { state = u; own = copy.own }) was copy.copy in
           record {
             place = p;
             disk = drive.0;
             own = copy.own;
-            current = brought.copy.2;
+            current = brought.copy.1.now;
             seat = drive.1;
             copy = copied_is p drive.0 drive.1 was i ∙ ap result_ok copy.copy;
             room = room p drive.0 drive.1 was;

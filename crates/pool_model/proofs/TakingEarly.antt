@@ -1,43 +1,40 @@
 -- What a stop leaves inside a line that takes a new drive in, up to the moment when the record counts by which it is one of the pool, and inside one that is declined
 -- after something was laid on the drive: the pool that the disks had. The place gave its disk up before, and nothing was written by then.
-use Rattle.std.proofs.Common.{◌≡◌, ◌≢◌, ◌⊎◌, ℕ, ◌+◌, ◌-◌, ◌<◌, ◌≤◌, ◌^◌, if◌then◌else◌, Bool, true, false, List, [], Ok, Some, unwrap_or, refl, sym, ap, ap₂, subst, ◌∙◌, inl, inr, eq-eqb, le-ltb, lt-ltb, arith}
+use Rattle.std.proofs.Common.{◌≡◌, ◌≢◌, ◌⊎◌, ℕ, ◌+◌, ◌-◌, ◌<◌, ◌≤◌, ◌^◌, if◌then◌else◌, Bool, true, false, List, Ok, Some, sym, ap, subst, ◌∙◌, inl, inr, lt-ltb, arith}
 use Rattle.std.proofs.lemmas.Bool.{cases_eq, cases_lt}
 use Rattle.rack.specs.Moments.{Leaves}
 use Rattle.rack.specs.Seen.{Image, Seen}
 use Rattle.rack.specs.Sequences.{IsMix, WritesOnly}
 use Rattle.rack.proofs.Writing.{only_weaker}
 use Rattle.slice_rack.specs.Runs.{IsSliced}
-use Rattle.slice_rack.specs.Slices.{IsOrderly, Slices, disk_of, first_of, seat_of, sectors_of}
+use Rattle.slice_rack.specs.Slices.{IsOrderly, Slices, sectors_of}
 use Rattle.slice_rack.specs.Sliced.{IsInside, sliced, slices_of}
 use Rattle.gpt_table.specs.declared.Table.{Table}
 use Rattle.pool_state.specs.declared.contents.Copied.{Copied}
 use Rattle.pool_state.specs.declared.contents.Plan.{Plan}
 use Rattle.pool_state.specs.declared.contents.State.{State}
 use Rattle.pool_state.specs.Sector.{decoded}
-use Rattle.array_image.specs.Left.{IsInside as HasNothing}
 use Rattle.array_image.specs.Places.{log_sectors, log_slice, place_of, slice_of, state_sector}
 use Rattle.array_image.specs.States.{is_current}
 use Rattle.commit_log.specs.Saying.{SaysState}
-use Rattle.commit_log.proofs.Kept.{live_on}
-use Rattle.raid_rack.specs.Book.{after_same}
-use Rattle.raid_rack.specs.Enlisting.{Enlists, HoldsLaid, IsNotWhole, IsOpenDisk, IsRefused, IsWrittenBy, KeepsTold, SaysJoining, enlisted, new_table}
+use Rattle.raid_rack.specs.Enlisting.{Enlists, IsNotWhole, IsOpenDisk, IsRefused, IsWrittenBy, KeepsTold, SaysJoining, enlisted, new_table}
 use Rattle.raid_rack.specs.Missing.{raised}
 use Rattle.raid_rack.specs.Logs.{LogsBetween}
 use Rattle.raid_rack.specs.Losses.{has_other}
-use Rattle.raid_rack.specs.NewDrive.{IsOfDrive, SeatsDrive, first_laid, sectors_laid}
+use Rattle.raid_rack.specs.NewDrive.{IsOfDrive, SeatsDrive, sectors_laid}
 use Rattle.raid_rack.specs.Raid.{IsTold, Raid, held_in, is_over}
 use Rattle.raid_rack.specs.Runs.{KeepsMoments}
 use Rattle.raid_rack.proofs.Over.{number_room, someone_left}
-use Rattle.raid_rack.proofs.Since.{joining_none, kept_since}
+use Rattle.raid_rack.proofs.Since.{joining_none}
 use Rattle.pool_image.specs.Drives.{Found}
 use Rattle.pool_model.specs.InService.{InService}
-use Rattle.pool_model.specs.Laid.{IsLaidOff, SaysBooks}
+use Rattle.pool_model.specs.Laid.{IsLaidOff}
 use Rattle.pool_model.specs.Left.{HavePlaces}
 use Rattle.pool_model.specs.Stopped.{HoldAmid, HoldTables}
 use Rattle.pool_model.specs.Taken.{LacksDrive, SeatsNew, views_of}
 use Rattle.pool_model.proofs.Joined.{current_here}
 use Rattle.pool_model.proofs.JoiningEarly.{joining_early}
-use Rattle.pool_model.proofs.LaidOff.{joining_book, laid_off, laid_says, laying_book}
+use Rattle.pool_model.proofs.LaidOff.{declined_book, declined_off, joining_book, laid_off, laid_says, laying_book, new_sector}
 use Rattle.pool_model.proofs.Laying.{laid_amid}
 use Rattle.pool_model.proofs.Named.{same_length}
 use Rattle.pool_model.proofs.Staying.{sliced_seated}
@@ -79,29 +76,9 @@ module _ (f : Found) (s t : Slices) (v : Raid) (place disk : ℕ) (a : Seen) (is
 
       amid : (k : ℕ) (i : Image) → a.clock < k → k ≤ b.clock → b.stops k i → IsMix a b (IsWrittenBy t disk (a.sectors disk)) i → HoldAmid f t v.state w.state i
       amid k i since until stopped mix =
-          let shown : (slices_of t b).stops k (sliced t i) = (i, stopped, λ d c. refl) in
-          let laid : HoldsLaid a disk i =
-          λ c low. elim (mix disk c (live_on lasting only.stays (opened c low))) [
-            | inl may ↦ inl may
-            | inr written ↦ elim written [ inl own ↦ inr own | inr slice ↦ absurd (free c (i disk c) slice) ]
-          ] in
-          let off : IsLaidOff f t v.state disk a i =
-          laid_off f t t v.state disk a b i vacant free opened lasting only.stays same_slices mix (laid_says a disk i room laid) in
-          let nothing : HasNothing (sectors_of t) (sliced t i) =
-          λ d c past. ap (λ (x : Bool). if x then i (disk_of t d) (first_of t d + c) else []) (le-ltb c (sectors_of t d) past) in
-          let log = ((told 0 first).stood still).log in
-          let says : SaysBooks f.state.made t v w i =
-          record {
-            logs = (keeps.logs 0 (told 0 first) (lasts 0 first) traced).new k (sliced t i) since until shown;
-            since =
-                ((keeps.since 0 v.state (told 0 first) (lasts 0 first) (after_same v.state) (kept_since v.state v.number (slices_of t a) log)).leaves traced).new k (sliced t i) since until shown
-                nothing;
-            arrays = λ n low. (keeps.images n (told n low) (lasts n low) traced).new k (sliced t i) since until shown;
-            frames = λ n low. (keeps.frames n (told n low) (lasts n low) traced).new k (sliced t i) since until shown;
-          } in
           let one = someone_left w 0 (lasts 0 first) in
-          laid_amid f s t v place a is lacks orderly inside disk i off w tables
-          (present_of f s t v place a is lacks (told 0 first) still) says
+          laid_amid f s t v place a is lacks orderly inside disk i (declined_off f t v disk a vacant free opened room lasting b only.stays i mix) w tables
+          (present_of f s t v place a is lacks (told 0 first) still) (declined_book f.state.made t v w a b traced keeps told lasts first k i since until stopped)
           (let most = (number_room w 0 (lasts 0 first)).1 in omega (arith, most)) one.0 one.1
 
   -- So it is where the drive refused a call, and where another one was found gone.
@@ -144,11 +121,11 @@ module _ (f : Found) (s t : Slices) (v : Raid) (place disk : ℕ) (a : Seen) (is
     pub taking_early : IsOrderly u → IsInside u a → (k : ℕ) (i : Image) → a.clock < k → k ≤ b.clock → b.stops k i → mid < k
         → SaysState v.state (sectors_of u) (sliced u i) → HoldAmid f u v.state v.state i
     taking_early orderly_now inside_now k i since until stopped late says =
-        let each = λ (n : ℕ) (low : n < f.state.made). (told n low).after traced (lasts n low) k i late until stopped in
+        let each = λ (n : ℕ) (low : n < f.state.made). (told n low).after lacks.missing traced (lasts n low) k i late until stopped in
         let off : IsLaidOff f t v.state disk a i =
         laid_off f t u v.state disk a b i vacant free opened lasting only.stays fewer ((only.stops traced).new k i since until stopped)
         (λ copy low here. absurd (says_none (each 0 first) copy here)) in
-        joining_early f s u v place disk a is new t i lacks orderly inside orderly_now inside_now tables present someone now off
+        joining_early f s u v place disk a is new lacks.missing t i lacks orderly inside orderly_now inside_now tables present someone now off
         (joining_book f.state.made t u disk table next v w a (held_in v (slices_of t a)) i first up says each)
       where
         up : v.state.epoch < next.epoch
@@ -164,34 +141,16 @@ module _ (f : Found) (s t : Slices) (v : Raid) (place disk : ℕ) (a : Seen) (is
             let low = new.listed in
             omega (arith, many, most, low)
 
-        on : place_of (log_slice place) ≡ place
-        on = omega arith
-
-        of : slice_of (log_slice place) ≡ 0
-        of = omega arith
-
         many : sectors_of u (log_slice place) ≡ log_sectors
-        many = seats.own (log_slice place) on ∙ ap (sectors_laid (views_of v) place (a.sectors disk)) of
-
-        begins : first_of u (log_slice place) ≡ state_sector
-        begins = seats.own_firsts (log_slice place) on (let long = many in omega (arith, long)) ∙ ap (first_laid (views_of v)) of
-
-        disk_is : disk_of u (log_slice place) ≡ disk
-        disk_is =
-            ap (λ o. unwrap_or o 0)
-            (ap (seat_of u) on ∙ seats.seats place ∙ ap (λ (c : Bool). if c then Some disk else seat_of t place) (eq-eqb place place refl))
-
-        reads : sliced u i (log_slice place) 0 ≡ i disk state_sector
-        reads =
-            ap (λ (c : Bool). if c then i (disk_of u (log_slice place)) (first_of u (log_slice place) + 0) else [])
-            (lt-ltb 0 (sectors_of u (log_slice place)) (let long = many in omega (arith, long)))
-            ∙ ap₂ (λ d at. i d (at + 0)) disk_is begins
+        many =
+            seats.own (log_slice place) (let e : place_of (log_slice place) ≡ place = omega arith in e)
+            ∙ ap (sectors_laid (views_of v) place (a.sectors disk)) (let e : slice_of (log_slice place) ≡ 0 = omega arith in e)
 
         -- the new drive has no state
         says_none : SaysJoining t u disk table next v w a 0 (held_in v (slices_of t a) 0) i → (copy : Copied) → decoded (i disk state_sector) ≡ Ok copy → ⊥
         says_none one copy here =
             joining_none v.state next (sectors_of u) (sliced u i) up says one.since place copy few (let long = many in omega (arith, long)) lacks.missing
-            (current_here place units plan v.state new.listed) (ap decoded reads ∙ here)
+            (current_here place units plan v.state new.listed) (ap decoded (new_sector (views_of v) place disk (a.sectors disk) t u seats i) ∙ here)
 
   -- By what the rack of arrays says of the call.
   module _ (u : Slices) (units : ℕ) (plan : Plan) (w : Raid) (b : Seen) (new : SeatsNew f s u v place disk (a.sectors disk))
@@ -223,7 +182,7 @@ module _ (f : Found) (s t : Slices) (v : Raid) (place disk : ℕ) (a : Seen) (is
         elim (cases_lt enlists.mid k) [
           | inr early ↦
               inl (inl (laying_early u units plan table w b enlists.mid new enlists.only entering_told lasts entering_places one.0 one.1 k i since until stopped early))
-          | inl late ↦ elim ((entering_told 0 first).after traced (lasts 0 first) k i late until stopped).logs [
+          | inl late ↦ elim ((entering_told 0 first).after lacks.missing traced (lasts 0 first) k i late until stopped).logs [
             | inl says ↦
                 inl (inr
                 (taking_early u units plan table w b enlists.mid new enlists.only entering_told lasts entering_places one.0 one.1 orderly_now inside_now k i since until stopped

@@ -1,5 +1,5 @@
 -- What contents show of a stop inside a call of a pool, and what a stop leaves of its disks while a new drive is laid.
-use Rattle.std.specs.Prelude.{◌≡◌, ◌≢◌, ◌⊎◌, ℕ, ◌+◌, ◌-◌, ◌<◌, ◌≤◌, ◌^◌, true, false, List, None, Some}
+use Rattle.std.specs.Prelude.{◌≡◌, ◌≢◌, ◌⊎◌, ℕ, ◌+◌, ◌-◌, ◌<◌, ◌≤◌, ◌^◌, ◌==◌, true, false, List, None, Some}
 use Rattle.rack.specs.Values.{MayLeave}
 use Rattle.rack.specs.Seen.{Image, IsLive, Seen}
 use Rattle.slice_rack.specs.Runs.{IsSliced}
@@ -9,11 +9,13 @@ use Rattle.md_super.specs.declared.superblock.Super.{Super}
 use Rattle.pool_state.specs.declared.contents.Copied.{Copied}
 use Rattle.pool_state.specs.declared.contents.State.{State}
 use Rattle.array_image.specs.Arrays.{replayed}
-use Rattle.array_image.specs.Places.{state_sector, super_sector}
-use Rattle.array_image.specs.States.{is_current}
+use Rattle.array_image.specs.Places.{log_slice, state_sector, super_sector}
+use Rattle.array_image.specs.Record.{GateAt, gate_sector, pending_at}
+use Rattle.array_image.specs.States.{current_places, is_current, state_in}
 use Rattle.array_image.specs.Supers.{super_of}
 use Rattle.array_model.specs.View.{HasGeometry}
 use Rattle.commit_log.specs.Kept.{IsNoLater}
+use Rattle.commit_log.specs.Saying.{PlaceJoins}
 use Rattle.raid_rack.specs.Book.{IsAfter}
 use Rattle.raid_rack.specs.Enlisting.{next_drive}
 use Rattle.raid_rack.specs.Frames.{HasFrame, frame_of}
@@ -21,10 +23,12 @@ use Rattle.raid_rack.specs.Logs.{LogsBetween}
 use Rattle.raid_rack.specs.Missing.{raised}
 use Rattle.raid_rack.specs.Raid.{Raid}
 use Rattle.raid_rack.specs.Runs.{IsBetween}
-use Rattle.raid_rack.specs.Since.{AreJoinSince, AreSince}
-use Rattle.pool_image.specs.Disks.{Identities, disks_of, id_by, identities_of, seat_of as seat_in_disks, stands_for}
+use Rattle.raid_rack.specs.Since.{AreSince, AreTakenSince}
+use Rattle.pool_image.specs.Disks.{Disks, Identities, disks_of, id_at, id_by, identities_of, seat_of as seat_in_disks, stands_for}
 use Rattle.pool_image.specs.Drives.{Found, first_of as first_in_pool}
 use Rattle.pool_image.specs.Meaning.{is_member, truth_of}
+use Rattle.pool_image.specs.Replay.{logs_of}
+use Rattle.pool_rest.specs.Moments.{IsNoneOrBelow}
 use Rattle.pool_model.specs.InService.{IsArranged, IsSaid, epoch_at}
 use Rattle.pool_model.specs.Left.{AreAloneBy, IsPickOff}
 use Rattle.pool_model.specs.Stopped.{AreSlicesNow, LieByTables}
@@ -81,54 +85,72 @@ pub record SaysBooks (made : ℕ) (t : Slices) (v w : Raid) (i : Image) : Type 0
 
 -- ---- while it joins
 
--- Outside the slices contents are as x may be left, but for a disk that gets the slices of a place, which has none by t. There no superblock stands where slices of arrays would begin that the
+-- Outside the slices contents are as x may be left, but for a disk that gets the slices of a place. There no superblock stands where slices of arrays would begin that the
 -- place is no member of, and the drive that the place had says no later state than the book.
-pub record IsJoinedOff (f : Found) (t u : Slices) (v : Raid) (place disk : ℕ) (x : Seen) (i : Image) : Type 0 where
+pub record IsJoinedOff (f : Found) (u : Slices) (v : Raid) (place disk : ℕ) (x : Seen) (i : Image) : Type 0 where
   pub low : disk < x.disks
   pub opened : (k : ℕ) → k < x.sectors disk → IsLive x x disk k
-  -- the slices of other disks are those that they had
-  pub fewer : (d k : ℕ) (w : List ℕ) → d ≢ disk → IsSliced u d k w → IsSliced t d k w
   pub others : (d k : ℕ) → d ≢ disk → IsLive x x d k → ((w : List ℕ) → IsSliced u d k w → ⊥) → MayLeave (x.held d k) (i d k)
   pub alone :
       (n first : ℕ) → n < f.state.made → is_member f n place ≡ false → first_in_pool f n ≡ Some first → first + super_sector < x.sectors disk
       → super_of (i disk (first + super_sector)) ≡ None
   pub earlier :
-      (d : ℕ) → d ≢ disk → f.seats place ≡ Some d → (j : Image) → IsPickOff t x j → (copy : Copied) → (identities_of (disks_of x) j d).copied ≡ Some copy
+      (d : ℕ) → d ≢ disk → f.seats place ≡ Some d → (j : Image) → IsPickOff u x j → (copy : Copied) → (identities_of (disks_of x) j d).copied ≡ Some copy
       → copy.state.epoch < raised v.state.epoch
 
+-- A state that the drive which a place had says at such a stop: one from before the book's, or its own of the book's state at most.
+abbrev pub SaysFormerly : State → ℕ → Copied → Type 0
+SaysFormerly v place copy = (copy.state.epoch < v.epoch) ⊎ (IsNoLater v copy × (id_at copy.state copy.own ≡ id_at v place))
+
+-- A state r by which place p has the drive that it has once a new one has joined at a place: one since the state before, unless the place is this one, or one since the
+-- new drive joined.
+abbrev pub GoesBy : (v next : State) → (place : ℕ) → (r : State) → (p : ℕ) → Type 0
+GoesBy v next place r p = (IsAfter v r × (p ≢ place)) ⊎ IsAfter next r
+
+-- A place has the drive that it had yet, by the state q that stands: the record that is pending brings the state s, by which it gets the new one. The gate on the drive that it
+-- had is of a lower number than the record's.
+pub record IsFormerYet (disks : Disks) (u : Slices) (q s : State) (place : ℕ) (i : Image) : Type 0 where
+  pub joins : PlaceJoins q s place
+  pub lower :
+      (a : GateAt) → pending_at (current_places q) (sliced u i) ≡ Some a
+      → IsNoneOrBelow a.gate.number (logs_of disks (seat_in_disks q disks (identities_of disks i)) i (log_slice place) gate_sector)
+
 -- What contents show that a stop leaves in which a new drive joins: h is the pool with it, by the state `next`, and v is the state before. As they stand the drives of
--- places that were current say states since v or since `next`, each its place's own, and the new drive one since `next`, if any.
-pub record ShowsJoining (h : Found) (u : Slices) (v next s : State) (i : Image) : Type 0 where
+-- other places that were current say states since v or since `next`, each its place's own, and the new drive one since `next`, if any.
+pub record ShowsJoining (h : Found) (u : Slices) (v next s : State) (place : ℕ) (i : Image) : Type 0 where
   pub state : h.state ≡ next
   pub later : v.epoch < next.epoch
   pub room : s.epoch < 2 ^ 63 - 1
   pub current : (p : ℕ) → is_current v p ≡ true → is_current next p ≡ true
-  pub joining : AreJoinSince v next (sectors_of u) (sliced u i)
+  pub joining : AreTakenSince (λ p. p == place) v next (sectors_of u) (sliced u i)
   pub present : (p : ℕ) → is_current next p ≡ true → (d : ℕ) × (h.seats p ≡ Some d)
-  -- a drive is left that the pool had
-  pub someone : (p : ℕ) × (is_current v p ≡ true) × (is_current s p ≡ true)
+  -- another drive is left that the pool had
+  pub someone : (p : ℕ) × (p ≢ place) × (is_current v p ≡ true) × (is_current s p ≡ true)
   -- another disk says no later state than the one before
   pub strangers :
       (q : ℕ) (copy : Copied) → ((p : ℕ) → h.seats p ≡ Some q → ⊥) → q < h.disks.count → (identities_of h.disks i q).copied ≡ Some copy → IsNoLater v copy
   -- by states since v, and by those since `next`, current places have their drives
   pub seats :
-      (r : State) (p d : ℕ) → IsAfter v r ⊎ IsAfter next r → is_current r p ≡ true → h.seats p ≡ Some d
+      (r : State) (p d : ℕ) → GoesBy v next place r p → is_current r p ≡ true → h.seats p ≡ Some d
       → seat_in_disks r h.disks (identities_of h.disks i) p ≡ Some d
+  -- but that the place may have the drive that it had
+  pub former :
+      (q : State) → state_in (sliced u i) ≡ Some q → IsAfter v q → is_current q place ≡ true → IsAfter next q ⊎ IsFormerYet h.disks u q s place i
 
 -- Whom disks stand for at such a stop, by states since v and by those since `next`: each drive for its own place and for no other one that is current, and of the disks that
 -- are no drives those that stand for a drive's place say earlier states than the drive, or one of its epoch behind it. While the new drive says no state it has the epoch 0, so no
 -- other disk stands for its place then.
-pub record NamesJoining (h : Found) (v next : State) (i : Image) : Type 0 where
+pub record NamesJoining (h : Found) (v next : State) (place : ℕ) (i : Image) : Type 0 where
   pub own :
-      (r : State) (p d : ℕ) → IsAfter v r ⊎ IsAfter next r → is_current r p ≡ true → h.seats p ≡ Some d → stands_for r (identities_of h.disks i d) ≡ Some p
+      (r : State) (p d : ℕ) → GoesBy v next place r p → is_current r p ≡ true → h.seats p ≡ Some d → stands_for r (identities_of h.disks i d) ≡ Some p
   pub apart :
-      (r : State) (p k x : ℕ) → IsAfter v r ⊎ IsAfter next r → is_current r p ≡ true → h.seats k ≡ Some x → k ≢ p
+      (r : State) (p k x : ℕ) → GoesBy v next place r p → is_current r p ≡ true → h.seats k ≡ Some x → k ≢ p
       → stands_for r (identities_of h.disks i x) ≡ Some p → ⊥
   pub before :
-      (r : State) (p d x : ℕ) → IsAfter v r ⊎ IsAfter next r → is_current r p ≡ true → h.seats p ≡ Some d → ((k : ℕ) → h.seats k ≡ Some x → ⊥) → x < d
+      (r : State) (p d x : ℕ) → GoesBy v next place r p → is_current r p ≡ true → h.seats p ≡ Some d → ((k : ℕ) → h.seats k ≡ Some x → ⊥) → x < d
       → stands_for r (identities_of h.disks i x) ≡ Some p → epoch_at (identities_of h.disks i x) < epoch_at (identities_of h.disks i d)
   pub behind :
-      (r : State) (p d x : ℕ) → IsAfter v r ⊎ IsAfter next r → is_current r p ≡ true → h.seats p ≡ Some d → ((k : ℕ) → h.seats k ≡ Some x → ⊥) → d < x → x < h.disks.count
+      (r : State) (p d x : ℕ) → GoesBy v next place r p → is_current r p ≡ true → h.seats p ≡ Some d → ((k : ℕ) → h.seats k ≡ Some x → ⊥) → d < x → x < h.disks.count
       → stands_for r (identities_of h.disks i x) ≡ Some p → epoch_at (identities_of h.disks i x) ≤ epoch_at (identities_of h.disks i d)
 
 -- No other disk has the id of the pool's next drive, but for the drives of other places, whose ids are their own. While the new drive says no state it stands for its place by the id in

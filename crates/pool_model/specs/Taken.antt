@@ -1,4 +1,4 @@
--- A pool that took a new drive in at a place whose drive was missing, and what keeps a pool so that it opens again.
+-- A pool that took a new drive in at a place, whose drive was missing or gave way to it, and what keeps a pool so that it opens again.
 use Rattle.std.specs.Prelude.{◌≡◌, ◌≢◌, ◌⊎◌, ℕ, ◌+◌, ◌-◌, ◌<◌, ◌≤◌, ◌^◌, ◌==◌, if◌then◌else◌, Bool, true, false, List, length, map, Some, None}
 use Rattle.std.specs.List.{range_with_len}
 use Rattle.rack.specs.Values.{Keeps, MayLeave}
@@ -38,11 +38,10 @@ taken f disks place disk s = record f {
 abbrev pub views_of : Raid → List View
 views_of v = map v.arrays (range_with_len 0 v.state.made)
 
--- The place of f is missing by the book v, and no other one is that had a disk. A disk, of so many sectors, is none of theirs, and it gets
--- the place's slices: `t` and `u` are the tables before and after.
+-- A place of f gets another disk, of so many sectors, by the book v, by which its own may be missing: no other place's is that had one. The disk is none of
+-- theirs, and it gets the place's slices: `t` and `u` are the tables before and after.
 pub record SeatsNew (f : Found) (t u : Slices) (v : Raid) (place disk sectors : ℕ) : Type 0 where
   pub listed : place < length v.state.drives.items
-  pub missing : is_current v.state place ≡ false
   pub others : (p d : ℕ) → p ≢ place → f.seats p ≡ Some d → (is_current v.state p ≡ true) × (d ≢ disk)
   pub fresh : (p : ℕ) → p ≢ place → id_at v.state p ≢ Some (next_drive v.state).0
   pub room : v.state.epoch < 2 ^ 63 - 1
@@ -56,7 +55,8 @@ KeepsOff t disk x z =
     (d s : ℕ) → d ≢ disk → IsLive x x d s → ((w : List ℕ) → IsSliced t d s w → ⊥) → IsLive z z d s × Keeps (x.held d s) (z.held d s)
 
 -- Outside the slices the disks show z after x as they did, but for the new one. There no superblock stands where slices of arrays would begin
--- that the place is no member of. The disks that came, and the one that the place had before, say states that are earlier than the new one.
+-- that the place is no member of. The disks that came, and the one that the place had before, say states that are earlier than the new one: that one may say the
+-- state before.
 pub record KeepsRest (f : Found) (t u : Slices) (v : Raid) (place disk : ℕ) (x z : Seen) : Type 0 where
   pub low : disk < z.disks
   pub disks : f.disks.count ≤ z.disks

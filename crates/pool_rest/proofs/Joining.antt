@@ -18,17 +18,32 @@ use Rattle.commit_log.specs.Scans.{number_of}
 use Rattle.commit_log.specs.Standing.{Decides, IsNumbered, StatesStand, deciding}
 use Rattle.commit_log.specs.View.{LogView, is_left, left_of, names}
 use Rattle.commit_log.proofs.Amid.{no_gate_in_nothing}
-use Rattle.commit_log.proofs.Counting.{few_in, named_decides}
+use Rattle.commit_log.proofs.Counting.{few_in}
 use Rattle.commit_log.proofs.Deciding.{IsOf, IsTop, NoneAbove, all_at, all_or, foremost_among, gate_at, gate_at_is, pending_is_decisive, pending_of_top, record_pending, top}
 use Rattle.commit_log.proofs.Epochs.{state_either}
 use Rattle.commit_log.proofs.Fewer.{current_of_all, filter_both, filter_names, names_filter, pending_kept, pending_most}
 use Rattle.commit_log.proofs.Naming.{names_range}
 use Rattle.commit_log.proofs.Undamaged.{whole_from, whole_gates, whole_record}
-use Rattle.pool_rest.specs.Moments.{IsGateBelow}
+use Rattle.pool_rest.specs.Moments.{IsGateBelow, IsNoneOrBelow}
 use Rattle.pool_rest.proofs.Fewer.{at_fewer, finds_fewer, number_fewer}
 use Rattle.pool_rest.proofs.Settled.{open_all}
 
 -- ---- places whose gates have lower numbers count for nothing
+
+pub below_number : (number : ℕ) (block : List ℕ) (g : Gate) → IsNoneOrBelow number block → gate_of block ≡ Some g → g.number < number
+below_number number block g (inl nothing) has = absurd (none-some g (sym (ap gate_of nothing ∙ no_gate_in_nothing) ∙ has))
+below_number number block g (inr low) has = subst (λ (h : Gate). h.number < number) (some_gate low.0 g (sym low.1 ∙ has)) low.2
+  where
+    some_gate : (g h : Gate) → Some g ≡ Some h → g ≡ h
+    some_gate g h same = (cc)
+
+pub below_formed : (number : ℕ) (block : List ℕ) → IsNoneOrBelow number block → (is_there block && is_none (gate_of block)) ≡ false
+below_formed number block (inl nothing) = ap (λ (b : List ℕ). is_there b && is_none (gate_of b)) nothing
+below_formed number block (inr low) = ap (λ (o : Option Gate). is_there block && is_none o) low.1 ∙ and_false (is_there block)
+  where
+    and_false : (b : Bool) → (b && false) ≡ false
+    and_false true = refl
+    and_false false = refl
 
 module _ (c : Image) (f : ℕ → Bool) (ps : List ℕ) (a : GateAt) (is : pending_at (filter f ps) c ≡ Some a)
     (lower : (p : ℕ) (g : Gate) → names ps p ≡ true → f p ≡ false → gate_in c p ≡ Some g → g.number < a.gate.number) where
@@ -89,7 +104,7 @@ module _ (c : Image) (f : ℕ → Bool) (ps : List ℕ) (a : GateAt) (is : pendi
 
 -- ---- a replay
 
--- On `on` are the places that are current by both states, of those that have a log slice; the record is found on them.
+-- On `on` are the places that stay, of those that have a log slice; the record is found on them. Others have lower gates.
 module _ (l : LogView) (on : List ℕ) (s0 s : State) (x : Seen) (is_pending : Bool) (a : GateAt)
     (lasting : x.lasting)
     (live : (d k : ℕ) → k < x.sectors d → IsLive x x d k)
@@ -97,8 +112,7 @@ module _ (l : LogView) (on : List ℕ) (s0 s : State) (x : Seen) (is_pending : B
     (state : state_in (reading x) ≡ Some s0)
     (few : (p : ℕ) → names on p ≡ true → p < 16)
     (kept : (p : ℕ) → names on p ≡ true → (is_current s0 p ≡ true) × (is_current s p ≡ true))
-    (stood : (p : ℕ) → names on p ≡ false → is_current s0 p ≡ true → x.sectors (log_slice p) ≡ 0)
-    (joins : (p : ℕ) → is_current s0 p ≡ false → is_current s p ≡ true → 0 < x.sectors (log_slice p) → IsGateBelow a.gate.number (reading x (log_slice p) gate_sector))
+    (joins : (p : ℕ) → names on p ≡ false → 0 < x.sectors (log_slice p) → IsGateBelow a.gate.number (reading x (log_slice p) gate_sector))
     (finds : Finds l on (left_of on []) is_pending None (reading x))
     (source : pending_at (left_of on []) (reading x) ≡ Some a) (here : names on a.place ≡ true)
     (next : (s ≡ s0) ⊎ (s0.epoch < s.epoch))
@@ -131,21 +145,11 @@ module _ (l : LogView) (on : List ℕ) (s0 s : State) (x : Seen) (is_pending : B
       some_state : (y z : State) → Some y ≡ Some z → y ≡ z
       some_state y z same = (cc)
 
-  current_by : (c : Image) → StatesStand l.pending x c → (p : ℕ) → Decides c p → (is_current s0 p ≡ true) ⊎ (is_current s p ≡ true)
-  current_by c stand p decides = elim (which c stand decides.0 decides.1) [
-    | inl old ↦ inl (ap (λ (z : State). is_current z p) (sym old) ∙ decides.2)
-    | inr new ↦ inr (ap (λ (z : State). is_current z p) (sym new) ∙ decides.2)
-  ]
-
   -- the gate of another place is lower, or there is none
-  gate_out : (p : ℕ) → names on p ≡ false → (is_current s0 p ≡ true) ⊎ (is_current s p ≡ true)
-      → (e (log_slice p) gate_sector ≡ []) ⊎ IsGateBelow a.gate.number (e (log_slice p) gate_sector)
-  gate_out p out current = elim (cases_lt 0 (x.sectors (log_slice p))) [
+  gate_out : (p : ℕ) → names on p ≡ false → IsNoneOrBelow a.gate.number (e (log_slice p) gate_sector)
+  gate_out p out = elim (cases_lt 0 (x.sectors (log_slice p))) [
     | inr none ↦ inl (reads_nothing (log_slice p) gate_sector (omega (arith, none)))
-    | inl some ↦ elim (cases_Bool (is_current s0 p)) [
-      | inl was ↦ absurd (let none = stood p out was in omega (arith, some, none))
-      | inr not ↦ inr (joins p not (elim current [ inl was ↦ absurd (both_ways (is_current s0 p) not was) | inr is ↦ is ]) some)
-    ]
+    | inl some ↦ inr (joins p out some)
   ]
 
   names_left : (p : ℕ) → names on p ≡ true → names (left_of on []) p ≡ true
@@ -164,13 +168,9 @@ module _ (l : LogView) (on : List ℕ) (s0 s : State) (x : Seen) (is_pending : B
             let left = names_left p named in
             let has = some_gate (gate_in e p) (sym (finds.each p left) ∙ whole_gates e (left_of on []) p (sym finds.damaged_is) left) in
             (has.0, ap gate_of now ∙ has.1, finds.above p has.0 left has.1)
-        | inr out ↦ elim (cases_Bool (is_current s0 p)) [
-          | inl was ↦ absurd (let none = stood p out was in omega (arith, there, none))
-          | inr not ↦
-              let is : is_current s p ≡ true = elim (current_by c stand p decides) [ inl was ↦ absurd (both_ways (is_current s0 p) not was) | inr is ↦ is ] in
-              let gate = joins p not is (omega (arith, there)) in
-              (gate.0, ap gate_of now ∙ gate.1, (let low = gate.2 in let same = number in omega (arith, low, same)))
-        ]
+        | inr out ↦
+            let gate = joins p out (omega (arith, there)) in
+            (gate.0, ap gate_of now ∙ gate.1, (let low = gate.2 in let same = number in omega (arith, low, same)))
       ]
     where
       some_gate : (o : Option Gate) → is_none o ≡ false → (g : Gate) × (o ≡ Some g)
@@ -213,32 +213,19 @@ module _ (l : LogView) (on : List ℕ) (s0 s : State) (x : Seen) (is_pending : B
     places = elim (stands c amid.states) [ inl old ↦ by_state s0 old | inr new ↦ by_state s new ]
 
     gate_now : (p : ℕ) → names (deciding c) p ≡ true → names on p ≡ false
-        → (c (log_slice p) gate_sector ≡ []) ⊎ IsGateBelow a.gate.number (c (log_slice p) gate_sector)
+        → IsNoneOrBelow a.gate.number (c (log_slice p) gate_sector)
     gate_now p named out =
-        subst (λ block. (block ≡ []) ⊎ IsGateBelow a.gate.number block) (sym (agree p gate_sector (omega arith)))
-        (gate_out p out (current_by c amid.states p (named_decides c p named)))
+        subst (IsNoneOrBelow a.gate.number) (sym (agree p gate_sector (omega arith)))
+        (gate_out p out)
 
     source_now : pending_at (filter (names on) (deciding c)) c ≡ Some a
     source_now = ap (λ ps. pending_at ps c) places ∙ at
 
     lower : (p : ℕ) (g : Gate) → names (deciding c) p ≡ true → names on p ≡ false → gate_in c p ≡ Some g → g.number < a.gate.number
-    lower p g named out has = elim (gate_now p named out) [
-      | inl nothing ↦ absurd (none-some g (sym (ap gate_of nothing ∙ no_gate_in_nothing) ∙ has))
-      | inr low ↦ subst (λ (h : Gate). h.number < a.gate.number) (some_gate low.0 g (sym low.1 ∙ has)) low.2
-    ]
-      where
-        some_gate : (g h : Gate) → Some g ≡ Some h → g ≡ h
-        some_gate g h same = (cc)
+    lower p g named out has = below_number a.gate.number (c (log_slice p) gate_sector) g (gate_now p named out) has
 
     formed : (p : ℕ) → names (deciding c) p ≡ true → names on p ≡ false → is_bad_gate c p ≡ false
-    formed p named out = elim (gate_now p named out) [
-      | inl nothing ↦ ap (λ (block : List ℕ). is_there block && is_none (gate_of block)) nothing
-      | inr low ↦ ap (λ (o : Option Gate). is_there (c (log_slice p) gate_sector) && is_none o) low.1 ∙ and_false (is_there (c (log_slice p) gate_sector))
-    ]
-      where
-        and_false : (b : Bool) → (b && false) ≡ false
-        and_false true = refl
-        and_false false = refl
+    formed p named out = below_formed a.gate.number (c (log_slice p) gate_sector) (gate_now p named out)
 
     whole_left : damaged_log (filter (names on) (deciding c)) c ≡ None
     whole_left = ap (λ ps. damaged_log ps c) places ∙ sym found.damaged_is

@@ -23,6 +23,7 @@ mod Refusals
 mod Quiet
 mod Joined
 mod Joining
+mod LowerLogs
 pub mod Keeping
 mod Laid
 mod Stood

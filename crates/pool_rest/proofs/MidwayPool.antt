@@ -3,7 +3,7 @@ use Rattle.std.proofs.Common.{◌≡◌, ◌⊎◌, ℕ, ◌+◌, ◌<◌, ◌�
 use Rattle.std.specs.List.{range_with_len}
 use Rattle.std.specs.Option.{option_and_then, option_map_or}
 use Rattle.std.specs.Result.{result_ok}
-use Rattle.std.proofs.lemmas.Bool.{both_ways, cases_Bool, cases_eq, cases_lt}
+use Rattle.std.proofs.lemmas.Bool.{cases_Bool, cases_eq, cases_lt}
 use Rattle.std.proofs.lemmas.Option.{none-some}
 use Rattle.rack.specs.Seen.{Image}
 use Rattle.rack.specs.Targets.{Target, look}
@@ -19,10 +19,12 @@ use Rattle.pool_image.specs.Drives.{Found, found, found_by, slices_of}
 use Rattle.pool_image.specs.Replay.{Standing, brought_state, logs_of, standing, standing_by, written}
 use Rattle.pool_image.proofs.Identities.{newest_same, same_but_gates, seat_inside, seat_same}
 use Rattle.pool_image.proofs.Rested.{gate_block, written_none}
+use Rattle.commit_log.specs.Saying.{PlaceJoins}
 use Rattle.commit_log.specs.View.{names}
 use Rattle.commit_log.proofs.Counting.{is_listed}
 use Rattle.commit_log.proofs.Fewer.{current_of_all, filter_names}
 use Rattle.commit_log.proofs.Naming.{names_range}
+use Rattle.commit_log.proofs.Places.{joins_none, stays_or_joins}
 use Rattle.commit_log.proofs.Undamaged.{whole_gates}
 use Rattle.pool_rest.specs.Moments.{AreGatesKept, AreStatesKept, IsGateBelow, StandsBrought, StandsReplaying, TakesLowerIn, landed_on}
 use Rattle.pool_rest.specs.Resting.{replayed_on, seated_state}
@@ -94,13 +96,13 @@ module _ (disks : Disks) (c i : Image) (s0 : State) (newest_before : newest disk
 
   -- a gate on a drive of the state that is brought was well formed
   formed : (p d : ℕ) → seat_of s disks ids p ≡ Some d → arrays_first ≤ disks.sectors d → is_bad_block (c d drive_gate) ≡ false
-  formed p d seat room = elim (cases_Bool (is_current s0 p)) [
-    | inl was ↦
-        ap is_bad_block (sym (seat_gate disks s0 ids c p d (sym (log.seats p was (taken s p d ids seat)) ∙ seat) room))
-        ∙ whole_gates before.logs (current_places s0) p log.whole (named_of s0 p few was)
-    | inr former ↦ elim log.next [
-      | inl same ↦ absurd (both_ways (is_current s0 p) former (ap (λ (z : State). is_current z p) (sym same) ∙ taken s p d ids seat))
-      | inr next ↦ let from = source disks c i s0 newest_before log next.later in (log.joining from.0 p d from.1 former seat room).formed
+  formed p d seat room = elim (stays_or_joins s0 s p (taken s p d ids seat)) [
+    | inl stays ↦
+        ap is_bad_block (sym (seat_gate disks s0 ids c p d (sym (log.seats p stays) ∙ seat) room))
+        ∙ whole_gates before.logs (current_places s0) p log.whole (named_of s0 p few stays.was)
+    | inr joins ↦ elim log.next [
+      | inl same ↦ absurd (joins_none s0 s p same joins)
+      | inr next ↦ let from = source disks c i s0 newest_before log next.later in (log.joining from.0 p d from.1 joins seat room).formed
     ]
   ]
 
@@ -281,20 +283,20 @@ module _ (disks : Disks) (c i : Image) (s0 : State) (newest_before : newest disk
         next = elim log.next [ inl is ↦ inl is | inr later ↦ inr (record { later = later.later; source = later.source; copy = later.copy }) ];
         pool = log.pool;
         copies = log.copies;
-        seats = λ p here there. seats_early s p ∙ log.seats p here there ∙ sym (seats_early s0 p);
-        joining = λ a p d at former seat room.
-            let old = sym (seats_early s p) ∙ seat in subst (IsGateUpTo a.gate.number) (sym (gate_same p d old room)) (log.joining a p d at former old room);
+        seats = λ p stays. seats_early s p ∙ log.seats p stays ∙ sym (seats_early s0 p);
+        joining = λ a p d at joins seat room.
+            let old = sym (seats_early s p) ∙ seat in subst (IsGateUpTo a.gate.number) (sym (gate_same p d old room)) (log.joining a p d at joins old room);
       };
     }
 
     pub early_lower : standing disks c ≡ Some before → TakesLowerIn disks c → TakesLowerIn disks i
     early_lower stands takes other at =
         subst
-        (λ (x : Standing). (a : GateAt) (p d : ℕ) → pending_at (current_places x.state) x.logs ≡ Some a → is_current x.state p ≡ false
+        (λ (x : Standing). (a : GateAt) (p d : ℕ) → pending_at (current_places x.state) x.logs ≡ Some a → PlaceJoins x.state (seated_state x.targets x.state) p
         → seat_of (seated_state x.targets x.state) disks x.identities p ≡ Some d → arrays_first ≤ disks.sectors d → IsGateBelow a.gate.number (i d drive_gate))
         (some_standing stood other (sym stands_so ∙ at))
-        (λ a p d here former seat room.
-        let old = sym (seats_early s p) ∙ seat in subst (IsGateBelow a.gate.number) (sym (gate_same p d old room)) (takes before stands a p d here former old room))
+        (λ a p d here joins seat room.
+        let old = sym (seats_early s p) ∙ seat in subst (IsGateBelow a.gate.number) (sym (gate_same p d old room)) (takes before stands a p d here joins old room))
       where
         some_standing : (a b : Standing) → Some a ≡ Some b → a ≡ b
         some_standing a b is = cc
@@ -394,8 +396,8 @@ module _ (disks : Disks) (c i : Image) (s0 : State) (newest_before : newest disk
           | inl yet ↦ log.copies p u (sym (ap (λ (ys : List Target). look ys (log_slice p) 0) yet) ∙ is)
           | inr done ↦ absurd (no_look (log_slice p) 0 u (sym (ap (λ (ys : List Target). look ys (log_slice p) 0) done.0) ∙ is))
         ];
-        seats = λ p here there. refl;
-        joining = λ a p d at former seat room. absurd (both_ways (is_current s p) former (taken s p d now_ids seat));
+        seats = λ p stays. refl;
+        joining = λ a p d at joins seat room. absurd (joins_none s s p refl joins);
       });
     }
 
@@ -403,11 +405,10 @@ module _ (disks : Disks) (c i : Image) (s0 : State) (newest_before : newest disk
     pub late_lower : TakesLowerIn disks i
     late_lower other at =
         subst
-        (λ (x : Standing). (a : GateAt) (p d : ℕ) → pending_at (current_places x.state) x.logs ≡ Some a → is_current x.state p ≡ false
+        (λ (x : Standing). (a : GateAt) (p d : ℕ) → pending_at (current_places x.state) x.logs ≡ Some a → PlaceJoins x.state (seated_state x.targets x.state) p
         → seat_of (seated_state x.targets x.state) disks x.identities p ≡ Some d → arrays_first ≤ disks.sectors d → IsGateBelow a.gate.number (i d drive_gate))
         (some_standing (standing_by disks i s) other (sym stands_late ∙ at))
-        (λ a p d here former seat room.
-        absurd (both_ways (is_current s p) former (taken s p d now_ids (ap (λ (z : State). seat_of z disks now_ids p) (sym seated_late) ∙ seat))))
+        (λ a p d here joins seat room. absurd (joins_none s (seated_state (standing_by disks i s).targets s) p seated_late joins))
       where
         some_standing : (a b : Standing) → Some a ≡ Some b → a ≡ b
         some_standing a b is = cc

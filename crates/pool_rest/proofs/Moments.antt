@@ -25,9 +25,11 @@ use Rattle.pool_image.specs.Replay.{extent_by}
 use Rattle.commit_log.specs.View.{LogView, is_left, left_of, names}
 use Rattle.commit_log.specs.Commits.{Stands}
 use Rattle.commit_log.specs.Opening.{CanReplay, Replays}
+use Rattle.commit_log.specs.Saying.{PlaceJoins, PlaceStays}
 use Rattle.commit_log.specs.Standing.{IsLogPart}
 use Rattle.commit_log.proofs.Amid.{replayed_as}
 use Rattle.commit_log.proofs.Fewer.{filter_names, names_filter}
+use Rattle.commit_log.proofs.Places.{does_stay, is_stays, stays_is, stays_or_joins}
 use Rattle.commit_log.proofs.Replayable.{pending_named}
 use Rattle.commit_log.proofs.Story.{logs_named}
 use Rattle.pool_scan.specs.declared.Known.{Known}
@@ -248,16 +250,16 @@ module _ {x w y : Seen} {known : List Known} {s : State} {t v : Slices} {on unre
         let test = and_parts (nat_lt p 16) (nat_lt 0 (sectors_of t (log_slice p))) (sym (parts.laid.places p) ∙ named) in
         subst (λ n. 0 < n) (sym (parts.cut.sectors (log_slice p) (omega arith))) (ltb-true 0 (sectors_of t (log_slice p)) test.1)
 
-    -- those that were current before
+    -- those that stay
     abbrev both : List ℕ
-    both = filter (is_current s0) on
+    both = filter (does_stay s0 s) on
 
-    was : (p : ℕ) → names both p ≡ true → (is_current s0 p ≡ true) × (0 < sectors_of v (log_slice p))
-    was p named = (let of = names_filter (is_current s0) on p named in (of.0, there p of.1))
+    was : (p : ℕ) → names both p ≡ true → PlaceStays s0 s p × (0 < sectors_of v (log_slice p))
+    was p named = (let of = names_filter (does_stay s0 s) on p named in (stays_is s0 s p of.0, there p of.1))
 
-    named_there : (p : ℕ) → is_current s0 p ≡ true → 0 < sectors_of v (log_slice p) → names both p ≡ true
-    named_there p before some =
-        filter_names (is_current s0) on p before
+    named_there : (p : ℕ) → PlaceStays s0 s p → 0 < sectors_of v (log_slice p) → names both p ≡ true
+    named_there p stays some =
+        filter_names (does_stay s0 s) on p (is_stays s0 s p stays)
         (parts.laid.places p
         ∙ and_from (nat_lt p 16) (nat_lt 0 (sectors_of t (log_slice p))) (lt-ltb p 16 (seat_is p some).0)
         (lt-ltb 0 (sectors_of t (log_slice p)) (subst (λ n. 0 < n) (parts.cut.sectors (log_slice p) (omega arith)) some)))
@@ -270,21 +272,20 @@ module _ {x w y : Seen} {known : List Known} {s : State} {t v : Slices} {on unre
         ∙ ap (λ b. if b then option_map_or (λ d. if nat_le arrays_first (x.sectors d) then log_sectors else 0) (seat_by s known (place_of (log_slice p))) 0 else 0) (eq-eqb (slice_of (log_slice p)) 0 slice)
         ∙ ap (λ q. option_map_or (λ d. if nat_le arrays_first (x.sectors d) then log_sectors else 0) (seat_by s known q) 0) place
 
-    same_size : (p : ℕ) → p < 16 → is_current s0 p ≡ true → is_current s p ≡ true → sectors_of v (log_slice p) ≡ sectors_of t0 (log_slice p)
-    same_size p few before now =
+    same_size : (p : ℕ) → p < 16 → PlaceStays s0 s p → sectors_of v (log_slice p) ≡ sectors_of t0 (log_slice p)
+    same_size p few stays =
         let place : place_of (log_slice p) ≡ p = omega arith in
         let low : place_of (log_slice p) < 16 = omega (arith, few, place) in
         parts.cut.sectors (log_slice p) (omega arith) ∙ parts.laid.sectors (log_slice p) low
         ∙ ap (λ o. if slice_of (log_slice p) == 0 then option_map_or (λ d. if nat_le arrays_first (x.sectors d) then log_sectors else 0) o 0 else 0)
-        (ap (seat_by s known) place ∙ brings.seats p before now ∙ ap (seat_by s0 known) (sym place))
+        (ap (seat_by s known) place ∙ brings.seats p stays ∙ ap (seat_by s0 known) (sym place))
         ∙ sym (laid.sectors (log_slice p) (omega (arith, few)))
 
     kept_log : (p : ℕ) → names both p ≡ true → SameAt t0 v (log_slice p)
     kept_log p named =
         let before = was p named in
-        let now = current_is p before.1 in
         let few = (seat_is p before.1).0 in
-        let size = same_size p few before.0 now in
+        let size = same_size p few before.0 in
         let place : place_of (log_slice p) ≡ p = omega arith in
         let low : place_of (log_slice p) < 16 = omega (arith, few, place) in
         record {
@@ -293,7 +294,7 @@ module _ {x w y : Seen} {known : List Known} {s : State} {t v : Slices} {on unre
           disk = λ more.
               ap (λ (o : Option ℕ). unwrap_or o 0)
               (parts.cut.seats (place_of (log_slice p)) ∙ parts.laid.seats (place_of (log_slice p)) low
-              ∙ (ap (seat_by s known) place ∙ brings.seats p before.0 now ∙ ap (seat_by s0 known) (sym place)) ∙ sym (laid.seats (place_of (log_slice p)) low));
+              ∙ (ap (seat_by s known) place ∙ brings.seats p before.0 ∙ ap (seat_by s0 known) (sym place)) ∙ sym (laid.seats (place_of (log_slice p)) low));
         }
 
     fewer : (p : ℕ) → names both p ≡ true → names on0 p ≡ true
@@ -302,7 +303,7 @@ module _ {x w y : Seen} {known : List Known} {s : State} {t v : Slices} {on unre
         let some = before.1 in
         let size = (kept_log p named).sectors in
         laid.places p
-        ∙ and_from (is_current s0 p) (nat_lt 0 (sectors_of t0 (log_slice p))) before.0
+        ∙ and_from (is_current s0 p) (nat_lt 0 (sectors_of t0 (log_slice p))) before.0.was
         (lt-ltb 0 (sectors_of t0 (log_slice p)) (omega (arith, some, size)))
 
     few_named : (p : ℕ) → names on0 p ≡ true → p < 16
@@ -327,16 +328,15 @@ module _ {x w y : Seen} {known : List Known} {s : State} {t v : Slices} {on unre
         let p = brings.at.place in
         let at = pending_named (left_of on0 []) (reading (slices_of t0 x)) brings.at brings.source in
         let named : names on0 p ≡ true = (and_parts (names on0 p) true (names_filter (is_left on0 []) (range_with_len 0 16) p at.0).0).0 in
-        let before : is_current s0 p ≡ true = (and_parts (is_current s0 p) (nat_lt 0 (sectors_of t0 (log_slice p))) (sym (laid.places p) ∙ named)).0 in
         let log = logs_named (sectors_of t0) on0 p laid.whole named in
-        let size = same_size p log.0 before brings.left in
+        let size = same_size p log.0 brings.left in
         let full = log.1 in
-        named_there p before (omega (arith, size, full))
+        named_there p brings.left (omega (arith, size, full))
 
-    -- a drive that is taken in has a lower gate
-    gate_joins : (p : ℕ) → is_current s0 p ≡ false → is_current s p ≡ true → 0 < sectors_of v (log_slice p)
+    -- a drive that joins has a lower gate
+    gate_joins : (p : ℕ) → names both p ≡ false → 0 < sectors_of v (log_slice p)
         → IsGateBelow brings.at.gate.number (reading (slices_of v w) (log_slice p) gate_sector)
-    gate_joins p not now some =
+    gate_joins p out some =
         let seat = seat_is p some in
         let d = disk_of v (log_slice p) in
         let room = by (nat_le arrays_first (x.sectors d)) refl (log_size p seat.0 ∙ ap (λ o. option_map_or (λ d. if nat_le arrays_first (x.sectors d) then log_sectors else 0) o 0) seat.1) in
@@ -346,8 +346,14 @@ module _ {x w y : Seen} {known : List Known} {s : State} {t v : Slices} {on unre
         (sym (read_x (log_slice p) gate_sector
         ∙ sliced_inside v (now_in x) (log_slice p) gate_sector (let size = room.1 in omega (arith, size))
         ∙ ap (now_in x d) gate))
-        (brings.joins p d not seat.1 room.0)
+        (brings.joins p d joins seat.1 room.0)
       where
+        joins : PlaceJoins s0 s p
+        joins = elim (stays_or_joins s0 s p (current_is p some)) [
+          | inl stays ↦ absurd (both_ways (names both p) out (named_there p stays some))
+          | inr new ↦ new
+        ]
+
         by : (b : Bool) → nat_le arrays_first (x.sectors (disk_of v (log_slice p))) ≡ b
             → sectors_of v (log_slice p) ≡ (if nat_le arrays_first (x.sectors (disk_of v (log_slice p))) then log_sectors else 0)
             → (arrays_first ≤ x.sectors (disk_of v (log_slice p))) × (sectors_of v (log_slice p) ≡ log_sectors)
@@ -368,11 +374,7 @@ module _ {x w y : Seen} {known : List Known} {s : State} {t v : Slices} {on unre
         one_value (disk_of v (log_slice p)) (first_of v (log_slice p) + j) b disk sector may ∙ sym (now_w (disk_of v (log_slice p)) (first_of v (log_slice p) + j) disk sector))
         (state_same (reading (slices_of v w)) (sliced u (now_in x)) (λ p. read_x (log_slice p) 0 ∙ sym (same_logs (now_in x) p 0)) ∙ state)
         (λ p named. (seat_is p (was p named).1).0)
-        (λ p named. ((was p named).0, current_is p (was p named).1))
-        (λ p out before. elim (cases_lt 0 (sectors_of v (log_slice p))) [
-          | inl some ↦ absurd (both_ways (names both p) out (named_there p before some))
-          | inr none ↦ (let least : sectors_of v (log_slice p) ≡ 0 = omega (arith, none) in least)
-        ])
+        (λ p named. ((was p named).0.was, (was p named).0.now))
         gate_joins
         (finds_fewer l on0 both (reading (slices_of t0 x)) (reading (slices_of v w)) is_pending brings.at few_named fewer agree brings.source at_kept finds)
         (at_fewer l on0 both (reading (slices_of t0 x)) (reading (slices_of v w)) is_pending brings.at few_named fewer agree brings.source at_kept finds)

@@ -24,10 +24,12 @@ use Rattle.pool_image.specs.Alike.{drive_gate, IsSameButGates, MeansTheSame}
 use Rattle.pool_image.specs.Meaning.{has_other_pool}
 use Rattle.pool_image.proofs.Identities.{newest_same, other_same, same_but_gates, seat_inside, seat_same}
 use Rattle.pool_image.proofs.Rested.{stood_by}
+use Rattle.commit_log.specs.Saying.{PlaceJoins}
 use Rattle.commit_log.specs.View.{LogView, names}
 use Rattle.commit_log.proofs.Counting.{is_listed}
 use Rattle.commit_log.proofs.Deciding.{nothing_pending, record_pending}
 use Rattle.commit_log.proofs.Fewer.{current_of_all, names_filter}
+use Rattle.commit_log.proofs.Places.{joins_none, stays_same}
 use Rattle.commit_log.proofs.Replayable.{pending_named}
 use Rattle.commit_log.proofs.Replaying.{pending_sound}
 use Rattle.commit_log.proofs.Undamaged.{whole_gates, whole_record}
@@ -35,7 +37,7 @@ use Rattle.pool_scan.specs.declared.Known.{Known}
 use Rattle.pool_scan.specs.Scanning.{AllTold, IsScan, IsUnfaulted, as_read, now_in}
 use Rattle.pool_scan.specs.Choosing.{AreOf, has_pool_other_than}
 use Rattle.pool_scan.proofs.Meant.{scan_meant, newest_meant, other_meant}
-use Rattle.pool_scan.proofs.Seated.{seat_by_is, seat_by_stands}
+use Rattle.pool_scan.proofs.Seated.{seat_by_is}
 use Rattle.shr_base.specs.declared.Id.{Id}
 use Rattle.pool_rest.specs.declared.standing.FindFault.{FindFault}
 use Rattle.pool_rest.specs.declared.standing.FindFault.TheVariants.{NoPool, TwoPools, Memory}
@@ -204,13 +206,11 @@ module _ (a x b : Seen) (known : List Known) (st : State) (m : LogView) (is_pend
 
   -- it takes no drive in then
   pub lower_still : BringsNoState a → TakesLower a
-  lower_still none y at g p d is not seat room =
-      absurd (subst (λ (y : Standing). is_current y.state p ≡ false → seat_of (seated_state y.targets y.state) disks y.identities p ≡ Some d → ⊥)
+  lower_still none y at g p d is joins seat room =
+      absurd (subst (λ (y : Standing). PlaceJoins y.state (seated_state y.targets y.state) p → ⊥)
       (some_standing before y (sym stands.stands ∙ at))
-      (λ not seat.
-      both_ways (is_current st p) not
-      (seat_by_stands st known p d (seat_by_is disks (identities_of disks c) known are st p ∙ subst (λ (z : State). seat_of z disks (identities_of disks c) p ≡ Some d) (state_still (none before stands.stands)) seat)).2)
-      not seat)
+      (joins_none st brought p (state_still (none before stands.stands)))
+      joins)
 
   -- and no state's sector is written
   pub sector_still : BringsNoState a → (d : ℕ) → d < disks.count → state_sector < disks.sectors d → e d state_sector ≡ c d state_sector
@@ -234,14 +234,14 @@ module _ (a x b : Seen) (known : List Known) (st : State) (m : LogView) (is_pend
   pub brings_state : (on : List ℕ) → IsLaid x known st t on → ((k u : ℕ) → k < 272 → reading (slices_of t x) k u ≡ before.logs k u)
       → TakesLower a → BringsState x known st brought m on (reading (slices_of t x))
   brings_state on laid logs lower = record {
-    seats = λ p was is. seat_by_is disks (identities_of disks c) known are brought p ∙ log.seats p was is ∙ sym (seat_by_is disks (identities_of disks c) known are st p);
+    seats = λ p stays. seat_by_is disks (identities_of disks c) known are brought p ∙ log.seats p stays ∙ sym (seat_by_is disks (identities_of disks c) known are st p);
     copies = λ p u is. log.copies p u (sym (ap (λ xs. look xs (log_slice p) 0) targets) ∙ is);
     next = elim log.next [ inl same ↦ inl same | inr later ↦ inr later.later ];
     at = source.0;
     source = pending_asked x known st t on few_before laid before.logs logs ∙ source.1;
     left = elim log.next [
       | inl same ↦
-          subst (λ (z : State). is_current z source.0.place ≡ true) (sym same)
+          stays_same st brought source.0.place same
           (names_filter (is_current st) (range_with_len 0 16) source.0.place
           (sym (ap (λ ps. names ps source.0.place) (current_of_all st few_before)) ∙ (pending_named (current_places st) before.logs source.0 source.1).0)).0
       | inr later ↦ later.source source.0 source.1
@@ -251,12 +251,12 @@ module _ (a x b : Seen) (known : List Known) (st : State) (m : LogView) (is_pend
       | inr later ↦
           let copy = later.copy source.0 source.1 in inr (copy.0, ap (λ xs. look xs (log_slice source.0.place) 0) targets ∙ copy.1)
     ];
-    joins = λ p d not seat room.
+    joins = λ p d joins seat room.
         let at : seat_of brought disks (identities_of disks c) p ≡ Some d = sym (seat_by_is disks (identities_of disks c) known are brought p) ∙ seat in
         let there : arrays_first ≤ a.sectors d = subst (λ n. arrays_first ≤ n) (reads.stays.sectors d) room in
         subst (IsGateBelow source.0.gate.number)
         (sym (reads_agree a x reads told lasts d drive_gate (seat_inside brought disks (identities_of disks c) p d at) (omega (arith, there))))
-        (lower before stands.stands source.0 p d source.1 not at there);
+        (lower before stands.stands source.0 p d source.1 joins at there);
   }
 
   pub whole_before : damaged ≡ None

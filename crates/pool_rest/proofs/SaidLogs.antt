@@ -14,25 +14,28 @@ use Rattle.pool_state.specs.Sector.{decoded}
 use Rattle.array_image.specs.Foremost.{ahead, foremost}
 use Rattle.array_image.specs.Places.{arrays_first, log_slice, place_of, slice_of}
 use Rattle.array_image.specs.Arrays.{replayed}
-use Rattle.array_image.specs.Record.{Gate, GateAt, are_apart, damaged_log, gate_of, gate_sector, is_bad_gate, is_there, pending, pending_at, record_in, record_of}
+use Rattle.array_image.specs.Record.{Gate, GateAt, are_apart, damaged_log, gate_in, gate_of, gate_sector, is_bad_gate, is_there, pending, pending_at, record_in, record_of}
 use Rattle.array_image.specs.States.{current_places, epoch_of, is_current}
 use Rattle.array_image.proofs.Frames.{state_same}
-use Rattle.commit_log.specs.Saying.{AreOwnCopies, IsBrought, SaysState}
+use Rattle.commit_log.specs.Saying.{AreOwnCopies, IsBrought, PlaceJoins, SaysState}
 use Rattle.commit_log.specs.Standing.{deciding}
 use Rattle.commit_log.specs.View.{names}
 use Rattle.commit_log.proofs.Fewer.{names_filter}
 use Rattle.commit_log.proofs.Kept.{put_none}
+use Rattle.commit_log.proofs.Places.{does_join, joins_none, joins_not, not_joins, stays_not}
 use Rattle.commit_log.proofs.Replayable.{pending_named}
 use Rattle.commit_log.proofs.Replaying.{pending_sound}
 use Rattle.commit_log.proofs.Restored.{pending_at_by, pending_by}
 use Rattle.commit_log.proofs.Story.{payload_is}
 use Rattle.commit_log.proofs.Undamaged.{whole_by}
 use Rattle.pool_image.specs.Alike.{drive_gate}
-use Rattle.pool_image.specs.Disks.{Candidate, Disks, Identities, candidate, identities_of, seat_of}
+use Rattle.pool_image.specs.Disks.{Disks, Identities, identities_of, seat_of}
 use Rattle.pool_image.specs.Replay.{Standing, brought, standing, standing_by}
-use Rattle.pool_rest.specs.Moments.{IsGateBelow, TakesLowerIn}
+use Rattle.pool_rest.specs.Moments.{IsGateBelow, IsNoneOrBelow, TakesLowerIn}
 use Rattle.pool_rest.specs.Resting.{seated_state}
 use Rattle.pool_rest.specs.SoundLogs.{HasSoundLogs, IsGateUpTo, IsLater, IsSoundLog, ShowLogs}
+use Rattle.pool_rest.proofs.Joining.{below_number}
+use Rattle.pool_rest.proofs.LowerLogs.{pending_lower, targets_lower, whole_lower}
 
 -- ---- the state that a record of own copies brings
 
@@ -125,6 +128,15 @@ seated_own s t xs apart own either = of (foremost epoch_of (map brought xs)) ref
 
 -- ---- logs of disks
 
+-- where the drive that a place had has the gate of the slices
+pub same_below : (sectors : ℕ → ℕ) (c e : Image) (t : State) (says : SaysState t sectors c) (a : GateAt) (p : ℕ)
+    → pending_at (current_places says.stood) c ≡ Some a → PlaceJoins says.stood t p → e (log_slice p) gate_sector ≡ c (log_slice p) gate_sector
+    → IsNoneOrBelow a.gate.number (e (log_slice p) gate_sector)
+same_below sectors c e t says a p at joins same = elim says.next [
+  | inl is ↦ absurd (joins_none says.stood t p is joins)
+  | inr brought ↦ let lower = brought.joining a p at joins in inr (lower.0, ap gate_of same ∙ lower.1, lower.2)
+]
+
 module _ (disks : Disks) (i c : Image) (sectors : ℕ → ℕ) (t : State) (says : SaysState t sectors c) (show : ShowLogs disks i c says.stood t) where
   abbrev s : State
   s = says.stood
@@ -143,28 +155,8 @@ module _ (disks : Disks) (i c : Image) (sectors : ℕ → ℕ) (t : State) (says
   unfolding current_places
   listed p among = (names_filter (is_current s) (range_with_len 0 (length s.drives.items)) p among).0
 
-  gates_same : (p : ℕ) → names (current_places s) p ≡ true → before.logs (log_slice p) gate_sector ≡ c (log_slice p) gate_sector
-  gates_same p among = show.logs p gate_sector (listed p among)
-
-  records_same : (a : GateAt) → pending_at (current_places s) c ≡ Some a → record_in before.logs a.place a.gate.number ≡ record_in c a.place a.gate.number
-  records_same a at = ap (record_of a.gate.number) (λ j u. show.logs a.place u (listed a.place (pending_named (current_places s) c a at).0) j)
-
   places_are : deciding c ≡ current_places s
   places_are = ap (λ (o : Option State). option_map_or current_places o []) says.stood_is
-
-  -- what is pending on the disks is so in the slices
-  pub targets_are : before.targets ≡ pending (deciding c) c
-  targets_are = pending_by before.logs c (current_places s) gates_same records_same ∙ ap (λ ps. pending ps c) (sym places_are)
-
-  at_same : (a : GateAt) → pending_at (current_places s) before.logs ≡ Some a → pending_at (current_places s) c ≡ Some a
-  at_same a at = sym (pending_at_by before.logs c (current_places s) gates_same) ∙ at
-
-  own : AreOwnCopies t before.targets
-  own p u is = says.brings p u (ap (λ (xs : List Target). look xs (log_slice p) 0) (sym targets_are) ∙ is)
-
-  look_here : (p : ℕ) (u : List ℕ) → look (pending (current_places s) c) (log_slice p) 0 ≡ Some u → look before.targets (log_slice p) 0 ≡ Some u
-  look_here p u is =
-      ap (λ (xs : List Target). look xs (log_slice p) 0) (pending_by before.logs c (current_places s) gates_same records_same) ∙ is
 
   no_targets : pending_at (current_places s) c ≡ None → pending (deciding c) c ≡ []
   unfolding pending
@@ -188,39 +180,92 @@ module _ (disks : Disks) (i c : Image) (sectors : ℕ → ℕ) (t : State) (says
       λ p. ap (λ (xs : List Target). put sectors xs c (log_slice p) 0) none ∙ put_none sectors [] c (log_slice p) 0 refl in
       ap (λ (o : Option State). option_map_or (λ z. z.epoch) o 0) (sym says.is_state ∙ state_same (replayed sectors c) c kept ∙ says.stood_is)
 
-  -- the state that is brought has a copy among the targets
-  copy_or : (t ≡ s) ⊎ ((p : ℕ) × (u : List ℕ) × (look before.targets (log_slice p) 0 ≡ Some u))
-  copy_or = elim says.next [
+  -- the state stands, or a record is pending that brings it
+  brings_or : (t ≡ s) ⊎ ((a : GateAt) × (pending_at (current_places s) c ≡ Some a) × IsBrought s t c)
+  brings_or = elim says.next [
     | inl same ↦ inl same
     | inr brought ↦ of brought (pending_at (current_places s) c) refl
   ]
     where
-      of : IsBrought s t c → (o : Option GateAt) → pending_at (current_places s) c ≡ o → (t ≡ s) ⊎ ((p : ℕ) × (u : List ℕ) × (look before.targets (log_slice p) 0 ≡ Some u))
-      of brought (Some a) at = let copy = (brought.source a at).1 in inr (a.place, copy.0, look_here a.place copy.0 copy.1)
+      of : IsBrought s t c → (o : Option GateAt) → pending_at (current_places s) c ≡ o
+          → (t ≡ s) ⊎ ((a : GateAt) × (pending_at (current_places s) c ≡ Some a) × IsBrought s t c)
+      of brought (Some a) at = inr (a, at, brought)
       of brought None none = absurd (let later = brought.later in let same = state_stays (no_targets none) in omega (arith, later, same))
+
+  whole_c : damaged_log (current_places s) c ≡ None
+  whole_c = ap (λ ps. damaged_log ps c) (sym places_are) ∙ says.whole
+
+  -- where the state stands no place joins
+  module _ (same : t ≡ s) where
+    gates_same : (p : ℕ) → names (current_places s) p ≡ true → before.logs (log_slice p) gate_sector ≡ c (log_slice p) gate_sector
+    gates_same p among = show.logs p gate_sector (listed p among) (joins_none s t p same)
+
+    records_same : (a : GateAt) → pending_at (current_places s) c ≡ Some a → record_in before.logs a.place a.gate.number ≡ record_in c a.place a.gate.number
+    records_same a at =
+        ap (record_of a.gate.number) (λ j u. show.logs a.place u (listed a.place (pending_named (current_places s) c a at).0) (joins_none s t a.place same) j)
+
+  -- those that join have lower gates, in the slices and on the drives that they had
+  module _ (a : GateAt) (at : pending_at (current_places s) c ≡ Some a) (brought : IsBrought s t c) where
+    source_kept : joins_not s t a.place ≡ true
+    source_kept = stays_not s t a.place (brought.source a at).0
+
+    logs_same : (p u : ℕ) → names (current_places s) p ≡ true → joins_not s t p ≡ true → before.logs (log_slice p) u ≡ c (log_slice p) u
+    logs_same p u among kept = show.logs p u (listed p among) (not_joins s t p kept)
+
+    lower_c : (p : ℕ) (g : Gate) → names (current_places s) p ≡ true → joins_not s t p ≡ false → gate_in c p ≡ Some g → g.number < a.gate.number
+    lower_c p g among out has = below_number a.gate.number (c (log_slice p) gate_sector) g (inr (brought.joining a p at (does_join s t p out))) has
+
+    lower_now : (p : ℕ) → names (current_places s) p ≡ true → joins_not s t p ≡ false → IsNoneOrBelow a.gate.number (before.logs (log_slice p) gate_sector)
+    lower_now p among out = show.former a p at (listed p among) (does_join s t p out)
+
+  at_is : pending_at (current_places s) before.logs ≡ pending_at (current_places s) c
+  at_is = elim brings_or [
+    | inl same ↦ pending_at_by before.logs c (current_places s) (gates_same same)
+    | inr new ↦
+        pending_lower c before.logs (joins_not s t) (current_places s) new.0 new.1 (source_kept new.0 new.1 new.2) whole_c
+        (logs_same new.0 new.1 new.2) (lower_c new.0 new.1 new.2) (lower_now new.0 new.1 new.2)
+        ∙ sym new.1
+  ]
+
+  pending_is : pending (current_places s) before.logs ≡ pending (current_places s) c
+  pending_is = elim brings_or [
+    | inl same ↦ pending_by before.logs c (current_places s) (gates_same same) (records_same same)
+    | inr new ↦
+        targets_lower c before.logs (joins_not s t) (current_places s) new.0 new.1 (source_kept new.0 new.1 new.2) whole_c
+        (logs_same new.0 new.1 new.2) (lower_c new.0 new.1 new.2) (lower_now new.0 new.1 new.2)
+  ]
+
+  whole_now : damaged_log (current_places s) before.logs ≡ None
+  whole_now = elim brings_or [
+    | inl same ↦ whole_by before.logs c (current_places s) (gates_same same) (records_same same) whole_c
+    | inr new ↦
+        whole_lower c before.logs (joins_not s t) (current_places s) new.0 new.1 (source_kept new.0 new.1 new.2) whole_c
+        (logs_same new.0 new.1 new.2) (lower_c new.0 new.1 new.2) (lower_now new.0 new.1 new.2)
+  ]
+
+  -- what is pending on the disks is so in the slices
+  pub targets_are : before.targets ≡ pending (deciding c) c
+  targets_are = pending_is ∙ ap (λ ps. pending ps c) (sym places_are)
+
+  at_same : (a : GateAt) → pending_at (current_places s) before.logs ≡ Some a → pending_at (current_places s) c ≡ Some a
+  at_same a at = sym at_is ∙ at
+
+  own : AreOwnCopies t before.targets
+  own p u is = says.brings p u (ap (λ (xs : List Target). look xs (log_slice p) 0) (sym targets_are) ∙ is)
+
+  look_here : (p : ℕ) (u : List ℕ) → look (pending (current_places s) c) (log_slice p) 0 ≡ Some u → look before.targets (log_slice p) 0 ≡ Some u
+  look_here p u is = ap (λ (xs : List Target). look xs (log_slice p) 0) pending_is ∙ is
+
+  -- the state that is brought has a copy among the targets
+  copy_or : (t ≡ s) ⊎ ((p : ℕ) × (u : List ℕ) × (look before.targets (log_slice p) 0 ≡ Some u))
+  copy_or = elim brings_or [
+    | inl same ↦ inl same
+    | inr new ↦
+        let copy = (new.2.source new.0 new.1).1 in inr (new.0.place, copy.0, look_here new.0.place copy.0 copy.1)
+  ]
 
   pub seated_is : seated_state before.targets s ≡ t
   seated_is = seated_own s t before.targets (pending_sound (current_places s) before.logs).apart own copy_or
-
-  whole_now : damaged_log (current_places s) before.logs ≡ None
-  whole_now = whole_by before.logs c (current_places s) gates_same records_same (ap (λ ps. damaged_log ps c) (sym places_are) ∙ says.whole)
-
-  -- a place that is taken in is current by the state that is brought
-  taken : (p d : ℕ) → seat_of t disks ids p ≡ Some d → is_current t p ≡ true
-  unfolding seat_of
-  taken p d seat = of (is_current t p) refl seat
-    where
-      of : (b : Bool) → is_current t p ≡ b
-          → (if b then option_map (λ (k : Candidate). k.disk) (foremost (λ (k : Candidate). k.epoch) (map (candidate t ids p) (range_with_len 0 disks.count))) else None) ≡ Some d
-          → is_current t p ≡ true
-      of true is at = is
-      of false is at = absurd (none-some d at)
-
-  -- a place that isn't current has no disk
-  nowhere : (p : ℕ) → is_current s p ≡ false → seat_of s disks ids p ≡ None
-  unfolding seat_of
-  nowhere p former =
-      ap (λ b. if b then option_map (λ (k : Candidate). k.disk) (foremost (λ (k : Candidate). k.epoch) (map (candidate s ids p) (range_with_len 0 disks.count))) else None) former
 
   gate_low : (g h : Gate) (block : List ℕ) → gate_of block ≡ Some h → h.number < g.number → IsGateUpTo g.number block
   gate_low g h block is low = record {
@@ -235,21 +280,21 @@ module _ (disks : Disks) (i c : Image) (sectors : ℕ → ℕ) (t : State) (says
       some_gate : (k : Gate) → Some k ≡ Some h → k ≡ h
       some_gate k same = cc
 
-  joins_below : (a : GateAt) (p d : ℕ) → pending_at (current_places s) before.logs ≡ Some a → is_current s p ≡ false → seat_of t disks ids p ≡ Some d
+  joins_below : (a : GateAt) (p d : ℕ) → pending_at (current_places s) before.logs ≡ Some a → PlaceJoins s t p → seat_of t disks ids p ≡ Some d
       → arrays_first ≤ disks.sectors d → IsGateBelow a.gate.number (i d drive_gate)
-  joins_below a p d at former seat room = elim says.next [
-    | inl same ↦ absurd (none-some d (sym (nowhere p former) ∙ ap (λ (z : State). seat_of z disks ids p) (sym same) ∙ seat))
+  joins_below a p d at joins seat room = elim says.next [
+    | inl same ↦ absurd (joins_none s t p same joins)
     | inr brought ↦
-        let lower = brought.joining a p (at_same a at) former (taken p d seat) in (
+        let lower = brought.joining a p (at_same a at) joins in (
           lower.0,
-          ap gate_of (show.gates p d former seat room) ∙ lower.1,
+          ap gate_of (show.gates p d joins seat room) ∙ lower.1,
           lower.2,
         )
   ]
 
-  joins_low : (a : GateAt) (p d : ℕ) → pending_at (current_places s) before.logs ≡ Some a → is_current s p ≡ false → seat_of t disks ids p ≡ Some d
+  joins_low : (a : GateAt) (p d : ℕ) → pending_at (current_places s) before.logs ≡ Some a → PlaceJoins s t p → seat_of t disks ids p ≡ Some d
       → arrays_first ≤ disks.sectors d → IsGateUpTo a.gate.number (i d drive_gate)
-  joins_low a p d at former seat room = let gate = joins_below a p d at former seat room in gate_low a.gate gate.0 (i d drive_gate) gate.1 gate.2
+  joins_low a p d at joins seat room = let gate = joins_below a p d at joins seat room in gate_low a.gate gate.0 (i d drive_gate) gate.1 gate.2
 
   next_is : (t ≡ s) ⊎ IsLater before t
   next_is = elim says.next [
@@ -262,7 +307,7 @@ module _ (disks : Disks) (i c : Image) (sectors : ℕ → ℕ) (t : State) (says
   ]
 
   pool_same : t.pool ≡ s.pool
-  pool_same = elim says.next [ inl same ↦ ap (λ (z : State). z.pool) same | inr brought ↦ brought.same.pool ]
+  pool_same = elim says.next [ inl same ↦ ap (λ (z : State). z.pool) same | inr brought ↦ brought.pool ]
 
   -- So the logs of the disks are sound: what is pending there brings the state that the slices say.
   pub says_sound : HasSoundLogs disks i
@@ -274,7 +319,7 @@ module _ (disks : Disks) (i c : Image) (sectors : ℕ → ℕ) (t : State) (says
       next = next_is;
       pool = pool_same;
       copies = own;
-      seats = λ p here there. show.seats p here there;
+      seats = show.seats;
       joining = joins_low;
     });
   }
@@ -285,11 +330,11 @@ module _ (disks : Disks) (i c : Image) (sectors : ℕ → ℕ) (t : State) (says
     where
       IsLower : Standing → Type 0
       IsLower z =
-          (a : GateAt) (p d : ℕ) → pending_at (current_places z.state) z.logs ≡ Some a → is_current z.state p ≡ false
+          (a : GateAt) (p d : ℕ) → pending_at (current_places z.state) z.logs ≡ Some a → PlaceJoins z.state (seated_state z.targets z.state) p
           → seat_of (seated_state z.targets z.state) disks z.identities p ≡ Some d → arrays_first ≤ disks.sectors d → IsGateBelow a.gate.number (i d drive_gate)
 
       some_standing : (a b : Standing) → Some a ≡ Some b → a ≡ b
       some_standing a b same = cc
 
       lower : IsLower before
-      lower a p d at former seat room = joins_below a p d at former (ap (λ (z : State). seat_of z disks ids p) (sym seated_is) ∙ seat) room
+      lower a p d at joins seat room = joins_below a p d at (subst (λ (z : State). PlaceJoins s z p) seated_is joins) (ap (λ (z : State). seat_of z disks ids p) (sym seated_is) ∙ seat) room

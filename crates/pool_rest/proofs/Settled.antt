@@ -1,8 +1,8 @@
 -- Nothing is pending once a record is replayed.
 --
 -- Let `before` be how the disks stood, with a pending record, and `s` the state that the record brings, or without one that which
--- stood. Let the logs be sound (`IsSoundLog`), and the replay write all targets and close the gate of each place that is current by
--- both states and has a log slice, with the record's number.
+-- stood. Let the logs be sound (`IsSoundLog`), and the replay write all targets and close the gate of each place that stays and has a
+-- log slice, with the record's number.
 --
 -- 1. Targets land on the state's sector of a disk, or in its arrays' part. So the disks' tables stay, and a disk keeps its copy or gets
 --    one of `s` and of the place whose disk it is by `s`. Such a disk stands for that place as before: by its old id it was the drive of
@@ -10,19 +10,19 @@
 -- 2. So each place has the same candidates by `s`. Only the epoch of the disk that was taken has risen, to that of `s`, which is the
 --    highest: each place has the disk by `s` that it had.
 -- 3. `s` is the newest state then. Where it stood before, its copies displace none of a higher epoch. Where it is later, the place that
---    the record was read from has a disk by both states, where a copy of `s` lands.
--- 4. So the gates that decide are those of the places of `s`. One that is current by both states has its disk of before, and a closed
---    gate of the record's number. Another one has no gate, or one of no greater number. As the place that the record was read from is
---    one of the former, the record's number is the greatest, and not all of its gates are open: nothing is pending.
+--    the record was read from stays, so it has one disk by both states, where a copy of `s` lands.
+-- 4. So the gates that decide are those of the places of `s`. One that stays has its disk of before, and a closed gate of the record's
+--    number. One that joins has no gate, or one of no greater number. As the place that the record was read from stays, the record's number
+--    is the greatest, and not all of its gates are open: nothing is pending.
 -- 5. All these gates are well formed, so no log is damaged.
 --
--- Without the last premise of `IsSoundLog` 4 fails: a place that is current by `s` alone, whose gate is open with a greater number
+-- Without the last premise of `IsSoundLog` 4 fails: a place that joins, whose gate is open with a greater number
 -- than the record's, makes another record pending. Sound images don't exclude it: their rules say nothing of gates.
 use Rattle.std.proofs.Common.{◌≡◌, ◌⊎◌, ℕ, ◌+◌, ◌<◌, ◌≤◌, ◌==◌, ◌&&◌, ◌||◌, not, Bool, true, false, nat_le, if◌then◌else◌, is_none, List, [], length, map, Option, Some, None, refl, sym, ap, subst, ◌∙◌, inl, inr, arith, eq-eqb, option_map, leb-true, le-leb}
 use Rattle.std.specs.Option.{option_map_or, option_and_then}
 use Rattle.std.specs.Result.{result_ok}
 use Rattle.std.specs.List.{list_all, range_with_len}
-use Rattle.std.proofs.lemmas.Bool.{cases_Bool, both_ways}
+use Rattle.std.proofs.lemmas.Bool.{both_ways}
 use Rattle.std.proofs.lemmas.Option.{none-some, cond_some}
 use Rattle.rack.specs.Seen.{Image}
 use Rattle.pool_state.specs.declared.contents.Copied.{Copied}
@@ -35,6 +35,7 @@ use Rattle.pool_image.specs.Disks.{Disks, identities_of, newest, seat_of}
 use Rattle.pool_image.specs.Replay.{Extent, Standing, standing_by}
 use Rattle.pool_image.specs.Alike.{drive_gate, is_bad_block}
 use Rattle.pool_image.proofs.Identities.{seat_inside}
+use Rattle.commit_log.specs.Saying.{PlaceJoins, PlaceStays}
 use Rattle.commit_log.specs.View.{names}
 use Rattle.commit_log.specs.Scans.{number_of}
 use Rattle.commit_log.proofs.Amid.{no_gate_in_nothing}
@@ -42,6 +43,7 @@ use Rattle.commit_log.proofs.Deciding.{gate_at, all_at, pending_is_decisive}
 use Rattle.commit_log.proofs.Counting.{few_drives, is_listed}
 use Rattle.commit_log.proofs.Fewer.{names_filter, filter_names, current_of_all, pending_most}
 use Rattle.commit_log.proofs.Naming.{names_range}
+use Rattle.commit_log.proofs.Places.{stays_or_joins, stays_same}
 use Rattle.commit_log.proofs.Replayable.{pending_named}
 use Rattle.commit_log.proofs.Undamaged.{whole_from}
 use Rattle.commit_log.proofs.Replaying.{pending_sound}
@@ -163,15 +165,15 @@ module _ (disks : Disks) (c e : Image) (st s : State)
   source_current : is_current st a.place ≡ true
   source_current = current_of st a.place few_before source_named.0
 
-  source_later : is_current s a.place ≡ true
-  source_later =
+  source_stays : PlaceStays st s a.place
+  source_stays =
       elim sound.next [
-        | inl same ↦ ap (λ (u : State). is_current u a.place) same ∙ source_current
+        | inl same ↦ stays_same st s a.place same source_current
         | inr next ↦ next.source a source
       ]
 
   source_seat : seat_of s disks (identities_of disks c) a.place ≡ Some source_disk.0
-  source_seat = sound.seats a.place source_current source_later ∙ source_disk.1
+  source_seat = sound.seats a.place source_stays ∙ source_disk.1
 
   -- the state that the record brings is the newest then
   pub newest_now : newest disks (identities_of disks e) ≡ Some s
@@ -228,10 +230,10 @@ module _ (disks : Disks) (c e : Image) (st s : State)
         (of_seat (seat_of s disks (identities_of disks c) p) refl)
       where
         of_state : (d : ℕ) → seat_of s disks (identities_of disks c) p ≡ Some d → arrays_first ≤ disks.sectors d
-            → (is_current st p ≡ true) ⊎ (is_current st p ≡ false) → IsPast (e d drive_gate)
-        of_state d seat room (inl was) =
+            → PlaceStays st s p ⊎ PlaceJoins st s p → IsPast (e d drive_gate)
+        of_state d seat room (inl stays) =
             closed_past (e d drive_gate) (record { is_open = false; number = number })
-            (shut p d was current (sym (sound.seats p was current) ∙ seat) seat room) refl
+            (shut p d stays.was current (sym (sound.seats p stays) ∙ seat) seat room) refl
         of_state d seat room (inr joins) =
             elim (kept d (seat_inside s disks (identities_of disks c) p d seat) room) [
               | inr closed ↦ closed_past (e d drive_gate) closed.0 closed.1 closed.2
@@ -242,7 +244,7 @@ module _ (disks : Disks) (c e : Image) (st s : State)
 
         of_room : (d : ℕ) → seat_of s disks (identities_of disks c) p ≡ Some d → (b : Bool) → nat_le arrays_first (disks.sectors d) ≡ b
             → IsPast (option_map_or (λ (x : Extent). e d (x.first + gate_sector)) (if b then Some (record { first = state_sector; sectors = log_sectors }) else None) [])
-        of_room d seat true room = of_state d seat (leb-true arrays_first (disks.sectors d) room) (cases_Bool (is_current st p))
+        of_room d seat true room = of_state d seat (leb-true arrays_first (disks.sectors d) room) (stays_or_joins st s p current)
         of_room d seat false room = nothing_past
 
         of_seat : (o : Option ℕ) → seat_of s disks (identities_of disks c) p ≡ o → IsPast (log_gate disks e o)
@@ -254,11 +256,11 @@ module _ (disks : Disks) (c e : Image) (st s : State)
         ap gate_of (log_read disks s (identities_of disks e) e a.place ∙ ap (log_gate disks e) (seats_same a.place ∙ source_seat)
         ∙ ap (λ b. option_map_or (λ (x : Extent). e source_disk.0 (x.first + gate_sector)) (if b then Some (record { first = state_sector; sectors = log_sectors }) else None) [])
         (le-leb arrays_first (disks.sectors source_disk.0) source_disk.2))
-        ∙ shut a.place source_disk.0 source_current source_later source_disk.1 source_seat source_disk.2
+        ∙ shut a.place source_disk.0 source_current source_stays.now source_disk.1 source_seat source_disk.2
 
     pub none_now : pending_at (current_places s) after.logs ≡ None
     none_now =
-        none_open after.logs (current_places s) number a.place (named_of s a.place few source_later) source_closed
+        none_open after.logs (current_places s) number a.place (named_of s a.place few source_stays.now) source_closed
         (λ p g named is. (gate_past p (current_of s p few named)).1 g is)
 
     pub whole_now : damaged_log (current_places s) after.logs ≡ None

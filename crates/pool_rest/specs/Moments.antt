@@ -1,5 +1,5 @@
 -- What a stop inside a replay leaves, as it stands on the disks, and by slices of the drives once it is replayed.
-use Rattle.std.specs.Prelude.{◌≡◌, ◌≢◌, ◌⊎◌, ℕ, ◌<◌, ◌≤◌, true, false, List, [], Option, Some, None, Ok}
+use Rattle.std.specs.Prelude.{◌≡◌, ◌≢◌, ◌⊎◌, ℕ, ◌<◌, ◌≤◌, List, [], Option, Some, None, Ok}
 use Rattle.std.specs.List.{filter_map}
 use Rattle.rack.specs.Seen.{Image, Seen, IsPick}
 use Rattle.rack.specs.Moments.{Leaves}
@@ -11,11 +11,12 @@ use Rattle.pool_state.specs.declared.contents.State.{State}
 use Rattle.pool_state.specs.Sector.{decoded}
 use Rattle.array_image.specs.Arrays.{replayed}
 use Rattle.array_image.specs.Record.{Gate, GateAt, damaged_log, gate_of, pending, pending_at}
-use Rattle.array_image.specs.States.{current_places, is_current}
+use Rattle.array_image.specs.States.{current_places}
 use Rattle.array_image.specs.Places.{arrays_first, log_slice, place_of, slice_of, state_sector}
 use Rattle.pool_image.specs.Alike.{drive_gate}
 use Rattle.pool_image.specs.Disks.{Disks, disks_of, identities_of, seat_of as drive_of}
 use Rattle.pool_image.specs.Replay.{Standing, extent_by, landed, logs_of, standing}
+use Rattle.commit_log.specs.Saying.{PlaceJoins, PlaceStays}
 use Rattle.commit_log.specs.Standing.{IsAlike}
 use Rattle.commit_log.specs.View.{LogView, left_of}
 use Rattle.pool_scan.specs.declared.Known.{Known}
@@ -32,31 +33,35 @@ BringsNoState x = (before : Standing) → standing (disks_of x) (now_in x) ≡ S
 abbrev pub IsGateBelow : ℕ → List ℕ → Type 0
 IsGateBelow number block = (g : Gate) × (gate_of block ≡ Some g) × (g.number < number)
 
--- each drive that the record takes in that is pending on contents of disks has a gate, of a lower number than the record's
+-- no gate, or one of a lower number
+abbrev pub IsNoneOrBelow : ℕ → List ℕ → Type 0
+IsNoneOrBelow number block = (block ≡ []) ⊎ IsGateBelow number block
+
+-- each drive that joins by the record that is pending on contents of disks has a gate, of a lower number than the record's
 abbrev pub TakesLowerIn : Disks → Image → Type 0
 TakesLowerIn disks c =
     (before : Standing) → standing disks c ≡ Some before
     → (a : GateAt) (p d : ℕ) → pending_at (current_places before.state) before.logs ≡ Some a
-    → is_current before.state p ≡ false → drive_of (seated_state before.targets before.state) disks before.identities p ≡ Some d
+    → PlaceJoins before.state (seated_state before.targets before.state) p → drive_of (seated_state before.targets before.state) disks before.identities p ≡ Some d
     → arrays_first ≤ disks.sectors d → IsGateBelow a.gate.number (c d drive_gate)
 
 -- so it is with what disks hold
 abbrev pub TakesLower : Seen → Type 0
 TakesLower x = TakesLowerIn (disks_of x) (now_in x)
 
--- The record that a log found on these places brings the state s where s0 stands, or none. Its copies are of s. The places that are
--- current by both keep their disks, that which the record is read from too, for which it has a copy where s is a later state; the others of s have gates
--- of lower numbers.
+-- The record that a log found on these places brings the state s where s0 stands, or none. Its copies are of s. The places that stay
+-- keep their disks, that which the record is read from too, for which it has a copy where s is a later state; those that join have gates of lower
+-- numbers.
 pub record BringsState (x : Seen) (known : List Known) (s0 s : State) (l : LogView) (on : List ℕ) (c : Image) : Type 0 where
-  pub seats : (p : ℕ) → is_current s0 p ≡ true → is_current s p ≡ true → seat_by s known p ≡ seat_by s0 known p
+  pub seats : (p : ℕ) → PlaceStays s0 s p → seat_by s known p ≡ seat_by s0 known p
   pub copies : (p : ℕ) (u : List ℕ) → look l.pending (log_slice p) 0 ≡ Some u → decoded u ≡ Ok (record { state = s; own = p })
   pub next : (s ≡ s0) ⊎ (s0.epoch < s.epoch)
   pub at : GateAt
   pub source : pending_at (left_of on []) c ≡ Some at
-  pub left : is_current s at.place ≡ true
+  pub left : PlaceStays s0 s at.place
   pub copy : (s ≡ s0) ⊎ ((u : List ℕ) × (look l.pending (log_slice at.place) 0 ≡ Some u))
   pub joins :
-      (p d : ℕ) → is_current s0 p ≡ false → seat_by s known p ≡ Some d → arrays_first ≤ x.sectors d
+      (p d : ℕ) → PlaceJoins s0 s p → seat_by s known p ≡ Some d → arrays_first ≤ x.sectors d
       → IsGateBelow at.gate.number (now_in x d drive_gate)
 
 -- Slices of the drives that are seated so, each where the drive's table has it: all log slices that there are, and any of members.

@@ -7,16 +7,18 @@ use Rattle.pool_state.specs.Sector.{decoded}
 use Rattle.array_image.specs.Places.{log_slice, arrays_first}
 use Rattle.array_image.specs.Record.{Gate, GateAt, gate_of, gate_sector, pending_at, damaged_log}
 use Rattle.array_image.specs.States.{is_current, current_places}
+use Rattle.commit_log.specs.Saying.{PlaceJoins, PlaceStays}
 use Rattle.pool_image.specs.Disks.{Disks, disks_of, identities_of, newest, seat_of}
 use Rattle.pool_image.specs.Replay.{Standing, logs_of, standing, standing_by}
 use Rattle.pool_image.specs.Alike.{drive_gate, is_bad_block, MeansTheSame}
 use Rattle.pool_scan.specs.Scanning.{now_in}
+use Rattle.pool_rest.specs.Moments.{IsNoneOrBelow}
 use Rattle.pool_rest.specs.Resting.{seated_state}
 
--- a later state than the one that stands, of which the record has a copy for the place that it is read from, a current one of both
+-- a later state than the one that stands, of which the record has a copy for the place that it is read from, which stays
 pub record IsLater (before : Standing) (s : State) : Type 0 where
   pub later : before.state.epoch < s.epoch
-  pub source : (a : GateAt) → pending_at (current_places before.state) before.logs ≡ Some a → is_current s a.place ≡ true
+  pub source : (a : GateAt) → pending_at (current_places before.state) before.logs ≡ Some a → PlaceStays before.state s a.place
   pub copy :
       (a : GateAt) → pending_at (current_places before.state) before.logs ≡ Some a
       → (u : List ℕ) × (look before.targets (log_slice a.place) 0 ≡ Some u)
@@ -27,8 +29,8 @@ pub record IsGateUpTo (number : ℕ) (block : List ℕ) : Type 0 where
   pub low : (g : Gate) → gate_of block ≡ Some g → g.number ≤ number
 
 -- The logs as they stand are well formed, and the record that is pending there may be one of a commit: the state that it brings is the
--- one that stands or a later one of the same pool, and its copies are of this state, each of its own place. A place that is current by
--- both states has one disk by both, and no other place of the later state has a gate of a greater number than the record's.
+-- one that stands or a later one of the same pool, and its copies are of this state, each of its own place. A place that stays has one
+-- disk by both states, and no place that joins has a gate of a greater number than the record's.
 pub record IsSoundLog (disks : Disks) (c : Image) (before : Standing) (s : State) : Type 0 where
   pub whole : damaged_log (current_places before.state) before.logs ≡ None
   pub next : (s ≡ before.state) ⊎ IsLater before s
@@ -36,11 +38,10 @@ pub record IsSoundLog (disks : Disks) (c : Image) (before : Standing) (s : State
   pub copies :
       (p : ℕ) (u : List ℕ) → look before.targets (log_slice p) 0 ≡ Some u → decoded u ≡ Ok (record { state = s; own = p })
   pub seats :
-      (p : ℕ) → is_current before.state p ≡ true → is_current s p ≡ true
-      → seat_of s disks before.identities p ≡ seat_of before.state disks before.identities p
+      (p : ℕ) → PlaceStays before.state s p → seat_of s disks before.identities p ≡ seat_of before.state disks before.identities p
   pub joining :
       (a : GateAt) (p d : ℕ) → pending_at (current_places before.state) before.logs ≡ Some a
-      → is_current before.state p ≡ false → seat_of s disks before.identities p ≡ Some d → arrays_first ≤ disks.sectors d
+      → PlaceJoins before.state s p → seat_of s disks before.identities p ≡ Some d → arrays_first ≤ disks.sectors d
       → IsGateUpTo a.gate.number (c d drive_gate)
 
 -- contents whose logs are so
@@ -50,16 +51,20 @@ pub record HasSoundLogs (disks : Disks) (c : Image) : Type 0 where
   pub log : IsSoundLog disks c before (seated_state before.targets before.state)
 
 -- What contents i of the disks show of contents c of log slices, where these stand for the state s and the state t is brought: s is the newest state
--- that a disk says, the drives of its current places hold these log slices, a place that is current by both states has one disk by both, and a place
--- that t takes in has its gate on its disk.
+-- that a disk says, the drives of its current places that don't join hold these log slices, and the drive that a place had which joins with another one has no
+-- gate, or one of a lower number than the pending record's. A place that stays has one disk by both states, and a place that joins has its gate on its disk.
 pub record ShowLogs (disks : Disks) (i c : Image) (s t : State) : Type 0 where
   pub newest_is : newest disks (identities_of disks i) ≡ Some s
-  pub logs : (p u : ℕ) → is_current s p ≡ true → logs_of disks (seat_of s disks (identities_of disks i)) i (log_slice p) u ≡ c (log_slice p) u
+  pub logs :
+      (p u : ℕ) → is_current s p ≡ true → (PlaceJoins s t p → ⊥)
+      → logs_of disks (seat_of s disks (identities_of disks i)) i (log_slice p) u ≡ c (log_slice p) u
+  pub former :
+      (a : GateAt) (p : ℕ) → pending_at (current_places s) c ≡ Some a → is_current s p ≡ true → PlaceJoins s t p
+      → IsNoneOrBelow a.gate.number (logs_of disks (seat_of s disks (identities_of disks i)) i (log_slice p) gate_sector)
   pub seats :
-      (p : ℕ) → is_current s p ≡ true → is_current t p ≡ true
-      → seat_of t disks (identities_of disks i) p ≡ seat_of s disks (identities_of disks i) p
+      (p : ℕ) → PlaceStays s t p → seat_of t disks (identities_of disks i) p ≡ seat_of s disks (identities_of disks i) p
   pub gates :
-      (p d : ℕ) → is_current s p ≡ false → seat_of t disks (identities_of disks i) p ≡ Some d → arrays_first ≤ disks.sectors d
+      (p d : ℕ) → PlaceJoins s t p → seat_of t disks (identities_of disks i) p ≡ Some d → arrays_first ≤ disks.sectors d
       → i d drive_gate ≡ c (log_slice p) gate_sector
 
 -- Nothing is pending and no log is damaged: the state is the one that the record brought, and the disks mean what they meant.

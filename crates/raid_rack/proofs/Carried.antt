@@ -15,10 +15,11 @@ use Rattle.array_image.specs.Marks.{lowered}
 use Rattle.array_image.specs.Left.{IsInside, IsLeft}
 use Rattle.commit_log.specs.View.{LogView, names, next_number}
 use Rattle.commit_log.specs.Kept.{LogKept, AreLeft, Brings, gone_with}
+use Rattle.commit_log.proofs.KeptAfter.{on_left}
 use Rattle.commit_log.proofs.Kept.{brings_to, kept_ready, kept_decides}
 use Rattle.array_model.specs.View.{View, may_vary, shape_of}
 use Rattle.array_model.specs.ArrayCalls.{Covers}
-use Rattle.array_model.proofs.Losses.{IsLosing}
+use Rattle.array_model.proofs.Losses.{IsLosing, data_of}
 use Rattle.array_model.proofs.Spared.{lost_value}
 use Rattle.array_model.proofs.Noting.{laid_out, unspent_then}
 use Rattle.raid_rack.specs.Raid.{Raid, gone_in, is_over, Stood}
@@ -34,7 +35,6 @@ use Rattle.raid_rack.specs.Agreeing.{SupersAgree}
 use Rattle.raid_rack.proofs.Agreed.{agree_by, staged_agrees}
 use Rattle.raid_rack.proofs.Added.{marks_bring}
 use Rattle.raid_rack.proofs.Brought.{copies_own}
-use Rattle.raid_rack.proofs.KeptDrives.{after_drives}
 use Rattle.raid_rack.proofs.Marking.{MarksCall, restated_after, NotesLost, marks_part, shape_after}
 use Rattle.raid_rack.proofs.Restated.{IsStaged, restates_staged}
 use Rattle.raid_rack.proofs.Staged.{none_gone, notes_lost, staged_array}
@@ -94,7 +94,7 @@ module _ (v : Raid) (lost on gone : List ℕ) (l : LogView) (xs : List Target) (
   marks_call = record {
     commit = commit.call;
     takes = on;
-    brings = brings_to v.state (state_after v lost) l.number (gone_in v) b l.added on brings;
+    brings = brings_to v.state (state_after v lost) l.number b l.added on brings;
     are_left = are_left;
     none = no_data v lost on l xs b commit.marking;
     ready = kept_ready v.state (state_after v lost) (gone_in v) l on b someone.0 kept brings room.0 commit.marking.set.lasting
@@ -109,8 +109,11 @@ module _ (v : Raid) (lost on gone : List ℕ) (l : LogView) (xs : List Target) (
     stays = left_both.1;
     later = raised_more v.state.epoch room.1;
     own = copies_own (state_after v lost) on xs l.added commit.marking.copies (supers_calm v lost on l xs b commit.marking);
-    drives = after_drives v.state (state_after v lost) (after_marked lost v.state);
   }
+
+  fresh : (p : ℕ) → names marks_call.takes p ≡ true → gone_in v p ≡ false
+  unfolding marks_call
+  fresh p named = on_left v.state (gone_in v) on p are_left named
 
   losing : IsLosing (v.arrays n) (f n) (names gone)
   losing = commit_losing v lost on gone l xs f b c commit n low
@@ -135,9 +138,9 @@ module _ (v : Raid) (lost on gone : List ℕ) (l : LogView) (xs : List Target) (
   part : Part v.state (state_after v lost) amid.durable (shape_of (v.arrays n)) vals vals spent (gone_in v) (gone_with (gone_in v) gone) v
       (raid_after v lost (next_number l.number) f) b c n
   part =
-      let now = shape_after v.state (state_after v lost) amid.durable (shape_of (v.arrays n)) (v.arrays n).resync (may_vary (v.arrays n)) false (may_vary (v.arrays n)) (v.arrays n) vals spent (gone_in v) l on gone b c n small marks_call restates settled holds in
+      let now = shape_after v.state (state_after v lost) (shape_of (v.arrays n)) (v.arrays n).resync false (may_vary (v.arrays n)) (v.arrays n) vals spent (gone_in v) l on gone b c n small marks_call restates settled (data_of holds) in
       marks_part v.state (state_after v lost) amid.durable (shape_of (v.arrays n)) (may_vary (v.arrays n)) false (v.arrays n) vals spent (gone_in v) v (raid_after v lost (next_number l.number) f) l on gone b c n
-      small (after_marked lost v.state) commit.marking.number refl joined amid.stood.few marks_call restates settled holds notes refl
+      small (after_marked lost v.state) commit.marking.number refl joined amid.stood.few marks_call restates settled holds notes refl fresh
       (λ y alive.
       lost_value (names gone) (shape_of (v.arrays n)) n (v.arrays n).resync (current_in c.held) y (laid_out (v.arrays n) seated.is_array) now.even now.sized
       (unspent_then (v.arrays n) (f n) (names gone) losing y (covers y alive)))
@@ -146,7 +149,7 @@ module _ (v : Raid) (lost on gone : List ℕ) (l : LogView) (xs : List Target) (
   pub commit_rows : LeavesRows v b n → KeepsRows v (raid_after v lost (next_number l.number) f) b c n
   commit_rows rows =
       marks_rows v.state (state_after v lost) amid.durable (shape_of (v.arrays n)) (v.arrays n) vals spent (gone_in v) v (raid_after v lost (next_number l.number) f) l on gone b c n
-      small marks_call restates amid.stood (part.holds amid.stood) seated.is_array (clear_same (v.arrays n) (v.arrays n) refl) (noted_clear gone (v.arrays n) (f n) (commit.arrays n low))
+      small marks_call restates amid.stood (gone_with (gone_in v) gone) (part.holds amid.stood) seated.is_array (clear_same (v.arrays n) (v.arrays n) refl) (noted_clear gone (v.arrays n) (f n) (commit.arrays n low))
       rows
 
   -- whoever is left has the array's superblock, so they agree

@@ -45,7 +45,6 @@ use Rattle.raid_rack.proofs.Committed.{next_later, raised_more, raised_range}
 use Rattle.raid_rack.proofs.Elements.{look_among}
 use Rattle.raid_rack.proofs.Frames.{frame_same, known_frame, left_frame}
 use Rattle.raid_rack.proofs.Losing.{only_gone}
-use Rattle.raid_rack.proofs.KeptDrives.{after_drives}
 use Rattle.raid_rack.proofs.Marking.{MarksCall, alike_agree, alike_state, closed_after, data_kept, logs_commit, still_after}
 use Rattle.raid_rack.proofs.Own.{look_nothing}
 use Rattle.raid_rack.proofs.Noted.{idle_now, live_later, losing_spent}
@@ -129,7 +128,7 @@ module _ (v : Raid) (on gone : List ℕ) (l : LogView) (f : ℕ → View) (b c :
   marks_call = record {
     commit = commit.call;
     takes = on;
-    brings = brings_to v.state (closed v.state) l.number (gone_in v) b l.added on brings;
+    brings = brings_to v.state (closed v.state) l.number b l.added on brings;
     are_left = are_left;
     none = closing_data v on gone l f b c commit;
     ready = kept_ready v.state (closed v.state) (gone_in v) l on b someone.0 kept brings room.0 commit.set.lasting targets_live someone.1 (none_gone someone.0 someone.1);
@@ -143,7 +142,6 @@ module _ (v : Raid) (on gone : List ℕ) (l : LogView) (f : ℕ → View) (b c :
     stays = stays_there;
     later = raised_more v.state.epoch room.1;
     own = copies_own (closed v.state) on [] l.added commit.copies (λ p. look_nothing (log_slice p) 0);
-    drives = after_drives v.state (closed v.state) (after_closed v.state);
   }
 
   -- ---- what contents have of it

@@ -23,6 +23,7 @@ use Rattle.raid_rack.specs.Book.{IsAfter, drive_of}
 use Rattle.raid_rack.specs.Missing.{marked, marked_from, raised}
 use Rattle.raid_rack.specs.Moves.{IsSet, IsSeated}
 use Rattle.raid_rack.specs.Settling.{IsMarking, state_after}
+use Rattle.raid_rack.specs.Vacated.{vacated_state}
 use Rattle.raid_rack.proofs.Missing.{current_marked, length_marked}
 use Rattle.raid_rack.proofs.Over.{IsFurther, not_true}
 use Rattle.raid_rack.proofs.Seated.{gone_losing, gone_fewer, gone_seated, names_joined}
@@ -80,6 +81,20 @@ valid_marked lost s own is =
     (and_from (nat_le 1 (raised s.epoch)) (nat_lt (raised s.epoch) (2 ^ 63))
     (le-leb 1 (raised s.epoch) (let first = leb-true 1 s.epoch five.0 in let up = low.0 in omega (arith, first, up)))
     (lt-ltb (raised s.epoch) (2 ^ 63) (low.1 (ltb-true s.epoch (2 ^ 63) five.1)))))))
+
+-- so it is of the same epoch
+pub valid_vacated : (place : ℕ) (s : State) (own : ℕ) → is_valid s own ≡ true → is_valid (vacated_state place s) own ≡ true
+valid_vacated place s own is =
+    let lost = place ∷ [] in
+    let one = and_parts (is_extent s.extent) (has_places s own && (has_arrays s && (list_all is_drive s.drives.items && has_epoch s))) is in
+    let two = and_parts (has_places s own) (has_arrays s && (list_all is_drive s.drives.items && has_epoch s)) one.1 in
+    let three = and_parts (has_arrays s) (list_all is_drive s.drives.items && has_epoch s) two.1 in
+    let four = and_parts (list_all is_drive s.drives.items) (has_epoch s) three.1 in
+    and_from (is_extent s.extent) _ one.0
+    (and_from _ _
+    (ap (λ k. (nat_le 2 k && nat_le k 16) && (nat_lt own k && nat_lt (planned_place s.plan) k)) (length_marked lost 0 s.drives.items) ∙ two.0)
+    (and_from (has_arrays s) _ three.0
+    (and_from _ _ (drives_valid lost 0 s.drives.items ∙ four.0) four.1)))
 
 pub after_marked : (lost : List ℕ) (s : State) → IsAfter s (marked lost s)
 after_marked lost s = record {

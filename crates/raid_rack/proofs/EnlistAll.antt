@@ -1,5 +1,5 @@
 -- The whole of a call that takes a drive in, from its parts: the disk is laid, the arrays are settled, the slices are added, and one commit has the drive.
-use Rattle.std.proofs.Common.{◌≡◌, ◌≢◌, ℕ, ◌<◌, ◌≤◌, Bool, false, length, Ok, Some, ap, subst, ◌∙◌, arith}
+use Rattle.std.proofs.Common.{◌≡◌, ◌≢◌, ℕ, ◌<◌, ◌≤◌, Bool, false, [], ◌∷◌, length, Ok, Some, ap, subst, ◌∙◌, arith}
 use Rattle.rack.specs.Seen.{Seen}
 use Rattle.rack.specs.Joins.{stays_then}
 use Rattle.rack.specs.Sequences.{WritesOnly}
@@ -9,9 +9,13 @@ use Rattle.slice_rack.specs.Slices.{IsOrderly, Slices, disk_of, seat_of}
 use Rattle.slice_rack.specs.Sliced.{slices_of}
 use Rattle.slice_rack.specs.Runs.{IsSliced}
 use Rattle.pool_state.specs.declared.contents.Plan.{Plan}
+use Rattle.pool_state.specs.declared.contents.State.{State}
 use Rattle.array_image.specs.States.{is_current}
 use Rattle.raid_rack.specs.declared.arrays.Arrays.{Arrays}
-use Rattle.raid_rack.specs.Enlisting.{Enlists, IsEnlisted, JoinsEach, KeepsTold, SettlesWhole, next_drive, with_drive}
+use Rattle.array_core.specs.Seats.{losing}
+use Rattle.array_model.specs.View.{spent_in}
+use Rattle.raid_rack.specs.Vacated.{vacated}
+use Rattle.raid_rack.specs.Enlisting.{Enlists, FindsEach, IsEnlisted, JoinsEach, KeepsTold, SettlesWhole, next_drive, with_drive}
 use Rattle.raid_rack.specs.Moves.{RaisesBy}
 use Rattle.raid_rack.specs.NewDrive.{LaysDrive, SeatsDrive, drive_table, joins}
 use Rattle.raid_rack.specs.RaidRack.{IsFit, IsRunning, raid_by}
@@ -27,23 +31,26 @@ module _ (r q z : Arrays) (place disk units sectors : ℕ) (plan : Plan) (t u : 
   -- the slices go by the arrays before
   pub seats : SeatsDrive r.all.items place disk (a.sectors disk) t u
   seats =
-      seats_same r.all.items q.all.items (same_members r q (slices_of t a) (slices_of t y) fit.running running settles.same settles.moves.arrays) place disk (a.sectors disk) t u
+      seats_same r.all.items q.all.items (same_members r q (slices_of t a) (slices_of t y) fit.running running (ap (λ (k : State). k.made) settles.same) settles.moves.arrays) place disk (a.sectors disk) t u
       (subst (λ k. SeatsDrive q.all.items place disk k t u) size laid)
 
-  pub enlists : (table : Table) → IsOrderly t → IsOrderly u → place < length r.state.drives.items → is_current r.state place ≡ false
+  pub enlists : (table : Table) → IsOrderly t → IsOrderly u → place < length r.state.drives.items
       → ((p : ℕ) → seat_of t p ≢ Some disk) → 10273 ≤ a.sectors disk
       → table ≡ drive_table (next_drive r.state).0 r.all.items place sectors (length r.all.items) → LaysDrive a m disk table {X = Unit {0}} (Ok tt)
       → WritesOnly m y (IsSliced t) → (slices_of u y).fit
       → IsEnlisted place units plan (joins q.all.items place sectors) (raid_by q) (raid_by z) (slices_of u y) (slices_of u b) → RaisesBy 18 (raid_by q) (raid_by z)
-      → JoinsEach place units plan (raid_by q) (raid_by z) (slices_of u y) (slices_of u b) → WritesOnly y b (IsSliced u) → IsFit z (slices_of u b)
+      → (is_current r.state place ≡ false → JoinsEach place units plan (raid_by q) (raid_by z) (slices_of u y) (slices_of u b))
+      → FindsEach place units plan (vacated place (raid_by q)) (raid_by z) (slices_of u y) (slices_of u b)
+      → ((n k : ℕ) → n < q.state.made → spent_in ((raid_by z).arrays n) k ≡ false → spent_in (losing (place ∷ []) ((raid_by q).arrays n)) k ≡ false)
+      → WritesOnly y b (IsSliced u) → IsFit z (slices_of u b)
       → JoinsTruths (with_drive place units plan (joins q.all.items place sectors) (raid_by q)) (raid_by z) (slices_of u y) (slices_of u b)
       → Enlists t u r.all.items place disk units plan (raid_by r) (raid_by z) a b
-  enlists table orderly orderly_now listed missing free room table_is lays two fit_now joined raises each three after truths =
+  enlists table orderly orderly_now listed free room table_is lays two fit_now joined raises each finds less three after truths =
       let v = raid_by r in
       let s = raid_by q in
       let w = raid_by z in
       let joining : ℕ → Bool = joins r.all.items place (a.sectors disk) in
-      let same = same_members r q (slices_of t a) (slices_of t y) fit.running running settles.same settles.moves.arrays in
+      let same = same_members r q (slices_of t a) (slices_of t y) fit.running running (ap (λ (k : State). k.made) settles.same) settles.moves.arrays in
       let joined_now : IsEnlisted place units plan joining s w (slices_of u y) (slices_of u b) =
       subst (λ (f : ℕ → Bool). IsEnlisted place units plan f s w (slices_of u y) (slices_of u b))
       ((λ i n. joins_same r.all.items q.all.items same place sectors n i) ∙ ap (λ k. joins r.all.items place k) size) joined in
@@ -69,11 +76,11 @@ module _ (r q z : Arrays) (place disk units sectors : ℕ) (plan : Plan) (t u : 
             (omega (arith, one, next), (three.stops (early.traced traced)).later);
         told = λ n low told opened other.
             subst (λ (e : Table). KeepsTold t u place disk units plan e v w a b y.clock n) whole
-            (keeps_told r.all.items place disk units plan joining t u v s w a m y b table orderly orderly_now few free fit.running.set fit.heeded missing size_is room lays settles two
-            seats fit_now joined_now each three after.running.set opened n low told other);
+            (keeps_told r.all.items place disk units plan joining t u v s w a m y b table orderly orderly_now few free fit.running.set fit.heeded listed size_is room lays settles two
+            seats fit_now joined_now each finds less three after.running.set opened n low told other);
         truths = λ opened n low.
-            enlisted_truths r.all.items place disk units plan joining t u v s w a m y b table orderly orderly_now few free fit.running.set fit.heeded missing size_is room lays settles two
-            seats fit_now joined_now each three after.running.set opened
+            enlisted_truths r.all.items place disk units plan joining t u v s w a m y b table orderly orderly_now few free fit.running.set fit.heeded listed size_is room lays settles two
+            seats fit_now joined_now each finds less three after.running.set opened
             (subst (λ (f : ℕ → Bool). JoinsTruths (with_drive place units plan f s) w (slices_of u y) (slices_of u b))
             ((λ i k. joins_same r.all.items q.all.items same place sectors k i) ∙ ap (λ k. joins r.all.items place k) size) truths)
             n low;

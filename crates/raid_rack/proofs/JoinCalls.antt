@@ -16,7 +16,7 @@ use Rattle.commit_log.specs.Commits.{CommitCall}
 use Rattle.array_model.specs.View.{View, sectors_of}
 use Rattle.array_core.specs.Seats.{gone as without, renewed, seat_of}
 use Rattle.raid_rack.specs.declared.arrays.Arrays.{Arrays}
-use Rattle.raid_rack.specs.Enlisting.{HasNewSlices, IsEnlisted, JoinsEach, enlisted, next_drive, renewed_at, with_drive}
+use Rattle.raid_rack.specs.Enlisting.{FindsEach, HasNewSlices, IsEnlisted, JoinsEach, enlisted, next_drive, renewed_at, with_drive}
 use Rattle.raid_rack.specs.Losses.{AddsCopies}
 use Rattle.raid_rack.specs.Moves.{IsHeeded, IsSet, Mends, RaisesBy}
 use Rattle.raid_rack.specs.NewDrive.{ReachesAll, first_in, joins, slice_length}
@@ -25,7 +25,8 @@ use Rattle.raid_rack.specs.RaidRack.{IsRunning, no_array, raid_by}
 use Rattle.raid_rack.specs.Settling.{HasStaged, IsMarking}
 use Rattle.raid_rack.proofs.Committed.{IsCommitBy, after_set, raid_after}
 use Rattle.raid_rack.proofs.Enlisted.{enlisted_marked}
-use Rattle.raid_rack.proofs.Joined.{joins_part}
+use Rattle.raid_rack.proofs.JoinedFound.{found_part}
+use Rattle.raid_rack.proofs.JoinedMissing.{joins_part}
 use Rattle.raid_rack.proofs.Joining.{MayJoinPool, enlisting_raises, is_enlisted, joining_fewer, joining_marks, listed_raid, staged_like}
 use Rattle.raid_rack.proofs.Mended.{each_get, each_sectors, get_past}
 use Rattle.raid_rack.proofs.Renewed.{renewed_count, renewed_get}
@@ -179,6 +180,10 @@ module _ (a d : Arrays) (place units sectors : ℕ) (plan : Plan) (joining : ℕ
       pub joins_each : JoinsEach place units plan (raid_by a) (raid_by b) x z
       joins_each new_log other n vals spent joined low goes covers amid settled =
           joins_part place units plan takes_in v on takes gone l xs f x y may commit (raid_by b) z mends_m is.on_are new_log other n vals spent joined low goes covers amid settled
+
+      pub joins_finds : FindsEach place units plan (raid_by a) (raid_by b) x z
+      joins_finds new_log other s before n vals spent joined low goes covers finds =
+          found_part place units plan takes_in v on takes gone l xs f x y may commit (raid_by b) z mends_m is.on_are new_log other n vals spent joined low goes covers s before finds
 
       -- the commit has the superblocks of all arrays
       pub joins_truths : KeepsTruths (raid_by (record d { state = t; all = all; log = log })) (raid_by b) y z

@@ -212,7 +212,7 @@ module _ (place units : ℕ) (plan : Plan) (joining : ℕ → Bool) (v : Raid) (
       ∙ ap (λ (t : State). is_current t q) (enlisted_marked place units plan v.state) ∙ now
 
   -- what is spent stays so
-  spent_before : (n k : ℕ) → n < v.state.made → spent_in (w.arrays n) k ≡ false → spent_in (v.arrays n) k ≡ false
+  pub spent_before : (n k : ℕ) → n < v.state.made → spent_in (w.arrays n) k ≡ false → spent_in (v.arrays n) k ≡ false
   spent_before n k low alive =
       sym (listed_spent place units plan joining v x may n k low)
       ∙ losing_spent (u.arrays n) (f n) (names gone) (commit.marking.set.arrays n low).is_array (commit_losing u [] takes gone l xs f x y commit n low) k

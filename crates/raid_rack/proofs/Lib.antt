@@ -72,14 +72,25 @@ pub mod Others
 mod Renewed
 mod Joining
 mod Joined
+mod JoinedMissing
+mod RetiredArrays
+mod JoinedFound
+mod FormerSays
+mod Retiring
 mod JoinCalls
 pub mod ReseatedLogs
+pub mod RetiredLogs
+pub mod RetiredMoments
 pub mod SaysStill
 pub mod Reseated
 mod Renewing
 mod Untouched
 mod Enrolled
+mod Leaving
+mod EnlistReplaced
+mod NewSupers
 mod EnlistTold
+mod EnlistRetired
 mod EnlistAll
 pub mod Vacated
 pub mod Truths

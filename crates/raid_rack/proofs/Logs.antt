@@ -9,7 +9,7 @@ use Rattle.pool_state.specs.declared.contents.State.{State}
 use Rattle.pool_state.specs.Sector.{decoded}
 use Rattle.array_image.specs.Places.{log_slice}
 use Rattle.array_image.specs.Record.{pending}
-use Rattle.array_image.specs.States.{is_current}
+use Rattle.array_image.specs.States.{is_current, state_in}
 use Rattle.array_image.specs.Arrays.{replayed}
 use Rattle.array_image.specs.Left.{IsCalm, IsCalmIn, IsInside, Picks, deciding}
 use Rattle.array_image.proofs.Frames.{state_same}
@@ -25,8 +25,8 @@ use Rattle.commit_log.specs.Standing.{LogsStand, StatesStand}
 use Rattle.commit_log.proofs.Kept.{kept_idle, kept_state, live_after, live_on, stands_of}
 use Rattle.commit_log.proofs.Saying.{copies_same, held_copies, holds_keeps, kept_latest, kept_says, says_by}
 use Rattle.raid_rack.specs.Book.{IsAfter, after_same, after_then}
-use Rattle.raid_rack.specs.Logs.{KeepsLogs, LogsBetween}
-use Rattle.raid_rack.specs.Since.{AreEach, HoldsEach, IsJoinSince, IsSince, KeepsEach, each_still, each_then}
+use Rattle.raid_rack.specs.Logs.{KeepsLogs, LogsBetween, StandsSince}
+use Rattle.raid_rack.specs.Since.{AreEach, HoldsEach, IsSince, IsTakenSince, KeepsEach, each_still, each_then}
 use Rattle.raid_rack.proofs.Own.{look_nothing}
 use Rattle.raid_rack.proofs.Since.{each_read}
 
@@ -38,13 +38,20 @@ HasSomeone s gone = (place : ℕ) × (is_current s place ≡ true) × (gone plac
 pub between_same : (s : State) (sectors : ℕ → ℕ) (c : Image) → SaysState s sectors c → LogsBetween s s sectors c
 between_same s sectors c says = record { state = s; later = after_same s; sooner = after_same s; says = says }
 
+pub stands_same : (s : State) (c : Image) → state_in c ≡ Some s → StandsSince s c
+stands_same s c here stood is = subst (IsAfter s) (some_state s stood (sym here ∙ is)) (after_same s)
+  where
+    some_state : (a b : State) → Some a ≡ Some b → a ≡ b
+    some_state a b same = cc
+
 -- where nothing is called
 pub logs_still : (s : State) (x : Seen) → HoldsCopies s x → KeepsLogs s s x x
 logs_still s x holds = record {
   leaves = λ traced. leaves_same x (λ c. IsInside x.sectors c → LogsBetween s s x.sectors c);
+  stands = λ traced. leaves_same x (λ c. IsInside x.sectors c → StandsSince s c);
   holds = holds;
   since = λ base after held. each_still (IsSince base) x held;
-  joining = λ early next after held. each_still (IsJoinSince early next) x held;
+  joining = λ new early next after held. each_still (IsTakenSince new early next) x held;
 }
 
 -- parts in a row
@@ -66,13 +73,18 @@ logs_then s t u a b c first second stays one two = record {
       (let at = says (λ d t out. inside d t (subst (λ k. k ≤ t) (stays.sectors d) out)) in
       record { state = at.state; later = after_then s t at.state first at.later; sooner = at.sooner; says = at.says }))
       (two.leaves (stays.traced traced)));
+  stands = λ traced.
+      leaves_then (λ i. IsInside a.sectors i → StandsSince s i) (one.stands traced)
+      (leaves_weaker (λ i. IsInside b.sectors i → StandsSince t i) (λ i. IsInside a.sectors i → StandsSince s i)
+      (λ i says inside stood is. after_then s t stood first (says (λ d t out. inside d t (subst (λ k. k ≤ t) (stays.sectors d) out)) stood is))
+      (two.stands (stays.traced traced)));
   holds = two.holds;
   since = λ base after held.
       let early = one.since base after held in
       each_then (IsSince base) a b c stays.sectors stays.traced early (two.since base (after_then base s t after first) early.holds);
-  joining = λ early next after held.
-      let before = one.joining early next after held in
-      each_then (IsJoinSince early next) a b c stays.sectors stays.traced before (two.joining early next (after_then next s t after first) before.holds);
+  joining = λ new early next after held.
+      let before = one.joining new early next after held in
+      each_then (IsTakenSince new early next) a b c stays.sectors stays.traced before (two.joining new early next (after_then next s t after first) before.holds);
 }
 
 -- calls that bring no value
@@ -85,9 +97,13 @@ logs_read s number gone a b lasting stays keeps kept someone holds = record {
       between_same s a.sectors c
       (kept_says s number gone a c someone.0 kept holds someone.1 someone.2 (stands_of c (pick_before lasting stays c inside pick))))
       (keeps.stops traced);
+  stands = λ traced.
+      leaves_weaker (IsPick a b a.held) (λ c. IsInside a.sectors c → StandsSince s c)
+      (λ c pick inside. stands_same s c (kept_state s number gone a c someone.0 kept (logs_of c (pick_before lasting stays c inside pick)) someone.1 someone.2))
+      (keeps.stops traced);
   holds = holds_keeps s a b lasting stays keeps holds;
   since = λ base after held. each_read (IsSince base) a b lasting stays keeps kept.logs held;
-  joining = λ early next after held. each_read (IsJoinSince early next) a b lasting stays keeps kept.logs held;
+  joining = λ new early next after held. each_read (IsTakenSince new early next) a b lasting stays keeps kept.logs held;
 }
 
 -- where all current places are left, nothing is pending for other arrays
@@ -117,9 +133,13 @@ module _ (s : State) (number : ℕ) (gone : ℕ → Bool) (n : ℕ) (a b : Seen)
   replays_same c turns p = turns.others (log_slice p) 0 (state_apart n p) ∙ turns.left.2 (log_slice p) 0
 
   -- copies stand as a stop before the call might leave them
-  stands_same : (c : Image) (turns : Turns n a b (λ r. H → P r) c) (p : ℕ) → c (log_slice p) 0 ≡ turns.left.0 (log_slice p) 0
-  stands_same c turns p =
+  copies_stand : (c : Image) (turns : Turns n a b (λ r. H → P r) c) (p : ℕ) → c (log_slice p) 0 ≡ turns.left.0 (log_slice p) 0
+  copies_stand c turns p =
       sym (as_is a.sectors c p (turns.calm calm)) ∙ replays_same c turns p ∙ as_is a.sectors turns.left.0 p (calm turns.left.0 (logs_of turns.left.0 turns.left.1))
+
+  turned_stands : (c : Image) → Turns n a b (λ r. H → P r) c → state_in c ≡ Some s
+  turned_stands c turns =
+      state_same c turns.left.0 (copies_stand c turns) ∙ kept_state s number gone a turns.left.0 someone.0 kept (logs_of turns.left.0 turns.left.1) someone.1 someone.2
 
   turned : (c : Image) → Turns n a b (λ r. H → P r) c → SaysState s a.sectors c
   turned c turns =
@@ -128,7 +148,7 @@ module _ (s : State) (number : ℕ) (gone : ℕ → Bool) (n : ℕ) (a b : Seen)
       let stand : Stands a e = stands_of e picks in
       let calm_now : IsCalmIn n c = turns.calm calm in
       let same : (p : ℕ) → replayed a.sectors c (log_slice p) 0 ≡ replayed a.sectors e (log_slice p) 0 = replays_same c turns in
-      let stands : (p : ℕ) → c (log_slice p) 0 ≡ e (log_slice p) 0 = stands_same c turns in
+      let stands : (p : ℕ) → c (log_slice p) 0 ≡ e (log_slice p) 0 = copies_stand c turns in
       let logs : LogsStand a e = record { picks = λ p t live. picks.picks (log_slice p) t live; inside = λ p t out. picks.inside (log_slice p) t out } in
       let copies = copies_same s a.sectors (replayed a.sectors c) (replayed a.sectors e) same (holds.copies e stand) in
       record {
@@ -136,7 +156,7 @@ module _ (s : State) (number : ℕ) (gone : ℕ → Bool) (n : ℕ) (a b : Seen)
         is_state = says_by s a.sectors (replayed a.sectors c) someone.0 copies (kept.few someone.0 someone.1) someone.1 (kept.there someone.0 someone.1 someone.2);
         copies = copies;
         stood = s;
-        stood_is = state_same c e stands ∙ kept_state s number gone a e someone.0 kept logs someone.1 someone.2;
+        stood_is = turned_stands c turns;
         latest = λ p copy small is. kept_latest s number gone a e kept logs p copy small (ap decoded (sym (stands p)) ∙ is);
         next = inl refl;
         brings = λ p u is. absurd (none c p u calm_now is);
@@ -150,7 +170,7 @@ module _ (s : State) (number : ℕ) (gone : ℕ → Bool) (n : ℕ) (a b : Seen)
         leaves_weaker (λ c. IsInside a.sectors c → Turns n a b (λ r. H → P r) c) (λ c. IsInside a.sectors c → AreEach R a.sectors c)
         (λ c found inside p few there.
         let turns = found inside in
-        subst (R p) (sym (stands_same c turns p))
+        subst (R p) (sym (copies_stand c turns p))
         (held p (turns.left.0 (log_slice p) 0) few there (turns.left.1.picks (log_slice p) 0 (kept.logs p 0 few there))))
         (moves.leaves traced);
     holds = λ p u few there may.
@@ -163,6 +183,10 @@ module _ (s : State) (number : ℕ) (gone : ℕ → Bool) (n : ℕ) (a b : Seen)
     leaves = λ traced.
         leaves_weaker (λ c. IsInside a.sectors c → Turns n a b (λ r. H → P r) c) (λ c. IsInside a.sectors c → LogsBetween s s a.sectors c)
         (λ c turns inside. between_same s a.sectors c (turned c (turns inside)))
+        (moves.leaves traced);
+    stands = λ traced.
+        leaves_weaker (λ c. IsInside a.sectors c → Turns n a b (λ r. H → P r) c) (λ c. IsInside a.sectors c → StandsSince s c)
+        (λ c turns inside. stands_same s c (turned_stands c (turns inside)))
         (moves.leaves traced);
     holds = record {
       copies = λ c stand.
@@ -180,7 +204,7 @@ module _ (s : State) (number : ℕ) (gone : ℕ → Bool) (n : ℕ) (a b : Seen)
       inside = moves.bounded holds.inside;
     };
     since = λ base after since. each_call (IsSince base) since;
-    joining = λ early next after since. each_call (IsJoinSince early next) since;
+    joining = λ new early next after since. each_call (IsTakenSince new early next) since;
   }
     where
       logs_now : (c : Image) → Stands b c → LogsStand b c

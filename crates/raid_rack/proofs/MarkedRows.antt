@@ -1,5 +1,5 @@
 -- A commit of marks leaves no row of an array to resync but those that are left in it.
-use Rattle.std.proofs.Common.{◌≡◌, ℕ, ◌<◌, ◌≤◌, Bool, false, List, Option, Some, unwrap_or, refl, sym, ap, subst, ◌∙◌, inl, inr, arith}
+use Rattle.std.proofs.Common.{◌≡◌, ℕ, ◌<◌, ◌≤◌, Bool, true, false, List, Option, Some, unwrap_or, refl, sym, ap, subst, ◌∙◌, inl, inr, arith}
 use Rattle.rack.specs.Values.{Values}
 use Rattle.rack.specs.Seen.{Image, Seen}
 use Rattle.rack.specs.Joins.{leaves_weaker}
@@ -14,9 +14,9 @@ use Rattle.array_image.specs.Arrays.{Shape, replayed}
 use Rattle.array_image.specs.Left.{IsInside, LogsInside, Picks}
 use Rattle.commit_log.specs.View.{LogView}
 use Rattle.commit_log.specs.Commits.{Commits}
-use Rattle.commit_log.specs.Kept.{gone_with}
 use Rattle.commit_log.proofs.Kept.{before_inside, joined_state, stands_of}
 use Rattle.array_model.specs.View.{View, IsArray}
+use Rattle.array_core.specs.Superblocks.{is_settled}
 use Rattle.raid_rack.specs.Laws.{stood_left}
 use Rattle.raid_rack.specs.Marking.{Restates}
 use Rattle.raid_rack.specs.Raid.{Raid, Stood}
@@ -24,19 +24,23 @@ use Rattle.raid_rack.specs.Rows.{KeepsRows, LeavesFrom, LeavesRows}
 use Rattle.raid_rack.proofs.Marking.{MarksCall, alike_agree, alike_state, restated_after}
 use Rattle.raid_rack.proofs.Rows.{KeepsClear, from_same, rows_after, settled_rows}
 
+-- Contents that have the new state and the superblocks of the commit.
+pub commit_rows : (t : State) (noted : Shape) (view own : View) (l : LogView) (a : Seen) (n : ℕ) → Restates t noted false view l.added a n → IsArray view → KeepsClear own view
+    → is_settled own ≡ true → own.young ≡ false → (before r : Image) → Picks a before → state_in r ≡ Some t → Agree n r (put a.sectors l.added before) → LeavesFrom own.resync n r
+commit_rows t noted view own l a n restates is_array clear settled young before r picks state_is agree at u state truth =
+    let e : Image = put a.sectors l.added before in
+    let same : at ≡ t = ap (λ (o : Option State). unwrap_or o at) (sym state ∙ state_is) in
+    let fields = restates.truth before picks u
+    (sym (truth_by_supers t r e n (supers_same t r e n agree)) ∙ subst (λ k. truth_in k r n ≡ Some u) same truth) in
+    subst (λ k. own.resync ≤ k) (sym (ap first_unsynced fields))
+    (subst (λ k. k ≤ first_unsynced view.truth) clear.resync (settled_rows view is_array (clear.young ∙ young) (clear.settled young settled)))
+
 module _ (s t : State) (durable noted : Shape) (view : View) (vals : ℕ → Values) (spent gone : ℕ → Bool) (v w : Raid) (l : LogView) (on lost : List ℕ) (a b : Seen) (n : ℕ)
     (few : n < 16) (call : MarksCall s t gone l on lost a b) (restates : Restates t noted false view l.added a n)
-    (stood : Stood s durable vals spent gone v a n) (after : Stood t noted vals spent (gone_with gone lost) w b n)
+    (stood : Stood s durable vals spent gone v a n) (gone_now : ℕ → Bool) (after : Stood t noted vals spent gone_now w b n)
     (is_array : IsArray view) (clear : KeepsClear (v.arrays n) view) (clear_after : KeepsClear (v.arrays n) (w.arrays n)) (rows : LeavesRows v a n) where
-  -- contents that have the new state and the superblocks of the commit
   put_rows : (before r : Image) → Picks a before → state_in r ≡ Some t → Agree n r (put a.sectors l.added before) → LeavesFrom (v.arrays n).resync n r
-  put_rows before r picks state_is agree own u state truth =
-      let e : Image = put a.sectors l.added before in
-      let same : own ≡ t = ap (λ (o : Option State). unwrap_or o own) (sym state ∙ state_is) in
-      let fields = restates.truth before picks u
-      (sym (truth_by_supers t r e n (supers_same t r e n agree)) ∙ subst (λ k. truth_in k r n ≡ Some u) same truth) in
-      subst (λ k. (v.arrays n).resync ≤ k) (sym (ap first_unsynced fields))
-      (subst (λ k. k ≤ first_unsynced view.truth) clear.resync (settled_rows view is_array (clear.young ∙ rows.young) (clear.settled rows.young rows.settled)))
+  put_rows before r = commit_rows t noted view (v.arrays n) l a n restates is_array clear rows.settled rows.young before r
 
   moment : (c : Image) → IsInside a.sectors c → Commits l.added a c → LeavesFrom (v.arrays n).resync n (replayed a.sectors c)
   moment c inside commits =
@@ -67,6 +71,6 @@ module _ (s t : State) (durable noted : Shape) (view : View) (vals : ℕ → Val
         rows_after v w a b n clear_after rows
         (λ r left.
         let at = restated_after s t noted false view gone l on lost a b n r few call restates left in
-        let read = stood_left t noted vals spent (gone_with gone lost) w b n left.0 after left.1 in
+        let read = stood_left t noted vals spent gone_now w b n left.0 after left.1 in
         put_rows at.0 r at.1 (state_same r (replayed b.sectors left.0) (λ place. left.2 (log_slice place) 0) ∙ read.0) at.2);
   }

@@ -1,5 +1,5 @@
 -- A commit that marks losses: each array that stands gives its values at each moment of it, and stands after it by the new state.
-use Rattle.std.proofs.Common.{◌≡◌, ◌⊎◌, ℕ, ◌+◌, ◌<◌, Bool, true, false, ◌||◌, List, [], Option, Some, None, Ok, unwrap_or, refl, sym, ap, ap₂, subst, ◌∙◌, inl, inr, arith}
+use Rattle.std.proofs.Common.{◌≡◌, ◌⊎◌, ℕ, ◌+◌, ◌<◌, Bool, true, false, ◌&&◌, ◌||◌, not, List, [], Option, Some, None, Ok, unwrap_or, refl, sym, ap, ap₂, subst, ◌∙◌, inl, inr, arith}
 use Rattle.std.proofs.lemmas.Bool.{both_ways, cases_Bool}
 use Rattle.std.proofs.lemmas.Option.{none-some}
 use Rattle.rack.specs.Values.{Values, MayLeave}
@@ -25,25 +25,26 @@ use Rattle.array_image.proofs.Settled.{settled_value}
 use Rattle.commit_log.specs.View.{LogView, names, next_number}
 use Rattle.commit_log.specs.Standing.{IsReady, SomeoneDecides, IsLogPart, IsAlike}
 use Rattle.commit_log.specs.Commits.{Commits, CommitCall, StandsMidway}
-use Rattle.commit_log.specs.Kept.{LogKept, AreLeft, gone_with, BringsTo}
+use Rattle.commit_log.specs.Kept.{LogKept, AreLeft, gone_but, gone_with, BringsTo}
 use Rattle.commit_log.specs.Saying.{AreOwnCopies, HoldsCopies, KeepsDrives, SaysState}
-use Rattle.commit_log.proofs.Kept.{stands_of, before_inside, joined_state, put_none}
-use Rattle.commit_log.proofs.KeptAfter.{joined_after}
+use Rattle.commit_log.proofs.Kept.{stands_latest, stands_of, before_inside, joined_state, put_none}
+use Rattle.commit_log.proofs.KeptAfter.{gone_none, joined_after}
 use Rattle.commit_log.proofs.Saying.{commit_holds, commit_moments, commit_says}
 use Rattle.array_model.specs.View.{View, shape_of, may_vary}
-use Rattle.array_model.specs.Says.{Says, IsOpen, HoldsShape, IsEarlier}
+use Rattle.array_model.specs.Says.{Says, IsOpen, HoldsData, HoldsShape, IsEarlier}
 use Rattle.array_model.proofs.Keeping.{live_on, inside_before, logs_of, KeepsData}
-use Rattle.array_model.proofs.Losses.{noted_holds, marked_holds}
+use Rattle.array_model.proofs.Losses.{data_of, noted_holds, marked_holds}
 use Rattle.raid_rack.specs.Raid.{Raid, Stood, IsWritten}
 use Rattle.raid_rack.specs.Enlisting.{SaysBy}
 use Rattle.raid_rack.specs.Marking.{NoData, Restates, SaysBetween, Part}
 use Rattle.raid_rack.specs.Book.{IsAfter, after_same, after_then}
 use Rattle.raid_rack.specs.Frames.{Frame, HasFrame, frame_of}
-use Rattle.raid_rack.specs.Logs.{KeepsLogs, LogsBetween}
-use Rattle.raid_rack.specs.Since.{AreEach, HasOwnSince, HoldsEach, IsJoinSince, IsSince, KeepsEach}
+use Rattle.raid_rack.specs.Logs.{KeepsLogs, LogsBetween, StandsSince}
+use Rattle.raid_rack.specs.Since.{AreEach, HasOwnSince, HoldsEach, IsSince, IsTakenSince, KeepsEach}
 use Rattle.raid_rack.specs.Laws.{stood_left}
 use Rattle.raid_rack.proofs.Frames.{fields_frame, frame_same, known_frame, left_frame}
-use Rattle.raid_rack.proofs.KeptDrives.{after_drives}
+use Rattle.raid_rack.proofs.KeptDrives.{after_drives, after_id}
+use Rattle.raid_rack.proofs.Logs.{stands_same}
 use Rattle.raid_rack.proofs.Own.{look_nothing, says_same}
 use Rattle.raid_rack.proofs.Since.{AreLive}
 
@@ -104,7 +105,7 @@ pub record MarksCall (s t : State) (gone : ℕ → Bool) (l : LogView) (on lost 
   pub commit : CommitCall l on lost a b
   -- the places that get a copy: those of the commit, and those that join
   pub takes : List ℕ
-  pub brings : BringsTo s t l.number gone a l.added on takes
+  pub brings : BringsTo s t l.number a l.added on takes
   pub are_left : AreLeft s gone on
   pub none : NoData l.added
   pub ready : IsReady l on a
@@ -118,24 +119,29 @@ pub record MarksCall (s t : State) (gone : ℕ → Bool) (l : LogView) (on lost 
   -- of a later state, each copy its place's own
   pub later : s.epoch < t.epoch
   pub own : AreOwnCopies t l.added
-  -- and places keep their drives
-  pub drives : KeepsDrives s t
 
--- So the log slices say the old state or the new one, and after it they hold the new one's copies.
-pub logs_made : (s t : State) (gone : ℕ → Bool) (l : LogView) (on lost : List ℕ) (a b : Seen) → MarksCall s t gone l on lost a b
+pub never_same : (s t : State) (gone : ℕ → Bool) → s.epoch < t.epoch → t ≡ s → (p : ℕ) → is_current s p ≡ true → gone p ≡ false
+never_same s t gone later same = let epoch = ap (λ (u : State). u.epoch) same in absurd (omega (arith, epoch, later))
+
+-- So after it the log slices hold the new state's copies.
+pub copies_made : (s t : State) (gone : ℕ → Bool) (l : LogView) (on lost : List ℕ) (a b : Seen) → MarksCall s t gone l on lost a b → LogKept s l.number gone a → HoldsCopies t b
+copies_made s t gone l on lost a b call kept =
+    commit_holds s t gone l on call.takes a kept call.brings call.own (never_same s t gone call.later) call.are_left call.ready.room call.place call.was call.left call.now
+    lost b call.commit call.ready call.decides
+
+-- And the log slices say the old state or the new one, where places keep their drives, and after it they hold the new one's copies.
+pub logs_made : (s t : State) (gone : ℕ → Bool) (l : LogView) (on lost : List ℕ) (a b : Seen) → MarksCall s t gone l on lost a b → KeepsDrives s t on
     → LogKept s l.number gone a → HoldsCopies s a
     → (a.traced → Leaves a b (λ c. IsInside a.sectors c → SaysState s a.sectors c ⊎ SaysState t a.sectors c)) × HoldsCopies t b
-logs_made s t gone l on lost a b call kept copies =
-    let never : t ≡ s → (p : ℕ) → is_current s p ≡ true → gone p ≡ false =
-    λ same. let epoch = ap (λ (u : State). u.epoch) same in let later = call.later in absurd (omega (arith, epoch, later)) in (
+logs_made s t gone l on lost a b call drives kept copies =
+    let never = never_same s t gone call.later in (
       λ traced.
           leaves_weaker (λ c. LogsInside a.sectors c → SaysState s a.sectors c ⊎ SaysState t a.sectors c)
           (λ c. IsInside a.sectors c → SaysState s a.sectors c ⊎ SaysState t a.sectors c)
           (λ c says inside. says (λ place i out. inside (log_slice place) i out))
-          (commit_says s t gone l on call.takes a kept copies call.brings call.own call.drives never call.are_left call.ready.room call.place call.was call.left call.now
+          (commit_says s t gone l on call.takes a kept call.brings call.own never call.are_left call.ready.room call.place call.was call.left call.now copies drives
           lost b call.commit call.ready call.decides traced),
-      commit_holds s t gone l on call.takes a kept copies call.brings call.own call.drives never call.are_left call.ready.room call.place call.was call.left call.now
-          lost b call.commit call.ready call.decides,
+      copies_made s t gone l on lost a b call kept,
     )
 
 -- And copies that stand stay such as they are, where its place's own copy of the new state is such.
@@ -177,7 +183,7 @@ module _ (P : ℕ → List ℕ → Type 0) (s t : State) (gone : ℕ → Bool) (
 -- A copy that the targets have is its place's own, of the new state, which is the one that calls began with or came of it.
 own_since : (base t : State) → IsAfter base t → (p : ℕ) (u : List ℕ) → is_current t p ≡ true → decoded u ≡ Ok (record { state = t; own = p }) → HasOwnSince base p u
 own_since base t after p u current is =
-    record { copy = record { state = t; own = p }; is = is; after = after; drive = (after_drives base t after).ids p (after.current p current) current }
+    record { copy = record { state = t; own = p }; is = is; after = after; drive = after_id base t p after }
 
 brings_since : (base t : State) → IsAfter base t → (p : ℕ) (u : List ℕ) → is_current t p ≡ true → decoded u ≡ Ok (record { state = t; own = p }) → IsSince base p u
 brings_since base t after p u current is = record {
@@ -185,17 +191,31 @@ brings_since base t after p u current is = record {
   former = λ k past at. absurd (both_ways (is_current base p) past (after.current p current));
 }
 
-pub brings_joining : (early next t : State) → IsAfter next t → (p : ℕ) (u : List ℕ) → is_current t p ≡ true → decoded u ≡ Ok (record { state = t; own = p }) → IsJoinSince early next p u
-brings_joining early next t after p u current is = record {
-  own = λ now. inr (own_since next t after p u current is);
-  joins = λ k past now at. own_since next t after p u current is;
+pub brings_joining : (new : ℕ → Bool) (early next t : State) → IsAfter next t → (p : ℕ) (u : List ℕ) → is_current t p ≡ true → decoded u ≡ Ok (record { state = t; own = p })
+    → IsTakenSince new early next p u
+brings_joining new early next t after p u current is = record {
+  own = λ old now. inr (own_since next t after p u current is);
+  joins = λ k how now at. own_since next t after p u current is;
   former = λ k past was at. absurd (both_ways (is_current next p) was (after.current p current));
 }
+
+-- As they stand contents say the old state or the new one.
+pub midway_stands : (s t : State) (gone : ℕ → Bool) (l : LogView) (on lost : List ℕ) (a b : Seen) → MarksCall s t gone l on lost a b → LogKept s l.number gone a
+    → (c : Image) → StandsMidway l on a c → (state_in c ≡ Some s) ⊎ (state_in c ≡ Some t)
+midway_stands s t gone l on lost a b call kept c mid =
+    elim (stands_latest s t l.number gone on call.takes l.added a c call.place kept.logs kept.copies call.brings mid.states (kept.few call.place call.was)
+    (kept.there call.place call.was call.left) call.was call.left) [
+      | inl old ↦ inl old.0
+      | inr new ↦ inr new.0
+    ]
+
+some_state : (a b : State) → Some a ≡ Some b → a ≡ b
+some_state a b same = cc
 
 pub logs_commit : (s t : State) (gone : ℕ → Bool) (l : LogView) (on lost : List ℕ) (a b : Seen) → MarksCall s t gone l on lost a b → IsAfter s t
     → LogKept s l.number gone a → HoldsCopies s a → KeepsLogs s t a b
 logs_commit s t gone l on lost a b call book kept copies =
-    let made = logs_made s t gone l on lost a b call kept copies in
+    let made = logs_made s t gone l on lost a b call (after_drives s t on book) kept copies in
     record {
       leaves = λ traced.
           leaves_weaker (λ c. IsInside a.sectors c → SaysState s a.sectors c ⊎ SaysState t a.sectors c)
@@ -205,9 +225,36 @@ logs_commit s t gone l on lost a b call book kept copies =
             | inr new ↦ record { state = t; later = book; sooner = after_same t; says = new }
           ])
           (made.0 traced);
+      stands = λ traced.
+          leaves_weaker (λ c. LogsInside a.sectors c → Commits l.added a c × StandsMidway l on a c) (λ c. IsInside a.sectors c → StandsSince s c)
+          (λ c found inside. elim (midway_stands s t gone l on lost a b call kept c (found (λ place k out. inside (log_slice place) k out)).1) [
+            | inl old ↦ stands_same s c old
+            | inr new ↦ λ stood at. subst (IsAfter s) (some_state t stood (sym new ∙ at)) book
+          ])
+          (commit_moments l on lost a b call.commit traced call.ready call.decides);
       holds = made.1;
       since = λ base after held. commit_each (IsSince base) s t gone l on lost a b call (brings_since base t (after_then base s t after book)) kept.logs held;
-      joining = λ early next after held. commit_each (IsJoinSince early next) s t gone l on lost a b call (brings_joining early next t (after_then next s t after book)) kept.logs held;
+      joining = λ new early next after held.
+          commit_each (IsTakenSince new early next) s t gone l on lost a b call (brings_joining new early next t (after_then next s t after book)) kept.logs held;
+    }
+
+-- Contents with all targets are as these restate the array.
+pub commit_new : (s t : State) (noted : Shape) (marked : Bool) (view : View) (vals : ℕ → Values) (spent gone : ℕ → Bool) (resync : ℕ) (l : LogView) (on lost : List ℕ) (a b : Seen) (n : ℕ) (c before : Image)
+    → n < 16
+    → MarksCall s t gone l on lost a b → Restates t noted marked view l.added a n → IsSettled noted n a.held
+    → HoldsData n noted resync vals spent a → LogKept s l.number gone a
+    → Picks a before → IsAlike (replayed a.sectors c) (put a.sectors l.added before) → SaysBy t n vals spent (replayed a.sectors c)
+commit_new s t noted marked view vals spent gone resync l on lost a b n c before few call restates settled holds kept picks new =
+    let r : Image = replayed a.sectors c in
+    let e : Image = put a.sectors l.added before in
+    record {
+      is_state =
+          alike_state r e new
+          ∙ joined_state s t l.number gone on call.takes l.added a before call.place kept.logs kept.copies call.brings (stands_of before picks)
+          (kept.few call.place call.was) (kept.there call.place call.was call.left) call.was call.left call.now;
+      shape = noted;
+      says = says_same t n noted vals spent r e (alike_agree n r e few new)
+          (put_says t noted marked view vals spent l.added a n before few restates call.none picks settled holds.open_left holds.current);
     }
 
 -- By the old state it is as it was, by the new one as the targets restate it.
@@ -215,10 +262,10 @@ pub commit_moment : (s t : State) (durable noted : Shape) (vary marked : Bool) (
     → n < 16
     → MarksCall s t gone l on lost a b → Restates t noted marked view l.added a n → IsSettled noted n a.held
     → HoldsShape s n durable noted (v.arrays n).resync vary vals spent a
-    → Stood s durable vals spent gone v a n
+    → l.number ≡ v.number → Stood s durable vals spent gone v a n
     → IsInside a.sectors c → Commits l.added a c
     → SaysBy s n vals spent (replayed a.sectors c) ⊎ SaysBy t n vals spent (replayed a.sectors c)
-commit_moment s t durable noted vary marked view vals spent gone v l on lost a b n c few call restates settled holds stood inside commits =
+commit_moment s t durable noted vary marked view vals spent gone v l on lost a b n c few call restates settled holds number stood inside commits =
     let before = commits.before in
     let picks = before_inside l.added a c before inside commits.stands commits.either in
     let r : Image = replayed a.sectors c in
@@ -228,16 +275,8 @@ commit_moment s t durable noted vary marked view vals spent gone v l on lost a b
           let left = stood_left s durable vals spent gone v a n before stood picks in
           inl (record { is_state = alike_state r e old ∙ left.0; shape = durable; says = says_same s n durable vals spent r e (alike_agree n r e few old) left.1 })
       | inr new ↦
-          let e : Image = put a.sectors l.added before in
-          inr (record {
-            is_state =
-                alike_state r e new
-                ∙ joined_state s t l.number gone on call.takes l.added a before call.place stood.log.logs stood.log.copies call.brings (stands_of before picks)
-                (stood.log.few call.place call.was) (stood.log.there call.place call.was call.left) call.was call.left call.now;
-            shape = noted;
-            says = says_same t n noted vals spent r e (alike_agree n r e few new)
-                (put_says t noted marked view vals spent l.added a n before few restates call.none picks settled holds.open_left holds.current);
-          })
+          inr (commit_new s t noted marked view vals spent gone (v.arrays n).resync l on lost a b n c before few call restates settled (data_of holds)
+          (subst (λ k. LogKept s k gone a) (sym number) stood.log) picks new)
     ]
 
 -- what is said by a state, is said by one between two that it is
@@ -288,12 +327,12 @@ data_kept s t noted gone l on lost a b n few call is_open m sector among counts 
     (no_data l.added n m.place sector call.none few)
 
 -- An array whose members are settled holds for the new state what it held for the old one.
-pub shape_after : (s t : State) (durable noted : Shape) (resync : ℕ) (vary marked vary_now : Bool) (view : View) (vals : ℕ → Values) (spent gone : ℕ → Bool) (l : LogView) (on lost : List ℕ) (a b : Seen) (n : ℕ)
+pub shape_after : (s t : State) (noted : Shape) (resync : ℕ) (marked vary_now : Bool) (view : View) (vals : ℕ → Values) (spent gone : ℕ → Bool) (l : LogView) (on lost : List ℕ) (a b : Seen) (n : ℕ)
     → n < 16 → MarksCall s t gone l on lost a b → Restates t noted marked view l.added a n → IsSettled noted n a.held
-    → HoldsShape s n durable noted resync vary vals spent a
+    → HoldsData n noted resync vals spent a
     → HoldsShape t n noted noted resync vary_now vals spent b
-shape_after s t durable noted resync vary marked vary_now view vals spent gone l on lost a b n few call restates settled holds =
-    marked_holds s t n durable noted resync vary vary_now vals spent a b holds settled call.ready.lasting call.commit.stays
+shape_after s t noted resync marked vary_now view vals spent gone l on lost a b n few call restates settled holds =
+    marked_holds t n noted resync vary_now vals spent a b holds settled call.ready.lasting call.commit.stays
     (data_kept s t noted gone l on lost a b n few call holds.open_left)
     (λ c picks m sector among counts. still_after s t gone l on lost a b n m.place sector c few call picks)
     (λ r left.
@@ -333,31 +372,32 @@ earlier_same t u same =
       events = let e = ap (λ (f : Super). f.events) same in omega arith;
     }
 
--- An array that stands before such a commit, its members settled, stands after it by the new state, without those that went in it.
-pub marks_stood : (s t : State) (durable noted : Shape) (vary marked : Bool) (view : View) (vals : ℕ → Values) (spent gone : ℕ → Bool) (v w : Raid) (l : LogView) (on lost : List ℕ) (a b : Seen) (n : ℕ)
-    → n < 16 → l.number ≡ v.number → w.number ≡ next_number l.number → n < t.joined → t.joined < 17
-    → MarksCall s t gone l on lost a b → Restates t noted marked view l.added a n → IsSettled noted n a.held
-    → HoldsShape s n durable noted (v.arrays n).resync vary vals spent a
-    → NotesLost (w.arrays n) noted (v.arrays n).resync marked view lost n
+-- An array whose members are settled before such a commit stands after it by the new state, without those that went in it. Whoever had gone and takes
+-- a copy hasn't gone after it.
+pub marks_stood : (s t : State) (noted : Shape) (marked : Bool) (view : View) (vals : ℕ → Values) (spent gone : ℕ → Bool) (resync : ℕ) (w : Raid) (l : LogView) (on lost : List ℕ) (a b : Seen) (n : ℕ)
+    → n < 16 → w.number ≡ next_number l.number → n < t.joined → t.joined < 17
+    → Restates t noted marked view l.added a n → IsSettled noted n a.held
+    → HoldsData n noted resync vals spent a
+    → NotesLost (w.arrays n) noted resync marked view lost n
     → ((y : ℕ) → spent y ≡ false → value_by (lowered (names lost) noted) (current_in b.held) n y ≡ value_by noted (current_in b.held) n y)
-    → Stood s durable vals spent gone v a n → Stood t noted vals spent (gone_with gone lost) w b n
-marks_stood s t durable noted vary marked view vals spent gone v w l on lost a b n few number number_now joined arrays call restates settled holds notes same stood =
+    → LogKept s l.number gone a → (call : MarksCall s t gone l on lost a b) → Stood t noted vals spent (gone_but gone call.takes lost) w b n
+marks_stood s t noted marked view vals spent gone resync w l on lost a b n few number_now joined arrays restates settled holds notes same kept call =
     let u = w.arrays n in
     record {
       joined = joined;
       few = arrays;
       number = notes.number;
-      log = subst (λ k. LogKept t k (gone_with gone lost) b) (sym number_now)
-          (joined_after s t gone l on call.takes lost a b call.commit (subst (λ k. LogKept s k gone a) (sym number) stood.log) call.brings call.are_left call.ready call.decides);
+      log = subst (λ k. LogKept t k (gone_but gone call.takes lost) b) (sym number_now)
+          (joined_after s t gone l on call.takes lost a b call.commit kept call.brings call.are_left call.ready call.decides);
       written = notes.written;
-      someone = (call.place, call.now, ap₂ (λ (x : Bool) (y : Bool). x || y) call.left call.stays);
+      someone = (call.place, call.now, ap₂ (λ (x : Bool) (y : Bool). (x && not (names call.takes call.place)) || y) call.left call.stays);
       holds = record {
         shape =
             subst (λ k. HoldsShape t k noted (shape_of u) u.resync (may_vary u) vals spent b) (sym notes.number)
             (subst (λ k. HoldsShape t n noted (shape_of u) k (may_vary u) vals spent b) (sym notes.resync_is)
-            (subst (λ (shape : Shape). HoldsShape t n noted shape (v.arrays n).resync (may_vary u) vals spent b) (sym notes.shape)
-            (noted_holds t n noted noted (v.arrays n).resync (may_vary u) vals spent spent b (names lost)
-            (shape_after s t durable noted (v.arrays n).resync vary marked (may_vary u) view vals spent gone l on lost a b n few call restates settled holds)
+            (subst (λ (shape : Shape). HoldsShape t n noted shape resync (may_vary u) vals spent b) (sym notes.shape)
+            (noted_holds t n noted noted resync (may_vary u) vals spent spent b (names lost)
+            (shape_after s t noted resync marked (may_vary u) view vals spent gone l on lost a b n few call restates settled holds)
             (λ y alive. alive) same)));
         mark = λ is r left tr truth.
             let at = restated_after s t noted marked view gone l on lost a b n r few call restates left in
@@ -410,12 +450,13 @@ frame_moment g s t durable noted marked view vals spent gone v l on lost a b n c
 -- The whole of it: it gives its values at each moment too.
 pub marks_part : (s t : State) (durable noted : Shape) (vary marked : Bool) (view : View) (vals : ℕ → Values) (spent gone : ℕ → Bool) (v w : Raid) (l : LogView) (on lost : List ℕ) (a b : Seen) (n : ℕ)
     → n < 16 → IsAfter s t → l.number ≡ v.number → w.number ≡ next_number l.number → n < t.joined → t.joined < 17
-    → MarksCall s t gone l on lost a b → Restates t noted marked view l.added a n → IsSettled noted n a.held
+    → (call : MarksCall s t gone l on lost a b) → Restates t noted marked view l.added a n → IsSettled noted n a.held
     → HoldsShape s n durable noted (v.arrays n).resync vary vals spent a
     → NotesLost (w.arrays n) noted (v.arrays n).resync marked view lost n → frame_of view.truth ≡ frame_of (v.arrays n).truth
+    → ((p : ℕ) → names call.takes p ≡ true → gone p ≡ false)
     → ((y : ℕ) → spent y ≡ false → value_by (lowered (names lost) noted) (current_in b.held) n y ≡ value_by noted (current_in b.held) n y)
     → Part s t durable noted vals vals spent gone (gone_with gone lost) v w a b n
-marks_part s t durable noted vary marked view vals spent gone v w l on lost a b n few book number number_now joined arrays call restates settled holds notes framed same =
+marks_part s t durable noted vary marked view vals spent gone v w l on lost a b n few book number number_now joined arrays call restates settled holds notes framed fresh same =
     record {
       stays = call.commit.stays;
       book = book;
@@ -423,12 +464,15 @@ marks_part s t durable noted vary marked view vals spent gone v w l on lost a b 
           leaves_weaker (λ c. LogsInside a.sectors c → Commits l.added a c)
           (λ c. IsInside a.sectors c → Stood s durable vals spent gone v a n → SaysBetween s t n vals spent (replayed a.sectors c))
           (λ c commits inside stood.
-          elim (commit_moment s t durable noted vary marked view vals spent gone v l on lost a b n c few call restates settled holds stood inside (commits (λ place i out. inside (log_slice place) i out))) [
+          elim (commit_moment s t durable noted vary marked view vals spent gone v l on lost a b n c few call restates settled holds number stood inside (commits (λ place i out. inside (log_slice place) i out))) [
             | inl old ↦ says_first s t n vals spent (replayed a.sectors c) book old
             | inr new ↦ says_last s t n vals spent (replayed a.sectors c) book new
           ])
           (call.commit.stops traced call.ready call.decides);
-      holds = marks_stood s t durable noted vary marked view vals spent gone v w l on lost a b n few number number_now joined arrays call restates settled holds notes same;
+      holds = λ stood.
+          subst (λ g. Stood t noted vals spent g w b n) (gone_none gone call.takes lost fresh)
+          (marks_stood s t noted marked view vals spent gone (v.arrays n).resync w l on lost a b n few number_now joined arrays restates settled (data_of holds) notes same
+          (subst (λ k. LogKept s k gone a) (sym number) stood.log) call);
       logs = λ copies stood. logs_commit s t gone l on lost a b call book (subst (λ k. LogKept s k gone a) (sym number) stood.log) copies;
       frame = λ g before stood. record {
         leaves = λ traced.

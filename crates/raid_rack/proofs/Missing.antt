@@ -6,6 +6,7 @@ use Rattle.pool_state.specs.declared.contents.Drive.{Drive}
 use Rattle.pool_state.specs.declared.contents.State.{State}
 use Rattle.array_image.specs.States.{is_current}
 use Rattle.array_image.specs.Marks.{Marks}
+use Rattle.commit_log.specs.Kept.{id_of}
 use Rattle.commit_log.specs.View.{names}
 use Rattle.raid_rack.specs.Missing.{missing_if, marked_from, marked}
 
@@ -25,7 +26,7 @@ unfolding marked_from
 length_marked places n [] = refl
 length_marked places n (drive ∷ others) = ap suc (length_marked places (n + 1) others)
 
-get_marked : (places : List ℕ) (n p : ℕ) (drives : List Drive)
+pub get_marked : (places : List ℕ) (n p : ℕ) (drives : List Drive)
     → slice_get (marked_from places n drives) p ≡ option_map (missing_if (names places (n + p))) (slice_get drives p)
 unfolding marked_from
 get_marked places n p [] = refl
@@ -49,6 +50,25 @@ current_marked places s p =
         ≡ (option_map_or (λ drive. not drive.missing) o false && not (names places p))
     by None = refl
     by (Some drive) = of drive.missing (names places p)
+
+-- marks change no id
+pub id_marked : (places : List ℕ) (s : State) (p : ℕ) → id_of (marked places s) p ≡ id_of s p
+id_marked places s p =
+    ap (option_map (λ (d : Drive). d.id.0)) (get_marked places 0 p s.drives.items) ∙ same (slice_get s.drives.items p)
+  where
+    same : (o : Option Drive) → option_map (λ (d : Drive). d.id.0) (option_map (missing_if (names places (0 + p))) o) ≡ option_map (λ (d : Drive). d.id.0) o
+    same None = refl
+    same (Some d) = refl
+
+-- nor units
+pub units_marked : (places : List ℕ) (s : State) (p : ℕ)
+    → option_map (λ (d : Drive). d.units) (slice_get (marked_from places 0 s.drives.items) p) ≡ option_map (λ (d : Drive). d.units) (slice_get s.drives.items p)
+units_marked places s p =
+    ap (option_map (λ (d : Drive). d.units)) (get_marked places 0 p s.drives.items) ∙ same (slice_get s.drives.items p)
+  where
+    same : (o : Option Drive) → option_map (λ (d : Drive). d.units) (option_map (missing_if (names places (0 + p))) o) ≡ option_map (λ (d : Drive). d.units) o
+    same None = refl
+    same (Some d) = refl
 
 -- a drive appended where it isn't missing
 pub current_here : (s : State) (n : ℕ) (d : Drive) → n < length s.drives.items

@@ -10,7 +10,6 @@ use Rattle.arrayvec.specs.ArrayVec.{ArrayVec}
 use Rattle.shr_base.specs.declared.Id.{Id}
 use Rattle.rack.specs.Seen.{Seen}
 use Rattle.slice_rack.specs.Slices.{Slices}
-use Rattle.pool_state.specs.declared.contents.State.{State}
 use Rattle.array_image.specs.Arrays.{place_with}
 use Rattle.array_image.specs.Places.{log_sectors, member_id, slice_of, state_sector}
 use Rattle.array_model.specs.declared.Seat.{Seat}
@@ -209,13 +208,13 @@ module _ (xs ys : List View) (are : AreSameMembers xs ys) where
       ∙ reaches n (get_or xs n no_array) (slice_get-get_or xs n no_array before) (sym (are.seat n place before) ∙ ap (λ (v : View). is_some (seat_of v place)) (sym here) ∙ some)
 
 -- settled, the arrays have the same members
-pub same_members : (r q : Arrays) (x y : Seen) → IsRunning r x → IsRunning q y → q.state ≡ r.state → KeepsArrays (raid_by r) (raid_by q)
+pub same_members : (r q : Arrays) (x y : Seen) → IsRunning r x → IsRunning q y → q.state.made ≡ r.state.made → KeepsArrays (raid_by r) (raid_by q)
     → AreSameMembers r.all.items q.all.items
 same_members r q x y before after same keeps = record {
-  count = after.count ∙ ap (λ (s : State). s.made) same ∙ sym before.count;
+  count = after.count ∙ same ∙ sym before.count;
   size = λ n low. ap (λ k. k + 2048) (keeps n (made n low)).same.geometry.size;
   seat = λ n place low.
-      seat_same ((raid_by r).arrays n) ((raid_by q).arrays n) (before.set.arrays n (made n low)).is_array (after.set.arrays n (subst (λ (s : State). n < s.made) (sym same) (made n low))).is_array
+      seat_same ((raid_by r).arrays n) ((raid_by q).arrays n) (before.set.arrays n (made n low)).is_array (after.set.arrays n (subst (λ k. n < k) (sym same) (made n low))).is_array
       (keeps n (made n low)) place;
 }
   where

@@ -21,12 +21,13 @@ use Rattle.array_model.specs.View.{View, may_vary, seat_reach, shape_of}
 use Rattle.array_model.proofs.Firsts.{position_of}
 use Rattle.array_model.proofs.Keeping.{KeepsData, even_kept, held_kept, logs_of, same_value, settled_kept}
 use Rattle.array_model.proofs.Views.{shape_members}
+use Rattle.raid_rack.specs.Vacated.{DiffersAt}
 use Rattle.raid_rack.specs.Moves.{IsAmid, IsHeeded, IsSeated, IsSet}
 use Rattle.raid_rack.specs.NewDrive.{no_state}
 use Rattle.raid_rack.specs.Raid.{Raid, Stood, gone_in}
 use Rattle.raid_rack.specs.Rows.{LeavesFrom, LeavesRows}
 use Rattle.raid_rack.proofs.Own.{look_nothing}
-use Rattle.raid_rack.proofs.ReseatedLogs.{DiffersAt, as_is_now, live_now, logs_kept, picks_back, put_back, put_back_off, state_now}
+use Rattle.raid_rack.proofs.ReseatedLogs.{as_is_now, live_now, logs_kept, picks_back, put_back, put_back_off, state_now}
 use Rattle.raid_rack.proofs.SaysStill.{CountsOn, says_still, super_still, truth_still}
 use Rattle.raid_rack.proofs.Seating.{current_seat}
 use Rattle.raid_rack.proofs.Whole.{heeded_gone}

@@ -31,16 +31,10 @@ use Rattle.commit_log.proofs.Replayable.{pending_named}
 use Rattle.commit_log.proofs.Restored.{pending_at_by, pending_by, restored, restored_inside, restored_picks, restored_there}
 use Rattle.commit_log.proofs.Undamaged.{whole_by}
 use Rattle.raid_rack.specs.NewDrive.{no_state}
+use Rattle.raid_rack.specs.Vacated.{DiffersAt}
 use Rattle.raid_rack.proofs.Added.{names_current}
 use Rattle.raid_rack.proofs.Over.{not_false}
 use Rattle.raid_rack.proofs.Own.{look_nothing}
-
--- all slices but those of one place are the same, and those that the place has now can be called
-pub record DiffersAt (place : ℕ) (x y : Seen) : Type 0 where
-  pub sectors : (d : ℕ) → place_of d ≢ place → y.sectors d ≡ x.sectors d
-  pub held : (d t : ℕ) → place_of d ≢ place → y.held d t ≡ x.held d t
-  pub live : (d t : ℕ) → place_of d ≢ place → IsLive x x d t → IsLive y y d t
-  pub own : (d t : ℕ) → place_of d ≡ place → t < y.sectors d → IsLive y y d t
 
 -- contents with the place's slices as they read before
 abbrev pub put_back : ℕ → Seen → Image → Image
@@ -61,7 +55,7 @@ pub no_copy : (u : List ℕ) (copy : Copied) → u ≡ no_state → decoded u �
 no_copy u copy zeros is = none-some copy (sym (ap (λ v. result_ok (decoded v)) zeros ∙ zeros_say_none) ∙ ap result_ok is)
 
 -- no target, on no place
-no_targets : (s : State) → Brings s s [] []
+pub no_targets : (s : State) → Brings s s [] []
 unfolding look
 no_targets s = record {
   current = λ p is. is;
@@ -71,7 +65,7 @@ no_targets s = record {
 }
 
 -- contents whose log slices stand, as such contents of all slices
-stands_logs : (x : Seen) (c : Image) → LogsStand x c → Stands x (restored off_log x c)
+pub stands_logs : (x : Seen) (c : Image) → LogsStand x c → Stands x (restored off_log x c)
 stands_logs x c stand = record {
   picks = restored_picks off_log x c (λ d t live here.
       let slice : slice_of d ≡ 0 = eqb-true (slice_of d) 0 (not_false (slice_of d == 0) here) in
@@ -111,13 +105,13 @@ module _ (place : ℕ) (x y : Seen) (differs : DiffersAt place x y) where
     inside = λ d t past. inside_back c d t past (picks.inside d t);
   }
 
-  logs_back : (c : Image) → LogsStand y c → LogsStand x (put_back place x c)
+  pub logs_back : (c : Image) → LogsStand y c → LogsStand x (put_back place x c)
   logs_back c stand = record {
     picks = λ p t live. pick_back c (log_slice p) t live (stand.picks p t);
     inside = λ p t past. inside_back c (log_slice p) t past (stand.inside p t);
   }
 
-  stands_back : (c : Image) → Stands y c → Stands x (put_back place x c)
+  pub stands_back : (c : Image) → Stands y c → Stands x (put_back place x c)
   stands_back c stand = record {
     picks = λ d t live. pick_back c d t live (stand.picks d t);
     inside = λ p t past. inside_back c (log_slice p) t past (stand.inside p t);

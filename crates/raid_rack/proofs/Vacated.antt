@@ -13,6 +13,7 @@ use Rattle.array_model.specs.declared.Seat.TheVariants.{Missing}
 use Rattle.array_model.specs.Members.{slice_on}
 use Rattle.array_model.specs.View.{has_gone, place_at}
 use Rattle.array_core.proofs.TruthHeld.{slice_place}
+use Rattle.raid_rack.specs.Vacated.{DiffersAt}
 use Rattle.raid_rack.specs.Laws.{live_parts}
 use Rattle.raid_rack.specs.Moves.{IsAmid, IsHeeded, IsSet}
 use Rattle.raid_rack.specs.NewDrive.{no_state}
@@ -21,7 +22,6 @@ use Rattle.raid_rack.specs.Rows.{LeavesRows}
 use Rattle.raid_rack.proofs.Reseated.{reseated_amid, reseated_rows}
 use Rattle.raid_rack.specs.Truths.{KeepsTruths}
 use Rattle.raid_rack.proofs.Truths.{missing_none}
-use Rattle.raid_rack.proofs.ReseatedLogs.{DiffersAt}
 use Rattle.raid_rack.proofs.Seating.{others_set}
 use Rattle.raid_rack.proofs.Whole.{amid_stood, stood_keeps, stood_own, told_amid}
 

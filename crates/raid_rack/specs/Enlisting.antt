@@ -1,5 +1,5 @@
--- A new drive is taken in at a place whose drive is missing: what a rack of arrays is after it, and what stops leave meanwhile.
-use Rattle.std.specs.Prelude.{◌≡◌, ◌⊎◌, ℕ, ◌+◌, ◌<◌, ◌≤◌, Bool, true, false, List, length, Option, Some, option_map, slice_set, if◌then◌else◌}
+-- A new drive is taken in at a place, whose drive is missing or gives way to it: what a rack of arrays is after it, and what stops leave meanwhile.
+use Rattle.std.specs.Prelude.{◌≡◌, ◌⊎◌, ℕ, ◌+◌, ◌<◌, ◌≤◌, ◌==◌, Bool, true, false, List, length, Ok, Option, Some, option_map, slice_set, if◌then◌else◌}
 use Rattle.rack.specs.Values.{Values, IsSingle, Keeps, MayLeave}
 use Rattle.rack.specs.Seen.{Image, Seen, Rose, IsLive}
 use Rattle.rack.specs.Moments.{Leaves}
@@ -13,11 +13,13 @@ use Rattle.gpt_table.specs.Plans.{IsOfTable}
 use Rattle.slice_rack.specs.Slices.{Slices, sectors_of as sectors_sliced}
 use Rattle.slice_rack.specs.Sliced.{slices_of, sliced}
 use Rattle.slice_rack.specs.Runs.{IsSliced}
+use Rattle.pool_state.specs.Sector.{decoded}
+use Rattle.pool_state.specs.declared.contents.Copied.{Copied}
 use Rattle.pool_state.specs.declared.contents.Plan.{Plan}
 use Rattle.pool_state.specs.declared.contents.State.{State}
 use Rattle.array_image.specs.Places.{drive_id, log_sectors, log_slice, member_slice}
-use Rattle.array_image.specs.Record.{gate_sector}
-use Rattle.array_image.specs.States.{is_current, state_in}
+use Rattle.array_image.specs.Record.{GateAt, gate_sector, pending_at}
+use Rattle.array_image.specs.States.{current_places, is_current, state_in}
 use Rattle.array_image.specs.Arrays.{Shape, replayed}
 use Rattle.array_image.specs.Held.{IsSettled}
 use Rattle.array_image.specs.Left.{IsInside}
@@ -25,6 +27,7 @@ use Rattle.array_model.specs.ArrayCalls.{Covers}
 use Rattle.array_model.specs.View.{View, HasFault, sectors_of, shape_of, spent_in}
 use Rattle.array_model.specs.Says.{Says}
 use Rattle.array_core.specs.Seats.{renewed}
+use Rattle.array_core.specs.Superblocks.{is_settled}
 use Rattle.array_core.specs.TruthHeld.{HoldTruth}
 use Rattle.commit_log.specs.Bytes.{first_gate}
 use Rattle.raid_rack.specs.Book.{IsAfter}
@@ -40,7 +43,8 @@ use Rattle.raid_rack.specs.Raid.{Raid, IsTold, held_in, is_over, live_of, spent_
 use Rattle.raid_rack.specs.Truths.{KeepsTruths}
 use Rattle.raid_rack.specs.Rows.{KeepsRows, LeavesFrom, LeavesRows}
 use Rattle.raid_rack.specs.Runs.{KeepsMoments}
-use Rattle.raid_rack.specs.Since.{AreJoinSince, AreSince, HoldsJoinSince, HoldsSince, KeepsJoinSince}
+use Rattle.raid_rack.specs.Since.{AreJoinSince, AreSince, AreTakenSince, HoldsJoinSince, HoldsSince, HoldsTakenSince, KeepsJoinSince, KeepsTakenSince}
+use Rattle.raid_rack.specs.Vacated.{FindsArray, IsFormerly}
 
 -- ---- the book
 
@@ -118,6 +122,46 @@ pub record SaysJoining (t u : Slices) (disk : ℕ) (table : Table) (next : State
   pub since : AreJoinSince v.state next (sectors_sliced u) (sliced u c)
   pub frame : HasFrame (frame_of (v.arrays n).truth) n (replayed (sectors_sliced u) (sliced u c))
 
+-- Where the place was current, it has another disk by the tables after, and the old disk isn't written any more. Contents of the slices before say array n, while
+-- the record of the new drive doesn't count yet: by the state before, as at a stop before the call. The slices are by one table, of these lengths.
+pub record SaysFormer (v : Raid) (a : Seen) (n : ℕ) (vals : ℕ → Values) (spent : ℕ → Bool) (sectors : ℕ → ℕ) (c : Image) : Type 0 where
+  pub says : SaysBy v.state n vals spent (replayed sectors c)
+  pub rows : LeavesRows v a n → LeavesFrom (v.arrays n).resync n (replayed sectors c)
+  pub logs : SaysState v.state sectors c
+  pub since : AreSince v.state sectors c
+  pub frame : HasFrame (frame_of (v.arrays n).truth) n (replayed sectors c)
+
+-- As they stand log slices say the state before yet: the record that is pending brings the first state that has the new drive, and it is of a later number than the
+-- log had before.
+pub record StandsYet (s next : State) (number : ℕ) (sectors : ℕ → ℕ) (c : Image) (stood : State) : Type 0 where
+  pub before : stood ≡ s
+  pub brings : state_in (replayed sectors c) ≡ Some next
+  pub later : (g : GateAt) → pending_at (current_places s) c ≡ Some g → number < g.gate.number
+
+-- From then on contents of the slices after say it, by a state that has the new drive; `s` is the state before, and `number` the log's then. As they stand the log
+-- slices say such a state too, or the one before yet.
+pub record SaysLatter (s next : State) (number : ℕ) (w : Raid) (n : ℕ) (vals : ℕ → Values) (spent : ℕ → Bool) (g : Frame) (sectors : ℕ → ℕ) (c : Image) : Type 0 where
+  pub says : SaysBetween next w.state n vals spent (replayed sectors c)
+  pub logs : LogsBetween next w.state sectors c
+  pub stands : (stood : State) → state_in c ≡ Some stood → IsAfter next stood ⊎ StandsYet s next number sectors c stood
+  pub frame : HasFrame g n (replayed sectors c)
+
+-- contents have no copy of a state on a place
+abbrev pub HasNoCopy : ℕ → Image → Type 0
+HasNoCopy place c = (copy : Copied) → decoded (c (log_slice place) 0) ≡ Ok copy → ⊥
+
+-- So contents of the drives say it from the time on when the slices of the new disk were added, and this disk holds its table. Which slices they are said by is told by
+-- the state that those after say once replayed, so it is one for all arrays. Each other place that was current has its own copy, of the state before or of one that has
+-- the new drive; the place of the new drive has one of these at most, and none before the record counts.
+pub record SaysReplacing (t u : Slices) (place disk : ℕ) (table : Table) (next : State) (v w : Raid) (a : Seen) (n : ℕ) (vals : ℕ → Values) (c : Image) : Type 0 where
+  pub holds : HoldsTable disk table c
+  pub says :
+      (SaysFormer v (slices_of t a) n vals (spent_of w n) (sectors_sliced t) (sliced t c) × HasNoCopy place (sliced u c)
+      × (state_in (replayed (sectors_sliced u) (sliced u c)) ≡ Some v.state))
+      ⊎ (SaysLatter v.state next v.number w n vals (spent_of w n) (frame_of (v.arrays n).truth) (sectors_sliced u) (sliced u c)
+      × (LeavesRows v (slices_of t a) n → LeavesFrom (v.arrays n).resync n (replayed (sectors_sliced u) (sliced u c))))
+  pub since : AreTakenSince (λ p. p == place) v.state next (sectors_sliced u) (sliced u c)
+
 -- each sector of a disk can be called, and is told
 abbrev pub IsOpenDisk : Seen → ℕ → Type 0
 IsOpenDisk x disk = (s : ℕ) → s < x.sectors disk → IsLive x x disk s
@@ -131,12 +175,18 @@ pub record KeepsTold (t u : Slices) (place disk units : ℕ) (plan : Plan) (tabl
   pub before :
       a.traced → is_over w n ≡ false → (k : ℕ) (c : Image) → a.clock < k → k ≤ mid → b.stops k c
       → SaysLaying t disk v w a n (held_in v (slices_of t a) n) c
+  -- where the place's drive was missing
   pub after :
-      a.traced → is_over w n ≡ false → (k : ℕ) (c : Image) → mid < k → k ≤ b.clock → b.stops k c
+      is_current v.state place ≡ false → a.traced → is_over w n ≡ false → (k : ℕ) (c : Image) → mid < k → k ≤ b.clock → b.stops k c
       → SaysJoining t u disk table (enlisted place units plan v.state) v w a n (held_in v (slices_of t a) n) c
+  -- and where it wasn't
+  pub replacing :
+      is_current v.state place ≡ true → a.traced → is_over w n ≡ false → (k : ℕ) (c : Image) → mid < k → k ≤ b.clock → b.stops k c
+      → SaysReplacing t u place disk table (enlisted place units plan v.state) v w a n (held_in v (slices_of t a) n) c
   pub framed : is_over w n ≡ false → frame_of (w.arrays n).truth ≡ frame_of (v.arrays n).truth
   -- also a drive that is marked in the call has its place's own copy
-  pub since : is_over w n ≡ false → HoldsJoinSince v.state (enlisted place units plan v.state) (slices_of u b)
+  pub since : is_current v.state place ≡ false → is_over w n ≡ false → HoldsJoinSince v.state (enlisted place units plan v.state) (slices_of u b)
+  pub copied : is_current v.state place ≡ true → is_over w n ≡ false → HoldsTakenSince (λ p. p == place) v.state (enlisted place units plan v.state) (slices_of u b)
   pub rows : is_over w n ≡ false → LeavesRows v (slices_of t a) n → ((v.arrays n).resync ≤ (w.arrays n).resync) × LeavesRows w (slices_of u b) n
 
 -- a sector of the new disk's tables, its state or its gate, or one of a slice
@@ -176,7 +226,7 @@ pub record IsRefused (t : Slices) (disk : ℕ) (v : Raid) (a b : Seen) : Type 0 
   pub moments : KeepsMoments v v (slices_of t a) (slices_of t b)
   pub truths : KeepsTruths v v (slices_of t a) (slices_of t b)
 
--- Another drive than the new one was found gone and is marked: the drive isn't taken in. But for the marks all is as before, and so it is at each moment of the call.
+-- Another drive than the new one was found gone and is marked, it may be that of the place: the drive isn't taken in. But for the marks all is as before, and so it is at each moment of the call.
 pub record IsNotWhole (t : Slices) (disk : ℕ) (v w : Raid) (a b : Seen) : Type 0 where
   pub only : WritesOnly a b (IsWrittenBy t disk (a.sectors disk))
   pub mends : Mends v w (slices_of t a) (slices_of t b)
@@ -237,6 +287,27 @@ pub record JoinsPart (place units : ℕ) (plan : Plan) (v w : Raid) (a b : Seen)
   pub since : HoldsCopies v.state a → HoldsSince v.state a → KeepsJoinSince v.state (enlisted place units plan v.state) a b
   -- its size and its members' places stay
   pub frame : (g : Frame) → frame_of (v.arrays n).truth ≡ g → KeepsFrame g n (w.arrays n) a b
+
+-- The same of an array that is found so over these slices, where images have the state s: at each moment contents are as before the commit, or they say the array by a
+-- state that has the new drive. That leaves no rows to resync but the array's, where its truth leaves no others.
+pub record FindsPart (place units : ℕ) (plan : Plan) (s : State) (v w : Raid) (a b : Seen) (n : ℕ) (vals : ℕ → Values) (spent : ℕ → Bool) : Type 0 where
+  pub leaves :
+      a.traced
+      → Leaves a b (λ c. IsInside a.sectors c
+      → IsFormerly place a c
+      ⊎ (SaysLatter s (enlisted place units plan v.state) v.number w n vals spent (frame_of (v.arrays n).truth) a.sectors c
+      × (is_settled (v.arrays n) ≡ true → (v.arrays n).young ≡ false → LeavesFrom (v.arrays n).resync n (replayed a.sectors c))))
+  pub since : (new : ℕ → Bool) → HoldsTakenSince new s (enlisted place units plan v.state) a → KeepsTakenSince new s (enlisted place units plan v.state) a b
+  pub holds : IsAmid w b n vals spent
+  pub rows : is_settled (v.arrays n) ≡ true → (v.arrays n).young ≡ false → ((v.arrays n).resync ≤ (w.arrays n).resync) × LeavesRows w b n
+  pub frame : frame_of (w.arrays n).truth ≡ frame_of (v.arrays n).truth
+
+-- all arrays that are
+abbrev pub FindsEach : (place units : ℕ) → Plan → Raid → Raid → Seen → Seen → Type 0
+FindsEach place units plan v w a b =
+    IsNewLog place a → has_other w.state place ≡ true
+    → (s : State) (before : ℕ → Bool) (n : ℕ) (vals : ℕ → Values) (spent : ℕ → Bool) → n < v.state.joined → n < v.state.made → is_over w n ≡ false
+    → Covers (w.arrays n) spent → FindsArray s before place v a n vals spent → FindsPart place units plan s v w a b n vals spent
 
 -- all arrays that stand and are settled, where a drive is left that the pool had
 abbrev pub JoinsEach : (place units : ℕ) → Plan → Raid → Raid → Seen → Seen → Type 0

@@ -4,6 +4,7 @@ pub mod Logs
 pub mod Since
 pub mod Frames
 pub mod Missing
+pub mod Vacated
 pub mod Acts
 pub mod Marking
 pub mod Losses

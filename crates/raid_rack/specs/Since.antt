@@ -1,5 +1,6 @@
 -- The copies of states that stand in log slices, as calls leave them that began with one state: what stands, and not what replaying gives.
-use Rattle.std.proofs.Common.{◌≡◌, ◌⊎◌, ℕ, ◌<◌, ◌≤◌, true, false, List, Ok, sym, subst}
+use Rattle.std.proofs.Common.{◌≡◌, ◌⊎◌, ℕ, ◌<◌, ◌≤◌, Bool, true, false, List, Ok, refl, sym, subst, inl, inr}
+use Rattle.std.proofs.lemmas.Bool.{both_ways}
 use Rattle.rack.specs.Moments.{Leaves}
 use Rattle.rack.specs.Joins.{leaves_same, leaves_then, leaves_weaker}
 use Rattle.rack.specs.Seen.{Image, Seen}
@@ -31,6 +32,27 @@ pub record IsJoinSince (s next : State) (p : ℕ) (block : List ℕ) : Type 0 wh
   pub own : is_current s p ≡ true → HasOwnSince s p block ⊎ HasOwnSince next p block
   pub joins : (copy : Copied) → is_current s p ≡ false → is_current next p ≡ true → decoded block ≡ Ok copy → HasOwnSince next p block
   pub former : (copy : Copied) → is_current s p ≡ false → is_current next p ≡ false → decoded block ≡ Ok copy → copy.state.epoch < s.epoch
+
+-- The same, where `new` are places of which the drive is another one by `next`, though they may have been current by s: such a place is as one that joins.
+pub record IsTakenSince (new : ℕ → Bool) (s next : State) (p : ℕ) (block : List ℕ) : Type 0 where
+  pub own : new p ≡ false → is_current s p ≡ true → HasOwnSince s p block ⊎ HasOwnSince next p block
+  pub joins : (copy : Copied) → (new p ≡ true) ⊎ (is_current s p ≡ false) → is_current next p ≡ true → decoded block ≡ Ok copy → HasOwnSince next p block
+  pub former : (copy : Copied) → is_current s p ≡ false → is_current next p ≡ false → decoded block ≡ Ok copy → copy.state.epoch < s.epoch
+
+-- where no place has another drive
+pub taken_none : (s next : State) (p : ℕ) (block : List ℕ) → IsJoinSince s next p block → IsTakenSince (λ q. false) s next p block
+taken_none s next p block at = record {
+  own = λ old was. at.own was;
+  joins = λ copy how now is. elim how [ inl new ↦ absurd (both_ways false refl new) | inr past ↦ at.joins copy past now is ];
+  former = at.former;
+}
+
+pub taken_join : (s next : State) (p : ℕ) (block : List ℕ) → IsTakenSince (λ q. false) s next p block → IsJoinSince s next p block
+taken_join s next p block at = record {
+  own = λ was. at.own refl was;
+  joins = λ copy past now is. at.joins copy (inr past) now is;
+  former = at.former;
+}
 
 -- something holds of the sector of a place's copy, in contents of log slices, on each place that has one
 abbrev pub AreEach : (ℕ → List ℕ → Type 0) → (ℕ → ℕ) → Image → Type 0
@@ -64,6 +86,25 @@ HoldsJoinSince s next x = HoldsEach (IsJoinSince s next) x
 
 abbrev pub KeepsJoinSince : (s next : State) → Seen → Seen → Type 0
 KeepsJoinSince s next a b = KeepsEach (IsJoinSince s next) a b
+
+-- copies while places get other drives
+abbrev pub AreTakenSince : (ℕ → Bool) → (s next : State) → (ℕ → ℕ) → Image → Type 0
+AreTakenSince new s next sectors c = AreEach (IsTakenSince new s next) sectors c
+
+abbrev pub HoldsTakenSince : (ℕ → Bool) → (s next : State) → Seen → Type 0
+HoldsTakenSince new s next x = HoldsEach (IsTakenSince new s next) x
+
+abbrev pub KeepsTakenSince : (ℕ → Bool) → (s next : State) → Seen → Seen → Type 0
+KeepsTakenSince new s next a b = KeepsEach (IsTakenSince new s next) a b
+
+-- what follows of each
+pub each_weaker : (P Q : ℕ → List ℕ → Type 0) (a b : Seen) → ((p : ℕ) (u : List ℕ) → P p u → Q p u) → KeepsEach P a b → KeepsEach Q a b
+each_weaker P Q a b follows keeps = record {
+  leaves = λ traced.
+      leaves_weaker (λ c. IsInside a.sectors c → AreEach P a.sectors c) (λ c. IsInside a.sectors c → AreEach Q a.sectors c)
+      (λ c each inside p few there. follows p (c (log_slice p) 0) (each inside p few there)) (keeps.leaves traced);
+  holds = λ p u few there may. follows p u (keeps.holds p u few there may);
+}
 
 -- where nothing is called
 pub each_still : (P : ℕ → List ℕ → Type 0) (x : Seen) → HoldsEach P x → KeepsEach P x x

@@ -1,22 +1,23 @@
-//! A new drive is taken in at a place whose drive is missing.
+//! A new drive is taken in at a place, whose drive is missing or gives way to it.
 
-ghost use Rattle.std.specs.Prelude.{◌≡◌, ◌≢◌, ◌<◌, ◌≤◌, ◌+◌, ◌-◌, ◌^◌, ℕ, All, Err, Some, OnOk, OnErr, true, false, [], length, slice_get, slice_set, option_map};
+ghost use Rattle.std.specs.Prelude.{◌≡◌, ◌≢◌, ◌<◌, ◌≤◌, ◌+◌, ◌-◌, ◌^◌, ℕ, All, Err, Some, OnOk, OnErr, true, false, [], ◌∷◌, length, slice_get, slice_set, option_map};
 ghost use Rattle.slice_rack.specs.SliceRack.{below_of, tables};
 ghost use Rattle.slice_rack.specs.Slices.{seat_of as disk_at};
 ghost use Rattle.array_image.specs.States.{is_current};
 ghost use Rattle.array_model.specs.View.{View};
 ghost use Rattle.array_model.specs.declared.Seat.TheVariants.{Missing};
-ghost use Rattle.array_core.specs.Seats.{seat_of};
+ghost use Rattle.array_core.specs.Seats.{gone, heeded, seat_of};
 ghost use Rattle.raid_rack.specs.Moves.{IsHeeded, Mends, RaisesBy};
 ghost use Rattle.raid_rack.specs.NewDrive.{ReachesAll, SeatsDrive, joins};
 ghost use Rattle.raid_rack.specs.Settling.{HasStaged};
 ghost use Rattle.raid_rack.specs.RaidRack.{IsFit, IsRunning, arrays_in, arrays_of, is_written, raid_by, raid_in, refused_in, slices_in, slices_seen, written_in};
 ghost use Rattle.raid_rack.specs.Truths.{JoinsTruths, KeepsTruths};
+ghost use Rattle.raid_rack.specs.Vacated.{vacated_state};
 ghost use Rattle.raid_rack.specs.Enlisting as spec;
 
 use crate::arrays::{Arrays, RaidRack};
 use crate::losses::{add_copies, heed_all, newly_gone, note_gone};
-use crate::marks::{current_places, raised};
+use crate::marks::{current_places, marked, raised};
 use crate::new_drive::{joining, lay_drive, seat_drive, table_of};
 use arrayvec::ArrayVec;
 use pool_state::{Drive, Plan, State};
@@ -28,7 +29,7 @@ use shr_base::{Id, child_id};
 pub enum EnlistFault {
     /// The new drive refused a call before it was one of the pool.
     Gone,
-    /// Another drive than the one to be replaced was found gone, and is marked: the pool isn't whole but for one place.
+    /// Another drive than the new one was found gone, and is marked. It may be the one that gives way: then the place's drive is missing.
     NotWhole,
 }
 
@@ -97,6 +98,20 @@ impl Arrays {
         true
     }
 
+    /// Makes the drive of a place missing in memory alone, with its members, before a commit gives the place another one. It may be missing
+    /// already. Nothing is called, and nobody has gone after it.
+    fn retire(&mut self, place: u32)
+        ensures state { self.new.state ≡ vacated_state place self.old.state }
+        ensures each { (n : ℕ) → slice_get self.new.all.items n ≡ option_map heeded (option_map (gone (place ∷ [])) (slice_get self.old.all.items n)) }
+        ensures rest { self.new ≡ record self.old { state = self.new.state; all = self.new.all } }
+    {
+        let mut places = Places::new();
+        places.push(place);
+        note_gone(self.all.as_mut_slice(), &places);
+        heed_all(self.all.as_mut_slice());
+        self.state.drives = marked(self.state.drives.as_slice(), &places);
+    }
+
     /// Makes the member of a place one that is to be rebuilt from its start, in these arrays. It is missing there.
     fn renew_members(&mut self, place: u32, joining: &[bool; 16])
         requires few { length self.old.all.items ≤ 16 }
@@ -147,6 +162,8 @@ impl Arrays {
         ensures raises { RaisesBy 18 (raid_by self.old) (raid_by self.new) }
         ensures fit { IsFit self.new (S.seen rack.new) }
         ensures each { spec.JoinsEach place units plan (raid_by self.old) (raid_by self.new) (S.seen rack.old) (S.seen rack.new) }
+        // Also where images have the place as current yet, by its old drive.
+        ensures finds { spec.FindsEach place units plan (raid_by self.old) (raid_by self.new) (S.seen rack.old) (S.seen rack.new) }
         ensures truths { JoinsTruths (spec.with_drive place units plan (joins self.old.all.items place sectors) (raid_by self.old)) (raid_by self.new) (S.seen rack.old) (S.seen rack.new) }
         ensures runs { S.runs rack.old rack.new }
     {
@@ -164,16 +181,17 @@ impl Arrays {
 }
 
 impl<R: Rack> RaidRack<R> {
-    /// Takes a new drive in, on a disk of the rack of drives, at a place whose drive is marked missing. The disk gets a partition table, and
-    /// slices for the log and for each array that the place is a member of, which it reaches; its members there are to be rebuilt
-    /// from their start. It is one of the pool by one commit on the drives that are left, which is durable when this returns: in what a
-    /// stop leaves before it the disk is none of the pool's. No value of an array moves.
+    /// Takes a new drive in, on a disk of the rack of drives, at a place whose drive is marked missing or gives way to it. The disk gets a
+    /// partition table, and slices for the log and for each array that the place is a member of, which it reaches; its members there are to
+    /// be rebuilt from their start. It is one of the pool by one commit on the drives that are left, which is durable when this returns: in
+    /// what a stop leaves before it the disk is none of the pool's. No value of an array moves. A drive that gives way isn't written from
+    /// the time on when the slices of the new disk are added; it is the place's in what a stop leaves before the commit.
     ///
     /// `units` are those of the drive that it replaces, and the disk has room for the log slice and the table.
     ///
     /// `Gone`: the disk refused a call before the commit; the pool is as it was, and of the disk its tables, its state's sector and its
-    /// gate may be written. `NotWhole`: another drive was found gone before it; that one is marked, and but for this the pool is as it
-    /// was. A drive that goes in the commit, also the new one, is marked when this returns.
+    /// gate may be written. `NotWhole`: another drive was found gone before it, it may be that of the place; it is marked, and but for
+    /// this the pool is as it was. A drive that goes in the commit, also the new one, is marked when this returns.
     pub fn enlist(
         &mut self,
         place: u32,
@@ -183,7 +201,6 @@ impl<R: Rack> RaidRack<R> {
     ) -> Result<(), EnlistFault>
         requires fit { IsFit (arrays_in self.old) (slices_seen R.seen self.old) }
         requires listed { place < length (raid_in self.old).state.drives.items }
-        requires missing { is_current (raid_in self.old).state place ≡ false }
         requires others { (p : ℕ) → p < length (raid_in self.old).state.drives.items → p ≢ place → is_current (raid_in self.old).state p ≡ true }
         requires units { option_map (λ d. d.units) (slice_get (raid_in self.old).state.drives.items place) ≡ Some units }
         requires plan { plan ≡ Plan.Replace place }
@@ -219,6 +236,7 @@ impl<R: Rack> RaidRack<R> {
         if !self.arrays.settle_whole(&mut self.slices) {
             return Err(EnlistFault::NotWhole);
         }
+        self.arrays.retire(place);
         seat_drive(
             &mut self.slices,
             self.arrays.all.as_slice(),

@@ -69,17 +69,24 @@
 //! end of a plan (`ClosesPlan`) is a commit of the state's copies alone. A work is one of these three (`Does`), where it is due
 //! (`is_due`).
 //!
-//! **A new drive** at a place whose drive is missing ([`RaidRack::enlist`]) gets its table, zeros in the place of a state and the closed gate
+//! **A new drive** at a place ([`RaidRack::enlist`]), whose drive is missing or gives way to it, gets its table, zeros in the place of a state and the closed gate
 //! with number 0 (`LaysDrive`), and slices for the log and for each array that it is a member of and reaches (`SeatsDrive`). Calls on a
 //! disk that has no place are reads to the slices (`reads_apart` of proofs/Apart.antt). Then one commit on the drives that are left has the
 //! state with it, a copy for it too, and the superblocks, by which its members are to be rebuilt from their start. So it is one of the
 //! pool in no image before that commit, and in each after it; and since its members count nowhere yet, no value moves (`Enlists`).
-//! The slices by the new tables differ from those by the old ones at the drive's place alone, which isn't current, so arrays stand over
+//! The slices by the new tables differ from those by the old ones at the drive's place alone. Where that isn't current, arrays stand over
 //! them as they did (`reseated_amid` of proofs/Reseated.antt). What a stop leaves is read by the old tables until the slices are added
 //! (`SaysLaying`), and from then on by the new ones, where the disk holds its table (`SaysJoining`). The moment alone tells which, so an
 //! image is read by the same tables for all arrays. As the log slices stand, each place that was current has its own copy, of the state
 //! before or of one with the drive, and the drive's place has none but its own (`AreJoinSince`); so it is after the call too, also on a
-//! drive that is marked in it. Where the drive isn't taken in, stops leave of the slices what they leave in any call (`KeepsMoments`).
+//! drive that is marked in it.
+//!
+//! A drive that gives way is vacated in memory alone (`vacated`), with its members, before the slices are added: so the commit is that of
+//! a place whose drive is missing. By the new tables images don't say the arrays then, since the new disk may have old superblocks of
+//! this place. What the commit needs is less (`FindsArray`): the logs without the place, and the data of the members that are left. While
+//! its record doesn't count (`IsFormerly`) contents are read by the old tables and the state before, the old drive's disk not being
+//! written, and no log is damaged there (`former_says` of proofs/FormerSays.antt); from then on by the new tables and a state with the
+//! drive (`SaysReplacing`). Where the drive isn't taken in, stops leave of the slices what they leave in any call (`KeepsMoments`).
 //!
 //! **A disk that is given up** ([`RaidRack::vacate`]), where its drive is marked missing, takes the slices of its place with it. The
 //! arrays stand over the slices that are left as they did (`vacated_told`, `vacated_keeps`, `vacated_rows` of proofs/Vacated.antt).

@@ -49,7 +49,7 @@ pub(crate) fn raised(epoch: u64) -> u64
 }
 
 /// Drives of which some are lost.
-fn marked(drives: &[Drive], lost: &Places) -> ArrayVec<Drive, 16>
+pub(crate) fn marked(drives: &[Drive], lost: &Places) -> ArrayVec<Drive, 16>
     requires { length drives.now ≤ 16 }
     ensures { result.items ≡ spec.marked_from lost.now.items 0 drives.now }
 {

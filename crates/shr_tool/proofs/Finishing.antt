@@ -6,6 +6,7 @@ use Rattle.assembler.specs.Sound.{TargetsLand}
 use Rattle.pool_image.specs.Drives.{Found}
 use Rattle.pool_model.specs.Taken.{AreSerial}
 use Rattle.raid_rack.specs.Raid.{IsTold, is_over}
+use Rattle.pool.specs.Keeping.{KeepsBook}
 use Rattle.flat_array.specs.Array.{FlatArray, flushed}
 use Rattle.lvm_group.specs.Runs.{Linear}
 use Rattle.pool.specs.Continuing.{Continues, KeepsOutside}
@@ -80,7 +81,7 @@ ends_at x m y a events ran ends unspent =
       after = ends.passes.marks;
       cause =
           λ place was now. elim (ends.marks place was now) [ inl rose ↦ rose | inr never ↦ absurd never ];
-      stands = standing m y 1 ends.passes.stays.fit ends.passes.book ends.raises;
+      stands = standing m y KeepsBook 1 ends.passes.stays.fit ends.passes.book ends.raises;
       held = λ serving d s low within unsliced.
           (outside_of m y (λ d. ⊥) ends.passes unspent).held d s
           (record { disk = low; sector = within; is_told = (ran.holds a serving.0).disks d low; unnamed = λ never. never; unsliced = unsliced });

@@ -67,12 +67,11 @@ module _ {L : Type 0} {o : Option Lone} (x y : View) (place : ℕ) (name : List 
     (outside : KeepsOutside x.slices y.slices (λ d. slice_get y.shelf.names d ≡ Some name) x.shelf.told x.bay y.bay) (changes : ChangesDrive x y place name)
     (told : (d : ℕ) → d < y.bay.disks → y.bay.told d) (f : Found) (goes : GoesBy L o f x) (d : ℕ) (seat : f.seats place ≡ Some d) (same : x.slices ≡ goes.tables)
     (on : seat_of x.slices place ≡ Some d) (unnamed : IsNamed (moment_of y) name d → ⊥) (bare : (s : ℕ) (w : List ℕ) → IsSliced y.slices d s w → ⊥) {b : FlatArray}
-    (holds : Holds x b) (s : ℕ) (within : s < size_of x) (alive : is_spent x s ≡ false) (listed : place < length (book x).state.drives.items)
-    (missing : is_current (book x).state place ≡ false) where
-  there : d < x.bay.disks
+    (holds : Holds x b) (s : ℕ) (within : s < size_of x) (alive : is_spent x s ≡ false) (listed : place < length (book x).state.drives.items) where
+  pub there : d < x.bay.disks
   there = fit.0.running.set.fit.1.seats place d on
 
-  sector : state_sector < x.bay.sectors d
+  pub sector : state_sector < x.bay.sectors d
   sector =
       let lies = log_lies f goes.tables place d goes.service.slices seat in
       let first = ap (λ (u : Slices). first_of u (log_slice place)) same ∙ lies.0 in
@@ -83,20 +82,20 @@ module _ {L : Type 0} {o : Option Lone} (x y : View) (place : ℕ) (name : List 
       let here : x.bay.sectors (disk_of x.slices (log_slice place)) ≡ x.bay.sectors d = ap x.bay.sectors disk in
       omega (arith, room, first, many, here)
 
-  live : IsLive y.bay y.bay d state_sector
+  pub live : IsLive y.bay y.bay d state_sector
   live =
       let low : d < y.bay.disks = (let at = there in let more = continues.disks in omega (arith, at, more)) in
       record { disk = low; sector = subst (λ n. state_sector < n) (sym (continues.sectors d there)) sector; is_told = told d low; unspent = unspent d state_sector }
 
-  small : place < 16
+  pub small : place < 16
   small = let few = fit.0.running.set.few in omega (arith, listed, few)
 
-  pub lost_below : (i : Image) → IsPickOff y.slices y.bay i → (copy : Copied) → (identities_of (disks_of y.bay) i d).copied ≡ Some copy
+  pub lost_below : is_current (book x).state place ≡ false → (i : Image) → IsPickOff y.slices y.bay i → (copy : Copied) → (identities_of (disks_of y.bay) i d).copied ≡ Some copy
       → copy.state.epoch < (book x).state.epoch
-  lost_below =
+  lost_below missing =
       lost_before f goes.tables y.slices (book x) x.bay y.bay place d d goes.service.slices seat small missing (array_of x.linear s)
       (subst (λ (u : Slices). IsTold (book x) (slices_of u x.bay) (array_of x.linear s)) same (told_by x b s fit holds within alive)) (not_over x.linear (book x) s alive) live
-      ((changes.retired d on unnamed).held state_sector sector (holds.disks d there)) (λ w is. bare state_sector w is)
+      ((changes.retired missing d on unnamed).held state_sector sector (holds.disks d there)) (λ w is. bare state_sector w is)
 
   pub held_there : (slices_shown x).held (log_slice place) 0 ≡ x.bay.held d state_sector
   held_there =
@@ -107,12 +106,12 @@ module _ {L : Type 0} {o : Option Lone} (x y : View) (place : ℕ) (name : List 
       ap₂ (λ e k. x.bay.held e k) disk sector_is
 
   -- where each place that was current by a state has its own copy since then, so has this drive
-  pub former_copy : (r : State) → HoldsSince r (slices_shown x) → is_current r place ≡ true → (i : Image) → IsPickOff y.slices y.bay i
+  pub former_copy : is_current (book x).state place ≡ false → (r : State) → HoldsSince r (slices_shown x) → is_current r place ≡ true → (i : Image) → IsPickOff y.slices y.bay i
       → (copy : Copied) × ((identities_of (disks_of y.bay) i d).copied ≡ Some copy) × IsAfter r copy.state × (id_at copy.state copy.own ≡ id_at r place)
-  former_copy r since current i off =
+  former_copy missing r since current i off =
       let w = i d state_sector in
       let left : MayLeave (x.bay.held d state_sector) w =
-      ((changes.retired d on unnamed).held state_sector sector (holds.disks d there)).within w (off d state_sector live (λ v is. bare state_sector v is)) in
+      ((changes.retired missing d on unnamed).held state_sector sector (holds.disks d there)).within w (off d state_sector live (λ v is. bare state_sector v is)) in
       let many = ap (λ (u : Slices). sectors_of u (log_slice place)) same ∙ (log_lies f goes.tables place d goes.service.slices seat).1 in
       let own : HasOwnSince r place w = (since place w small (omega (arith, many)) (subst (λ h. MayLeave h w) (sym held_there) left)).own current in
       let within_now : state_sector < y.bay.sectors d = live.sector in (

@@ -11,13 +11,14 @@ use Rattle.shr_script.specs.Script.{script_of, cut_script_of}
 use Rattle.pool.specs.View.{View, book, slices_shown, volume}
 use Rattle.pool.specs.Volume.{Holds}
 use Rattle.pool.specs.Calls.{Passes}
-use Rattle.pool.specs.Keeping.{KeepsBook, Raises}
+use Rattle.raid_rack.specs.Raid.{Raid}
+use Rattle.pool.specs.Keeping.{Raises}
 use Rattle.pool.specs.Continuing.{Continues, KeepsOutside}
 use Rattle.shr_tool.specs.declared.perform.Answer.{Answer}
 use Rattle.shr_tool.specs.declared.perform.Answer.TheVariants.{Given, Memory, Spent}
 use Rattle.shr_tool.specs.Events.{AnyTakes, Event, Takes, answer_of, any_takes, array_by, becomes, calls_in, line_of, lines_of, takes_disk, text_of, texts, worse, worst_of}
 use Rattle.pool.specs.Moment.{Moment, moment_of}
-use Rattle.shr_tool.specs.Timeline.{Ground, KeepsDisks, KeepsSlices, KeepsStanding, Happens, Performs, Steps, Timeline, ground_of, steps_of}
+use Rattle.shr_tool.specs.Timeline.{Ground, KeepsBookIn, KeepsDisks, KeepsSlices, KeepsStanding, Happens, Performs, Steps, Timeline, ground_of, steps_of}
 use Rattle.shr_tool.specs.Between.{HoldsEach}
 use Rattle.shr_tool.specs.Service.{AreFit, AreLone, GoesBy, GoesOn, IsFitFor, IsLoneFor, IsServed, Lone, lone_by, lone_then, pool_by}
 use Rattle.assembler.specs.Sound.{TargetsLand}
@@ -151,9 +152,9 @@ steps_added Traced stops g p a (first ∷ events) mid event q line happens =
 -- ---- what a pool did
 
 -- what so many calls do to the book
-pub standing : (x y : View) (calls : ℕ) → (volume y).fit → KeepsBook (book x) (book y) → Raises calls x y
-    → KeepsStanding calls (moment_of x) (moment_of y)
-standing x y calls fit keeps raises =
+pub standing : (x y : View) (Keeps : Raid → Raid → Type 0) (calls : ℕ) → (volume y).fit → Keeps (book x) (book y) → Raises calls x y
+    → KeepsStanding Keeps calls (moment_of x) (moment_of y)
+standing x y Keeps calls fit keeps raises =
     record { raises = raises; keeps = keeps; seated = book_seated (book y) (slices_shown y) fit.0.running.set fit.0.heeded }
 
 -- what they do to the bay
@@ -207,7 +208,7 @@ performed x y z event text Traced a continues performs unspent traced holds =
       named = λ told takes. named_by y z event continues.fit (performs.changes takes) (holds told).shelf (holds told).disks;
       slices = λ none. slices_kept y z (performs.passes none);
       marks = performs.marks;
-      stands = standing y z (calls_in (line_of event)) performs.continues.fit performs.keeps performs.raises;
+      stands = standing y z (KeepsBookIn event) (calls_in (line_of event)) performs.continues.fit performs.keeps performs.raises;
       during =
           λ told k i since until stops.
           elim (performs.leaves (traced told) a (holds told) k i since until stops) [
@@ -301,7 +302,7 @@ on_more :
     → Holds x a
     → IsServed (ground_of x) (moment_of z) (events ++ event ∷ [])
     → (any_takes (events ++ event ∷ []) ≡ true → AreSerial f.state)
-    → IsFitFor (pool_by f (moment_of x) events (moment_of y) ran.steps) (moment_of y) event
+    → IsFitFor (pool_by f (moment_of x) events (moment_of y) ran.steps) (moment_of y) (moment_of z) event
     → ((l : Lone) → o ≡ Some l → IsLoneFor (pool_by f (moment_of x) events (moment_of y) ran.steps) l (moment_of y) (moment_of z) event)
     → ((l : Lone) → o ≡ Some l → (book z).state.serial ≤ l.bound)
     → GoesOn (TargetsLand f) o f (pool_by f (moment_of x) events (moment_of y) ran.steps) y

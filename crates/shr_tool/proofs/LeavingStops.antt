@@ -1,5 +1,6 @@
 -- What a stop leaves inside a line that was to take a drive in, and didn't: the pool with the disk that was attached.
 use Rattle.std.proofs.Common.{◌≡◌, ℕ, ◌<◌, ◌≤◌, true, false, List, length, None, sym, subst, inl, inr, arith}
+use Rattle.std.proofs.lemmas.Bool.{both_ways}
 use Rattle.rack.specs.Seen.{Image}
 use Rattle.rack.specs.Sequences.{WritesOnly}
 use Rattle.rack.proofs.Writing.{only_weaker}
@@ -16,6 +17,7 @@ use Rattle.pool_image.specs.Drives.{Found}
 use Rattle.pool_model.specs.Stopped.{HoldAmid}
 use Rattle.pool_model.specs.Taken.{attached}
 use Rattle.pool_model.proofs.TakingEarly.{declined_amid as declined_stops}
+use Rattle.array_image.specs.States.{is_current}
 use Rattle.pool.specs.declared.replacing.GrowFault.{GrowFault}
 use Rattle.pool.specs.Entering.{LeavesBy, Vacates}
 use Rattle.pool.specs.Moment.{moment_of}
@@ -51,41 +53,44 @@ module _ {L : Type 0} (x y : View) (place : ℕ) (name : List ℕ) (fault : Grow
     abbrev disk : ℕ
     disk = named.disk
 
-    laid_amid : (vacates : Vacates m place disk) → y.slices ≡ vacates.tables → WritesOnly m.bay y.bay (IsWrittenBy vacates.tables disk (m.bay.sectors disk))
+    laid_amid : (missing : is_current (book x).state place ≡ false) (vacates : Vacates m place disk) → y.slices ≡ vacates.tables → WritesOnly m.bay y.bay (IsWrittenBy vacates.tables disk (m.bay.sectors disk))
         → KeepsMoments (book x) (book y) (slices_of vacates.tables m.bay) (slices_of vacates.tables y.bay)
         → (k : ℕ) (i : Image) → x.bay.clock < k → k ≤ y.bay.clock → y.bay.stops k i
         → HoldAmid (attached f (disks_of y.bay)) y.slices (book x).state (book y).state i
-    laid_amid vacates same only moments k i since until stopped =
+    laid_amid missing vacates same only moments k i since until stopped =
         let at = named.attaches in
         let spared : (d s : ℕ) → m.bay.spent d s ≡ false = λ d s. only.stays.spent d s (unspent d s) in
         let stops =
         declined_stops (attached f (disks_of m.bay)) goes.tables vacates.tables (book x) place disk m.bay
         (service_named x named.bay name disk at spared fit b holds f goes waits)
-        (lacks_named x named.bay name disk at spared fit b holds f goes waits place listed vacates some.0 some.1 alive)
-        (apart_named x named.bay name disk at spared fit b holds f goes waits place listed vacates some.0 some.1 alive)
+        (lacks_named x named.bay name disk at spared fit b holds f goes waits place listed vacates missing some.0 some.1 alive)
+        (apart_named x named.bay name disk at spared fit b holds f goes waits place listed vacates missing some.0 some.1 alive)
         vacates.orderly vacates.fit.running.set.fit.1 (tables_named x named.bay name disk at spared fit b holds f goes waits lands)
         (opened x named.bay name disk at spared fit b holds f goes waits)
-        (room_named x named.bay name disk at spared fit b holds f goes waits place listed vacates some.0 some.1 alive)
+        (room_named x named.bay name disk at spared fit b holds f goes waits place listed vacates missing some.0 some.1 alive)
         (at.continues.lasting goes.lasting) (at.continues.traced holds.shelf traced) (book y) y.bay only moments
         (λ n low.
-        told_named x named.bay name disk at spared fit b holds f goes waits place listed vacates some.0 some.1 alive n (subst (λ k. n < k) (sym goes.arrays) low))
+        told_named x named.bay name disk at spared fit b holds f goes waits place listed vacates missing some.0 some.1 alive n (subst (λ k. n < k) (sym goes.arrays) low))
         lasts in
         let same_disks : disks_of m.bay ≡ disks_of y.bay = λ j. record { count = sym only.stays.disks j; sectors = λ d. sym (only.stays.sectors d) j } in
         subst (λ (z : Disks). HoldAmid (attached f z) y.slices (book x).state (book y).state i) same_disks
         (subst (λ (t : Slices). HoldAmid (attached f (disks_of m.bay)) t (book x).state (book y).state i) (sym same)
         (stops.new k i (let clock = at.clock in omega (arith, since, clock)) until stopped))
 
-    left_amid : LeavesBy m y place disk → (k : ℕ) (i : Image) → x.bay.clock < k → k ≤ y.bay.clock → y.bay.stops k i
+    left_amid : is_current (book x).state place ≡ false → LeavesBy m y place disk → (k : ℕ) (i : Image) → x.bay.clock < k → k ≤ y.bay.clock → y.bay.stops k i
         → HoldAmid (attached f (disks_of y.bay)) y.slices (book x).state (book y).state i
-    left_amid (inl gone) =
-        laid_amid gone.vacates gone.slices
+    left_amid missing (inl gone) =
+        laid_amid missing gone.vacates gone.slices
         (only_weaker (IsOfDrive disk (m.bay.sectors disk)) (IsWrittenBy gone.vacates.tables disk (m.bay.sectors disk)) (λ d k v own. inl own) gone.refused.only)
         (subst (λ (w : Raid). KeepsMoments (book x) w (slices_of gone.vacates.tables m.bay) (slices_of gone.vacates.tables y.bay)) (sym gone.same) gone.refused.moments)
-    left_amid (inr out) = laid_amid out.vacates out.slices out.not_whole.only out.not_whole.moments
+    left_amid missing (inr out) = laid_amid missing out.vacates out.slices out.not_whole.only out.not_whole.moments
 
-  pub declined_amid : (k : ℕ) (i : Image) → x.bay.clock < k → k ≤ y.bay.clock → y.bay.stops k i
+  pub declined_amid : is_current (book x).state place ≡ false → (k : ℕ) (i : Image) → x.bay.clock < k → k ≤ y.bay.clock → y.bay.stops k i
       → HoldAmid (attached f (disks_of y.bay)) y.slices (book x).state (book y).state i
-  declined_amid k i since until stopped = elim (performs.changes looks).1 [
+  declined_amid missing k i since until stopped = elim (performs.changes looks).1 [
     | inl still ↦ absurd (omega (arith, since, until, still))
-    | inr named ↦ left_amid named named.leaves k i since until stopped
+    | inr named ↦ elim named.leaves [
+      | inl at_once ↦ left_amid named missing at_once.1 k i since until stopped
+      | inr ready ↦ absurd (both_ways (is_current (book x).state place) missing ready.0)
+    ]
   ]

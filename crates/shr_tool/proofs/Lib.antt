@@ -9,6 +9,8 @@ mod Filled
 mod Finishing
 mod FormLemmas
 mod Former
+mod GivesWay
+mod GivingStops
 mod GroupKept
 mod Heads
 mod History
@@ -21,6 +23,7 @@ mod Meanings
 mod NamedDisk
 mod NewTable
 mod NewTabled
+mod Renewed
 mod Performing
 mod Pieces
 mod Putting

@@ -1,6 +1,5 @@
 -- The pool by which a run goes, where a line has attached the disk that it names and nothing is written on it yet.
-use Rattle.std.proofs.Common.{◌≡◌, ◌≢◌, ℕ, ◌<◌, ◌≤◌, nat_lt, if◌then◌else◌, Bool, true, false, List, [], length, Option, Some, None, Ok, refl, sym, ◌∙◌, ap, subst, inl, inr, ltb-true, arith}
-use Rattle.std.specs.Option.{option_map_or}
+use Rattle.std.proofs.Common.{◌≡◌, ◌≢◌, ℕ, ◌<◌, ◌≤◌, nat_lt, if◌then◌else◌, Bool, true, false, List, length, Option, Some, None, Ok, refl, sym, ◌∙◌, ap, subst, inl, inr, ltb-true, arith}
 use Rattle.std.specs.Result.{result_ok}
 use Rattle.std.proofs.lemmas.Bool.{both_ways, cases_eq}
 use Rattle.std.proofs.lemmas.Option.{none-some}
@@ -45,7 +44,8 @@ use Rattle.pool.specs.Moment.{IsNamed, moment_of, views_of}
 use Rattle.pool.specs.Taking.{AttachesDisk}
 use Rattle.pool.specs.View.{View, book, over, volume}
 use Rattle.pool.specs.Volume.{Holds, is_spent, size_of}
-use Rattle.pool.proofs.Admitted.{IsAdmitted, admitted, others_current, reaches_each}
+use Rattle.pool.proofs.Admitted.{others_current, reaches_each}
+use Rattle.pool.specs.Replacing.{IsAdmitted}
 use Rattle.shr_tool.specs.Service.{GoesBy, IsFitDisk, Lone}
 use Rattle.shr_tool.proofs.Former.{not_over, told_by}
 use Rattle.shr_tool.proofs.TakenIn.{going_seat, vacant_not}
@@ -184,13 +184,16 @@ module _ {L : Type 0} {o : Option Lone} (x : View) (bay : x.bays.one) (name : Li
 
   -- ---- the place gives its disk up, where a sector of the volume can be had
 
-  module _ (place : ℕ) (listed : place < length (book x).state.drives.items) (vacates : Vacates m place disk) (some : ℕ)
+  module _ (place : ℕ) (listed : place < length (book x).state.drives.items) (vacates : Vacates m place disk) (none : is_current (book x).state place ≡ false) (some : ℕ)
       (within : some < size_of x) (alive : is_spent x some ≡ false) where
     abbrev u : Slices
     u = vacates.tables
 
     pub free_named : IsAdmitted (book x) place (m.bay.sectors disk)
-    free_named = admitted x.linear (book x) place (m.bay.sectors disk) vacates.admits
+    free_named = vacates.admits
+
+    pub gave : Seats x.slices u place None
+    gave = elim vacates.seats [ inl given ↦ given.1 | inr stays ↦ absurd (both_ways (is_current (book x).state place) none stays.0) ]
 
     -- where a place gave its disk up it is this one
     vacant_is : (k : ℕ) → k < length (book x).state.drives.items → is_current (book x).state k ≡ false → k ≡ place
@@ -201,8 +204,8 @@ module _ {L : Type 0} {o : Option Lone} (x : View) (bay : x.bays.one) (name : Li
 
     pub vacated_named : Seats t u place None
     vacated_named = elim goes.vacant [
-      | inl same ↦ subst (λ (z : Slices). Seats z u place None) same vacates.seats
-      | inr one ↦ seats_both t x.slices u place (subst (λ p. Seats t x.slices p None) (vacant_is one.0 one.1 one.2.missing) one.2.vacated) vacates.seats
+      | inl same ↦ subst (λ (z : Slices). Seats z u place None) same gave
+      | inr one ↦ seats_both t x.slices u place (subst (λ p. Seats t x.slices p None) (vacant_is one.0 one.1 one.2.missing) one.2.vacated) gave
     ]
 
     -- it has the room of a drive
@@ -229,7 +232,7 @@ module _ {L : Type 0} {o : Option Lone} (x : View) (bay : x.bays.one) (name : Li
         (λ w is. vacant_free t u place vacated_named f goes.service.slices d state_sector w (λ q other. one_seat f t (book x) x.bay goes.service q place d other seat) is) in
         elim goes.vacant [
           | inl same ↦
-              lost_value f t u (book x) x.bay m.bay place d d goes.service.slices seat (small place d seat) free_named.missing (array_of x.linear some)
+              lost_value f t u (book x) x.bay m.bay place d d goes.service.slices seat (small place d seat) none (array_of x.linear some)
               (subst (λ (z : Slices). IsTold (book x) (slices_of z x.bay) (array_of x.linear some)) same told_first) (not_over x.linear (book x) some alive)
               (i d state_sector) copy left parts.1
           | inr one ↦
@@ -240,11 +243,11 @@ module _ {L : Type 0} {o : Option Lone} (x : View) (bay : x.bays.one) (name : Li
         ]
 
     pub lacks_named : LacksDrive h t u (book x) place m.bay
-    lacks_named = record { vacated = vacated_named; missing = free_named.missing; earlier = earlier }
+    lacks_named = record { vacated = vacated_named; missing = none; earlier = earlier }
 
     -- each array is told by the slices that are left
     pub told_named : (n : ℕ) → n < x.linear.arrays → IsTold (book x) (slices_of u m.bay) n
     told_named n low =
         let told = at.carries.told holds.shelf holds.disks some within alive (holds.told some (let same = holds.size in omega (arith, within, same)) alive) n low in
-        vacated_told place x.slices u m.bay vacates.seats (book x) fit.0.heeded free_named.missing at.continues.fit.0.running.set vacates.fit.running.set.fit n
+        vacated_told place x.slices u m.bay gave (book x) fit.0.heeded none at.continues.fit.0.running.set vacates.fit.running.set.fit n
         (let arrays = fit.1.arrays in omega (arith, low, arrays)) told

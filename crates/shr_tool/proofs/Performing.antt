@@ -27,6 +27,7 @@ use Rattle.shr_tool.specs.declared.perform.SpentAt.{SpentAt}
 use Rattle.shr_tool.specs.Events.{Event, IsOfArray, Touches, TouchesLast, becomes, calls_in, calls_none, line_of, takes_disk, text_of}
 use Rattle.shr_tool.specs.Events.Event.{answered, spent, lost, last, replaced, declined, stepped, stuck, shown}
 use Rattle.pool.specs.Moment.{moment_of}
+use Rattle.shr_tool.proofs.Renewed.{keeps_in}
 use Rattle.shr_tool.specs.Timeline.{HasCause, MarksFor, MeansBefore, Performs, ground_of}
 use Rattle.shr_tool.specs.Filling.{Fills, FillsSome}
 use Rattle.pool.proofs.Booked.{raises_still}
@@ -83,7 +84,7 @@ performs_by x y event text during now none still passes raises cause marks text_
   outside = λ takes. absurd (both_ways (takes_disk event) none takes);
   changes = λ takes. absurd (both_ways (takes_disk event) none takes);
   raises = raises;
-  keeps = passes.book;
+  keeps = keeps_in event (book x) (book y) passes.book;
   cause = cause;
   marks = λ _. marks;
   text_is = text_is;

@@ -138,7 +138,7 @@ module _ {L : Type 0} {o : Option Lone} (x y : View) (place : ℕ) (name : List 
       | inr (inl gone) ↦ nothing.stayed (same_fault fault Gone gone)
       | inr (inr whole) ↦ elim (performs.cause.0.not_whole whole d named) [
         | inl some ↦ none-some NotWhole (sym none ∙ some)
-        | inr marked ↦ nothing.unmarked marked
+        | inr marked ↦ nothing.unmarked (marked.0, marked.2, marked.3)
       ]
     ]
       where

@@ -10,7 +10,7 @@ use Rattle.pool.specs.declared.replacing.GrowFault.{GrowFault}
 use Rattle.pool.specs.declared.replacing.GrowFault.TheVariants.{NoSuchDrive, Attach, Twice, Memory, PlanPending, NotWhole, NotResynced, Unbuilt, Size, Smaller, TooManyDrives, TooManyLayers, TooManySegments, Gone}
 use Rattle.pool.specs.Moment.{moment_of}
 use Rattle.pool.specs.Naming.{ReplacesDrive}
-use Rattle.pool.specs.Replaced.{MeansWithout as MeansWithoutBy}
+use Rattle.pool.specs.Replaced.{MeansFormer as MeansFormerBy}
 use Rattle.pool.specs.View.{View, book, contents_in, spent_by, volume}
 use Rattle.pool.specs.Volume.{PicksLive, unchanged}
 use Rattle.pool.proofs.Booked.{raises_still}
@@ -18,7 +18,7 @@ use Rattle.pool.proofs.Doing.{does_none}
 use Rattle.pool.proofs.Keeping.{marks_same, passes_same}
 use Rattle.shr_tool.specs.Events.{grow_word, looks_at}
 use Rattle.shr_tool.specs.Events.Event.{declined, replaced}
-use Rattle.shr_tool.specs.Timeline.{MeansWithout, Performs, ground_of}
+use Rattle.shr_tool.specs.Timeline.{MeansFormer, Performs, ground_of}
 use Rattle.shr_tool.proofs.Performing.{IsCut, marks_for, performs_by}
 
 -- a place of the list is that of the call
@@ -30,11 +30,13 @@ cut_listed x at place fit cut low =
       | inr past ↦ let out = cut.past past in absurd (omega (arith, few, low, out))
     ]
 
--- contents mean an array without the place's disk, where the volume lay before
-without_at : (x y : View) (place : ℕ) (a : FlatArray) (i : Image) → y.linear ≡ x.linear → MeansWithoutBy x y place a i
-    → MeansWithout (ground_of x) (moment_of x) (moment_of y) place a i
-without_at x y place a i same means =
-    (means.0, means.1, subst (λ (l : Linear). PicksLive (spent_by l (book y)) a (contents_in means.0 l i)) same means.2)
+-- contents mean an array by the slices of before, where the volume lay before
+former_at : (x y : View) (place : ℕ) (a : FlatArray) (i : Image) → y.linear ≡ x.linear → MeansFormerBy x y place a i
+    → MeansFormer (ground_of x) (moment_of x) (moment_of y) place a i
+former_at x y place a i same (inl means) =
+    inl (means.0, subst (λ (l : Linear). PicksLive (spent_by l (book y)) a (contents_in x.slices l i)) same means.1)
+former_at x y place a i same (inr means) =
+    inr (means.0, means.1, subst (λ (l : Linear). PicksLive (spent_by l (book y)) a (contents_in means.0 l i)) same means.2)
 
 ok_no_fault : (fault : GrowFault) → ◌≡◌ {A = Result (Unit {0}) GrowFault} (Ok tt) (Err fault) → ⊥
 ok_no_fault fault same = cc
@@ -72,7 +74,7 @@ replace_done x y at place name text r fit cut is_ok is done_r =
       holds = done.holds;
       leaves = λ traced a holds k i since until stopped.
           elim (done.leaves traced a holds k i since until stopped) [
-            | inl without ↦ inl (without_at x y place a i done.continues.linear without)
+            | inl former ↦ inl (former_at x y place a i done.continues.linear former)
             | inr means ↦ inr means
           ];
       ends = done.ends;
@@ -129,7 +131,8 @@ unlisted_done x at place name text fit sound cut is done =
         arrays = done.declined.arrays;
         cause = done.declined.cause;
         slices = inl refl;
-        unmarked = done.declined.unmarked;
+        unmarked = λ is. absurd (let wrong : NoSuchDrive ≡ Gone = is in cc wrong);
+        others = λ is. absurd (let wrong : NoSuchDrive ≡ Gone = is in cc wrong);
         quiet = done.declined.quiet;
       },
     )
@@ -177,14 +180,14 @@ decline_done x y at place name text r fault fit sound cut refused is still done_
             outside = λ takes. done.outside;
             changes = λ takes. (done.changes (subst (λ p. p < length (book x).state.drives.items) (cut_listed x at place fit cut low) low), done.steps.left);
             raises = done.raises;
-            keeps = done.keeps;
+            keeps = done.kept;
             cause = (done.cause, done.declined);
             marks = λ none. absurd (both_ways (looks_at fault) none looks);
             text_is = λ a holds. is;
             holds = done.holds;
             leaves = λ traced a holds k i since until stopped.
                 elim (done.leaves traced a holds k i since until stopped) [
-                  | inl without ↦ inl (inl (without_at x y place a i done.continues.linear without))
+                  | inl former ↦ inl (inl (former_at x y place a i done.continues.linear former))
                   | inr means ↦ inr means
                 ];
             ends = done.ends;

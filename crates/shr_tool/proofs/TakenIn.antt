@@ -1,7 +1,7 @@
 -- A pool by which a run goes is one after a line that took a drive in.
 use Rattle.std.proofs.Common.{◌≡◌, ◌≢◌, ◌⊎◌, ℕ, ◌+◌, ◌-◌, ◌<◌, ◌≤◌, ◌^◌, ◌||◌, not, nat_lt, if◌then◌else◌, Bool, true, false, is_some, List, length, slice_get, Option, Some, None, unwrap_or, option_map, Result, Ok, Err, refl, sym, ◌∙◌, ap, ap₂, subst, inl, inr, eq-eqb, arith}
 use Rattle.std.specs.Option.{option_map_or}
-use Rattle.std.proofs.lemmas.Bool.{both_ways, cases_eq, cases_lt}
+use Rattle.std.proofs.lemmas.Bool.{both_ways, cases_Bool, cases_eq, cases_lt}
 use Rattle.std.proofs.lemmas.Option.{none-some}
 use Rattle.rack.specs.Seen.{Image, IsLive}
 use Rattle.slice_rack.specs.Changes.{Seats}
@@ -21,11 +21,11 @@ use Rattle.array_image.specs.States.{is_current}
 use Rattle.array_core.proofs.Opened.{current_below}
 use Rattle.array_core.specs.Seats.{seat_of as slot_of}
 use Rattle.array_model.specs.View.{View as ArrayView}
-use Rattle.raid_rack.specs.Book.{after_same}
+use Rattle.raid_rack.specs.Book.{IsAfter, after_same}
 use Rattle.raid_rack.specs.Enlisting.{enlisted}
 use Rattle.raid_rack.specs.NewDrive.{SeatsDrive, is_reached, joins}
 use Rattle.raid_rack.proofs.Over.{number_room}
-use Rattle.pool_image.specs.Disks.{Disks, disks_of, identities_of}
+use Rattle.pool_image.specs.Disks.{Disks, disks_of, id_at, identities_of}
 use Rattle.pool_image.specs.Drives.{Found, first_of as first_in}
 use Rattle.pool_image.specs.Meaning.{is_member, is_table}
 use Rattle.pool_model.specs.Alone.{IsStranger, TakesAlone}
@@ -47,16 +47,19 @@ use Rattle.pool.specs.declared.replacing.GrowFault.{GrowFault}
 use Rattle.pool.specs.declared.replacing.GrowFault.TheVariants.{Attach, Memory, NoSuchDrive, Twice}
 use Rattle.pool.specs.Continuing.{Continues, KeepsOutside}
 use Rattle.pool.specs.Moment.{IsNamed, moment_of, views_of}
+use Rattle.pool.specs.Naming.{EntersNamed}
 use Rattle.pool.specs.Replaced.{ChangesDrive, HasGrowCause, IsAnswer, IsLookedAt, IsReplaced, is_vacant}
 use Rattle.pool.specs.Replacing.{refusal_of}
 use Rattle.pool.specs.View.{View, book, spent_by, volume}
 use Rattle.pool.specs.Volume.{Holds, is_spent, size_of}
-use Rattle.pool.proofs.Admitted.{IsAdmitted, admitted, others_current, reaches_each}
+use Rattle.pool.proofs.Admitted.{admitted, others_current, reaches_each}
+use Rattle.pool.specs.Replacing.{IsAdmitted}
 use Rattle.shr_tool.specs.Events.Event.{replaced}
 use Rattle.shr_tool.specs.Service.{GoesBy, GoesOn, IsFitDrive, Lone, StandsLone, disk_in, lone_then, pool_after, units_in}
 use Rattle.shr_tool.specs.Timeline.{Performs}
 use Rattle.shr_tool.proofs.Chains.{lone_before}
 use Rattle.shr_tool.proofs.Former.{former_copy, lost_below, not_over, since_now}
+use Rattle.shr_tool.proofs.GivesWay.{gave_below, gave_copy}
 use Rattle.shr_tool.proofs.TakenTables.{lies_taken, table_taken}
 
 some_same : {X : Type 0} (a b : X) → Some a ≡ Some b → a ≡ b
@@ -156,7 +159,7 @@ vacant_not s k current = by (slice_get s.drives.items k) current
         of true is = absurd (both_ways false refl is)
         of false is = refl
 
-reached_of : (arrays : List ArrayView) (place sectors n : ℕ)
+pub reached_of : (arrays : List ArrayView) (place sectors n : ℕ)
     → ((u : ArrayView) → slice_get arrays n ≡ Some u → is_some (slot_of u place) ≡ true → joins arrays place sectors n ≡ true) → is_reached arrays place sectors n ≡ true
 reached_of arrays place sectors n each = by (slice_get arrays n) refl
   where
@@ -170,7 +173,7 @@ reached_of arrays place sectors n each = by (slice_get arrays n) refl
 
 module _ {L : Type 0} {o : Option Lone} (x y : View) (place : ℕ) (name text : List ℕ) (b : FlatArray) (unspent : (d s : ℕ) → y.bay.spent d s ≡ false) (fit : (volume x).fit)
     (performs : Performs x y (replaced place name) text) (holds : Holds x b) (some : (s : ℕ) × (s < size_of x) × (spent_by x.linear (book y) s ≡ false))
-    (f : Found) (goes : GoesBy L o f x) (fitting : IsFitDrive f (moment_of x) place name) (serials : AreSerial f.state)
+    (f : Found) (goes : GoesBy L o f x) (fitting : IsFitDrive f (moment_of x) (moment_of y) place name) (serials : AreSerial f.state)
     (lone : (l : Lone) → o ≡ Some l → (d : ℕ) → f.seats place ≡ Some d → IsNamed (moment_of x) name d ⊎ (is_current l.base place ≡ true))
     (early : (l : Lone) → o ≡ Some l → (book y).state.serial ≤ l.bound) where
   abbrev pub changes : ChangesDrive x y place name
@@ -267,7 +270,6 @@ module _ {L : Type 0} {o : Option Lone} (x y : View) (place : ℕ) (name text : 
   pub seats_new : SeatsNew f t y.slices (book x) place disk (y.bay.sectors disk)
   seats_new = record {
     listed = listed;
-    missing = free.missing;
     others = others;
     fresh = λ k other. serial_fresh (book x).state serials_now fitting.distinct k;
     room = room;
@@ -312,14 +314,28 @@ module _ {L : Type 0} {o : Option Lone} (x y : View) (place : ℕ) (name text : 
     | inr bare ↦ bare
   ]
 
+  abbrev pub entered : EntersNamed x y place name disk
+  entered = (performs.changes refl).2 disk named
+
+  -- where its drive gives way, one state comes
+  pub steady_now : is_current (book x).state place ≡ true → (book y).state.epoch ≤ raised (book x).state.epoch
+  steady_now current = elim fitting.steady [ inl missing ↦ absurd (both_ways (is_current (book x).state place) missing current) | inr is ↦ is ]
+
   -- the drive that the place had says an earlier state
   lost_says : (d : ℕ) → d ≢ disk → f.seats place ≡ Some d → (i : Image) → IsPickOff y.slices y.bay i
       → (copy : Copied) → (identities_of (disks_of y.bay) i d).copied ≡ Some copy → copy.state.epoch < raised (book x).state.epoch
   lost_says d other seat i pick copy here = elim goes.vacant [
     | inl same ↦
         (let on : seat_of x.slices place ≡ Some d = ap (λ (u : Slices). seat_of u place) same ∙ goes.service.slices.seats place ∙ seat in
-        up_of (book x).state.epoch copy.state.epoch
-        (lost_below x y place name unspent fit performs.continues (performs.outside refl) changes told f goes d seat same on (only d other) (bare_now d other on) holds some.0 some.1 alive listed free.missing i pick copy here))
+        elim (cases_Bool (is_current (book x).state place)) [
+          | inl current ↦
+              gave_below x y place name disk b fit holds performs.continues entered some alive current (steady_now current) unspent (performs.outside refl) changes told f goes d seat
+              same on (only d other) other (bare_now d other on) listed i pick copy here
+          | inr missing ↦
+              up_of (book x).state.epoch copy.state.epoch
+              (lost_below x y place name unspent fit performs.continues (performs.outside refl) changes told f goes d seat same on (only d other) (bare_now d other on) holds some.0
+              some.1 alive listed missing i pick copy here)
+        ])
     | inr one ↦
         (let now : place ≡ one.0 = sym (vacant_is one.0 one.1 one.2.missing) in
         let less =
@@ -360,9 +376,16 @@ module _ {L : Type 0} {o : Option Lone} (x y : View) (place : ℕ) (name text : 
   former l so d other seat current i pick =
       let stands = goes.alone l so in
       let on : seat_of x.slices place ≡ Some d = ap (λ (u : Slices). seat_of u place) stands.slices ∙ goes.service.slices.seats place ∙ seat in
-      let own =
-      former_copy x y place name unspent fit performs.continues (performs.outside refl) changes told f goes d seat stands.slices on (only d other) (bare_now d other on) holds some.0
-      some.1 alive listed free.missing l.base (stands.since some.0 some.1 alive) current i pick in
+      let since = stands.since some.0 some.1 alive in
+      let own : (copy : Copied) × ((identities_of (disks_of y.bay) i d).copied ≡ Some copy) × IsAfter l.base copy.state × (id_at copy.state copy.own ≡ id_at l.base place) =
+      elim (cases_Bool (is_current (book x).state place)) [
+        | inl now ↦
+            gave_copy x y place name disk b fit holds performs.continues entered some alive now (steady_now now) unspent (performs.outside refl) changes told f goes d seat stands.slices
+            on (only d other) other (bare_now d other on) listed l.base since stands.before current i pick
+        | inr missing ↦
+            former_copy x y place name unspent fit performs.continues (performs.outside refl) changes told f goes d seat stands.slices on (only d other) (bare_now d other on) holds
+            some.0 some.1 alive listed missing l.base since current i pick
+      ] in
       stranger_former f t y.slices (book x) x.bay y.bay place disk is.units (Replacing place) goes.service seats_new keeps_rest l.bound (below l so) serials stands.distinct d seat
       (identities_of (disks_of y.bay) i d) own.0 own.1 (own.2.same.pool ∙ stands.after.same.pool) (own.3 ∙ id_same f.state l.base stands.after.same place)
 

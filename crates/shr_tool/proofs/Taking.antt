@@ -64,7 +64,7 @@ named_of : (x y : View) (place : ℕ) (name : List ℕ) → (volume x).fit → C
 named_of x y place name fit changes told all = record {
   names = changes.names;
   image = changes.image told all;
-  former = λ d s seat unnamed within. (changes.retired d seat unnamed).held s within (all d (fit.0.running.set.fit.1.seats place d seat));
+  former = λ missing d s seat unnamed within. (changes.retired missing d seat unnamed).held s within (all d (fit.0.running.set.fit.1.seats place d seat));
 }
 
 pub named_by : (x y : View) (event : Event) → (volume x).fit → Changes x y event → x.shelf.told → ((d : ℕ) → d < x.bay.disks → x.bay.told d)

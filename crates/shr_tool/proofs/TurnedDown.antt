@@ -34,7 +34,9 @@ use Rattle.pool.specs.Moment.{IsNamed, moment_of, views_of}
 use Rattle.pool.specs.Replaced.{ChangesDrive, IsDeclined, IsOfDrive}
 use Rattle.pool.specs.View.{View, book, spent_by, volume}
 use Rattle.pool.specs.Volume.{Holds, is_spent, size_of}
-use Rattle.pool.proofs.Admitted.{IsAdmitted, admitted, others_current, reaches_each}
+use Rattle.pool.proofs.Admitted.{admitted, others_current, reaches_each}
+use Rattle.pool.specs.Replacing.{IsAdmitted}
+use Rattle.shr_tool.specs.Service.{WasMissing}
 use Rattle.shr_tool.specs.Events.{looks_at}
 use Rattle.shr_tool.specs.Events.Event.{declined}
 use Rattle.shr_tool.specs.Service.{GoesBy, GoesOn, IsFitDisk, LaysNothing, Lone, StandsLone, lone_then, pool_after}
@@ -63,7 +65,7 @@ seats_both t u w place one two = record {
 module _ {L : Type 0} {o : Option Lone} (x y : View) (place : ℕ) (name : List ℕ) (fault : GrowFault) (text : List ℕ) (b : FlatArray) (looks : looks_at fault ≡ true)
     (unspent : (d s : ℕ) → y.bay.spent d s ≡ false) (fit : (volume x).fit)
     (performs : Performs x y (declined place name fault) text) (holds : Holds x b) (some : (s : ℕ) × (s < size_of x) × (spent_by x.linear (book y) s ≡ false))
-    (f : Found) (goes : GoesBy L o f x) (fits : IsFitDisk f (moment_of x) name) (lone : (l : Lone) → o ≡ Some l → looks_at fault ≡ true → LaysNothing f l.bound (moment_of x) (moment_of y) name fault) where
+    (f : Found) (goes : GoesBy L o f x) (fits : WasMissing (moment_of x) place fault × IsFitDisk f (moment_of x) name) (lone : (l : Lone) → o ≡ Some l → looks_at fault ≡ true → LaysNothing f l.bound (moment_of x) (moment_of y) name fault) where
   abbrev pub changes : ChangesDrive x y place name
   changes = (performs.changes looks).0
 
@@ -92,7 +94,7 @@ module _ {L : Type 0} {o : Option Lone} (x y : View) (place : ℕ) (name : List 
   sliced_now : (d s : ℕ) (w : List ℕ) → IsSliced y.slices d s w → IsSliced x.slices d s w
   sliced_now d s w at = elim is.slices [
     | inl same ↦ subst (λ (u : Slices). IsSliced u d s w) same at
-    | inr gave ↦ sliced_before x.slices y.slices place gave d s w at
+    | inr gave ↦ sliced_before x.slices y.slices place gave.2 d s w at
   ]
 
   listed : place < length (book x).state.drives.items
@@ -221,7 +223,7 @@ module _ {L : Type 0} {o : Option Lone} (x y : View) (place : ℕ) (name : List 
             let within = has.within in
             let sectors : y.bay.sectors d ≡ w.sectors = new.1.2 in
             elim (subst (λ (g : ℕ → Values). MayLeave (g state_sector) (i d state_sector)) new.1.3 left) [
-              | inl is ↦ fits new.0 w new.1.1 (omega (arith, within, sectors)) copy (ap decoded (sym is) ∙ has.says)
+              | inl is ↦ fits.1 new.0 w new.1.1 (omega (arith, within, sectors)) copy (ap decoded (sym is) ∙ has.says)
               | inr none ↦ absurd none
             ])
       ]
@@ -332,7 +334,7 @@ module _ {L : Type 0} {o : Option Lone} (x y : View) (place : ℕ) (name : List 
   ]
 
   -- the place gave its disk up
-  module _ (gave : Seats x.slices y.slices place None) (sectors : ℕ) (free : IsAdmitted (book x) place sectors) where
+  module _ (gave : Seats x.slices y.slices place None) (sectors : ℕ) (free : IsAdmitted (book x) place sectors) (vacant : is_current (book x).state place ≡ false) where
     none_now : seat_of y.slices place ≡ None
     none_now = gave.seats place ∙ ap (λ (c : Bool). if c then None else seat_of x.slices place) (eq-eqb place place refl)
 
@@ -346,7 +348,7 @@ module _ {L : Type 0} {o : Option Lone} (x y : View) (place : ℕ) (name : List 
               (let vacated : Seats t y.slices place None = subst (λ (u : Slices). Seats u y.slices place None) same gave in
               let small : place < 16 = (let few = fit.0.running.set.few in let low = listed in omega (arith, low, few)) in
               let less =
-              lost_value f t y.slices (book x) x.bay y.bay place d d goes.service.slices seat small free.missing (array_of x.linear some.0)
+              lost_value f t y.slices (book x) x.bay y.bay place d d goes.service.slices seat small vacant (array_of x.linear some.0)
               (subst (λ (u : Slices). IsTold (book x) (slices_of u x.bay) (array_of x.linear some.0)) same (told_by x b some.0 fit holds some.1 alive))
               (not_over x.linear (book x) some.0 alive) (i d state_sector) copy (was_held place d seat vacated i off copy here named)
               (has place d seat vacated i off copy here).says in
@@ -358,7 +360,7 @@ module _ {L : Type 0} {o : Option Lone} (x y : View) (place : ℕ) (name : List 
                 | inl still ↦ absurd (none-some d (sym none_now ∙ ap (λ (u : Slices). seat_of u place) still ∙ on))
                 | inr bare ↦ bare
               ])
-              holds some.0 some.1 alive listed free.missing i off copy here in
+              holds some.0 some.1 alive listed vacant i off copy here in
               omega (arith, less, up))
         ]
       where
@@ -379,7 +381,7 @@ module _ {L : Type 0} {o : Option Lone} (x y : View) (place : ℕ) (name : List 
             listed_still place listed,
             record {
               vacated = subst (λ (u : Slices). Seats u y.slices place None) same gave;
-              missing = missing_still place free.missing;
+              missing = missing_still place vacant;
               earlier = first_given same;
             },
           )
@@ -394,7 +396,7 @@ module _ {L : Type 0} {o : Option Lone} (x y : View) (place : ℕ) (name : List 
           inr (
             place,
             listed_still place listed,
-            record { vacated = vacated; missing = missing_still place free.missing; earlier = earlier_still place lacks vacated },
+            record { vacated = vacated; missing = missing_still place vacant; earlier = earlier_still place lacks vacated },
           ))
     ]
 
@@ -403,7 +405,9 @@ module _ {L : Type 0} {o : Option Lone} (x y : View) (place : ℕ) (name : List 
     | inl same ↦ vacant_same same
     | inr at ↦ elim is.slices [
       | inl same ↦ vacant_same same
-      | inr gave ↦ vacant_given gave (y.bay.sectors at.0) (admitted x.linear (book x) place (y.bay.sectors at.0) at.2)
+      | inr gave ↦
+          (let free = admitted x.linear (book x) place (y.bay.sectors at.0) at.2 in
+          vacant_given gave.2 (y.bay.sectors at.0) free (fits.0 (elim gave.0 [ inl gone ↦ inl gone | inr lost ↦ inr (lost, free.whole) ])))
     ]
   ]
 

@@ -1,9 +1,10 @@
 -- What a stop inside an event leaves holds the pool by which the run goes.
 use Rattle.std.proofs.Common.{◌≡◌, ℕ, ◌<◌, true, false, List, None, refl, inl, inr}
-use Rattle.std.proofs.lemmas.Bool.{both_ways}
+use Rattle.std.proofs.lemmas.Bool.{both_ways, cases_Bool}
 use Rattle.flat_array.specs.Array.{FlatArray}
 use Rattle.pool_image.specs.Drives.{Found}
 use Rattle.pool_model.specs.Taken.{AreSerial}
+use Rattle.array_image.specs.States.{is_current}
 use Rattle.pool.specs.Calls.{Passes}
 use Rattle.pool.specs.Continuing.{Continues}
 use Rattle.pool.specs.Moment.{moment_of}
@@ -16,6 +17,7 @@ use Rattle.shr_tool.specs.Service.{GoesBy, IsServed}
 use Rattle.shr_tool.specs.Serving.{IsServing}
 use Rattle.shr_tool.specs.Timeline.{Performs, ground_of}
 use Rattle.shr_tool.proofs.Between.{holds_inside}
+use Rattle.shr_tool.proofs.GivingStops.{giving_amid}
 use Rattle.shr_tool.proofs.LeavingStops.{declined_amid}
 use Rattle.shr_tool.proofs.Serviced.{IsServedBy, served_first, served_last}
 use Rattle.shr_tool.proofs.TakingStops.{taking_amid}
@@ -37,15 +39,20 @@ module _ {L : Type 0} (x y z : View) (a b : FlatArray) (events : List Event) (te
   holds_within (replaced place name) performs = λ served serial lands fit waits lasts.
       let event = replaced place name in
       let before = served_first x y z events event text continues.linear performs served in
-      taking_amid y z place name text b unspent continues.fit performs holds (served_some y z event refl (served_last x y z events event continues.linear served)) f
-      (goes before (λ takes. serial)) fit waits (serials before serial) lands lasts (continues.traced serving.0.shelf traced)
+      let some = served_some y z event refl (served_last x y z events event continues.linear served) in
+      let going = goes before (λ takes. serial) in
+      let told = continues.traced serving.0.shelf traced in
+      elim (cases_Bool (is_current (book y).state place)) [
+        | inl current ↦ giving_amid y z place name text b unspent continues.fit performs holds some f going current fit waits (serials before serial) lands lasts told
+        | inr missing ↦ taking_amid y z place name text b unspent continues.fit performs holds some f going missing fit waits (serials before serial) lands lasts told
+      ]
   holds_within (declined place name fault) performs = (
     λ none. holds_inside x y z a b events Serial f continues passes serving holds traced (performs.passes none) goes,
-    λ looks served serial lands waits lasts.
+    λ looks missing served serial lands waits lasts.
         let event = declined place name fault in
         let before = served_first x y z events event text continues.linear performs served in
         declined_amid y z place name fault text b looks unspent continues.fit performs holds (served_some y z event looks (served_last x y z events event continues.linear served)) f
-        (goes before (λ takes. serial)) waits lands lasts (continues.traced serving.0.shelf traced),
+        (goes before (λ takes. serial)) waits lands lasts (continues.traced serving.0.shelf traced) missing,
   )
   holds_within (stepped count left) performs = holds_inside x y z a b events Serial f continues passes serving holds traced (performs.passes refl) goes
   holds_within (stuck count array) performs = holds_inside x y z a b events Serial f continues passes serving holds traced (performs.passes refl) goes

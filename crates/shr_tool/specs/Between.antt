@@ -4,6 +4,7 @@ use Rattle.rack.specs.Seen.{Image}
 use Rattle.slice_rack.specs.Changes.{Seats}
 use Rattle.slice_rack.specs.Slices.{Slices, sectors_of}
 use Rattle.slice_rack.specs.Sliced.{sliced}
+use Rattle.array_image.specs.States.{is_current}
 use Rattle.pool_state.specs.declared.contents.Plan.TheVariants.{Replace as Replacing}
 use Rattle.pool_state.specs.declared.contents.State.{State}
 use Rattle.raid_rack.specs.Enlisting.{enlisted}
@@ -46,28 +47,40 @@ HoldsInside stops g Serial Landing done f p q =
 abbrev pub coming : Moment → (place : ℕ) → State
 coming p place = enlisted place (units_in p place) (Replacing place) p.book.state
 
--- Contents hold the pool f, without the drive that a line from p to q takes in at a place, by the book of before: over slices by which the place has no disk,
--- or over those of after. Or their log slices say a state that has the drive, and they hold the pool with it by this state, where no other disk has the id that
--- the drive gets: while it has no state yet it stands for its place by this id alone.
+-- The slices by which a pool stands without the drive that a line from p to q takes in at a place. Where the place's drive was missing these are such as give the place no
+-- disk, or those of after, by which it has the new one; and where it wasn't, those of before, by which it has the disk that gives way.
+abbrev pub AreWithout : (p q : Moment) → (place : ℕ) → Slices → Type 0
+AreWithout p q place t =
+    ((is_current p.book.state place ≡ false) × (Seats p.slices t place None ⊎ (t ≡ q.slices))) ⊎ ((is_current p.book.state place ≡ true) × (t ≡ p.slices))
+
+-- contents hold the pool f over such slices, by the book of before
+abbrev pub HoldsWithout : Found → (p q : Moment) → (place : ℕ) → Image → Type 0
+HoldsWithout f p q place i = (t : Slices) × AreWithout p q place t × HoldAmid (attached f (disks_at q)) t p.book.state p.book.state i
+
+-- Contents hold the pool f without the drive that a line takes in at a place. Or their log slices say a state that has the drive, and they hold the pool with it by this
+-- state, where no other disk has the id that the drive gets: while it has no state yet it stands for its place by this id alone. (Where a drive gives way, they may then
+-- hold the pool without the new one still.)
 abbrev pub HoldsEither : Found → (p q : Moment) → (place : ℕ) → (name : List ℕ) → Image → Type 0
 HoldsEither f p q place name i =
-    ((t : Slices) × (Seats p.slices t place None ⊎ (t ≡ q.slices)) × HoldAmid (attached f (disks_at q)) t p.book.state p.book.state i)
+    HoldsWithout f p q place i
     ⊎ (LogsBetween (coming p place) q.book.state (sectors_of q.slices) (sliced q.slices i)
     × (HaveOtherIds (attached f (disks_at q)) p.book.state place (disk_in q place) i
-    → HoldAmid (pool_after f p q (replaced place name)) q.slices (coming p place) q.book.state i))
+    → HoldAmid (pool_after f p q (replaced place name)) q.slices (coming p place) q.book.state i
+    ⊎ ((is_current p.book.state place ≡ true) × HoldsWithout f p q place i)))
 
 -- Whatever a stop leaves inside a line that takes a drive in holds the pool without it or with it, unless an array is over by the line's end. The image that
 -- the line names is fit for the pool, and where it waited it says no state, or an earlier one.
 abbrev pub HoldsTaking : (ℕ → Image → Type 0) → Ground → (Serial Landing : Type 0) → (done : List Event) → Found → (p q : Moment) → (place : ℕ) → (name : List ℕ) → Type 0
 HoldsTaking stops g Serial Landing done f p q place name =
-    IsServed g q (done ++ replaced place name ∷ []) → Serial → Landing → IsFitDrive f p place name → IsFitDisk f p name
+    IsServed g q (done ++ replaced place name ∷ []) → Serial → Landing → IsFitDrive f p q place name → IsFitDisk f p name
     → ((n : ℕ) → n < f.state.made → is_over q.book n ≡ false)
     → (k : ℕ) (i : Image) → p.clock < k → k ≤ q.clock → stops k i → HoldsEither f p q place name i
 
--- Inside one that was to take a drive in, and didn't, it holds the pool with the disk that was attached, by a state between, over the slices of after.
+-- Inside one that was to take a drive in, and didn't, it holds the pool with the disk that was attached, by a state between, over the slices of after. It is said where
+-- the place's drive was missing when the line began; else no time passed in it, or the drive was to give way, of which nothing is said yet.
 abbrev pub HoldsDeclined : (ℕ → Image → Type 0) → Ground → (Serial Landing : Type 0) → (done : List Event) → Found → (p q : Moment) → (place : ℕ) → (name : List ℕ) → GrowFault → Type 0
 HoldsDeclined stops g Serial Landing done f p q place name fault =
-    IsServed g q (done ++ declined place name fault ∷ []) → Serial → Landing → IsFitDisk f p name
+    is_current p.book.state place ≡ false → IsServed g q (done ++ declined place name fault ∷ []) → Serial → Landing → IsFitDisk f p name
     → ((n : ℕ) → n < f.state.made → is_over q.book n ≡ false)
     → (k : ℕ) (i : Image) → p.clock < k → k ≤ q.clock → stops k i → HoldAmid (attached f (disks_at q)) q.slices p.book.state q.book.state i
 
@@ -92,4 +105,4 @@ HoldsEach stops g Serial Landing done f p [] q steps = HoldsThen stops g Serial 
 HoldsEach stops g Serial Landing done f p (event ∷ events) q steps =
     HoldsThen stops g Serial Landing done f p
     × HoldsWithin stops g Serial Landing done f p steps.0 event
-    × (IsFitFor f p event → HoldsEach stops g Serial Landing (done ++ event ∷ []) (pool_after f p steps.0 event) steps.0 events q steps.1)
+    × (IsFitFor f p steps.0 event → HoldsEach stops g Serial Landing (done ++ event ∷ []) (pool_after f p steps.0 event) steps.0 events q steps.1)

@@ -36,6 +36,7 @@ use Rattle.shr_tool.specs.declared.serve.Stop.TheVariants.{Quit as AtQuit, Input
 use Rattle.shr_tool.specs.declared.perform.Answer.{Answer}
 use Rattle.shr_tool.specs.declared.perform.Answer.TheVariants.{Given, Spent as Refuses, Memory as Wants}
 use Rattle.shr_tool.specs.Events.{AnyTakes, Event, any_takes, array_by, lines_of, text_of, texts, worst_of}
+use Rattle.pool.specs.Keeping.{KeepsBook}
 use Rattle.pool.specs.Moment.{Moment}
 use Rattle.pool.specs.Continuing.{KeepsOutside}
 use Rattle.rack.specs.Sequences.{WritesOnly}
@@ -72,7 +73,7 @@ pub record EndsAt (Told : Type 0) (Traced : Type 0) (y : Seen) (g : Ground) (p q
   pub cause :
       (place : ℕ) → is_current p.book.state place ≡ true → is_current q.book.state place ≡ false
       → Rose (p.faults (disk_of p.slices (log_slice place))) (q.faults (disk_of p.slices (log_slice place)))
-  pub stands : KeepsStanding 1 p q
+  pub stands : KeepsStanding KeepsBook 1 p q
   pub held : Told → (d s : ℕ) → d < p.disks → s < p.sectors d → ((v : List ℕ) → IsSliced p.slices d s v → ⊥) → Keeps (p.held d s) (q.held d s)
   pub during : Told → Traced → (k : ℕ) (i : Image) → p.clock < k → k ≤ q.clock → y.stops k i → MeansAt g q a i
   pub ended : Told → Traced → (i : Image) → y.stops q.clock i → MeansAt g q (flushed a) i

@@ -14,7 +14,8 @@ use Rattle.raid_rack.specs.Book.{IsAfter}
 use Rattle.raid_rack.specs.Moves.{RaisesBy}
 use Rattle.raid_rack.specs.Losses.{has_other}
 use Rattle.pool.specs.Calls.{Passes}
-use Rattle.pool.specs.Keeping.{HasMarkedSeats, KeepsBook, Raises, most_raised}
+use Rattle.pool.specs.Keeping.{HasMarkedSeats, KeepsBook, KeepsBookBut, Raises, most_raised}
+use Rattle.raid_rack.specs.Raid.{Raid}
 use Rattle.pool.specs.Moment.{IsNamed, Moment, moment_of}
 use Rattle.pool.specs.Continuing.{Continues, KeepsOutside}
 use Rattle.pool.specs.Naming.{EntersNamed, LeavesNamed}
@@ -74,11 +75,24 @@ pub record MarksFor (p q : Moment) (event : Event) : Type 0 where
       (place : ℕ) → is_current p.book.state place ≡ true → is_current q.book.state place ≡ false
       → Rose (p.faults (disk_of p.slices (log_slice place))) (q.faults (disk_of p.slices (log_slice place))) ⊎ (event ≡ lost place)
 
--- What so many calls do to a pool's book: its numbers rise by a bounded number for each, arrays lose the members on drives that are marked
--- meanwhile, and no row is left to resync that wasn't; and at their end just those members are missing.
-pub record KeepsStanding (calls : ℕ) (p q : Moment) : Type 0 where
+-- What an event does to the arrays of a book: they lose the members on drives that are marked meanwhile, and no row is left to resync that wasn't. Where a drive is
+-- replaced the members of its place are new ones.
+abbrev pub KeepsBookIn : Event → Raid → Raid → Type 0
+KeepsBookIn (answered line) v w = KeepsBook v w
+KeepsBookIn (spent line sector) v w = KeepsBook v w
+KeepsBookIn (lost place) v w = KeepsBook v w
+KeepsBookIn (last place) v w = KeepsBook v w
+KeepsBookIn (replaced place name) v w = KeepsBookBut place v w
+KeepsBookIn (declined place name fault) v w = KeepsBook v w
+KeepsBookIn (stepped count left) v w = KeepsBook v w
+KeepsBookIn (stuck count array) v w = KeepsBook v w
+KeepsBookIn (shown text) v w = KeepsBook v w
+
+-- What so many calls do to a pool's book: its numbers rise by a bounded number for each, its arrays are kept so; and at their end just those members are missing whose
+-- drives are marked.
+pub record KeepsStanding (Keeps : Raid → Raid → Type 0) (calls : ℕ) (p q : Moment) : Type 0 where
   pub raises : RaisesBy (most_raised * calls) p.book q.book
-  pub keeps : KeepsBook p.book q.book
+  pub keeps : Keeps p.book q.book
   pub seated : HasMarkedSeats q.book
 
 -- The bay has the disks that it had, under their names, and their counts of faults never fall. What waits under a name stays, but for what was
@@ -103,14 +117,20 @@ abbrev pub MeansWithout : Ground → Moment → Moment → ℕ → FlatArray →
 MeansWithout g p q place a disks =
     (t : Slices) × Seats p.slices t place None × PicksLive (spent_by g.linear q.book) a (contents_in t g.linear disks)
 
--- contents mean an array as before an event: where a drive is to be replaced, without the place's disk
+-- Contents mean it by the slices of a pool of which a drive is to be replaced: as they lay, where it wasn't missing, or without the place's disk, where it was, or was
+-- found gone.
+abbrev pub MeansFormer : Ground → Moment → Moment → ℕ → FlatArray → Image → Type 0
+MeansFormer g p q place a disks =
+    ((is_current p.book.state place ≡ true) × PicksLive (spent_by g.linear q.book) a (contents_in p.slices g.linear disks)) ⊎ MeansWithout g p q place a disks
+
+-- contents mean an array as before an event
 abbrev pub MeansBefore : Ground → Moment → Moment → Event → FlatArray → Image → Type 0
 MeansBefore g p q (answered line) a disks = MeansAt g q a disks
 MeansBefore g p q (spent line sector) a disks = MeansAt g q a disks
 MeansBefore g p q (lost place) a disks = MeansAt g q a disks
 MeansBefore g p q (last place) a disks = MeansAt g q a disks
-MeansBefore g p q (replaced place name) a disks = MeansWithout g p q place a disks
-MeansBefore g p q (declined place name fault) a disks = MeansWithout g p q place a disks ⊎ MeansAt g q a disks
+MeansBefore g p q (replaced place name) a disks = MeansFormer g p q place a disks
+MeansBefore g p q (declined place name fault) a disks = MeansFormer g p q place a disks ⊎ MeansAt g q a disks
 MeansBefore g p q (stepped count left) a disks = MeansAt g q a disks
 MeansBefore g p q (stuck count array) a disks = MeansAt g q a disks
 MeansBefore g p q (shown text) a disks = MeansAt g q a disks
@@ -142,7 +162,7 @@ pub record Happens (Traced : Type 0) (stops : ℕ → Image → Type 0) (g : Gro
   pub named : Traced → takes_disk event ≡ true → KeepsNamed g p q event
   pub slices : takes_disk event ≡ false → KeepsSlices p q
   pub marks : takes_disk event ≡ false → MarksFor p q event
-  pub stands : KeepsStanding (calls_in (line_of event)) p q
+  pub stands : KeepsStanding (KeepsBookIn event) (calls_in (line_of event)) p q
   pub during :
       Traced → (k : ℕ) (i : Image) → p.clock < k → k ≤ q.clock → stops k i
       → MeansBefore g p q event a i ⊎ MeansAt g q (becomes a event) i
@@ -167,13 +187,13 @@ abbrev pub steps_of :
 steps_of Traced stops g p a [] q line = line
 steps_of Traced stops g p a (event ∷ events) q line = (line.0, steps_of Traced stops g line.0 (becomes a event) events q line.2)
 
--- A drive of a place is replaced by the disk of a name, which has its table: it was attached and taken in.
+-- A drive of a place is replaced by the disk of a name, which has its table: it was attached and taken in, from a cleaned pool where the place's drive wasn't missing.
 abbrev pub TakesDrive : View → View → ℕ → List ℕ → Type 0
 TakesDrive x y place name =
     ChangesDrive x y place name × ((d : ℕ) → IsNamed (moment_of y) name d → HasTable x y place d)
     × ((d : ℕ) → IsNamed (moment_of y) name d → EntersNamed x y place name d)
 
--- It isn't: no time passed, or the disk was attached and laid, and not taken in.
+-- It isn't: no time passed, or the disk was attached, and not taken in though nothing had been against it.
 abbrev pub LeavesDrive : View → View → ℕ → List ℕ → Type 0
 LeavesDrive x y place name = ChangesDrive x y place name × ((y.bay.clock ≡ x.bay.clock) ⊎ LeavesNamed x y place name)
 
@@ -197,7 +217,7 @@ pub record Performs (x y : View) (event : Event) (text : List ℕ) : Type 0 wher
   pub outside : takes_disk event ≡ true → KeepsOutside x.slices y.slices (Takes y.shelf.names event) x.shelf.told x.bay y.bay
   pub changes : takes_disk event ≡ true → Changes x y event
   pub raises : Raises (calls_in (line_of event)) x y
-  pub keeps : KeepsBook (book x) (book y)
+  pub keeps : KeepsBookIn event (book x) (book y)
   pub cause : HasCause (ground_of x) (moment_of x) (moment_of y) event
   pub marks : takes_disk event ≡ false → MarksFor (moment_of x) (moment_of y) event
   pub text_is : (a : FlatArray) → Holds x a → text ≡ text_of a event

@@ -45,7 +45,7 @@ fn each_refusal_comes_in_its_order(rt: HostRuntime) -> Result<(), Fail> {
     let alloc = rt.alloc();
     let mut bay = made_beside(&rt, alloc, b"")?;
     let script =
-        b"replace 3 D\nreplace 9 X\nreplace 1 X\nreplace 1 A\nreplace 1 D\nlose 1\nlose 0\n\
+        b"replace 3 D\nreplace 9 X\nreplace 1 X\nreplace 1 A\nreplace 2 D\nlose 1\nlose 0\n\
         replace 1 D\nquit\n";
     let want =
         b"refused no-such-drive\nrefused no-such-drive\nrefused attach\nrefused twice\nrefused unbuilt\nok\nok\n\
@@ -115,6 +115,42 @@ fn a_stop_in_a_replacing_is_resumed(rt: HostRuntime) -> Result<(), Fail> {
                 "after {moment} calls"
             );
         }
+    }
+    Ok(())
+}
+
+#[test]
+fn a_drive_that_is_there_gives_way(rt: HostRuntime) -> Result<(), Fail> {
+    let alloc = rt.alloc();
+    let mut bay = made_beside(&rt, alloc, FILLS)?;
+    let script = b"write 300 62\nreplace 1 D\nwrite 300 5a5a\nstep 27\nreplace 1 D\nquit\n";
+    let ran = serve_on(&rt, alloc, &mut bay, &["A", "B", "C"], script)?;
+    assert_eq!(rt;
+        ran.put.as_slice(),
+        b"ok\nok\nok\nleft 0\nrefused twice\n".as_slice()
+    );
+    assert_eq!(rt; ran.status, 0);
+    let all: [&[&str]; 4] = [&["A", "D", "C"], &["D", "C"], &["A", "C"], &["A", "D"]];
+    for names in all {
+        let mut left = now_of(&rt, alloc, &bay)?;
+        let ran = serve_on(&rt, alloc, &mut left, names, READS)?;
+        assert!(rt; are_values(ran.put.as_slice(), b""));
+        assert_eq!(rt; ran.status, 0);
+    }
+    Ok(())
+}
+
+#[test]
+fn a_stop_while_a_drive_gives_way_loses_nothing(rt: HostRuntime) -> Result<(), Fail> {
+    let alloc = rt.alloc();
+    let mut bay = made_beside(&rt, alloc, FILLS)?;
+    let ran = serve_on(&rt, alloc, &mut bay, &["A", "B", "C"], b"replace 1 D\n")?;
+    assert_eq!(rt; ran.put.as_slice(), b"ok\n".as_slice());
+    for moment in (0..=bay.calls()).step_by(7) {
+        assert!(rt; moment <= bay.calls());
+        let mut image = bay.image_at(alloc, moment, Pick::Seeded { seed: moment })?;
+        let ran = serve_on(&rt, alloc, &mut image, &["A", "B", "C", "D"], READS)?;
+        assert!(rt; are_values(ran.put.as_slice(), b""), "after {moment} calls");
     }
     Ok(())
 }

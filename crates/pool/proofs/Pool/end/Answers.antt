@@ -1,14 +1,4 @@
-use Rattle.std.proofs.Common.{sym, subst}
-use Rattle.raid_rack.specs.RaidRack.{IsFit, arrays_in, slices_seen}
-use Rattle.pool.proofs.Cleaning.{IsCleaned, end_done}
 use Rattle.pool.proofs.Pool.end.Goals as goal
 
-pub clean-requires : goal.clean-requires
-clean-requires g c = record { fit = subst (λ r. IsFit (arrays_in r) (slices_seen g.R.Rack.seen r)) (sym c.inner.ensures.value) c.requires.0 }
-
 pub returns-clause-ended : goal.returns-clause-ended
-returns-clause-ended g c =
-    let own = c.clean.ensures in
-    end_done g.R.Rack.seen g.R.Bay.shelf g.R.Rack.runs g.met.R.Rack.sound g.met.R.Bay.runs_shelf c.args.self.now c.clean.new.self c.requires
-    (subst (λ old. IsCleaned g.R.Rack.seen g.R.Rack.runs old c.clean.new.self) c.inner.ensures.value
-    (record { cleans = own.cleans; images = own.images; keeps = own.keeps; raises = own.raises; ran = own.runs; truths = own.book.truths; moments = own.book.moments }))
+returns-clause-ended g c = c.clean.ensures.cleaned.ends

@@ -2,7 +2,8 @@ use Rattle.std.proofs.Common.{◌<◌, length, sym, ap, subst, arith}
 use Rattle.std.specs.Prelude.{Ok, Err}
 use Rattle.pool.specs.Naming.{ReplacesDrive}
 use Rattle.pool.specs.Taking.{AttachesDisk, ReplacesBy}
-use Rattle.pool.specs.View.{bay_in, book, view, with_bay}
+use Rattle.pool.specs.View.{arrays_of, bay_in, book, view, with_bay}
+use Rattle.raid_rack.specs.RaidRack.{slices_in}
 use Rattle.pool.proofs.Composed.{replaced_by, replaced_unattached, replaced_unlisted}
 use Rattle.pool.proofs.Serving.{sound_in}
 use Rattle.pool.proofs.Pool.replace.Goals as goal
@@ -28,7 +29,7 @@ returns-in-Err-clause-replaced g c =
     (let many = c.len.ensures.value in let state = ap (λ s. length s.drives.items) c.state.ensures in omega (arith, low, many, state)) in
     let at = subst (λ r. AttachesDisk x (view seen shelf r) c.args.name.now (Err fault)) c.disk_of.ensures.rest c.in-Err.ensures.attaches in
     subst (λ r. ReplacesDrive x (view seen shelf r) c.args.place c.args.name.now (Err fault)) (sym c.disk_of.ensures.rest)
-    (replaced_unattached x (bay_in q) c.args.place c.args.name.now listed c.requires fault at
+    (replaced_unattached x (bay_in q) c.args.place c.args.name.now listed c.requires (slices_in (arrays_of p)).orderly fault at
     (sound_in seen shelf g.met.R.Rack.sound (with_bay p (bay_in q)) at.continues.fit))
 
 pub returns-in-Ok-clause-replaced : goal.returns-in-Ok-clause-replaced
@@ -46,7 +47,7 @@ returns-in-Ok-clause-replaced g c =
     (let many = c.len.ensures.value in let state = ap (λ s. length s.drives.items) c.state.ensures in omega (arith, low, many, state)) in
     let at = subst (λ k. AttachesDisk x (view seen shelf k) c.args.name.now (Ok disk)) c.disk_of.ensures.rest c.in-Ok.ensures.attaches in
     let by = subst (λ k. ReplacesBy (view seen shelf k) y c.args.place disk c.replace_by.result) c.disk_of.ensures.rest c.replace_by.ensures.replaces in
-    replaced_by x (bay_in q) c.args.place c.args.name.now listed c.requires disk at y c.replace_by.result by
+    replaced_by x (bay_in q) c.args.place c.args.name.now listed c.requires (slices_in (arrays_of p)).orderly disk at y c.replace_by.result by
     (sound_in seen shelf g.met.R.Rack.sound r by.continues.fit)
 
 pub returns-in-Ok-clause-unlisted : goal.returns-in-Ok-clause-unlisted

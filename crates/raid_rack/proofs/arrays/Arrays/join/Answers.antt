@@ -18,7 +18,7 @@ use Rattle.raid_rack.proofs.Enlisted.{current_enlisted, listed_enlisted, valid_e
 use Rattle.raid_rack.proofs.Adding.{all_apart, all_had, are_valid}
 use Rattle.raid_rack.specs.Settling.{IsMarking}
 use Rattle.raid_rack.proofs.Joining.{listed_raid}
-use Rattle.raid_rack.proofs.JoinCalls.{IsJoining, joins_each, joins_enlisted, joins_marking, joins_raises, joins_running, joins_truths}
+use Rattle.raid_rack.proofs.JoinCalls.{IsJoining, joins_each, joins_finds, joins_enlisted, joins_marking, joins_raises, joins_running, joins_truths}
 use Rattle.raid_rack.proofs.Mended.{each_items, on_named, some_copies}
 use Rattle.raid_rack.proofs.Noted.{current_few}
 use Rattle.raid_rack.proofs.Whole.{heeded_left}
@@ -231,6 +231,14 @@ returns-clause-each g c =
     let at = goal.at.returns-clause-each g c in
     let each = each_noted g at.After-note_gone in
     joins_each c.args.self.now (record c.renew_members.new.self { state = c.enlist_drive.new.state }) c.args.place c.args.units c.args.sectors c.args.plan (is_written c.joining-joining.result) c.stage_all.new.self.state c.current_places-on.result.items c.current_places-current.result.items c.add_copies.new.log c.stage_all.new.self.log.added (g.S.Rack.seen c.args.rack.now)
+    (is_joining g at.After-add_copies) c.commit-went.result.items (g.S.Rack.seen c.commit-went.new.rack) c.commit-went.ensures.commits (noted g at.After-note_gone) each.0 each.1
+    c.commit-went.new.self (ap (λ (m : LogView). m.number) c.commit-went.ensures.log) c.mend.new.self (g.S.Rack.seen c.mend.new.rack) c.mend.ensures.mends
+
+pub returns-clause-finds : goal.returns-clause-finds
+returns-clause-finds g c =
+    let at = goal.at.returns-clause-finds g c in
+    let each = each_noted g at.After-note_gone in
+    joins_finds c.args.self.now (record c.renew_members.new.self { state = c.enlist_drive.new.state }) c.args.place c.args.units c.args.sectors c.args.plan (is_written c.joining-joining.result) c.stage_all.new.self.state c.current_places-on.result.items c.current_places-current.result.items c.add_copies.new.log c.stage_all.new.self.log.added (g.S.Rack.seen c.args.rack.now)
     (is_joining g at.After-add_copies) c.commit-went.result.items (g.S.Rack.seen c.commit-went.new.rack) c.commit-went.ensures.commits (noted g at.After-note_gone) each.0 each.1
     c.commit-went.new.self (ap (λ (m : LogView). m.number) c.commit-went.ensures.log) c.mend.new.self (g.S.Rack.seen c.mend.new.rack) c.mend.ensures.mends
 

@@ -1,4 +1,9 @@
-use Rattle.std.proofs.Common.{◌≡◌, ◌≤◌, ◌<◌, ◌^◌, All, List, Ok, false, length, ap, subst, sym, ◌∙◌, arith}
+use Rattle.std.proofs.Common.{◌≡◌, ℕ, ◌-◌, ◌≤◌, ◌<◌, ◌^◌, ◌&&◌, ◌||◌, not, All, List, [], ◌∷◌, Ok, true, false, length, option_map, slice_get, ap, subst, sym, ◌∙◌, arith}
+use Rattle.std.proofs.lemmas.Bool.{ne_eqb}
+use Rattle.pool_state.specs.declared.contents.Drive.{Drive}
+use Rattle.raid_rack.specs.declared.arrays.Arrays.{Arrays}
+use Rattle.raid_rack.specs.Raid.{Raid}
+use Rattle.raid_rack.specs.Vacated.{vacated}
 use Rattle.pool_state.specs.declared.contents.State.{State}
 use Rattle.array_model.specs.View.{View}
 use Rattle.raid_rack.specs.Truths.{JoinsTruths, KeepsTruths}
@@ -14,15 +19,19 @@ use Rattle.array_image.specs.States.{is_current}
 use Rattle.slice_rack.specs.Runs.{IsSliced, inside_still}
 use Rattle.slice_rack.specs.Slices.{Slices}
 use Rattle.shr_base.specs.declared.Id.{Id}
-use Rattle.raid_rack.specs.Enlisting.{Enlists, HasLost, HasNewSlices, IsEnlisted, JoinsEach, SettlesWhole, next_drive, with_drive}
+use Rattle.raid_rack.specs.Enlisting.{Enlists, FindsEach, HasLost, HasNewSlices, IsEnlisted, JoinsEach, SettlesWhole, next_drive, with_drive}
 use Rattle.raid_rack.specs.Moves.{IsSet, Mends}
 use Rattle.raid_rack.specs.NewDrive.{IsOfDrive, LaysDrive, ReachesAll, SeatsDrive, drive_table, joins}
 use Rattle.raid_rack.specs.RaidRack.{IsFit, IsRunning, raid_by, slices_in}
 use Rattle.raid_rack.proofs.Apart.{fit_still, not_whole, refused_lay, running_still}
 use Rattle.raid_rack.proofs.Enlisted.{table_writable}
-use Rattle.raid_rack.proofs.Renewing.{reaches_same, same_members}
+use Rattle.raid_rack.proofs.EnlistRetired.{back_each, back_finds, back_joined, back_less, back_raises, back_truths, retired_heeded, retired_members, retired_missing, retired_raid, retired_set}
+use Rattle.raid_rack.proofs.Missing.{current_marked, length_marked, units_marked}
+use Rattle.raid_rack.proofs.Renewing.{AreSameMembers, reaches_same, same_members, seats_same}
 use Rattle.raid_rack.proofs.EnlistAll.{enlists, seats}
+use Rattle.raid_rack.proofs.arrays.RaidRack.enlist.Given.{Over}
 use Rattle.raid_rack.proofs.arrays.RaidRack.enlist.Goals as goal
+use Rattle.raid_rack.proofs.arrays.RaidRack.enlist.Goals.{After-retire}
 
 pub lay_drive-requires-clause-writable : goal.lay_drive-requires-clause-writable
 lay_drive-requires-clause-writable g c =
@@ -88,38 +97,122 @@ returns-then-not-settle_whole-clause-not_whole g c is =
     (subst (λ u. HasLost v w (slices_of t m) (slices_of u b)) same (c.settle_whole.ensures.lost c.if-not-settle_whole.true)) c.settle_whole.ensures.raises
     (subst (λ u. KeepsTruths v w (slices_of t m) (slices_of u b)) same (c.settle_whole.ensures.truths c.if-not-settle_whole.true))
 
-pub seat_drive-requires-clause-small : goal.seat_drive-requires-clause-small
-seat_drive-requires-clause-small g c =
-    subst (λ (vs : List View). All (λ (u : View). u.truth.size < 2 ^ 48) vs) (sym c.as_slice-2.ensures.value) (all_small c.settle_whole.new.self _ c.settle_whole.ensures.running)
+-- ---- the arrays that were settled, and as they are vacated in memory
 
-pub join-requires-clause-heeded : goal.join-requires-clause-heeded
-join-requires-clause-heeded g c = (c.settle_whole.ensures.whole c.if-not-settle_whole.false).heeded
+few_place : (g : Over) (c : After-retire g) → c.args.place < 16
+few_place g c = let low = c.requires.listed in let few = c.requires.fit.running.set.few in omega (arith, low, few)
 
-pub join-requires-clause-unmarked : goal.join-requires-clause-unmarked
-join-requires-clause-unmarked g c n low =
+all_unmarked : (g : Over) (c : After-retire g) (n : ℕ) → n < c.settle_whole.new.self.state.made → ((raid_by c.settle_whole.new.self).arrays n).marked ≡ false
+all_unmarked g c n low =
     let whole = c.settle_whole.ensures.whole c.if-not-settle_whole.false in
     whole.unmarked n (subst (λ (s : State). n < s.made) whole.same low)
 
+number_same : (g : Over) (c : After-retire g) → c.retire.new.self.log.number ≡ c.settle_whole.new.self.log.number
+number_same g c = ap (λ (r : Arrays). r.log.number) c.retire.ensures.rest
+
+retired_is : (g : Over) (c : After-retire g) → raid_by c.retire.new.self ≡ vacated c.args.place (raid_by c.settle_whole.new.self)
+retired_is g c =
+    retired_raid c.settle_whole.new.self c.retire.new.self c.args.place _ c.settle_whole.ensures.running (c.settle_whole.ensures.whole c.if-not-settle_whole.false).heeded
+    c.retire.ensures.each c.retire.ensures.state (number_same g c)
+
+members : (g : Over) (c : After-retire g) → AreSameMembers c.settle_whole.new.self.all.items c.retire.new.self.all.items
+members g c =
+    retired_members c.settle_whole.new.self c.retire.new.self c.args.place _ c.settle_whole.ensures.running (c.settle_whole.ensures.whole c.if-not-settle_whole.false).heeded
+    c.retire.ensures.each c.retire.ensures.state (number_same g c)
+
+running_retired : (g : Over) (c : After-retire g)
+    → IsRunning c.retire.new.self (slices_of (tables c.settle_whole.new.rack) (g.R.Rack.seen (below_of c.settle_whole.new.rack)))
+running_retired g c = record {
+  count = (members g c).count ∙ c.settle_whole.ensures.running.count ∙ sym (ap (λ (s : State). s.made) c.retire.ensures.state);
+  set =
+      retired_set c.settle_whole.new.self c.retire.new.self c.args.place _ c.settle_whole.ensures.running (c.settle_whole.ensures.whole c.if-not-settle_whole.false).heeded
+      c.retire.ensures.each c.retire.ensures.state (number_same g c) (few_place g c) (all_unmarked g c);
+}
+
+missing_retired : (g : Over) (c : After-retire g) → is_current c.retire.new.self.state c.args.place ≡ false
+missing_retired g c =
+    retired_missing c.settle_whole.new.self c.retire.new.self c.args.place _ c.settle_whole.ensures.running (c.settle_whole.ensures.whole c.if-not-settle_whole.false).heeded
+    c.retire.ensures.each c.retire.ensures.state (number_same g c) (few_place g c) (all_unmarked g c)
+
+-- as many drives
+drives_same : (g : Over) (c : After-retire g) → length c.retire.new.self.state.drives.items ≡ length c.args.self.now.arrays.state.drives.items
+drives_same g c =
+    let whole = c.settle_whole.ensures.whole c.if-not-settle_whole.false in
+    ap (λ (s : State). length s.drives.items) c.retire.ensures.state ∙ length_marked (c.args.place ∷ []) 0 c.settle_whole.new.self.state.drives.items
+    ∙ ap (λ (s : State). length s.drives.items) whole.same
+
+reaches_settled : (g : Over) (c : After-retire g) → ReachesAll c.settle_whole.new.self.all.items c.args.place c.sectors-sectors.result
+reaches_settled g c =
+    let whole = c.settle_whole.ensures.whole c.if-not-settle_whole.false in
+    let stays = subst (λ r. Stays (g.R.Rack.seen r) (g.R.Rack.seen c.lay_drive.new.rack)) c.inner.ensures.value c.lay_drive.ensures.lays.only.stays in
+    let running = running_still _ _ _ (stays_sliced c.requires.fit.running.set.fit.1 stays) c.requires.fit.running in
+    let size : c.sectors-sectors.result ≡ (g.R.Rack.seen (below_of (slices_in c.args.self.now))).sectors c.args.disk =
+    c.sectors-sectors.ensures.number ∙ ap (λ r. (g.R.Rack.seen r).sectors c.args.disk) c.below.ensures in
+    reaches_same c.args.self.now.arrays.all.items c.settle_whole.new.self.all.items
+    (same_members c.args.self.now.arrays c.settle_whole.new.self _ _ running c.settle_whole.ensures.running (ap (λ (s : State). s.made) whole.same) whole.moves.arrays)
+    c.args.place c.sectors-sectors.result
+    (subst (ReachesAll c.args.self.now.arrays.all.items c.args.place) (sym size) c.requires.reaches)
+
+pub seat_drive-requires-clause-small : goal.seat_drive-requires-clause-small
+seat_drive-requires-clause-small g c =
+    subst (λ (vs : List View). All (λ (u : View). u.truth.size < 2 ^ 48) vs) (sym c.as_slice-2.ensures.value)
+    (all_small c.retire.new.self _ (running_retired g (goal.at.seat_drive-requires-clause-small g c).After-retire))
+
+pub join-requires-clause-heeded : goal.join-requires-clause-heeded
+join-requires-clause-heeded g c =
+    let at = (goal.at.join-requires-clause-heeded g c).After-retire in
+    retired_heeded c.settle_whole.new.self c.retire.new.self c.args.place _ c.settle_whole.ensures.running (c.settle_whole.ensures.whole c.if-not-settle_whole.false).heeded
+    c.retire.ensures.each c.retire.ensures.state (number_same g at) (few_place g at) (all_unmarked g at)
+
+pub join-requires-clause-unmarked : goal.join-requires-clause-unmarked
+join-requires-clause-unmarked g c n low =
+    let at = (goal.at.join-requires-clause-unmarked g c).After-retire in
+    ap (λ (r : Raid). (r.arrays n).marked) (retired_is g at) ∙ all_unmarked g at n (subst (λ (s : State). n < s.made) c.retire.ensures.state low)
+
 pub join-requires-clause-others : goal.join-requires-clause-others
 join-requires-clause-others g c p low away =
+    let at = (goal.at.join-requires-clause-others g c).After-retire in
     let whole = c.settle_whole.ensures.whole c.if-not-settle_whole.false in
-    ap (λ (s : State). is_current s p) whole.same ∙ c.requires.others p (subst (λ (s : State). p < length s.drives.items) whole.same low) away
+    ap (λ (s : State). is_current s p) c.retire.ensures.state ∙ current_marked (c.args.place ∷ []) c.settle_whole.new.self.state p
+    ∙ ap (λ b. is_current c.settle_whole.new.self.state p && not (b || false)) (ne_eqb c.args.place p (λ same. away (sym same)))
+    ∙ ap (λ (s : State). is_current s p && true) whole.same
+    ∙ ap (λ b. b && true) (c.requires.others p (subst (λ k. p < k) (drives_same g at) low) away)
+
+pub join-requires-clause-missing : goal.join-requires-clause-missing
+join-requires-clause-missing g c = missing_retired g (goal.at.join-requires-clause-missing g c).After-retire
+
+pub join-requires-clause-listed : goal.join-requires-clause-listed
+join-requires-clause-listed g c = subst (λ k. c.args.place < k) (sym (drives_same g (goal.at.join-requires-clause-listed g c).After-retire)) c.requires.listed
+
+pub join-requires-clause-serial : goal.join-requires-clause-serial
+join-requires-clause-serial g c =
+    let whole = c.settle_whole.ensures.whole c.if-not-settle_whole.false in
+    subst (λ (s : State). s.serial < 2 ^ 32 - 1) (sym (ap (λ (s : State). s) c.retire.ensures.state)) (subst (λ (s : State). s.serial < 2 ^ 32 - 1) (sym whole.same) c.requires.serial)
+
+pub join-requires-clause-units : goal.join-requires-clause-units
+join-requires-clause-units g c =
+    let whole = c.settle_whole.ensures.whole c.if-not-settle_whole.false in
+    ap (λ (s : State). option_map (λ (d : Drive). d.units) (slice_get s.drives.items c.args.place)) c.retire.ensures.state
+    ∙ units_marked (c.args.place ∷ []) c.settle_whole.new.self.state c.args.place
+    ∙ ap (λ (s : State). option_map (λ (d : Drive). d.units) (slice_get s.drives.items c.args.place)) whole.same ∙ c.requires.units
+
+pub join-requires-clause-empty : goal.join-requires-clause-empty
+join-requires-clause-empty g c = ap (λ (r : Arrays). r.log.added) c.retire.ensures.rest ∙ c.settle_whole.ensures.empty c.if-not-settle_whole.false
 
 pub join-requires-clause-running : goal.join-requires-clause-running
 join-requires-clause-running g c =
-    let whole = c.settle_whole.ensures.whole c.if-not-settle_whole.false in
-    let running = c.settle_whole.ensures.running in
+    let at = (goal.at.join-requires-clause-running g c).After-retire in
+    let running = running_retired g at in
     let u = tables c.seat_drive.new.slices in
     let below = c.seat_drive.ensures.below in
-    let v = raid_by c.settle_whole.new.self in
+    let v = raid_by c.retire.new.self in
     let fit = subst (λ r. (slices_of u (g.R.Rack.seen r)).fit) below c.seat_drive.ensures.fit in
-    let missing : is_current c.settle_whole.new.self.state c.args.place ≡ false = ap (λ (s : State). is_current s c.args.place) whole.same ∙ c.requires.missing in
     record {
       count = running.count;
       set =
           subst (λ r. IsSet v (slices_of u (g.R.Rack.seen r))) (sym below)
           (seats_set c.as_slice-2.result.now c.args.place c.args.disk c.sectors-sectors.result (tables c.settle_whole.new.rack) u (g.R.Rack.seen (below_of c.settle_whole.new.rack))
-          c.seat_drive.ensures.seats v fit missing running.set);
+          c.seat_drive.ensures.seats v fit (missing_retired g at) running.set);
     }
 
 pub join-requires-clause-slices : goal.join-requires-clause-slices
@@ -149,18 +242,12 @@ returns-clause-runs g c =
 
 pub join-requires-clause-reaches : goal.join-requires-clause-reaches
 join-requires-clause-reaches g c =
-    let whole = c.settle_whole.ensures.whole c.if-not-settle_whole.false in
-    let stays = subst (λ r. Stays (g.R.Rack.seen r) (g.R.Rack.seen c.lay_drive.new.rack)) c.inner.ensures.value c.lay_drive.ensures.lays.only.stays in
-    let running = running_still _ _ _ (stays_sliced c.requires.fit.running.set.fit.1 stays) c.requires.fit.running in
-    let size : c.sectors-sectors.result ≡ (g.R.Rack.seen (below_of (slices_in c.args.self.now))).sectors c.args.disk =
-    c.sectors-sectors.ensures.number ∙ ap (λ r. (g.R.Rack.seen r).sectors c.args.disk) c.below.ensures in
-    reaches_same c.args.self.now.arrays.all.items c.settle_whole.new.self.all.items
-    (same_members c.args.self.now.arrays c.settle_whole.new.self _ _ running c.settle_whole.ensures.running whole.same whole.moves.arrays)
-    c.args.place c.sectors-sectors.result
-    (subst (ReachesAll c.args.self.now.arrays.all.items c.args.place) (sym size) c.requires.reaches)
+    let at = (goal.at.join-requires-clause-reaches g c).After-retire in
+    reaches_same c.settle_whole.new.self.all.items c.retire.new.self.all.items (members g at) c.args.place c.sectors-sectors.result (reaches_settled g at)
 
 pub returns-clause-seats : goal.returns-clause-seats
 returns-clause-seats g c =
+    let at = (goal.at.returns-clause-seats g c).After-retire in
     let t = tables (slices_in c.args.self.now) in
     let u = tables c.seat_drive.new.slices in
     let v = raid_by c.args.self.now.arrays in
@@ -177,13 +264,15 @@ returns-clause-seats g c =
     let running : IsRunning q (slices_of t y) =
     subst (IsRunning q) (ap (λ x. slices_of x (g.R.Rack.seen (below_of c.settle_whole.new.rack))) c.settle_whole.ensures.runs.tables ∙ seen t) c.settle_whole.ensures.running in
     let laid : SeatsDrive q.all.items c.args.place c.args.disk c.sectors-sectors.result t u =
-    subst (λ vs. SeatsDrive vs c.args.place c.args.disk c.sectors-sectors.result t u) c.as_slice-2.ensures.value
-    (subst (λ x. SeatsDrive c.as_slice-2.result.now c.args.place c.args.disk c.sectors-sectors.result x u) c.settle_whole.ensures.runs.tables c.seat_drive.ensures.seats) in
+    seats_same q.all.items c.retire.new.self.all.items (members g at) c.args.place c.args.disk c.sectors-sectors.result t u
+    (subst (λ vs. SeatsDrive vs c.args.place c.args.disk c.sectors-sectors.result t u) c.as_slice-2.ensures.value
+    (subst (λ x. SeatsDrive c.as_slice-2.result.now c.args.place c.args.disk c.sectors-sectors.result x u) c.settle_whole.ensures.runs.tables c.seat_drive.ensures.seats)) in
     subst (SeatsDrive c.args.self.now.arrays.all.items c.args.place c.args.disk (a.sectors c.args.disk) t) (sym c.join.ensures.runs.tables)
     (seats c.args.self.now.arrays q c.join.new.self c.args.place c.args.disk c.args.units c.sectors-sectors.result c.args.plan t u a m y b size c.requires.fit running settles laid)
 
 pub returns-clause-enlists : goal.returns-clause-enlists
 returns-clause-enlists g c =
+    let at = (goal.at.returns-clause-enlists g c).After-retire in
     let t = tables (slices_in c.args.self.now) in
     let u = tables c.seat_drive.new.slices in
     let v = raid_by c.args.self.now.arrays in
@@ -200,8 +289,9 @@ returns-clause-enlists g c =
     let running : IsRunning q (slices_of t y) =
     subst (IsRunning q) (ap (λ x. slices_of x (g.R.Rack.seen (below_of c.settle_whole.new.rack))) c.settle_whole.ensures.runs.tables ∙ seen t) c.settle_whole.ensures.running in
     let laid : SeatsDrive q.all.items c.args.place c.args.disk c.sectors-sectors.result t u =
-    subst (λ vs. SeatsDrive vs c.args.place c.args.disk c.sectors-sectors.result t u) c.as_slice-2.ensures.value
-    (subst (λ x. SeatsDrive c.as_slice-2.result.now c.args.place c.args.disk c.sectors-sectors.result x u) c.settle_whole.ensures.runs.tables c.seat_drive.ensures.seats) in
+    seats_same q.all.items c.retire.new.self.all.items (members g at) c.args.place c.args.disk c.sectors-sectors.result t u
+    (subst (λ vs. SeatsDrive vs c.args.place c.args.disk c.sectors-sectors.result t u) c.as_slice-2.ensures.value
+    (subst (λ x. SeatsDrive c.as_slice-2.result.now c.args.place c.args.disk c.sectors-sectors.result x u) c.settle_whole.ensures.runs.tables c.seat_drive.ensures.seats)) in
     let r = c.args.self.now.arrays in
     let z = c.join.new.self in
     let lays = subst (λ x. LaysDrive (g.R.Rack.seen x) m c.args.disk c.table_of-table.result {X = Unit {0}} (Ok tt)) c.inner.ensures.value c.in_default.ensures.lays in
@@ -210,16 +300,36 @@ returns-clause-enlists g c =
     subst (λ x. WritesOnly m (g.R.Rack.seen x) (IsSliced t)) (sym c.seat_drive.ensures.below)
     (c.settle_whole.ensures.runs.apart lays.only.stays.fit (inside_still lays.only.stays inside)) in
     let three = c.join.ensures.runs.apart c.seat_drive.ensures.fit.0 c.seat_drive.ensures.fit.1 in
-    let joins_then = joins q.all.items c.args.place c.sectors-sectors.result in
+    let d = c.retire.new.self in
+    let whole = c.settle_whole.ensures.whole c.if-not-settle_whole.false in
+    let unmarked = all_unmarked g at in
+    let joined = subst (λ x. IsEnlisted c.args.place c.args.units c.args.plan (joins d.all.items c.args.place c.sectors-sectors.result) (raid_by d) (raid_by z) (slices_of u y) (slices_of x b))
+    c.join.ensures.runs.tables c.join.ensures.joined in
+    let before = whole.heeded in
+    let ran = c.settle_whole.ensures.running in
+    let number = number_same g at in
+    let low = few_place g at in
+    let reaches = reaches_settled g at in
     subst (λ x. Enlists t x r.all.items c.args.place c.args.disk c.args.units c.args.plan v (raid_by z) a b) (sym c.join.ensures.runs.tables)
     (enlists r q z c.args.place c.args.disk c.args.units c.sectors-sectors.result c.args.plan t u a m y b size c.requires.fit running settles laid
-    c.table_of-table.result c.args.self.now.slices.orderly c.seat_drive.new.slices.orderly c.requires.listed c.requires.missing c.requires.free c.requires.room
+    c.table_of-table.result c.args.self.now.slices.orderly c.seat_drive.new.slices.orderly c.requires.listed c.requires.free c.requires.room
     (c.table_of-table.ensures
-    ∙ ap (λ d. drive_table d c.as_slice.result.now c.args.place c.sectors-sectors.result (length c.as_slice.result.now)) (ap (λ (d : Id). d.0) c.next_drive-drive.ensures)
+    ∙ ap (λ e. drive_table e c.as_slice.result.now c.args.place c.sectors-sectors.result (length c.as_slice.result.now)) (ap (λ (e : Id). e.0) c.next_drive-drive.ensures)
     ∙ ap (λ vs. drive_table (next_drive r.state).0 vs c.args.place c.sectors-sectors.result (length vs)) c.as_slice.ensures.value)
     lays two c.seat_drive.ensures.fit
-    (subst (λ x. IsEnlisted c.args.place c.args.units c.args.plan joins_then (raid_by q) (raid_by z) (slices_of u y) (slices_of x b)) c.join.ensures.runs.tables c.join.ensures.joined)
-    c.join.ensures.raises
-    (subst (λ x. JoinsEach c.args.place c.args.units c.args.plan (raid_by q) (raid_by z) (slices_of u y) (slices_of x b)) c.join.ensures.runs.tables c.join.ensures.each)
+    (back_joined q d c.args.place _ ran before c.retire.ensures.each c.retire.ensures.state number low unmarked z c.args.units c.sectors-sectors.result c.args.plan (slices_of u y) (slices_of u b)
+    reaches joined)
+    (back_raises q d c.args.place _ ran before c.retire.ensures.each c.retire.ensures.state number low unmarked z c.args.units c.sectors-sectors.result c.args.plan (slices_of u y) (slices_of u b)
+    reaches c.join.ensures.raises)
+    (λ missing.
+    back_each q d c.args.place _ ran before c.retire.ensures.each c.retire.ensures.state number low unmarked z c.args.units c.sectors-sectors.result c.args.plan (slices_of u y) (slices_of u b)
+    reaches (subst (λ x. JoinsEach c.args.place c.args.units c.args.plan (raid_by d) (raid_by z) (slices_of u y) (slices_of x b)) c.join.ensures.runs.tables c.join.ensures.each)
+    (ap (λ (k : State). is_current k c.args.place) whole.same ∙ missing))
+    (back_finds q d c.args.place _ ran before c.retire.ensures.each c.retire.ensures.state number low unmarked z c.args.units c.sectors-sectors.result c.args.plan (slices_of u y) (slices_of u b)
+    reaches (subst (λ x. FindsEach c.args.place c.args.units c.args.plan (raid_by d) (raid_by z) (slices_of u y) (slices_of x b)) c.join.ensures.runs.tables c.join.ensures.finds))
+    (back_less q d c.args.place _ ran before c.retire.ensures.each c.retire.ensures.state number low unmarked z c.args.units c.sectors-sectors.result c.args.plan (slices_of u y) (slices_of u b)
+    reaches joined)
     three (subst (λ x. IsFit z (slices_of x b)) c.join.ensures.runs.tables c.join.ensures.fit)
-    (subst (λ x. JoinsTruths (with_drive c.args.place c.args.units c.args.plan joins_then (raid_by q)) (raid_by z) (slices_of u y) (slices_of x b)) c.join.ensures.runs.tables c.join.ensures.truths))
+    (back_truths q d c.args.place _ ran before c.retire.ensures.each c.retire.ensures.state number low unmarked z c.args.units c.sectors-sectors.result c.args.plan (slices_of u y) (slices_of u b)
+    reaches (subst (λ x. JoinsTruths (with_drive c.args.place c.args.units c.args.plan (joins d.all.items c.args.place c.sectors-sectors.result) (raid_by d)) (raid_by z) (slices_of u y) (slices_of x b))
+    c.join.ensures.runs.tables c.join.ensures.truths)))
