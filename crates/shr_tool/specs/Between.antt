@@ -1,5 +1,5 @@
 -- What a stop leaves between two lines of a run and inside a line: a sound pool again, as the end of a run does.
-use Rattle.std.specs.Prelude.{◌≡◌, ◌⊎◌, ℕ, ◌<◌, ◌≤◌, true, false, List, [], ◌∷◌, ◌++◌, None}
+use Rattle.std.specs.Prelude.{◌≡◌, ◌≢◌, ◌⊎◌, ℕ, ◌<◌, ◌≤◌, true, false, List, [], ◌∷◌, ◌++◌, None}
 use Rattle.rack.specs.Seen.{Image}
 use Rattle.slice_rack.specs.Changes.{Seats}
 use Rattle.slice_rack.specs.Slices.{Slices, sectors_of}
@@ -7,6 +7,7 @@ use Rattle.slice_rack.specs.Sliced.{sliced}
 use Rattle.array_image.specs.States.{is_current}
 use Rattle.pool_state.specs.declared.contents.Plan.TheVariants.{Replace as Replacing}
 use Rattle.pool_state.specs.declared.contents.State.{State}
+use Rattle.raid_rack.specs.Book.{IsAfter}
 use Rattle.raid_rack.specs.Enlisting.{enlisted}
 use Rattle.raid_rack.specs.Logs.{LogsBetween}
 use Rattle.raid_rack.specs.Raid.{is_over}
@@ -47,42 +48,56 @@ HoldsInside stops g Serial Landing done f p q =
 abbrev pub coming : Moment → (place : ℕ) → State
 coming p place = enlisted place (units_in p place) (Replacing place) p.book.state
 
--- The slices by which a pool stands without the drive that a line from p to q takes in at a place. Where the place's drive was missing these are such as give the place no
--- disk, or those of after, by which it has the new one; and where it wasn't, those of before, by which it has the disk that gives way.
+-- The slices by which a pool stands without the drive that a line from p to q takes in at a place: such as give the place no disk, or those of after, by which it has the
+-- new one; or those of before, where by these it has the disk that gives way.
 abbrev pub AreWithout : (p q : Moment) → (place : ℕ) → Slices → Type 0
-AreWithout p q place t =
-    ((is_current p.book.state place ≡ false) × (Seats p.slices t place None ⊎ (t ≡ q.slices))) ⊎ ((is_current p.book.state place ≡ true) × (t ≡ p.slices))
+AreWithout p q place t = Seats p.slices t place None ⊎ ((t ≡ q.slices) ⊎ ((is_current p.book.state place ≡ true) × (t ≡ p.slices)))
 
--- contents hold the pool f over such slices, by the book of before
+-- A place's own drive, and no other one, was found gone and is marked, by a state between two.
+pub record LosesOwn (s u : State) (place : ℕ) (m : State) : Type 0 where
+  pub after : IsAfter s m
+  pub sooner : m.epoch < u.epoch
+  pub was : is_current s place ≡ true
+  pub lost : is_current m place ≡ false
+  pub others : (k : ℕ) → k ≢ place → is_current s k ≡ true → is_current m k ≡ true
+
+-- Contents hold the pool f over such slices, by the state of before, or up to one by which the drive that was to give way is marked missing.
 abbrev pub HoldsWithout : Found → (p q : Moment) → (place : ℕ) → Image → Type 0
-HoldsWithout f p q place i = (t : Slices) × AreWithout p q place t × HoldAmid (attached f (disks_at q)) t p.book.state p.book.state i
+HoldsWithout f p q place i =
+    (t : Slices) × (m : State) × AreWithout p q place t × ((m ≡ p.book.state) ⊎ LosesOwn p.book.state q.book.state place m)
+    × HoldAmid (attached f (disks_at q)) t p.book.state m i
 
 -- Contents hold the pool f without the drive that a line takes in at a place. Or their log slices say a state that has the drive, and they hold the pool with it by this
--- state, where no other disk has the id that the drive gets: while it has no state yet it stands for its place by this id alone. (Where a drive gives way, they may then
--- hold the pool without the new one still.)
+-- state, where no other disk has the id that the drive gets: while it has no state yet it stands for its place by this id alone.
 abbrev pub HoldsEither : Found → (p q : Moment) → (place : ℕ) → (name : List ℕ) → Image → Type 0
 HoldsEither f p q place name i =
     HoldsWithout f p q place i
     ⊎ (LogsBetween (coming p place) q.book.state (sectors_of q.slices) (sliced q.slices i)
     × (HaveOtherIds (attached f (disks_at q)) p.book.state place (disk_in q place) i
-    → HoldAmid (pool_after f p q (replaced place name)) q.slices (coming p place) q.book.state i
-    ⊎ ((is_current p.book.state place ≡ true) × HoldsWithout f p q place i)))
+    → HoldAmid (pool_after f p q (replaced place name)) q.slices (coming p place) q.book.state i))
 
 -- Whatever a stop leaves inside a line that takes a drive in holds the pool without it or with it, unless an array is over by the line's end. The image that
 -- the line names is fit for the pool, and where it waited it says no state, or an earlier one.
 abbrev pub HoldsTaking : (ℕ → Image → Type 0) → Ground → (Serial Landing : Type 0) → (done : List Event) → Found → (p q : Moment) → (place : ℕ) → (name : List ℕ) → Type 0
 HoldsTaking stops g Serial Landing done f p q place name =
-    IsServed g q (done ++ replaced place name ∷ []) → Serial → Landing → IsFitDrive f p q place name → IsFitDisk f p name
+    IsServed g q (done ++ replaced place name ∷ []) → Serial → Landing → IsFitDrive f p place name → IsFitDisk f p name
     → ((n : ℕ) → n < f.state.made → is_over q.book n ≡ false)
     → (k : ℕ) (i : Image) → p.clock < k → k ≤ q.clock → stops k i → HoldsEither f p q place name i
 
--- Inside one that was to take a drive in, and didn't, it holds the pool with the disk that was attached, by a state between, over the slices of after. It is said where
--- the place's drive was missing when the line began; else no time passed in it, or the drive was to give way, of which nothing is said yet.
+-- contents hold the pool f, with the disk that was attached, by a state between the books of p and q, over the slices of q; or over those of p, where the place's
+-- drive wasn't missing then
+abbrev pub HoldsLeft : Found → (p q : Moment) → (place : ℕ) → Image → Type 0
+HoldsLeft f p q place i =
+    (t : Slices) × ((t ≡ q.slices) ⊎ ((is_current p.book.state place ≡ true) × (t ≡ p.slices)))
+    × HoldAmid (attached f (disks_at q)) t p.book.state q.book.state i
+
+-- Inside one that was to take a drive in, and didn't, it holds the pool that there was. Where the place's drive wasn't missing and is found gone, the place may give
+-- up its disk in it.
 abbrev pub HoldsDeclined : (ℕ → Image → Type 0) → Ground → (Serial Landing : Type 0) → (done : List Event) → Found → (p q : Moment) → (place : ℕ) → (name : List ℕ) → GrowFault → Type 0
 HoldsDeclined stops g Serial Landing done f p q place name fault =
-    is_current p.book.state place ≡ false → IsServed g q (done ++ declined place name fault ∷ []) → Serial → Landing → IsFitDisk f p name
+    IsServed g q (done ++ declined place name fault ∷ []) → Serial → Landing → IsFitDisk f p name
     → ((n : ℕ) → n < f.state.made → is_over q.book n ≡ false)
-    → (k : ℕ) (i : Image) → p.clock < k → k ≤ q.clock → stops k i → HoldAmid (attached f (disks_at q)) q.slices p.book.state q.book.state i
+    → (k : ℕ) (i : Image) → p.clock < k → k ≤ q.clock → stops k i → HoldsLeft f p q place i
 
 -- So it is inside an event.
 abbrev pub HoldsWithin : (ℕ → Image → Type 0) → Ground → (Serial Landing : Type 0) → (done : List Event) → Found → (p q : Moment) → Event → Type 0
@@ -105,4 +120,4 @@ HoldsEach stops g Serial Landing done f p [] q steps = HoldsThen stops g Serial 
 HoldsEach stops g Serial Landing done f p (event ∷ events) q steps =
     HoldsThen stops g Serial Landing done f p
     × HoldsWithin stops g Serial Landing done f p steps.0 event
-    × (IsFitFor f p steps.0 event → HoldsEach stops g Serial Landing (done ++ event ∷ []) (pool_after f p steps.0 event) steps.0 events q steps.1)
+    × (IsFitFor f p event → HoldsEach stops g Serial Landing (done ++ event ∷ []) (pool_after f p steps.0 event) steps.0 events q steps.1)

@@ -1,5 +1,5 @@
 -- The pool by which a run goes as lines take drives in, and what is to be known of the images that they name, by what these held before.
-use Rattle.std.specs.Prelude.{◌≡◌, ◌≢◌, ◌⊎◌, ℕ, ◌+◌, ◌<◌, ◌≤◌, false, true, if◌then◌else◌, List, [], ◌∷◌, length, slice_get, Option, Some, None, Ok, option_map, unwrap_or}
+use Rattle.std.specs.Prelude.{◌≡◌, ◌≢◌, ◌⊎◌, ℕ, ◌+◌, ◌<◌, false, true, if◌then◌else◌, List, [], ◌∷◌, length, slice_get, Option, Some, None, Ok, option_map, unwrap_or}
 use Rattle.std.specs.Option.{option_map_or}
 use Rattle.rack.specs.Values.{MayLeave, Values}
 use Rattle.rack.specs.Shelf.{Waiting}
@@ -15,7 +15,6 @@ use Rattle.array_image.specs.Supers.{super_of}
 use Rattle.lvm_group.specs.Runs.{sectors_in}
 use Rattle.raid_rack.specs.Book.{IsAfter}
 use Rattle.raid_rack.specs.Enlisting.{enlisted}
-use Rattle.raid_rack.specs.Missing.{raised}
 use Rattle.raid_rack.specs.Since.{HoldsSince}
 use Rattle.pool_image.specs.Disks.{Disks, Identity, identities_of}
 use Rattle.pool_image.specs.Drives.{Found, first_of}
@@ -25,10 +24,9 @@ use Rattle.pool_model.specs.InService.{InService}
 use Rattle.pool_model.specs.Stopped.{HoldTables}
 use Rattle.pool_model.specs.Taken.{AreDistinct, AreSerial, LacksDrive, attached, taken}
 use Rattle.pool.specs.declared.replacing.GrowFault.{GrowFault}
-use Rattle.pool.specs.declared.replacing.GrowFault.TheVariants.{Attach, Gone, Memory, NotWhole}
+use Rattle.pool.specs.declared.replacing.GrowFault.TheVariants.{Attach, Gone, Memory}
 use Rattle.pool.specs.Moment.{IsImage, IsNamed, Moment}
 use Rattle.pool.specs.Replaced.{HasMarked}
-use Rattle.pool.specs.Replacing.{has_other_missing}
 use Rattle.pool.specs.View.{View, book, slices_shown, spent_by}
 use Rattle.pool.specs.Volume.{is_spent, size_of}
 use Rattle.shr_tool.specs.Events.{Event, any_takes, looks_at}
@@ -80,15 +78,9 @@ IsAlone f place sectors held =
     (n first : ℕ) → n < f.state.made → is_member f n place ≡ false → first_of f n ≡ Some first → first + super_sector < sectors
     → (first + super_sector + 33 < sectors) × ((v : List ℕ) → MayLeave (held (first + super_sector)) v → super_of v ≡ None)
 
--- In a line from p to q that takes a drive in at a place, the place's drive was missing when the line began, or one state comes, that with the new drive, and no
--- other one: no drive is found gone in it.
-abbrev pub IsSteady : (p q : Moment) → (place : ℕ) → Type 0
-IsSteady p q place = (is_current p.book.state place ≡ false) ⊎ (q.book.state.epoch ≤ raised p.book.state.epoch)
-
 -- An image that is taken in, by what it holds before: no superblock stands on it where the place is no member. The ids of the serials differ that the
 -- pool has given, and the next one's.
-pub record IsFitDrive (f : Found) (p q : Moment) (place : ℕ) (name : List ℕ) : Type 0 where
-  pub steady : IsSteady p q place
+pub record IsFitDrive (f : Found) (p : Moment) (place : ℕ) (name : List ℕ) : Type 0 where
   pub distinct : AreDistinct p.book.state.pool.0 p.book.state.serial
   pub alone : (sectors : ℕ) (held : ℕ → Values) → IsImage p name sectors held → IsAlone f place sectors held
 
@@ -98,28 +90,22 @@ IsFitDisk f p name =
     ((d : ℕ) → IsNamed p name d → ⊥) → (w : Waiting) → p.ready name ≡ Some w → state_sector < w.sectors
     → (copy : Copied) → decoded (w.contents state_sector) ≡ Ok copy → copy.state.epoch < f.state.epoch
 
--- A line that is declined though nothing had been against it: the new disk refused a call, or another drive was found gone, and the place's drive was missing. Of a drive
--- that was to give way it isn't said yet what is left.
-abbrev pub WasMissing : Moment → (place : ℕ) → GrowFault → Type 0
-WasMissing p place fault =
-    (fault ≡ Gone) ⊎ ((fault ≡ NotWhole) × (has_other_missing p.book.state place ≡ false)) → is_current p.book.state place ≡ false
-
--- what is to be known of the image that a line from one moment to another names
-abbrev pub IsFitFor : Found → (p q : Moment) → Event → Type 0
-IsFitFor f p q (answered line) = Unit {0}
-IsFitFor f p q (spent line sector) = Unit {0}
-IsFitFor f p q (lost place) = Unit {0}
-IsFitFor f p q (last place) = Unit {0}
-IsFitFor f p q (replaced place name) = IsFitDrive f p q place name
-IsFitFor f p q (declined place name fault) = looks_at fault ≡ true → WasMissing p place fault × IsFitDisk f p name
-IsFitFor f p q (stepped count left) = Unit {0}
-IsFitFor f p q (stuck count array) = Unit {0}
-IsFitFor f p q (shown text) = Unit {0}
+-- what is to be known of the image that a line names
+abbrev pub IsFitFor : Found → Moment → Event → Type 0
+IsFitFor f p (answered line) = Unit {0}
+IsFitFor f p (spent line sector) = Unit {0}
+IsFitFor f p (lost place) = Unit {0}
+IsFitFor f p (last place) = Unit {0}
+IsFitFor f p (replaced place name) = IsFitDrive f p place name
+IsFitFor f p (declined place name fault) = looks_at fault ≡ true → IsFitDisk f p name
+IsFitFor f p (stepped count left) = Unit {0}
+IsFitFor f p (stuck count array) = Unit {0}
+IsFitFor f p (shown text) = Unit {0}
 
 -- of those that lines in a row name: nothing, where no drive was to be replaced
 abbrev pub AreFit : Found → (p : Moment) → (events : List Event) → (q : Moment) → Steps p events q → Type 0
 AreFit f p [] q steps = Unit {0}
-AreFit f p (event ∷ events) q steps = IsFitFor f p steps.0 event × AreFit (pool_after f p steps.0 event) steps.0 events q steps.1
+AreFit f p (event ∷ events) q steps = IsFitFor f p event × AreFit (pool_after f p steps.0 event) steps.0 events q steps.1
 
 -- ---- that it stands alone
 
