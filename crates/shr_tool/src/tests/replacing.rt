@@ -78,6 +78,22 @@ fn are_values(put: &[u8], last: &[u8]) -> bool {
     lines.next() == Some(last)
 }
 
+// All drives of a pool, and all but each one, give the values.
+fn all_but_one_serve(
+    rt: &impl Abort,
+    alloc: Global,
+    bay: &MemBay,
+    all: [&[&str]; 4],
+) -> Result<(), Fail> {
+    for names in all {
+        let mut left = now_of(rt, alloc, bay)?;
+        let ran = serve_on(rt, alloc, &mut left, names, READS)?;
+        assert!(rt; are_values(ran.put.as_slice(), b""));
+        assert_eq!(rt; ran.status, 0);
+    }
+    Ok(())
+}
+
 #[test]
 fn any_drive_may_be_absent_once_one_is_replaced(rt: HostRuntime) -> Result<(), Fail> {
     let alloc = rt.alloc();
@@ -85,14 +101,12 @@ fn any_drive_may_be_absent_once_one_is_replaced(rt: HostRuntime) -> Result<(), F
     let script = b"replace 1 D\nstep 27\nquit\n";
     let ran = serve_on(&rt, alloc, &mut bay, &["A", "C"], script)?;
     assert_eq!(rt; ran.put.as_slice(), b"ok\nleft 0\n".as_slice());
-    let all: [&[&str]; 4] = [&["A", "D", "C"], &["D", "C"], &["A", "C"], &["A", "D"]];
-    for names in all {
-        let mut left = now_of(&rt, alloc, &bay)?;
-        let ran = serve_on(&rt, alloc, &mut left, names, READS)?;
-        assert!(rt; are_values(ran.put.as_slice(), b""));
-        assert_eq!(rt; ran.status, 0);
-    }
-    Ok(())
+    all_but_one_serve(
+        &rt,
+        alloc,
+        &bay,
+        [&["A", "D", "C"], &["D", "C"], &["A", "C"], &["A", "D"]],
+    )
 }
 
 #[test]
@@ -130,14 +144,12 @@ fn a_drive_that_is_there_gives_way(rt: HostRuntime) -> Result<(), Fail> {
         b"ok\nok\nok\nleft 0\nrefused twice\n".as_slice()
     );
     assert_eq!(rt; ran.status, 0);
-    let all: [&[&str]; 4] = [&["A", "D", "C"], &["D", "C"], &["A", "C"], &["A", "D"]];
-    for names in all {
-        let mut left = now_of(&rt, alloc, &bay)?;
-        let ran = serve_on(&rt, alloc, &mut left, names, READS)?;
-        assert!(rt; are_values(ran.put.as_slice(), b""));
-        assert_eq!(rt; ran.status, 0);
-    }
-    Ok(())
+    all_but_one_serve(
+        &rt,
+        alloc,
+        &bay,
+        [&["A", "D", "C"], &["D", "C"], &["A", "C"], &["A", "D"]],
+    )
 }
 
 #[test]
@@ -153,4 +165,25 @@ fn a_stop_while_a_drive_gives_way_loses_nothing(rt: HostRuntime) -> Result<(), F
         assert!(rt; are_values(ran.put.as_slice(), b""), "after {moment} calls");
     }
     Ok(())
+}
+
+// It has superblocks, a state and rows of the pool from the time when it had the place.
+#[test]
+fn a_former_drive_is_taken_in_again(rt: HostRuntime) -> Result<(), Fail> {
+    let alloc = rt.alloc();
+    let mut bay = made_beside(&rt, alloc, FILLS)?;
+    let script =
+        b"replace 1 D\nstep 27\nfill 128 128 a6\nreplace 1 B\nfill 128 128 a5\nstep 27\nquit\n";
+    let ran = serve_on(&rt, alloc, &mut bay, &["A", "B", "C"], script)?;
+    assert_eq!(rt;
+        ran.put.as_slice(),
+        b"ok\nleft 0\nok\nok\nok\nleft 0\n".as_slice()
+    );
+    assert_eq!(rt; ran.status, 0);
+    all_but_one_serve(
+        &rt,
+        alloc,
+        &bay,
+        [&["A", "B", "C"], &["B", "C"], &["A", "C"], &["A", "B"]],
+    )
 }
