@@ -137,7 +137,7 @@ module _ (f : Found) (t u : Slices) (v w : Raid) (place disk units : ℕ) (plan 
           absurd (omega (arith, epoch, from, more))
     ]
 
-    replacing_late : HaveOtherIds f v.state place disk i → Latter 0 → HoldAmid (taken f (disks_of a) place disk next) u next w.state i
+    pub replacing_late : HaveOtherIds f v.state place disk i → Latter 0 → HoldAmid (taken f (disks_of a) place disk next) u next w.state i
     replacing_late ids one =
         let joined = joined_off i ((enlists.only.stops traced).new k i begun until stopped) in
         let here = each 0 first in
