@@ -81,3 +81,4 @@ pub mod Openings
 pub mod Rereading
 pub mod Agreeing
 pub mod GatesSame
+pub mod Likewise

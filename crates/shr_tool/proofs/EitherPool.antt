@@ -1,5 +1,5 @@
 -- What a stop leaves inside a line that takes a disk in, as the line says it: the pool from which the disk was taken in may have lost the place's own drive.
-use Rattle.std.proofs.Common.{◌≡◌, ◌⊎◌, ℕ, ◌<◌, ◌==◌, if◌then◌else◌, List, length, Some, refl, sym, ◌∙◌, ap, subst, inl, inr}
+use Rattle.std.proofs.Common.{◌≡◌, ◌⊎◌, ℕ, ◌<◌, ◌==◌, if◌then◌else◌, List, length, Option, Some, refl, sym, ◌∙◌, ap, subst, inl, inr}
 use Rattle.rack.specs.Seen.{Image}
 use Rattle.slice_rack.specs.Slices.{Slices, sectors_of}
 use Rattle.slice_rack.specs.Sliced.{sliced}
@@ -20,7 +20,7 @@ use Rattle.pool.proofs.Readying.{after_enlisted, next_same}
 use Rattle.shr_tool.specs.Between.{AreWithout, HoldsEither, LosesOwn, coming}
 use Rattle.shr_tool.specs.Events.Event.{replaced}
 use Rattle.shr_tool.specs.Service.{disk_in, pool_after, units_in}
-use Rattle.shr_tool.proofs.Likewise.{amid_likewise}
+use Rattle.pool_model.proofs.Likewise.{amid_likewise}
 
 -- s is the state from which it was, and `disks` are those of then.
 module _ (f : Found) (x y : View) (place : ℕ) (name : List ℕ) (disk units : ℕ) (s : State) (disks : Disks) (marks : IsAfter (book x).state s)
@@ -52,6 +52,9 @@ module _ (f : Found) (x y : View) (place : ℕ) (name : List ℕ) (disk units : 
       (subst (λ e. HaveOtherIds (attached f (disks_of y.bay)) (book x).state place e i) disk_is ids) d low away free
       (is ∙ ap (λ (id : Id). Some id.0) (next_same (book x).state s marks))
 
+  abbrev seats_with : ℕ → ℕ → Option ℕ
+  seats_with d p = if p == place then Some d else f.seats p
+
   -- once the log slices say one that has it
   pub with_now : (i : Image) → LogsBetween next (book y).state (sectors_of y.slices) (sliced y.slices i)
       → (HaveOtherIds h s place disk i → HoldAmid (taken h disks place disk next) y.slices next (book y).state i) → HoldsEither f (moment_of x) (moment_of y) place name i
@@ -60,5 +63,5 @@ module _ (f : Found) (x y : View) (place : ℕ) (name : List ℕ) (disk units : 
         record { state = logs.state; later = after_then (coming (moment_of x) place) next logs.state came logs.later; sooner = logs.sooner; says = logs.says },
         λ ids.
             amid_likewise (taken h disks place disk next) (pool_after f (moment_of x) (moment_of y) (replaced place name)) y.slices next (book y).state (coming (moment_of x) place) (book y).state i
-            (sym same) (ap (λ (d p : ℕ). if p == place then Some d else f.seats p) disk_is) (sym marks.same.made) came (after_same (book y).state) (holds (other_ids i ids)),
+            (sym same) (ap seats_with disk_is) (sym marks.same.made) came (after_same (book y).state) (holds (other_ids i ids)),
       )

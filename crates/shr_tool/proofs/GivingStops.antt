@@ -10,7 +10,6 @@ use Rattle.flat_array.specs.Array.{FlatArray}
 use Rattle.lvm_group.specs.Runs.{array_of, sector_of}
 use Rattle.shr_base.specs.declared.Id.{Id}
 use Rattle.pool_state.specs.declared.contents.Plan.TheVariants.{Replace as Replacing}
-use Rattle.pool_state.specs.declared.contents.State.{State}
 use Rattle.array_image.specs.Places.{super_sector}
 use Rattle.array_image.specs.States.{is_current}
 use Rattle.array_image.specs.Supers.{super_of}
@@ -247,19 +246,19 @@ module _ {L : Type 0} (x y : View) (place : ℕ) (name text : List ℕ) (b : Fla
       ]
       | inr lost ↦ elim (taking_first c y place disk enters h x.slices service (lacks lost) sits opened tables (told_vacated lost) lasts other (pool.lasting_then x entered.bay name place disk entered.attaches ready.bay ready.arrays ready.refused ready.readies enters.vacates unspent_then fit b holds some_named f goes waits current lands goes_then traced) (pool.traced_then x entered.bay name place disk entered.attaches ready.bay ready.arrays ready.refused ready.readies enters.vacates unspent_then fit b holds some_named f goes waits current lands goes_then traced) orderly
           within bare k i late until stopped) [
-        | inl before ↦ elim before [
-          | inl laying ↦
-              without_now f x y place name disk enters.units (book c).state (disks_of c.bay) marks which listed disks_same units_are disk_is enters.vacates.tables (inl (pool.gave x entered.bay name place disk entered.attaches ready.bay ready.arrays ready.refused ready.readies enters.vacates unspent_then fit b holds some_named f goes waits current lands goes_then traced lost)) i
-              laying
-          | inr joining ↦
-              without_now f x y place name disk enters.units (book c).state (disks_of c.bay) marks which listed disks_same units_are disk_is y.slices (inr (inl refl)) i joining
-        ]
-        | inr after ↦
-            with_now f x y place name disk enters.units (book c).state (disks_of c.bay) marks which listed disks_same units_are disk_is i after.1
-            (λ ids.
-            taking_last c y place disk enters h x.slices service (lacks lost) sits opened tables (told_vacated lost) lasts other (pool.lasting_then x entered.bay name place disk entered.attaches ready.bay ready.arrays ready.refused ready.readies enters.vacates unspent_then fit b holds some_named f goes waits current lands goes_then traced) (pool.traced_then x entered.bay name place disk entered.attaches ready.bay ready.arrays ready.refused ready.readies enters.vacates unspent_then fit b holds some_named f goes waits current lands goes_then traced) orderly within
-            bare k i after.0 until stopped ids after.1)
-      ]
+            | inl before ↦ elim before [
+              | inl laying ↦
+                  without_now f x y place name disk enters.units (book c).state (disks_of c.bay) marks which listed disks_same units_are disk_is enters.vacates.tables (inl (pool.gave x entered.bay name place disk entered.attaches ready.bay ready.arrays ready.refused ready.readies enters.vacates unspent_then fit b holds some_named f goes waits current lands goes_then traced lost)) i
+                  laying
+              | inr joining ↦
+                  without_now f x y place name disk enters.units (book c).state (disks_of c.bay) marks which listed disks_same units_are disk_is y.slices (inr (inl refl)) i joining
+            ]
+            | inr after ↦
+                with_now f x y place name disk enters.units (book c).state (disks_of c.bay) marks which listed disks_same units_are disk_is i after.1
+                (λ ids.
+                taking_last c y place disk enters h x.slices service (lacks lost) sits opened tables (told_vacated lost) lasts other (pool.lasting_then x entered.bay name place disk entered.attaches ready.bay ready.arrays ready.refused ready.readies enters.vacates unspent_then fit b holds some_named f goes waits current lands goes_then traced) (pool.traced_then x entered.bay name place disk entered.attaches ready.bay ready.arrays ready.refused ready.readies enters.vacates unspent_then fit b holds some_named f goes waits current lands goes_then traced) orderly within
+                bare k i after.0 until stopped ids after.1)
+          ]
     ]
   ]
     where

@@ -33,7 +33,7 @@ use Rattle.shr_tool.specs.Events.{looks_at}
 use Rattle.shr_tool.specs.Events.Event.{declined}
 use Rattle.shr_tool.specs.Service.{GoesBy, IsFitDisk}
 use Rattle.shr_tool.specs.Timeline.{Performs}
-use Rattle.shr_tool.proofs.Likewise.{amid_likewise}
+use Rattle.pool_model.proofs.Likewise.{amid_likewise}
 use Rattle.shr_tool.proofs.NamedDisk.{apart_named, arrays_named, goes_named, lacks_named, opened, room_named, service_named, tables_named, told_named}
 use Rattle.shr_tool.proofs.Quiet.{listed_of}
 use Rattle.shr_tool.proofs.Readied as pool
@@ -144,6 +144,9 @@ module _ {L : Type 0} (x y : View) (place : ℕ) (name : List ℕ) (fault : Grow
         going : (n : ℕ) → n < f.state.made → is_over (book c) n ≡ false
         going n low = moments.still n (lasts n low)
 
+        disks_later : disks_of y.bay ≡ disks_of c.bay
+        disks_later j = record { count = only.stays.disks j; sectors = λ d. only.stays.sectors d j }
+
         disks : disks_of y.bay ≡ disks_of (over x named.bay).bay
         disks = disks_later ∙ pool.disks_then x named.bay name place named.disk named.attaches ready.bay ready.arrays ready.refused ready.readies vacates spared fit b holds (some.0, some.1, alive) f goes waits current lands going traced
 
@@ -159,9 +162,6 @@ module _ {L : Type 0} (x y : View) (place : ℕ) (name : List ℕ) (fault : Grow
 
         same_then : is_current (book c).state place ≡ true → vacates.tables ≡ x.slices
         same_then still = elim vacates.seats [ inl gone ↦ absurd (both_ways (is_current (book c).state place) gone.0 still) | inr kept ↦ kept.1 ]
-
-        disks_later : disks_of y.bay ≡ disks_of c.bay
-        disks_later j = record { count = only.stays.disks j; sectors = λ d. only.stays.sectors d j }
 
     ready_amid : (k : ℕ) (i : Image) → x.bay.clock < k → k ≤ y.bay.clock → y.bay.stops k i → HoldsLeft f (moment_of x) (moment_of y) place i
     ready_amid = elim ready.leaves [

@@ -1,7 +1,7 @@
 -- A pool that was made ready for a disk at a place, whose drive wasn't missing: how a run's pool goes by it, and what stops leave until then. It was cleaned, and it may be that
 -- the place's own drive was found gone after that, while the disk was being laid.
-use Rattle.std.proofs.Common.{◌≡◌, ◌≢◌, ◌⊎◌, ℕ, ◌+◌, ◌-◌, ◌<◌, ◌≤◌, ◌^◌, true, false, List, length, Some, None, Ok, refl, sym, ◌∙◌, ap, subst, inl, inr, arith}
-use Rattle.std.proofs.lemmas.Bool.{both_ways, cases_Bool, cases_eq}
+use Rattle.std.proofs.Common.{◌≡◌, ◌≢◌, ℕ, ◌+◌, ◌-◌, ◌<◌, ◌≤◌, ◌^◌, true, false, List, length, Some, None, Ok, refl, sym, ◌∙◌, ap, subst, inl, inr, arith}
+use Rattle.std.proofs.lemmas.Bool.{both_ways, cases_eq}
 use Rattle.rack.specs.Joins.{keeps_then, leaves_then, leaves_weaker, stays_then}
 use Rattle.rack.specs.Moments.{Leaves}
 use Rattle.rack.specs.Seen.{Image, IsLive, Seen, Stays}
@@ -41,12 +41,12 @@ use Rattle.pool_model.proofs.Vacant.{vacant_free}
 use Rattle.pool.specs.Entering.{Cleaned, LosesOwn, Readies, Vacates, meanwhile}
 use Rattle.pool.specs.Moment.{moment_of, views_of}
 use Rattle.pool.specs.Taking.{AttachesDisk}
-use Rattle.pool.specs.View.{View, book, over, slices_shown, volume}
+use Rattle.pool.specs.View.{View, book, over, volume}
 use Rattle.pool.specs.Volume.{Holds, is_spent, size_of}
 use Rattle.pool.proofs.Admitted.{others_current, reaches_each}
 use Rattle.pool.proofs.Readying.{many_same}
 use Rattle.shr_tool.specs.Service.{GoesBy, IsFitDisk}
-use Rattle.shr_tool.proofs.Likewise.{amid_likewise}
+use Rattle.pool_model.proofs.Likewise.{amid_likewise}
 use Rattle.shr_tool.proofs.NamedDisk as one
 use Rattle.shr_tool.proofs.NamedDisk.{copy_parts}
 use Rattle.shr_tool.proofs.Serviced.{goes_amid}

@@ -6,7 +6,6 @@ use Rattle.rack.specs.Seen.{Image, Seen}
 use Rattle.rack.specs.Values.{MayLeave}
 use Rattle.slice_rack.specs.Slices.{IsOrderly, Slices, disk_of, first_of as slice_first, sectors_of}
 use Rattle.slice_rack.specs.Sliced.{IsInside, sliced, slices_of}
-use Rattle.gpt_table.specs.declared.Table.{Table}
 use Rattle.gpt_table.specs.Changes.{the_table}
 use Rattle.gpt_table.specs.Disk.{Contents}
 use Rattle.pool_state.specs.declared.contents.Plan.TheVariants.{Replace as Replacing}

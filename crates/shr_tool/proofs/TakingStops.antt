@@ -101,9 +101,6 @@ module _ {L : Type 0} (x y : View) (place : ℕ) (name text : List ℕ) (b : Fla
       one.told_named x entered.bay name disk entered.attaches unspent_then fit b holds f goes waits place listed vacates missing some.0 some.1 alive n
       (subst (λ k. n < k) (sym goes.arrays) low)
 
-  free : IsAdmitted (book x) place (m.bay.sectors disk)
-  free = one.free_named x entered.bay name disk entered.attaches unspent_then fit b holds f goes waits place listed vacates missing some.0 some.1 alive
-
   size : y.bay.sectors disk ≡ m.bay.sectors disk
   size = enlists.only.stays.sectors disk
 
@@ -170,7 +167,7 @@ module _ {L : Type 0} (x y : View) (place : ℕ) (name text : List ℕ) (b : Fla
   pub taking_amid : (k : ℕ) (i : Image) → x.bay.clock < k → k ≤ y.bay.clock → y.bay.stops k i → HoldsEither f (moment_of x) (moment_of y) place name i
   taking_amid k i since until stopped =
       elim (taking_first m y place disk enters h goes.tables service lacks sits_then opened tables told lasts other lasting traced_then orderly within bare k i
-          (let clock = entered.attaches.clock in omega (arith, since, clock)) until stopped) [
+      (let clock = entered.attaches.clock in omega (arith, since, clock)) until stopped) [
         | inl before ↦ elim before [
           | inl laying ↦ without enters.vacates.tables (inl gave) i laying
           | inr joining ↦ without y.slices (inr (inl refl)) i joining
