@@ -12,6 +12,7 @@ ghost use Rattle.raid_rack.specs.NewDrive.{ReachesAll, SeatsDrive, joins};
 ghost use Rattle.raid_rack.specs.Settling.{HasStaged};
 ghost use Rattle.raid_rack.specs.RaidRack.{IsFit, IsRunning, arrays_in, arrays_of, is_written, raid_by, raid_in, refused_in, slices_in, slices_seen, written_in};
 ghost use Rattle.raid_rack.specs.Truths.{JoinsTruths, KeepsTruths};
+ghost use Rattle.raid_rack.specs.Unlost.{KeepsUnlost};
 ghost use Rattle.raid_rack.specs.Vacated.{vacated_state};
 ghost use Rattle.raid_rack.specs.Enlisting as spec;
 
@@ -83,6 +84,7 @@ impl Arrays {
         ensures lost { result ≡ false → spec.HasLost (raid_by self.old) (raid_by self.new) (S.seen rack.old) (S.seen rack.new) }
         ensures raises { RaisesBy 18 (raid_by self.old) (raid_by self.new) }
         ensures truths { result ≡ false → KeepsTruths (raid_by self.old) (raid_by self.new) (S.seen rack.old) (S.seen rack.new) }
+        ensures unlost { result ≡ false → KeepsUnlost self.old.state self.new.state (S.seen rack.old) (S.seen rack.new) }
         ensures running { IsRunning self.new (S.seen rack.new) }
         ensures runs { S.runs rack.old rack.new }
     {
