@@ -22,6 +22,7 @@ use Rattle.raid_rack.specs.Enlisting.{IsNotWhole, IsOpenDisk}
 use Rattle.raid_rack.specs.Moves.{IsHeeded, IsSet}
 use Rattle.raid_rack.specs.Raid.{IsTold, Raid, is_over}
 use Rattle.raid_rack.specs.RaidRack.{raid_by}
+use Rattle.raid_rack.specs.Unlost.{KeepsPlace}
 use Rattle.raid_rack.proofs.Over.{number_room}
 use Rattle.raid_rack.proofs.Vacated.{vacated_told}
 use Rattle.pool_image.specs.Disks.{Disks, disks_of, identities_of}
@@ -50,7 +51,6 @@ use Rattle.pool_model.proofs.Likewise.{amid_likewise}
 use Rattle.shr_tool.proofs.NamedDisk as one
 use Rattle.shr_tool.proofs.NamedDisk.{copy_parts}
 use Rattle.shr_tool.proofs.Serviced.{goes_amid}
-use Rattle.shr_tool.proofs.UnlostStub.{KeepsPlace, cleaned_unlost, not_whole_unlost}
 
 -- nothing comes to the book meanwhile but marks
 pub readied_marks : (x y : View) (place disk : ℕ) → Readies x y place disk → IsAfter (book x).state (book y).state
@@ -99,7 +99,7 @@ module _ {L : Type 0} (x : View) (bay : x.bays.one) (name : List ℕ) (place dis
   pub same_state : is_current (book c).state place ≡ true → (book c).state ≡ (book x).state
   same_state still = elim readies [
     | inl cleaned ↦
-        (cleaned_unlost m c cleaned).state
+        cleaned.unlost.state
         (λ k. elim (cases_eq k place) [
           | inl same ↦ λ was. subst (λ p. is_current (book c).state p ≡ true) (sym same) still
           | inr away ↦ others_kept k away
@@ -427,12 +427,12 @@ module _ {L : Type 0} (x : View) (bay : x.bays.one) (name : List ℕ) (place dis
     copies : Keeps ((slices_of x.slices m.bay).held (log_slice place) 0) ((slices_of x.slices c.bay).held (log_slice place) 0)
     copies = elim readies [
       | inl cleaned ↦
-          (cleaned_unlost m c cleaned).copies place others_kept (copy_live (book x) m.bay c.bay (told_named 0 first) lasts_first current unspent)
+          cleaned.unlost.copies place others_kept (copy_live (book x) m.bay c.bay (told_named 0 first) lasts_first current unspent)
       | inr lose ↦
           keeps_then ((slices_of x.slices m.bay).held (log_slice place) 0) ((slices_of x.slices (w lose).bay).held (log_slice place) 0) ((slices_of x.slices c.bay).held (log_slice place) 0)
-          ((cleaned_unlost m (w lose) lose.cleaned).copies place (λ k away was. (out lose).mends.moves.book.current k (others_kept k away was))
+          (lose.cleaned.unlost.copies place (λ k away was. (out lose).mends.moves.book.current k (others_kept k away was))
           (copy_live (book x) m.bay (w lose).bay (told_named 0 first) lasts_first current (unspent_own lose)))
-          ((not_whole_unlost x.slices disk (book (w lose)) (book c) (w lose).bay c.bay (out lose)).copies place
+          ((out lose).unlost.copies place
           (λ k away was. others_kept k away (lose.cleaned.ends.passes.marks.current k was))
           (copy_live (book (w lose)) (w lose).bay c.bay (told_own lose 0 first) (going_lost lose 0 first) lose.current unspent))
     ]
