@@ -10,46 +10,46 @@ use Rattle.flat_array.specs.Array.{FlatArray}
 use Rattle.lvm_group.specs.Runs.{array_of, sector_of}
 use Rattle.shr_base.specs.declared.Id.{Id}
 use Rattle.pool_state.specs.declared.contents.Plan.TheVariants.{Replace as Replacing}
+use Rattle.pool_state.specs.declared.contents.State.{State}
 use Rattle.array_image.specs.Places.{super_sector}
+use Rattle.array_core.proofs.Opened.{current_below}
 use Rattle.array_image.specs.States.{is_current}
 use Rattle.array_image.specs.Supers.{super_of}
 use Rattle.raid_rack.specs.Book.{IsAfter}
-use Rattle.raid_rack.specs.Enlisting.{IsOpenDisk, enlisted, next_drive}
+use Rattle.raid_rack.specs.Enlisting.{enlisted, next_drive}
 use Rattle.raid_rack.specs.Laws.{live_parts}
 use Rattle.raid_rack.specs.Logs.{LogsBetween}
 use Rattle.raid_rack.specs.Losses.{has_other}
 use Rattle.raid_rack.specs.Missing.{raised}
 use Rattle.raid_rack.specs.NewDrive.{SeatsDrive, joins}
-use Rattle.raid_rack.specs.Raid.{IsTold, is_over}
+use Rattle.raid_rack.specs.Raid.{is_over}
 use Rattle.pool_image.specs.Disks.{Disks, disks_of, id_at}
 use Rattle.pool_image.specs.Drives.{Found, first_of}
 use Rattle.pool_image.specs.Meaning.{is_member}
-use Rattle.pool_model.specs.InService.{InService}
 use Rattle.pool_model.specs.Laid.{HaveOtherIds}
-use Rattle.pool_model.specs.Stopped.{HoldAmid, HoldTables}
-use Rattle.pool_model.specs.Taken.{AreDistinct, AreSerial, LacksDrive, SeatsNew, attached, taken}
+use Rattle.pool_model.specs.Stopped.{HoldAmid}
+use Rattle.pool_model.specs.Taken.{AreDistinct, AreSerial, SeatsNew, attached, taken}
 use Rattle.pool_model.proofs.NewMembers.{joins_member, positions_of}
 use Rattle.pool_model.proofs.Serials.{serial_after, serial_fresh}
 use Rattle.pool_model.proofs.Taken.{IsKnownBefore}
 use Rattle.pool_model.proofs.Unsliced.{past_log}
 use Rattle.pool_model.proofs.Vacant.{seats_through}
-use Rattle.pool.specs.Entering.{EntersBy, EntersReady, meanwhile}
+use Rattle.pool.specs.Entering.{EntersBy, EntersReady, IsVacating, meanwhile}
 use Rattle.pool.specs.Moment.{moment_of, views_of}
 use Rattle.pool.specs.Naming.{EntersNamed}
 use Rattle.pool.specs.View.{View, book, over, spent_by, volume}
 use Rattle.pool.specs.Volume.{Holds, is_spent, size_of}
 use Rattle.pool.proofs.Admitted.{reaches_each}
 use Rattle.pool.proofs.Readying.{many_same, units_same}
-use Rattle.shr_tool.specs.Between.{HoldsEither, LosesOwn}
+use Rattle.shr_tool.specs.Between.{AreWithout, HoldsEither, LosesOwn}
 use Rattle.shr_tool.specs.Events.Event.{replaced}
 use Rattle.shr_tool.specs.Service.{GoesBy, IsFitDisk, IsFitDrive, disk_in, units_in}
 use Rattle.shr_tool.specs.Timeline.{Performs}
 use Rattle.shr_tool.proofs.EitherPool.{with_now, without_now, without_then}
 use Rattle.shr_tool.proofs.Former.{array_low}
+use Rattle.shr_tool.proofs.GivesWay.{after}
 use Rattle.shr_tool.proofs.GivingFrom.{giving}
-use Rattle.shr_tool.proofs.NamedDisk as one
-use Rattle.shr_tool.proofs.Readied as pool
-use Rattle.shr_tool.proofs.Readied.{readied_marks}
+use Rattle.shr_tool.proofs.Readied.{IsReadied, readied}
 use Rattle.shr_tool.proofs.TakenIn as new
 use Rattle.shr_tool.proofs.TakingFrom.{other_left, taking_first, taking_last}
 
@@ -90,7 +90,7 @@ module _ {L : Type 0} (x y : View) (place : ℕ) (name text : List ℕ) (b : Fla
   unspent_then d s = enters.enlists.only.stays.spent d s (unspent d s)
 
   marks : IsAfter (book x).state (book c).state
-  marks = readied_marks m c place disk ready.readies
+  marks = after x entered.bay place name disk entered.attaches ready.bay ready.arrays ready.refused ready.readies
 
   array_then : array_of x.linear some.0 < (book c).state.made
   array_then = (let low = array_low x some.0 fit some.1 in let arrays = fit.1.arrays in let made = marks.same.made in omega (arith, low, arrays, made))
@@ -107,41 +107,40 @@ module _ {L : Type 0} (x y : View) (place : ℕ) (name text : List ℕ) (b : Fla
   abbrev h : Found
   h = attached f (disks_of c.bay)
 
-  pool_same : attached f (disks_of m.bay) ≡ h
-  pool_same = ap (attached f) (sym (pool.disks_then x entered.bay name place disk entered.attaches ready.bay ready.arrays ready.refused ready.readies enters.vacates unspent_then fit b holds some_named f goes waits current lands goes_then traced))
-
-  service : InService h x.slices (book c) c.bay
-  service = subst (λ (g : Found). InService g x.slices (book c) c.bay) pool_same (pool.service x entered.bay name place disk entered.attaches ready.bay ready.arrays ready.refused ready.readies enters.vacates unspent_then fit b holds some_named f goes waits current lands goes_then traced)
-
-  tables : HoldTables h x.slices (book c).state c.bay
-  tables = subst (λ (g : Found). HoldTables g x.slices (book c).state c.bay) pool_same (pool.tables x entered.bay name place disk entered.attaches ready.bay ready.arrays ready.refused ready.readies enters.vacates unspent_then fit b holds some_named f goes waits current lands goes_then traced)
+  is : IsReadied x m c place disk enters.vacates.tables f h
+  is =
+      readied x entered.bay name place disk entered.attaches ready.bay ready.arrays ready.refused ready.readies enters.vacates unspent_then fit b holds some_named f goes waits current lands
+      goes_then traced
 
   -- ---- the new disk
 
-  apart : (p : ℕ) → f.seats p ≡ Some disk → ⊥
-  apart = pool.apart x entered.bay name place disk entered.attaches ready.bay ready.arrays ready.refused ready.readies enters.vacates unspent_then fit b holds some_named f goes waits current lands goes_then traced
-
   fresh : (p : ℕ) → id_at (book c).state p ≢ Some (next_drive (book c).state).0
   fresh p =
-      serial_fresh (book c).state (serial_after f.state (book c).state service.after serials)
+      serial_fresh (book c).state (serial_after f.state (book c).state is.service.after serials)
       (subst (λ (id : Id). AreDistinct id.0 (book c).state.serial) (sym marks.same.pool)
       (subst (λ k. AreDistinct (book x).state.pool.0 k) (sym marks.same.serial) fitting.distinct)) p
 
   members : (n : ℕ) → n < h.state.made → joins (views_of (book c)) place (c.bay.sectors disk) n ≡ is_member h n place
   members n low =
-      let truth = service.arranged.truths n low in
-      let made = service.after.same.made in
+      let truth = is.service.arranged.truths n low in
+      let made = is.service.after.same.made in
       let less : n < (book c).state.made = omega (arith, low, made) in
-      joins_member h (book c) place (c.bay.sectors disk) n truth.0 less truth.1 (service.geometry n truth.0 low truth.1)
+      joins_member h (book c) place (c.bay.sectors disk) n truth.0 less truth.1 (is.service.geometry n truth.0 low truth.1)
       (positions_of (book c).state n ((book c).arrays n) (slices_of enters.vacates.tables c.bay) (enters.vacates.fit.running.set.arrays n less))
       (new.reached_of (views_of (book c)) place (c.bay.sectors disk) n ((reaches_each (views_of (book c)) place (c.bay.sectors disk) enters.vacates.admits.reaches).1 n))
+
+  low_seat : (k d : ℕ) → f.seats k ≡ Some d → k < length (book x).state.drives.items
+  low_seat k d seat =
+      let low = current_below f.state k (goes.service.arranged.seated k d seat).0 in
+      let same = many_same f.state (book x).state goes.service.after in
+      omega (arith, low, same)
 
   sits : SeatsNew h x.slices y.slices (book c) place disk (c.bay.sectors disk)
   sits = record {
     listed = (let same = many_same (book x).state (book c).state marks in let low = listed in omega (arith, low, same));
-    others = λ k d away seat. (pool.others_then x entered.bay name place disk entered.attaches ready.bay ready.arrays ready.refused ready.readies enters.vacates unspent_then fit b holds some_named f goes waits current lands goes_then traced k (pool.low_seat x entered.bay name place disk entered.attaches ready.bay ready.arrays ready.refused ready.readies enters.vacates unspent_then fit b holds some_named f goes waits current lands goes_then traced k d seat) away, pool.apart_each x entered.bay name place disk entered.attaches ready.bay ready.arrays ready.refused ready.readies enters.vacates unspent_then fit b holds some_named f goes waits current lands goes_then traced k d seat);
+    others = λ k d away seat. (is.others k (low_seat k d seat) away, λ same. is.apart k (seat ∙ ap Some same));
     fresh = λ p away. fresh p;
-    room = pool.epoch_then x entered.bay name place disk entered.attaches ready.bay ready.arrays ready.refused ready.readies enters.vacates unspent_then fit b holds some_named f goes waits current lands goes_then traced;
+    room = is.epoch;
     seats = elim enters.vacates.seats [
       | inl given ↦ seats_through x.slices enters.vacates.tables place given.1 (views_of (book c)) disk (c.bay.sectors disk) y.slices enters.seats
       | inr kept ↦ subst (λ (u : Slices). SeatsDrive (views_of (book c)) place disk (c.bay.sectors disk) u y.slices) kept.1 enters.seats
@@ -150,10 +149,10 @@ module _ {L : Type 0} (x y : View) (place : ℕ) (name text : List ℕ) (b : Fla
   }
 
   known : IsKnownBefore h (book c)
-  known = record { outset = service.arranged; after = service.after; geometry = service.geometry }
+  known = record { outset = is.service.arranged; after = is.service.after; geometry = is.service.geometry }
 
   size_named : c.bay.sectors disk ≡ m.bay.sectors disk
-  size_named = ap (λ (z : Disks). z.sectors disk) (pool.disks_then x entered.bay name place disk entered.attaches ready.bay ready.arrays ready.refused ready.readies enters.vacates unspent_then fit b holds some_named f goes waits current lands goes_then traced)
+  size_named = ap (λ (z : Disks). z.sectors disk) is.disks
 
   -- no superblock stands on it where the place is no member, by what its image held
   bare : (n first : ℕ) → n < h.state.made → is_member h n place ≡ false → first_of h n ≡ Some first → first + super_sector < c.bay.sectors disk
@@ -163,27 +162,14 @@ module _ {L : Type 0} (x y : View) (place : ℕ) (name text : List ℕ) (b : Fla
       let sector = first + super_sector in
       let same = size_named in
       let within_named : sector < m.bay.sectors disk = omega (arith, within, same) in
-      let past = past_log h x.slices y.slices (book c) place disk (c.bay.sectors disk) sits service.slices known n first low begins none in
+      let past = past_log h x.slices y.slices (book c) place disk (c.bay.sectors disk) sits is.service.slices known n first low begins none in
       let alone =
-      fitting.alone (m.bay.sectors disk) image.0 image.1 n first low (member_then n low none) (first_then n low first begins) within_named in (
+      fitting.alone (m.bay.sectors disk) image.0 image.1 n first low (sym (is.members n place low) ∙ none) (sym (is.firsts n low) ∙ begins) within_named in (
         (let room = alone.0 in omega (arith, room, same)),
         λ v left.
             alone.1 v
-            (subst (λ g. MayLeave g v) (image.2 sector within_named) (pool.kept_then x entered.bay name place disk entered.attaches ready.bay ready.arrays ready.refused ready.readies enters.vacates unspent_then fit b holds some_named f goes waits current lands goes_then traced sector (omega (arith, past)) alone.0 v left)),
+            (subst (λ g. MayLeave g v) (image.2 sector within_named) (is.kept sector (omega (arith, past)) alone.0 v left)),
       )
-    where
-      unspent_named : (d s : ℕ) → m.bay.spent d s ≡ false
-      unspent_named = pool.unspent_named x entered.bay name place disk entered.attaches ready.bay ready.arrays ready.refused ready.readies enters.vacates unspent_then fit b holds some_named f goes waits current lands goes_then traced
-
-      member_then : (n : ℕ) → n < h.state.made → is_member h n place ≡ false → is_member f n place ≡ false
-      member_then n low none =
-          sym (one.member_named x entered.bay name disk entered.attaches unspent_named fit b holds f goes waits n place low)
-          ∙ subst (λ (g : Found). is_member g n place ≡ false) (sym pool_same) none
-
-      first_then : (n : ℕ) → n < h.state.made → (first : ℕ) → first_of h n ≡ Some first → first_of f n ≡ Some first
-      first_then n low first begins =
-          sym (one.first_named x entered.bay name disk entered.attaches unspent_named fit b holds f goes waits n low)
-          ∙ subst (λ (g : Found). first_of g n ≡ Some first) (sym pool_same) begins
 
   orderly : IsOrderly y.slices
   orderly = performs.continues.orderly goes.orderly
@@ -205,76 +191,78 @@ module _ {L : Type 0} (x y : View) (place : ℕ) (name text : List ℕ) (b : Fla
   -- the state from which it is taken in is that of before, or the place's own drive is marked by it
   which : ((book c).state ≡ (book x).state) ⊎ LosesOwn (book x).state (book y).state place (book c).state
   which = elim (cases_Bool (is_current (book c).state place)) [
-    | inl still ↦ inl (pool.same_state x entered.bay name place disk entered.attaches ready.bay ready.arrays ready.refused ready.readies enters.vacates unspent_then fit b holds some_named f goes waits current lands goes_then traced still)
+    | inl still ↦ inl (is.still still)
     | inr lost ↦
         inr (record {
           after = marks;
           sooner =
-              (let below = pool.epoch_then x entered.bay name place disk entered.attaches ready.bay ready.arrays ready.refused ready.readies enters.vacates unspent_then fit b holds some_named f goes waits current lands goes_then traced in
+              (let below = is.epoch in
               let up : raised (book c).state.epoch ≡ (book c).state.epoch + 1 = up_one (book c).state.epoch below in
               let from = enters.enlists.is.book.epoch in
               omega (arith, up, from));
           was = current;
           lost = lost;
-          others = pool.others_kept x entered.bay name place disk entered.attaches ready.bay ready.arrays ready.refused ready.readies enters.vacates unspent_then fit b holds some_named f goes waits current lands goes_then traced;
+          others = λ k away was. is.others k (current_below (book x).state k was) away;
         })
   ]
     where
       up_one : (n : ℕ) → n < 2 ^ 63 - 1 → raised n ≡ n + 1
       up_one n room = ap (λ (z : Bool). if z then n + 1 else n) (lt-ltb n (2 ^ 63 - 1) room)
 
-  abbrev Given : Image → Type 0
-  Given i =
-      HoldAmid h x.slices (book c).state (book c).state i
-      ⊎ (LogsBetween (enlisted place enters.units (Replacing place) (book c).state) (book y).state (sectors_of y.slices) (sliced y.slices i)
-      × (HaveOtherIds h (book c).state place disk i
-      → HoldAmid (taken h (disks_of c.bay) place disk (enlisted place enters.units (Replacing place) (book c).state)) y.slices (enlisted place enters.units (Replacing place) (book c).state) (book y).state i))
+  abbrev next : State
+  next = enlisted place enters.units (Replacing place) (book c).state
+
+  -- the pool without the disk until it is laid, from then on, and with it
+  abbrev At : Image → Type 0
+  At i = HoldsEither f (moment_of x) (moment_of y) place name i
+
+  before : (i : Image) → HoldAmid h x.slices (book x).state (book c).state i → At i
+  before =
+      without_then f x y place name disk enters.units (book c).state (disks_of c.bay) marks which listed disks_same units_are disk_is x.slices (inr (inr (current, refl)))
+
+  without : (t : Slices) → AreWithout (moment_of x) (moment_of y) place t → (i : Image) → HoldAmid h t (book c).state (book c).state i → At i
+  without = without_now f x y place name disk enters.units (book c).state (disks_of c.bay) marks which listed disks_same units_are disk_is
+
+  with_it : (i : Image) → LogsBetween next (book y).state (sectors_of y.slices) (sliced y.slices i)
+      → (HaveOtherIds h (book c).state place disk i → HoldAmid (taken h (disks_of c.bay) place disk next) y.slices next (book y).state i) → At i
+  with_it = with_now f x y place name disk enters.units (book c).state (disks_of c.bay) marks which listed disks_same units_are disk_is
+
+  -- from the pool that was made ready, by which the place's drive is there
+  still_amid : is_current (book c).state place ≡ true → (k : ℕ) (i : Image) → c.bay.clock < k → k ≤ y.bay.clock → y.bay.stops k i → At i
+  still_amid still k i since until stopped =
+      elim (giving c y place disk enters h x.slices (same_tables enters.vacates.seats) still is.service sits is.apart (fresh place) is.opened is.tables is.told goes_then lasts other is.lasting
+      is.traced goes.orderly is.inside orderly within bare k i since until stopped) [
+        | inl amid ↦ without x.slices (inr (inr (current, refl))) i amid
+        | inr came ↦ with_it i came.0 came.1
+      ]
+    where
+      same_tables : IsVacating c place enters.vacates.tables → enters.vacates.tables ≡ x.slices
+      same_tables (inl gone) = absurd (both_ways (is_current (book c).state place) gone.0 still)
+      same_tables (inr kept) = kept.1
+
+  -- or by which it is missing
+  lost_amid : is_current (book c).state place ≡ false → (k : ℕ) (i : Image) → c.bay.clock < k → k ≤ y.bay.clock → y.bay.stops k i → At i
+  lost_amid lost k i since until stopped =
+      elim (taking_first c y place disk enters h x.slices is.service (is.lacks lost) sits is.opened is.tables (is.left lost) lasts other is.lasting is.traced orderly within bare k i since until
+      stopped) [
+        | inl first ↦ elim first [
+          | inl laying ↦ without enters.vacates.tables (inl (is.gave lost)) i laying
+          | inr joining ↦ without y.slices (inr (inl refl)) i joining
+        ]
+        | inr came ↦
+            with_it i came.1
+            (λ ids.
+            taking_last c y place disk enters h x.slices is.service (is.lacks lost) sits is.opened is.tables (is.left lost) lasts other is.lasting is.traced orderly within bare k i came.0 until
+            stopped ids came.1)
+      ]
 
   pub giving_amid : (k : ℕ) (i : Image) → x.bay.clock < k → k ≤ y.bay.clock → y.bay.stops k i → HoldsEither f (moment_of x) (moment_of y) place name i
   giving_amid k i since until stopped = elim (cases_lt c.bay.clock k) [
     | inr early ↦
-        without_then f x y place name disk enters.units (book c).state (disks_of c.bay) marks which listed disks_same units_are disk_is x.slices (inr (inr (current, refl))) i
-        (subst (λ (g : Found). HoldAmid g x.slices (book x).state (book c).state i) pool_same
-        ((pool.readying x entered.bay name place disk entered.attaches ready.bay ready.arrays ready.refused ready.readies enters.vacates unspent_then fit b holds some_named f goes waits current lands goes_then traced).new k i (let clock = entered.attaches.clock in omega (arith, since, clock)) early
-        ((enters.enlists.only.stops (pool.traced_then x entered.bay name place disk entered.attaches ready.bay ready.arrays ready.refused ready.readies enters.vacates unspent_then fit b holds some_named f goes waits current lands goes_then traced)).past k i early stopped)))
+        before i
+        (is.readying.new k i (let clock = entered.attaches.clock in omega (arith, since, clock)) early ((enters.enlists.only.stops is.traced).past k i early stopped))
     | inl late ↦ elim (cases_Bool (is_current (book c).state place)) [
-      | inl still ↦ elim (given still k i late until stopped) [
-        | inl before ↦
-            without_now f x y place name disk enters.units (book c).state (disks_of c.bay) marks which listed disks_same units_are disk_is x.slices (inr (inr (current, refl))) i before
-        | inr after ↦
-            with_now f x y place name disk enters.units (book c).state (disks_of c.bay) marks which listed disks_same units_are disk_is i after.0 after.1
-      ]
-      | inr lost ↦ elim (taking_first c y place disk enters h x.slices service (lacks lost) sits opened tables (told_vacated lost) lasts other (pool.lasting_then x entered.bay name place disk entered.attaches ready.bay ready.arrays ready.refused ready.readies enters.vacates unspent_then fit b holds some_named f goes waits current lands goes_then traced) (pool.traced_then x entered.bay name place disk entered.attaches ready.bay ready.arrays ready.refused ready.readies enters.vacates unspent_then fit b holds some_named f goes waits current lands goes_then traced) orderly
-          within bare k i late until stopped) [
-            | inl before ↦ elim before [
-              | inl laying ↦
-                  without_now f x y place name disk enters.units (book c).state (disks_of c.bay) marks which listed disks_same units_are disk_is enters.vacates.tables (inl (pool.gave x entered.bay name place disk entered.attaches ready.bay ready.arrays ready.refused ready.readies enters.vacates unspent_then fit b holds some_named f goes waits current lands goes_then traced lost)) i
-                  laying
-              | inr joining ↦
-                  without_now f x y place name disk enters.units (book c).state (disks_of c.bay) marks which listed disks_same units_are disk_is y.slices (inr (inl refl)) i joining
-            ]
-            | inr after ↦
-                with_now f x y place name disk enters.units (book c).state (disks_of c.bay) marks which listed disks_same units_are disk_is i after.1
-                (λ ids.
-                taking_last c y place disk enters h x.slices service (lacks lost) sits opened tables (told_vacated lost) lasts other (pool.lasting_then x entered.bay name place disk entered.attaches ready.bay ready.arrays ready.refused ready.readies enters.vacates unspent_then fit b holds some_named f goes waits current lands goes_then traced) (pool.traced_then x entered.bay name place disk entered.attaches ready.bay ready.arrays ready.refused ready.readies enters.vacates unspent_then fit b holds some_named f goes waits current lands goes_then traced) orderly within
-                bare k i after.0 until stopped ids after.1)
-          ]
+      | inl still ↦ still_amid still k i late until stopped
+      | inr lost ↦ lost_amid lost k i late until stopped
     ]
   ]
-    where
-      opened : IsOpenDisk c.bay disk
-      opened = pool.opened_then x entered.bay name place disk entered.attaches ready.bay ready.arrays ready.refused ready.readies enters.vacates unspent_then fit b holds some_named f goes waits current lands goes_then traced
-
-      lacks : (lost : is_current (book c).state place ≡ false) → LacksDrive h x.slices enters.vacates.tables (book c) place c.bay
-      lacks lost = subst (λ (g : Found). LacksDrive g x.slices enters.vacates.tables (book c) place c.bay) pool_same (pool.lacks x entered.bay name place disk entered.attaches ready.bay ready.arrays ready.refused ready.readies enters.vacates unspent_then fit b holds some_named f goes waits current lands goes_then traced lost)
-
-      told_vacated : (lost : is_current (book c).state place ≡ false) → (n : ℕ) → n < h.state.made → IsTold (book c) (slices_of enters.vacates.tables c.bay) n
-      told_vacated lost = pool.told_vacated x entered.bay name place disk entered.attaches ready.bay ready.arrays ready.refused ready.readies enters.vacates unspent_then fit b holds some_named f goes waits current lands goes_then traced lost
-
-      same_then : is_current (book c).state place ≡ true → enters.vacates.tables ≡ x.slices
-      same_then still = elim enters.vacates.seats [ inl gone ↦ absurd (both_ways (is_current (book c).state place) gone.0 still) | inr kept ↦ kept.1 ]
-
-      given : (still : is_current (book c).state place ≡ true) → (k : ℕ) (i : Image) → c.bay.clock < k → k ≤ y.bay.clock → y.bay.stops k i → Given i
-      given still =
-          giving c y place disk enters h x.slices (same_then still) still service sits apart (fresh place) opened tables (pool.told x entered.bay name place disk entered.attaches ready.bay ready.arrays ready.refused ready.readies enters.vacates unspent_then fit b holds some_named f goes waits current lands goes_then traced) goes_then lasts other (pool.lasting_then x entered.bay name place disk entered.attaches ready.bay ready.arrays ready.refused ready.readies enters.vacates unspent_then fit b holds some_named f goes waits current lands goes_then traced)
-          (pool.traced_then x entered.bay name place disk entered.attaches ready.bay ready.arrays ready.refused ready.readies enters.vacates unspent_then fit b holds some_named f goes waits current lands goes_then traced) goes.orderly (pool.inside_then x entered.bay name place disk entered.attaches ready.bay ready.arrays ready.refused ready.readies enters.vacates unspent_then fit b holds some_named f goes waits current lands goes_then traced) orderly within bare

@@ -1,5 +1,5 @@
 -- What a stop leaves inside a line that was to take a drive in, and didn't: the pool with the disk that was attached.
-use Rattle.std.proofs.Common.{◌≡◌, ℕ, ◌<◌, ◌≤◌, true, false, List, length, None, refl, sym, ◌∙◌, subst, inl, inr, arith}
+use Rattle.std.proofs.Common.{◌≡◌, ℕ, ◌<◌, ◌≤◌, true, false, List, length, None, refl, sym, subst, inl, inr, arith}
 use Rattle.std.proofs.lemmas.Bool.{both_ways, cases_Bool, cases_lt}
 use Rattle.rack.specs.Seen.{Image}
 use Rattle.rack.specs.Sequences.{WritesOnly}
@@ -22,7 +22,7 @@ use Rattle.pool_model.proofs.ReplacingEarly.{replacing_declined}
 use Rattle.pool_model.proofs.TakingEarly.{declined_amid as declined_stops}
 use Rattle.array_image.specs.States.{is_current}
 use Rattle.pool.specs.declared.replacing.GrowFault.{GrowFault}
-use Rattle.pool.specs.Entering.{Cleaned, LeavesBy, LeavesReady, Vacates, meanwhile}
+use Rattle.pool.specs.Entering.{Cleaned, IsVacating, LeavesBy, LeavesReady, Vacates, meanwhile}
 use Rattle.pool.specs.Moment.{moment_of}
 use Rattle.pool.specs.Naming.{LeavesNamed}
 use Rattle.pool.specs.Replaced.{ChangesDrive}
@@ -34,9 +34,10 @@ use Rattle.shr_tool.specs.Events.Event.{declined}
 use Rattle.shr_tool.specs.Service.{GoesBy, IsFitDisk}
 use Rattle.shr_tool.specs.Timeline.{Performs}
 use Rattle.pool_model.proofs.Likewise.{amid_likewise}
+use Rattle.shr_tool.proofs.GivesWay.{after}
 use Rattle.shr_tool.proofs.NamedDisk.{apart_named, arrays_named, goes_named, lacks_named, opened, room_named, service_named, tables_named, told_named}
 use Rattle.shr_tool.proofs.Quiet.{listed_of}
-use Rattle.shr_tool.proofs.Readied as pool
+use Rattle.shr_tool.proofs.Readied.{IsReadied, readied}
 use Rattle.shr_tool.proofs.Serviced.{goes_amid}
 
 module _ {L : Type 0} (x y : View) (place : ℕ) (name : List ℕ) (fault : GrowFault) (text : List ℕ) (b : FlatArray) (looks : looks_at fault ≡ true)
@@ -112,56 +113,56 @@ module _ {L : Type 0} (x y : View) (place : ℕ) (name : List ℕ) (fault : Grow
     abbrev c : View
     c = meanwhile (over x named.bay) ready.bay ready.arrays ready.refused
 
+    abbrev h : Found
+    h = attached f (disks_of c.bay)
+
     laid_ready : (vacates : Vacates c place named.disk) → y.slices ≡ vacates.tables → WritesOnly c.bay y.bay (IsWrittenBy vacates.tables named.disk (c.bay.sectors named.disk))
         → KeepsMoments (book c) (book y) (slices_of vacates.tables c.bay) (slices_of vacates.tables y.bay) → IsAfter (book c).state (book y).state
         → (k : ℕ) (i : Image) → x.bay.clock < k → k ≤ y.bay.clock → y.bay.stops k i → HoldsLeft f (moment_of x) (moment_of y) place i
     laid_ready vacates same only moments marks k i since until stopped = elim (cases_lt c.bay.clock k) [
       | inr early ↦
           old (book x).state (book c).state (after_same (book x).state) marks
-          ((pool.readying x named.bay name place named.disk named.attaches ready.bay ready.arrays ready.refused ready.readies vacates spared fit b holds (some.0, some.1, alive) f goes waits current lands going traced).new k i (let clock = named.attaches.clock in omega (arith, since, clock)) early ((only.stops (pool.traced_then x named.bay name place named.disk named.attaches ready.bay ready.arrays ready.refused ready.readies vacates spared fit b holds (some.0, some.1, alive) f goes waits current lands going traced)).past k i early stopped))
+          (is.readying.new k i (let clock = named.attaches.clock in omega (arith, since, clock)) early ((only.stops is.traced).past k i early stopped))
       | inl late ↦ elim (cases_Bool (is_current (book c).state place)) [
         | inl still ↦
-            old (book c).state (book y).state (pool.marks x named.bay name place named.disk named.attaches ready.bay ready.arrays ready.refused ready.readies vacates spared fit b holds (some.0, some.1, alive) f goes waits current lands going traced) (after_same (book y).state)
-            ((replacing_declined (attached f (disks_of (over x named.bay).bay)) x.slices (book c) place named.disk c.bay (pool.service x named.bay name place named.disk named.attaches ready.bay ready.arrays ready.refused ready.readies vacates spared fit b holds (some.0, some.1, alive) f goes waits current lands going traced) (pool.apart x named.bay name place named.disk named.attaches ready.bay ready.arrays ready.refused ready.readies vacates spared fit b holds (some.0, some.1, alive) f goes waits current lands going traced) goes.orderly (pool.inside_then x named.bay name place named.disk named.attaches ready.bay ready.arrays ready.refused ready.readies vacates spared fit b holds (some.0, some.1, alive) f goes waits current lands going traced)
-            (pool.tables x named.bay name place named.disk named.attaches ready.bay ready.arrays ready.refused ready.readies vacates spared fit b holds (some.0, some.1, alive) f goes waits current lands going traced) (pool.opened_then x named.bay name place named.disk named.attaches ready.bay ready.arrays ready.refused ready.readies vacates spared fit b holds (some.0, some.1, alive) f goes waits current lands going traced) (pool.room_then x named.bay name place named.disk named.attaches ready.bay ready.arrays ready.refused ready.readies vacates spared fit b holds (some.0, some.1, alive) f goes waits current lands going traced) (pool.lasting_then x named.bay name place named.disk named.attaches ready.bay ready.arrays ready.refused ready.readies vacates spared fit b holds (some.0, some.1, alive) f goes waits current lands going traced) (pool.traced_then x named.bay name place named.disk named.attaches ready.bay ready.arrays ready.refused ready.readies vacates spared fit b holds (some.0, some.1, alive) f goes waits current lands going traced) (book y) y.bay
-            (subst (λ (t : Slices). WritesOnly c.bay y.bay (IsWrittenBy t named.disk (c.bay.sectors named.disk))) (same_then still) only)
-            (subst (λ (t : Slices). KeepsMoments (book c) (book y) (slices_of t c.bay) (slices_of t y.bay)) (same_then still) moments) (pool.told x named.bay name place named.disk named.attaches ready.bay ready.arrays ready.refused ready.readies vacates spared fit b holds (some.0, some.1, alive) f goes waits current lands going traced) lasts).new k i late until stopped)
+            old (book c).state (book y).state came (after_same (book y).state)
+            ((replacing_declined h x.slices (book c) place named.disk c.bay is.service is.apart goes.orderly is.inside is.tables is.opened is.room is.lasting is.traced (book y) y.bay
+            (subst (λ (t : Slices). WritesOnly c.bay y.bay (IsWrittenBy t named.disk (c.bay.sectors named.disk))) (same_tables still vacates.seats) only)
+            (subst (λ (t : Slices). KeepsMoments (book c) (book y) (slices_of t c.bay) (slices_of t y.bay)) (same_tables still vacates.seats) moments) is.told lasts).new k i late until
+            stopped)
         | inr lost ↦ (
           y.slices,
           inl refl,
-          now y.slices (book c).state (book y).state (pool.marks x named.bay name place named.disk named.attaches ready.bay ready.arrays ready.refused ready.readies vacates spared fit b holds (some.0, some.1, alive) f goes waits current lands going traced) (after_same (book y).state)
-              (subst (λ (t : Slices). HoldAmid (attached f (disks_of (over x named.bay).bay)) t (book c).state (book y).state i) (sym same)
-              ((declined_stops (attached f (disks_of (over x named.bay).bay)) x.slices vacates.tables (book c) place named.disk c.bay (pool.service x named.bay name place named.disk named.attaches ready.bay ready.arrays ready.refused ready.readies vacates spared fit b holds (some.0, some.1, alive) f goes waits current lands going traced) (pool.lacks x named.bay name place named.disk named.attaches ready.bay ready.arrays ready.refused ready.readies vacates spared fit b holds (some.0, some.1, alive) f goes waits current lands going traced lost)
-              (λ p away. pool.apart x named.bay name place named.disk named.attaches ready.bay ready.arrays ready.refused ready.readies vacates spared fit b holds (some.0, some.1, alive) f goes waits current lands going traced p) vacates.orderly vacates.fit.running.set.fit.1 (pool.tables x named.bay name place named.disk named.attaches ready.bay ready.arrays ready.refused ready.readies vacates spared fit b holds (some.0, some.1, alive) f goes waits current lands going traced) (pool.opened_then x named.bay name place named.disk named.attaches ready.bay ready.arrays ready.refused ready.readies vacates spared fit b holds (some.0, some.1, alive) f goes waits current lands going traced) (pool.room_then x named.bay name place named.disk named.attaches ready.bay ready.arrays ready.refused ready.readies vacates spared fit b holds (some.0, some.1, alive) f goes waits current lands going traced) (pool.lasting_then x named.bay name place named.disk named.attaches ready.bay ready.arrays ready.refused ready.readies vacates spared fit b holds (some.0, some.1, alive) f goes waits current lands going traced) (pool.traced_then x named.bay name place named.disk named.attaches ready.bay ready.arrays ready.refused ready.readies vacates spared fit b holds (some.0, some.1, alive) f goes waits current lands going traced)
-              (book y) y.bay only moments (pool.told_vacated x named.bay name place named.disk named.attaches ready.bay ready.arrays ready.refused ready.readies vacates spared fit b holds (some.0, some.1, alive) f goes waits current lands going traced lost) lasts).new k i late until stopped)),
+          now y.slices (book c).state (book y).state came (after_same (book y).state)
+              (subst (λ (t : Slices). HoldAmid h t (book c).state (book y).state i) (sym same)
+              ((declined_stops h x.slices vacates.tables (book c) place named.disk c.bay is.service (is.lacks lost) (λ p away. is.apart p) vacates.orderly vacates.fit.running.set.fit.1
+              is.tables is.opened is.room is.lasting is.traced (book y) y.bay only moments (is.left lost) lasts).new k i late until stopped)),
         )
       ]
     ]
       where
-        spared : (d s : ℕ) → c.bay.spent d s ≡ false
-        spared d s = only.stays.spent d s (unspent d s)
+        is : IsReadied x (over x named.bay) c place named.disk vacates.tables f h
+        is =
+            readied x named.bay name place named.disk named.attaches ready.bay ready.arrays ready.refused ready.readies vacates (λ d s. only.stays.spent d s (unspent d s)) fit b holds
+            (some.0, some.1, alive) f goes waits current lands (λ n low. moments.still n (lasts n low)) traced
 
-        going : (n : ℕ) → n < f.state.made → is_over (book c) n ≡ false
-        going n low = moments.still n (lasts n low)
+        came : IsAfter (book x).state (book c).state
+        came = after x named.bay place name named.disk named.attaches ready.bay ready.arrays ready.refused ready.readies
 
-        disks_later : disks_of y.bay ≡ disks_of c.bay
-        disks_later j = record { count = only.stays.disks j; sectors = λ d. only.stays.sectors d j }
+        disks : disks_of y.bay ≡ disks_of c.bay
+        disks j = record { count = only.stays.disks j; sectors = λ d. only.stays.sectors d j }
 
-        disks : disks_of y.bay ≡ disks_of (over x named.bay).bay
-        disks = disks_later ∙ pool.disks_then x named.bay name place named.disk named.attaches ready.bay ready.arrays ready.refused ready.readies vacates spared fit b holds (some.0, some.1, alive) f goes waits current lands going traced
-
-        now : (t : Slices) (s u : State) → IsAfter (book x).state s → IsAfter u (book y).state → HoldAmid (attached f (disks_of (over x named.bay).bay)) t s u i
+        now : (t : Slices) (s u : State) → IsAfter (book x).state s → IsAfter u (book y).state → HoldAmid h t s u i
             → HoldAmid (attached f (disks_of y.bay)) t (book x).state (book y).state i
-        now t s u from to amid =
-            amid_likewise (attached f (disks_of (over x named.bay).bay)) (attached f (disks_of y.bay)) t s u (book x).state (book y).state i disks refl refl from to amid
+        now t s u from to amid = amid_likewise h (attached f (disks_of y.bay)) t s u (book x).state (book y).state i disks refl refl from to amid
 
         -- by the slices of before
-        old : (s u : State) → IsAfter (book x).state s → IsAfter u (book y).state → HoldAmid (attached f (disks_of (over x named.bay).bay)) x.slices s u i
-            → HoldsLeft f (moment_of x) (moment_of y) place i
+        old : (s u : State) → IsAfter (book x).state s → IsAfter u (book y).state → HoldAmid h x.slices s u i → HoldsLeft f (moment_of x) (moment_of y) place i
         old s u from to amid = (x.slices, inr (current, refl), now x.slices s u from to amid)
 
-        same_then : is_current (book c).state place ≡ true → vacates.tables ≡ x.slices
-        same_then still = elim vacates.seats [ inl gone ↦ absurd (both_ways (is_current (book c).state place) gone.0 still) | inr kept ↦ kept.1 ]
+        same_tables : is_current (book c).state place ≡ true → IsVacating c place vacates.tables → vacates.tables ≡ x.slices
+        same_tables still (inl gone) = absurd (both_ways (is_current (book c).state place) gone.0 still)
+        same_tables still (inr kept) = kept.1
 
     ready_amid : (k : ℕ) (i : Image) → x.bay.clock < k → k ≤ y.bay.clock → y.bay.stops k i → HoldsLeft f (moment_of x) (moment_of y) place i
     ready_amid = elim ready.leaves [

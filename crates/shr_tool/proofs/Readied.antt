@@ -1,39 +1,42 @@
 -- A pool that was made ready for a disk at a place, whose drive wasn't missing: how a run's pool goes by it, and what stops leave until then. It was cleaned, and it may be that
 -- the place's own drive was found gone after that, while the disk was being laid.
-use Rattle.std.proofs.Common.{◌≡◌, ◌≢◌, ℕ, ◌+◌, ◌-◌, ◌<◌, ◌≤◌, ◌^◌, true, false, List, length, Some, None, Ok, refl, sym, ◌∙◌, ap, subst, inl, inr, arith}
+use Rattle.std.proofs.Common.{◌≡◌, ◌≢◌, ℕ, ◌+◌, ◌-◌, ◌<◌, ◌≤◌, ◌^◌, true, false, List, length, Some, None, Ok, refl, sym, ap, subst, inl, inr, arith}
 use Rattle.std.proofs.lemmas.Bool.{both_ways, cases_eq}
-use Rattle.rack.specs.Joins.{keeps_then, leaves_then, leaves_weaker, stays_then}
+use Rattle.rack.specs.Joins.{leaves_then, leaves_weaker, stays_then}
 use Rattle.rack.specs.Moments.{Leaves}
-use Rattle.rack.specs.Seen.{Image, IsLive, Seen, Stays}
-use Rattle.rack.specs.Values.{Keeps, MayLeave}
+use Rattle.rack.specs.Seen.{Image, IsLive, Stays}
+use Rattle.rack.specs.Values.{MayLeave}
 use Rattle.slice_rack.specs.Changes.{Seats}
 use Rattle.slice_rack.specs.Runs.{IsSliced}
-use Rattle.slice_rack.specs.Slices.{Slices, disk_of, first_of}
+use Rattle.slice_rack.specs.Slices.{Slices}
 use Rattle.slice_rack.specs.Sliced.{IsInside, slices_of}
 use Rattle.flat_array.specs.Array.{FlatArray}
+use Rattle.lvm_group.specs.Runs.{array_of}
 use Rattle.pool_state.specs.declared.contents.Copied.{Copied}
 use Rattle.pool_state.specs.declared.contents.State.{State}
-use Rattle.array_image.specs.Places.{arrays_first, log_slice, state_sector}
+use Rattle.array_image.specs.Places.{arrays_first, state_sector}
 use Rattle.array_image.specs.States.{is_current}
 use Rattle.array_core.proofs.Opened.{current_below}
 use Rattle.raid_rack.specs.declared.arrays.Arrays.{Arrays}
-use Rattle.raid_rack.specs.Book.{IsAfter, after_same, after_then}
+use Rattle.raid_rack.specs.Book.{IsAfter, after_same}
 use Rattle.raid_rack.specs.Enlisting.{IsNotWhole, IsOpenDisk}
 use Rattle.raid_rack.specs.Moves.{IsHeeded, IsSet}
-use Rattle.raid_rack.specs.Raid.{IsTold, Raid, is_over}
+use Rattle.raid_rack.specs.Raid.{IsTold, is_over}
 use Rattle.raid_rack.specs.RaidRack.{raid_by}
 use Rattle.raid_rack.specs.Unlost.{KeepsPlace}
+use Rattle.raid_rack.proofs.Noted.{current_few}
 use Rattle.raid_rack.proofs.Over.{number_room}
 use Rattle.raid_rack.proofs.Vacated.{vacated_told}
-use Rattle.pool_image.specs.Disks.{Disks, disks_of, identities_of}
-use Rattle.pool_image.specs.Drives.{Found}
+use Rattle.pool_image.specs.Disks.{disks_of, identities_of}
+use Rattle.pool_image.specs.Drives.{Found, first_of}
+use Rattle.pool_image.specs.Meaning.{is_member}
 use Rattle.pool_model.specs.InService.{InService}
 use Rattle.pool_model.specs.Left.{IsPickOff}
 use Rattle.pool_model.specs.Stopped.{HoldAmid, HoldTables}
 use Rattle.pool_model.specs.Taken.{KeepsOthers, LacksDrive, attached}
 use Rattle.pool_model.proofs.Amid.{tables_calls}
 use Rattle.pool_model.proofs.InService.{one_seat, service_attached, service_calls}
-use Rattle.pool_model.proofs.Lost.{former_value, log_there}
+use Rattle.pool_model.proofs.Lost.{former_value}
 use Rattle.pool_model.proofs.Outset.{no_later_epoch}
 use Rattle.pool_model.proofs.ReplacingEarly.{replacing_not_whole}
 use Rattle.pool_model.proofs.Tables.{tables_attached}
@@ -44,59 +47,79 @@ use Rattle.pool.specs.Moment.{moment_of, views_of}
 use Rattle.pool.specs.Taking.{AttachesDisk}
 use Rattle.pool.specs.View.{View, book, over, volume}
 use Rattle.pool.specs.Volume.{Holds, is_spent, size_of}
-use Rattle.pool.proofs.Admitted.{others_current, reaches_each}
+use Rattle.pool.proofs.Admitted.{reaches_each}
 use Rattle.pool.proofs.Readying.{many_same}
 use Rattle.shr_tool.specs.Service.{GoesBy, IsFitDisk}
 use Rattle.pool_model.proofs.Likewise.{amid_likewise}
+use Rattle.shr_tool.proofs.Former.{not_over, told_by}
+use Rattle.shr_tool.proofs.GivesWay.{after, copy_then, low_then as low_ready, others_then as others_ready, told_then as told_ready}
 use Rattle.shr_tool.proofs.NamedDisk as one
 use Rattle.shr_tool.proofs.NamedDisk.{copy_parts}
 use Rattle.shr_tool.proofs.Serviced.{goes_amid}
 
--- nothing comes to the book meanwhile but marks
-pub readied_marks : (x y : View) (place disk : ℕ) → Readies x y place disk → IsAfter (book x).state (book y).state
-readied_marks x y place disk (inl cleaned) = cleaned.ends.passes.marks
-readied_marks x y place disk (inr lose) =
-    after_then (book x).state lose.arrays.state (book y).state lose.cleaned.ends.passes.marks lose.left.not_whole.mends.moves.book
+-- What is known of a pool c that was made ready for a disk at a place: t are the tables from which the disk is taken in, f is the pool by which the run went at x, and h the same with the disk.
+pub record IsReadied (x m c : View) (place disk : ℕ) (t : Slices) (f h : Found) : Type 0 where
+  -- each other place is current, and where the place's drive wasn't lost either no state came
+  pub others : (k : ℕ) → k < length (book x).state.drives.items → k ≢ place → is_current (book c).state k ≡ true
+  pub still : is_current (book c).state place ≡ true → (book c).state ≡ (book x).state
+  pub epoch : (book c).state.epoch < 2 ^ 63 - 1
+  pub apart : (p : ℕ) → h.seats p ≡ Some disk → ⊥
+  pub members : (n p : ℕ) → n < f.state.made → is_member h n p ≡ is_member f n p
+  pub firsts : (n : ℕ) → n < f.state.made → first_of h n ≡ first_of f n
+  pub service : InService h x.slices (book c) c.bay
+  pub tables : HoldTables h x.slices (book c).state c.bay
+  pub told : (n : ℕ) → n < h.state.made → IsTold (book c) (slices_of x.slices c.bay) n
+  pub inside : IsInside x.slices c.bay
+  pub lasting : c.bay.lasting
+  pub traced : c.bay.traced
+  pub opened : IsOpenDisk c.bay disk
+  pub room : 10273 ≤ c.bay.sectors disk
+  pub disks : disks_of c.bay ≡ disks_of m.bay
+  -- outside its tables, its state and its gate the disk holds what it held
+  pub kept : (s : ℕ) → arrays_first ≤ s → s + 33 < m.bay.sectors disk → (v : List ℕ) → MayLeave (c.bay.held disk s) v → MayLeave (m.bay.held disk s) v
+  -- what a stop leaves until then
+  pub readying : Leaves m.bay c.bay (HoldAmid h x.slices (book x).state (book c).state)
+  -- where the place's drive was lost until then
+  pub gave : is_current (book c).state place ≡ false → Seats x.slices t place None
+  pub lacks : is_current (book c).state place ≡ false → LacksDrive h x.slices t (book c) place c.bay
+  pub left : is_current (book c).state place ≡ false → (n : ℕ) → n < h.state.made → IsTold (book c) (slices_of t c.bay) n
 
 module _ {L : Type 0} (x : View) (bay : x.bays.one) (name : List ℕ) (place disk : ℕ) (at : AttachesDisk x (over x bay) name (Ok disk)) (later : x.bays.one) (arrays : Arrays)
     (refused : ℕ → ℕ) (readies : Readies (over x bay) (meanwhile (over x bay) later arrays refused) place disk) (vacates : Vacates (meanwhile (over x bay) later arrays refused) place disk)
     (unspent : (d s : ℕ) → (x.bays.seen later).spent d s ≡ false) (fit : (volume x).fit) (b : FlatArray) (holds : Holds x b)
     (some : (s : ℕ) × (s < size_of x) × (is_spent x s ≡ false)) (f : Found) (goes : GoesBy L None f x) (waits : IsFitDisk f (moment_of x) name)
     (current : is_current (book x).state place ≡ true) (lands : L) (lasts : (n : ℕ) → n < f.state.made → is_over (raid_by arrays) n ≡ false) (traced : x.bay.traced) where
-  abbrev pub m : View
+  abbrev m : View
   m = over x bay
 
   -- the pool that is ready
-  abbrev pub c : View
+  abbrev c : View
   c = meanwhile m later arrays refused
 
   -- ---- whom it has lost
 
-  pub marks : IsAfter (book x).state (book c).state
-  marks = readied_marks m c place disk readies
-
-  same_drives : length (book c).state.drives.items ≡ length (book x).state.drives.items
-  same_drives = many_same (book x).state (book c).state marks
+  marks : IsAfter (book x).state (book c).state
+  marks = after x bay place name disk at later arrays refused readies
 
   -- each other place is current, since nothing was against taking the disk in
-  pub others_then : (k : ℕ) → k < length (book x).state.drives.items → k ≢ place → is_current (book c).state k ≡ true
-  others_then k low away = others_current (book c).state place vacates.admits.whole k (let same = same_drives in omega (arith, low, same)) away
+  others_then : (k : ℕ) → k < length (book x).state.drives.items → k ≢ place → is_current (book c).state k ≡ true
+  others_then = others_ready x bay place name disk at later arrays refused readies vacates.admits.whole
 
-  pub others_kept : (k : ℕ) → k ≢ place → KeepsPlace (book x).state (book c).state k
+  others_kept : (k : ℕ) → k ≢ place → KeepsPlace (book x).state (book c).state k
   others_kept k away was = others_then k (current_below (book x).state k was) away
 
-  pub all_current : (k : ℕ) → k < length (book x).state.drives.items → is_current (book x).state k ≡ true
+  all_current : (k : ℕ) → k < length (book x).state.drives.items → is_current (book x).state k ≡ true
   all_current k low = elim (cases_eq k place) [
     | inl same ↦ subst (λ p. is_current (book x).state p ≡ true) (sym same) current
     | inr away ↦ marks.current k (others_then k low away)
   ]
 
   -- so none gave up its disk
-  pub same_tables : x.slices ≡ goes.tables
+  same_tables : x.slices ≡ goes.tables
   same_tables = elim goes.vacant [ inl same ↦ same | inr gone ↦ absurd (both_ways (is_current (book x).state gone.0) gone.2.missing (all_current gone.0 gone.1)) ]
 
   -- where the place's drive wasn't lost either no state came
-  pub same_state : is_current (book c).state place ≡ true → (book c).state ≡ (book x).state
+  same_state : is_current (book c).state place ≡ true → (book c).state ≡ (book x).state
   same_state still = elim readies [
     | inl cleaned ↦
         cleaned.unlost.state
@@ -109,7 +132,7 @@ module _ {L : Type 0} (x : View) (bay : x.bays.one) (name : List ℕ) (place dis
 
   -- ---- the run's pool, with the disk
 
-  abbrev pub h : Found
+  abbrev h : Found
   h = attached f (disks_of m.bay)
 
   stays : Stays m.bay c.bay
@@ -118,24 +141,21 @@ module _ {L : Type 0} (x : View) (bay : x.bays.one) (name : List ℕ) (place dis
     | inr lose ↦ stays_then lose.cleaned.ends.passes.apart.stays lose.left.not_whole.only.stays
   ]
 
-  pub unspent_named : (d s : ℕ) → m.bay.spent d s ≡ false
+  unspent_named : (d s : ℕ) → m.bay.spent d s ≡ false
   unspent_named d s = stays.spent d s (unspent d s)
 
-  pub first : 0 < f.state.made
+  first : 0 < f.state.made
   first = (let made = goes.service.arranged.made.0 in omega (arith, made))
 
-  pub low_seat : (p d : ℕ) → f.seats p ≡ Some d → p < length (book x).state.drives.items
+  low_seat : (p d : ℕ) → f.seats p ≡ Some d → p < length (book x).state.drives.items
   low_seat p d seat =
       let low = current_below f.state p (goes.service.arranged.seated p d seat).0 in
       let same = many_same f.state (book x).state goes.service.after in
       omega (arith, low, same)
 
   -- the disk is none of its drives
-  pub apart : (p : ℕ) → f.seats p ≡ Some disk → ⊥
+  apart : (p : ℕ) → f.seats p ≡ Some disk → ⊥
   apart p seat = one.not_current x bay name disk at unspent_named fit b holds f goes waits p (all_current p (low_seat p disk seat)) seat
-
-  pub apart_each : (p d : ℕ) → f.seats p ≡ Some d → d ≢ disk
-  apart_each p d seat same = apart p (seat ∙ ap Some same)
 
   holds_named : Holds m b
   holds_named = one.holds_named x bay name disk at unspent_named fit b holds f goes waits
@@ -188,14 +208,6 @@ module _ {L : Type 0} (x : View) (bay : x.bays.one) (name : List ℕ) (place dis
 
     heeded_cleaned : IsHeeded (book z)
     heeded_cleaned = (cleaned.ends.passes.stays.fit).0.heeded
-
-  -- a place's copy can be had while calls leave no sector spent
-  copy_live : (v : Raid) (a z : Seen) → IsTold v (slices_of x.slices a) 0 → is_over v 0 ≡ false → is_current v.state place ≡ true → ((d s : ℕ) → z.spent d s ≡ false)
-      → IsLive (slices_of x.slices a) (slices_of x.slices z) (log_slice place) 0
-  copy_live v a z told goes now free =
-      let log = (told.stood goes).log in
-      let live = log.logs place 0 (log.few place now) (log.there place now refl) in
-      record { disk = live.disk; sector = live.sector; is_told = live.is_told; unspent = free (disk_of x.slices (log_slice place)) (first_of x.slices (log_slice place) + 0) }
 
   -- ---- and the place's own drive was found gone after that
 
@@ -328,17 +340,17 @@ module _ {L : Type 0} (x : View) (bay : x.bays.one) (name : List ℕ) (place dis
 
   -- ---- the pool that is ready
 
-  pub service : InService h x.slices (book c) c.bay
+  service : InService h x.slices (book c) c.bay
   service = elim readies [ inl cleaned ↦ service_cleaned later arrays refused cleaned lasts | inr lose ↦ service_lost lose ]
 
-  pub tables : HoldTables h x.slices (book c).state c.bay
+  tables : HoldTables h x.slices (book c).state c.bay
   tables = elim readies [ inl cleaned ↦ tables_cleaned later arrays refused cleaned lasts | inr lose ↦ tables_lost lose ]
 
-  pub told : (n : ℕ) → n < f.state.made → IsTold (book c) (slices_of x.slices c.bay) n
+  told : (n : ℕ) → n < f.state.made → IsTold (book c) (slices_of x.slices c.bay) n
   told n low = elim readies [ inl cleaned ↦ told_cleaned later arrays refused cleaned lasts n low | inr lose ↦ (out lose).moments.told n (told_own lose n low) ]
 
   -- what a stop leaves until then
-  pub readying : Leaves m.bay c.bay (HoldAmid h x.slices (book x).state (book c).state)
+  readying : Leaves m.bay c.bay (HoldAmid h x.slices (book x).state (book c).state)
   readying = elim readies [ inl cleaned ↦ cleaning later arrays refused cleaned lasts | inr lose ↦ losing lose ]
 
   set_then : IsSet (book c) (slices_of x.slices c.bay)
@@ -347,35 +359,35 @@ module _ {L : Type 0} (x : View) (bay : x.bays.one) (name : List ℕ) (place dis
   heeded_then : IsHeeded (book c)
   heeded_then = elim readies [ inl cleaned ↦ heeded_cleaned later arrays refused cleaned lasts | inr lose ↦ (out lose).mends.heeded ]
 
-  pub inside_then : IsInside x.slices c.bay
+  inside_then : IsInside x.slices c.bay
   inside_then = set_then.fit.1
 
-  pub lasting_then : c.bay.lasting
+  lasting_then : c.bay.lasting
   lasting_then = stays.lasting lasting_named
 
-  pub traced_then : c.bay.traced
+  traced_then : c.bay.traced
   traced_then = stays.traced traced_named
 
-  pub low_then : disk < c.bay.disks
+  low_then : disk < c.bay.disks
   low_then = (let low = at.ok.1 in let same = stays.disks in omega (arith, low, same))
 
-  pub room_then : 10273 ≤ c.bay.sectors disk
+  room_then : 10273 ≤ c.bay.sectors disk
   room_then = (reaches_each (views_of (book c)) place (c.bay.sectors disk) vacates.admits.reaches).0
 
   told_disk : (d : ℕ) → d < m.bay.disks → c.bay.told d
   told_disk d low = stays.told d (holds_named.disks d low)
 
-  pub opened_then : IsOpenDisk c.bay disk
+  opened_then : IsOpenDisk c.bay disk
   opened_then s within = record { disk = low_then; sector = within; is_told = told_disk disk at.ok.1; unspent = unspent disk s }
 
-  pub epoch_then : (book c).state.epoch < 2 ^ 63 - 1
+  epoch_then : (book c).state.epoch < 2 ^ 63 - 1
   epoch_then = (let most = (number_room (book c) 0 (lasts 0 first)).1 in omega (arith, most))
 
-  pub disks_then : disks_of c.bay ≡ disks_of m.bay
+  disks_then : disks_of c.bay ≡ disks_of m.bay
   disks_then j = record { count = stays.disks j; sectors = λ d. stays.sectors d j }
 
   -- outside its tables, its state and its gate the disk holds what it held
-  pub kept_then : (s : ℕ) → arrays_first ≤ s → s + 33 < m.bay.sectors disk → (v : List ℕ) → MayLeave (c.bay.held disk s) v → MayLeave (m.bay.held disk s) v
+  kept_then : (s : ℕ) → arrays_first ≤ s → s + 33 < m.bay.sectors disk → (v : List ℕ) → MayLeave (c.bay.held disk s) v → MayLeave (m.bay.held disk s) v
   kept_then s past before v left = elim readies [
     | inl cleaned ↦ still later arrays refused cleaned unspent left
     | inr lose ↦
@@ -406,68 +418,73 @@ module _ {L : Type 0} (x : View) (bay : x.bays.one) (name : List ℕ) (place dis
   -- ---- where the place's drive was lost until then
 
   module _ (missing : is_current (book c).state place ≡ false) where
-    pub gave : Seats x.slices vacates.tables place None
+    gave : Seats x.slices vacates.tables place None
     gave = elim vacates.seats [ inl given ↦ given.1 | inr kept ↦ absurd (both_ways (is_current (book c).state place) missing kept.0) ]
 
     -- its mark came by a state of a later epoch
-    pub raised_then : (book x).state.epoch < (book c).state.epoch
+    raised_then : (book x).state.epoch < (book c).state.epoch
     raised_then = elim marks.raised [
       | inl same ↦ absurd (both_ways (is_current (book c).state place) missing (subst (λ (s : State). is_current s place ≡ true) (sym same) current))
       | inr (inl above) ↦ above
       | inr (inr most) ↦ (let below = epoch_then in absurd (omega (arith, most, below)))
     ]
 
-    lasts_first : is_over (book x) 0 ≡ false
-    lasts_first = elim readies [
-      | inl cleaned ↦ lasts_named later arrays refused cleaned lasts 0 first
-      | inr lose ↦ lasts_named lose.bay lose.arrays lose.refused lose.cleaned (going_lost lose) 0 first
-    ]
-
-    -- its copy of the state isn't written meanwhile, since no other drive was lost
-    copies : Keeps ((slices_of x.slices m.bay).held (log_slice place) 0) ((slices_of x.slices c.bay).held (log_slice place) 0)
-    copies = elim readies [
-      | inl cleaned ↦
-          cleaned.unlost.copies place others_kept (copy_live (book x) m.bay c.bay (told_named 0 first) lasts_first current unspent)
-      | inr lose ↦
-          keeps_then ((slices_of x.slices m.bay).held (log_slice place) 0) ((slices_of x.slices (w lose).bay).held (log_slice place) 0) ((slices_of x.slices c.bay).held (log_slice place) 0)
-          (lose.cleaned.unlost.copies place (λ k away was. (out lose).mends.moves.book.current k (others_kept k away was))
-          (copy_live (book x) m.bay (w lose).bay (told_named 0 first) lasts_first current (unspent_own lose)))
-          ((out lose).unlost.copies place
-          (λ k away was. others_kept k away (lose.cleaned.ends.passes.marks.current k was))
-          (copy_live (book (w lose)) (w lose).bay c.bay (told_own lose 0 first) (going_lost lose 0 first) lose.current unspent))
-    ]
-
-    -- so it says the state of before at most
+    -- the drive's copy of the state isn't written meanwhile, so it says the state of before at most
     earlier : (d : ℕ) → f.seats place ≡ Some d → (i : Image) → IsPickOff vacates.tables c.bay i → (copy : Copied)
         → (identities_of (disks_of c.bay) i d).copied ≡ Some copy → copy.state.epoch < (book c).state.epoch
     earlier d seat i off copy here =
         let parts = copy_parts (c.bay.sectors d) (i d state_sector) copy here in
-        let low : d < m.bay.disks =
-        (let there = (goes.service.arranged.seated place d seat).1 in
-        let same = ap (λ (z : Disks). z.count) goes.service.disks in
-        let more = at.continues.disks in
-        omega (arith, there, same, more)) in
         let left =
         off d state_sector
-        (record { disk = (let same = stays.disks in omega (arith, low, same)); sector = parts.0; is_told = told_disk d low; unspent = unspent d state_sector })
+        (record {
+          disk = low_ready x bay place name disk at later arrays refused readies vacates.admits.whole unspent fit f goes d seat same_tables holds;
+          sector = parts.0;
+          is_told = told_ready x bay place name disk at later arrays refused readies vacates.admits.whole unspent fit f goes d seat same_tables holds;
+          unspent = unspent d state_sector;
+        })
         (λ u is.
         vacant_free x.slices vacates.tables place gave h service.slices d state_sector u (λ q other. one_seat h x.slices (book c) c.bay service q place d other seat) is) in
-        let kept : Keeps (m.bay.held d state_sector) (c.bay.held d state_sector) =
-        subst (λ g. Keeps g (c.bay.held d state_sector)) (log_there h x.slices m.bay place d service.slices seat 0)
-        (subst (λ g. Keeps ((slices_of x.slices m.bay).held (log_slice place) 0) g) (log_there h x.slices c.bay place d service.slices seat 0) copies) in
-        let small = ((told_named 0 first).stood lasts_first).log.few place current in
+        let kept = copy_then x bay place name disk at later arrays refused readies vacates.admits.whole unspent fit f goes d seat same_tables holds in
         let most =
         no_later_epoch (book x).state copy
-        (former_value h x.slices vacates.tables (book x) m.bay c.bay place d service.slices seat small 0 (told_named 0 first) lasts_first (i d state_sector) copy
+        (former_value h x.slices vacates.tables (book x) x.bay c.bay place d service.slices seat (current_few f.state place goes.service.arranged.places (goes.service.arranged.seated place d seat).0)
+        (array_of x.linear some.0) (told_by x b some.0 fit holds some.1 some.2) (not_over x.linear (book x) some.0 some.2) (i d state_sector) copy
         (kept.within (i d state_sector) left) parts.1) in
         let up = raised_then in
         omega (arith, most, up)
 
-    pub lacks : LacksDrive h x.slices vacates.tables (book c) place c.bay
+    lacks : LacksDrive h x.slices vacates.tables (book c) place c.bay
     lacks = record { vacated = gave; missing = missing; earlier = earlier }
 
     -- each array is told by the slices that are left
-    pub told_vacated : (n : ℕ) → n < f.state.made → IsTold (book c) (slices_of vacates.tables c.bay) n
+    told_vacated : (n : ℕ) → n < f.state.made → IsTold (book c) (slices_of vacates.tables c.bay) n
     told_vacated n low =
         vacated_told place x.slices vacates.tables c.bay gave (book c) heeded_then missing set_then vacates.fit.running.set.fit n
         (let was = goes.service.after.same.made in let made = marks.same.made in omega (arith, low, was, made)) (told n low)
+
+  pool_then : h ≡ attached f (disks_of c.bay)
+  pool_then = ap (attached f) (sym disks_then)
+
+  pub readied : IsReadied x m c place disk vacates.tables f (attached f (disks_of c.bay))
+  readied = subst (λ (g : Found). IsReadied x m c place disk vacates.tables f g) pool_then (record {
+    others = others_then;
+    still = same_state;
+    epoch = epoch_then;
+    apart = apart;
+    members = λ n p low. one.member_named x bay name disk at unspent_named fit b holds f goes waits n p low;
+    firsts = one.first_named x bay name disk at unspent_named fit b holds f goes waits;
+    service = service;
+    tables = tables;
+    told = told;
+    inside = inside_then;
+    lasting = lasting_then;
+    traced = traced_then;
+    opened = opened_then;
+    room = room_then;
+    disks = disks_then;
+    kept = kept_then;
+    readying = readying;
+    gave = gave;
+    lacks = lacks;
+    left = told_vacated;
+  })
