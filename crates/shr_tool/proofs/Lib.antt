@@ -41,5 +41,6 @@ mod TakingStops
 mod Through
 mod Told
 mod TurnedDown
+mod UnlostStub
 mod Within
 mod LeavingStops
