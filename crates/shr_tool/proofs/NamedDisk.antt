@@ -218,9 +218,11 @@ module _ {L : Type 0} {o : Option Lone} (x : View) (bay : x.bays.one) (name : Li
   }
 
   -- its arrays are told, where a sector of the volume can be had
+  told_arrays : (s : ℕ) → s < size_of x → is_spent x s ≡ false → (n : ℕ) → n < x.linear.arrays → IsTold (book x) (slices_of x.slices m.bay) n
+  told_arrays s low left = at.carries.told holds.shelf holds.disks s low left (holds.told s (let same = holds.size in omega (arith, low, same)) left)
+
   pub arrays_named : (s : ℕ) → s < size_of x → is_spent x s ≡ false → (n : ℕ) → n < f.state.made → IsTold (book x) (slices_of x.slices m.bay) n
-  arrays_named s low left n below =
-      at.carries.told holds.shelf holds.disks s low left (holds.told s (let same = holds.size in omega (arith, low, same)) left) n (subst (λ k. n < k) (sym goes.arrays) below)
+  arrays_named s low left n below = told_arrays s low left n (subst (λ k. n < k) (sym goes.arrays) below)
 
   -- what is remembered of a place's drive
   pub sector_named : (p s : ℕ) → drive_sector h p s ≡ drive_sector f p s
@@ -293,6 +295,5 @@ module _ {L : Type 0} {o : Option Lone} (x : View) (bay : x.bays.one) (name : Li
     -- each array is told by the slices that are left
     pub told_named : (n : ℕ) → n < x.linear.arrays → IsTold (book x) (slices_of u m.bay) n
     told_named n low =
-        let told = at.carries.told holds.shelf holds.disks some within alive (holds.told some (let same = holds.size in omega (arith, within, same)) alive) n low in
         vacated_told place x.slices u m.bay gave (book x) fit.0.heeded none at.continues.fit.0.running.set vacates.fit.running.set.fit n
-        (let arrays = fit.1.arrays in omega (arith, low, arrays)) told
+        (let arrays = fit.1.arrays in omega (arith, low, arrays)) (told_arrays some within alive n low)
