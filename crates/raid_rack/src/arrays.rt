@@ -41,7 +41,6 @@ impl<R: Rack> RaidRack<R> {
     ghost use Rattle.std.specs.Borrow.{sem, Lends};
     ghost use Rattle.slice_rack.specs.contracts.SliceRack as sliced;
     ghost use Rattle.raid_rack.specs.contracts.arrays.RaidRack.{the_row};
-    ghost use Rattle.slice_rack.specs.SliceRack.{below_of};
     ghost use Rattle.array_image.specs.States.{is_current};
     ghost use Rattle.raid_rack.specs.Losses.{has_other};
     ghost use Rattle.raid_rack.specs.Moves.{AreMarked, Mends, RaisesBy, noted_at};

@@ -1,10 +1,9 @@
 //! A new drive is taken in at a place, whose drive is missing or gives way to it.
 
-ghost use Rattle.std.specs.Prelude.{◌≡◌, ◌≢◌, ◌<◌, ◌≤◌, ◌+◌, ◌-◌, ◌^◌, ℕ, All, Err, Some, OnOk, OnErr, true, false, [], ◌∷◌, length, slice_get, slice_set, option_map};
+ghost use Rattle.std.specs.Prelude.{◌≡◌, ◌≢◌, ◌<◌, ◌≤◌, ◌+◌, ◌-◌, ◌^◌, ℕ, Err, Some, OnOk, OnErr, true, false, [], ◌∷◌, length, slice_get, slice_set, option_map};
 ghost use Rattle.slice_rack.specs.SliceRack.{below_of, tables};
 ghost use Rattle.slice_rack.specs.Slices.{seat_of as disk_at};
 ghost use Rattle.array_image.specs.States.{is_current};
-ghost use Rattle.array_model.specs.View.{View};
 ghost use Rattle.array_model.specs.declared.Seat.TheVariants.{Missing};
 ghost use Rattle.array_core.specs.Seats.{gone, heeded, seat_of};
 ghost use Rattle.raid_rack.specs.Moves.{IsHeeded, Mends, RaisesBy};
