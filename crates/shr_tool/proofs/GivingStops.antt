@@ -12,7 +12,6 @@ use Rattle.shr_base.specs.declared.Id.{Id}
 use Rattle.pool_state.specs.declared.contents.Plan.TheVariants.{Replace as Replacing}
 use Rattle.pool_state.specs.declared.contents.State.{State}
 use Rattle.array_image.specs.Places.{super_sector}
-use Rattle.array_core.proofs.Opened.{current_below}
 use Rattle.array_image.specs.States.{is_current}
 use Rattle.array_image.specs.Supers.{super_of}
 use Rattle.raid_rack.specs.Book.{IsAfter}
@@ -129,16 +128,10 @@ module _ {L : Type 0} (x y : View) (place : ℕ) (name text : List ℕ) (b : Fla
       (positions_of (book c).state n ((book c).arrays n) (slices_of enters.vacates.tables c.bay) (enters.vacates.fit.running.set.arrays n less))
       (new.reached_of (views_of (book c)) place (c.bay.sectors disk) n ((reaches_each (views_of (book c)) place (c.bay.sectors disk) enters.vacates.admits.reaches).1 n))
 
-  low_seat : (k d : ℕ) → f.seats k ≡ Some d → k < length (book x).state.drives.items
-  low_seat k d seat =
-      let low = current_below f.state k (goes.service.arranged.seated k d seat).0 in
-      let same = many_same f.state (book x).state goes.service.after in
-      omega (arith, low, same)
-
   sits : SeatsNew h x.slices y.slices (book c) place disk (c.bay.sectors disk)
   sits = record {
     listed = (let same = many_same (book x).state (book c).state marks in let low = listed in omega (arith, low, same));
-    others = λ k d away seat. (is.others k (low_seat k d seat) away, λ same. is.apart k (seat ∙ ap Some same));
+    others = λ k d away seat. (is.seated k d away seat, λ same. is.apart k (seat ∙ ap Some same));
     fresh = λ p away. fresh p;
     room = is.epoch;
     seats = elim enters.vacates.seats [
@@ -202,7 +195,7 @@ module _ {L : Type 0} (x y : View) (place : ℕ) (name text : List ℕ) (b : Fla
               omega (arith, up, from));
           was = current;
           lost = lost;
-          others = λ k away was. is.others k (current_below (book x).state k was) away;
+          others = is.others;
         })
   ]
     where

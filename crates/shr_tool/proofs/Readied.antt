@@ -59,8 +59,9 @@ use Rattle.shr_tool.proofs.Serviced.{goes_amid}
 
 -- What is known of a pool c that was made ready for a disk at a place: t are the tables from which the disk is taken in, f is the pool by which the run went at x, and h the same with the disk.
 pub record IsReadied (x m c : View) (place disk : ℕ) (t : Slices) (f h : Found) : Type 0 where
-  -- each other place is current, and where the place's drive wasn't lost either no state came
-  pub others : (k : ℕ) → k < length (book x).state.drives.items → k ≢ place → is_current (book c).state k ≡ true
+  -- no other drive was lost, and where the place's own wasn't either no state came
+  pub others : (k : ℕ) → k ≢ place → KeepsPlace (book x).state (book c).state k
+  pub seated : (k d : ℕ) → k ≢ place → h.seats k ≡ Some d → is_current (book c).state k ≡ true
   pub still : is_current (book c).state place ≡ true → (book c).state ≡ (book x).state
   pub epoch : (book c).state.epoch < 2 ^ 63 - 1
   pub apart : (p : ℕ) → h.seats p ≡ Some disk → ⊥
@@ -180,10 +181,10 @@ module _ {L : Type 0} (x : View) (bay : x.bays.one) (name : List ℕ) (place dis
 
   -- ---- once it was cleaned
 
-  module _ (amid : x.bays.one) (cleared : Arrays) (answers : ℕ → ℕ) (cleaned : Cleaned m (meanwhile m amid cleared answers))
+  module _ (between : x.bays.one) (cleared : Arrays) (answers : ℕ → ℕ) (cleaned : Cleaned m (meanwhile m between cleared answers))
       (going : (n : ℕ) → n < f.state.made → is_over (raid_by cleared) n ≡ false) where
     abbrev z : View
-    z = meanwhile m amid cleared answers
+    z = meanwhile m between cleared answers
 
     service_cleaned : InService h x.slices (book z) z.bay
     service_cleaned =
@@ -195,9 +196,6 @@ module _ {L : Type 0} (x : View) (bay : x.bays.one) (name : List ℕ) (place dis
 
     told_cleaned : (n : ℕ) → n < f.state.made → IsTold (book z) (slices_of x.slices z.bay) n
     told_cleaned n low = cleaned.ends.passes.moments.told n (told_named n low)
-
-    lasts_named : (n : ℕ) → n < f.state.made → is_over (book x) n ≡ false
-    lasts_named n low = cleaned.ends.passes.moments.still n (going n low)
 
     cleaning : Leaves m.bay z.bay (HoldAmid h x.slices (book x).state (book z).state)
     cleaning =
@@ -403,9 +401,9 @@ module _ {L : Type 0} (x : View) (bay : x.bays.one) (name : List ℕ) (place dis
         ])
   ]
     where
-      still : (amid : x.bays.one) (cleared : Arrays) (answers : ℕ → ℕ) → Cleaned m (meanwhile m amid cleared answers) → ((d k : ℕ) → (x.bays.seen amid).spent d k ≡ false)
-          → MayLeave ((x.bays.seen amid).held disk s) v → MayLeave (m.bay.held disk s) v
-      still amid cleared answers cleaned free may =
+      still : (between : x.bays.one) (cleared : Arrays) (answers : ℕ → ℕ) → Cleaned m (meanwhile m between cleared answers) → ((d k : ℕ) → (x.bays.seen between).spent d k ≡ false)
+          → MayLeave ((x.bays.seen between).held disk s) v → MayLeave (m.bay.held disk s) v
+      still between cleared answers cleaned free may =
           (cleaned.ends.passes.apart.others disk s
           (record {
             disk = (let low = at.ok.1 in let same = cleaned.ends.passes.apart.stays.disks in omega (arith, low, same));
@@ -467,7 +465,8 @@ module _ {L : Type 0} (x : View) (bay : x.bays.one) (name : List ℕ) (place dis
 
   pub readied : IsReadied x m c place disk vacates.tables f (attached f (disks_of c.bay))
   readied = subst (λ (g : Found). IsReadied x m c place disk vacates.tables f g) pool_then (record {
-    others = others_then;
+    others = others_kept;
+    seated = λ k d away seat. others_then k (low_seat k d seat) away;
     still = same_state;
     epoch = epoch_then;
     apart = apart;
