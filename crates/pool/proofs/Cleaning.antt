@@ -23,6 +23,7 @@ use Rattle.raid_rack.proofs.Moving.{moves_bring}
 use Rattle.raid_rack.proofs.Serving.{whole_call}
 use Rattle.raid_rack.specs.Runs.{KeepsMoments}
 use Rattle.raid_rack.specs.Truths.{KeepsTruths}
+use Rattle.raid_rack.specs.Unlost.{KeepsUnlost}
 use Rattle.raid_rack.proofs.TruthAgrees.{cleans_settled, truth_agrees}
 use Rattle.raid_rack.proofs.Whole.{before_amid}
 use Rattle.pool.specs.declared.Pool.{Pool}
@@ -60,6 +61,7 @@ pub record IsCleaned {R : Type 0} (seen : R → Seen) (runs : R → R → Type 0
   pub ran : SliceRuns seen runs (slices_in old) (slices_in new)
   pub truths : KeepsTruths (raid_in old) (raid_in new) (slices_seen seen old) (slices_seen seen new)
   pub moments : KeepsMoments (raid_in old) (raid_in new) (slices_seen seen old) (slices_seen seen new)
+  pub unlost : KeepsUnlost (raid_in old).state (raid_in new).state (slices_seen seen old) (slices_seen seen new)
 
 -- where no disk of the bay has a new fault, no slice has one
 none_fails : (x y : View) → y.slices ≡ x.slices → ((d : ℕ) → Rose (x.bay.faults d) (y.bay.faults d) → ⊥) → NoneFails (slices_shown x) (slices_shown y)
@@ -100,7 +102,7 @@ clean_done seen shelf runs laws names p raid fit cleaned =
           (cleans_settled (λ k. nat_lt k (book x).state.made) (book x) (book y) (slices_shown x) (slices_shown y) n cleaned.cleans (none_fails x y cleaned.ran.tables quiet) low
           (lt-ltb n (book x).state.made low));
     } in (
-      record { ends = ends; raises = cleaned.raises; plan = moves.plan; arrays = moves.arrays },
+      record { ends = ends; raises = cleaned.raises; plan = moves.plan; arrays = moves.arrays; unlost = cleaned.unlost },
       carries_kept x y stays (reached_keeps seen shelf p raid fit cleaned.keeps) moves.book.same.made (λ names all. cleaned.truths)
           (λ names all. held_moves x y.bay y.slices y.arrays fit stays.fit.0 moves),
     )

@@ -16,14 +16,12 @@ use Rattle.array_model.specs.Says.{Says}
 use Rattle.gpt_table.specs.declared.Table.{Table}
 use Rattle.gpt_table.specs.Disk.{HoldsCopy, now_on}
 use Rattle.gpt_table.specs.Plans.{IsOfTable}
-use Rattle.array_model.specs.View.{View as ArrayView, place_at, spent_in}
+use Rattle.array_model.specs.View.{place_at, spent_in}
 use Rattle.commit_log.proofs.Kept.{place_of_log}
 use Rattle.lvm_group.specs.Laws.{array_below, shows}
 use Rattle.lvm_group.specs.Runs.{IsOrderly as IsOrderlyVolume, array_of, sector_of}
 use Rattle.pool_state.specs.declared.contents.Plan.TheVariants.{Replace}
 use Rattle.pool_state.specs.declared.contents.State.{State}
-use Rattle.array_core.specs.Seats.{renewed}
-use Rattle.shr_base.specs.declared.Id.{Id}
 use Rattle.raid_rack.specs.declared.arrays.Arrays.{Arrays}
 use Rattle.raid_rack.specs.Enlisting.{Enlists, HoldsTable, IsWrittenBy, KeepsTold, SaysReplacing, enlisted, new_table, next_drive, with_drive}
 use Rattle.raid_rack.specs.Marking.{SaysBetween}
@@ -41,6 +39,8 @@ use Rattle.raid_rack.proofs.Over.{number_room, or_from}
 use Rattle.raid_rack.specs.Missing.{raised}
 use Rattle.std.specs.Option.{option_map_or}
 use Rattle.raid_rack.proofs.Enlisted.{current_enlisted}
+use Rattle.raid_rack.proofs.LayingDrive.{in_disk}
+use Rattle.raid_rack.proofs.Renewed.{renewed_went}
 use Rattle.raid_rack.proofs.Whole.{heeded_left}
 use Rattle.shr_base.specs.Units.{units_of}
 use Rattle.pool.specs.declared.replacing.GrowFault.{GrowFault}
@@ -61,19 +61,6 @@ use Rattle.pool.proofs.Keeping.{not_left, went}
 use Rattle.pool.proofs.Later.{inside_later, later}
 use Rattle.pool.proofs.Shown.{views_are}
 use Rattle.pool.proofs.Taken.{goes_on, laid_by, low_disk, mid_carries, mid_fit, mid_goes, outside_of_it, retired_by, vacates}
-
--- the sectors of a table lie on its disk
-of_table : (sectors k : ℕ) → 10273 ≤ sectors → IsOfTable sectors k → k < sectors
-of_table sectors k room (inl is) = omega (arith, room, is)
-of_table sectors k room (inr (inl (inl is))) = omega (arith, room, is)
-of_table sectors k room (inr (inl (inr among))) = let high = among.1 in omega (arith, room, high)
-of_table sectors k room (inr (inr (inl is))) = omega (arith, room, is)
-of_table sectors k room (inr (inr (inr among))) = let high = among.1 in omega (arith, room, high)
-
--- whoever went, went before
-renewed_went : (c : Bool) (place : ℕ) (drive : Id) (a : ArrayView) → (if c then renewed place drive a else a).went ≡ a.went
-renewed_went true place drive a = refl
-renewed_went false place drive a = refl
 
 module _ (x : View) (b : Seen) (s : Shelf) (place disk units : ℕ) (t u : Slices) (z : Arrays) (linear : IsOrderlyVolume x.linear) (fit : (volume x).fit)
     (kind : IsVacating x place t) (empty : IsFit x.arrays (slices_of t x.bay))
@@ -479,4 +466,4 @@ module _ (x : View) (b : Seen) (s : Shelf) (place disk units : ℕ) (t u : Slice
       }
 
       table_inside : (k : ℕ) → IsOfTable (x.bay.sectors disk) k → k < x.bay.sectors disk
-      table_inside k of = let room = (reaches_each (views_of (book x)) place (x.bay.sectors disk) admits.reaches).0 in of_table (x.bay.sectors disk) k room of
+      table_inside k of = let room = (reaches_each (views_of (book x)) place (x.bay.sectors disk) admits.reaches).0 in in_disk (x.bay.sectors disk) k room of

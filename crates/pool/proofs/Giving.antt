@@ -25,7 +25,7 @@ use Rattle.raid_rack.specs.NewDrive.{IsOfDrive as IsLaid, SeatsDrive, drive_tabl
 use Rattle.raid_rack.proofs.Apart.{seat_is}
 use Rattle.raid_rack.proofs.Enlisted.{current_enlisted}
 use Rattle.raid_rack.proofs.Raises.{raises_more, raises_then}
-use Rattle.pool.proofs.Members.{seats_same}
+use Rattle.raid_rack.proofs.Renewing.{seats_same}
 use Rattle.raid_rack.proofs.Whole.{heeded_left}
 use Rattle.pool.specs.declared.replacing.GrowFault.{GrowFault}
 use Rattle.pool.specs.declared.replacing.GrowFault.TheVariants.{Gone, NotWhole}

@@ -16,7 +16,6 @@ mod Late
 mod Composed
 mod Vacating
 mod Taken
-mod Members
 pub mod Enlisted
 pub mod Readying
 mod Entered

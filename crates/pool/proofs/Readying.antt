@@ -25,7 +25,8 @@ use Rattle.raid_rack.specs.RaidRack.{IsRunning, no_array, raid_by}
 use Rattle.raid_rack.specs.Missing.{raised}
 use Rattle.raid_rack.proofs.Committed.{raised_range}
 use Rattle.raid_rack.proofs.Enlisted.{current_enlisted}
-use Rattle.pool.proofs.Members.{AreSameMembers, first_same, joins_same, length_same, member_found, renewed_if, same_members}
+use Rattle.raid_rack.proofs.Renewed.{member_found}
+use Rattle.raid_rack.proofs.Renewing.{AreSameMembers, first_same, joins_same, length_same, renewed_if, same_members}
 use Rattle.shr_base.specs.Units.{units_of}
 use Rattle.pool.specs.Moment.{views_of}
 use Rattle.pool.specs.Replacing.{IsAdmitted, has_other_missing, has_units}

@@ -10,11 +10,12 @@ use Rattle.raid_rack.specs.declared.arrays.Arrays.{Arrays}
 use Rattle.raid_rack.specs.Moves.{KeepsArrays, RaisesBy}
 use Rattle.raid_rack.specs.NewDrive.{SeatsDrive}
 use Rattle.raid_rack.specs.RaidRack.{IsFit}
+use Rattle.raid_rack.specs.Unlost.{KeepsUnlost}
 use Rattle.pool.specs.Moment.{views_of}
 use Rattle.pool.specs.Calls.{Ends}
 use Rattle.pool.specs.Continuing.{KeepsDisk}
 use Rattle.pool.specs.Replacing.{IsAdmitted}
-use Rattle.pool.specs.View.{View, book}
+use Rattle.pool.specs.View.{View, book, slices_shown}
 
 -- the tables from which a disk is taken in at a place: where the place's drive is missing, those in which the place has given up the disk that it had, and else
 -- those that there are
@@ -64,6 +65,7 @@ pub record Cleaned (x y : View) : Type 0 where
   pub raises : RaisesBy 288 (book x) (book y)
   pub plan : (book y).state.plan ≡ (book x).state.plan
   pub arrays : KeepsArrays (book x) (book y)
+  pub unlost : KeepsUnlost (book x).state (book y).state (slices_shown x) (slices_shown y)
 
 -- a pool meanwhile: over the bay and with the arrays that there are then, while its slices lie where they lay
 abbrev pub meanwhile : (x : View) → x.bays.one → Arrays → (ℕ → ℕ) → View

@@ -1,6 +1,6 @@
 //! The calls of an opened pool.
 
-ghost use Rattle.std.specs.Prelude.{◌≡◌, ◌<◌, ◌^◌, ◌∷◌, None, Some, OnErr, MatchOption, slice_get};
+ghost use Rattle.std.specs.Prelude.{◌≡◌, ◌<◌, ◌^◌, None, Some, OnErr, MatchOption, slice_get};
 ghost use Rattle.array_image.specs.States.{is_current};
 ghost use Rattle.pool.specs.View.{arrays_of, bay_in, book, view, volume};
 ghost use Rattle.pool.specs.Volume.{size_of};

@@ -1,6 +1,6 @@
 //! Pools that are opened or made on the disks of a bay.
 
-ghost use Rattle.std.specs.Prelude.{◌≡◌, ◌≢◌, ◌⊎◌, ◌<◌, ◌≤◌, ◌^◌, ◌↔◌, ◌&&◌, ℕ, is_some, true, IfOk, IfErr};
+ghost use Rattle.std.specs.Prelude.{◌≡◌, ◌≢◌, ◌⊎◌, ◌<◌, ◌↔◌, ◌&&◌, ℕ, is_some, true, IfOk, IfErr};
 ghost use Rattle.rack.specs.Seen.{Rose};
 ghost use Rattle.rack.specs.Sequences.{OnlyReads};
 ghost use Rattle.array_image.specs.States.{is_current};

@@ -4,10 +4,9 @@ ghost use Rattle.std.specs.Prelude.{◌≡◌, ◌<◌, ◌≤◌, ◌^◌, leng
 ghost use Rattle.std.specs.List.{list_any};
 ghost use Rattle.std.specs.Result.{result_err};
 ghost use Rattle.growth_plan.specs.Book.{IsBook};
-ghost use Rattle.growth_plan.specs.Target.{targets};
 ghost use Rattle.pool.specs.View.{book, view, volume};
 ghost use Rattle.pool.specs.Moment.{views_of};
-ghost use Rattle.pool.specs.Works.{arrays_now, progress_by};
+ghost use Rattle.pool.specs.Works.{progress_by};
 ghost use Rattle.raid_rack.specs.NewDrive.{reaches_all};
 ghost use Rattle.pool.specs.Replacing as spec;
 

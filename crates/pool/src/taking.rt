@@ -1,9 +1,8 @@
 //! The drive of a place is replaced by the disk of a name.
 
-ghost use Rattle.std.specs.Prelude.{◌≡◌, ◌≢◌, ◌<◌, ◌≤◌, ◌^◌, ℕ, Some, None, Err, OnOk, OnErr, true, false, length, slice_get, option_map};
+ghost use Rattle.std.specs.Prelude.{◌≡◌, ◌<◌, Some, None, Err, true, false, length, slice_get, option_map};
 ghost use Rattle.rack.specs.Shelf.{Attaches};
 ghost use Rattle.array_image.specs.States.{is_current};
-ghost use Rattle.slice_rack.specs.Slices.{seat_of};
 ghost use Rattle.pool.specs.Moment.{moment_of};
 ghost use Rattle.pool.specs.Naming.{ReplacesDrive};
 ghost use Rattle.pool.specs.Replaced.{is_vacant};
@@ -132,7 +131,7 @@ impl<R: Bay> Pool<R> {
         let raid = self.volume.inner();
         match raid.enlist(place, disk, units, Plan::Replace { place }) {
             Ok(()) => Ok(()),
-            Err(EnlistFault::Gone) => Err(GrowFault::Gone), // nobody else
+            Err(EnlistFault::Gone) => Err(GrowFault::Gone),
             Err(EnlistFault::NotWhole) => Err(GrowFault::NotWhole),
         }
     }

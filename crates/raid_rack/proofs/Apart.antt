@@ -29,7 +29,9 @@ use Rattle.raid_rack.proofs.Reading.{part_unread}
 use Rattle.raid_rack.proofs.Rows.{clear_same, rows_read}
 use Rattle.raid_rack.proofs.Serving.{moments_call}
 use Rattle.raid_rack.specs.Truths.{KeepsTruths}
+use Rattle.raid_rack.specs.Unlost.{KeepsUnlost}
 use Rattle.raid_rack.proofs.Truths.{truths_reads, truths_then}
+use Rattle.raid_rack.proofs.Unlost.{unlost_reads, unlost_then}
 
 -- a slice with a sector is on the disk of its place
 pub seat_is : (t : Slices) (d s : ℕ) → IsOrderly t → s < sectors_of t d → seat_of t (place_of d) ≡ Some (disk_of t d)
@@ -152,8 +154,8 @@ refused_lay t disk r a b orderly free fit only gone =
 pub not_whole : (t : Slices) (disk : ℕ) (r q : Arrays) (a m b : Seen) → IsOrderly t → ((p : ℕ) → seat_of t p ≢ Some disk) → IsFit r (slices_of t a)
     → WritesOnly a m (IsOfDrive disk (a.sectors disk)) → (m.fit → IsInside t m → WritesOnly m b (IsSliced t)) → IsFit q (slices_of t b)
     → Mends (raid_by r) (raid_by q) (slices_of t m) (slices_of t b) → HasLost (raid_by r) (raid_by q) (slices_of t m) (slices_of t b) → RaisesBy 18 (raid_by r) (raid_by q)
-    → KeepsTruths (raid_by r) (raid_by q) (slices_of t m) (slices_of t b) → IsNotWhole t disk (raid_by r) (raid_by q) a b
-not_whole t disk r q a m b orderly free fit one two after mends lost raises truths =
+    → KeepsTruths (raid_by r) (raid_by q) (slices_of t m) (slices_of t b) → KeepsUnlost r.state q.state (slices_of t m) (slices_of t b) → IsNotWhole t disk (raid_by r) (raid_by q) a b
+not_whole t disk r q a m b orderly free fit one two after mends lost raises truths unlost =
     let v = raid_by r in
     let w = raid_by q in
     let set = fit.running.set in
@@ -169,6 +171,9 @@ not_whole t disk r q a m b orderly free fit one two after mends lost raises trut
       raises = raises;
       moments = moments_moves t r q a b fit after moves;
       truths = truths_then v v w (slices_of t a) (slices_of t m) (slices_of t b) refl (truths_reads v (slices_of t a) (slices_of t m) set reads) truths;
+      unlost =
+          unlost_then r.state r.state q.state (slices_of t a) (slices_of t m) (slices_of t b) reads.stays mends.moves.stays (after_same r.state) mends.moves.book
+          (unlost_reads r.state r.state (slices_of t a) (slices_of t m) refl reads) unlost;
       lost =
           let fault = lost.3 in (
             lost.0,

@@ -185,14 +185,13 @@ module _ (v : Raid) (lost on : List ℕ) {by : List ℕ} (gone : List ℕ) (l : 
             ]
       ]
 
-  -- a drive that is marked already isn't written
-  pub commit_unwritten : (d t : ℕ) → IsLive b c d t → is_current v.state (place_of d) ≡ false → Keeps (b.held d t) (c.held d t)
-  commit_unwritten d t live marked =
+  -- a drive that is marked already isn't written, nor is one that the commit marks
+  pub commit_unmarked : (d t : ℕ) → IsLive b c d t → is_current (state_after v lost) (place_of d) ≡ false → Keeps (b.held d t) (c.held d t)
+  commit_unmarked d t live marked =
       elim (cases_eq (slice_of d) 0) [ inl log ↦ of_log t refl log | inr apart ↦ commit.call.apart d t live (λ part. apart part.0) none ]
     where
       gone_now : (p : ℕ) → place_of d ≡ p → is_current (state_after v lost) p ≡ true → ⊥
-      gone_now p here is =
-          both_ways (is_current v.state p) (subst (λ q. is_current v.state q ≡ false) here marked) (was_current v lost on l xs b commit.marking p is)
+      gone_now p here is = both_ways (is_current (state_after v lost) p) (subst (λ q. is_current (state_after v lost) q ≡ false) here marked) is
 
       none : look l.added d t ≡ None
       none =
@@ -221,6 +220,14 @@ module _ (v : Raid) (lost on : List ℕ) {by : List ℕ} (gone : List ℕ) (l : 
           let own : log_slice (place_of d) ≡ d = omega (arith, log) in
           subst (λ e. Keeps (b.held e t) (c.held e t)) own
           (commit.call.around (place_of d) t (subst (λ e. IsLive b c e t) (sym own) live) (omega (arith, later)) (inl unnamed))
+
+  pub commit_unwritten : (d t : ℕ) → IsLive b c d t → is_current v.state (place_of d) ≡ false → Keeps (b.held d t) (c.held d t)
+  commit_unwritten d t live marked =
+      commit_unmarked d t live
+      (elim (cases_Bool (is_current (state_after v lost) (place_of d))) [
+        | inl is ↦ absurd (both_ways (is_current v.state (place_of d)) marked (was_current v lost on l xs b commit.marking (place_of d) is))
+        | inr not ↦ not
+      ])
 
   pub gone_few : (p : ℕ) → names gone p ≡ true → p < 16
   gone_few p is = current_few v.state p set_before.few (was_current v lost on l xs b commit.marking p (gone_current p is))

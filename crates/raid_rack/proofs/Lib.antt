@@ -64,12 +64,12 @@ pub mod Added
 pub mod Opening
 pub mod Founding
 mod SettledWhole
-mod LayingDrive
+pub mod LayingDrive
 pub mod Enlisted
 pub mod Apart
 pub mod Seating
 pub mod Others
-mod Renewed
+pub mod Renewed
 mod Joining
 mod Joined
 mod JoinedMissing
@@ -83,7 +83,7 @@ pub mod RetiredLogs
 pub mod RetiredMoments
 pub mod SaysStill
 pub mod Reseated
-mod Renewing
+pub mod Renewing
 mod Untouched
 mod Enrolled
 mod Leaving
@@ -97,3 +97,4 @@ pub mod Truths
 pub mod TruthTurns
 pub mod TruthAgrees
 pub mod Since
+pub mod Unlost

@@ -38,6 +38,8 @@ use Rattle.raid_rack.proofs.Turns.{agrees_commit, moves_commit, commit_progress}
 use Rattle.raid_rack.proofs.Turned.{newly_named, newly_other, moves_emptied}
 use Rattle.raid_rack.specs.Truths.{MakesTruths}
 use Rattle.raid_rack.proofs.Truths.{early_truths, makes_after, makes_commit, makes_nobody}
+use Rattle.raid_rack.specs.Unlost.{KeepsUnlost}
+use Rattle.raid_rack.proofs.Unlost.{unlost_commit, unlost_marked, unlost_reads}
 
 -- ---- lists of which each element is changed
 
@@ -231,6 +233,9 @@ ends_turn a b c all log l t lost on gone x y z noted settles running t_is markin
           (makes_after (raid_by a) (raid_by b) (raid_after v lost (next_number l.number) f) x x z noted.running.set.lasting noted.moves
           (makes_after (raid_by b) v (raid_after v lost (next_number l.number) f) x y z noted.running.set.lasting settled.moves
           (makes_commit v lost on gone l c.log.added f y z commit)));
+      unlost =
+          subst (λ (w : Raid). KeepsUnlost a.state w.state x z) whole
+          (unlost_commit a.state v lost on gone l c.log.added f noted.one x y z (settles.same ∙ noted.same) settles.reads commit noted.named);
       moves = subst (λ (w : Raid). Moves (raid_by a) w x z) whole step;
       progress =
           subst (λ (w : Raid). AreMarked w ⊎ ((p : ℕ) × (is_left (raid_by a) p ≡ true) × (is_left w p ≡ false))) whole
@@ -274,8 +279,9 @@ ends_empty a b c t lost on x y noted settles running same t_is on_is empty =
     let none : on ≡ [] = nothing on empty in
     let nobody : (p : ℕ) → is_current (state_after v lost) p ≡ false =
     λ p. ap (λ (s : State). is_current s p) (sym t_is) ∙ sym (names_current t p) ∙ ap (λ ps. names ps p) (sym on_is ∙ none) in
-    let step = moves_emptied v lost y running.set
-    (λ p. ap (λ ps. names ps p) (sym same) ∙ newly_named c p running.count running.set.few)
+    let lost_is : (p : ℕ) → names lost p ≡ (is_current c.state p && gone_in v p) =
+    λ p. ap (λ ps. names ps p) (sym same) ∙ newly_named c p running.count running.set.few in
+    let step = moves_emptied v lost y running.set lost_is
     (λ n p low is.
     let made : n < b.state.made = subst (λ (s : State). n < s.made) settles.same low in
     settles.went n p made (noted.noted n p (subst (λ (s : State). n < s.made) noted.same made) is))
@@ -294,6 +300,11 @@ ends_empty a b c t lost on x y noted settles running same t_is on_is empty =
       truths = λ are.
           subst (λ (w : Raid). MakesTruths (raid_by a) w x y) whole
           (makes_nobody (raid_by a) (record v { state = state_after v lost }) x y joined.set joined.book.same.made nobody);
+      unlost =
+          let one = noted.one in
+          subst (λ (s : State). KeepsUnlost s t x y) (settles.same ∙ noted.same)
+          (unlost_marked c.state t lost one x y t_is (and_parts (is_current c.state one) (gone_in v one) (sym (lost_is one) ∙ noted.named)).0 noted.named
+          (λ p unmarked live. settles.reads.keeps.held (log_slice p) 0 live));
       moves = subst (λ (w : Raid). Moves (raid_by a) w x y) whole joined;
       progress = inl (λ p current. absurd (over p current));
       raises =
@@ -336,6 +347,7 @@ ends_early a b c lost x y turn noted settles running other =
       progress = inr lost_one;
       supers = λ unfaulted. absurd (unfaulted lost_one.0 (joined.cause lost_one.0 lost_one.1 lost_one.2));
       truths = early_truths (raid_by a) (raid_by c) x y (settles.same ∙ noted.same) lost_one;
+      unlost = unlost_reads a.state c.state x y (settles.same ∙ noted.same) settles.reads;
       raises =
           let stays = settles.number in
           let first = noted.raises in

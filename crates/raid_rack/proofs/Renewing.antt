@@ -164,7 +164,7 @@ module _ (xs ys : List View) (are : AreSameMembers xs ys) where
           ap (λ k. fold (λ a u. a + slice_length u) (total + k) (take n ys)) (size 0 (omega arith))
           ∙ of (total + slice_length x) xs ys n (omega (arith, count)) (λ k low. size (suc k) (omega (arith, low)))
 
-  length_same : (n : ℕ) → length_in ys n ≡ length_in xs n
+  pub length_same : (n : ℕ) → length_in ys n ≡ length_in xs n
   length_same n = elim (cases_lt n (length xs)) [
     | inl low ↦
         ap (λ o. option_map_or slice_length o 0) (slice_get-get_or ys n no_array (let count = are.count in omega (arith, low, count))) ∙ are.size n low

@@ -44,6 +44,7 @@ use Rattle.raid_rack.specs.Truths.{KeepsTruths}
 use Rattle.raid_rack.specs.Rows.{KeepsRows, LeavesFrom, LeavesRows}
 use Rattle.raid_rack.specs.Runs.{KeepsMoments}
 use Rattle.raid_rack.specs.Since.{AreJoinSince, AreSince, AreTakenSince, HoldsJoinSince, HoldsSince, HoldsTakenSince, KeepsJoinSince, KeepsTakenSince}
+use Rattle.raid_rack.specs.Unlost.{KeepsUnlost}
 use Rattle.raid_rack.specs.Vacated.{FindsArray, IsFormerly}
 
 -- ---- the book
@@ -233,6 +234,7 @@ pub record IsNotWhole (t : Slices) (disk : ℕ) (v w : Raid) (a b : Seen) : Type
   pub raises : RaisesBy 18 v w
   pub moments : KeepsMoments v w (slices_of t a) (slices_of t b)
   pub truths : KeepsTruths v w (slices_of t a) (slices_of t b)
+  pub unlost : KeepsUnlost v.state w.state (slices_of t a) (slices_of t b)
   pub lost : (p : ℕ) × (is_current v.state p ≡ true) × (is_current w.state p ≡ false) × HasFault (slices_of t a) (slices_of t b) p
 
 -- ---- the parts of the call

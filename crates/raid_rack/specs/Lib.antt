@@ -23,3 +23,4 @@ pub mod AllRuns
 pub mod NewDrive
 pub mod Enlisting
 pub mod Truths
+pub mod Unlost

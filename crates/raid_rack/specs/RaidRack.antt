@@ -13,6 +13,7 @@ use Rattle.raid_rack.specs.declared.arrays.Arrays.{Arrays}
 use Rattle.raid_rack.specs.Agreeing.{MakesAgree}
 use Rattle.raid_rack.specs.Raid.{Raid, is_left, raid_of}
 use Rattle.raid_rack.specs.Truths.{MakesTruths}
+use Rattle.raid_rack.specs.Unlost.{KeepsUnlost}
 use Rattle.raid_rack.specs.Moves.{AreMarked, IsHeeded, IsSet, Moves, RaisesBy}
 
 -- a number without an array: nothing is said of it
@@ -81,6 +82,7 @@ pub record EndsTurn (a b : Arrays) (x y : Seen) : Type 0 where
   -- the commit has all superblocks
   pub supers : MakesAgree (raid_by a) (raid_by b) x y
   pub truths : AreMarked (raid_by b) → MakesTruths (raid_by a) (raid_by b) x y
+  pub unlost : KeepsUnlost a.state b.state x y
 
 -- the arrays of a rack of arrays, with their state and log
 abbrev pub arrays_in : {R : Type 0} → RaidRack R → Arrays

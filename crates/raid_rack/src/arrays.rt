@@ -41,7 +41,6 @@ impl<R: Rack> RaidRack<R> {
     ghost use Rattle.std.specs.Borrow.{sem, Lends};
     ghost use Rattle.slice_rack.specs.contracts.SliceRack as sliced;
     ghost use Rattle.raid_rack.specs.contracts.arrays.RaidRack.{the_row};
-    ghost use Rattle.slice_rack.specs.SliceRack.{below_of};
     ghost use Rattle.array_image.specs.States.{is_current};
     ghost use Rattle.raid_rack.specs.Losses.{has_other};
     ghost use Rattle.raid_rack.specs.Moves.{AreMarked, Mends, RaisesBy, noted_at};
@@ -49,6 +48,7 @@ impl<R: Rack> RaidRack<R> {
     ghost use Rattle.raid_rack.specs.Agreeing.{MakesAgree};
     ghost use Rattle.raid_rack.specs.Runs.{KeepsMoments, RaidRuns};
     ghost use Rattle.raid_rack.specs.Truths.{KeepsTruths, MakesTruths};
+    ghost use Rattle.raid_rack.specs.Unlost.{KeepsUnlost};
     ghost use Rattle.raid_rack.specs.RaidRack.{SliceRuns, IsFit, IsRunning, KeepsRack, arrays_in, arrays_of, raid_seen, raid_in, refused_in, slices_in, slices_seen, written_in};
 
     /// The rack of these arrays, which are those below the state's `made`, by number, over these slices. Nothing is added to the
@@ -150,6 +150,7 @@ impl<R: Rack> RaidRack<R> {
         requires fit { IsFit (arrays_in self.old) (slices_seen R.seen self.old) }
         ensures cleans { CleansAll (raid_in self.old) (raid_in self.new) (slices_seen R.seen self.old) (slices_seen R.seen self.new) }
         ensures images { LeavesItsRows (raid_in self.old) (raid_in self.new) (slices_seen R.seen self.old) (slices_seen R.seen self.new) }
+        ensures unlost { KeepsUnlost (raid_in self.old).state (raid_in self.new).state (slices_seen R.seen self.old) (slices_seen R.seen self.new) }
         ensures keeps { KeepsRack (raid_seen R.seen self.old) (raid_seen R.seen self.new) }
         ensures raises { RaisesBy 288 (raid_in self.old) (raid_in self.new) }
         ensures written { (n : ℕ) → written_in self.new n ≡ written_in self.old n }

@@ -1,10 +1,9 @@
 //! A new drive is taken in at a place, whose drive is missing or gives way to it.
 
-ghost use Rattle.std.specs.Prelude.{◌≡◌, ◌≢◌, ◌<◌, ◌≤◌, ◌+◌, ◌-◌, ◌^◌, ℕ, All, Err, Some, OnOk, OnErr, true, false, [], ◌∷◌, length, slice_get, slice_set, option_map};
+ghost use Rattle.std.specs.Prelude.{◌≡◌, ◌≢◌, ◌<◌, ◌≤◌, ◌+◌, ◌-◌, ◌^◌, ℕ, Err, Some, OnOk, OnErr, true, false, [], ◌∷◌, length, slice_get, slice_set, option_map};
 ghost use Rattle.slice_rack.specs.SliceRack.{below_of, tables};
 ghost use Rattle.slice_rack.specs.Slices.{seat_of as disk_at};
 ghost use Rattle.array_image.specs.States.{is_current};
-ghost use Rattle.array_model.specs.View.{View};
 ghost use Rattle.array_model.specs.declared.Seat.TheVariants.{Missing};
 ghost use Rattle.array_core.specs.Seats.{gone, heeded, seat_of};
 ghost use Rattle.raid_rack.specs.Moves.{IsHeeded, Mends, RaisesBy};
@@ -12,6 +11,7 @@ ghost use Rattle.raid_rack.specs.NewDrive.{ReachesAll, SeatsDrive, joins};
 ghost use Rattle.raid_rack.specs.Settling.{HasStaged};
 ghost use Rattle.raid_rack.specs.RaidRack.{IsFit, IsRunning, arrays_in, arrays_of, is_written, raid_by, raid_in, refused_in, slices_in, slices_seen, written_in};
 ghost use Rattle.raid_rack.specs.Truths.{JoinsTruths, KeepsTruths};
+ghost use Rattle.raid_rack.specs.Unlost.{KeepsUnlost};
 ghost use Rattle.raid_rack.specs.Vacated.{vacated_state};
 ghost use Rattle.raid_rack.specs.Enlisting as spec;
 
@@ -83,6 +83,7 @@ impl Arrays {
         ensures lost { result ≡ false → spec.HasLost (raid_by self.old) (raid_by self.new) (S.seen rack.old) (S.seen rack.new) }
         ensures raises { RaisesBy 18 (raid_by self.old) (raid_by self.new) }
         ensures truths { result ≡ false → KeepsTruths (raid_by self.old) (raid_by self.new) (S.seen rack.old) (S.seen rack.new) }
+        ensures unlost { result ≡ false → KeepsUnlost self.old.state self.new.state (S.seen rack.old) (S.seen rack.new) }
         ensures running { IsRunning self.new (S.seen rack.new) }
         ensures runs { S.runs rack.old rack.new }
     {

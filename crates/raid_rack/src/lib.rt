@@ -28,6 +28,7 @@
 //! | `Settling` | all arrays settled, and the commit that marks losses |
 //! | `Cleaning` | arrays that are ended: settled, with superblocks that leave their rows and no others |
 //! | `Agreeing` | superblocks of an array that agree, and calls after which they do |
+//! | `Unlost` | what calls that mark losses leave of the state and its copies, where few drives are lost |
 //! | `RaidRack` | the model of the struct |
 //! | `Runs` | what calls in a row do to the book and to images: marks have their cause, and arrays that aren't written leave their rows |
 //! | `Works` | a step of maintenance of one array, rows that are resynced and rebuilt, the end of a plan, and any of these works |
@@ -40,11 +41,13 @@
 //! **The contract of the mending** is one record, `Mends`, over any rack of slices that spends no sector. Whoever went in a call of
 //! an array, or goes meanwhile, is marked when it returns, each with its cause, and nobody else is; down to the last drive. At each
 //! moment stops leave a state with marks between those before and those after it, and by it each array gives its values; afterwards
-//! images go by the shape that the run goes by. No value moves.
+//! images go by the shape that the run goes by. No value moves. Where it loses no drive, the state is the same; and a drive's copy of it keeps
+//! its values where no other drive is lost, since marks are written on the drives that are left (`KeepsUnlost`).
 //!
 //! **A clean end** is the cleaning of each array, with a mending after each. Whoever is left has one value in each sector. Where no
 //! drive refused a call, each array's superblocks leave the rows to resync that are left in it and no others, durably; nothing else
-//! is written, and no superblock that says so already.
+//! is written, and no superblock that says so already. The state and its copies are changed by the mendings alone (`KeepsUnlost`), as in a new
+//! drive's taking in that finds another one gone.
 //!
 //! **Superblocks that agree.** A stop amid superblocks that are written one after the other leaves some of fewer events than the truth's. All superblocks are written anew by one commit (`restate`), and so they are by each commit that marks a place: then those of
 //! each array agree in every image and leave the rows to resync that are left in it, where no drive refuses a call (`MakesAgree`). Calls of the rack in which none does leave the slices of

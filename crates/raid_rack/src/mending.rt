@@ -10,6 +10,7 @@ ghost use Rattle.raid_rack.specs.AllRuns.{Spares};
 ghost use Rattle.raid_rack.specs.Cleaning.{Cleans, CleansAll, IsIdle};
 ghost use Rattle.raid_rack.specs.RaidRack.{EndsTurn, IsRunning, raid_by};
 ghost use Rattle.raid_rack.specs.Truths.{KeepsTruths, MakesTruths};
+ghost use Rattle.raid_rack.specs.Unlost.{KeepsUnlost};
 ghost use Rattle.raid_rack.specs.Losses as spec;
 
 use crate::arrays::Arrays;
@@ -72,6 +73,7 @@ impl Arrays {
         ensures idle { AreMarked (raid_by self.old) → (self.new ≡ self.old) × (rack.new ≡ rack.old) }
         ensures supers { (AreMarked (raid_by self.old) → ⊥) → MakesAgree (raid_by self.old) (raid_by self.new) (S.seen rack.old) (S.seen rack.new) }
         ensures truths { ((self.new ≡ self.old) × (rack.new ≡ rack.old)) ⊎ MakesTruths (raid_by self.old) (raid_by self.new) (S.seen rack.old) (S.seen rack.new) }
+        ensures unlost { KeepsUnlost self.old.state self.new.state (S.seen rack.old) (S.seen rack.new) }
         ensures running { IsRunning self.new (S.seen rack.new) }
         ensures runs { S.runs rack.old rack.new }
     {
@@ -94,6 +96,7 @@ impl Arrays {
         ensures raises { RaisesBy 17 (raid_by self.old) (raid_by self.new) }
         ensures truths { KeepsTruths (raid_by self.old) (raid_by self.new) (S.seen rack.old) (S.seen rack.new) }
         ensures makes { (AreMarked (raid_by self.old) → ⊥) → MakesTruths (raid_by self.old) (raid_by self.new) (S.seen rack.old) (S.seen rack.new) }
+        ensures unlost { KeepsUnlost self.old.state self.new.state (S.seen rack.old) (S.seen rack.new) }
         ensures running { IsRunning self.new (S.seen rack.new) }
         ensures runs { S.runs rack.old rack.new }
     {
@@ -205,6 +208,7 @@ impl Arrays {
         requires heeded { IsHeeded (raid_by self.old) }
         requires number { number < self.old.state.made }
         ensures cleans { Cleans (λ n. n == number) (raid_by self.old) (raid_by self.new) (S.seen rack.old) (S.seen rack.new) }
+        ensures unlost { KeepsUnlost self.old.state self.new.state (S.seen rack.old) (S.seen rack.new) }
         ensures raises { RaisesBy 18 (raid_by self.old) (raid_by self.new) }
         ensures truths { KeepsTruths (raid_by self.old) (raid_by self.new) (S.seen rack.old) (S.seen rack.new) }
         ensures running { IsRunning self.new (S.seen rack.new) }
@@ -219,6 +223,7 @@ impl Arrays {
         requires running { IsRunning self.old (S.seen rack.old) }
         requires heeded { IsHeeded (raid_by self.old) }
         ensures cleans { CleansAll (raid_by self.old) (raid_by self.new) (S.seen rack.old) (S.seen rack.new) }
+        ensures unlost { KeepsUnlost self.old.state self.new.state (S.seen rack.old) (S.seen rack.new) }
         ensures raises { RaisesBy 288 (raid_by self.old) (raid_by self.new) }
         ensures truths { KeepsTruths (raid_by self.old) (raid_by self.new) (S.seen rack.old) (S.seen rack.new) }
         ensures running { IsRunning self.new (S.seen rack.new) }

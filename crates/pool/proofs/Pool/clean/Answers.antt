@@ -11,11 +11,11 @@ returns-clause-cleaned g c =
     let own = c.clean.ensures in
     (clean_done g.R.Rack.seen g.R.Bay.shelf g.R.Rack.runs g.met.R.Rack.sound g.met.R.Bay.runs_shelf c.args.self.now c.clean.new.self c.requires
     (subst (λ old. IsCleaned g.R.Rack.seen g.R.Rack.runs old c.clean.new.self) c.inner.ensures.value
-    (record { cleans = own.cleans; images = own.images; keeps = own.keeps; raises = own.raises; ran = own.runs; truths = own.book.truths; moments = own.book.moments }))).0
+    (record { cleans = own.cleans; images = own.images; keeps = own.keeps; raises = own.raises; ran = own.runs; truths = own.book.truths; moments = own.book.moments; unlost = own.unlost }))).0
 
 pub returns-clause-carries : goal.returns-clause-carries
 returns-clause-carries g c =
     let own = c.clean.ensures in
     (clean_done g.R.Rack.seen g.R.Bay.shelf g.R.Rack.runs g.met.R.Rack.sound g.met.R.Bay.runs_shelf c.args.self.now c.clean.new.self c.requires
     (subst (λ old. IsCleaned g.R.Rack.seen g.R.Rack.runs old c.clean.new.self) c.inner.ensures.value
-    (record { cleans = own.cleans; images = own.images; keeps = own.keeps; raises = own.raises; ran = own.runs; truths = own.book.truths; moments = own.book.moments }))).1
+    (record { cleans = own.cleans; images = own.images; keeps = own.keeps; raises = own.raises; ran = own.runs; truths = own.book.truths; moments = own.book.moments; unlost = own.unlost }))).1

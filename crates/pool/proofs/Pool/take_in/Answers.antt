@@ -1,4 +1,4 @@
-use Rattle.std.proofs.Common.{false, sym, ◌∙◌}
+use Rattle.std.proofs.Common.{sym, ◌∙◌}
 use Rattle.pool.specs.View.{book, view}
 use Rattle.pool.proofs.Admitted.{admitted}
 use Rattle.pool.proofs.Giving.{at_once}

@@ -3,6 +3,7 @@ use Rattle.raid_rack.specs.RaidRack.{raid_by}
 use Rattle.raid_rack.proofs.Raises.{raises_more, raises_none, raises_then}
 use Rattle.raid_rack.proofs.Cleanings.{cleans_all, cleans_none, cleans_then, first_apart, first_more}
 use Rattle.raid_rack.proofs.Truths.{truths_same, truths_then}
+use Rattle.raid_rack.proofs.Unlost.{unlost_same, unlost_then}
 use Rattle.raid_rack.proofs.arrays.Arrays.clean_all.Goals as goal
 
 pub loop-number-init : goal.loop-number-init
@@ -11,6 +12,7 @@ loop-number-init g c = record {
   raises = raises_none (raid_by c.args.self.now);
   running = c.requires.running;
   truths = truths_same (raid_by c.args.self.now) (g.S.Rack.seen c.args.rack.now);
+  unlost = unlost_same c.args.self.now.state (g.S.Rack.seen c.args.rack.now);
   runs = g.met.S.Rack.runs_same c.args.rack.now;
 }
 
@@ -41,6 +43,9 @@ loop-number-preserved g c =
       running = c.clean_array.ensures.running;
       truths = truths_then (raid_by c.args.self.now) (raid_by c.loop-number.self) (raid_by c.clean_array.new.self)
           (g.S.Rack.seen c.args.rack.now) (g.S.Rack.seen c.loop-number.rack) (g.S.Rack.seen c.clean_array.new.rack) inv.cleans.moves.book.same.made inv.truths c.clean_array.ensures.truths;
+      unlost = unlost_then c.args.self.now.state c.loop-number.self.state c.clean_array.new.self.state
+          (g.S.Rack.seen c.args.rack.now) (g.S.Rack.seen c.loop-number.rack) (g.S.Rack.seen c.clean_array.new.rack)
+          inv.cleans.moves.stays c.clean_array.ensures.cleans.moves.stays inv.cleans.moves.book c.clean_array.ensures.cleans.moves.book inv.unlost c.clean_array.ensures.unlost;
       runs = g.met.S.Rack.runs_then _ _ _ inv.runs c.clean_array.ensures.runs;
     }
 
@@ -67,3 +72,6 @@ returns-clause-runs g c = c.loop-number.invariant.runs
 
 pub returns-clause-truths : goal.returns-clause-truths
 returns-clause-truths g c = c.loop-number.invariant.truths
+
+pub returns-clause-unlost : goal.returns-clause-unlost
+returns-clause-unlost g c = c.loop-number.invariant.unlost

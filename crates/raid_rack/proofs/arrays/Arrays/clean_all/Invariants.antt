@@ -3,6 +3,7 @@ use Rattle.raid_rack.specs.Cleaning.{Cleans}
 use Rattle.raid_rack.specs.Moves.{RaisesBy}
 use Rattle.raid_rack.specs.RaidRack.{IsRunning, raid_by}
 use Rattle.raid_rack.specs.Truths.{KeepsTruths}
+use Rattle.raid_rack.specs.Unlost.{KeepsUnlost}
 use Rattle.raid_rack.proofs.arrays.Arrays.clean_all.Given as goal
 
 abbrev pub invariant-loop-number : goal.invariant-loop-number
@@ -11,5 +12,6 @@ invariant-loop-number g l = record {
   raises : RaisesBy (l.number * 18) (raid_by l.fn.self) (raid_by l.self);
   running : IsRunning l.self (g.S.Rack.seen l.rack);
   truths : KeepsTruths (raid_by l.fn.self) (raid_by l.self) (g.S.Rack.seen l.fn.rack) (g.S.Rack.seen l.rack);
+  unlost : KeepsUnlost l.fn.self.state l.self.state (g.S.Rack.seen l.fn.rack) (g.S.Rack.seen l.rack);
   runs : g.S.Rack.runs l.fn.rack l.rack;
 }

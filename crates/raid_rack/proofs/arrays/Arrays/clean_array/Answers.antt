@@ -1,5 +1,7 @@
-use Rattle.std.proofs.Common.{[], ◌==◌, get_or, slice_set, subst, sym, arith}
+use Rattle.std.proofs.Common.{[], ◌==◌, get_or, slice_set, inl, refl, subst, sym, arith}
 use Rattle.arrayvec.specs.ArrayVec.{with_items}
+use Rattle.array_image.specs.Places.{log_slice}
+use Rattle.raid_rack.specs.Book.{after_same}
 use Rattle.raid_rack.specs.Cleaning.{Ends}
 use Rattle.raid_rack.specs.RaidRack.{no_array, raid_by}
 use Rattle.raid_rack.proofs.Raises.{cleans_raise}
@@ -7,6 +9,7 @@ use Rattle.raid_rack.proofs.RaisedCalls.{raises_call}
 use Rattle.raid_rack.proofs.Steps.{same_element, items_set}
 use Rattle.raid_rack.proofs.Cleanings.{clean_call, clean_running, cleans_one}
 use Rattle.raid_rack.proofs.TruthTurns.{truths_write}
+use Rattle.raid_rack.proofs.Unlost.{unlost_still, unlost_then}
 use Rattle.raid_rack.proofs.arrays.Arrays.clean_array.Goals as goal
 
 pub mend-requires : goal.mend-requires
@@ -80,3 +83,12 @@ returns-clause-truths g c =
     (same_element c.deref_mut.result.now a.all.items n _ no_array c.deref_mut.ensures.value (omega (arith, count, low)))
     (items_set a.all c.deref_mut.result.now n c.clean.new.self c.deref_mut.ensures.value) c.mend.ensures.truths
     [] c.clean.ensures.goes.stays c.clean.ensures.truth (c.clean.ensures.elsewhere [])
+
+pub returns-clause-unlost : goal.returns-clause-unlost
+returns-clause-unlost g c =
+    let s = c.args.self.now.state in
+    let x = g.S.Rack.seen c.args.rack.now in
+    let y = g.S.Rack.seen c.clean.new.rack in
+    unlost_then s s c.mend.new.self.state x y (g.S.Rack.seen c.mend.new.rack) c.clean.ensures.goes.stays c.mend.ensures.mends.moves.stays (after_same s)
+    c.mend.ensures.mends.moves.book
+    (unlost_still s s x y refl (λ p live. c.clean.ensures.elsewhere [] (log_slice p) 0 live (inl (omega arith, refl)))) c.mend.ensures.unlost

@@ -9,6 +9,7 @@ use Rattle.raid_rack.proofs.Raises.{raises_more, raises_none, raises_then}
 use Rattle.raid_rack.proofs.Turned.{none_newly}
 use Rattle.raid_rack.proofs.Rounds.{done_agree, newly_unmarked, turns_first, turns_next, turns_done, no_length, some_length}
 use Rattle.raid_rack.proofs.TruthTurns.{done_truths, turn_truths}
+use Rattle.raid_rack.proofs.Unlost.{unlost_same, unlost_then}
 use Rattle.raid_rack.proofs.arrays.Arrays.mark_all.Goals as goal
 
 pub loop-turn-init : goal.loop-turn-init
@@ -20,6 +21,7 @@ loop-turn-init g c = record {
   idle = λ are. (refl, refl);
   supers = inl refl;
   truths = inl (refl, refl);
+  unlost = unlost_same c.args.self.now.state (g.S.Rack.seen c.args.rack.now);
   runs = g.met.S.Rack.runs_same c.args.rack.now;
 }
 
@@ -70,6 +72,8 @@ loop-turn-preserved g c =
           inv.moves c.mark.ensures.ends.moves c.mark.ensures.ends.supers);
       truths = inr (turn_truths (raid_by c.args.self.now) (raid_by s) (raid_by c.mark.new.self) (g.S.Rack.seen c.args.rack.now) (g.S.Rack.seen c.loop-turn.rack) (g.S.Rack.seen c.mark.new.rack)
           c.requires.running.set.lasting inv.moves c.mark.ensures.ends.truths);
+      unlost = unlost_then c.args.self.now.state s.state c.mark.new.self.state (g.S.Rack.seen c.args.rack.now) (g.S.Rack.seen c.loop-turn.rack) (g.S.Rack.seen c.mark.new.rack)
+          inv.moves.stays c.mark.ensures.ends.moves.stays inv.moves.book c.mark.ensures.ends.moves.book inv.unlost c.mark.ensures.ends.unlost;
       runs = g.met.S.Rack.runs_then _ _ _ inv.runs c.mark.ensures.runs;
     }
 
@@ -115,3 +119,9 @@ returns-then-is_empty-clause-truths g c =
 pub returns-clause-truths : goal.returns-clause-truths
 returns-clause-truths g c =
     done_truths g.S.Rack.seen c.args.self.now c.loop-turn.self c.args.rack.now c.loop-turn.rack (returns-clause-marked g c) c.loop-turn.invariant.truths
+
+pub returns-then-is_empty-clause-unlost : goal.returns-then-is_empty-clause-unlost
+returns-then-is_empty-clause-unlost g c = c.loop-turn.invariant.unlost
+
+pub returns-clause-unlost : goal.returns-clause-unlost
+returns-clause-unlost g c = c.loop-turn.invariant.unlost

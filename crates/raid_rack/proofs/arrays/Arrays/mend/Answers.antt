@@ -53,3 +53,6 @@ returns-clause-makes g c =
     let each = each_items s.all c.as_mut_slice.result.now c.heed_all.new.arrays heeded c.as_mut_slice.ensures.value c.heed_all.ensures in
     heeds_makes g.S.Rack.seen c.args.self.now s (with_items s.all c.heed_all.new.arrays) c.args.rack.now c.mark_all.new.rack c.mark_all.ensures.running
     c.mark_all.ensures.moves.book.same.made c.mark_all.ensures.marked each.0 c.mark_all.ensures.truths
+
+pub returns-clause-unlost : goal.returns-clause-unlost
+returns-clause-unlost g c = c.mark_all.ensures.unlost

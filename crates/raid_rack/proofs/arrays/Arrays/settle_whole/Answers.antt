@@ -10,6 +10,7 @@ use Rattle.raid_rack.proofs.SettledWhole.{lost_marked, settles_whole}
 use Rattle.raid_rack.specs.RaidRack.{raid_by}
 use Rattle.raid_rack.proofs.Truths.{makes_keeps}
 use Rattle.raid_rack.proofs.TruthTurns.{early_made}
+use Rattle.raid_rack.proofs.Unlost.{unlost_reads, unlost_then}
 use Rattle.raid_rack.proofs.arrays.Arrays.settle_whole.Goals as goal
 
 pub returns-then-not-is_empty-clause-mends : goal.returns-then-not-is_empty-clause-mends
@@ -91,3 +92,13 @@ returns-then-not-is_empty-clause-truths g c off =
     (g.S.Rack.seen c.mend.new.rack) c.requires.running.set.lasting (ap (λ (l : LogView). l.number) c.clear.ensures) c.settle_all.ensures.settles c.settle_all.ensures.running
     (c.newly_gone-lost.ensures ∙ ap (newly_gone s.state) c.as_slice.ensures.value)
     (some_length c.newly_gone-lost.result.items (sym c.is_empty.ensures ∙ c.if-not-is_empty.true)) c.mend.ensures.makes)
+
+pub returns-then-not-is_empty-clause-unlost : goal.returns-then-not-is_empty-clause-unlost
+returns-then-not-is_empty-clause-unlost g c off =
+    let s = c.args.self.now.state in
+    let t = c.settle_all.new.self.state in
+    let x = g.S.Rack.seen c.args.rack.now in
+    let y = g.S.Rack.seen c.settle_all.new.rack in
+    let settles = c.settle_all.ensures.settles in
+    unlost_then s t c.mend.new.self.state x y (g.S.Rack.seen c.mend.new.rack) settles.moves.stays c.mend.ensures.mends.moves.stays settles.moves.book c.mend.ensures.mends.moves.book
+    (unlost_reads s t x y settles.same settles.reads) c.mend.ensures.unlost

@@ -7,6 +7,7 @@ use Rattle.raid_rack.specs.Vacated.{vacated}
 use Rattle.pool_state.specs.declared.contents.State.{State}
 use Rattle.array_model.specs.View.{View}
 use Rattle.raid_rack.specs.Truths.{JoinsTruths, KeepsTruths}
+use Rattle.raid_rack.specs.Unlost.{KeepsUnlost}
 use Rattle.raid_rack.proofs.Seating.{all_small, new_slices, seats_set}
 use Rattle.rack.specs.Seen.{Rose, Stays}
 use Rattle.rack.specs.Sequences.{WritesOnly}
@@ -96,6 +97,7 @@ returns-then-not-settle_whole-clause-not_whole g c is =
     (subst (λ u. Mends v w (slices_of t m) (slices_of u b)) same mends)
     (subst (λ u. HasLost v w (slices_of t m) (slices_of u b)) same (c.settle_whole.ensures.lost c.if-not-settle_whole.true)) c.settle_whole.ensures.raises
     (subst (λ u. KeepsTruths v w (slices_of t m) (slices_of u b)) same (c.settle_whole.ensures.truths c.if-not-settle_whole.true))
+    (subst (λ u. KeepsUnlost v.state w.state (slices_of t m) (slices_of u b)) same (c.settle_whole.ensures.unlost c.if-not-settle_whole.true))
 
 -- ---- the arrays that were settled, and as they are vacated in memory
 
