@@ -1,5 +1,5 @@
 -- What the drive says that a place had, where it has no slices any more: an earlier state than the book's, and its own, of the pool.
-use Rattle.std.proofs.Common.{◌≡◌, ℕ, zero, suc, ◌+◌, ◌-◌, ◌*◌, ◌/◌, ◌<◌, ◌^◌, if◌then◌else◌, Bool, true, false, unwrap_or, Some, sym, ◌∙◌, ap, ap₂, subst, lt-ltb, arith}
+use Rattle.std.proofs.Common.{◌≡◌, ℕ, zero, suc, ◌+◌, ◌-◌, ◌*◌, ◌/◌, ◌<◌, ◌^◌, if◌then◌else◌, Bool, true, false, List, None, Option, Some, unwrap_or, sym, ◌∙◌, ap, ap₂, subst, lt-ltb, arith}
 use Rattle.std.specs.Result.{result_ok}
 use Rattle.std.proofs.lemmas.Nat.{div_below}
 use Rattle.rack.specs.Seen.{Image, IsLive, Seen}

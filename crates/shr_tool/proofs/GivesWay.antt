@@ -19,6 +19,7 @@ use Rattle.raid_rack.specs.Book.{IsAfter, after_then}
 use Rattle.raid_rack.specs.declared.arrays.Arrays.{Arrays}
 use Rattle.raid_rack.specs.Enlisting.{IsWrittenBy}
 use Rattle.raid_rack.specs.NewDrive.{IsOfDrive}
+use Rattle.raid_rack.specs.Unlost.{KeepsPlace, KeepsUnlost}
 use Rattle.pool_image.specs.Drives.{Found}
 use Rattle.pool_model.proofs.Named.{same_length}
 use Rattle.pool.specs.Entering.{Cleaned, LeavesReady, LosesOwn, Readies, meanwhile}
@@ -32,7 +33,6 @@ use Rattle.pool.specs.Volume.{Holds}
 use Rattle.pool.proofs.Admitted.{others_current}
 use Rattle.shr_tool.specs.Service.{GoesBy, Lone}
 use Rattle.shr_tool.proofs.Former as old
-use Rattle.shr_tool.proofs.UnlostStub.{KeepsPlace, KeepsUnlost, cleaned_unlost, not_whole_unlost}
 
 module _ (x : View) (bay : x.bays.one) (place : ℕ) (name : List ℕ) (disk : ℕ) (at : AttachesDisk x (over x bay) name (Ok disk))
     (bay_then : x.bays.one) (arrays : Arrays) (refused : ℕ → ℕ) where
@@ -113,7 +113,7 @@ module _ (x : View) (bay : x.bays.one) (place : ℕ) (name : List ℕ) (disk : �
         ]
 
         cleaned_copy : Cleaned m c → Keeps (m.bay.held d state_sector) (c.bay.held d state_sector)
-        cleaned_copy cleaned = part (book x).state (book c).state m.bay c.bay (cleaned_unlost m c cleaned) unlost told_named (clear d state_sector)
+        cleaned_copy cleaned = part (book x).state (book c).state m.bay c.bay cleaned.unlost unlost told_named (clear d state_sector)
 
         lost_copy : LosesOwn m c place disk → Keeps (m.bay.held d state_sector) (c.bay.held d state_sector)
         lost_copy lose =
@@ -123,12 +123,12 @@ module _ (x : View) (bay : x.bays.one) (place : ℕ) (name : List ℕ) (disk : �
             let stayed : lose.left.vacates.tables ≡ x.slices =
             elim lose.left.vacates.seats [ inl given ↦ absurd (both_ways (is_current lose.arrays.state place) given.0 lose.current) | inr stays ↦ stays.1 ] in
             let first : Keeps (m.bay.held d state_sector) (e.bay.held d state_sector) =
-            part (book x).state (book e).state m.bay e.bay (cleaned_unlost m e lose.cleaned) (λ k other current. marks.current k (unlost k other current)) told_named
+            part (book x).state (book e).state m.bay e.bay lose.cleaned.unlost (λ k other current. marks.current k (unlost k other current)) told_named
             (out.only.stays.spent d state_sector (clear d state_sector)) in
             let second : Keeps (e.bay.held d state_sector) (c.bay.held d state_sector) =
             part (book e).state (book c).state e.bay c.bay
             (subst (λ (u : Slices). KeepsUnlost (book e).state (book c).state (slices_of u e.bay) (slices_of u c.bay)) stayed
-            (not_whole_unlost lose.left.vacates.tables disk (book e) (book c) e.bay c.bay out))
+            out.unlost)
             (λ k other current. unlost k other (lose.cleaned.ends.passes.marks.current k current)) (lose.cleaned.ends.passes.apart.stays.told d told_named) (clear d state_sector) in
             keeps_then (m.bay.held d state_sector) (e.bay.held d state_sector) (c.bay.held d state_sector) first second
 

@@ -45,6 +45,5 @@ mod TakingStops
 mod Through
 mod Told
 mod TurnedDown
-mod UnlostStub
 mod Within
 mod LeavingStops

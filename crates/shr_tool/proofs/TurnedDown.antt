@@ -48,7 +48,6 @@ use Rattle.shr_tool.specs.Timeline.{Performs}
 use Rattle.shr_tool.proofs.Chains.{lone_before}
 use Rattle.shr_tool.proofs.Former.{gave_below, lost_below, not_over, on, sector, small, told_by}
 use Rattle.shr_tool.proofs.GivesWay.{left_copy, others_left}
-use Rattle.shr_tool.proofs.UnlostStub.{left_still}
 use Rattle.shr_tool.proofs.Quiet.{listed_of, named_or, same_fault, stands_declined, twice_or}
 use Rattle.shr_tool.proofs.TakenIn.{count_is, disks_more, keeps_but, keeps_off, live_at, seat_low, seat_now, sectors_kept, sliced_old, vacant_not}
 
@@ -452,8 +451,8 @@ module _ {L : Type 0} {o : Option Lone} (x y : View) (place : ℕ) (name : List 
             (let free = admitted x.linear (book x) place (y.bay.sectors at.0) at.2 in
             vacant_given gave.2 gave.1 (others_current (book x).state place free.whole) (first_given gave.2 missing))
       ]
-      | inl current ↦ elim (left_still x y place name (performs.changes looks)) [
-        | inl same ↦ vacant_same same
+      | inl current ↦ elim (performs.changes looks).1 [
+        | inl still ↦ vacant_same still.1
         | inr named ↦ elim named.leaves [
           | inl at_once ↦ absurd (both_ways (is_current (book x).state place) at_once.0 current)
           | inr ready ↦ elim ready.1 [
