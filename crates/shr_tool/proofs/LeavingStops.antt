@@ -176,7 +176,7 @@ module _ {L : Type 0} (x y : View) (place : ℕ) (name : List ℕ) (fault : Grow
 
   pub declined_amid : (k : ℕ) (i : Image) → x.bay.clock < k → k ≤ y.bay.clock → y.bay.stops k i → HoldsLeft f (moment_of x) (moment_of y) place i
   declined_amid k i since until stopped = elim (performs.changes looks).1 [
-    | inl still ↦ absurd (omega (arith, since, until, still))
+    | inl still ↦ (let same = still.0 in absurd (omega (arith, since, until, same)))
     | inr named ↦ elim named.leaves [
       | inl at_once ↦ (y.slices, inl refl, left_amid named at_once.0 at_once.1 k i since until stopped)
       | inr way ↦ elim way.1 [
