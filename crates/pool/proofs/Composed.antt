@@ -21,7 +21,7 @@ use Rattle.pool.specs.Moment.{IsImage, IsNamed, moment_of}
 use Rattle.pool.specs.Replaced.{DriveWentSince, HasMarkedOther, HasTable, IsAnswer, IsDeclined, IsLaidOn, IsLookedAt, IsOfDrive, IsReplaced, LeavesNew, MeansFormer, MeansWith, faults_before}
 use Rattle.pool.specs.Naming.{EntersDrive, EntersNamed, ReplacesDrive}
 use Rattle.pool.specs.Replacing.{refusal_of}
-use Rattle.pool.specs.Entering.{Declines, Enters}
+use Rattle.pool.specs.Entering.{Declines, Enters, StaysStill}
 use Rattle.pool.specs.Taking.{AreTold, AttachesDisk, ReplacesBy}
 use Rattle.array_image.specs.Places.{log_slice}
 use Rattle.slice_rack.specs.Runs.{IsSliced}
@@ -90,7 +90,7 @@ replaced_unlisted x place name fit sound past = record {
   holds = λ a holds. holds;
   truths = λ names all n low held. held;
   leaves = λ traced a holds k i since until stopped. absurd (omega (arith, since, until));
-  steps = record { enters = tt; left = inl refl };
+  steps = record { enters = tt; left = inl (refl, refl) };
   ends = λ traced a holds i stopped. ends_of x (sound traced) a holds i stopped;
 }
 
@@ -118,7 +118,7 @@ nothing_done x place disk e fit is = record {
   gone = λ same. absurd ((refusal_late x.linear (book x) place (x.bay.sectors disk) e is).1 (same_fault e Gone same));
   not_whole = λ same. inl (is ∙ ap Some (same_fault e NotWhole same));
   declined = declined_none x x place e refl refl refl (λ d low s. refl);
-  left = inl refl;
+  left = inl (refl, refl);
   replaced = tt;
   table = tt;
   enters = tt;
@@ -179,7 +179,7 @@ module _ (x : View) (bay : x.bays.one) (place : ℕ) (name : List ℕ) (listed :
     holds = holds_of x m at.continues at.carries;
     truths = at.carries.truths;
     leaves = λ traced a holds k i since until stopped. let clock = at.clock in absurd (omega (arith, since, until, clock));
-    steps = record { enters = tt; left = inl at.clock };
+    steps = record { enters = tt; left = inl (at.clock, refl) };
     ends = λ traced a holds i stopped. ends_of m (sound (at.continues.traced holds.shelf traced)) a (holds_of x m at.continues at.carries a holds) i stopped;
   }
     where
@@ -381,11 +381,11 @@ module _ (x : View) (bay : x.bays.one) (place : ℕ) (name : List ℕ) (listed :
             })
 
         steps_since : (y : View) (r : Answer) → ((d : ℕ) → IsNamed (moment_of y) name d → d ≡ disk) → IsNamed (moment_of y) name disk → OnOk r (Enters m y place disk)
-            → IfErr r (λ e. (y.bay.clock ≡ b.clock) ⊎ Declines m y place disk) → EntersDrive x y place name r
+            → IfErr r (λ e. StaysStill m y ⊎ Declines m y place disk) → EntersDrive x y place name r
         steps_since y (Err e) same here enters left = record {
           enters = tt;
           left = elim left [
-            | inl still ↦ inl (still ∙ at.clock)
+            | inl still ↦ inl (still.0 ∙ at.clock, still.1)
             | inr why ↦ inr (record { disk = disk; named = here; bay = bay; attaches = at; leaves = why })
           ];
         }

@@ -30,7 +30,7 @@ use Rattle.raid_rack.proofs.Whole.{heeded_left}
 use Rattle.pool.specs.declared.replacing.GrowFault.{GrowFault}
 use Rattle.pool.specs.declared.replacing.GrowFault.TheVariants.{Gone, NotWhole}
 use Rattle.pool.specs.Continuing.{Continues, KeepsOutside}
-use Rattle.pool.specs.Entering.{Cleaned, Declines, Enters, EntersBy, LeavesBy, LeavesOut}
+use Rattle.pool.specs.Entering.{Cleaned, Declines, Enters, EntersBy, LeavesBy, LeavesOut, StaysStill}
 use Rattle.pool.specs.Keeping.{KeepsBook, most_raised}
 use Rattle.pool.specs.Moment.{moment_of, views_of}
 use Rattle.pool.specs.Replaced.{DriveWentFrom, HasMarked, HasMarkedOther, HasTable, IsAnswer, IsDeclined, IsReplaced, LeavesNew, MeansBy, MeansFormer, MeansWith, faults_before, table_for}
@@ -117,7 +117,7 @@ at_once x y place disk r missing admits by = record {
   moments = by.moments;
 }
   where
-    left_of : (r : Result (Unit {0}) GrowFault) → IfErr r (λ e. LeavesBy x y place disk) → IfErr r (λ e. (y.bay.clock ≡ x.bay.clock) ⊎ Declines x y place disk)
+    left_of : (r : Result (Unit {0}) GrowFault) → IfErr r (λ e. LeavesBy x y place disk) → IfErr r (λ e. StaysStill x y ⊎ Declines x y place disk)
     left_of (Ok u) left = tt
     left_of (Err e) left = inr (inl (missing, left))
 
@@ -383,7 +383,7 @@ module _ (x m : View) (place disk many : ℕ) (fit : (volume x).fit) (ordered : 
             fewer_spent x m y place a i by.continues.linear by.carries.spent
             (ready.leaves traced a holds k i since past (by.continues.past (ready.continues.told holds.shelf) (ready.continues.traced holds.shelf traced) k i past stopped))
 
-        left_from : (r : Result (Unit {0}) GrowFault) → IfErr r (λ e. Declines x y place disk) → IfErr r (λ e. (y.bay.clock ≡ x.bay.clock) ⊎ Declines x y place disk)
+        left_from : (r : Result (Unit {0}) GrowFault) → IfErr r (λ e. Declines x y place disk) → IfErr r (λ e. StaysStill x y ⊎ Declines x y place disk)
         left_from (Ok u) left = tt
         left_from (Err e) left = inr left
 

@@ -101,6 +101,10 @@ pub record LeavesReady (x y : View) (place disk : ℕ) : Type 0 where
   pub readies : Readies x (meanwhile x bay arrays refused) place disk
   pub leaves : LeavesBy (meanwhile x bay arrays refused) y place disk
 
+-- no time passed, and slices lie where they lay
+abbrev pub StaysStill : View → View → Type 0
+StaysStill x y = (y.bay.clock ≡ x.bay.clock) × (y.slices ≡ x.slices)
+
 -- A disk was taken in at a place: at once where the place's drive was missing, and else from a pool that was made ready.
 abbrev pub Enters : View → View → (place disk : ℕ) → Type 0
 Enters x y place disk =

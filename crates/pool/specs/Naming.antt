@@ -5,7 +5,7 @@ use Rattle.flat_array.specs.Array.{FlatArray}
 use Rattle.raid_rack.specs.Truths.{KeepsTruths}
 use Rattle.pool.specs.declared.replacing.GrowFault.{GrowFault}
 use Rattle.pool.specs.Continuing.{Continues, KeepsOutside}
-use Rattle.pool.specs.Entering.{Declines, Enters}
+use Rattle.pool.specs.Entering.{Declines, Enters, StaysStill}
 use Rattle.pool.specs.Keeping.{KeepsBook, KeepsBookBut, Raises}
 use Rattle.pool.specs.Moment.{IsNamed, moment_of}
 use Rattle.pool.specs.Replaced.{ChangesDrive, HasGrowCause, HasTable, IsDeclined, IsReplaced, LeavesNew, MeansFormer, MeansWith}
@@ -30,7 +30,7 @@ pub record LeavesNamed (x y : View) (place : ℕ) (name : List ℕ) : Type 0 whe
 -- The disk of the name is taken in; or it isn't, and either no time passed, or the arrays were cleaned or the disk was laid.
 pub record EntersDrive (x y : View) (place : ℕ) (name : List ℕ) (result : Result (Unit {0}) GrowFault) : Type 0 where
   pub enters : OnOk result ((d : ℕ) → IsNamed (moment_of y) name d → EntersNamed x y place name d)
-  pub left : IfErr result (λ e. (y.bay.clock ≡ x.bay.clock) ⊎ LeavesNamed x y place name)
+  pub left : IfErr result (λ e. StaysStill x y ⊎ LeavesNamed x y place name)
 
 -- The drive of a place, missing or not, is replaced by the disk of a name, which is attached where it isn't yet. No value moves. `name` is the one disk
 -- that is written outside the slices of drives. Where the place's drive isn't missing all arrays are cleaned first, and it is the place's until the new one is.

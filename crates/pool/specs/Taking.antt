@@ -11,7 +11,7 @@ use Rattle.pool.specs.declared.replacing.GrowFault.{GrowFault}
 use Rattle.pool.specs.declared.replacing.GrowFault.TheVariants.{Attach, Twice, Memory, NotWhole, Gone}
 use Rattle.raid_rack.specs.NewDrive.{IsOfDrive as IsLaid}
 use Rattle.pool.specs.Continuing.{Continues, KeepsDisk, KeepsOutside, NoDisk}
-use Rattle.pool.specs.Entering.{Declines, Enters, EntersBy, LeavesBy, LeavesOut}
+use Rattle.pool.specs.Entering.{Declines, Enters, EntersBy, LeavesBy, LeavesOut, StaysStill}
 use Rattle.pool.specs.Held.{KeepsHeld}
 use Rattle.pool.specs.Keeping.{KeepsBook, KeepsBookBut, Raises}
 use Rattle.raid_rack.specs.Moves.{RaisesBy}
@@ -123,7 +123,7 @@ pub record ReplacesBy (x y : View) (place disk : ℕ) (result : Result (Unit {0}
       → (refusal_of x.linear (book x) place (x.bay.sectors disk) ≡ Some NotWhole) ⊎ HasMarkedOther (moment_of x) (moment_of y) place
   pub declined : IfErr result (IsDeclined (moment_of x) (moment_of y) place)
   -- no time passed, or nothing had been against it
-  pub left : IfErr result (λ e. (y.bay.clock ≡ x.bay.clock) ⊎ Declines x y place disk)
+  pub left : IfErr result (λ e. StaysStill x y ⊎ Declines x y place disk)
   pub replaced : OnOk result (IsReplaced (moment_of x) (moment_of y) place disk)
   pub table : OnOk result (HasTable x y place disk)
   pub enters : OnOk result (Enters x y place disk)

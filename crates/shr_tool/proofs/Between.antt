@@ -112,7 +112,7 @@ within_kept old new g Serial Landing done f p q (replaced place name) past holds
     holds served serial lands fit waits lasts k i since until (past k i until stopped)
 within_kept old new g Serial Landing done f p q (declined place name fault) past holds = (
   λ none. inside_kept old new g Serial Landing done f p q past (holds.0 none),
-  λ looks missing served serial lands waits lasts k i since until stopped. holds.1 looks missing served serial lands waits lasts k i since until (past k i until stopped),
+  λ looks served serial lands waits lasts k i since until stopped. holds.1 looks served serial lands waits lasts k i since until (past k i until stopped),
 )
 within_kept old new g Serial Landing done f p q (stepped count left) past holds = inside_kept old new g Serial Landing done f p q past holds
 within_kept old new g Serial Landing done f p q (stuck count array) past holds = inside_kept old new g Serial Landing done f p q past holds

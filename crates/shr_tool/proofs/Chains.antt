@@ -28,8 +28,8 @@ pool_by-snoc f p (first ∷ events) mid event q steps = pool_by-snoc (pool_after
 pub fit_parts :
     (f : Found) (p : Moment) (events : List Event) (mid : Moment) (event : Event) (q : Moment) (steps : Steps p events mid)
     → AreFit f p (events ++ event ∷ []) q (steps_more p events mid event q steps)
-    → AreFit f p events mid steps × IsFitFor (pool_by f p events mid steps) mid q event
-fit_parts f p [] mid event q same fit = (tt, subst (λ m. IsFitFor f m q event) same fit.0)
+    → AreFit f p events mid steps × IsFitFor (pool_by f p events mid steps) mid event
+fit_parts f p [] mid event q same fit = (tt, subst (λ m. IsFitFor f m event) same fit.0)
 fit_parts f p (first ∷ events) mid event q steps fit =
     let rest = fit_parts (pool_after f p steps.0 first) steps.0 events mid event q steps.1 fit.1 in
     ((fit.0, rest.0), rest.1)
@@ -100,20 +100,20 @@ pool_still f p q (stepped count left) none = refl
 pool_still f p q (stuck count array) none = refl
 pool_still f p q (shown text) none = refl
 
-fit_still : (f : Found) (p q : Moment) (event : Event) → takes_disk event ≡ false → IsFitFor f p q event
-fit_still f p q (answered line) none = tt
-fit_still f p q (spent line sector) none = tt
-fit_still f p q (lost place) none = tt
-fit_still f p q (last place) none = tt
-fit_still f p q (replaced place name) none = absurd (both_ways true none refl)
-fit_still f p q (declined place name fault) none = λ looks. absurd (both_ways (looks_at fault) none looks)
-fit_still f p q (stepped count left) none = tt
-fit_still f p q (stuck count array) none = tt
-fit_still f p q (shown text) none = tt
+fit_still : (f : Found) (p : Moment) (event : Event) → takes_disk event ≡ false → IsFitFor f p event
+fit_still f p (answered line) none = tt
+fit_still f p (spent line sector) none = tt
+fit_still f p (lost place) none = tt
+fit_still f p (last place) none = tt
+fit_still f p (replaced place name) none = absurd (both_ways true none refl)
+fit_still f p (declined place name fault) none = λ looks. absurd (both_ways (looks_at fault) none looks)
+fit_still f p (stepped count left) none = tt
+fit_still f p (stuck count array) none = tt
+fit_still f p (shown text) none = tt
 
 -- where none does nothing is to be known of a disk
 pub none_fit : (f : Found) (p : Moment) (events : List Event) (q : Moment) (steps : Steps p events q) → any_takes events ≡ false → AreFit f p events q steps
 none_fit f p [] q steps none = tt
 none_fit f p (event ∷ events) q steps none =
     let parts = or_parts (takes_disk event) (any_takes events) none in
-    (fit_still f p steps.0 event parts.0, none_fit (pool_after f p steps.0 event) steps.0 events q steps.1 parts.1)
+    (fit_still f p event parts.0, none_fit (pool_after f p steps.0 event) steps.0 events q steps.1 parts.1)

@@ -1,229 +1,202 @@
--- A line in which a drive that isn't missing gives way to a new one, while no drive is found gone: the pool after the cleaning, and what the drive that gives way says.
-use Rattle.std.proofs.Common.{◌≡◌, ◌≢◌, ℕ, ◌+◌, ◌-◌, ◌<◌, ◌≤◌, ◌^◌, if◌then◌else◌, Bool, true, false, List, length, slice_get, Option, Some, None, unwrap_or, refl, sym, ◌∙◌, ap, subst, inl, inr, lt-ltb, arith}
-use Rattle.std.specs.Result.{result_ok}
-use Rattle.std.proofs.lemmas.Bool.{both_ways, cases_Bool}
-use Rattle.rack.specs.Seen.{Image, IsLive}
+-- A line in which a drive that isn't missing is to give way to a new one: no other drive is lost before the pool is ready for it, so the drive's copy of the state keeps its
+-- values until then. Marks are written on the drives that are left.
+use Rattle.std.proofs.Common.{◌≡◌, ◌≢◌, ℕ, ◌+◌, ◌<◌, true, false, length, List, Option, Some, Ok, sym, ap₂, subst, inl, inr, arith, ◌∙◌}
+use Rattle.std.proofs.lemmas.Bool.{both_ways}
 use Rattle.rack.specs.Joins.{keeps_then}
-use Rattle.rack.specs.Values.{Keeps, MayLeave}
+use Rattle.rack.specs.Seen.{IsLive, Seen}
+use Rattle.rack.specs.Sequences.{WritesOnly}
+use Rattle.rack.specs.Values.{Keeps}
+use Rattle.rack.proofs.Writing.{only_weaker}
 use Rattle.slice_rack.specs.Runs.{IsSliced}
-use Rattle.slice_rack.specs.Slices.{Slices, disk_of, first_of, place_of, seat_of, sectors_of}
+use Rattle.slice_rack.specs.Slices.{Slices}
 use Rattle.slice_rack.specs.Sliced.{slices_of}
-use Rattle.flat_array.specs.Array.{FlatArray, flushed}
-use Rattle.lvm_group.specs.Runs.{array_of, sector_of}
-use Rattle.pool_state.specs.declared.contents.Copied.{Copied}
-use Rattle.pool_state.specs.declared.contents.Plan.TheVariants.{Replace as Replacing}
+use Rattle.flat_array.specs.Array.{FlatArray}
 use Rattle.pool_state.specs.declared.contents.State.{State}
-use Rattle.pool_state.specs.Sector.{decoded}
+use Rattle.array_core.proofs.Opened.{current_below}
 use Rattle.array_image.specs.Places.{log_slice, state_sector}
 use Rattle.array_image.specs.States.{is_current}
-use Rattle.array_model.specs.View.{spent_in}
 use Rattle.raid_rack.specs.Book.{IsAfter, after_then}
-use Rattle.raid_rack.specs.Laws.{live_parts}
-use Rattle.raid_rack.specs.Losses.{has_other}
-use Rattle.raid_rack.specs.Missing.{raised}
-use Rattle.raid_rack.specs.NewDrive.{joins}
-use Rattle.raid_rack.specs.Raid.{IsTold, is_over}
-use Rattle.raid_rack.specs.Since.{HasOwnSince, HoldsSince}
-use Rattle.raid_rack.proofs.Over.{number_room}
-use Rattle.pool_image.specs.Disks.{disks_of, id_at, identities_of}
+use Rattle.raid_rack.specs.declared.arrays.Arrays.{Arrays}
+use Rattle.raid_rack.specs.Enlisting.{IsWrittenBy}
+use Rattle.raid_rack.specs.NewDrive.{IsOfDrive}
+use Rattle.raid_rack.specs.Unlost.{KeepsPlace, KeepsUnlost}
 use Rattle.pool_image.specs.Drives.{Found}
-use Rattle.pool_model.specs.Left.{IsPickOff}
-use Rattle.pool_model.proofs.Lost.{epoch_room, former_earlier, log_lies, log_there}
-use Rattle.pool.specs.Continuing.{Continues, KeepsOutside}
-use Rattle.pool.specs.Entering.{Cleaned, EntersBy, EntersReady, meanwhile}
-use Rattle.pool.specs.Moment.{IsNamed, moment_of, views_of}
-use Rattle.pool.specs.Naming.{EntersNamed}
+use Rattle.pool_model.proofs.Named.{same_length}
+use Rattle.pool.specs.Entering.{Cleaned, LeavesReady, LosesOwn, Readies, meanwhile}
+use Rattle.pool.specs.Moment.{IsNamed, moment_of}
+use Rattle.pool.specs.Naming.{EntersNamed, LeavesNamed}
 use Rattle.pool.specs.Replaced.{ChangesDrive}
-use Rattle.pool.specs.View.{View, book, over, slices_shown, spent_by, volume}
-use Rattle.pool.specs.Volume.{Holds, is_spent, size_of}
-use Rattle.pool.proofs.Enlisted.{all_spent}
-use Rattle.pool.proofs.Readying.{member_joins}
+use Rattle.pool.specs.Replacing.{has_other_missing}
+use Rattle.pool.specs.Taking.{AttachesDisk}
+use Rattle.pool.specs.View.{View, book, over, slices_shown, volume}
+use Rattle.pool.specs.Volume.{Holds}
+use Rattle.pool.proofs.Admitted.{others_current}
 use Rattle.shr_tool.specs.Service.{GoesBy, Lone}
 use Rattle.shr_tool.proofs.Former as old
-use Rattle.shr_tool.proofs.Former.{array_low, not_over}
 
-up_one : (n : ℕ) → n < 2 ^ 63 - 1 → raised n ≡ n + 1
-up_one n room = ap (λ (c : Bool). if c then n + 1 else n) (lt-ltb n (2 ^ 63 - 1) room)
-
-module _ (x y : View) (place : ℕ) (name : List ℕ) (disk : ℕ) (b : FlatArray) (fit : (volume x).fit) (holds : Holds x b) (continues : Continues x y)
-    (entered : EntersNamed x y place name disk) (some : (s : ℕ) × (s < size_of x) × (spent_by x.linear (book y) s ≡ false)) (alive : is_spent x some.0 ≡ false)
-    (current : is_current (book x).state place ≡ true) (steady : (book y).state.epoch ≤ raised (book x).state.epoch) where
+module _ (x : View) (bay : x.bays.one) (place : ℕ) (name : List ℕ) (disk : ℕ) (at : AttachesDisk x (over x bay) name (Ok disk))
+    (bay_then : x.bays.one) (arrays : Arrays) (refused : ℕ → ℕ) where
   abbrev pub m : View
-  m = over x entered.bay
+  m = over x bay
 
-  pub ready : EntersReady m y place disk
-  ready = elim entered.enters [ inl at_once ↦ absurd (both_ways (is_current (book x).state place) at_once.0 current) | inr made ↦ made.1 ]
-
-  -- the pool when the disk is taken in
+  -- the pool when it is ready
   abbrev pub c : View
-  c = meanwhile m ready.bay ready.arrays ready.refused
+  c = meanwhile m bay_then arrays refused
 
-  pub enters : EntersBy c y place disk
-  enters = ready.enters
+  module _ (readies : Readies m c place disk) where
+    pub after : IsAfter (book x).state (book c).state
+    after = elim readies [
+      | inl cleaned ↦ cleaned.ends.passes.marks
+      | inr lose ↦ after_then (book x).state lose.arrays.state (book c).state lose.cleaned.ends.passes.marks lose.left.not_whole.mends.moves.book
+    ]
 
-  after : IsAfter (book x).state (book c).state
-  after = elim ready.readies [
-    | inl cleaned ↦ cleaned.ends.passes.marks
-    | inr lose ↦ after_then (book x).state lose.arrays.state (book c).state lose.cleaned.ends.passes.marks lose.left.not_whole.mends.moves.book
+    module _ (whole : has_other_missing (book c).state place ≡ false) where
+      -- all other places are current
+      pub others_then : (k : ℕ) → k < length (book x).state.drives.items → k ≢ place → is_current (book c).state k ≡ true
+      others_then k low other =
+          let many = same_length (book c).state.drives.items (book x).state.drives.items after.same.drives in
+          others_current (book c).state place whole k (omega (arith, low, many)) other
+
+      unlost : (k : ℕ) → k ≢ place → KeepsPlace (book x).state (book c).state k
+      unlost k other current = others_then k (current_below (book x).state k current) other
+
+      module _ {L : Type 0} {o : Option Lone} (clear : (d s : ℕ) → c.bay.spent d s ≡ false) (fit : (volume x).fit) (f : Found) (goes : GoesBy L o f x) (d : ℕ) (seat : f.seats place ≡ Some d)
+          (same : x.slices ≡ goes.tables) {b : FlatArray} (holds : Holds x b) where
+        low_named : d < m.bay.disks
+        low_named =
+            let first = old.there x place fit f goes d seat same in
+            let more = at.continues.disks in
+            omega (arith, first, more)
+
+        told_named : m.bay.told d
+        told_named = at.continues.known holds.shelf holds.disks d low_named
+
+        sector_named : state_sector < m.bay.sectors d
+        sector_named = subst (λ n. state_sector < n) (sym (at.continues.sectors d (old.there x place fit f goes d seat same))) (old.sector x place fit f goes d seat same)
+
+        -- over a part in which no other drive is lost
+        part : (s u : State) (a e : Seen) → KeepsUnlost s u (slices_of x.slices a) (slices_of x.slices e) → ((k : ℕ) → k ≢ place → KeepsPlace s u k)
+            → a.told d → e.spent d state_sector ≡ false → Keeps (a.held d state_sector) (e.held d state_sector)
+        part s u a e is unlost told clear =
+            let many = old.log_many x place fit f goes d seat same in
+            let few = old.small x place fit f goes d seat same in
+            let on = old.log_on x place fit f goes d seat same in
+            let first = old.log_first x place fit f goes d seat same in
+            let live : IsLive (slices_of x.slices a) (slices_of x.slices e) (log_slice place) 0 =
+            record {
+              disk = omega (arith, few);
+              sector = omega (arith, many);
+              is_told = subst a.told (sym on) told;
+              unspent = ap₂ e.spent on first ∙ clear;
+            } in
+            subst (λ h. Keeps h (e.held d state_sector)) (old.held_there x place fit f goes d seat same a)
+            (subst (λ h. Keeps ((slices_of x.slices a).held (log_slice place) 0) h) (old.held_there x place fit f goes d seat same e) (is.copies place unlost live))
+
+        -- what is then of its disk
+        pub low_then : d < c.bay.disks
+        low_then = elim readies [
+          | inl cleaned ↦ subst (λ n. d < n) (sym cleaned.ends.passes.apart.stays.disks) low_named
+          | inr lose ↦ subst (λ n. d < n) (sym (lose.left.not_whole.only.stays.disks ∙ lose.cleaned.ends.passes.apart.stays.disks)) low_named
+        ]
+
+        pub told_then : c.bay.told d
+        told_then = elim readies [
+          | inl cleaned ↦ cleaned.ends.passes.apart.stays.told d told_named
+          | inr lose ↦ lose.left.not_whole.only.stays.told d (lose.cleaned.ends.passes.apart.stays.told d told_named)
+        ]
+
+        pub sector_then : state_sector < c.bay.sectors d
+        sector_then = elim readies [
+          | inl cleaned ↦ subst (λ n. state_sector < n) (sym (cleaned.ends.passes.apart.stays.sectors d)) sector_named
+          | inr lose ↦
+              subst (λ n. state_sector < n) (sym (lose.left.not_whole.only.stays.sectors d ∙ lose.cleaned.ends.passes.apart.stays.sectors d)) sector_named
+        ]
+
+        cleaned_copy : Cleaned m c → Keeps (m.bay.held d state_sector) (c.bay.held d state_sector)
+        cleaned_copy cleaned = part (book x).state (book c).state m.bay c.bay cleaned.unlost unlost told_named (clear d state_sector)
+
+        lost_copy : LosesOwn m c place disk → Keeps (m.bay.held d state_sector) (c.bay.held d state_sector)
+        lost_copy lose =
+            let e : View = meanwhile m lose.bay lose.arrays lose.refused in
+            let out = lose.left.not_whole in
+            let marks = out.mends.moves.book in
+            let stayed : lose.left.vacates.tables ≡ x.slices =
+            elim lose.left.vacates.seats [ inl given ↦ absurd (both_ways (is_current lose.arrays.state place) given.0 lose.current) | inr stays ↦ stays.1 ] in
+            let first : Keeps (m.bay.held d state_sector) (e.bay.held d state_sector) =
+            part (book x).state (book e).state m.bay e.bay lose.cleaned.unlost (λ k other current. marks.current k (unlost k other current)) told_named
+            (out.only.stays.spent d state_sector (clear d state_sector)) in
+            let second : Keeps (e.bay.held d state_sector) (c.bay.held d state_sector) =
+            part (book e).state (book c).state e.bay c.bay
+            (subst (λ (u : Slices). KeepsUnlost (book e).state (book c).state (slices_of u e.bay) (slices_of u c.bay)) stayed
+            out.unlost)
+            (λ k other current. unlost k other (lose.cleaned.ends.passes.marks.current k current)) (lose.cleaned.ends.passes.apart.stays.told d told_named) (clear d state_sector) in
+            keeps_then (m.bay.held d state_sector) (e.bay.held d state_sector) (c.bay.held d state_sector) first second
+
+        -- its copy of the state
+        pub copy_then : Keeps (x.bay.held d state_sector) (c.bay.held d state_sector)
+        copy_then =
+            subst (λ h. Keeps h (c.bay.held d state_sector)) (at.held d (old.there x place fit f goes d seat same) state_sector)
+            (elim readies [ inl cleaned ↦ cleaned_copy cleaned | inr lose ↦ lost_copy lose ])
+
+-- ---- the whole line, where the place hadn't given its disk up
+
+module _ {L : Type 0} {o : Option Lone} (x y : View) (place : ℕ) (name : List ℕ) (unspent : (d s : ℕ) → y.bay.spent d s ≡ false) (fit : (volume x).fit) (f : Found)
+    (goes : GoesBy L o f x) (d : ℕ) (seat : f.seats place ≡ Some d) (same : x.slices ≡ goes.tables) {b : FlatArray} (holds : Holds x b) where
+  -- where a new drive was taken in
+  pub entered_copy : (disk : ℕ) → EntersNamed x y place name disk → ChangesDrive x y place name → d ≢ disk → (IsNamed (moment_of y) name d → ⊥)
+      → Keeps (x.bay.held d state_sector) (y.bay.held d state_sector)
+  entered_copy disk entered changes other unnamed = elim entered.enters [
+    | inl at_once ↦
+        (changes.retired at_once.0 d (old.on x place fit f goes d seat same) unnamed).held state_sector (old.sector x place fit f goes d seat same)
+        (holds.disks d (old.there x place fit f goes d seat same))
+    | inr gives ↦
+        (let ready = gives.1 in
+        let e : View = c x entered.bay place name disk entered.attaches ready.bay ready.arrays ready.refused in
+        let whole = ready.enters.vacates.admits.whole in
+        let clear : (k s : ℕ) → e.bay.spent k s ≡ false = λ k s. ready.enters.enlists.only.stays.spent k s (unspent k s) in
+        keeps_then (x.bay.held d state_sector) (e.bay.held d state_sector) (y.bay.held d state_sector)
+        (copy_then x entered.bay place name disk entered.attaches ready.bay ready.arrays ready.refused ready.readies whole clear fit f goes d seat same holds)
+        ((ready.enters.former d (old.on x place fit f goes d seat same) other).held state_sector
+        (sector_then x entered.bay place name disk entered.attaches ready.bay ready.arrays ready.refused ready.readies whole clear fit f goes d seat same holds)
+        (told_then x entered.bay place name disk entered.attaches ready.bay ready.arrays ready.refused ready.readies whole clear fit f goes d seat same holds)))
   ]
 
-  room : (book c).state.epoch < 2 ^ 63 - 1
-  room =
-      let most = (number_room (book y) (array_of x.linear some.0) (not_over x.linear (book y) some.0 some.2)).1 in
-      epoch_room place enters.units (Replacing place) (book c).state (book y).state enters.enlists.is.book (omega (arith, most))
+-- where none was, though the pool was made ready for it
+module _ (x y : View) (place : ℕ) (name : List ℕ) (named : LeavesNamed x y place name) (ready : LeavesReady (over x named.bay) y place named.disk) where
+  abbrev e : View
+  e = c x named.bay place name named.disk named.attaches ready.bay ready.arrays ready.refused
 
-  -- no other state came than the one with the drive
-  pub same_state : (book c).state ≡ (book x).state
-  same_state = elim after.raised [
-    | inl same ↦ same
-    | inr (inl later) ↦
-        (let below = room in
-        let first = up_one (book x).state.epoch (omega (arith, later, below)) in
-        let next = up_one (book c).state.epoch below in
-        let last = enters.enlists.is.book.epoch in
-        absurd (omega (arith, later, first, next, last, steady)))
-    | inr (inr most) ↦ (let below = room in absurd (omega (arith, most, below)))
+  whole : has_other_missing (book e).state place ≡ false
+  whole = elim ready.leaves [ inl gone ↦ gone.vacates.admits.whole | inr out ↦ out.vacates.admits.whole ]
+
+  only : WritesOnly e.bay y.bay (IsWrittenBy y.slices named.disk (e.bay.sectors named.disk))
+  only = elim ready.leaves [
+    | inl gone ↦
+        only_weaker (IsOfDrive named.disk (e.bay.sectors named.disk)) (IsWrittenBy y.slices named.disk (e.bay.sectors named.disk)) (λ k s v own. inl own) gone.refused.only
+    | inr out ↦
+        subst (λ (u : Slices). WritesOnly e.bay y.bay (IsWrittenBy u named.disk (e.bay.sectors named.disk))) (sym out.slices) out.not_whole.only
   ]
 
-  pub current_then : is_current (book c).state place ≡ true
-  current_then = subst (λ (s : State). is_current s place ≡ true) (sym same_state) current
+  -- all other places were current
+  pub others_left : (k : ℕ) → k < length (book x).state.drives.items → k ≢ place → is_current (book x).state k ≡ true
+  others_left k low other =
+      (after x named.bay place name named.disk named.attaches ready.bay ready.arrays ready.refused ready.readies).current k
+      (others_then x named.bay place name named.disk named.attaches ready.bay ready.arrays ready.refused ready.readies whole k low other)
 
-  pub cleaned : Cleaned m c
-  cleaned = elim ready.readies [ inl is ↦ is | inr lose ↦ absurd (both_ways (is_current (book c).state place) lose.lost current_then) ]
+  module _ {L : Type 0} {o : Option Lone} (unspent : (d s : ℕ) → y.bay.spent d s ≡ false) (fit : (volume x).fit) (f : Found) (goes : GoesBy L o f x) (d : ℕ)
+      (seat : f.seats place ≡ Some d) (same : x.slices ≡ goes.tables) {b : FlatArray} (holds : Holds x b) where
+    clear : (k s : ℕ) → e.bay.spent k s ≡ false
+    clear k s = only.stays.spent k s (unspent k s)
 
-  pub holds_named : Holds m b
-  holds_named =
-      let carries = entered.attaches.carries in
-      let go = entered.attaches.continues in
-      record {
-        told = λ s low left.
-            carries.told holds.shelf holds.disks s (subst (λ n. s < n) holds.size low) left (holds.told s low (carries.spent s left));
-        shelf = go.told holds.shelf;
-        disks = go.known holds.shelf holds.disks;
-        size = holds.size ∙ sym go.size;
-        values = λ s low left.
-            let was = carries.spent s left in
-            keeps_then (b.values s) ((volume x).held 0 s) ((volume m).held 0 s) (holds.values s low was)
-            (carries.keeps holds.shelf holds.disks s (subst (λ n. s < n) holds.size low) left (holds.told s low was));
-      }
-
-  pub holds_then : Holds c (flushed b)
-  holds_then = cleaned.ends.does.becomes b holds_named
-
-  -- each array is told when the disk is attached, and after the cleaning
-  pub told_named : (n : ℕ) → n < x.linear.arrays → IsTold (book x) (slices_of x.slices m.bay) n
-  told_named = entered.attaches.carries.told holds.shelf holds.disks some.0 some.1 alive (holds.told some.0 (let same = holds.size in let low = some.1 in omega (arith, low, same)) alive)
-
-  pub told_then : (n : ℕ) → n < x.linear.arrays → IsTold (book c) (slices_of x.slices c.bay) n
-  told_then = cleaned.ends.passes.stays.told 0 told_named
-
-  -- the tables from which it is taken in
-  pub same_tables : enters.vacates.tables ≡ x.slices
-  same_tables = elim enters.vacates.seats [ inl given ↦ absurd (both_ways (is_current (book c).state place) given.0 current_then) | inr stays ↦ stays.1 ]
-
-  -- a drive is left that the pool had, since a sector can be had
-  pub other : has_other (book y).state place ≡ true
-  other = elim (cases_Bool (has_other (book y).state place)) [
-    | inl is ↦ is
-    | inr none ↦
-        (let l = x.linear in
-        let set = enters.vacates.fit.running.set in
-        let low : array_of l some.0 < (book c).state.made =
-        (let under = array_low x some.0 fit some.1 in let arrays = fit.1.arrays in
-        let made : (book c).state.made ≡ (book x).state.made = ap (λ (s : State). s.made) same_state in omega (arith, under, arrays, made)) in
-        absurd
-        (both_ways (spent_in ((book y).arrays (array_of l some.0)) (sector_of l some.0)) (live_parts (book y) (array_of l some.0) (sector_of l some.0) some.2).1
-        (all_spent place enters.units (Replacing place) (joins (views_of (book c)) place (c.bay.sectors disk)) (book c) (book y) (slices_of enters.vacates.tables c.bay)
-        (slices_of y.slices y.bay) set continues.fit.0.running.set continues.fit.0.heeded enters.enlists.is.book.same.made enters.enlists.is.arrays
-        (member_joins (book c) place (c.bay.sectors disk) enters.vacates.admits (λ n under. (set.arrays n under).is_array)) none (array_of l some.0) low (sector_of l some.0))))
-  ]
-
-  pub still : (n : ℕ) → n < (book x).state.made → is_over (book y) n ≡ false → is_over (book c) n ≡ false
-  still n low lasts = enters.enlists.is.still n (let made : (book c).state.made ≡ (book x).state.made = ap (λ (s : State). s.made) same_state in omega (arith, low, made)) other lasts
-
-  -- ---- what the drive says that gives way
-
-  module _ {L : Type 0} {o : Option Lone} (unspent : (d s : ℕ) → y.bay.spent d s ≡ false)
-      (outside : KeepsOutside x.slices y.slices (λ d. slice_get y.shelf.names d ≡ Some name) x.shelf.told x.bay y.bay) (changes : ChangesDrive x y place name)
-      (told : (d : ℕ) → d < y.bay.disks → y.bay.told d) (f : Found) (goes : GoesBy L o f x) (d : ℕ) (seat : f.seats place ≡ Some d) (same : x.slices ≡ goes.tables)
-      (on : seat_of x.slices place ≡ Some d) (unnamed : IsNamed (moment_of y) name d → ⊥) (away : d ≢ disk) (bare : (s : ℕ) (w : List ℕ) → IsSliced y.slices d s w → ⊥)
-      (listed : place < length (book x).state.drives.items) where
-    there : d < x.bay.disks
-    there = old.there x y place name unspent fit continues outside changes told f goes d seat same on unnamed bare holds some.0 some.1 alive listed
-
-    live : IsLive y.bay y.bay d state_sector
-    live = old.live x y place name unspent fit continues outside changes told f goes d seat same on unnamed bare holds some.0 some.1 alive listed
-
-    small : place < 16
-    small = old.small x y place name unspent fit continues outside changes told f goes d seat same on unnamed bare holds some.0 some.1 alive listed
-
-    low_then : d < c.bay.disks
-    low_then =
-        let first = there in
-        let more = entered.attaches.continues.disks in
-        let as_many = cleaned.ends.passes.apart.stays.disks in
-        omega (arith, first, more, as_many)
-
-    sector_then : state_sector < c.bay.sectors d
-    sector_then =
-        let here = old.sector x y place name unspent fit continues outside changes told f goes d seat same on unnamed bare holds some.0 some.1 alive listed in
-        let named = entered.attaches.continues.sectors d there in
-        let cleaned_is = cleaned.ends.passes.apart.stays.sectors d in
-        omega (arith, here, named, cleaned_is)
-
-    -- it isn't written after the cleaning
-    kept : Keeps (c.bay.held d state_sector) (y.bay.held d state_sector)
-    kept = (enters.former d on away).held state_sector sector_then (holds_then.disks d low_then)
-
-    abbrev one : ℕ
-    one = array_of x.linear some.0
-
-    one_low : one < x.linear.arrays
-    one_low = array_low x some.0 fit some.1
-
-    lasts : is_over (book c) one ≡ false
-    lasts = still one (let under = one_low in let arrays = fit.1.arrays in omega (arith, under, arrays)) (not_over x.linear (book y) some.0 some.2)
-
-    -- an earlier state than the one with the new drive
-    pub gave_below : (i : Image) → IsPickOff y.slices y.bay i → (copy : Copied) → (identities_of (disks_of y.bay) i d).copied ≡ Some copy
-        → copy.state.epoch < raised (book x).state.epoch
-    gave_below i off copy here =
-        subst (λ (s : State). copy.state.epoch < raised s.epoch) same_state
-        (former_earlier f goes.tables y.slices (book c) c.bay y.bay place d goes.service.slices seat small one
-        (subst (λ (u : Slices). IsTold (book c) (slices_of u c.bay) one) same (told_then one one_low)) lasts room live kept (λ w is. bare state_sector w is) i off copy here)
-
-    -- ---- copies since a state
-
-    disk_low : (k : ℕ) → disk_of x.slices k < x.bay.disks
-    disk_low k = by (seat_of x.slices (place_of k)) refl
-      where
-        by : (o : Option ℕ) → seat_of x.slices (place_of k) ≡ o → unwrap_or o 0 < x.bay.disks
-        by None free = (let low = there in omega (arith, low))
-        by (Some e) at = fit.0.running.set.fit.1.seats (place_of k) e at
-
-    -- those that each place has are so when the disk is attached, and after the cleaning
-    since_then : (r : State) → HoldsSince r (slices_shown x) → IsAfter r (book x).state → HoldsSince r (slices_shown c)
-    since_then r since later =
-        (cleaned.ends.passes.moments.since one r (told_named one one_low) lasts later
-        (λ p v few sectors left.
-        since p v few sectors
-        (subst (λ g. MayLeave g v)
-        (entered.attaches.held (disk_of x.slices (log_slice p)) (disk_low (log_slice p)) (first_of x.slices (log_slice p) + 0)) left))).holds
-
-    held_there : (slices_shown c).held (log_slice place) 0 ≡ c.bay.held d state_sector
-    held_there = ap (λ (u : Slices). (slices_of u c.bay).held (log_slice place) 0) same ∙ log_there f goes.tables c.bay place d goes.service.slices seat 0
-
-    -- where each place that was current by a state has its own copy since then, so has this drive
-    pub gave_copy : (r : State) → HoldsSince r (slices_shown x) → IsAfter r (book x).state → is_current r place ≡ true → (i : Image) → IsPickOff y.slices y.bay i
-        → (copy : Copied) × ((identities_of (disks_of y.bay) i d).copied ≡ Some copy) × IsAfter r copy.state × (id_at copy.state copy.own ≡ id_at r place)
-    gave_copy r since later was i off =
-        let w = i d state_sector in
-        let left : MayLeave (c.bay.held d state_sector) w = kept.within w (off d state_sector live (λ v is. bare state_sector v is)) in
-        let many = ap (λ (u : Slices). sectors_of u (log_slice place)) same ∙ (log_lies f goes.tables c.bay place d goes.service.slices seat).1 in
-        let own : HasOwnSince r place w = (since_then r since later place w small (omega (arith, many)) (subst (λ h. MayLeave h w) (sym held_there) left)).own was in
-        let within_now : state_sector < y.bay.sectors d = live.sector in (
-          own.copy,
-          ap (λ (z : Bool). if z then result_ok (decoded w) else None) (lt-ltb state_sector (y.bay.sectors d) within_now) ∙ ap result_ok own.is,
-          own.after,
-          own.drive,
-        )
+    pub left_copy : d ≢ named.disk → ((w : List ℕ) → IsSliced y.slices d state_sector w → ⊥) → Keeps (x.bay.held d state_sector) (y.bay.held d state_sector)
+    left_copy other bare =
+        keeps_then (x.bay.held d state_sector) (e.bay.held d state_sector) (y.bay.held d state_sector)
+        (copy_then x named.bay place name named.disk named.attaches ready.bay ready.arrays ready.refused ready.readies whole clear fit f goes d seat same holds)
+        (only.others d state_sector
+        (record {
+          disk = subst (λ n. d < n) (sym only.stays.disks) (low_then x named.bay place name named.disk named.attaches ready.bay ready.arrays ready.refused ready.readies whole clear fit f goes d seat same holds);
+          sector = subst (λ n. state_sector < n) (sym (only.stays.sectors d)) (sector_then x named.bay place name named.disk named.attaches ready.bay ready.arrays ready.refused ready.readies whole clear fit f goes d seat same holds);
+          is_told = told_then x named.bay place name named.disk named.attaches ready.bay ready.arrays ready.refused ready.readies whole clear fit f goes d seat same holds;
+          unspent = unspent d state_sector;
+        })
+        (λ w may. elim may [ inl own ↦ other own.0 | inr sliced ↦ bare w sliced ]))

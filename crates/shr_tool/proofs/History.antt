@@ -302,7 +302,7 @@ on_more :
     → Holds x a
     → IsServed (ground_of x) (moment_of z) (events ++ event ∷ [])
     → (any_takes (events ++ event ∷ []) ≡ true → AreSerial f.state)
-    → IsFitFor (pool_by f (moment_of x) events (moment_of y) ran.steps) (moment_of y) (moment_of z) event
+    → IsFitFor (pool_by f (moment_of x) events (moment_of y) ran.steps) (moment_of y) event
     → ((l : Lone) → o ≡ Some l → IsLoneFor (pool_by f (moment_of x) events (moment_of y) ran.steps) l (moment_of y) (moment_of z) event)
     → ((l : Lone) → o ≡ Some l → (book z).state.serial ≤ l.bound)
     → GoesOn (TargetsLand f) o f (pool_by f (moment_of x) events (moment_of y) ran.steps) y

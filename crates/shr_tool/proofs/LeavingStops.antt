@@ -1,6 +1,6 @@
 -- What a stop leaves inside a line that was to take a drive in, and didn't: the pool with the disk that was attached.
-use Rattle.std.proofs.Common.{◌≡◌, ℕ, ◌<◌, ◌≤◌, true, false, List, length, None, sym, subst, inl, inr, arith}
-use Rattle.std.proofs.lemmas.Bool.{both_ways}
+use Rattle.std.proofs.Common.{◌≡◌, ℕ, ◌<◌, ◌≤◌, true, false, List, length, None, refl, sym, subst, inl, inr, arith}
+use Rattle.std.proofs.lemmas.Bool.{both_ways, cases_Bool, cases_lt}
 use Rattle.rack.specs.Seen.{Image}
 use Rattle.rack.specs.Sequences.{WritesOnly}
 use Rattle.rack.proofs.Writing.{only_weaker}
@@ -8,6 +8,8 @@ use Rattle.slice_rack.specs.Slices.{Slices}
 use Rattle.slice_rack.specs.Sliced.{slices_of}
 use Rattle.flat_array.specs.Array.{FlatArray}
 use Rattle.lvm_group.specs.Runs.{Linear}
+use Rattle.pool_state.specs.declared.contents.State.{State}
+use Rattle.raid_rack.specs.Book.{IsAfter, after_same}
 use Rattle.raid_rack.specs.Enlisting.{IsWrittenBy}
 use Rattle.raid_rack.specs.NewDrive.{IsOfDrive}
 use Rattle.raid_rack.specs.Raid.{Raid, is_over}
@@ -16,21 +18,27 @@ use Rattle.pool_image.specs.Disks.{Disks, disks_of}
 use Rattle.pool_image.specs.Drives.{Found}
 use Rattle.pool_model.specs.Stopped.{HoldAmid}
 use Rattle.pool_model.specs.Taken.{attached}
+use Rattle.pool_model.proofs.ReplacingEarly.{replacing_declined}
 use Rattle.pool_model.proofs.TakingEarly.{declined_amid as declined_stops}
 use Rattle.array_image.specs.States.{is_current}
 use Rattle.pool.specs.declared.replacing.GrowFault.{GrowFault}
-use Rattle.pool.specs.Entering.{LeavesBy, Vacates}
+use Rattle.pool.specs.Entering.{Cleaned, IsVacating, LeavesBy, LeavesReady, Vacates, meanwhile}
 use Rattle.pool.specs.Moment.{moment_of}
 use Rattle.pool.specs.Naming.{LeavesNamed}
 use Rattle.pool.specs.Replaced.{ChangesDrive}
 use Rattle.pool.specs.View.{View, book, over, spent_by, volume}
 use Rattle.pool.specs.Volume.{Holds, is_spent, size_of}
+use Rattle.shr_tool.specs.Between.{HoldsLeft}
 use Rattle.shr_tool.specs.Events.{looks_at}
 use Rattle.shr_tool.specs.Events.Event.{declined}
 use Rattle.shr_tool.specs.Service.{GoesBy, IsFitDisk}
 use Rattle.shr_tool.specs.Timeline.{Performs}
-use Rattle.shr_tool.proofs.NamedDisk.{apart_named, lacks_named, opened, room_named, service_named, tables_named, told_named}
+use Rattle.pool_model.proofs.Likewise.{amid_likewise}
+use Rattle.shr_tool.proofs.GivesWay.{after}
+use Rattle.shr_tool.proofs.NamedDisk.{apart_named, arrays_named, goes_named, lacks_named, opened, room_named, service_named, tables_named, told_named}
 use Rattle.shr_tool.proofs.Quiet.{listed_of}
+use Rattle.shr_tool.proofs.Readied.{IsReadied, readied}
+use Rattle.shr_tool.proofs.Serviced.{goes_amid}
 
 module _ {L : Type 0} (x y : View) (place : ℕ) (name : List ℕ) (fault : GrowFault) (text : List ℕ) (b : FlatArray) (looks : looks_at fault ≡ true)
     (unspent : (d s : ℕ) → y.bay.spent d s ≡ false) (fit : (volume x).fit) (performs : Performs x y (declined place name fault) text) (holds : Holds x b)
@@ -85,12 +93,95 @@ module _ {L : Type 0} (x y : View) (place : ℕ) (name : List ℕ) (fault : Grow
         (subst (λ (w : Raid). KeepsMoments (book x) w (slices_of gone.vacates.tables m.bay) (slices_of gone.vacates.tables y.bay)) (sym gone.same) gone.refused.moments)
     left_amid missing (inr out) = laid_amid missing out.vacates out.slices out.not_whole.only out.not_whole.moments
 
-  pub declined_amid : is_current (book x).state place ≡ false → (k : ℕ) (i : Image) → x.bay.clock < k → k ≤ y.bay.clock → y.bay.stops k i
-      → HoldAmid (attached f (disks_of y.bay)) y.slices (book x).state (book y).state i
-  declined_amid missing k i since until stopped = elim (performs.changes looks).1 [
-    | inl still ↦ absurd (omega (arith, since, until, still))
+  -- it was cleaned, and no more
+  cleaned_amid : (named : LeavesNamed x y place name) → Cleaned (over x named.bay) y → (k : ℕ) (i : Image) → x.bay.clock < k → k ≤ y.bay.clock → y.bay.stops k i
+      → HoldAmid (attached f (disks_of y.bay)) x.slices (book x).state (book y).state i
+  cleaned_amid named cleaned k i since until stopped =
+      let at = named.attaches in
+      let m = over x named.bay in
+      let stays = cleaned.ends.passes.apart.stays in
+      let spared : (d s : ℕ) → m.bay.spent d s ≡ false = λ d s. stays.spent d s (unspent d s) in
+      let stops =
+      goes_amid m y (attached f (disks_of m.bay)) at.continues.fit.0.running.set.fit.1 cleaned.ends.passes (goes_named x named.bay name named.disk at spared fit b holds f goes waits) lands
+      (arrays_named x named.bay name named.disk at spared fit b holds f goes waits some.0 some.1 alive) lasts (at.continues.traced holds.shelf traced) in
+      let same_disks : disks_of m.bay ≡ disks_of y.bay = λ j. record { count = sym stays.disks j; sectors = λ d. sym (stays.sectors d) j } in
+      subst (λ (z : Disks). HoldAmid (attached f z) x.slices (book x).state (book y).state i) same_disks
+      (stops.new k i (let clock = at.clock in omega (arith, since, clock)) until stopped)
+
+  -- the disk was laid, on a pool that was made ready for it
+  module _ (named : LeavesNamed x y place name) (current : is_current (book x).state place ≡ true) (ready : LeavesReady (over x named.bay) y place named.disk) where
+    abbrev c : View
+    c = meanwhile (over x named.bay) ready.bay ready.arrays ready.refused
+
+    abbrev h : Found
+    h = attached f (disks_of c.bay)
+
+    laid_ready : (vacates : Vacates c place named.disk) → y.slices ≡ vacates.tables → WritesOnly c.bay y.bay (IsWrittenBy vacates.tables named.disk (c.bay.sectors named.disk))
+        → KeepsMoments (book c) (book y) (slices_of vacates.tables c.bay) (slices_of vacates.tables y.bay) → IsAfter (book c).state (book y).state
+        → (k : ℕ) (i : Image) → x.bay.clock < k → k ≤ y.bay.clock → y.bay.stops k i → HoldsLeft f (moment_of x) (moment_of y) place i
+    laid_ready vacates same only moments marks k i since until stopped = elim (cases_lt c.bay.clock k) [
+      | inr early ↦
+          old (book x).state (book c).state (after_same (book x).state) marks
+          (is.readying.new k i (let clock = named.attaches.clock in omega (arith, since, clock)) early ((only.stops is.traced).past k i early stopped))
+      | inl late ↦ elim (cases_Bool (is_current (book c).state place)) [
+        | inl still ↦
+            old (book c).state (book y).state came (after_same (book y).state)
+            ((replacing_declined h x.slices (book c) place named.disk c.bay is.service is.apart goes.orderly is.inside is.tables is.opened is.room is.lasting is.traced (book y) y.bay
+            (subst (λ (t : Slices). WritesOnly c.bay y.bay (IsWrittenBy t named.disk (c.bay.sectors named.disk))) (same_tables still vacates.seats) only)
+            (subst (λ (t : Slices). KeepsMoments (book c) (book y) (slices_of t c.bay) (slices_of t y.bay)) (same_tables still vacates.seats) moments) is.told lasts).new k i late until
+            stopped)
+        | inr lost ↦ (
+          y.slices,
+          inl refl,
+          now y.slices (book c).state (book y).state came (after_same (book y).state)
+              (subst (λ (t : Slices). HoldAmid h t (book c).state (book y).state i) (sym same)
+              ((declined_stops h x.slices vacates.tables (book c) place named.disk c.bay is.service (is.lacks lost) (λ p away. is.apart p) vacates.orderly vacates.fit.running.set.fit.1
+              is.tables is.opened is.room is.lasting is.traced (book y) y.bay only moments (is.left lost) lasts).new k i late until stopped)),
+        )
+      ]
+    ]
+      where
+        is : IsReadied x (over x named.bay) c place named.disk vacates.tables f h
+        is =
+            readied x named.bay name place named.disk named.attaches ready.bay ready.arrays ready.refused ready.readies vacates (λ d s. only.stays.spent d s (unspent d s)) fit b holds
+            (some.0, some.1, alive) f goes waits current lands (λ n low. moments.still n (lasts n low)) traced
+
+        came : IsAfter (book x).state (book c).state
+        came = after x named.bay place name named.disk named.attaches ready.bay ready.arrays ready.refused ready.readies
+
+        disks : disks_of y.bay ≡ disks_of c.bay
+        disks j = record { count = only.stays.disks j; sectors = λ d. only.stays.sectors d j }
+
+        now : (t : Slices) (s u : State) → IsAfter (book x).state s → IsAfter u (book y).state → HoldAmid h t s u i
+            → HoldAmid (attached f (disks_of y.bay)) t (book x).state (book y).state i
+        now t s u from to amid = amid_likewise h (attached f (disks_of y.bay)) t s u (book x).state (book y).state i disks refl refl from to amid
+
+        -- by the slices of before
+        old : (s u : State) → IsAfter (book x).state s → IsAfter u (book y).state → HoldAmid h x.slices s u i → HoldsLeft f (moment_of x) (moment_of y) place i
+        old s u from to amid = (x.slices, inr (current, refl), now x.slices s u from to amid)
+
+        same_tables : is_current (book c).state place ≡ true → IsVacating c place vacates.tables → vacates.tables ≡ x.slices
+        same_tables still (inl gone) = absurd (both_ways (is_current (book c).state place) gone.0 still)
+        same_tables still (inr kept) = kept.1
+
+    ready_amid : (k : ℕ) (i : Image) → x.bay.clock < k → k ≤ y.bay.clock → y.bay.stops k i → HoldsLeft f (moment_of x) (moment_of y) place i
+    ready_amid = elim ready.leaves [
+      | inl gone ↦
+          laid_ready gone.vacates gone.slices
+          (only_weaker (IsOfDrive named.disk (c.bay.sectors named.disk)) (IsWrittenBy gone.vacates.tables named.disk (c.bay.sectors named.disk)) (λ d k v own. inl own) gone.refused.only)
+          (subst (λ (w : Raid). KeepsMoments (book c) w (slices_of gone.vacates.tables c.bay) (slices_of gone.vacates.tables y.bay)) (sym gone.same) gone.refused.moments)
+          (subst (λ (w : Raid). IsAfter (book c).state w.state) (sym gone.same) (after_same (book c).state))
+      | inr out ↦ laid_ready out.vacates out.slices out.not_whole.only out.not_whole.moments out.not_whole.mends.moves.book
+    ]
+
+  pub declined_amid : (k : ℕ) (i : Image) → x.bay.clock < k → k ≤ y.bay.clock → y.bay.stops k i → HoldsLeft f (moment_of x) (moment_of y) place i
+  declined_amid k i since until stopped = elim (performs.changes looks).1 [
+    | inl still ↦ (let same = still.0 in absurd (omega (arith, since, until, same)))
     | inr named ↦ elim named.leaves [
-      | inl at_once ↦ left_amid named missing at_once.1 k i since until stopped
-      | inr ready ↦ absurd (both_ways (is_current (book x).state place) missing ready.0)
+      | inl at_once ↦ (y.slices, inl refl, left_amid named at_once.0 at_once.1 k i since until stopped)
+      | inr way ↦ elim way.1 [
+        | inl cleaned ↦ (x.slices, inr (way.0, refl), cleaned_amid named cleaned k i since until stopped)
+        | inr ready ↦ ready_amid named way.0 ready k i since until stopped
+      ]
     ]
   ]

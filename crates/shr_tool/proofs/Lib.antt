@@ -3,6 +3,7 @@ mod Attached
 mod Between
 pub mod Chains
 mod DriveTable
+mod EitherPool
 mod Examined
 mod Exported
 mod Filled
@@ -10,6 +11,7 @@ mod Finishing
 mod FormLemmas
 mod Former
 mod GivesWay
+mod GivingFrom
 mod GivingStops
 mod GroupKept
 mod Heads
@@ -28,6 +30,7 @@ mod Performing
 mod Pieces
 mod Putting
 mod Quiet
+mod Readied
 mod Replacing
 mod Serial
 mod Serviced
@@ -37,6 +40,7 @@ mod Stopping
 mod Taking
 mod TakenIn
 mod TakenTables
+mod TakingFrom
 mod TakingStops
 mod Through
 mod Told

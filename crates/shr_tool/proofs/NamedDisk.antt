@@ -3,7 +3,7 @@ use Rattle.std.proofs.Common.{◌≡◌, ◌≢◌, ℕ, ◌<◌, ◌≤◌, nat
 use Rattle.std.specs.Result.{result_ok}
 use Rattle.std.proofs.lemmas.Bool.{both_ways, cases_eq}
 use Rattle.std.proofs.lemmas.Option.{none-some}
-use Rattle.rack.specs.Joins.{keeps_same}
+use Rattle.rack.specs.Joins.{keeps_same, keeps_then}
 use Rattle.rack.specs.Seen.{Image, IsLive}
 use Rattle.rack.specs.Values.{Keeps, MayLeave, Values}
 use Rattle.slice_rack.specs.Changes.{Seats}
@@ -52,7 +52,7 @@ use Rattle.shr_tool.proofs.TakenIn.{going_seat, vacant_not}
 use Rattle.shr_tool.proofs.TurnedDown.{seats_both}
 
 -- a copy in a disk's sector of the state
-copy_parts : (sectors : ℕ) (w : List ℕ) (copy : Copied) → (if nat_lt state_sector sectors then result_ok (decoded w) else None) ≡ Some copy
+pub copy_parts : (sectors : ℕ) (w : List ℕ) (copy : Copied) → (if nat_lt state_sector sectors then result_ok (decoded w) else None) ≡ Some copy
     → (state_sector < sectors) × (decoded w ≡ Ok copy)
 copy_parts sectors w copy here = by (nat_lt state_sector sectors) refl here
   where
@@ -177,6 +177,53 @@ module _ {L : Type 0} {o : Option Lone} (x : View) (bay : x.bays.one) (name : Li
       tables_attached f t (book x).state disk x.bay m.bay goes.service.arranged goes.service.slices keeps_others
       (λ i off p current seat. absurd (not_current p current seat)) (goes.laid lands)
 
+  -- ---- how a run goes by it
+
+  pub holds_named : Holds m b
+  holds_named = record {
+    told = λ s low left. at.carries.told holds.shelf holds.disks s (subst (λ n. s < n) holds.size low) left (holds.told s low (at.carries.spent s left));
+    shelf = at.continues.told holds.shelf;
+    disks = at.continues.known holds.shelf holds.disks;
+    size = holds.size ∙ sym at.continues.size;
+    values = λ s low left.
+        let was = at.carries.spent s left in
+        keeps_then (b.values s) ((volume x).held 0 s) ((volume m).held 0 s) (holds.values s low was)
+        (at.carries.keeps holds.shelf holds.disks s (subst (λ n. s < n) holds.size low) left (holds.told s low was));
+  }
+
+  -- the drive of a place that gave its disk up says what it said
+  gave_up : (k : ℕ) → LacksDrive f t x.slices (book x) k x.bay → LacksDrive h t x.slices (book x) k m.bay
+  gave_up k lacks = record {
+    vacated = lacks.vacated;
+    missing = lacks.missing;
+    earlier = λ d seat i off copy here.
+        let parts = copy_parts (m.bay.sectors d) (i d state_sector) copy here in
+        let low = seat_disk k d seat in
+        let left =
+        left_off x.slices i off d state_sector low parts.0
+        (λ w is. vacant_free t x.slices k lacks.vacated f goes.service.slices d state_sector w (λ q other. one_seat f t (book x) x.bay goes.service q k d other seat) is) in
+        lacks_value f t x.slices (book x) k x.bay lacks d seat (i d state_sector) copy (subst (λ n. state_sector < n) (at.continues.sectors d low) parts.0) left parts.1;
+  }
+
+  pub goes_named : GoesBy L None h m
+  goes_named = record {
+    tables = t;
+    service = service_named;
+    vacant = elim goes.vacant [ inl same ↦ inl same | inr one ↦ inr (one.0, one.1, gave_up one.0 one.2) ];
+    lasting = at.continues.lasting goes.lasting;
+    arrays = goes.arrays;
+    orderly = goes.orderly;
+    laid = tables_named;
+    alone = λ l none. absurd (none-some l none);
+  }
+
+  -- its arrays are told, where a sector of the volume can be had
+  told_arrays : (s : ℕ) → s < size_of x → is_spent x s ≡ false → (n : ℕ) → n < x.linear.arrays → IsTold (book x) (slices_of x.slices m.bay) n
+  told_arrays s low left = at.carries.told holds.shelf holds.disks s low left (holds.told s (let same = holds.size in omega (arith, low, same)) left)
+
+  pub arrays_named : (s : ℕ) → s < size_of x → is_spent x s ≡ false → (n : ℕ) → n < f.state.made → IsTold (book x) (slices_of x.slices m.bay) n
+  arrays_named s low left n below = told_arrays s low left n (subst (λ k. n < k) (sym goes.arrays) below)
+
   -- what is remembered of a place's drive
   pub sector_named : (p s : ℕ) → drive_sector h p s ≡ drive_sector f p s
   sector_named =
@@ -248,6 +295,5 @@ module _ {L : Type 0} {o : Option Lone} (x : View) (bay : x.bays.one) (name : Li
     -- each array is told by the slices that are left
     pub told_named : (n : ℕ) → n < x.linear.arrays → IsTold (book x) (slices_of u m.bay) n
     told_named n low =
-        let told = at.carries.told holds.shelf holds.disks some within alive (holds.told some (let same = holds.size in omega (arith, within, same)) alive) n low in
         vacated_told place x.slices u m.bay gave (book x) fit.0.heeded none at.continues.fit.0.running.set vacates.fit.running.set.fit n
-        (let arrays = fit.1.arrays in omega (arith, low, arrays)) told
+        (let arrays = fit.1.arrays in omega (arith, low, arrays)) (told_arrays some within alive n low)

@@ -232,7 +232,7 @@ served_last x y z events event same (inr some) =
 pub goes_performed :
     {L : Type 0} {o : Option Lone} (x y : View) (event : Event) (text : List ℕ) (b : FlatArray)
     → ((d s : ℕ) → y.bay.spent d s ≡ false) → (volume x).fit → Performs x y event text → Holds x b → IsServedBy x y event
-    → (f : Found) → GoesBy L o f x → (takes_disk event ≡ true → AreSerial f.state) → IsFitFor f (moment_of x) (moment_of y) event
+    → (f : Found) → GoesBy L o f x → (takes_disk event ≡ true → AreSerial f.state) → IsFitFor f (moment_of x) event
     → ((l : Lone) → o ≡ Some l → IsLoneFor f l (moment_of x) (moment_of y) event) → ((l : Lone) → o ≡ Some l → (book y).state.serial ≤ l.bound)
     → GoesOn L (lone_then o (moment_of y) event) f (pool_after f (moment_of x) (moment_of y) event) y
 goes_performed {L} {o} x y event text b unspent fit performs holds served f goes serials fitting lone early = elim (cases_Bool (takes_disk event)) [
@@ -247,7 +247,7 @@ goes_performed {L} {o} x y event text b unspent fit performs holds served f goes
     served_taking e takes (inl none) = absurd (both_ways (takes_disk e) none takes)
     served_taking e takes (inr some) = some
 
-    taking : (e : Event) → takes_disk e ≡ true → Performs x y e text → AreSerial f.state → IsFitFor f (moment_of x) (moment_of y) e
+    taking : (e : Event) → takes_disk e ≡ true → Performs x y e text → AreSerial f.state → IsFitFor f (moment_of x) e
         → ((l : Lone) → o ≡ Some l → IsLoneFor f l (moment_of x) (moment_of y) e) → (s : ℕ) × (s < size_of x) × (spent_by x.linear (book y) s ≡ false)
         → GoesOn L (lone_then o (moment_of y) e) f (pool_after f (moment_of x) (moment_of y) e) y
     taking (answered line) takes does serial fits lone some = absurd (both_ways false refl takes)

@@ -4,6 +4,7 @@ use Rattle.std.specs.Option.{option_map_or}
 use Rattle.std.proofs.lemmas.Bool.{both_ways, cases_Bool, cases_eq, cases_lt}
 use Rattle.std.proofs.lemmas.Option.{none-some}
 use Rattle.rack.specs.Seen.{Image, IsLive}
+use Rattle.rack.specs.Values.{Keeps}
 use Rattle.slice_rack.specs.Changes.{Seats}
 use Rattle.slice_rack.specs.Runs.{IsSliced}
 use Rattle.slice_rack.specs.Slices.{Slices, seat_of}
@@ -15,7 +16,7 @@ use Rattle.pool_state.specs.declared.contents.Copied.{Copied}
 use Rattle.pool_state.specs.declared.contents.Drive.{Drive}
 use Rattle.pool_state.specs.declared.contents.Plan.TheVariants.{Replace as Replacing}
 use Rattle.pool_state.specs.declared.contents.State.{State}
-use Rattle.array_image.specs.Places.{super_sector}
+use Rattle.array_image.specs.Places.{state_sector, super_sector}
 use Rattle.array_image.specs.Supers.{super_of}
 use Rattle.array_image.specs.States.{is_current}
 use Rattle.array_core.proofs.Opened.{current_below}
@@ -58,8 +59,8 @@ use Rattle.shr_tool.specs.Events.Event.{replaced}
 use Rattle.shr_tool.specs.Service.{GoesBy, GoesOn, IsFitDrive, Lone, StandsLone, disk_in, lone_then, pool_after, units_in}
 use Rattle.shr_tool.specs.Timeline.{Performs}
 use Rattle.shr_tool.proofs.Chains.{lone_before}
-use Rattle.shr_tool.proofs.Former.{former_copy, lost_below, not_over, since_now}
-use Rattle.shr_tool.proofs.GivesWay.{gave_below, gave_copy}
+use Rattle.shr_tool.proofs.Former.{former_copy, gave_below, not_over, since_now}
+use Rattle.shr_tool.proofs.GivesWay.{entered_copy}
 use Rattle.shr_tool.proofs.TakenTables.{lies_taken, table_taken}
 
 some_same : {X : Type 0} (a b : X) → Some a ≡ Some b → a ≡ b
@@ -173,7 +174,7 @@ reached_of arrays place sectors n each = by (slice_get arrays n) refl
 
 module _ {L : Type 0} {o : Option Lone} (x y : View) (place : ℕ) (name text : List ℕ) (b : FlatArray) (unspent : (d s : ℕ) → y.bay.spent d s ≡ false) (fit : (volume x).fit)
     (performs : Performs x y (replaced place name) text) (holds : Holds x b) (some : (s : ℕ) × (s < size_of x) × (spent_by x.linear (book y) s ≡ false))
-    (f : Found) (goes : GoesBy L o f x) (fitting : IsFitDrive f (moment_of x) (moment_of y) place name) (serials : AreSerial f.state)
+    (f : Found) (goes : GoesBy L o f x) (fitting : IsFitDrive f (moment_of x) place name) (serials : AreSerial f.state)
     (lone : (l : Lone) → o ≡ Some l → (d : ℕ) → f.seats place ≡ Some d → IsNamed (moment_of x) name d ⊎ (is_current l.base place ≡ true))
     (early : (l : Lone) → o ≡ Some l → (book y).state.serial ≤ l.bound) where
   abbrev pub changes : ChangesDrive x y place name
@@ -317,9 +318,9 @@ module _ {L : Type 0} {o : Option Lone} (x y : View) (place : ℕ) (name text : 
   abbrev pub entered : EntersNamed x y place name disk
   entered = (performs.changes refl).2 disk named
 
-  -- where its drive gives way, one state comes
-  pub steady_now : is_current (book x).state place ≡ true → (book y).state.epoch ≤ raised (book x).state.epoch
-  steady_now current = elim fitting.steady [ inl missing ↦ absurd (both_ways (is_current (book x).state place) missing current) | inr is ↦ is ]
+  -- where the place hadn't given it up, the drive that it had has its copy of the state as it was
+  kept_old : (d : ℕ) → d ≢ disk → f.seats place ≡ Some d → x.slices ≡ t → Keeps (x.bay.held d state_sector) (y.bay.held d state_sector)
+  kept_old d other seat same = entered_copy x y place name unspent fit f goes d seat same holds disk entered changes other (only d other)
 
   -- the drive that the place had says an earlier state
   lost_says : (d : ℕ) → d ≢ disk → f.seats place ≡ Some d → (i : Image) → IsPickOff y.slices y.bay i
@@ -327,15 +328,8 @@ module _ {L : Type 0} {o : Option Lone} (x y : View) (place : ℕ) (name text : 
   lost_says d other seat i pick copy here = elim goes.vacant [
     | inl same ↦
         (let on : seat_of x.slices place ≡ Some d = ap (λ (u : Slices). seat_of u place) same ∙ goes.service.slices.seats place ∙ seat in
-        elim (cases_Bool (is_current (book x).state place)) [
-          | inl current ↦
-              gave_below x y place name disk b fit holds performs.continues entered some alive current (steady_now current) unspent (performs.outside refl) changes told f goes d seat
-              same on (only d other) other (bare_now d other on) listed i pick copy here
-          | inr missing ↦
-              up_of (book x).state.epoch copy.state.epoch
-              (lost_below x y place name unspent fit performs.continues (performs.outside refl) changes told f goes d seat same on (only d other) (bare_now d other on) holds some.0
-              some.1 alive listed missing i pick copy here)
-        ])
+        gave_below x place fit f goes d seat same holds some.0 some.1 alive y performs.continues told unspent (kept_old d other seat same) (bare_now d other on state_sector) room i
+        pick copy here)
     | inr one ↦
         (let now : place ≡ one.0 = sym (vacant_is one.0 one.1 one.2.missing) in
         let less =
@@ -376,16 +370,9 @@ module _ {L : Type 0} {o : Option Lone} (x y : View) (place : ℕ) (name text : 
   former l so d other seat current i pick =
       let stands = goes.alone l so in
       let on : seat_of x.slices place ≡ Some d = ap (λ (u : Slices). seat_of u place) stands.slices ∙ goes.service.slices.seats place ∙ seat in
-      let since = stands.since some.0 some.1 alive in
-      let own : (copy : Copied) × ((identities_of (disks_of y.bay) i d).copied ≡ Some copy) × IsAfter l.base copy.state × (id_at copy.state copy.own ≡ id_at l.base place) =
-      elim (cases_Bool (is_current (book x).state place)) [
-        | inl now ↦
-            gave_copy x y place name disk b fit holds performs.continues entered some alive now (steady_now now) unspent (performs.outside refl) changes told f goes d seat stands.slices
-            on (only d other) other (bare_now d other on) listed l.base since stands.before current i pick
-        | inr missing ↦
-            former_copy x y place name unspent fit performs.continues (performs.outside refl) changes told f goes d seat stands.slices on (only d other) (bare_now d other on) holds
-            some.0 some.1 alive listed missing l.base since current i pick
-      ] in
+      let own =
+      former_copy x place fit f goes d seat stands.slices holds some.0 some.1 alive y performs.continues told unspent (kept_old d other seat stands.slices)
+      (bare_now d other on state_sector) l.base (stands.since some.0 some.1 alive) current i pick in
       stranger_former f t y.slices (book x) x.bay y.bay place disk is.units (Replacing place) goes.service seats_new keeps_rest l.bound (below l so) serials stands.distinct d seat
       (identities_of (disks_of y.bay) i d) own.0 own.1 (own.2.same.pool ∙ stands.after.same.pool) (own.3 ∙ id_same f.state l.base stands.after.same place)
 

@@ -1,5 +1,5 @@
 -- A pool by which a run goes is one after a line that took no drive in.
-use Rattle.std.proofs.Common.{◌≡◌, ◌⊎◌, ℕ, ◌<◌, ◌≤◌, ◌==◌, nat_lt, if◌then◌else◌, Bool, true, false, List, length, Option, Some, None, Ok, Err, refl, sym, ◌∙◌, ap, subst, inl, inr, eq-eqb, ltb-true, arith}
+use Rattle.std.proofs.Common.{◌≡◌, ◌≢◌, ◌⊎◌, ℕ, ◌+◌, ◌-◌, ◌<◌, ◌≤◌, ◌^◌, ◌==◌, nat_lt, if◌then◌else◌, Bool, true, false, List, length, Option, Some, None, Ok, Err, refl, sym, ◌∙◌, ap, subst, inl, inr, eq-eqb, lt-ltb, ltb-true, arith}
 use Rattle.std.specs.Result.{result_ok}
 use Rattle.std.proofs.lemmas.Bool.{both_ways, cases_Bool, cases_eq}
 use Rattle.std.proofs.lemmas.Option.{none-some}
@@ -13,9 +13,12 @@ use Rattle.slice_rack.specs.Sliced.{slices_of}
 use Rattle.lvm_group.specs.Runs.{Linear, array_of}
 use Rattle.raid_rack.specs.Raid.{IsTold}
 use Rattle.pool_state.specs.declared.contents.Copied.{Copied}
+use Rattle.pool_state.specs.declared.contents.State.{State}
 use Rattle.pool_state.specs.Sector.{decoded}
 use Rattle.array_image.specs.Places.{state_sector}
 use Rattle.array_image.specs.States.{is_current}
+use Rattle.raid_rack.specs.Missing.{raised}
+use Rattle.raid_rack.proofs.Over.{number_room}
 use Rattle.pool_image.specs.Disks.{disks_of, identities_of}
 use Rattle.pool_image.specs.Drives.{Found}
 use Rattle.pool_model.specs.Left.{IsPickOff}
@@ -30,19 +33,21 @@ use Rattle.pool_model.proofs.Vacant.{lacks_still, lacks_value, sliced_before, va
 use Rattle.pool.specs.declared.replacing.GrowFault.{GrowFault}
 use Rattle.pool.specs.declared.replacing.GrowFault.TheVariants.{Twice}
 use Rattle.pool.specs.Continuing.{NoDisk}
+use Rattle.pool.specs.Entering.{LeavesReady}
 use Rattle.pool.specs.Moment.{IsNamed, moment_of, views_of}
+use Rattle.pool.specs.Naming.{LeavesNamed}
 use Rattle.pool.specs.Replaced.{ChangesDrive, IsDeclined, IsOfDrive}
-use Rattle.pool.specs.View.{View, book, spent_by, volume}
+use Rattle.pool.specs.View.{View, book, over, spent_by, volume}
 use Rattle.pool.specs.Volume.{Holds, is_spent, size_of}
 use Rattle.pool.proofs.Admitted.{admitted, others_current, reaches_each}
 use Rattle.pool.specs.Replacing.{IsAdmitted}
-use Rattle.shr_tool.specs.Service.{WasMissing}
 use Rattle.shr_tool.specs.Events.{looks_at}
 use Rattle.shr_tool.specs.Events.Event.{declined}
 use Rattle.shr_tool.specs.Service.{GoesBy, GoesOn, IsFitDisk, LaysNothing, Lone, StandsLone, lone_then, pool_after}
 use Rattle.shr_tool.specs.Timeline.{Performs}
 use Rattle.shr_tool.proofs.Chains.{lone_before}
-use Rattle.shr_tool.proofs.Former.{lost_below, not_over, told_by}
+use Rattle.shr_tool.proofs.Former.{gave_below, lost_below, not_over, on, sector, small, told_by}
+use Rattle.shr_tool.proofs.GivesWay.{left_copy, others_left}
 use Rattle.shr_tool.proofs.Quiet.{listed_of, named_or, same_fault, stands_declined, twice_or}
 use Rattle.shr_tool.proofs.TakenIn.{count_is, disks_more, keeps_but, keeps_off, live_at, seat_low, seat_now, sectors_kept, sliced_old, vacant_not}
 
@@ -65,7 +70,7 @@ seats_both t u w place one two = record {
 module _ {L : Type 0} {o : Option Lone} (x y : View) (place : ℕ) (name : List ℕ) (fault : GrowFault) (text : List ℕ) (b : FlatArray) (looks : looks_at fault ≡ true)
     (unspent : (d s : ℕ) → y.bay.spent d s ≡ false) (fit : (volume x).fit)
     (performs : Performs x y (declined place name fault) text) (holds : Holds x b) (some : (s : ℕ) × (s < size_of x) × (spent_by x.linear (book y) s ≡ false))
-    (f : Found) (goes : GoesBy L o f x) (fits : WasMissing (moment_of x) place fault × IsFitDisk f (moment_of x) name) (lone : (l : Lone) → o ≡ Some l → looks_at fault ≡ true → LaysNothing f l.bound (moment_of x) (moment_of y) name fault) where
+    (f : Found) (goes : GoesBy L o f x) (fits : IsFitDisk f (moment_of x) name) (lone : (l : Lone) → o ≡ Some l → looks_at fault ≡ true → LaysNothing f l.bound (moment_of x) (moment_of y) name fault) where
   abbrev pub changes : ChangesDrive x y place name
   changes = (performs.changes looks).0
 
@@ -223,7 +228,7 @@ module _ {L : Type 0} {o : Option Lone} (x y : View) (place : ℕ) (name : List 
             let within = has.within in
             let sectors : y.bay.sectors d ≡ w.sectors = new.1.2 in
             elim (subst (λ (g : ℕ → Values). MayLeave (g state_sector) (i d state_sector)) new.1.3 left) [
-              | inl is ↦ fits.1 new.0 w new.1.1 (omega (arith, within, sectors)) copy (ap decoded (sym is) ∙ has.says)
+              | inl is ↦ fits new.0 w new.1.1 (omega (arith, within, sectors)) copy (ap decoded (sym is) ∙ has.says)
               | inr none ↦ absurd none
             ])
       ]
@@ -333,46 +338,11 @@ module _ {L : Type 0} {o : Option Lone} (x y : View) (place : ℕ) (name : List 
         )
   ]
 
-  -- the place gave its disk up
-  module _ (gave : Seats x.slices y.slices place None) (sectors : ℕ) (free : IsAdmitted (book x) place sectors) (vacant : is_current (book x).state place ≡ false) where
-    none_now : seat_of y.slices place ≡ None
-    none_now = gave.seats place ∙ ap (λ (c : Bool). if c then None else seat_of x.slices place) (eq-eqb place place refl)
-
-    first_given : x.slices ≡ t → (d : ℕ) → f.seats place ≡ Some d → (i : Image) → IsPickOff y.slices y.bay i
-        → (copy : Copied) → (identities_of (disks_of y.bay) i d).copied ≡ Some copy → copy.state.epoch < (book y).state.epoch
-    first_given same d seat i off copy here =
-        let up = is.marks.epoch in
-        let on : seat_of x.slices place ≡ Some d = ap (λ (u : Slices). seat_of u place) same ∙ goes.service.slices.seats place ∙ seat in
-        elim (named_at d) [
-          | inl named ↦
-              (let vacated : Seats t y.slices place None = subst (λ (u : Slices). Seats u y.slices place None) same gave in
-              let small : place < 16 = (let few = fit.0.running.set.few in let low = listed in omega (arith, low, few)) in
-              let less =
-              lost_value f t y.slices (book x) x.bay y.bay place d d goes.service.slices seat small vacant (array_of x.linear some.0)
-              (subst (λ (u : Slices). IsTold (book x) (slices_of u x.bay) (array_of x.linear some.0)) same (told_by x b some.0 fit holds some.1 alive))
-              (not_over x.linear (book x) some.0 alive) (i d state_sector) copy (was_held place d seat vacated i off copy here named)
-              (has place d seat vacated i off copy here).says in
-              omega (arith, less, up))
-          | inr unnamed ↦
-              (let less =
-              lost_below x y place name unspent fit performs.continues (performs.outside looks) changes told f goes d seat same on unnamed
-              (elim (changes.bare d on unnamed) [
-                | inl still ↦ absurd (none-some d (sym none_now ∙ ap (λ (u : Slices). seat_of u place) still ∙ on))
-                | inr bare ↦ bare
-              ])
-              holds some.0 some.1 alive listed vacant i off copy here in
-              omega (arith, less, up))
-        ]
-      where
-        named_at : (d : ℕ) → IsNamed (moment_of y) name d ⊎ (IsNamed (moment_of y) name d → ⊥)
-        named_at d = elim (named_or y.shelf.names name) [
-          | inl at ↦ elim (cases_eq d at.0) [
-            | inl same ↦ inl (subst (IsNamed (moment_of y) name) (sym same) at.1)
-            | inr other ↦ inr (λ also. other (changes.names.one d at.0 also at.1))
-          ]
-          | inr none ↦ inr (λ also. none d also)
-        ]
-
+  -- the place gave its disk up, and all others were current
+  module _ (gave : Seats x.slices y.slices place None) (gone : is_current (book y).state place ≡ false)
+      (whole : (k : ℕ) → k < length (book x).state.drives.items → k ≢ place → is_current (book x).state k ≡ true)
+      (first : x.slices ≡ t → (d : ℕ) → f.seats place ≡ Some d → (i : Image) → IsPickOff y.slices y.bay i
+      → (copy : Copied) → (identities_of (disks_of y.bay) i d).copied ≡ Some copy → copy.state.epoch < (book y).state.epoch) where
     vacant_given : Vacant
     vacant_given = elim goes.vacant [
       | inl same ↦
@@ -381,33 +351,116 @@ module _ {L : Type 0} {o : Option Lone} (x y : View) (place : ℕ) (name : List 
             listed_still place listed,
             record {
               vacated = subst (λ (u : Slices). Seats u y.slices place None) same gave;
-              missing = missing_still place vacant;
-              earlier = first_given same;
+              missing = gone;
+              earlier = first same;
             },
           )
       | inr at ↦
           (let this : at.0 ≡ place =
           elim (cases_eq at.0 place) [
             | inl same ↦ same
-            | inr other ↦ absurd (both_ways (is_current (book x).state at.0) at.2.missing (others_current (book x).state place free.whole at.0 at.1 other))
+            | inr other ↦ absurd (both_ways (is_current (book x).state at.0) at.2.missing (whole at.0 at.1 other))
           ] in
           let lacks : LacksDrive f t x.slices (book x) place x.bay = subst (λ k. LacksDrive f t x.slices (book x) k x.bay) this at.2 in
           let vacated = seats_both t x.slices y.slices place lacks.vacated gave in
           inr (
             place,
             listed_still place listed,
-            record { vacated = vacated; missing = missing_still place vacant; earlier = earlier_still place lacks vacated },
+            record { vacated = vacated; missing = gone; earlier = earlier_still place lacks vacated },
           ))
     ]
 
+  -- what the drive says then that it had: where it was missing
+  module _ (gave : Seats x.slices y.slices place None) (vacant : is_current (book x).state place ≡ false) (same : x.slices ≡ t) (d : ℕ) (seat : f.seats place ≡ Some d) where
+    vacated : Seats t y.slices place None
+    vacated = subst (λ (u : Slices). Seats u y.slices place None) same gave
+
+    first_given : (i : Image) → IsPickOff y.slices y.bay i → (copy : Copied) → (identities_of (disks_of y.bay) i d).copied ≡ Some copy
+        → copy.state.epoch < (book y).state.epoch
+    first_given i off copy here =
+        let up = is.marks.epoch in
+        elim named_at [
+          | inl named ↦
+              (let less =
+              lost_value f t y.slices (book x) x.bay y.bay place d d goes.service.slices seat (small x place fit f goes d seat same) vacant (array_of x.linear some.0)
+              (subst (λ (u : Slices). IsTold (book x) (slices_of u x.bay) (array_of x.linear some.0)) same (told_by x b some.0 fit holds some.1 alive))
+              (not_over x.linear (book x) some.0 alive) (i d state_sector) copy (was_held place d seat vacated i off copy here named)
+              (has place d seat vacated i off copy here).says in
+              omega (arith, less, up))
+          | inr unnamed ↦
+              (let kept = (changes.retired vacant d (on x place fit f goes d seat same) unnamed).held state_sector (sector x place fit f goes d seat same) (holds.disks d (seat_disk place d seat)) in
+              let less =
+              lost_below x place fit f goes d seat same holds some.0 some.1 alive y performs.continues told unspent kept (free place d seat vacated i off copy here) vacant i off copy
+              here in
+              omega (arith, less, up))
+        ]
+      where
+        named_at : IsNamed (moment_of y) name d ⊎ (IsNamed (moment_of y) name d → ⊥)
+        named_at = elim (named_or y.shelf.names name) [
+          | inl at ↦ elim (cases_eq d at.0) [
+            | inl one ↦ inl (subst (IsNamed (moment_of y) name) (sym one) at.1)
+            | inr other ↦ inr (λ also. other (changes.names.one d at.0 also at.1))
+          ]
+          | inr none ↦ inr (λ also. none d also)
+        ]
+
+  -- and where it was found gone, in the cleaning or while the new disk was being laid
+  module _ (gave : Seats x.slices y.slices place None) (current : is_current (book x).state place ≡ true) (gone : is_current (book y).state place ≡ false)
+      (named : LeavesNamed x y place name) (ready : LeavesReady (over x named.bay) y place named.disk) (same : x.slices ≡ t) (d : ℕ) (seat : f.seats place ≡ Some d) where
+    given_now : Seats t y.slices place None
+    given_now = subst (λ (u : Slices). Seats u y.slices place None) same gave
+
+    room : (book y).state.epoch < 2 ^ 63 - 1
+    room = let most = (number_room (book y) (array_of x.linear some.0) (not_over x.linear (book y) some.0 some.2)).1 in omega (arith, most)
+
+    later : (book x).state.epoch < (book y).state.epoch
+    later = elim is.marks.raised [
+      | inl still ↦ absurd (both_ways (is_current (book x).state place) (subst (λ (s : State). is_current s place ≡ false) still gone) current)
+      | inr (inl up) ↦ up
+      | inr (inr most) ↦ (let below = room in absurd (omega (arith, most, below)))
+    ]
+
+    away : d ≢ named.disk
+    away one =
+        named.attaches.ok.2 (
+          place,
+          subst (λ e. seat_of x.slices place ≡ Some e) one (on x place fit f goes d seat same),
+          vacant_not (book x).state place current,
+        )
+
+    lost_given : (i : Image) → IsPickOff y.slices y.bay i → (copy : Copied) → (identities_of (disks_of y.bay) i d).copied ≡ Some copy
+        → copy.state.epoch < (book y).state.epoch
+    lost_given i off copy here =
+        let bare : (w : List ℕ) → IsSliced y.slices d state_sector w → ⊥ = free place d seat given_now i off copy here in
+        let kept = left_copy x y place name named ready unspent fit f goes d seat same holds away bare in
+        let up = later in
+        let most = room in
+        let below : (book x).state.epoch < 2 ^ 63 - 1 = omega (arith, up, most) in
+        let less = gave_below x place fit f goes d seat same holds some.0 some.1 alive y performs.continues told unspent kept bare below i off copy here in
+        let next : raised (book x).state.epoch ≡ (book x).state.epoch + 1 =
+        ap (λ (c : Bool). if c then (book x).state.epoch + 1 else (book x).state.epoch) (lt-ltb (book x).state.epoch (2 ^ 63 - 1) below) in
+        omega (arith, less, next, up)
+
   vacant_now : Vacant
-  vacant_now = elim changes.admitted [
+  vacant_now = elim is.slices [
     | inl same ↦ vacant_same same
-    | inr at ↦ elim is.slices [
-      | inl same ↦ vacant_same same
-      | inr gave ↦
-          (let free = admitted x.linear (book x) place (y.bay.sectors at.0) at.2 in
-          vacant_given gave.2 (y.bay.sectors at.0) free (fits.0 (elim gave.0 [ inl gone ↦ inl gone | inr lost ↦ inr (lost, free.whole) ])))
+    | inr gave ↦ elim (cases_Bool (is_current (book x).state place)) [
+      | inr missing ↦ elim changes.admitted [
+        | inl same ↦ vacant_same same
+        | inr at ↦
+            (let free = admitted x.linear (book x) place (y.bay.sectors at.0) at.2 in
+            vacant_given gave.2 gave.1 (others_current (book x).state place free.whole) (first_given gave.2 missing))
+      ]
+      | inl current ↦ elim (performs.changes looks).1 [
+        | inl still ↦ vacant_same still.1
+        | inr named ↦ elim named.leaves [
+          | inl at_once ↦ absurd (both_ways (is_current (book x).state place) at_once.0 current)
+          | inr ready ↦ elim ready.1 [
+            | inl cleaned ↦ vacant_same cleaned.ends.passes.slices
+            | inr laid ↦ vacant_given gave.2 gave.1 (others_left x y place name named laid) (lost_given gave.2 current gave.1 named laid)
+          ]
+        ]
+      ]
     ]
   ]
 

@@ -48,11 +48,11 @@ module _ {L : Type 0} (x y z : View) (a b : FlatArray) (events : List Event) (te
       ]
   holds_within (declined place name fault) performs = (
     λ none. holds_inside x y z a b events Serial f continues passes serving holds traced (performs.passes none) goes,
-    λ looks missing served serial lands waits lasts.
+    λ looks served serial lands waits lasts.
         let event = declined place name fault in
         let before = served_first x y z events event text continues.linear performs served in
         declined_amid y z place name fault text b looks unspent continues.fit performs holds (served_some y z event looks (served_last x y z events event continues.linear served)) f
-        (goes before (λ takes. serial)) waits lands lasts (continues.traced serving.0.shelf traced) missing,
+        (goes before (λ takes. serial)) waits lands lasts (continues.traced serving.0.shelf traced),
   )
   holds_within (stepped count left) performs = holds_inside x y z a b events Serial f continues passes serving holds traced (performs.passes refl) goes
   holds_within (stuck count array) performs = holds_inside x y z a b events Serial f continues passes serving holds traced (performs.passes refl) goes

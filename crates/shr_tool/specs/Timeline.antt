@@ -18,6 +18,7 @@ use Rattle.pool.specs.Keeping.{HasMarkedSeats, KeepsBook, KeepsBookBut, Raises, 
 use Rattle.raid_rack.specs.Raid.{Raid}
 use Rattle.pool.specs.Moment.{IsNamed, Moment, moment_of}
 use Rattle.pool.specs.Continuing.{Continues, KeepsOutside}
+use Rattle.pool.specs.Entering.{StaysStill}
 use Rattle.pool.specs.Naming.{EntersNamed, LeavesNamed}
 use Rattle.pool.specs.Replaced.{ChangesDrive, HasGrowCause, HasTable, IsDeclined, IsReplaced, LeavesNew, TakesImage}
 use Rattle.pool.specs.View.{View, book, contents_in, spent_by}
@@ -195,7 +196,7 @@ TakesDrive x y place name =
 
 -- It isn't: no time passed, or the disk was attached, and not taken in though nothing had been against it.
 abbrev pub LeavesDrive : View → View → ℕ → List ℕ → Type 0
-LeavesDrive x y place name = ChangesDrive x y place name × ((y.bay.clock ≡ x.bay.clock) ⊎ LeavesNamed x y place name)
+LeavesDrive x y place name = ChangesDrive x y place name × (StaysStill x y ⊎ LeavesNamed x y place name)
 
 -- what a line that names a disk does to the pool's drives
 abbrev pub Changes : View → View → Event → Type 0
