@@ -25,8 +25,10 @@ use Rattle.pool.specs.Calls.{Ends, Passes}
 use Rattle.pool.specs.Moment.{Moment, moment_of}
 use Rattle.pool.specs.View.{View, arrays_shown, book, slices_shown}
 use Rattle.pool.proofs.Keeping.{passes_then}
+use Rattle.shr_tool.specs.Heads.{KeepsHeads}
 use Rattle.shr_tool.specs.Outcome.{HasWholeSectors, IsRunOn}
 use Rattle.shr_tool.specs.Timeline.{Ground, ground_of}
+use Rattle.shr_tool.proofs.Heads.{heads_passes}
 
 -- the pool of a run stands alone on its disks where no second disk stands for the place of a drive
 pub stands_first : (f : Found) (g : Ground) (from : Moment) (x : Seen) → IsRunOn f g from x → AreOnly f → StandsAlone f
@@ -116,16 +118,17 @@ module _ (x y : View) (f : Found) (passes : Passes x y) (on : IsRunOn f (ground_
 
 -- Superblocks that said their arrays' truths when the run began agree after its end, where no disk's faults rose in the end.
 pub agreed_at :
-    (x m y : View) (f : Found) → Passes x m → Ends m y → ((d : ℕ) → Rose (m.bay.faults d) (y.bay.faults d) → ⊥)
+    (x m y : View) (f : Found) → KeepsHeads (book x) (book m) (slices_shown x) (slices_shown m) → Ends m y
+    → ((d : ℕ) → Rose (m.bay.faults d) (y.bay.faults d) → ⊥)
     → IsRunOn f (ground_of x) (moment_of x) x.bay
     → ((n : ℕ) → n < x.linear.arrays → IsTold (book y) (slices_shown y) n)
     → (n : ℕ) → n < f.state.made → is_over (book y) n ≡ false
     → (r : Image) → IsLeft (slices_shown y) r → AgreeLeaving ((book y).arrays n) (book y).state r n
-agreed_at x m y f ran ends quiet on told_last n low goes r left =
+agreed_at x m y f heads ends quiet on told_last n low goes r left =
     let first = on.after.same.made in
-    let mid = ran.marks.same.made in
+    let mid = heads.made in
     ends.agree quiet n (let less : n < (book m).state.made = omega (arith, low, first, mid) in less)
-    (ran.truths n (let less : n < (book x).state.made = omega (arith, low, first) in less) (on.truths n low))
+    (heads.truths n (let less : n < (book x).state.made = omega (arith, low, first) in less) (on.truths n low))
     (told_last n (let arrays = on.arrays in let joined = on.joined in omega (arith, low, arrays, joined))) goes r left
 
 -- After the end of such a pool, which is whole then.
@@ -137,4 +140,4 @@ pub safe_at :
     → (i : Image) → IsPick y.bay y.bay y.bay.held i → HasWholeSectors y.bay i → HoldAbsent f y.slices (book y).state i
 safe_at x m y f ran ends quiet on told_first told_last only own whole goes =
     absent_at x y f (passes_then x m y ran ends.passes) on told_first told_last goes whole only (on.group own)
-    (λ n r low left. agreed_at x m y f ran ends quiet on told_last n low (goes n low) r left)
+    (λ n r low left. agreed_at x m y f (heads_passes x m ran) ends quiet on told_last n low (goes n low) r left)

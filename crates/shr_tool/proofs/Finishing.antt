@@ -214,8 +214,8 @@ lasts_of x m y a events unspent ran ends =
           HoldsInside y.bay.stops (ground_of x) (AreSerial f.state) (TargetsLand f) events (pool_by f (moment_of x) events (moment_of m) steps) (moment_of m) (moment_of y))
           (sym same)
           (closing_at x m y a events ran ends serving traced f on (subst (AreFit f (moment_of x) events (moment_of m)) same fit));
-      agreed = λ serving none quiet f on n low goes r left.
-          agreed_at x m y f (ran.passes none) ends quiet on (told_at x m y a events ran ends serving (inl none)) n low goes r left;
+      agreed = λ serving served quiet f on n low goes r left.
+          agreed_at x m y f (ran.heads serving.0.shelf serving.0.disks) ends quiet on (told_at x m y a events ran ends serving served) n low goes r left;
       safe = λ serving none quiet f on.
           safe_at x m y f (ran.passes none) ends quiet on (λ n low. serving.1 n low) (told_at x m y a events ran ends serving (inl none));
       safe_by = λ serving served quiet f on only ungiven own serials fit lone whole lasts i pick sized.

@@ -32,6 +32,7 @@ use Rattle.shr_tool.specs.Outcome.{HasWholeSectors, IsRunOn, lone_from}
 use Rattle.shr_tool.specs.Service.{AreFit, AreLone, AreUngiven, GoesBy, IsServed, Lone, lone_by, pool_by}
 use Rattle.shr_tool.specs.Serving.{IsServing, Ran}
 use Rattle.shr_tool.specs.Timeline.{ground_of}
+use Rattle.shr_tool.proofs.Absent.{agreed_at}
 use Rattle.shr_tool.proofs.Heads.{heads_group, heads_passes, heads_then}
 use Rattle.shr_tool.proofs.Serviced.{goes_calls, goes_lone}
 
@@ -91,16 +92,6 @@ module _ (x m y : View) (a : FlatArray) (events : List Event) (ran : Ran x m eve
   made_now : (n : ℕ) → n < f.state.made → n < (book y).state.made
   made_now n low = (let first = on.after.same.made in let later = heads.made in omega (arith, low, first, later))
 
-  agreed : (n : ℕ) (r : Image) → n < f.state.made → IsLeft (slices_shown y) r → AgreeLeaving ((book y).arrays n) (book y).state r n
-  agreed n r low left =
-      let first = on.after.same.made in
-      let arrays = on.arrays in
-      let joined = on.joined in
-      let late = mid.made in
-      ends.agree quiet n (let less : n < (book m).state.made = omega (arith, low, first, late) in less)
-      (mid.truths n (let less : n < (book x).state.made = omega (arith, low, first) in less) (on.truths n low))
-      (told n (omega (arith, low, arrays, joined))) (lasts n low) r left
-
   alive : (n k : ℕ) → n < f.state.made → k < sectors_of ((book y).arrays n) → spent_of (book y) n k ≡ false
   alive n k low inside =
       or_from (is_over (book y) n) _ (lasts n low)
@@ -117,7 +108,7 @@ module _ (x m y : View) (a : FlatArray) (events : List Event) (ran : Ran x m eve
         old = λ n low. whole.old n (before n low);
         synced = λ n low. whole.synced n (before n low);
       })
-      (λ n r low left. agreed n r (before n low) left)
+      (λ n r low left. agreed_at x m y f mid ends quiet on told n (before n low) (lasts n (before n low)) r left)
       (heads_group (book x) (book y) (slices_shown x) (slices_shown y) heads
       (λ n low. let joined = on.after.same.joined in let made = on.after.same.made in let all = on.joined in omega (arith, low, joined, made, all))
       (λ n low. serving.1 n (let joined = on.after.same.joined in let arrays = on.arrays in omega (arith, low, joined, arrays)))

@@ -138,10 +138,10 @@ pub record Lasts (Told Traced : Type 0) (x y : Seen) (g : Ground) (from : Moment
       Told → Traced → (f : Found) → IsRunOn f g from x
       → AreFit f from events last (steps_of (Traced × Told) y.stops g from a events last timeline)
       → HoldsInside y.stops g (AreSerial f.state) (TargetsLand f) events (pool_by f from events last (steps_of (Traced × Told) y.stops g from a events last timeline)) last final
-  -- Where no line named a drive to replace and no disk's faults rose in the end, the superblocks of each array that isn't over agree in whatever a stop
-  -- leaves afterwards, and leave just the rows to resync that are left in the array, also where they said so before the end.
+  -- Where no disk's faults rose in the end, the superblocks of each array that isn't over agree in whatever a stop leaves afterwards, and leave just the rows
+  -- to resync that are left in the array, also where they said so before the end.
   pub agreed :
-      Told → any_takes events ≡ false → NoneRose last.faults final.faults → (f : Found) → IsRunOn f g from x
+      Told → IsServed g final events → NoneRose last.faults final.faults → (f : Found) → IsRunOn f g from x
       → (n : ℕ) → n < f.state.made → is_over final.book n ≡ false
       → (r : Image) → IsLeft (slices_of final.slices y) r → AgreeLeaving (final.book.arrays n) final.book.state r n
   -- Any one drive may be absent after a clean whole end: where no line named a drive to replace, no disk's faults rose in the end, no array is over, and
