@@ -80,6 +80,17 @@ serve 'it is rebuilt' 0 'step 1000\nreplace 1 new\n' 'left 0\nrefused twice\n' f
 expect 'the former drive stayed as it was' cmp -s second before
 any_absent 'gives way' first new third
 
+# The former drive takes its place again: it has superblocks, a state and rows of the pool from before, which count no more. The volume changes in between, and
+# again before it is rebuilt.
+serve 'a former drive is taken in again' 0 'fill 128 128 a6\nreplace 1 second\nfill 128 64 a5\nstep 1000\n' 'ok\nok\nok\nleft 0\n' first new third
+{
+  head -c $((128 * 512)) bytes
+  head -c $((64 * 512)) /dev/zero | tr '\0' '\245'
+  head -c $((64 * 512)) /dev/zero | tr '\0' '\246'
+  tail -c +$((256 * 512 + 1)) bytes
+} >written && mv written bytes
+any_absent 'a former drive' first second third
+
 # Refusals.
 make 'refused'
 truncate -s $((512 * 80384)) new
