@@ -21,6 +21,10 @@ epoch_of copy = copy.state.epoch
 unfoldable pub state_in : Image → Option State
 state_in c = option_map (λ copy. copy.state) (foremost epoch_of (map (copy_in c) (range_with_len 0 16)))
 
+-- the id of a place's drive
+abbrev pub id_of : State → ℕ → Option (List ℕ)
+id_of s place = option_map (λ drive. drive.id.0) (slice_get s.drives.items place)
+
 -- whether a place is listed and not marked missing
 abbrev pub is_current : State → ℕ → Bool
 is_current s place = option_map_or (λ drive. not drive.missing) (slice_get s.drives.items place) false

@@ -11,10 +11,10 @@ use Rattle.pool_state.specs.declared.contents.State.{State}
 use Rattle.pool_state.specs.Valid.{is_valid}
 use Rattle.array_image.specs.Places.{arrays_first, log_kind, log_sectors, log_slice, place_of, slice_of, state_sector}
 use Rattle.array_image.specs.Record.{gate_of, gate_sector, is_bad_gate, is_bad_log, is_there}
-use Rattle.array_image.specs.States.{current_places, is_current}
+use Rattle.array_image.specs.States.{current_places, is_current, id_of}
 use Rattle.commit_log.specs.View.{LogView, names}
 use Rattle.pool_image.specs.Alike.{drive_gate}
-use Rattle.pool_image.specs.Disks.{id_at, disks_of, identities_of}
+use Rattle.pool_image.specs.Disks.{disks_of, identities_of}
 use Rattle.pool_image.specs.Drives.{Found, end_of, extent_of, found, slices_of}
 use Rattle.pool_image.specs.Meaning as meaning
 use Rattle.pool_image.specs.Meaning.{arrays_of, is_member, has_entry, has_log, has_other_pool, has_slice_of, has_table, is_table, joined_arrays, refusal_of, refused_at, refused_by}
@@ -51,7 +51,7 @@ table_room f place d is = of (f.identities d).table is
     of : (o : Option Table) → option_map_or (is_table f place (f.disks.sectors d)) o false ≡ true → arrays_first ≤ f.disks.sectors d
     of None is = absurd (both_ways false refl is)
     of (Some table) is =
-        let head : Bool = option_map_or (bytes_eq table.disk_id.0) (id_at f.state place) false in
+        let head : Bool = option_map_or (bytes_eq table.disk_id.0) (id_of f.state place) false in
         let tail : Bool = list_all (λ n. not (is_member f n place) || has_slice_of f (f.disks.sectors d) table (n + 1)) (arrays_of f) in
         let one = and_parts head (has_slice_of f (f.disks.sectors d) table 0 && tail) is in
         let two = and_parts (has_slice_of f (f.disks.sectors d) table 0) tail one.1 in

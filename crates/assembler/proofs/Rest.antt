@@ -16,7 +16,7 @@ use Rattle.pool_state.specs.declared.contents.State.{State}
 use Rattle.pool_state.specs.Sector.{decoded}
 use Rattle.array_image.specs.Foremost.{foremost}
 use Rattle.array_image.specs.Places.{log_sectors, log_slice, place_of, state_sector}
-use Rattle.array_image.specs.States.{copy_in, epoch_of, is_current, state_in}
+use Rattle.array_image.specs.States.{copy_in, epoch_of, is_current, state_in, id_of}
 use Rattle.array_core.proofs.Leading.{foremost_leads, none_leads}
 use Rattle.commit_log.specs.View.{LogView, names}
 use Rattle.commit_log.specs.AtRest.{AtRest, CopiesAgree, Opened}
@@ -25,7 +25,7 @@ use Rattle.pool_image.specs.Drives.{Found}
 use Rattle.pool_check.specs.declared.Checked.{Checked}
 use Rattle.pool_check.specs.Checking.{IsChecked}
 use Rattle.pool_check.specs.Refusing.{is_well}
-use Rattle.commit_log.specs.Kept.{IsNoLater, id_of}
+use Rattle.commit_log.specs.Kept.{IsNoLater}
 use Rattle.pool_model.proofs.Named.{copy_names, seat_ahead}
 use Rattle.assembler.specs.Members.{AreMembers}
 use Rattle.pool_model.specs.Pools.{IsSoundPool}

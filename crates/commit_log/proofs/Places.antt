@@ -3,8 +3,7 @@ use Rattle.std.proofs.Common.{◌≡◌, ◌⊎◌, ℕ, ◌&&◌, ◌||◌, not
 use Rattle.std.proofs.lemmas.Bool.{and_from, and_parts, both_ways, cases_Bool}
 use Rattle.std.proofs.lemmas.Slice.Eq.{bytes_eq-Decides}
 use Rattle.pool_state.specs.declared.contents.State.{State}
-use Rattle.array_image.specs.States.{is_current}
-use Rattle.commit_log.specs.Kept.{id_of}
+use Rattle.array_image.specs.States.{is_current, id_of}
 use Rattle.commit_log.specs.Saying.{PlaceJoins, PlaceStays}
 
 -- whether two ids are one

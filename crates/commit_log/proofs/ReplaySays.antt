@@ -30,7 +30,7 @@ use Rattle.commit_log.proofs.Epochs.{state_either, state_latest}
 use Rattle.commit_log.proofs.Kept.{NoneLater, later_yet}
 use Rattle.commit_log.proofs.Replaying.{amid_of, put_done}
 use Rattle.commit_log.proofs.Restored.{pending_at_by, restored, restored_inside, restored_picks, restored_there}
-use Rattle.commit_log.proofs.Saying.{copies_same, no_look}
+use Rattle.commit_log.proofs.HeldCopies.{copies_same, no_look}
 
 -- what is pending meanwhile: the record yet, or nothing
 pub replay_pends : (l : LogView) (a : Seen) (c : Image) → CanReplay l a → StandsReplaying l.pending a c

@@ -7,12 +7,12 @@ use Rattle.pool_state.specs.declared.contents.Copied.{Copied}
 use Rattle.pool_state.specs.declared.contents.State.{State}
 use Rattle.array_image.specs.Places.{log_slice}
 use Rattle.array_image.specs.Record.{GateAt, pending_at}
-use Rattle.array_image.specs.States.{copy_in, state_in, is_current, current_places}
+use Rattle.array_image.specs.States.{copy_in, state_in, is_current, current_places, id_of}
 use Rattle.array_image.specs.Left.{reading}
 use Rattle.commit_log.specs.View.{LogView, names, left_of}
 use Rattle.commit_log.specs.Phases.{AreLogs}
 use Rattle.commit_log.specs.Opening.{Finds}
-use Rattle.commit_log.specs.Kept.{IsCopyOf, id_of}
+use Rattle.commit_log.specs.Kept.{IsCopyOf}
 
 -- Slices at rest: each sector of a log slice has one value, `s` is the state that they say, and `on` are its current places that
 -- have a log slice, which is whole.

@@ -9,15 +9,11 @@ use Rattle.pool_state.specs.declared.contents.State.{State}
 use Rattle.pool_state.specs.Sector.{decoded}
 use Rattle.array_image.specs.Places.{log_slice, place_of}
 use Rattle.array_image.specs.Record.{Gate, GateAt, gate_of, gate_sector, pending_at, pending}
-use Rattle.array_image.specs.States.{is_current}
+use Rattle.array_image.specs.States.{is_current, id_of}
 use Rattle.array_image.specs.Arrays.{replayed}
 use Rattle.commit_log.specs.View.{names}
 use Rattle.commit_log.specs.Standing.{LogsStand, deciding, IsWhole, IsNumbered}
 use Rattle.commit_log.specs.Commits.{Stands}
-
--- the id of a place's drive
-abbrev pub id_of : State → ℕ → Option (List ℕ)
-id_of s place = option_map (λ drive. drive.id.0) (slice_get s.drives.items place)
 
 -- a sector is a copy of a state that names the drive of a place
 pub record IsCopyOf (s : State) (place : ℕ) (u : List ℕ) : Type 0 where

@@ -8,11 +8,11 @@ use Rattle.pool_state.specs.Sector.{decoded}
 use Rattle.array_image.specs.Left.{TargetsInside}
 use Rattle.array_image.specs.Places.{log_slice}
 use Rattle.array_image.specs.Record.{Gate, GateAt, gate_in, pending_at, pending}
-use Rattle.array_image.specs.States.{state_in, is_current, current_places}
+use Rattle.array_image.specs.States.{state_in, is_current, current_places, id_of}
 use Rattle.array_image.specs.Arrays.{replayed}
 use Rattle.commit_log.specs.Standing.{LogsStand, deciding, IsWhole}
 use Rattle.commit_log.specs.Commits.{Stands}
-use Rattle.commit_log.specs.Kept.{IsCopyOf, IsNoLater, id_of}
+use Rattle.commit_log.specs.Kept.{IsCopyOf, IsNoLater}
 use Rattle.commit_log.specs.View.{names}
 
 -- The copies of a state in contents of slices of so many sectors: each current place that has a log slice has its copy of this state,

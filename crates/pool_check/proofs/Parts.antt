@@ -9,10 +9,10 @@ use Rattle.gpt_table.specs.declared.Table.{Table}
 use Rattle.gpt_table.specs.Changes.{the_table}
 use Rattle.pool_state.specs.declared.contents.Copied.{Copied}
 use Rattle.pool_state.specs.declared.contents.State.{State}
-use Rattle.array_image.specs.States.{current_places, is_current}
+use Rattle.array_image.specs.States.{current_places, is_current, id_of}
 use Rattle.array_core.proofs.Opened.{current_below}
 use Rattle.array_image.specs.Places.{log_kind, raid_kind}
-use Rattle.pool_image.specs.Disks.{Seats, id_at}
+use Rattle.pool_image.specs.Disks.{Seats}
 use Rattle.pool_image.specs.Replay.{Extent as ImageExtent}
 use Rattle.pool_image.specs.Drives.{Found, end_of, extent_of}
 use Rattle.pool_image.specs.Meaning.{Part, arrays_of, damaged, has_entry, has_slice, has_slice_of, has_supers, has_table, in_log, in_state, in_superblock, in_table, is_member, is_table, kind_of, super_at}
@@ -145,7 +145,7 @@ pub table_is : (f : Found) (layers : List Layer) (sectors place : ℕ) (table : 
     → is_table_by f.state layers place sectors table ≡ is_table f place sectors table
 unfolding extent_of
 table_is f layers sectors place table are small inside =
-    ap (λ b. option_map_or (bytes_eq table.disk_id.0) (id_at f.state place) false && (has_slice sectors table 1 log_kind log_extent && b))
+    ap (λ b. option_map_or (bytes_eq table.disk_id.0) (id_of f.state place) false && (has_slice sectors table 1 log_kind log_extent && b))
     (layers_are f layers sectors place table are small inside)
 
 -- ---- one drive

@@ -9,14 +9,13 @@ use Rattle.md_super.specs.declared.superblock.Super.{Super}
 use Rattle.md_super.specs.Profile.{has_disks, is_mirror, profiled, rules}
 use Rattle.gpt_table.specs.declared.Table.{Table}
 use Rattle.array_image.specs.Places.{data_sector}
-use Rattle.array_image.specs.States.{is_current}
+use Rattle.array_image.specs.States.{is_current, id_of}
 use Rattle.array_image.specs.Supers.{is_named, is_rebuilding, is_unclean, super_in}
 use Rattle.array_image.specs.Arrays.{Member, member_by, member_in, place_with, shape_by}
 use Rattle.array_core.specs.declared.ArrayFault.{ArrayFault}
 use Rattle.array_core.specs.declared.ArrayFault.TheVariants.{Foreign, TooFew, DirtyDegraded}
 use Rattle.array_core.proofs.Opened.{current_below, current_is, named_place, super_passes, truth_leads}
 use Rattle.array_core.proofs.Truths.{rule_holds}
-use Rattle.pool_image.specs.Disks.{id_at}
 use Rattle.pool_image.specs.Replay.{Extent as ImageExtent}
 use Rattle.pool_image.specs.Drives.{Found, end_of, extent_of, first_of, slices_of, truth_from}
 use Rattle.pool_image.specs.Meaning.{Refusal, arrays_of, dirty_degraded, has_entry, has_slice, has_slice_of, has_table, in_table, is_dirty_degraded, is_member, is_table, is_too_few, kind_of, lacking_of, too_few, truth_of}
@@ -109,7 +108,7 @@ module _ (well : ℕ → Bool) (f : Found) (few : HasFewPlaces f.state f.seats) 
       of_table None has = absurd (both_ways false refl has)
       of_table (Some table) has =
           let sectors = f.disks.sectors d in
-          let one = and_parts (option_map_or (bytes_eq table.disk_id.0) (id_at f.state place) false) (has_slice_of f sectors table 0 && list_all (λ n. not (is_member f n place) || has_slice_of f sectors table (n + 1)) (arrays_of f)) has in
+          let one = and_parts (option_map_or (bytes_eq table.disk_id.0) (id_of f.state place) false) (has_slice_of f sectors table 0 && list_all (λ n. not (is_member f n place) || has_slice_of f sectors table (n + 1)) (arrays_of f)) has in
           let two = and_parts (has_slice_of f sectors table 0) (list_all (λ n. not (is_member f n place) || has_slice_of f sectors table (n + 1)) (arrays_of f)) one.1 in
           let here = list_all_at (λ n. not (is_member f n place) || has_slice_of f sectors table (n + 1)) 0 f.state.made array two.1 (omega arith) (omega (arith, made)) in
           let has_it : has_slice_of f sectors table (array + 1) ≡ true = sym (ap (λ b. not b || has_slice_of f sectors table (array + 1)) member) ∙ here in

@@ -5,9 +5,10 @@ use Rattle.std.specs.List.{list_all, range_with_len}
 use Rattle.std.proofs.lemmas.Bool.{and_parts, both_ways, ltb-true}
 use Rattle.md_super.specs.declared.superblock.Super.{Super}
 use Rattle.gpt_table.specs.declared.Table.{Table}
+use Rattle.array_image.specs.States.{id_of}
 use Rattle.pool_state.specs.declared.contents.State.{State}
 use Rattle.array_image.specs.Places.{arrays_first, data_sector, log_kind, raid_kind}
-use Rattle.pool_image.specs.Disks.{Seats, id_at}
+use Rattle.pool_image.specs.Disks.{Seats}
 use Rattle.pool_image.specs.Meaning.{has_entry, has_slice}
 use Rattle.array_image.specs.Supers.{is_named, is_unclean}
 use Rattle.array_model.specs.View.{View}
@@ -230,7 +231,7 @@ pub table_fits : (s : State) (layers : List Layer) (place sectors : ℕ) (found 
     → option_map_or (is_table_by s layers place sectors) found false ≡ true → FitsOn layers place sectors
 table_fits s layers place sectors None is k layer e at member lies = absurd (both_ways false refl is)
 table_fits s layers place sectors (Some table) is k layer e at member lies =
-    let one = and_parts (option_map_or (bytes_eq table.disk_id.0) (id_at s place) false)
+    let one = and_parts (option_map_or (bytes_eq table.disk_id.0) (id_of s place) false)
     (has_slice sectors table 1 log_kind log_extent && list_all (has_layer sectors table place) layers) is in
     let two = and_parts (has_slice sectors table 1 log_kind log_extent) (list_all (has_layer sectors table place) layers) one.1 in
     let here = all_at (has_layer sectors table place) layers two.1 k layer at in
@@ -246,7 +247,7 @@ pub table_room : (s : State) (layers : List Layer) (place sectors : ℕ) (found 
     → option_map_or (is_table_by s layers place sectors) found false ≡ true → arrays_first + 32 < sectors
 table_room s layers place sectors None is = absurd (both_ways false refl is)
 table_room s layers place sectors (Some table) is =
-    let one = and_parts (option_map_or (bytes_eq table.disk_id.0) (id_at s place) false)
+    let one = and_parts (option_map_or (bytes_eq table.disk_id.0) (id_of s place) false)
     (has_slice sectors table 1 log_kind log_extent && list_all (has_layer sectors table place) layers) is in
     let two = and_parts (has_slice sectors table 1 log_kind log_extent) (list_all (has_layer sectors table place) layers) one.1 in
     let last = and_parts (has_entry table 1 log_kind log_extent) (nat_lt (arrays_first + 32) sectors) two.0 in

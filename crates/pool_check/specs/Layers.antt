@@ -4,6 +4,7 @@ use Rattle.std.specs.Option.{option_and_then, option_map_or}
 use Rattle.std.specs.List.{range_with_len, list_all}
 use Rattle.gpt_table.specs.Disk.{Contents}
 use Rattle.md_super.specs.declared.superblock.Super.{Super}
+use Rattle.array_image.specs.States.{id_of}
 use Rattle.pool_state.specs.declared.contents.State.{State}
 use Rattle.array_image.specs.Places.{log_kind, log_sectors, raid_kind, state_sector}
 use Rattle.gpt_table.specs.declared.Table.{Table}
@@ -15,7 +16,7 @@ use Rattle.array_core.specs.declared.ArrayFault.{ArrayFault}
 use Rattle.array_core.specs.declared.ArrayFault.TheVariants.{Foreign, TooFew, DirtyDegraded}
 use Rattle.array_core.specs.Model.{is_truth}
 use Rattle.array_core.specs.Opening.{opened, super_at as super_found, truth_of as found_truth, view_found}
-use Rattle.pool_image.specs.Disks.{Seats, id_at}
+use Rattle.pool_image.specs.Disks.{Seats}
 use Rattle.pool_image.specs.Replay.{Extent as ImageExtent}
 use Rattle.pool_image.specs.Drives.{Found, extent_of, first_of, slices_from, slices_of}
 use Rattle.pool_image.specs.Meaning.{has_slice, is_member, lacking_of, super_at, truth_of}
@@ -128,7 +129,7 @@ log_extent = record { first = state_sector; sectors = log_sectors }
 -- a table is that of a place's drive, by what was read of the arrays
 abbrev pub is_table_by : State → List Layer → ℕ → ℕ → Table → Bool
 is_table_by s layers place sectors table =
-    option_map_or (bytes_eq table.disk_id.0) (id_at s place) false
+    option_map_or (bytes_eq table.disk_id.0) (id_of s place) false
     && (has_slice sectors table 1 log_kind log_extent && list_all (has_layer sectors table place) layers)
 
 -- ---- opened arrays

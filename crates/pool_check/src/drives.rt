@@ -6,7 +6,8 @@ ghost use Rattle.std.specs.Option.{option_map_or};
 ghost use Rattle.rack.specs.Sequences.{OnlyReads};
 ghost use Rattle.gpt_table.specs.Changes.{the_table};
 ghost use Rattle.array_image.specs.Places.{arrays_first, log_kind};
-ghost use Rattle.pool_image.specs.Disks.{id_at, Seats as PlaceSeats};
+ghost use Rattle.array_image.specs.States.{id_of};
+ghost use Rattle.pool_image.specs.Disks.{Seats as PlaceSeats};
 ghost use Rattle.pool_image.specs.Meaning.{has_entry, has_slice, has_table, in_table};
 ghost use Rattle.pool_scan.specs.Scanning.{Finds, copied_at};
 ghost use Rattle.rack.specs.Seen.{Rose};
@@ -115,7 +116,7 @@ fn have_layers(layers: &[Layer], table: &Table, sectors: u64, place: u32) -> boo
 
 /// Whether an id is that of a place's drive.
 fn is_drive(state: &State, place: u32, id: &Id) -> bool
-    ensures { result ≡ option_map_or (bytes_eq id.now.0) (id_at state.now place) false }
+    ensures { result ≡ option_map_or (bytes_eq id.now.0) (id_of state.now place) false }
 {
     match state.drives.as_slice().get(place as usize) {
         Some(drive) => *id == drive.id,

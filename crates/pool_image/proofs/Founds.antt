@@ -9,10 +9,10 @@ use Rattle.md_super.specs.declared.superblock.Super.{Super}
 use Rattle.array_image.specs.Places.{place_of, slice_of, member_slice, super_sector, data_sector, state_sector, arrays_first}
 use Rattle.array_image.specs.Stripes.{sector_in}
 use Rattle.array_image.specs.Arrays.{Shape, shape_in, layout_at, value_by, sectors_by}
-use Rattle.array_image.specs.States.{current_places}
+use Rattle.array_image.specs.States.{current_places, id_of}
 use Rattle.array_image.specs.Supers.{is_unclean, is_named, super_in, truth_in}
 use Rattle.array_image.proofs.Frames.{SameSupers, super_of_sector, truth_by_supers, shape_by_supers, value_by_data}
-use Rattle.pool_image.specs.Disks.{Disks, Identity, id_at}
+use Rattle.pool_image.specs.Disks.{Disks, Identity}
 use Rattle.pool_image.specs.Replay.{Extent}
 use Rattle.pool_image.specs.Drives.{Found, end_of, extent_from, truth_from, slices_from, drive_sector, first_of, extent_of, slices_of}
 use Rattle.pool_image.specs.Volumes.{first_bad, group_in, linear_of}
@@ -172,9 +172,9 @@ module _ (f g : Found) (same : IsSamePool f g) where
 
       table : has_table g p d ≡ has_table f p d
       table =
-          ap₂ (λ (disks : Disks) (id : Identity). option_map_or (λ t. is_table_by (extent_of g) (λ n. is_member g n p) (id_at g.state p) g.state.made (disks.sectors d) t) id.table false) same.disks (same.identities p d seat)
-          ∙ ap₂ (λ (ext : ℕ → Option Extent) (mem : ℕ → Bool). option_map_or (λ t. is_table_by ext mem (id_at g.state p) g.state.made (f.disks.sectors d) t) (f.identities d).table false) extents members
-          ∙ ap (λ s. option_map_or (λ t. is_table_by (extent_of f) (λ n. is_member f n p) (id_at s p) s.made (f.disks.sectors d) t) (f.identities d).table false) same.state
+          ap₂ (λ (disks : Disks) (id : Identity). option_map_or (λ t. is_table_by (extent_of g) (λ n. is_member g n p) (id_of g.state p) g.state.made (disks.sectors d) t) id.table false) same.disks (same.identities p d seat)
+          ∙ ap₂ (λ (ext : ℕ → Option Extent) (mem : ℕ → Bool). option_map_or (λ t. is_table_by ext mem (id_of g.state p) g.state.made (f.disks.sectors d) t) (f.identities d).table false) extents members
+          ∙ ap (λ s. option_map_or (λ t. is_table_by (extent_of f) (λ n. is_member f n p) (id_of s p) s.made (f.disks.sectors d) t) (f.identities d).table false) same.state
 
       supers : has_supers g p ≡ has_supers f p
       supers =

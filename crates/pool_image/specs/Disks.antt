@@ -11,7 +11,7 @@ use Rattle.pool_state.specs.declared.contents.State.{State}
 use Rattle.pool_state.specs.Sector.{decoded}
 use Rattle.array_image.specs.Foremost.{foremost}
 use Rattle.array_image.specs.Places.{state_sector}
-use Rattle.array_image.specs.States.{epoch_of, is_current}
+use Rattle.array_image.specs.States.{epoch_of, is_current, id_of}
 
 -- the disks of a rack: how many, and how many sectors each has
 pub record Disks : Type 0 where
@@ -47,14 +47,10 @@ newest disks identities = option_map (λ copy. copy.state) (foremost epoch_of (m
 
 -- ---- seats
 
--- the id of a place's drive
-abbrev pub id_at : State → ℕ → Option (List ℕ)
-id_at s place = option_map (λ drive. drive.id.0) (slice_get s.drives.items place)
-
 -- the id of the drive that a disk is: that which its state names, or without a state that of its table
 abbrev pub id_by : Option Table → Option Copied → Option (List ℕ)
 id_by table None = option_map (λ t. t.disk_id.0) table
-id_by table (Some copy) = id_at copy.state copy.own
+id_by table (Some copy) = id_of copy.state copy.own
 
 -- the place for which a disk stands: of several with its id the lowest
 abbrev pub stands_for : State → Identity → Option ℕ

@@ -8,10 +8,10 @@ use Rattle.md_super.specs.declared.superblock.Super.{Super}
 use Rattle.lvm_text.specs.declared.group.Group.{Group}
 use Rattle.array_image.specs.Places.{log_kind, raid_kind}
 use Rattle.array_image.specs.Record.{is_bad_gate, is_bad_log}
-use Rattle.array_image.specs.States.{current_places}
+use Rattle.array_image.specs.States.{current_places, id_of}
 use Rattle.array_image.specs.Supers.{is_unclean, is_named, super_in, truth_in}
 use Rattle.array_image.specs.Arrays.{Shape, shape_in, sectors_by, array_in}
-use Rattle.pool_image.specs.Disks.{Disks, all_disks, id_at}
+use Rattle.pool_image.specs.Disks.{Disks, all_disks}
 use Rattle.pool_image.specs.Replay.{Extent, Standing, standing}
 use Rattle.pool_image.specs.Drives.{Found, end_of, found, extent_of, slices_of}
 use Rattle.lvm_group.specs.Runs.{Linear, sectors_in}
@@ -77,7 +77,7 @@ has_slice_of f sectors table number = option_map_or (has_slice sectors table (nu
 -- the table of a place's drive: its id, the log slice, and the slices of the arrays that it is a member of
 abbrev pub is_table : Found → ℕ → ℕ → Table → Bool
 is_table f place sectors table =
-    option_map_or (bytes_eq table.disk_id.0) (id_at f.state place) false
+    option_map_or (bytes_eq table.disk_id.0) (id_of f.state place) false
     && (has_slice_of f sectors table 0
     && list_all (λ n. not (is_member f n place) || has_slice_of f sectors table (n + 1)) (arrays_of f))
 

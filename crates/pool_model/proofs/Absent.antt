@@ -10,11 +10,11 @@ use Rattle.gpt_table.specs.declared.Table.{Table}
 use Rattle.pool_state.specs.declared.contents.State.{State}
 use Rattle.array_image.specs.Arrays.{Shape, first_layout, sectors_by, shape_by, value_by}
 use Rattle.array_image.specs.Record.{GateAt, gate_of, gate_sector, is_bad_gate, is_there, record_in}
-use Rattle.array_image.specs.States.{current_places, is_current}
+use Rattle.array_image.specs.States.{current_places, is_current, id_of}
 use Rattle.array_image.specs.Stripes.{Layout, capacity, mirror, parity, width}
 use Rattle.array_model.proofs.Noting.{first_is}
 use Rattle.pool_image.specs.Alike.{drive_gate}
-use Rattle.pool_image.specs.Disks.{Disks, id_at, identities_of, newest}
+use Rattle.pool_image.specs.Disks.{Disks, identities_of, newest}
 use Rattle.pool_image.specs.Drives.{Found, extent_of, slices_of}
 use Rattle.pool_image.specs.Meaning.{Refusal, absent_count, array_sectors, damage_of, damage_on, has_log, has_slice, has_slice_of, has_supers, has_table, is_dirty_degraded, is_member, is_table, is_too_few, joined_arrays, kind_of, meaning, no_pool, refusal_of, refused_at, refused_by, shape_of, super_at, two_pools, volumes_of}
 use Rattle.pool_image.specs.Sound.{AreSame, IsSafeInAbsence, disks_without, image_without}
@@ -160,7 +160,7 @@ module _ (disks : Disks) (c : Image) (s : State) (newest_is : newest disks (iden
       table_same : (table : Table) (k : ℕ) → is_table g q k table ≡ is_table f q k table
       unfolding extent_of
       table_same table k =
-          ap (λ b. option_map_or (bytes_eq table.disk_id.0) (id_at s q) false && (has_slice_of f k table 0 && b))
+          ap (λ b. option_map_or (bytes_eq table.disk_id.0) (id_of s q) false && (has_slice_of f k table 0 && b))
           (all_below (λ n. not (is_member g n q) || has_slice_of g k table (n + 1)) (λ n. not (is_member f n q) || has_slice_of f k table (n + 1)) 0 s.made
           (λ n low.
           let less : n < s.made = omega (arith, low) in

@@ -10,6 +10,7 @@ use Rattle.std.proofs.lemmas.Bool.{cases_eq, cases_lt}
 use Rattle.std.proofs.lemmas.Option.{none-some}
 use Rattle.rack.specs.Seen.{Image, Seen}
 use Rattle.rack.specs.Sequences.{WritesOnly}
+use Rattle.array_image.specs.States.{id_of}
 use Rattle.slice_rack.specs.Runs.{IsSliced}
 use Rattle.slice_rack.specs.Slices.{Slices}
 use Rattle.gpt_table.specs.declared.Table.{Table}
@@ -22,7 +23,7 @@ use Rattle.pool_state.specs.declared.contents.Drive.{Drive}
 use Rattle.pool_state.specs.declared.contents.Plan.{Plan}
 use Rattle.pool_state.specs.declared.contents.State.{State}
 use Rattle.array_image.specs.Places.{drive_id}
-use Rattle.pool_image.specs.Disks.{Disks, Identities, Identity, disks_of, id_at, id_by, identities_of, stands_for}
+use Rattle.pool_image.specs.Disks.{Disks, Identities, Identity, disks_of, id_by, identities_of, stands_for}
 use Rattle.pool_image.specs.Drives.{Found, extent_of}
 use Rattle.pool_image.specs.Meaning.{has_slice, has_slice_of, is_member, is_table, kind_of, truth_of}
 use Rattle.raid_rack.specs.Enlisting.{enlisted}
@@ -54,7 +55,7 @@ said_same f z was i d same sectors =
 
 -- pools with the same truths want the same table of a place whose drive has the same id
 module _ (f g : Found) (few : f.state.made ≤ 16) (has : (n : ℕ) → n < f.state.made → (u : Super) × (truth_of f n ≡ Some u)) (same : HasTruths f g)
-    (made : g.state.made ≡ f.state.made) (p : ℕ) (id : id_at g.state p ≡ id_at f.state p) where
+    (made : g.state.made ≡ f.state.made) (p : ℕ) (id : id_of g.state p ≡ id_of f.state p) where
   slice_same : (table : Table) (k n : ℕ) → n < f.state.made → has_slice_of g k table (n + 1) ≡ has_slice_of f k table (n + 1)
   slice_same table k n low =
       let next : n + 1 ≡ suc n = omega arith in
@@ -164,7 +165,7 @@ module _ (f : Found) (t u : Slices) (v : Raid) (x z : Seen) (place disk units : 
           elim (cases_eq p place) [
             | inl same ↦
                 is_stranger.ungiven f.state.serial (omega arith) below
-                (named.says ∙ sym named.place ∙ ap (id_at next) same ∙ id_here place units plan v.state new.listed
+                (named.says ∙ sym named.place ∙ ap (id_of next) same ∙ id_here place units plan v.state new.listed
                 ∙ ap₂ (λ (pool : Id) serial. Some (drive_id pool.0 serial)) is.after.same.pool is.after.same.serial)
             | inr other ↦
                 (let was : f.seats p ≡ Some d = sym (seat_other f t u v (disks_of z) place disk units plan new known keeps.sectors p 0 other) ∙ seat in
@@ -180,14 +181,14 @@ module _ (f : Found) (t u : Slices) (v : Raid) (x z : Seen) (place disk units : 
   -- So is the drive that the place had, where its copy names it still: the id has an earlier serial than the new drive's, and ids that are given before
   -- the bound differ.
   module _ (serials : AreSerial f.state) (distinct : AreDistinct f.state.pool.0 bound) (d : ℕ) (seat : f.seats place ≡ Some d) (y : Identity) (copy : Copied)
-      (here : y.copied ≡ Some copy) (pool : copy.state.pool ≡ f.state.pool) (names : id_at copy.state copy.own ≡ id_at f.state place) where
-    seated : (p e : ℕ) → f.seats p ≡ Some e → (id : List ℕ) × (id_at f.state p ≡ Some id) × (position (λ (drive : Drive). bytes_eq drive.id.0 id) f.state.drives.items ≡ Some p)
+      (here : y.copied ≡ Some copy) (pool : copy.state.pool ≡ f.state.pool) (names : id_of copy.state copy.own ≡ id_of f.state place) where
+    seated : (p e : ℕ) → f.seats p ≡ Some e → (id : List ℕ) × (id_of f.state p ≡ Some id) × (position (λ (drive : Drive). bytes_eq drive.id.0 id) f.state.drives.items ≡ Some p)
     seated p e at =
         let said = is.held.said (λ k s. (x.held k s).current) (λ k s live never. inl refl) in
         let named = stands_named f.state (said.identities e) p (said.outset.seated p e at).stands in
         (named.id, named.place, named.first)
 
-    own : (id : List ℕ) × (id_at f.state place ≡ Some id) × (position (λ (drive : Drive). bytes_eq drive.id.0 id) f.state.drives.items ≡ Some place)
+    own : (id : List ℕ) × (id_of f.state place ≡ Some id) × (position (λ (drive : Drive). bytes_eq drive.id.0 id) f.state.drives.items ≡ Some place)
     own = seated place d seat
 
     given : (serials.serial place < f.state.serial) × (own.0 ≡ drive_id f.state.pool.0 (serials.serial place))
@@ -211,7 +212,7 @@ module _ (f : Found) (t u : Slices) (v : Raid) (x z : Seen) (place disk units : 
           | inl this ↦
               later_differs f.state.serial (omega arith) (omega (arith, below))
               (some_same own.0 (drive_id f.state.pool.0 f.state.serial)
-              (ap Some same ∙ sym named.place ∙ ap (id_at next) this ∙ id_here place units plan v.state new.listed
+              (ap Some same ∙ sym named.place ∙ ap (id_of next) this ∙ id_here place units plan v.state new.listed
               ∙ ap₂ (λ (k : Id) serial. Some (drive_id k.0 serial)) is.after.same.pool is.after.same.serial))
           | inr other ↦
               (let was : f.seats p ≡ Some e = sym (seat_other f t u v (disks_of z) place disk units plan new known keeps.sectors p 0 other) ∙ at in

@@ -18,7 +18,7 @@ use Rattle.pool_state.specs.declared.contents.Drive.{Drive}
 use Rattle.pool_state.specs.declared.contents.Plan.{Plan}
 use Rattle.array_image.specs.Places.{arrays_first, log_sectors, log_slice, slice_of, state_sector}
 use Rattle.array_image.specs.Record.{GateAt, gate_sector, pending_at}
-use Rattle.array_image.specs.States.{current_places, epoch_of, is_current}
+use Rattle.array_image.specs.States.{current_places, epoch_of, is_current, id_of}
 use Rattle.commit_log.specs.Kept.{IsCopyOf, LogKept}
 use Rattle.raid_rack.specs.Book.{after_same}
 use Rattle.raid_rack.specs.Enlisting.{enlisted, next_drive}
@@ -26,7 +26,7 @@ use Rattle.raid_rack.specs.Missing.{raised}
 use Rattle.raid_rack.specs.Raid.{IsTold, Raid, is_over}
 use Rattle.raid_rack.specs.Since.{AreTakenSince}
 use Rattle.raid_rack.proofs.Apart.{seat_is}
-use Rattle.pool_image.specs.Disks.{Disks, Identity, disks_of, id_at, id_by, identities_of, seat_of, stands_for}
+use Rattle.pool_image.specs.Disks.{Disks, Identity, disks_of, id_by, identities_of, seat_of, stands_for}
 use Rattle.pool_image.specs.Drives.{Found}
 use Rattle.pool_image.specs.Replay.{Extent, log_extent, logs_of}
 use Rattle.pool_rest.specs.Moments.{IsGateBelow}
@@ -131,7 +131,7 @@ module _ (f : Found) (t u : Slices) (v : Raid) (place disk : ℕ) (x : Seen) (i 
       (now_inside : AreInside (h f t u v place disk units plan x i is new joined formerly) u)
       (since : AreTakenSince (λ p. p == place) v.state (enlisted place units plan v.state) (sectors_of u) (sliced u i))
       (table : Table) (drive : table.disk_id.0 ≡ (next_drive v.state).0) (tabled : the_table (x.sectors disk) (i disk) ≡ Some table)
-      (renamed : id_at v.state place ≢ Some (next_drive v.state).0) where
+      (renamed : id_of v.state place ≢ Some (next_drive v.state).0) where
     abbrev says : ℕ → Identity
     says = ids f t u v place disk units plan x i is new joined formerly
 

@@ -8,8 +8,7 @@ use Rattle.std.proofs.lemmas.Option.{none-some}
 use Rattle.pool_state.specs.declared.contents.Drive.{Drive}
 use Rattle.pool_state.specs.declared.contents.Plan.{Plan}
 use Rattle.pool_state.specs.declared.contents.State.{State}
-use Rattle.array_image.specs.States.{is_current}
-use Rattle.pool_image.specs.Disks.{id_at}
+use Rattle.array_image.specs.States.{is_current, id_of}
 use Rattle.raid_rack.specs.Enlisting.{enlisted, next_drive}
 
 -- ---- lists
@@ -101,14 +100,14 @@ module _ (place units : ℕ) (plan : Plan) (s : State) (listed : place < length 
   pub few_same : length next.drives.items ≡ length s.drives.items
   few_same = set_length s.drives.items place new
 
-  pub id_here : id_at next place ≡ Some (next_drive s).0
+  pub id_here : id_of next place ≡ Some (next_drive s).0
   id_here = ap (option_map (λ (d : Drive). d.id.0)) (get_same s.drives.items place new listed)
 
-  pub id_other : (p : ℕ) → p ≢ place → id_at next p ≡ id_at s p
+  pub id_other : (p : ℕ) → p ≢ place → id_of next p ≡ id_of s p
   id_other p other = ap (option_map (λ (d : Drive). d.id.0)) (get_other s.drives.items place p new other)
 
   -- no other drive has the new one's id
-  module _ (fresh : (p : ℕ) → p ≢ place → id_at s p ≢ Some (next_drive s).0) where
+  module _ (fresh : (p : ℕ) → p ≢ place → id_of s p ≢ Some (next_drive s).0) where
     differs : (a b : List ℕ) → (a ≡ b → ⊥) → bytes_eq a b ≡ false
     differs a b apart = elim (cases_Bool (bytes_eq a b)) [ inl same ↦ absurd (apart ((bytes_eq-Decides a b).0 same)) | inr other ↦ other ]
 
@@ -120,7 +119,7 @@ module _ (place units : ℕ) (plan : Plan) (s : State) (listed : place < length 
         differs d.id.0 (next_drive s).0
         (λ same. fresh k (λ here. omega (arith, less, here)) (ap (option_map (λ (e : Drive). e.id.0)) at ∙ ap Some same)))
 
-    pub names_other : (p : ℕ) (id : List ℕ) → p ≢ place → id_at s p ≡ Some id → position (λ (d : Drive). bytes_eq d.id.0 id) s.drives.items ≡ Some p
+    pub names_other : (p : ℕ) (id : List ℕ) → p ≢ place → id_of s p ≡ Some id → position (λ (d : Drive). bytes_eq d.id.0 id) s.drives.items ≡ Some p
         → position (λ (d : Drive). bytes_eq d.id.0 id) next.drives.items ≡ Some p
     names_other p id other is at =
         position_other (λ (d : Drive). bytes_eq d.id.0 id) new s.drives.items place p

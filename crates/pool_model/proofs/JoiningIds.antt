@@ -3,6 +3,7 @@ use Rattle.std.proofs.Common.{◌≡◌, ◌≢◌, ℕ, ◌<◌, Option, Some, 
 use Rattle.std.proofs.lemmas.Bool.{cases_eq}
 use Rattle.std.proofs.lemmas.Option.{none-some}
 use Rattle.rack.specs.Seen.{Image, Seen}
+use Rattle.array_image.specs.States.{id_of}
 use Rattle.slice_rack.specs.Slices.{Slices}
 use Rattle.shr_base.specs.declared.Id.{Id}
 use Rattle.pool_state.specs.declared.contents.Copied.{Copied}
@@ -10,7 +11,7 @@ use Rattle.pool_state.specs.declared.contents.Plan.{Plan}
 use Rattle.array_image.specs.Places.{drive_id}
 use Rattle.raid_rack.specs.Enlisting.{next_drive}
 use Rattle.raid_rack.specs.Raid.{Raid}
-use Rattle.pool_image.specs.Disks.{Disks, Identity, disks_of, id_at, id_by, identities_of}
+use Rattle.pool_image.specs.Disks.{Disks, Identity, disks_of, id_by, identities_of}
 use Rattle.pool_image.specs.Drives.{Found}
 use Rattle.pool_model.specs.Alone.{IsUngiven}
 use Rattle.pool_model.specs.InService.{InService}
@@ -41,7 +42,7 @@ module _ (f : Found) (s u : Slices) (v : Raid) (place disk units : ℕ) (plan : 
   pub joining_ids : (bound : ℕ) → f.state.serial < bound → AreSerial f.state → AreDistinct f.state.pool.0 f.state.serial
       → ((j : Image) → IsPickOff s x j → (d : ℕ) → ((p : ℕ) → f.seats p ≡ Some d → ⊥) → d < f.disks.count → d ≢ disk → IsUngiven f.state bound (identities_of f.disks j d))
       → ((j : Image) → IsPickOff u x j → (d : ℕ) → f.seats place ≡ Some d → d ≢ disk
-      → (copy : Copied) × ((identities_of (disks_of x) j d).copied ≡ Some copy) × (id_at copy.state copy.own ≡ id_at f.state place))
+      → (copy : Copied) × ((identities_of (disks_of x) j d).copied ≡ Some copy) × (id_of copy.state copy.own ≡ id_of f.state place))
       → HaveOtherIds f v.state place disk i
   joining_ids bound early serials distinct ungiven former d low other apart named = by (f.seats place) refl
     where

@@ -18,14 +18,14 @@ use Rattle.pool_state.specs.declared.contents.Plan.{Plan}
 use Rattle.pool_state.specs.declared.contents.State.{State}
 use Rattle.pool_state.specs.Sector.{decoded}
 use Rattle.array_image.specs.Places.{log_slice}
-use Rattle.array_image.specs.States.{epoch_of, is_current}
+use Rattle.array_image.specs.States.{epoch_of, is_current, id_of}
 use Rattle.commit_log.specs.Kept.{IsNoLater}
 use Rattle.raid_rack.specs.Book.{IsAfter}
 use Rattle.raid_rack.specs.Enlisting.{enlisted, next_drive}
 use Rattle.raid_rack.specs.Raid.{Raid}
 use Rattle.raid_rack.specs.Since.{AreTakenSince}
 use Rattle.raid_rack.proofs.Noted.{current_few}
-use Rattle.pool_image.specs.Disks.{Disks, Identities, Identity, disks_of, id_at, id_by, identities_of, stands_for}
+use Rattle.pool_image.specs.Disks.{Disks, Identities, Identity, disks_of, id_by, identities_of, stands_for}
 use Rattle.pool_image.specs.Drives.{Found}
 use Rattle.pool_model.specs.InService.{HasSeat, InService, IsArranged, IsSaid, epoch_at}
 use Rattle.pool_model.specs.Laid.{GoesBy, HaveOtherIds, IsJoinedOff, NamesJoining, SaysFormerly}
@@ -174,14 +174,14 @@ module _ (f : Found) (s u : Slices) (v : Raid) (place disk units : ℕ) (plan : 
     pub named : IsNamed f.state (e d) p
     named = stands_named f.state (e d) p had.stands
 
-    pub id_before : id_at v.state p ≡ Some named.id
+    pub id_before : id_of v.state p ≡ Some named.id
     id_before = id_same f.state v.state is.after.same p ∙ named.place
 
     pub first_before : position (λ (k : Drive). bytes_eq k.id.0 named.id) v.state.drives.items ≡ Some p
     first_before = same_position named.id v.state.drives.items f.state.drives.items is.after.same.drives ∙ named.first
 
   -- places with drives have ids of their own
-  pub apart_ids : (p q d y : ℕ) → f.seats p ≡ Some d → f.seats q ≡ Some y → id_at v.state p ≡ id_at v.state q → p ≡ q
+  pub apart_ids : (p q d y : ℕ) → f.seats p ≡ Some d → f.seats q ≡ Some y → id_of v.state p ≡ id_of v.state q → p ≡ q
   apart_ids p q d y one two same =
       let ids_same : (named p d one).id ≡ (named q y two).id =
       some_same (named p d one).id (named q y two).id (sym (id_before p d one) ∙ same ∙ id_before q y two) in
@@ -193,7 +193,7 @@ module _ (f : Found) (s u : Slices) (v : Raid) (place disk units : ℕ) (plan : 
     own_id = (named p d seat).id
 
     module _ (r : State) (after : IsAfter v.state r ⊎ IsAfter next r) where
-      id_now : id_at r p ≡ Some own_id
+      id_now : id_of r p ≡ Some own_id
       id_now = elim after [
         | inl of ↦ id_same v.state r of.same p ∙ id_before p d seat
         | inr of ↦ id_same next r of.same p ∙ id_other place units plan v.state new.listed p other ∙ id_before p d seat
@@ -257,7 +257,7 @@ module _ (f : Found) (s u : Slices) (v : Raid) (place disk units : ℕ) (plan : 
       copy : Copied
       says : (ids d).copied ≡ Some copy
       from : v.state.epoch ≤ copy.state.epoch
-      drive : id_at copy.state copy.own ≡ id_at v.state p
+      drive : id_of copy.state copy.own ≡ id_of v.state p
 
     own_copy : (p d : ℕ) → p ≢ place → f.seats p ≡ Some d → HasOwn p d
     own_copy p d other seat =
@@ -298,7 +298,7 @@ module _ (f : Found) (s u : Slices) (v : Raid) (place disk units : ℕ) (plan : 
               let block = ok_of (decoded (sliced u i (log_slice place) 0)) copy (sym (block_is place disk seat_new) ∙ some) in
               let one = (since place (small place disk seat_new) (there place disk seat_new)).joins copy (inl (eq-eqb place place refl)) (current_here place units plan v.state new.listed) block in
               let same : one.copy ≡ copy = some_same one.copy copy (sym (ap result_ok one.is) ∙ ap result_ok block) in
-              ap (λ (k : Copied). id_at k.state k.own) (sym same) ∙ one.drive ∙ id_here place units plan v.state new.listed
+              ap (λ (k : Copied). id_of k.state k.own) (sym same) ∙ one.drive ∙ id_here place units plan v.state new.listed
 
       new_stands : (r : State) → IsAfter next r → stands_for r (ids disk) ≡ Some place
       new_stands r after =

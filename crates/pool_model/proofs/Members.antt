@@ -12,7 +12,7 @@ use Rattle.array_image.specs.Arrays.{Member, Shape, shape_by}
 use Rattle.array_image.specs.Held.{Among}
 use Rattle.array_image.specs.Places.{array_id, data_sector, member_slice, place_of}
 use Rattle.array_image.specs.SoundArray.{IsSoundArray, first_unsynced}
-use Rattle.array_image.specs.States.{is_current}
+use Rattle.array_image.specs.States.{is_current, id_of}
 use Rattle.array_image.specs.Supers.{has_roles, has_whole_row, is_named, is_rebuilding, is_unclean, named_places, super_in}
 use Rattle.array_core.proofs.Opened.{current_is, named_place, super_passes, super_truth, truth_leads}
 use Rattle.array_core.proofs.Rules.{placed}
@@ -20,7 +20,7 @@ use Rattle.array_core.proofs.Truths.{Truth, rule_holds, truth_facts, unsynced_fe
 use Rattle.array_model.specs.View.{member_on, shape_of}
 use Rattle.commit_log.specs.View.{names}
 use Rattle.pool_image.specs.Book.{array_now, book_of, is_rebuilding_at, rebuilding_in, rows_of, rows_to_rebuild, unsynced}
-use Rattle.pool_image.specs.Disks.{Disks, id_at, identities_of, newest}
+use Rattle.pool_image.specs.Disks.{Disks, identities_of, newest}
 use Rattle.pool_image.specs.Drives.{Found, drive_sector, extent_of, slices_of}
 use Rattle.pool_image.specs.Meaning.{has_entry, has_slice, has_slice_of, is_member, is_table, kind_of, super_at, truth_of}
 use Rattle.pool_image.proofs.Identities.{seat_inside}
@@ -145,7 +145,7 @@ module _ (disks : Disks) (c : Image) (s : State) (newest_is : newest disks (iden
               → lie.first + (data_sector + t.size) + 32 < disks.sectors e
           of None is at = absurd (both_ways false refl at)
           of (Some table) is at =
-              let one = and_parts (option_map_or (bytes_eq table.disk_id.0) (id_at s q) false) _ at in
+              let one = and_parts (option_map_or (bytes_eq table.disk_id.0) (id_of s q) false) _ at in
               let two = and_parts (has_slice_of f (disks.sectors e) table 0) _ one.1 in
               let next : n + 1 ≡ suc n = omega arith in
               let here : has_slice_of f (disks.sectors e) table (n + 1) ≡ true =

@@ -10,9 +10,9 @@ use Rattle.pool_state.specs.declared.contents.Copied.{Copied}
 use Rattle.pool_state.specs.declared.contents.Drive.{Drive}
 use Rattle.pool_state.specs.declared.contents.State.{State}
 use Rattle.array_image.specs.Foremost.{foremost}
-use Rattle.array_image.specs.States.{epoch_of, is_current}
+use Rattle.array_image.specs.States.{epoch_of, is_current, id_of}
 use Rattle.array_core.proofs.Leading.{Leads, foremost_leads}
-use Rattle.pool_image.specs.Disks.{Candidate, Disks, Identities, Identity, candidate, id_at, id_by, seat_of, stands_for}
+use Rattle.pool_image.specs.Disks.{Candidate, Disks, Identities, Identity, candidate, id_by, seat_of, stands_for}
 use Rattle.raid_rack.specs.Book.{IsSameBook, drive_of}
 
 abbrev has_id : List ℕ → Drive → Bool
@@ -53,7 +53,7 @@ same_at (d ∷ ds) (e ∷ es) (suc k) same = same_at ds es k (tail_ids d e ds es
 
 -- states with the same drives name the same ids
 module _ (p q : State) (same : IsSameBook p q) where
-  pub id_same : (k : ℕ) → id_at q k ≡ id_at p k
+  pub id_same : (k : ℕ) → id_of q k ≡ id_of p k
   id_same k = same_at q.drives.items p.drives.items k same.drives
 
   pub stands_same : (i : Identity) → stands_for q i ≡ stands_for p i
@@ -77,7 +77,7 @@ any_drive = record { id = record { 0 = [] }; units = 0; missing = false }
 pub record IsNamed (s : State) (i : Identity) (p : ℕ) : Type 0 where
   pub id : List ℕ
   pub says : id_by i.table i.copied ≡ Some id
-  pub place : id_at s p ≡ Some id
+  pub place : id_of s p ≡ Some id
   pub first : position (has_id id) s.drives.items ≡ Some p
 
 pub stands_named : (s : State) (i : Identity) (p : ℕ) → stands_for s i ≡ Some p → IsNamed s i p
@@ -97,7 +97,7 @@ stands_named s i p is = of (id_by i.table i.copied) refl is
         }
 
 -- a disk whose copy names that id stands for the place too
-pub named_stands : (s : State) (table : Option Table) (own p : ℕ) (id : List ℕ) → position (has_id id) s.drives.items ≡ Some p → id_at s own ≡ Some id
+pub named_stands : (s : State) (table : Option Table) (own p : ℕ) (id : List ℕ) → position (has_id id) s.drives.items ≡ Some p → id_of s own ≡ Some id
     → stands_for s (record { copied = Some (record { state = s; own = own }); table = table }) ≡ Some p
 named_stands s table own p id first is = ap (option_and_then (λ id. position (has_id id) s.drives.items)) is ∙ first
 
@@ -175,7 +175,7 @@ seat_ahead s disks ids p d is = of (is_current s p) refl is
     of true current at = by (foremost (λ (k : Candidate). k.epoch) (map (candidate s ids p) (range_with_len 0 disks.count))) current refl at
 
 -- the copy of a disk that stands for a place names the place's id
-pub copy_names : (s : State) (i : Identity) (p : ℕ) (copy : Copied) → stands_for s i ≡ Some p → i.copied ≡ Some copy → id_at copy.state copy.own ≡ id_at s p
+pub copy_names : (s : State) (i : Identity) (p : ℕ) (copy : Copied) → stands_for s i ≡ Some p → i.copied ≡ Some copy → id_of copy.state copy.own ≡ id_of s p
 copy_names s i p copy stands is =
     let named = stands_named s i p stands in
     sym (ap (id_by i.table) is) ∙ named.says ∙ sym named.place

@@ -12,7 +12,7 @@ use Rattle.pool_state.specs.declared.contents.Copied.{Copied}
 use Rattle.pool_state.specs.declared.contents.Plan.{Plan}
 use Rattle.pool_state.specs.declared.contents.State.{State}
 use Rattle.array_image.specs.Arrays.{replayed}
-use Rattle.array_image.specs.States.{is_current}
+use Rattle.array_image.specs.States.{is_current, id_of}
 use Rattle.array_model.specs.View.{View}
 use Rattle.commit_log.specs.Kept.{LogKept}
 use Rattle.raid_rack.specs.Enlisting.{Enlists, IsWrittenBy, KeepsTold, SaysLatter, SaysReplacing, enlisted, new_table, next_drive}
@@ -21,7 +21,7 @@ use Rattle.raid_rack.specs.Losses.{has_other}
 use Rattle.raid_rack.specs.Missing.{raised}
 use Rattle.raid_rack.specs.Raid.{IsTold, Raid, held_in, is_over, spent_of}
 use Rattle.raid_rack.proofs.Over.{number_room}
-use Rattle.pool_image.specs.Disks.{disks_of, id_at, identities_of}
+use Rattle.pool_image.specs.Disks.{disks_of, identities_of}
 use Rattle.pool_image.specs.Drives.{Found}
 use Rattle.pool_model.specs.Alone.{IsUngiven}
 use Rattle.pool_model.specs.Laid.{HaveOtherIds, IsFormerYet, IsJoinedOff, SaysFormerly}
@@ -46,7 +46,7 @@ pub record IsReplacing (f : Found) (t u : Slices) (arrays : List View) (v : Raid
   pub orderly : IsOrderly t
   pub inside : IsInside t x
   pub apart : (p : ℕ) → f.seats p ≡ Some disk → ⊥
-  pub renamed : id_at v.state place ≢ Some (next_drive v.state).0
+  pub renamed : id_of v.state place ≢ Some (next_drive v.state).0
   pub room : 10273 ≤ x.sectors disk
 
 -- The arrays are told when the call begins, and none is over when it ends; a drive is left that the pool had.

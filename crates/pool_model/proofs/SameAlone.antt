@@ -5,11 +5,12 @@ use Rattle.std.specs.List.{list_all, range_with_len}
 use Rattle.rack.specs.Seen.{Image}
 use Rattle.gpt_table.specs.declared.Table.{Table}
 use Rattle.md_super.specs.declared.superblock.Super.{Super}
+use Rattle.array_image.specs.States.{id_of}
 use Rattle.pool_state.specs.declared.contents.State.{State}
 use Rattle.array_image.specs.Places.{data_sector, super_sector}
 use Rattle.array_image.specs.Supers.{is_named, super_of}
 use Rattle.pool_image.specs.Alike.{IsSamePool}
-use Rattle.pool_image.specs.Disks.{Disks, Identity, id_at}
+use Rattle.pool_image.specs.Disks.{Disks, Identity}
 use Rattle.pool_image.specs.Drives.{Found, extent_of, first_of}
 use Rattle.pool_image.specs.Meaning.{has_slice, has_table, is_member, kind_of, truth_of}
 use Rattle.pool_image.specs.Replay.{Extent, extent_by}
@@ -38,10 +39,10 @@ module _ (f g : Found) (same : IsSamePool f g) where
 
   table_same : (p d : ℕ) → f.seats p ≡ Some d → has_table g p d ≡ has_table f p d
   table_same p d seat =
-      ap₂ (λ (disks : Disks) (id : Identity). option_map_or (λ t. is_table_by (extent_of g) (λ n. is_member g n p) (id_at g.state p) g.state.made (disks.sectors d) t) id.table false) same.disks (same.identities p d seat)
-      ∙ ap₂ (λ (ext : ℕ → Option Extent) (mem : ℕ → Bool). option_map_or (λ t. is_table_by ext mem (id_at g.state p) g.state.made (f.disks.sectors d) t) (f.identities d).table false)
+      ap₂ (λ (disks : Disks) (id : Identity). option_map_or (λ t. is_table_by (extent_of g) (λ n. is_member g n p) (id_of g.state p) g.state.made (disks.sectors d) t) id.table false) same.disks (same.identities p d seat)
+      ∙ ap₂ (λ (ext : ℕ → Option Extent) (mem : ℕ → Bool). option_map_or (λ t. is_table_by ext mem (id_of g.state p) g.state.made (f.disks.sectors d) t) (f.identities d).table false)
       (λ i n. lies_same f g same n i) (λ i n. member_same n p i)
-      ∙ ap (λ (s : State). option_map_or (λ t. is_table_by (extent_of f) (λ n. is_member f n p) (id_at s p) s.made (f.disks.sectors d) t) (f.identities d).table false) same.state
+      ∙ ap (λ (s : State). option_map_or (λ t. is_table_by (extent_of f) (λ n. is_member f n p) (id_of s p) s.made (f.disks.sectors d) t) (f.identities d).table false) same.state
 
   pub good_same : HaveGoodTables f → HaveGoodTables g
   good_same good p d seat = (let was = sym (same.seats p) ∙ seat in table_same p d was ∙ good p d was)

@@ -2,11 +2,11 @@
 use Rattle.std.proofs.Common.{◌≡◌, ◌≢◌, ℕ, ◌+◌, ◌<◌, ◌==◌, if◌then◌else◌, Bool, List, length, slice_get, Option, Some, None, option_map, refl, sym, ap, subst, ◌∙◌, inl, inr, eq-eqb, arith}
 use Rattle.std.proofs.lemmas.Bool.{cases_eq, ne_eqb}
 use Rattle.shr_base.specs.declared.Id.{Id}
+use Rattle.array_image.specs.States.{id_of}
 use Rattle.pool_state.specs.declared.contents.Drive.{Drive}
 use Rattle.pool_state.specs.declared.contents.Plan.{Plan}
 use Rattle.pool_state.specs.declared.contents.State.{State}
 use Rattle.array_image.specs.Places.{drive_id}
-use Rattle.pool_image.specs.Disks.{id_at}
 use Rattle.pool_image.specs.Drives.{Found}
 use Rattle.pool_image.specs.Sound.{IsSoundList}
 use Rattle.raid_rack.specs.Book.{IsAfter}
@@ -51,7 +51,7 @@ module _ (place units : ℕ) (plan : Plan) (s : State) (listed : place < length 
     ids = λ p id is. elim (cases_eq p place) [
       | inl same ↦
           (let at : given p ≡ s.serial = ap (λ (b : Bool). if b then s.serial else serials.serial p) (eq-eqb p place same) in
-          let here : id ≡ drive_id s.pool.0 s.serial = some_same id (next_drive s).0 (sym is ∙ ap (id_at next) same ∙ id_here place units plan s listed) in (
+          let here : id ≡ drive_id s.pool.0 s.serial = some_same id (next_drive s).0 (sym is ∙ ap (id_of next) same ∙ id_here place units plan s listed) in (
             (let e : given p < s.serial + 1 = omega (arith, at) in e),
             here ∙ ap (drive_id s.pool.0) (sym at),
           ))
@@ -66,7 +66,7 @@ module _ (place units : ℕ) (plan : Plan) (s : State) (listed : place < length 
   }
 
 -- so the next drive's id is none of theirs
-pub serial_fresh : (s : State) → AreSerial s → AreDistinct s.pool.0 s.serial → (p : ℕ) → id_at s p ≢ Some (next_drive s).0
+pub serial_fresh : (s : State) → AreSerial s → AreDistinct s.pool.0 s.serial → (p : ℕ) → id_of s p ≢ Some (next_drive s).0
 serial_fresh s serials apart p is =
     let one = serials.ids p (next_drive s).0 is in
     let low = one.0 in

@@ -5,7 +5,7 @@ use Rattle.std.specs.List.{list_all}
 use Rattle.std.proofs.lemmas.Bool.{and_parts, both_ways}
 use Rattle.gpt_table.specs.declared.Table.{Table}
 use Rattle.array_image.specs.Places.{arrays_first}
-use Rattle.pool_image.specs.Disks.{id_at}
+use Rattle.array_image.specs.States.{id_of}
 use Rattle.pool_image.specs.Drives.{Found, end_of, extent_of}
 use Rattle.pool_image.specs.Meaning.{arrays_of, has_entry, has_slice, has_slice_of, has_table, is_member, is_table, kind_of}
 use Rattle.pool_image.specs.Replay.{Extent}
@@ -30,7 +30,7 @@ module _ (f : Found) (p d : ℕ) (has : has_table f p d ≡ true) where
       of None here is = absurd (both_ways false refl is)
       of (Some table) here is =
           let rest : Bool = list_all (λ n. not (is_member f n p) || has_slice_of f (f.disks.sectors d) table (n + 1)) (arrays_of f) in
-          let one = and_parts (option_map_or (bytes_eq table.disk_id.0) (id_at f.state p) false) (has_slice_of f (f.disks.sectors d) table 0 && rest) is in
+          let one = and_parts (option_map_or (bytes_eq table.disk_id.0) (id_of f.state p) false) (has_slice_of f (f.disks.sectors d) table 0 && rest) is in
           let two = and_parts (has_slice_of f (f.disks.sectors d) table 0) rest one.1 in
           record {
             table = table;

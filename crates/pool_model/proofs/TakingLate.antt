@@ -18,7 +18,7 @@ use Rattle.pool_state.specs.declared.contents.Plan.{Plan}
 use Rattle.pool_state.specs.declared.contents.State.{State}
 use Rattle.array_image.specs.Arrays.{replayed}
 use Rattle.array_image.specs.Places.{log_slice, super_sector}
-use Rattle.array_image.specs.States.{is_current, state_in}
+use Rattle.array_image.specs.States.{is_current, state_in, id_of}
 use Rattle.array_image.specs.Supers.{super_of}
 use Rattle.array_model.specs.View.{View}
 use Rattle.commit_log.proofs.Kept.{live_on}
@@ -34,7 +34,7 @@ use Rattle.raid_rack.specs.Runs.{IsBetween}
 use Rattle.raid_rack.specs.Since.{AreJoinSince, AreTakenSince}
 use Rattle.raid_rack.proofs.Others.{some_other}
 use Rattle.raid_rack.proofs.Over.{number_room}
-use Rattle.pool_image.specs.Disks.{disks_of, id_at, identities_of}
+use Rattle.pool_image.specs.Disks.{disks_of, identities_of}
 use Rattle.pool_image.specs.Drives.{Found, first_of as first_in_pool}
 use Rattle.pool_image.specs.Meaning.{is_member}
 use Rattle.pool_model.specs.Alone.{IsUngiven}
@@ -224,7 +224,7 @@ module _ (f : Found) (s t u : Slices) (arrays : List View) (v : Raid) (place dis
   pub taking_ids : x.traced → (bound : ℕ) → f.state.serial < bound → AreSerial f.state → AreDistinct f.state.pool.0 f.state.serial
       → ((j : Image) → IsPickOff s x j → (d : ℕ) → ((p : ℕ) → f.seats p ≡ Some d → ⊥) → d < f.disks.count → d ≢ disk → IsUngiven f.state bound (identities_of f.disks j d))
       → ((j : Image) → IsPickOff t x j → (d : ℕ) → f.seats place ≡ Some d → d ≢ disk
-      → (copy : Copied) × ((identities_of (disks_of x) j d).copied ≡ Some copy) × (id_at copy.state copy.own ≡ id_at f.state place))
+      → (copy : Copied) × ((identities_of (disks_of x) j d).copied ≡ Some copy) × (id_of copy.state copy.own ≡ id_of f.state place))
       → (k : ℕ) (i : Image) → x.clock < k → k ≤ y.clock → y.stops k i → HaveOtherIds f v.state place disk i
   taking_ids traced bound early serials distinct ungiven former k i since until stopped =
       let joined = taking_off i ((only.stops traced).new k i since until stopped) in

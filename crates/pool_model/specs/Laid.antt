@@ -11,7 +11,7 @@ use Rattle.pool_state.specs.declared.contents.State.{State}
 use Rattle.array_image.specs.Arrays.{replayed}
 use Rattle.array_image.specs.Places.{log_slice, state_sector, super_sector}
 use Rattle.array_image.specs.Record.{GateAt, gate_sector, pending_at}
-use Rattle.array_image.specs.States.{current_places, is_current, state_in}
+use Rattle.array_image.specs.States.{current_places, is_current, state_in, id_of}
 use Rattle.array_image.specs.Supers.{super_of}
 use Rattle.array_model.specs.View.{HasGeometry}
 use Rattle.commit_log.specs.Kept.{IsNoLater}
@@ -24,7 +24,7 @@ use Rattle.raid_rack.specs.Missing.{raised}
 use Rattle.raid_rack.specs.Raid.{Raid}
 use Rattle.raid_rack.specs.Runs.{IsBetween}
 use Rattle.raid_rack.specs.Since.{AreSince, AreTakenSince}
-use Rattle.pool_image.specs.Disks.{Disks, Identities, disks_of, id_at, id_by, identities_of, seat_of as seat_in_disks, stands_for}
+use Rattle.pool_image.specs.Disks.{Disks, Identities, disks_of, id_by, identities_of, seat_of as seat_in_disks, stands_for}
 use Rattle.pool_image.specs.Drives.{Found, first_of as first_in_pool}
 use Rattle.pool_image.specs.Meaning.{is_member, truth_of}
 use Rattle.pool_image.specs.Replay.{logs_of}
@@ -100,7 +100,7 @@ pub record IsJoinedOff (f : Found) (u : Slices) (v : Raid) (place disk : ℕ) (x
 
 -- A state that the drive which a place had says at such a stop: one from before the book's, or its own of the book's state at most.
 abbrev pub SaysFormerly : State → ℕ → Copied → Type 0
-SaysFormerly v place copy = (copy.state.epoch < v.epoch) ⊎ (IsNoLater v copy × (id_at copy.state copy.own ≡ id_at v place))
+SaysFormerly v place copy = (copy.state.epoch < v.epoch) ⊎ (IsNoLater v copy × (id_of copy.state copy.own ≡ id_of v place))
 
 -- A state r by which place p has the drive that it has once a new one has joined at a place: one since the state before, unless the place is this one, or one since the
 -- new drive joined.

@@ -10,10 +10,10 @@ use Rattle.pool_state.specs.declared.contents.Copied.{Copied}
 use Rattle.pool_state.specs.declared.contents.Plan.{Plan}
 use Rattle.pool_state.specs.declared.contents.State.{State}
 use Rattle.array_image.specs.Places.{drive_id, state_sector, super_sector}
-use Rattle.array_image.specs.States.{is_current}
+use Rattle.array_image.specs.States.{is_current, id_of}
 use Rattle.array_image.specs.Supers.{super_of}
 use Rattle.array_model.specs.View.{View}
-use Rattle.pool_image.specs.Disks.{Disks, disks_of, id_at, identities_of}
+use Rattle.pool_image.specs.Disks.{Disks, disks_of, identities_of}
 use Rattle.pool_image.specs.Drives.{Found, drive_sector, first_of}
 use Rattle.pool_image.specs.Meaning.{is_member}
 use Rattle.raid_rack.specs.Book.{IsAfter}
@@ -43,7 +43,7 @@ views_of v = map v.arrays (range_with_len 0 v.state.made)
 pub record SeatsNew (f : Found) (t u : Slices) (v : Raid) (place disk sectors : ℕ) : Type 0 where
   pub listed : place < length v.state.drives.items
   pub others : (p d : ℕ) → p ≢ place → f.seats p ≡ Some d → (is_current v.state p ≡ true) × (d ≢ disk)
-  pub fresh : (p : ℕ) → p ≢ place → id_at v.state p ≢ Some (next_drive v.state).0
+  pub fresh : (p : ℕ) → p ≢ place → id_of v.state p ≢ Some (next_drive v.state).0
   pub room : v.state.epoch < 2 ^ 63 - 1
   pub seats : SeatsDrive (views_of v) place disk sectors t u
   -- it reaches the arrays that the place is a member of
@@ -111,7 +111,7 @@ pub record LacksDrive (f : Found) (t u : Slices) (v : Raid) (place : ℕ) (x : S
 -- The drives have ids of serials that were given.
 pub record AreSerial (s : State) : Type 0 where
   pub serial : ℕ → ℕ
-  pub ids : (p : ℕ) (id : List ℕ) → id_at s p ≡ Some id → (serial p < s.serial) × (id ≡ drive_id s.pool.0 (serial p))
+  pub ids : (p : ℕ) (id : List ℕ) → id_of s p ≡ Some id → (serial p < s.serial) × (id ≡ drive_id s.pool.0 (serial p))
 
 -- the ids of serials up to one of them differ
 abbrev pub AreDistinct : List ℕ → ℕ → Type 0

@@ -11,8 +11,8 @@ use Rattle.pool_state.specs.declared.contents.Copied.{Copied}
 use Rattle.pool_state.specs.declared.contents.Drive.{Drive}
 use Rattle.pool_state.specs.declared.contents.State.{State}
 use Rattle.array_image.specs.Foremost.{foremost}
-use Rattle.array_image.specs.States.{epoch_of, is_current}
-use Rattle.pool_image.specs.Disks.{Disks, Identity, Identities, Candidate, id_at, id_by, stands_for, candidate, newest, seat_of}
+use Rattle.array_image.specs.States.{epoch_of, is_current, id_of}
+use Rattle.pool_image.specs.Disks.{Disks, Identity, Identities, Candidate, id_by, stands_for, candidate, newest, seat_of}
 use Rattle.pool_scan.proofs.Seated.{foremost_from}
 use Rattle.pool_rest.proofs.Fronts.{Front, low_all, low_foremost, front_all, front_new}
 
@@ -61,11 +61,11 @@ at_position id drives q is =
 
 -- a disk that is given a copy of its own place's stays that place's drive
 pub id_stays : (z : State) (identity : Identity) (q : ℕ) → stands_for z identity ≡ Some q
-    → option_and_then (λ id. position (λ drive. bytes_eq drive.id.0 id) z.drives.items) (id_at z q) ≡ Some q
+    → option_and_then (λ id. position (λ drive. bytes_eq drive.id.0 id) z.drives.items) (id_of z q) ≡ Some q
 id_stays z identity q is = of_id (id_by identity.table identity.copied) is
   where
     of_id : (o : Option (List ℕ)) → option_and_then (λ id. position (λ drive. bytes_eq drive.id.0 id) z.drives.items) o ≡ Some q
-        → option_and_then (λ id. position (λ drive. bytes_eq drive.id.0 id) z.drives.items) (id_at z q) ≡ Some q
+        → option_and_then (λ id. position (λ drive. bytes_eq drive.id.0 id) z.drives.items) (id_of z q) ≡ Some q
     of_id None at = absurd (none-some q at)
     of_id (Some id) at = ap (option_and_then (λ id. position (λ drive. bytes_eq drive.id.0 id) z.drives.items)) (at_position id z.drives.items q at) ∙ at
 

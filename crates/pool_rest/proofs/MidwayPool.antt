@@ -32,7 +32,7 @@ use Rattle.pool_rest.specs.SoundLogs.{HasSoundLogs, IsGateUpTo, IsSoundLog}
 use Rattle.pool_rest.proofs.LaterCopies.{IsCopied, newest_later, newest_still}
 use Rattle.pool_rest.proofs.MidwayDisks as on
 use Rattle.pool_rest.proofs.MidwayDisks.{IsNoGate, few_before, gate_free, log_free, newest_written, seats_written, source, written_gate}
-use Rattle.commit_log.proofs.Saying.{no_look}
+use Rattle.commit_log.proofs.HeldCopies.{no_look}
 use Rattle.pool_rest.proofs.Meant.{few_stood}
 use Rattle.pool_rest.proofs.Quiet.{none_brought}
 use Rattle.pool_rest.proofs.SameLogs.{logs_same}

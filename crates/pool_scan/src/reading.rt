@@ -7,7 +7,8 @@ ghost use Rattle.gpt_table.specs.Changes.{the_table};
 ghost use Rattle.gpt_table.specs.Disk.{Contents, AgreesUnspent};
 ghost use Rattle.std.specs.Result.{result_ok};
 ghost use Rattle.pool_state.specs.Sector.{decoded};
-ghost use Rattle.pool_image.specs.Disks.{disks_of, id_at};
+ghost use Rattle.array_image.specs.States.{id_of};
+ghost use Rattle.pool_image.specs.Disks.{disks_of};
 ghost use Rattle.pool_scan.specs.Choosing.{AreOf};
 ghost use Rattle.pool_scan.specs.Scanning.{AllTold, as_read, Finds, IsNamed, IsScan, IsValidCopy, Sees, copied_on};
 
@@ -173,7 +174,7 @@ impl Scan {
 
 /// The id of a place's drive.
 fn drive_at(state: &State, place: u32) -> Option<Id>
-    ensures { option_map (λ id. id.0) result ≡ id_at state.now place }
+    ensures { option_map (λ id. id.0) result ≡ id_of state.now place }
 {
     state
         .drives

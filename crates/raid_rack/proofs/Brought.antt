@@ -12,9 +12,9 @@ use Rattle.pool_state.specs.declared.contents.State.{State}
 use Rattle.pool_state.specs.declared.contents.StateFault.{StateFault}
 use Rattle.pool_state.specs.Sector.{decoded}
 use Rattle.array_image.specs.Places.{log_slice, place_of}
-use Rattle.array_image.specs.States.{is_current}
+use Rattle.array_image.specs.States.{is_current, id_of}
 use Rattle.commit_log.specs.View.{names}
-use Rattle.commit_log.specs.Kept.{IsCopyOf, Brings, id_of}
+use Rattle.commit_log.specs.Kept.{IsCopyOf, Brings}
 use Rattle.commit_log.specs.Saying.{AreOwnCopies}
 use Rattle.commit_log.proofs.Deciding.{names_first, names_later}
 use Rattle.raid_rack.specs.Losses.{IsCopyOn, AreCopiesOn, AddsCopies}

@@ -25,7 +25,7 @@ use Rattle.array_model.proofs.Keeping.{live_on}
 use Rattle.commit_log.specs.Kept.{LogKept}
 use Rattle.commit_log.specs.Saying.{SaysState}
 use Rattle.commit_log.proofs.Kept.{place_of_log}
-use Rattle.commit_log.proofs.Saying.{kept_holds}
+use Rattle.commit_log.proofs.HeldCopies.{kept_holds}
 use Rattle.raid_rack.specs.Vacated.{DiffersAt, vacated}
 use Rattle.raid_rack.specs.Book.{after_same}
 use Rattle.raid_rack.specs.Enlisting.{FindsEach, HasNoCopy, IsEnlisted, IsNewLog, IsOpenDisk, JoinsEach, JoinsPart, KeepsTold, HoldsLaid, HoldsTable, SaysBy, SaysFormer, SaysJoining, SaysLatter, SaysReplacing, SaysLaying, SettlesWhole, enlisted, next_drive, with_drive}

@@ -16,7 +16,7 @@ use Rattle.commit_log.specs.Saying.{CopiesIn}
 use Rattle.commit_log.specs.Standing.{IsAlike, deciding}
 use Rattle.commit_log.proofs.Amid.{not_state}
 use Rattle.commit_log.proofs.Kept.{stands_of}
-use Rattle.commit_log.proofs.Saying.{copies_same, kept_holds, no_look}
+use Rattle.commit_log.proofs.HeldCopies.{copies_same, kept_holds, no_look}
 use Rattle.raid_rack.specs.Book.{after_same}
 use Rattle.raid_rack.specs.Enlisting.{HasNoCopy, IsNewLog, SaysBy, SaysFormer}
 use Rattle.raid_rack.specs.Frames.{frame_of}

@@ -14,14 +14,14 @@ use Rattle.array_image.specs.Arrays.{replayed}
 use Rattle.array_image.specs.Left.{IsInside, LogsInside, Picks}
 use Rattle.array_image.specs.Places.{log_slice}
 use Rattle.array_image.specs.Record.{GateAt, pending_at}
-use Rattle.array_image.specs.States.{current_places, is_current, state_in}
+use Rattle.array_image.specs.States.{current_places, is_current, state_in, id_of}
 use Rattle.array_image.proofs.Frames.{state_same}
 use Rattle.array_image.proofs.Replays.{replayed_as_is}
 use Rattle.array_core.specs.Superblocks.{is_settled}
 use Rattle.array_model.specs.View.{View, shape_of}
 use Rattle.array_model.specs.ArrayCalls.{Covers}
 use Rattle.commit_log.specs.Commits.{Commits, StandsMidway}
-use Rattle.commit_log.specs.Kept.{LogKept, gone_but, id_of}
+use Rattle.commit_log.specs.Kept.{LogKept, gone_but}
 use Rattle.commit_log.specs.Saying.{HoldsCopies}
 use Rattle.commit_log.specs.Standing.{IsAlike}
 use Rattle.commit_log.specs.View.{LogView, names, next_number}

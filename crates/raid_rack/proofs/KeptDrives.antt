@@ -4,8 +4,7 @@ use Rattle.std.proofs.lemmas.Bool.{both_ways}
 use Rattle.pool_state.specs.declared.contents.Drive.{Drive}
 use Rattle.pool_state.specs.declared.contents.Plan.{Plan}
 use Rattle.pool_state.specs.declared.contents.State.{State}
-use Rattle.array_image.specs.States.{is_current}
-use Rattle.commit_log.specs.Kept.{id_of}
+use Rattle.array_image.specs.States.{is_current, id_of}
 use Rattle.commit_log.specs.Saying.{KeepsDrives, PlaceJoins}
 use Rattle.commit_log.specs.View.{names}
 use Rattle.raid_rack.specs.Book.{IsAfter, drive_of}

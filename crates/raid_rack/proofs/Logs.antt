@@ -23,7 +23,7 @@ use Rattle.commit_log.specs.Kept.{LogKept}
 use Rattle.commit_log.specs.Saying.{CopiesIn, HoldsCopies, SaysState}
 use Rattle.commit_log.specs.Standing.{LogsStand, StatesStand}
 use Rattle.commit_log.proofs.Kept.{kept_idle, kept_state, live_after, live_on, stands_of}
-use Rattle.commit_log.proofs.Saying.{copies_same, held_copies, holds_keeps, kept_latest, kept_says, says_by}
+use Rattle.commit_log.proofs.HeldCopies.{copies_same, held_copies, holds_keeps, kept_latest, kept_says, says_by}
 use Rattle.raid_rack.specs.Book.{IsAfter, after_same, after_then}
 use Rattle.raid_rack.specs.Logs.{KeepsLogs, LogsBetween, StandsSince}
 use Rattle.raid_rack.specs.Since.{AreEach, HoldsEach, IsSince, IsTakenSince, KeepsEach, each_still, each_then}

@@ -4,9 +4,8 @@ use Rattle.std.proofs.lemmas.Option.{slice_get-get_or}
 use Rattle.std.specs.Option.{option_map_or}
 use Rattle.pool_state.specs.declared.contents.Drive.{Drive}
 use Rattle.pool_state.specs.declared.contents.State.{State}
-use Rattle.array_image.specs.States.{is_current}
+use Rattle.array_image.specs.States.{is_current, id_of}
 use Rattle.array_image.specs.Marks.{Marks}
-use Rattle.commit_log.specs.Kept.{id_of}
 use Rattle.commit_log.specs.View.{names}
 use Rattle.raid_rack.specs.Missing.{missing_if, marked_from, marked}
 

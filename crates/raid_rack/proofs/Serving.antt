@@ -9,7 +9,7 @@ use Rattle.rack.specs.Calls.{Reads, Syncs, Writes}
 use Rattle.rack.proofs.Writing.{appended_elsewhere}
 use Rattle.array_image.proofs.Sources.{held_single}
 use Rattle.commit_log.proofs.Deciding.{names_first}
-use Rattle.commit_log.proofs.Saying.{kept_holds}
+use Rattle.commit_log.proofs.HeldCopies.{kept_holds}
 use Rattle.array_image.specs.States.{is_current}
 use Rattle.array_core.specs.Seats.{gone}
 use Rattle.array_model.specs.View.{View, shape_of, sectors_of as array_sectors}

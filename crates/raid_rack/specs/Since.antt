@@ -10,8 +10,7 @@ use Rattle.pool_state.specs.declared.contents.State.{State}
 use Rattle.pool_state.specs.Sector.{decoded}
 use Rattle.array_image.specs.Left.{IsInside}
 use Rattle.array_image.specs.Places.{log_slice}
-use Rattle.array_image.specs.States.{is_current}
-use Rattle.commit_log.specs.Kept.{id_of}
+use Rattle.array_image.specs.States.{is_current, id_of}
 use Rattle.raid_rack.specs.Book.{IsAfter}
 
 -- a copy that names a place's drive, of a state that came of s

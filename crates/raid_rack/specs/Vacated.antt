@@ -8,13 +8,13 @@ use Rattle.array_image.specs.Held.{IsSettled}
 use Rattle.array_image.specs.Left.{IsInside, Picks}
 use Rattle.array_image.specs.Places.{log_slice, place_of}
 use Rattle.array_image.specs.Record.{gate_sector}
-use Rattle.array_image.specs.States.{is_current}
+use Rattle.array_image.specs.States.{is_current, id_of}
 use Rattle.array_image.specs.Supers.{super_in}
 use Rattle.array_model.specs.Says.{HoldsData}
 use Rattle.array_model.specs.View.{place_at, shape_of}
 use Rattle.array_core.specs.Seats.{losing}
 use Rattle.commit_log.specs.Commits.{IsPendingYet}
-use Rattle.commit_log.specs.Kept.{LogKept, id_of}
+use Rattle.commit_log.specs.Kept.{LogKept}
 use Rattle.commit_log.specs.Standing.{IsAlike, IsWhole}
 use Rattle.raid_rack.specs.Missing.{marked_from}
 use Rattle.raid_rack.specs.Raid.{AreLive, IsWritten, Raid}

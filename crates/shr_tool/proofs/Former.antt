@@ -13,7 +13,7 @@ use Rattle.pool_state.specs.declared.contents.Copied.{Copied}
 use Rattle.pool_state.specs.declared.contents.State.{State}
 use Rattle.pool_state.specs.Sector.{decoded}
 use Rattle.array_image.specs.Places.{log_sectors, log_slice, state_sector}
-use Rattle.array_image.specs.States.{is_current}
+use Rattle.array_image.specs.States.{is_current, id_of}
 use Rattle.array_model.specs.View.{spent_in}
 use Rattle.raid_rack.specs.Book.{IsAfter}
 use Rattle.raid_rack.specs.Missing.{raised}
@@ -22,7 +22,7 @@ use Rattle.raid_rack.specs.Since.{HasOwnSince, HoldsSince}
 use Rattle.raid_rack.proofs.Noted.{current_few}
 use Rattle.raid_rack.proofs.Over.{or_parts}
 use Rattle.raid_rack.proofs.Since.{kept_since}
-use Rattle.pool_image.specs.Disks.{disks_of, id_at, identities_of}
+use Rattle.pool_image.specs.Disks.{disks_of, identities_of}
 use Rattle.pool_image.specs.Drives.{Found}
 use Rattle.pool_model.specs.Left.{IsPickOff}
 use Rattle.pool_model.proofs.Lost.{former_earlier, log_lies, lost_before}
@@ -115,7 +115,7 @@ module _ {L : Type 0} {o : Option Lone} (x : View) (place : ℕ) (fit : (volume 
 
     -- where each place that was current by a state has its own copy since then, so has this drive
     pub former_copy : (r : State) → HoldsSince r (slices_shown x) → is_current r place ≡ true → (i : Image) → IsPickOff y.slices y.bay i
-        → (copy : Copied) × ((identities_of (disks_of y.bay) i d).copied ≡ Some copy) × IsAfter r copy.state × (id_at copy.state copy.own ≡ id_at r place)
+        → (copy : Copied) × ((identities_of (disks_of y.bay) i d).copied ≡ Some copy) × IsAfter r copy.state × (id_of copy.state copy.own ≡ id_of r place)
     former_copy r since current i off =
         let w = i d state_sector in
         let left : MayLeave (x.bay.held d state_sector) w = kept.within w (off d state_sector live bare) in

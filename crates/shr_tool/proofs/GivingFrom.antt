@@ -9,13 +9,13 @@ use Rattle.gpt_table.specs.declared.Table.{Table}
 use Rattle.pool_state.specs.declared.contents.Plan.TheVariants.{Replace as Replacing}
 use Rattle.pool_state.specs.declared.contents.State.{State}
 use Rattle.array_image.specs.Places.{super_sector}
-use Rattle.array_image.specs.States.{is_current}
+use Rattle.array_image.specs.States.{is_current, id_of}
 use Rattle.array_image.specs.Supers.{super_of}
 use Rattle.raid_rack.specs.Enlisting.{Enlists, IsOpenDisk, KeepsTold, enlisted, new_table, next_drive}
 use Rattle.raid_rack.specs.Logs.{LogsBetween}
 use Rattle.raid_rack.specs.Losses.{has_other}
 use Rattle.raid_rack.specs.Raid.{IsTold, is_over}
-use Rattle.pool_image.specs.Disks.{disks_of, id_at}
+use Rattle.pool_image.specs.Disks.{disks_of}
 use Rattle.pool_image.specs.Drives.{Found, first_of}
 use Rattle.pool_image.specs.Meaning.{is_member}
 use Rattle.pool_model.specs.InService.{InService}
@@ -34,7 +34,7 @@ use Rattle.shr_tool.proofs.TakingFrom.{inside_same, new_lies}
 -- t are the tables by which the pool h goes, from which the disk is taken in.
 module _ (c y : View) (place disk : ℕ) (enters : EntersBy c y place disk) (h : Found) (t : Slices) (same : enters.vacates.tables ≡ t) (was : is_current (book c).state place ≡ true)
     (service : InService h t (book c) c.bay) (sits : SeatsNew h t y.slices (book c) place disk (c.bay.sectors disk)) (apart : (p : ℕ) → h.seats p ≡ Some disk → ⊥)
-    (renamed : id_at (book c).state place ≢ Some (next_drive (book c).state).0) (opened : IsOpenDisk c.bay disk) (tables : HoldTables h t (book c).state c.bay)
+    (renamed : id_of (book c).state place ≢ Some (next_drive (book c).state).0) (opened : IsOpenDisk c.bay disk) (tables : HoldTables h t (book c).state c.bay)
     (told : (n : ℕ) → n < h.state.made → IsTold (book c) (slices_of t c.bay) n) (goes : (n : ℕ) → n < h.state.made → is_over (book c) n ≡ false)
     (lasts : (n : ℕ) → n < h.state.made → is_over (book y) n ≡ false) (other : has_other (book y).state place ≡ true) (lasting : c.bay.lasting) (traced : c.bay.traced)
     (ordered : IsOrderly t) (inside : IsInside t c.bay) (orderly : IsOrderly y.slices) (within : IsInside y.slices y.bay)

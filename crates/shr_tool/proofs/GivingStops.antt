@@ -12,7 +12,7 @@ use Rattle.shr_base.specs.declared.Id.{Id}
 use Rattle.pool_state.specs.declared.contents.Plan.TheVariants.{Replace as Replacing}
 use Rattle.pool_state.specs.declared.contents.State.{State}
 use Rattle.array_image.specs.Places.{super_sector}
-use Rattle.array_image.specs.States.{is_current}
+use Rattle.array_image.specs.States.{is_current, id_of}
 use Rattle.array_image.specs.Supers.{super_of}
 use Rattle.raid_rack.specs.Book.{IsAfter}
 use Rattle.raid_rack.specs.Enlisting.{enlisted, next_drive}
@@ -22,7 +22,7 @@ use Rattle.raid_rack.specs.Losses.{has_other}
 use Rattle.raid_rack.specs.Missing.{raised}
 use Rattle.raid_rack.specs.NewDrive.{SeatsDrive, joins}
 use Rattle.raid_rack.specs.Raid.{is_over}
-use Rattle.pool_image.specs.Disks.{Disks, disks_of, id_at}
+use Rattle.pool_image.specs.Disks.{Disks, disks_of}
 use Rattle.pool_image.specs.Drives.{Found, first_of}
 use Rattle.pool_image.specs.Meaning.{is_member}
 use Rattle.pool_model.specs.Laid.{HaveOtherIds}
@@ -113,7 +113,7 @@ module _ {L : Type 0} (x y : View) (place : ℕ) (name text : List ℕ) (b : Fla
 
   -- ---- the new disk
 
-  fresh : (p : ℕ) → id_at (book c).state p ≢ Some (next_drive (book c).state).0
+  fresh : (p : ℕ) → id_of (book c).state p ≢ Some (next_drive (book c).state).0
   fresh p =
       serial_fresh (book c).state (serial_after f.state (book c).state is.service.after serials)
       (subst (λ (id : Id). AreDistinct id.0 (book c).state.serial) (sym marks.same.pool)

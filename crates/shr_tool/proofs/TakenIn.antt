@@ -18,7 +18,7 @@ use Rattle.pool_state.specs.declared.contents.Plan.TheVariants.{Replace as Repla
 use Rattle.pool_state.specs.declared.contents.State.{State}
 use Rattle.array_image.specs.Places.{state_sector, super_sector}
 use Rattle.array_image.specs.Supers.{super_of}
-use Rattle.array_image.specs.States.{is_current}
+use Rattle.array_image.specs.States.{is_current, id_of}
 use Rattle.array_core.proofs.Opened.{current_below}
 use Rattle.array_core.specs.Seats.{seat_of as slot_of}
 use Rattle.array_model.specs.View.{View as ArrayView}
@@ -26,7 +26,7 @@ use Rattle.raid_rack.specs.Book.{IsAfter, after_same}
 use Rattle.raid_rack.specs.Enlisting.{enlisted}
 use Rattle.raid_rack.specs.NewDrive.{SeatsDrive, is_reached, joins}
 use Rattle.raid_rack.proofs.Over.{number_room}
-use Rattle.pool_image.specs.Disks.{Disks, disks_of, id_at, identities_of}
+use Rattle.pool_image.specs.Disks.{Disks, disks_of, identities_of}
 use Rattle.pool_image.specs.Drives.{Found, first_of as first_in}
 use Rattle.pool_image.specs.Meaning.{is_member, is_table}
 use Rattle.pool_model.specs.Alone.{IsStranger, TakesAlone}
