@@ -1,4 +1,5 @@
 mod Copies
+pub mod HeldCopies
 pub mod Kept
 pub mod KeptAfter
 pub mod KeptReplayed

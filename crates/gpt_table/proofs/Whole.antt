@@ -1,5 +1,5 @@
 -- A whole table: the backup, the protective MBR, the primary.
-use Rattle.std.proofs.Common.{◌≡◌, ℕ, ◌-◌, ◌<◌, ◌≤◌, ◌⊎◌, ◌==◌, true, false, cond, List, Option, Some, None, Ok, Err, refl, sym, subst, ◌∙◌, inl, inr, ⊎_elim, arith, eqb-true}
+use Rattle.std.proofs.Common.{◌≡◌, ℕ, ◌-◌, ◌<◌, ◌≤◌, ◌⊎◌, ◌==◌, false, cond, Bool, List, [], Option, Some, None, Result, Ok, Err, unwrap_or, refl, sym, ap, subst, ◌∙◌, inl, inr, ⊎_elim, arith, eqb-true}
 use Rattle.std.proofs.lemmas.Bool.{cases_Bool, cond-false, ne_eqb}
 use Rattle.std.proofs.lemmas.Option.{none-some}
 use Rattle.rack.specs.declared.Gone.{Gone}
@@ -10,12 +10,15 @@ use Rattle.gpt_table.specs.declared.Table.{Table}
 use Rattle.gpt_table.specs.declared.TableCopy.{TableCopy}
 use Rattle.gpt_table.specs.declared.TableCopy.TheVariants.{Primary, Backup}
 use Rattle.gpt_table.specs.Format.{mbr_of}
-use Rattle.gpt_table.specs.Disk.{IsOfCopy, IsAmong, HoldsCopy, now_on}
+use Rattle.gpt_table.specs.Disk.{Contents, IsOfCopy, IsAmong, HoldsCopy, now_on}
 use Rattle.gpt_table.specs.Calls.{Plan, IsPlanned, Follows}
-use Rattle.gpt_table.specs.Plans.{IsOfTable, WritesCopy, WritesTable}
+use Rattle.gpt_table.specs.Plans.{IsInCopy, IsInTable, IsOfTable, WritesCopy, WritesTable}
 use Rattle.gpt_table.proofs.Copies.{copy_is_on_disk}
 use Rattle.rack.proofs.Writing.{only_weaker, only_then}
 use Rattle.gpt_table.proofs.Planned.{write_keeps, write_sets, follows_served, follows_refused}
+
+some_same : {X : Type 0} (a b : X) → Some a ≡ Some b → a ≡ b
+some_same a b same = cc
 
 -- one value, or else another
 abbrev pub or_else : Option (List ℕ) → Option (List ℕ) → Option (List ℕ)
@@ -76,23 +79,30 @@ primary_is_part sectors mbr backup primary parts s v is =
     ∙ or_else_right (backup s) (primary s) v
     (λ w both. copies_apart sectors s parts.room (parts.primary_within s v is) (parts.backup_within s w both)) is
 
-pub whole_within : (sectors : ℕ) (mbr : List ℕ) (backup primary : Plan) (parts : Parts sectors backup primary) (s : ℕ) (v : List ℕ) →
-    whole_plan mbr backup primary s ≡ Some v → IsOfTable sectors s
-whole_within sectors mbr backup primary parts s v is =
-    ⊎_elim
-    (λ (here : (s == 0) ≡ true). inl (eqb-true s 0 here))
-    (λ (there : (s == 0) ≡ false).
-    ⊎_elim (λ (b : backup s ≡ Some v). inr (inr (parts.backup_within s v b)))
-    (λ (p : primary s ≡ Some v). inr (inl (parts.primary_within s v p)))
-    (or_else_cases (backup s) (primary s) v (sym (cond-false (s == 0) (Some mbr) (or_else (backup s) (primary s)) there) ∙ is)))
-    (cases_Bool (s == 0))
+-- a value that is planned of a copy is what its sector holds on a disk with all of them
+planned_in : (a b : Seen) (disk : ℕ) (copy : TableCopy) (table : Table) (r : Result (Unit {0}) Gone) (writes : WritesCopy a b disk copy table r) (s : ℕ) (v : List ℕ)
+    → writes.plan s ≡ Some v → IsInCopy copy table s v
+planned_in a b disk copy table r writes s v is =
+    let all : Contents = λ k. unwrap_or (writes.plan k) [] in
+    record { within = writes.within s v is; disk = all; holds = writes.says all (λ k w at. ap (λ o. unwrap_or o []) at); here = ap (λ o. unwrap_or o []) is }
+
+-- so it is of the whole plan
+pub whole_within : (table : Table) (mbr : List ℕ) (backup primary : Plan) → mbr ≡ mbr_of table.sectors → ((s : ℕ) (v : List ℕ) → backup s ≡ Some v → IsInCopy Backup table s v)
+    → ((s : ℕ) (v : List ℕ) → primary s ≡ Some v → IsInCopy Primary table s v) → (s : ℕ) (v : List ℕ) → whole_plan mbr backup primary s ≡ Some v → IsInTable table s v
+whole_within table mbr backup primary first second third s v is = elim (cases_Bool (s == 0)) [
+  | inl here ↦ inl (eqb-true s 0 here, some_same v mbr (sym is ∙ ap (λ (c : Bool). cond c (Some mbr) (or_else (backup s) (primary s))) here) ∙ first)
+  | inr there ↦ elim (or_else_cases (backup s) (primary s) v (sym (cond-false (s == 0) (Some mbr) (or_else (backup s) (primary s)) there) ∙ is)) [
+    | inl b ↦ inr (inr (second s v b))
+    | inr p ↦ inr (inl (third s v p))
+  ]
+]
 
 -- the backup was refused
 pub whole_gone_first : (a b : Seen) (disk : ℕ) (table : Table) (gone : Gone) → WritesCopy a b disk Backup table {X = Unit {0}} (Err gone) →
     WritesTable a b disk table {X = Unit {0}} (Err gone)
 whole_gone_first a b disk table gone first = record {
   plan = first.plan;
-  within = λ s v planned. inr (inr (first.within s v planned));
+  within = λ s v planned. inr (inr (planned_in a b disk Backup table (Err gone) first s v planned));
   follows = first.writes.follows;
   both = tt;
   mbr = tt;
@@ -109,10 +119,10 @@ begun a m n disk table mbr primary first parts =
     (λ d s v planned. (planned.0, backup_is_part table.sectors mbr first.plan primary parts s v planned.1)) first.writes.follows
 
 -- the MBR was refused
-pub whole_gone_second : (a m n : Seen) (disk : ℕ) (table : Table) (mbr : List ℕ) (gone : Gone) → 67 ≤ table.sectors →
+pub whole_gone_second : (a m n : Seen) (disk : ℕ) (table : Table) (mbr : List ℕ) (gone : Gone) → 67 ≤ table.sectors → mbr ≡ mbr_of table.sectors →
     WritesCopy a m disk Backup table {X = Unit {0}} (Ok tt) → Writes m n disk 0 mbr {X = Unit {0}} (Err gone) →
     WritesTable a n disk table {X = Unit {0}} (Err gone)
-whole_gone_second a m n disk table mbr gone room first second =
+whole_gone_second a m n disk table mbr gone room is first second =
     let none : Plan = λ s. None in
     let parts : Parts table.sectors first.plan none = record {
       room = room;
@@ -122,7 +132,7 @@ whole_gone_second a m n disk table mbr gone room first second =
     let refused = follows_refused a m n disk 0 mbr (whole_plan mbr first.plan none) gone (begun a m n disk table mbr none first parts) second (whole_at_zero mbr first.plan none) in
     record {
       plan = whole_plan mbr first.plan none;
-      within = whole_within table.sectors mbr first.plan none parts;
+      within = whole_within table mbr first.plan none is (planned_in a m disk Backup table (Ok tt) first) (λ s v planned. absurd (none-some v planned));
       follows = refused.follows;
       both = tt;
       mbr = tt;
@@ -142,14 +152,14 @@ all_follow a m n b disk table mbr primary first parts second third =
     (λ d s v planned. (planned.0, primary_is_part table.sectors mbr first.plan primary parts s v planned.1)) third)
 
 -- the primary was refused
-pub whole_gone_third : (a m n b : Seen) (disk : ℕ) (table : Table) (mbr : List ℕ) (gone : Gone) → 67 ≤ table.sectors →
+pub whole_gone_third : (a m n b : Seen) (disk : ℕ) (table : Table) (mbr : List ℕ) (gone : Gone) → 67 ≤ table.sectors → mbr ≡ mbr_of table.sectors →
     WritesCopy a m disk Backup table {X = Unit {0}} (Ok tt) → Writes m n disk 0 mbr {X = Unit {0}} (Ok tt) →
     WritesCopy n b disk Primary table {X = Unit {0}} (Err gone) → WritesTable a b disk table {X = Unit {0}} (Err gone)
-whole_gone_third a m n b disk table mbr gone room first second third =
+whole_gone_third a m n b disk table mbr gone room is first second third =
     let parts : Parts table.sectors first.plan third.plan = record { room = room; backup_within = first.within; primary_within = third.within } in
     record {
       plan = whole_plan mbr first.plan third.plan;
-      within = whole_within table.sectors mbr first.plan third.plan parts;
+      within = whole_within table mbr first.plan third.plan is (planned_in a m disk Backup table (Ok tt) first) (planned_in n b disk Primary table (Err gone) third);
       follows = all_follow a m n b disk table mbr third.plan first parts second third.writes.follows;
       both = tt;
       mbr = tt;
@@ -166,7 +176,7 @@ whole_written a m n b disk table mbr room has size is first second third =
     let early : Stays a n = stays_then first.writes.follows.stays second.stays in
     record {
       plan = whole_plan mbr first.plan third.plan;
-      within = whole_within table.sectors mbr first.plan third.plan parts;
+      within = whole_within table mbr first.plan third.plan is (planned_in a m disk Backup table (Ok tt) first) (planned_in n b disk Primary table (Ok tt) third);
       follows = all_follow a m n b disk table mbr third.plan first parts second third.writes.follows;
       both = λ told unspent copy. says told unspent copy;
       mbr = λ live.

@@ -1,5 +1,6 @@
 -- The sectors that are written of one copy.
 use Rattle.std.specs.Prelude.{◌≡◌, ℕ, ◌+◌, ◌-◌, ◌*◌, ◌==◌, ◌&&◌, nat_le, nat_lt, if◌then◌else◌, List, Some, None, Result, OnOk, IfErr, ◌⊎◌, false}
+use Rattle.std.proofs.Common.{inl, inr}
 use Rattle.rack.specs.declared.Gone.{Gone}
 use Rattle.rack.specs.Values.{IsSingle}
 use Rattle.rack.specs.Seen.{Seen, Rose, IsLive}
@@ -50,10 +51,26 @@ pub record WritesCopy (a b : Seen) (disk : ℕ) (copy : TableCopy) (table : Tabl
 abbrev pub IsOfTable : ℕ → ℕ → Type 0
 IsOfTable sectors sector = (sector ≡ 0) ⊎ (IsOfCopy Primary sectors sector ⊎ IsOfCopy Backup sectors sector)
 
--- a whole table was written, or the disk's faults rose; no other sector was written
+-- what a sector of a copy holds where the copy is as it is written of a table
+pub record IsInCopy (copy : TableCopy) (table : Table) (sector : ℕ) (value : List ℕ) : Type 0 where
+  pub within : IsOfCopy copy table.sectors sector
+  pub disk : Contents
+  pub holds : HoldsCopy copy table disk
+  pub here : disk sector ≡ value
+
+-- what a sector holds that is written of a table: the protective MBR, or that of a copy
+abbrev pub IsInTable : Table → ℕ → List ℕ → Type 0
+IsInTable table sector value =
+    ((sector ≡ 0) × (value ≡ mbr_of table.sectors)) ⊎ (IsInCopy Primary table sector value ⊎ IsInCopy Backup table sector value)
+
+-- it is one of the table's sectors
+pub in_table : (table : Table) (sector : ℕ) (value : List ℕ) → IsInTable table sector value → IsOfTable table.sectors sector
+in_table table sector value is = elim is [ inl first ↦ inl first.0 | inr (inl primary) ↦ inr (inl primary.within) | inr (inr backup) ↦ inr (inr backup.within) ]
+
+-- a whole table was written, or the disk's faults rose; nothing else was
 pub record WritesTable (a b : Seen) (disk : ℕ) (table : Table) {X : Type 0} (result : Result X Gone) : Type 0 where
   pub plan : Plan
-  pub within : (s : ℕ) (v : List ℕ) → plan s ≡ Some v → IsOfTable table.sectors s
+  pub within : (s : ℕ) (v : List ℕ) → plan s ≡ Some v → IsInTable table s v
   pub follows : Follows a b disk plan
   pub both :
       OnOk result (a.told disk → ((s : ℕ) → IsOfTable table.sectors s → b.spent disk s ≡ false) → (copy : TableCopy)
